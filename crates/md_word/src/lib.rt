@@ -1,0 +1,26 @@
+//! The plain types that the crates of the emulator hand to one another: keys of events, requests and answers on the bus, operands and registers.
+#![tactic(auto)]
+
+mod event;
+mod flags;
+mod key;
+mod main_bus;
+mod mode;
+mod pins;
+mod size;
+mod spent;
+mod sub_bus;
+mod task;
+mod unspell;
+
+pub use event::{Entry, Next};
+pub use flags::Flags;
+pub use key::Key;
+pub use main_bus::{Answer68, Request68, Transfer};
+pub use mode::Mode;
+pub use pins::{Pins68, Pins80};
+pub use size::{Size, extend};
+pub use spent::Spent;
+pub use sub_bus::{Answer80, Parcel, Request80};
+pub use task::Task;
+pub use unspell::{NoMemory, Unspell};

@@ -1,0 +1,92 @@
+ghost use Rattle.std.specs.Prelude.{◌≡◌, ◌+◌, ◌%◌, ◌^◌, ◌<◌, ◌≤◌, ◌≤ℤ◌, pos, negsuc};
+ghost use Rattle.md_word.specs.Width.{half_of, modulus_of, width_of, signed_of, extended};
+
+/// The size of an operand of the 68000.
+#[derive(Clone, Copy, PartialEq, Eq, Debug)]
+pub enum Size {
+    /// 8 bits
+    Byte,
+    /// 16 bits
+    Word,
+    /// 32 bits
+    Long,
+}
+
+impl Size {
+    /// The width in bits: 8, 16 or 32.
+    pub fn width(self) -> u8
+        ensures { result ≡ width_of self }
+    {
+        match self {
+            Size::Byte => 8,
+            Size::Word => 16,
+            Size::Long => 32,
+        }
+    }
+
+    /// How many values there are of this size: 2 to the power of the width.
+    pub fn modulus(self) -> u64
+        ensures value { result ≡ modulus_of self }
+        ensures some { 0 < result }
+    {
+        match self {
+            Size::Byte => 0x100,
+            Size::Word => 0x1_0000,
+            Size::Long => 0x1_0000_0000,
+        }
+    }
+
+    /// The least value with its sign bit set.
+    pub fn half(self) -> u32
+        ensures value { result ≡ half_of self }
+        ensures twice { result + result ≡ modulus_of self }
+    {
+        match self {
+            Size::Byte => 0x80,
+            Size::Word => 0x8000,
+            Size::Long => 0x8000_0000,
+        }
+    }
+
+    /// The low part of a value, of this size.
+    pub fn low(self, value: u32) -> u32
+        ensures value { result ≡ value % modulus_of self }
+        ensures below { result < modulus_of self }
+    {
+        match self {
+            Size::Byte => value % 0x100,
+            Size::Word => value % 0x1_0000,
+            Size::Long => value,
+        }
+    }
+
+    /// The value in two's complement.
+    #[tactic(auto, using(std::proofs::lemmas::Int::ints, std::proofs::lemmas::Bool::Decides::nat_tests), unfolding(crate::specs::Width::signed_of))]
+    pub fn signed(self, value: u32) -> i64
+        requires { value < modulus_of self }
+        ensures value { result ≡ signed_of self value }
+        ensures zero { result ≡ pos 0 → value ≡ 0 }
+        ensures least { negsuc 0x7fff_ffff ≤ℤ result }
+        ensures greatest { result ≤ℤ pos 0x7fff_ffff }
+    {
+        let negative = value >= self.half();
+        if negative {
+            i64::from(value) - self.modulus() as i64
+        } else {
+            i64::from(value)
+        }
+    }
+}
+
+/// The 32-bit value whose low part of the size is this one's, with the sign extended.
+#[tactic(auto, using(std::proofs::lemmas::Int::ints, std::proofs::lemmas::Bool::Decides::nat_tests), unfolding(crate::specs::Width::extended, crate::specs::Width::signed_of))]
+pub fn extend(value: u32, size: Size) -> u32
+    ensures { result ≡ extended size value }
+{
+    let low = size.low(value);
+    match size {
+        Size::Byte => if low < 0x80 { low } else { low + 0xffff_ff00 },
+        Size::Word => if low < 0x8000 { low } else { low + 0xffff_0000 },
+        Size::Long => low,
+    }
+}

@@ -1,0 +1,14 @@
+/// What the time of an instruction depends on beside the operation itself.
+#[derive(Clone, Copy, PartialEq, Eq, Debug)]
+pub struct Spent {
+    /// A branch was taken, or a condition held.
+    pub taken: bool,
+    /// The counter of a DBcc expired.
+    pub expired: bool,
+    /// The number of registers moved, the shift count, or for a multiplication the number of ones or of unlike neighbours in the source.
+    pub count: u8,
+    /// The vector number of the exception that the instruction ended in, or 0; 3 also where the processor halted.
+    pub cause: u8,
+    /// How many shared accesses were made, at most 32.
+    pub accesses: u8,
+}
