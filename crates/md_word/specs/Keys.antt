@@ -1,5 +1,5 @@
 -- The order of keys.
-use Rattle.std.specs.Prelude.{ℕ, Bool, ◌==◌, nat_lt, ◌&&◌, ◌||◌, ◌+◌, ◌*◌}
+use Rattle.std.specs.Prelude.{Bool, ◌==◌, nat_lt, ◌&&◌, ◌||◌}
 use Rattle.md_word.specs.declared.key.Key.{Key}
 
 -- whether one key comes before another: by cycle, then by chip

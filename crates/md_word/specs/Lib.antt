@@ -1,2 +1,4 @@
+pub mod Fields
 pub mod Keys
+pub mod Modes
 pub mod Width

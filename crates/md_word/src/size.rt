@@ -1,4 +1,5 @@
 ghost use Rattle.std.specs.Prelude.{◌≡◌, ◌+◌, ◌%◌, ◌^◌, ◌<◌, ◌≤◌, ◌≤ℤ◌, pos, negsuc};
+ghost use Rattle.md_word.specs.Fields.{merged};
 ghost use Rattle.md_word.specs.Width.{half_of, modulus_of, width_of, signed_of, extended};
 
 /// The size of an operand of the 68000.
@@ -58,6 +59,15 @@ impl Size {
             Size::Word => value % 0x1_0000,
             Size::Long => value,
         }
+    }
+
+    /// A register after a write of this size: its upper part stays.
+    #[tactic(auto, unfolding(crate::specs::Fields::merged))]
+    pub fn merge(self, old: u32, value: u32) -> u32
+        requires { value < modulus_of self }
+        ensures { result ≡ merged self old value }
+    {
+        old - self.low(old) + value
     }
 
     /// The value in two's complement.
