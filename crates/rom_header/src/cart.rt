@@ -1,0 +1,76 @@
+ghost use Rattle.std.specs.Prelude.{◌≡◌, ℕ, ◌≤◌, List, length, IfOk, IfSome, IfNone, OnErr};
+ghost use Rattle.rom_header.specs.Cartridge.{IsImage, fault_of, has_mark, image};
+
+use std::alloc::Global;
+use std::marker::Model;
+
+/// The least length of a cartridge's file, in bytes.
+pub const LEAST: usize = 512;
+
+/// The greatest length of a cartridge's file, in bytes: 4 MiB.
+pub const GREATEST: usize = 4_194_304;
+
+/// Why a file is no cartridge. Source: this project's profile.
+#[derive(Clone, Copy, PartialEq, Eq, Debug)]
+pub enum CartFault {
+    /// It has fewer than 512 bytes.
+    Short,
+    /// It has more than 4 MiB.
+    Long,
+    /// The text `SEGA` stands neither at 100h nor at 101h.
+    NoMark,
+    NoMemory,
+}
+
+/// An accepted cartridge. Contracts see its image: the bytes of the file, with one 00 added where their number is odd.
+#[derive(Drop)]
+pub struct Cart {
+    bytes: Vec<u8>,
+}
+
+/// Whether the mark of the console stands where its boot code looks for it.
+fn has_mark(bytes: &[u8]) -> bool
+    requires { 512 ≤ length bytes.now }
+    ensures { result ≡ has_mark bytes.now }
+{
+    &bytes[0x100..0x104] == b"SEGA".as_slice() || &bytes[0x101..0x105] == b"SEGA".as_slice()
+}
+
+impl Model for Cart {
+    ghost Value = { List ℕ };
+
+    ghost view = { λ c. c.bytes.items };
+
+    ghost invariant = { λ c. IsImage c.bytes.items };
+}
+
+impl Cart {
+    /// Accepts the bytes of a cartridge's file. They are refused as too short, else as too long, else as bearing no mark.
+    pub fn accept(_alloc: Global, mut bytes: Vec<u8>) -> Result<Cart, CartFault>
+        ensures refused { IfSome (fault_of bytes.items) (λ fault. result ≡ Err fault) }
+        ensures accepted { IfOk result (λ cart. (fault_of bytes.items ≡ None) × (cart ≡ image bytes.items)) }
+        ensures memory { IfNone (fault_of bytes.items) (OnErr result (result ≡ Err CartFault.NoMemory)) }
+    {
+        if bytes.len() < LEAST {
+            return Err(CartFault::Short);
+        }
+        if bytes.len() > GREATEST {
+            return Err(CartFault::Long);
+        }
+        if !has_mark(bytes.as_slice()) {
+            return Err(CartFault::NoMark);
+        }
+        if bytes.len() % 2 == 1 && bytes.push(0).is_err() {
+            return Err(CartFault::NoMemory);
+        }
+        Ok(Cart { bytes })
+    }
+
+    /// The padded image, of even length.
+    pub fn bytes(&self) -> &[u8]
+        ensures value { result.now ≡ self.now }
+        ensures image { IsImage self.now }
+    {
+        self.bytes.as_slice()
+    }
+}

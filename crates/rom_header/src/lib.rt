@@ -1,0 +1,6 @@
+//! What a cartridge has to be, and its image.
+#![tactic(auto)]
+
+mod cart;
+
+pub use cart::{Cart, CartFault, GREATEST, LEAST};
