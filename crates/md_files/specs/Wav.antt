@@ -1,9 +1,11 @@
--- The bytes of a sound file. RIFF WAVE, Multimedia Programming Interface and Data Specifications 1.0.
+-- The bytes of a sound file. RIFF WAVE, Multimedia Programming Interface and Data Specifications
+-- 1.0.
 use Rattle.std.specs.Prelude.{ℕ, ℤ, ◌+◌, ◌*◌, List, ◌++◌, codes}
 use Rattle.std.specs.Int.{w16, cast_unsigned}
 use Rattle.byteorder.specs.Endian.{little_bytes}
 
--- how samples are kept: format 1 (PCM), 2 channels, pairs a second, bytes a second, bytes a pair, bits a sample
+-- how samples are kept: format 1 (PCM), 2 channels, pairs a second, bytes a second, bytes a pair,
+-- bits a sample
 unfoldable pub wav_format : List ℕ
 wav_format =
     little_bytes 4 16 ++ little_bytes 2 1 ++ little_bytes 2 2 ++ little_bytes 4 53267 ++ little_bytes 4 213068 ++ little_bytes 2 4 ++ little_bytes 2 16

@@ -5,7 +5,8 @@ use crate::put::put;
 use byteorder::{BigEndian, ByteOrder};
 use md_word::Entry;
 
-/// Appends the 16 bytes of one record of the journal: cycle (8), chip, kind, address (4), value (2), high byte first.
+/// Appends the 16 bytes of one record of the journal: cycle (8), chip, kind, address (4), value
+/// (2), high byte first.
 #[tactic(auto, unfolding(crate::specs::Journal::entry_bytes))]
 pub fn put_entry(entry: &Entry, into: &mut Vec<u8>)
     requires { vec_len into.old + 16 ≤ vec_capacity into.old }

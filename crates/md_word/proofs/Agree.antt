@@ -1,4 +1,5 @@
--- Two functions of a word agree on a range where the lists of their values are equal, which is shown by computing both.
+-- Two functions of a word agree on a range where the lists of their values are equal, which is
+-- shown by computing both.
 use Rattle.std.proofs.Common.{◌≡◌, ℕ, ◌+◌, ◌<◌, ◌≤◌, List, [], ◌∷◌, map, Bool, cond, suc, zero, inl, inr, ◌⊎◌, arith}
 
 -- the n numbers from base on

@@ -3,7 +3,7 @@ use Rattle.std.specs.Prelude.{◌<◌}
 use Rattle.md_word.specs.declared.mode.Mode.{Mode}
 use Rattle.md_word.specs.declared.mode.Mode.TheVariants.{Data, Address, Indirect, PostInc, PreDec, Displaced, Indexed, AbsShort, AbsLong, PcDisplaced, PcIndexed, Immediate}
 
--- the mode's own register is below 8, and its index register below 16
+-- there are eight registers of a kind, and sixteen that can be an index
 abbrev pub IsMode : Mode → Type 0
 IsMode (Data n) = n < 8
 IsMode (Address n) = n < 8

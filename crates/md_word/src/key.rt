@@ -8,7 +8,8 @@ ghost use Rattle.md_word.specs.Keys.{key_lt};
 pub struct Key {
     /// The cycle of the master clock, counted from power-on.
     pub cycle: u64,
-    /// The number of the chip: 0 the 68000, 1 the Z80, 2 the drawing half of the VDP, 3 the FM synthesis, 4 the PSG synthesis.
+    /// The number of the chip: 0 the 68000, 1 the Z80, 2 the drawing half of the VDP, 3 the FM
+    /// synthesis, 4 the PSG synthesis.
     pub chip: u8,
 }
 

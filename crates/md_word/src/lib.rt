@@ -1,4 +1,5 @@
-//! The plain types that the crates of the emulator hand to one another: keys of events, requests and answers on the bus, operands and registers.
+//! The plain types that the crates of the emulator hand to one another: keys of events, requests
+//! and answers on the bus, operands and registers.
 #![tactic(auto)]
 
 mod event;

@@ -5,9 +5,11 @@ pub struct Spent {
     pub taken: bool,
     /// The counter of a DBcc expired.
     pub expired: bool,
-    /// The number of registers moved, the shift count, or for a multiplication the number of ones or of unlike neighbours in the source.
+    /// The number of registers moved, the shift count, or for a multiplication the number of ones
+    /// or of unlike neighbours in the source.
     pub count: u8,
-    /// The vector number of the exception that the instruction ended in, or 0; 3 also where the processor halted.
+    /// Which exception ended the instruction, by its vector number; 0 for none, and 3 also where
+    /// the processor halted.
     pub cause: u8,
     /// How many shared accesses were made, at most 32.
     pub accesses: u8,

@@ -1,4 +1,5 @@
-/// An operation of the 68000 on a source and a target: what the decoder names and the arithmetic computes.
+/// An operation of the 68000 on a source and a target: what the decoder names and the arithmetic
+/// computes.
 ///
 /// Source: M68000 Programmer's Reference Manual, section 4.
 #[derive(Clone, Copy)]

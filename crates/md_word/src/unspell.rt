@@ -6,7 +6,8 @@ pub use std::alloc::AllocError as NoMemory;
 pub enum Unspell {
     /// A field breaks its rule, or the length is wrong.
     Rule {
-        /// The offset of the first field whose rule fails; where the length is wrong, the lesser of the two lengths.
+        /// The offset of the first field whose rule fails; where the length is wrong, the lesser of
+        /// the two lengths.
         place: u64,
     },
     NoMemory,

@@ -1,4 +1,5 @@
--- What a cartridge's file has to be. This project's profile; the mark is that of Sega's Genesis Technical Overview.
+-- What a cartridge's file has to be. This project's profile; the mark is that of Sega's Genesis
+-- Technical Overview.
 use Rattle.std.specs.Prelude.{◌≡◌, ◌≤◌, ℕ, ◌%◌, ◌==◌, nat_lt, Bool, ◌||◌, if◌then◌else◌, List, [], ◌∷◌, ◌++◌, length, slice_range, codes, Option, Some, None}
 use Rattle.std.specs.Str.{bytes_eq}
 use Rattle.rom_header.specs.declared.cart.CartFault.{CartFault}

@@ -1,4 +1,4 @@
-ghost use Rattle.std.specs.Prelude.{◌≡◌, ℕ, ◌≤◌, List, length, IfOk, IfSome, IfNone, OnErr};
+ghost use Rattle.std.specs.Prelude.{◌≡◌, ℕ, ◌≤◌, List, length, ◌⊎◌, Some, IfOk, IfErr, IfSome};
 ghost use Rattle.rom_header.specs.Cartridge.{IsImage, fault_of, has_mark, image};
 
 use std::alloc::Global;
@@ -22,7 +22,8 @@ pub enum CartFault {
     NoMemory,
 }
 
-/// An accepted cartridge. Contracts see its image: the bytes of the file, with one 00 added where their number is odd.
+/// An accepted cartridge. Contracts see its image: the bytes of the file, with one 00 added where
+/// their number is odd.
 #[derive(Drop)]
 pub struct Cart {
     bytes: Vec<u8>,
@@ -45,11 +46,12 @@ impl Model for Cart {
 }
 
 impl Cart {
-    /// Accepts the bytes of a cartridge's file. They are refused as too short, else as too long, else as bearing no mark.
+    /// Accepts the bytes of a cartridge's file. They are refused as too short, else as too long,
+    /// else as bearing no mark.
     pub fn accept(_alloc: Global, mut bytes: Vec<u8>) -> Result<Cart, CartFault>
         ensures refused { IfSome (fault_of bytes.items) (λ fault. result ≡ Err fault) }
         ensures accepted { IfOk result (λ cart. (fault_of bytes.items ≡ None) × (cart ≡ image bytes.items)) }
-        ensures memory { IfNone (fault_of bytes.items) (OnErr result (result ≡ Err CartFault.NoMemory)) }
+        ensures fault { IfErr result (λ fault. (fault_of bytes.items ≡ Some fault) ⊎ (fault ≡ CartFault.NoMemory)) }
     {
         if bytes.len() < LEAST {
             return Err(CartFault::Short);
