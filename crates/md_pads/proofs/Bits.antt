@@ -1,0 +1,50 @@
+-- One bit of a number, as code tests it by a mask and as the definitions name it by its place.
+use Rattle.std.proofs.Common.{◌≡◌, ℕ, ◌+◌, ◌*◌, ◌^◌, ◌<◌, ◌≤◌, Bool, true, false, not, cond, eqb, List, [], ◌∷◌, length, take, get_or, refl, ap, ◌∙◌, inl, inr, add-one, arith}
+use mir.Val.{bool_byte}
+use Rattle.std.specs.Int.{bit_at}
+use Rattle.std.specs.Int.RustNames.{bit_and}
+use Rattle.std.proofs.lemmas.Bool.{cases_eq, eq-eqb, ne_eqb}
+use Rattle.std.proofs.Math.Nat.{pow-suc, pow-le-pow_right}
+use Rattle.std.proofs.lemmas.List.{take_more}
+use Rattle.std.proofs.lemmas.List.Sums.{fold-append}
+use Rattle.std.proofs.lemmas.Nat.{pow_pos}
+use Rattle.std.proofs.lemmas.Nat.Bits.{and_pow, bit_at-lt}
+use Rattle.md_pads.specs.Pad.{is_set, binary}
+
+-- the mask of a bit is there whole exactly where the bit is 1
+pub has_mask : (n place : ℕ) → eqb (bit_and n (2 ^ place)) (2 ^ place) ≡ is_set n place
+has_mask n place =
+    let masked = and_pow n place in
+    let small = bit_at-lt n place in
+    let above : 0 < 2 ^ place = pow_pos place in
+    elim (cases_eq (bit_at n place) 1) [
+      | inl one ↦ rw (masked, one) (eq-eqb (1 * 2 ^ place) (2 ^ place) (omega arith))
+      | inr other ↦ let none : bit_at n place ≡ 0 = omega arith in rw (masked, none) (ne_eqb (0 * 2 ^ place) (2 ^ place) (λ e. omega arith))
+    ]
+
+-- nothing of the mask is there exactly where the bit is 0
+pub lacks_mask : (n place : ℕ) → eqb (bit_and n (2 ^ place)) 0 ≡ not (is_set n place)
+lacks_mask n place =
+    let masked = and_pow n place in
+    let small = bit_at-lt n place in
+    let above : 0 < 2 ^ place = pow_pos place in
+    elim (cases_eq (bit_at n place) 1) [
+      | inl one ↦ rw (masked, one) (ne_eqb (1 * 2 ^ place) 0 (λ e. omega arith))
+      | inr other ↦ let none : bit_at n place ≡ 0 = omega arith in rw (masked, none) (eq-eqb (0 * 2 ^ place) 0 (omega arith))
+    ]
+
+-- a level as a number
+bool_byte-cond : (digit : Bool) → cond digit 1 0 ≡ bool_byte digit
+bool_byte-cond true = refl
+bool_byte-cond false = refl
+
+-- one more binary digit
+pub binary-more : (digits : List Bool) (i : ℕ) → i < length digits → binary (take (i + 1) digits) ≡ 2 * binary (take i digits) + bool_byte (get_or digits i false)
+binary-more digits i lt =
+    ap binary (take_more digits i false lt)
+    ∙ fold-append (λ (number : ℕ) (digit : Bool). 2 * number + cond digit 1 0) 0 (take i digits) (get_or digits i false ∷ [])
+    ∙ ap (λ (d : ℕ). 2 * binary (take i digits) + d) (bool_byte-cond (get_or digits i false))
+
+-- and the place that it takes
+pub power-more : (i : ℕ) → i < 8 → (2 ^ (i + 1) ≡ 2 * 2 ^ i) × (2 ^ i ≤ 128)
+power-more i lt = (rw add-one (let double = pow-suc 2 i in omega arith), pow-le-pow_right {n = 2} (omega arith) {i = i} {j = 7} (omega arith))

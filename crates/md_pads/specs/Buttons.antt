@@ -1,0 +1,38 @@
+-- The buttons of a pad, and their bits in its word. This project's profile.
+use Rattle.std.specs.Prelude.{ℕ, ◌^◌, List, [], ◌∷◌, codes}
+use Rattle.md_pads.specs.declared.buttons.Buttons.{Buttons}
+
+-- the word of a set of buttons
+abbrev pub word_of : Buttons → ℕ
+word_of buttons = buttons.0
+
+-- the places of the buttons in the word of a pad, where a pressed one is 1
+abbrev pub up : ℕ
+up = 0
+
+abbrev pub down : ℕ
+down = 1
+
+abbrev pub left : ℕ
+left = 2
+
+abbrev pub right : ℕ
+right = 3
+
+abbrev pub button_b : ℕ
+button_b = 4
+
+abbrev pub button_c : ℕ
+button_c = 5
+
+abbrev pub button_a : ℕ
+button_a = 6
+
+abbrev pub start : ℕ
+start = 7
+
+-- the name and the bit of each button
+abbrev pub button_table : List (List ℕ × ℕ)
+button_table =
+    (codes "UP", 2 ^ up) ∷ (codes "DOWN", 2 ^ down) ∷ (codes "LEFT", 2 ^ left) ∷ (codes "RIGHT", 2 ^ right)
+    ∷ (codes "B", 2 ^ button_b) ∷ (codes "C", 2 ^ button_c) ∷ (codes "A", 2 ^ button_a) ∷ (codes "START", 2 ^ start) ∷ []

@@ -1,0 +1,4 @@
+pub mod Buttons
+pub mod Pad
+pub mod Recording
+pub mod Reading
