@@ -1,0 +1,17 @@
+-- The files of the system as a depot: the names of begun numbers and the counts of faults are told.
+use Rattle.std.specs.Prelude.{None, slice_get}
+use Rattle.std.specs.declared.io.traits.Read as Read
+use Rattle.std.specs.declared.io.traits.Seek as Seek
+use Rattle.std.specs.declared.io.traits.Write as Write
+use Rattle.md_outer.specs.Names.{names_of}
+use Rattle.md_outer.specs.Outside.{DepotState}
+use Rattle.md_outer.specs.declared.file_depot.FileDepot.{FileDepot}
+
+-- no files are told; R is any runtime, with files F and folders D
+abbrev pub file_state : {R F D : Type 0} {reads : Read.Ghosts F} {writes : Write.Ghosts F} {seeks : Seek.Ghosts F} {lists : Read.Ghosts D} → FileDepot R F D reads writes seeks lists → DepotState
+file_state depot = record {
+  files = λ name. None;
+  begun = λ number. slice_get (names_of depot.names) number;
+  read_faults = depot.read_faults;
+  write_faults = depot.write_faults;
+}

@@ -1,0 +1,12 @@
+pub mod Begun
+pub mod Calls
+pub mod FileDepot
+pub mod Listed
+pub mod MemDepot
+pub mod MemSink
+pub mod Names
+pub mod Numbers
+pub mod OutSink
+pub mod Outside
+pub mod Rooms
+pub mod Transfer

@@ -1,0 +1,18 @@
+-- A sink in memory: what it tells, and its plan.
+use Rattle.std.specs.Prelude.{ℕ}
+use Rattle.md_outer.specs.Calls.{CallPlan, calls_of}
+use Rattle.md_outer.specs.Outside.{SinkState}
+use Rattle.md_outer.specs.declared.mem_sink.MemSink.{MemSink}
+
+-- at most so many bytes may be put in all, and these calls of put fail
+pub record SinkPlan : Type 0 where
+  pub room : ℕ
+  pub calls : CallPlan
+
+-- what was put, and the count of faults
+abbrev pub sink_state : MemSink → SinkState
+sink_state sink = record { bytes = sink.buffer.bytes.items; faults = sink.faults }
+
+-- the plan of a sink
+abbrev pub sink_plan : MemSink → SinkPlan
+sink_plan sink = record { room = sink.buffer.room; calls = calls_of sink.calls }
