@@ -1,0 +1,29 @@
+//! The emulator's program: the command line over the real files and standard output.
+#![tactic(auto)]
+
+use md_outer::{FileDepot, FreeGate, OutSink};
+use md_top::drive;
+use std::process::ExitCode;
+use std::rt::Env;
+use std::{env, io};
+
+fn main(rt: HostRuntime) -> ExitCode {
+    let alloc = rt.alloc();
+    // Words that cannot be read are none, which is a wrong usage.
+    let words = match words(&rt) {
+        Ok(words) => words,
+        Err(_) => Vec::new(alloc),
+    };
+    let mut depot = FileDepot::new(rt, alloc);
+    let mut out = OutSink::new(rt);
+    ExitCode::from(drive(&rt, alloc, &words, &mut depot, &mut out, &FreeGate))
+}
+
+/// The words behind the program's name.
+fn words<R: Env + AllocGlobal>(rt: &R) -> io::Result<Vec<String>> {
+    let mut words = Vec::new(rt.alloc());
+    for word in env::args(rt)?.skip(1) {
+        words.push(word)?;
+    }
+    Ok(words)
+}

@@ -1,0 +1,103 @@
+ghost use Rattle.std.specs.Prelude.{◌≡◌, ◌≤◌, ◌⊎◌, ◌++◌, Some, codes, decimal};
+ghost use Rattle.md_outer.specs.Outside.{PutsText};
+ghost use Rattle.md_top.specs.Answers.{PutsAll, PutsPart, Reports};
+ghost use Rattle.md_top.specs.Endings.{fault_text, lines_of, pairs_of};
+ghost use Rattle.md_top.specs.Hex.{hex_of};
+ghost use Rattle.md_top.specs.ShownRun.{shown_run};
+
+use crate::ending::Ending;
+use crate::hex::{hex_eight, hex_four};
+use crate::put::{put_five, put_three};
+use crate::run_words::RunWords;
+use itoa::Buffer;
+use md_outer::{Failed, Sink};
+use rom_header::CartFault;
+
+/// Puts what a run comes to, and answers its status.
+pub(crate) fn report<S: Sink>(run: &RunWords<'_>, ending: Ending, out: &mut S) -> u8
+    ensures { Reports S.told (Some (shown_run run.now)) ending (S.state out.old) (S.state out.new) result }
+{
+    match ending {
+        Ending::Done => match put_lines(out, run) {
+            Ok(()) => 0,
+            Err(Failed) => 13,
+        },
+        Ending::Usage => refuse(out, 2, "refused: usage\n", "", ""),
+        Ending::ReadFault => refuse(out, 3, "fault: reading ", run.rom, "\n"),
+        Ending::TooLong => refuse(out, 14, "refused: ", run.rom, " is too long\n"),
+        Ending::CartRefused(fault) => refuse(out, 5, "refused: cartridge: ", text_of(fault), "\n"),
+        Ending::NotBuilt(opcode, address) => refuse_opcode(out, opcode, address),
+        Ending::SoundFault => refuse_sound(out, run),
+        Ending::Memory => refuse(out, 10, "refused: memory\n", "", ""),
+    }
+}
+
+/// Puts the line of a refusal in three parts, and answers its status, whether the line could be put
+/// or not.
+pub(crate) fn refuse<S: Sink>(out: &mut S, status: u8, first: &str, second: &str, third: &str) -> u8
+    ensures status { result ≡ status }
+    ensures put { PutsAll S.told (first.now ++ second.now ++ third.now) (S.state out.old) (S.state out.new)
+        ⊎ PutsPart S.told (first.now ++ second.now ++ third.now) (S.state out.old) (S.state out.new) }
+{
+    let _ = put_three(out, first, second.as_bytes(), third);
+    status
+}
+
+fn text_of(fault: CartFault) -> &'static str
+    ensures { result.now ≡ fault_text fault }
+{
+    match fault {
+        CartFault::Short => "short",
+        CartFault::Long => "long",
+        CartFault::NoMark => "no mark",
+        CartFault::NoMemory => "no memory",
+    }
+}
+
+/// Refuses an opcode that is not built.
+fn refuse_opcode<S: Sink>(out: &mut S, opcode: u16, address: u32) -> u8
+    ensures status { result ≡ 12 }
+    ensures put { let line = codes "refused: not built " ++ hex_of 4 opcode ++ codes " at " ++ hex_of 8 address ++ codes "\n" in
+        PutsAll S.told line (S.state out.old) (S.state out.new) ⊎ PutsPart S.told line (S.state out.old) (S.state out.new) }
+{
+    let _ = put_opcode(out, opcode, address);
+    12
+}
+
+fn put_opcode<S: Sink>(out: &mut S, opcode: u16, address: u32) -> Result<(), Failed>
+    ensures { PutsText S.told (codes "refused: not built " ++ hex_of 4 opcode ++ codes " at " ++ hex_of 8 address ++ codes "\n")
+        (S.state out.old) (S.state out.new) result }
+{
+    let opcode = hex_four(opcode);
+    let address = hex_eight(address);
+    put_five(out, "refused: not built ", &opcode, " at ", &address, "\n")
+}
+
+/// Refuses a sound file that could not be written.
+fn refuse_sound<S: Sink>(out: &mut S, run: &RunWords<'_>) -> u8
+    ensures { Reports S.told (Some (shown_run run.now)) Ending.SoundFault (S.state out.old) (S.state out.new) result }
+{
+    match run.sound {
+        Some(name) => refuse(out, 4, "fault: writing ", name, "\n"),
+        None => refuse(out, 4, "fault: writing ", "", "\n"),
+    }
+}
+
+/// Puts the lines of a run that ends well.
+fn put_lines<S: Sink>(out: &mut S, run: &RunWords<'_>) -> Result<(), Failed>
+    ensures { PutsText S.told (lines_of (shown_run run.now)) (S.state out.old) (S.state out.new) result }
+{
+    let mut cycles = Buffer::new();
+    let mut pairs = Buffer::new();
+    let cycles = cycles.format(run.cycles).as_bytes();
+    let pairs = pairs.format(count_pairs(run.cycles)).as_bytes();
+    put_five(out, "cycles 0 to ", cycles, "\nsamples ", pairs, "\n")
+}
+
+/// How many pairs of samples a run has.
+fn count_pairs(cycles: u64) -> u64
+    requires { cycles ≤ 896040 }
+    ensures { result ≡ pairs_of cycles }
+{
+    16 * (cycles.saturating_sub(1) / 16_128)
+}

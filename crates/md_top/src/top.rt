@@ -1,0 +1,55 @@
+ghost use Rattle.std.specs.Prelude.{◌≡◌, None, Some, map, string_bytes};
+ghost use Rattle.md_top.specs.Answers.{Answers, Causes};
+ghost use Rattle.md_top.specs.Words.{run_of};
+
+use crate::perform::perform;
+use crate::report::{refuse, report};
+use crate::words::read_words;
+use md_outer::{Depot, Gate, Sink};
+use std::alloc::Global;
+use std::sync::Wait;
+use std::thread::Threads;
+
+/// Does what the words of the command line ask for, and answers the status that the program ends
+/// with.
+///
+/// The words are those behind the program's name: `run ROM --cycles N --sound W` with N from 1 to
+/// 896,040 runs the cartridge ROM from power-on for N master cycles and writes its sound into W.
+/// Files are fetched from the depot and written to it; the lines are put into `out`. It waits for
+/// nobody.
+pub fn drive_one<D: Depot, S: Sink>(
+    alloc: Global,
+    words: &Vec<String>,
+    depot: &mut D,
+    out: &mut S,
+) -> u8
+    ensures answer { Answers D.told S.told (run_of (map string_bytes words.now.items))
+        (D.state depot.old) (D.state depot.new) (S.state out.old) (S.state out.new) result }
+    ensures causes { Causes D.told (run_of (map string_bytes words.now.items))
+        (D.state depot.old) (D.state depot.new) (S.state out.old) (S.state out.new) result }
+{
+    match read_words(words.as_slice()) {
+        None => refuse(out, 2, "refused: usage\n", "", ""),
+        Some(run) => {
+            let ending = perform(alloc, &run, depot);
+            report(&run, ending, out)
+        }
+    }
+}
+
+/// Does the same as `drive_one`, with the right to threads and to waiting for them.
+pub fn drive<D: Depot, S: Sink, G: Gate, Rt: Threads + Wait + Sync>(
+    _rt: &Rt,
+    alloc: Global,
+    words: &Vec<String>,
+    depot: &mut D,
+    out: &mut S,
+    _gate: &G,
+) -> u8
+    ensures answer { Answers D.told S.told (run_of (map string_bytes words.now.items))
+        (D.state depot.old) (D.state depot.new) (S.state out.old) (S.state out.new) result }
+    ensures causes { Causes D.told (run_of (map string_bytes words.now.items))
+        (D.state depot.old) (D.state depot.new) (S.state out.old) (S.state out.new) result }
+{
+    drive_one(alloc, words, depot, out)
+}
