@@ -1,4 +1,5 @@
--- The numbers of names: the places at which they stand in a list, and the files that they stand for.
+-- The numbers of names: the places at which they stand in a list, and the files that they stand
+-- for.
 use Rattle.std.specs.Prelude.{◌≡◌, ℕ, List, Option, Some, position, slice_get}
 use Rattle.std.specs.Option.{option_or, option_and_then}
 use Rattle.std.specs.Str.{bytes_eq}

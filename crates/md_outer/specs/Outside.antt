@@ -40,8 +40,8 @@ pub record SinkState : Type 0 where
   pub bytes : List ℕ
   pub faults : ℕ
 
--- What a sink does with a text. It is put whole at Ok; at an error the count rose, and a front part was put.
--- Of the bytes it speaks where the sink tells them.
+-- What a sink does with a text. It is put whole at Ok; at an error the count rose, and a front part
+-- was put. Of the bytes it speaks where the sink tells them.
 pub record PutsText {E : Type 0} (told : Type 0) (text : List ℕ) (old new : SinkState) (result : Result (Unit {0}) E) : Type 0 where
   pub later : old.faults ≤ new.faults
   pub whole : OnOk result (told → new.bytes ≡ old.bytes ++ text)

@@ -1,7 +1,8 @@
 ghost use Rattle.std.specs.Prelude.{◌≡◌, ◌↔◌, IsTrue};
 ghost use Rattle.md_outer.specs.Calls.{IsBad, calls_of, one_more};
 
-/// The calls of one kind: how many have come, and the numbers of those that are to fail, counted from 0.
+/// The calls of one kind: how many have come, and the numbers of those that are to fail, counted
+/// from 0.
 #[derive(Drop)]
 pub(crate) struct Calls {
     bad: Vec<u64>,

@@ -43,9 +43,11 @@ impl From<NoMemory> for Begin {
 
 /// A store of files by their names.
 ///
-/// It counts its faults of reading and of writing. A count never falls, and stops at 2^64 - 1, where it counts as risen.
+/// It counts its faults of reading and of writing. A count never falls, and stops at 2^64 - 1,
+/// where it counts as risen.
 pub trait Depot {
-    /// Whether what the files hold is told to contracts. The names of begun numbers are told in each case.
+    /// Whether what the files hold is told to contracts. The names of begun numbers are told in
+    /// each case.
     ghost told: { Type 0 };
 
     /// The files, the names of the begun numbers, and both counts of faults.
@@ -53,7 +55,8 @@ pub trait Depot {
 
     /// The bytes of a file, of at most `limit` bytes. It changes no file.
     ///
-    /// A file that is not held is `Failed` and no fault. Each other `Failed` has a fault of reading. A longer file is `TooLong`.
+    /// A file that is not held is `Failed` and no fault. Each other `Failed` has a fault of
+    /// reading. A longer file is `TooLong`.
     fn fetch(&mut self, alloc: Global, name: &str, limit: u64) -> Result<Vec<u8>, Fetch>
         ensures within { IfOk result (λ bytes. length bytes.items ≤ limit) }
         ensures bytes { IfOk result (λ bytes. told → (state self.old).files name.now ≡ Some bytes.items) }
@@ -69,7 +72,8 @@ pub trait Depot {
         ensures writes { (state self.new).write_faults ≡ (state self.old).write_faults }
         ensures goes_on { GoesOn (state self.old) (state self.new) };
 
-    /// Makes a file empty, and answers its number, by which it is appended to. A `begin` that is refused changes no file.
+    /// Makes a file empty, and answers its number, by which it is appended to. A `begin` that is
+    /// refused changes no file.
     fn begin(&mut self, alloc: Global, name: &str) -> Result<u32, Begin>
         ensures begun { IfOk result (λ file. (state self.new).begun file ≡ Some name.now) }
         ensures emptied { OnOk result (told → (state self.new).files ≡ with_file (state self.old).files name.now []) }
@@ -80,9 +84,11 @@ pub trait Depot {
         ensures reads { (state self.new).read_faults ≡ (state self.old).read_faults }
         ensures goes_on { GoesOn (state self.old) (state self.new) };
 
-    /// Adds the piece at the end of a begun file, by the number that `begin` of this depot answered. It takes no memory.
+    /// Adds the piece at the end of a begun file, by the number that `begin` of this depot
+    /// answered. It takes no memory.
     ///
-    /// At `Failed` the count of write faults rose, and a front part of the piece was added, which may be empty.
+    /// At `Failed` the count of write faults rose, and a front part of the piece was added, which
+    /// may be empty.
     fn append(&mut self, file: u32, piece: &[u8]) -> Result<(), Failed>
         requires { IsSome ((state self.old).begun file) }
 

@@ -1,4 +1,5 @@
-//! The outside of the machine: stores of files, streams of text and gates for threads, each with one over memory and one over the real system.
+//! The outside of the machine: stores of files, streams of text and gates for threads, each with
+//! one over memory and one over the real system.
 #![tactic(auto)]
 
 mod begun;
@@ -23,6 +24,7 @@ pub use mem_depot::MemDepot;
 pub use mem_sink::MemSink;
 pub use out_sink::OutSink;
 pub use sink::{Failed, Sink};
+/// Memory that was asked for is not there: the one error for want of memory.
 pub use std::alloc::AllocError as NoMemory;
 
 #[cfg(test)]

@@ -7,7 +7,8 @@ use std::alloc::Global;
 
 /// A depot in memory, which tells what its files hold and fails where it is told to.
 ///
-/// It holds the files that it was given and at most eight begun ones. A file that is begun again keeps its number.
+/// It holds the files that it was given and at most eight begun ones. A file that is begun again
+/// keeps its number.
 #[derive(Drop)]
 pub struct MemDepot {
     given: Vec<(String, Vec<u8>)>,
@@ -25,8 +26,8 @@ impl MemDepot {
 
     /// A depot that holds these files, of which the first of a name counts. No file is begun.
     ///
-    /// Each begun file can hold `room` bytes. `bad_reads` has the numbers of the fetches that fail, counted from 0,
-    /// and `bad_writes` those of the begins and appends, counted together.
+    /// Each begun file can hold `room` bytes. `bad_reads` has the numbers of the fetches that fail,
+    /// counted from 0, and `bad_writes` those of the begins and appends, counted together.
     pub fn new(
         alloc: Global,
         files: Vec<(String, Vec<u8>)>,
@@ -107,7 +108,8 @@ impl Depot for MemDepot {
         }
     }
 
-    /// Fails exactly where the plan has it, or where a ninth name is begun. A name that is begun again keeps its number.
+    /// Fails exactly where the plan has it, or where a ninth name is begun. A name that is begun
+    /// again keeps its number.
     fn begin(&mut self, alloc: Global, name: &str) -> Result<u32, Begin>
         ensures begun { IfOk result (λ file. (depot_state self.new).begun file ≡ Some name.now) }
         ensures again { (file : ℕ) → (depot_state self.old).begun file ≡ Some name.now → IfOk result (λ again. again ≡ file) }
@@ -137,7 +139,8 @@ impl Depot for MemDepot {
         }
     }
 
-    /// Fails exactly where the plan has it or the file's room would be passed, and adds nothing then.
+    /// Fails exactly where the plan has it or the file's room would be passed, and adds nothing
+    /// then.
     fn append(&mut self, file: u32, piece: &[u8]) -> Result<(), Failed>
         requires { IsSome ((depot_state self.old).begun file) }
 

@@ -16,7 +16,8 @@ impl MemSink {
     ghost use Rattle.std.specs.Prelude.{◌≡◌, [], IfOk};
     ghost use Rattle.md_outer.specs.MemSink.{sink_state, sink_plan};
 
-    /// An empty sink for at most `room` bytes, whose memory is taken now. `bad` has the numbers of the puts that fail, counted from 0.
+    /// An empty sink for at most `room` bytes, whose memory is taken now. `bad` has the numbers of
+    /// the puts that fail, counted from 0.
     pub fn new(alloc: Global, room: u64, bad: Vec<u64>) -> Result<MemSink, NoMemory>
         ensures empty { IfOk result (λ sink. sink_state sink ≡ record { bytes = []; faults = 0 }) }
         ensures plan { IfOk result (λ sink. sink_plan sink ≡ record { room = room; calls = record { bad = bad.items; made = 0 } }) }

@@ -14,7 +14,8 @@ pub trait Sink {
 
     /// Puts the piece behind all that was put before. It takes no memory.
     ///
-    /// At `Failed` the count of faults rose, and a front part of the piece was put, which may be empty.
+    /// At `Failed` the count of faults rose, and a front part of the piece was put, which may be
+    /// empty.
     fn put(&mut self, piece: &[u8]) -> Result<(), Failed>
         ensures { PutsText told piece.now (state self.old) (state self.new) result };
 }
