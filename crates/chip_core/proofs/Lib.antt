@@ -1,0 +1,12 @@
+pub mod Chosen
+pub mod Ends
+pub mod Joins
+pub mod Keeps
+pub mod Keys
+pub mod Led
+pub mod Lists
+pub mod Looking
+pub mod Runs
+pub mod Stages
+pub mod Stands
+pub mod Works

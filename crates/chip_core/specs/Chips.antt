@@ -1,0 +1,65 @@
+-- What a set of chips does, as functions on the plain data that contracts see.
+use Rattle.std.specs.Prelude.{◌≡◌, ℕ, ◌+◌, ◌^◌, ◌<◌, ◌≤◌, Bool, true, false}
+use Rattle.md_word.specs.declared.event.Entry.{Entry}
+use Rattle.md_word.specs.declared.event.Next.{Next}
+use Rattle.md_word.specs.declared.key.Key.{Key}
+
+-- what the locked part of an access leaves
+pub record Accessed (Chip Shared : Type 0) : Type 0 where
+  pub chip : Chip
+  pub shared : Shared
+  pub entry : Entry
+
+-- the calls of a set of chips
+pub record Rules (Chip Shared Pins : Type 0) : Type 0 where
+  pub count : ℕ
+  pub next : Chip → Next
+  pub perform : Chip → Shared → Accessed Chip Shared
+  pub advance : Chip → Chip
+  pub pins : Shared → ℕ → Pins
+  pub sample : Chip → Pins → Chip
+  pub writes : ℕ → ℕ → Bool
+  pub gap : ℕ → ℕ
+  -- stands for a chip past the count, of which nothing is asked
+  pub blank : Chip
+
+-- an event leads to a next event of the same chip, at least a gap later
+pub record Follows (gap : ℕ → ℕ) (before after : Key) : Type 0 where
+  pub number : after.chip ≡ before.chip
+  pub later : before.cycle + gap before.chip ≤ after.cycle
+
+module _ {Chip Shared Pins : Type 0} (rules : Rules Chip Shared Pins) (chip_ok : Chip → Type 0) (shared_ok : Shared → Type 0) where
+  -- chip number i is at an event of this kind that the laws speak of
+  pub record IsDue (c : Chip) (s : Shared) (i : ℕ) (sample : Bool) : Type 0 where
+    pub chip : chip_ok c
+    pub shared : shared_ok s
+    pub number : (rules.next c).key.chip ≡ i
+    pub kind : (rules.next c).sample ≡ sample
+    pub cycle : (rules.next c).key.cycle < 2 ^ 50
+
+  -- the chip is one that the locked part of an access left, and its private work is due
+  pub record IsPerformed (c : Chip) : Type 0 where
+    pub before : Chip
+    pub shared : Shared
+    pub number : ℕ
+    pub due : IsDue before shared number false
+    pub is : c ≡ (rules.perform before shared).chip
+
+  -- what holds of the chips and shared states that the code can have
+  pub record Lawful : Type 0 where
+    pub some : 1 ≤ rules.count
+    pub few : rules.count ≤ 5
+    pub gap_some : (i : ℕ) → i < rules.count → 1 ≤ rules.gap i
+    pub gap_few : (i : ℕ) → i < rules.count → rules.gap i ≤ 2 ^ 50
+    pub access_chip : (c : Chip) (s : Shared) (i : ℕ) → IsDue c s i false → chip_ok (rules.advance (rules.perform c s).chip)
+    pub access_shared : (c : Chip) (s : Shared) (i : ℕ) → IsDue c s i false → shared_ok (rules.perform c s).shared
+    pub access_next : (c : Chip) (s : Shared) (i : ℕ) → IsDue c s i false
+        → Follows rules.gap (rules.next c).key (rules.next (rules.advance (rules.perform c s).chip)).key
+    pub sample_chip : (c : Chip) (s : Shared) (i : ℕ) → IsDue c s i true → chip_ok (rules.sample c (rules.pins s i))
+    pub sample_next : (c : Chip) (s : Shared) (i : ℕ) → IsDue c s i true
+        → Follows rules.gap (rules.next c).key (rules.next (rules.sample c (rules.pins s i))).key
+    -- the entry of an access has the chip's key
+    pub entry : (c : Chip) (s : Shared) (i : ℕ) → IsDue c s i false → (rules.perform c s).entry.key ≡ (rules.next c).key
+    -- an access leaves the pins that its chip does not write
+    pub leaves : (c : Chip) (s : Shared) (i j : ℕ) → IsDue c s i false → rules.writes i j ≡ false
+        → rules.pins (rules.perform c s).shared j ≡ rules.pins s j

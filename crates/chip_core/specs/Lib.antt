@@ -1,0 +1,9 @@
+pub mod Chips
+pub mod Codes
+pub mod Cores
+pub mod Equations
+pub mod Events
+pub mod Limits
+pub mod Looks
+pub mod Machines
+pub mod Standing

@@ -1,0 +1,19 @@
+-- What a look at all chips finds.
+use Rattle.std.specs.Prelude.{◌≡◌, ◌≢◌, ℕ, zero, suc, ◌<◌, true, cond, Option, Some, None, List, length, slice_index_or}
+use Rattle.md_word.specs.declared.key.Key.{Key}
+use Rattle.md_word.specs.Keys.{key_lt}
+use Rattle.chip_core.specs.Cores.{no_key}
+
+-- the first of two that is there
+abbrev pub or_else : Option ℕ → Option ℕ → Option ℕ
+or_else None y = y
+or_else (Some x) y = Some x
+
+-- the least number below n whose bound is below its key
+unfoldable pub least_lagging : (ℕ → Key) → (ℕ → Key) → ℕ → Option ℕ
+least_lagging bound key zero = None
+least_lagging bound key (suc n) = or_else (least_lagging bound key n) (cond (key_lt (bound n) (key n)) (Some n) None)
+
+-- a key is below each bound but that of one number
+abbrev pub IsBelowOthers : Key → List Key → ℕ → Type 0
+IsBelowOthers key bounds i = (j : ℕ) → j < length bounds → j ≢ i → key_lt key (slice_index_or bounds j no_key) ≡ true

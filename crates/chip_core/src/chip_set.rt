@@ -1,0 +1,83 @@
+ghost use Rattle.std.specs.Prelude.{◌≡◌, ℕ, ◌^◌, ◌<◌, true, false, List};
+
+use md_word::{Entry, Next};
+
+/// Up to five chips, numbered from 0, that share a state.
+///
+/// Each chip waits at an event to come: an access to the shared state, or a sample of its input
+/// pins. An event has a key, its cycle of the master clock and the chip's number.
+pub trait ChipSet: Send + Sync {
+    ghost use Rattle.chip_core.specs.Chips.{IsPerformed, Lawful, Rules};
+    ghost use Rattle.chip_core.specs.Cores.{CoreValue, IsCoded};
+
+    /// A chip, at its next event.
+    type Chip: Send + Drop;
+
+    /// What the chips share.
+    type Shared: Send + Drop;
+
+    /// The input pins of one chip.
+    type Pins: Send + Drop;
+
+    /// What the calls compute.
+    ghost rules: { Rules Self.Chip Self.Shared Self.Pins };
+
+    /// The chips that can occur, of which alone the laws speak.
+    ghost chip_ok: { Self.Chip → Type 0 };
+
+    /// The shared states that can occur.
+    ghost shared_ok: { Self.Shared → Type 0 };
+
+    /// How numbers tell a core whose journal is empty, and how they are read back.
+    ghost code_of: { CoreValue Self.Chip Self.Shared → List ℕ };
+
+    ghost core_of: { List ℕ → CoreValue Self.Chip Self.Shared };
+
+    /// How many chips there are: 1 to 5.
+    fn count() -> u8
+        ensures { result ≡ rules.count };
+
+    /// The key and the kind of the chip's next event.
+    fn next(chip: &Self::Chip) -> Next
+        ensures value { result ≡ rules.next chip.now }
+        ensures ok { chip_ok chip.now };
+
+    /// The part of an access that needs the shared state.
+    ///
+    /// The chip's private work is then due: `advance` is its next call.
+    fn perform(chip: &mut Self::Chip, shared: &mut Self::Shared) -> Entry
+        requires access { (rules.next chip.old).sample ≡ false }
+        requires cycle { (rules.next chip.old).key.cycle < 2 ^ 50 }
+        ensures chip { chip.new ≡ (rules.perform chip.old shared.old).chip }
+        ensures shared { shared.new ≡ (rules.perform chip.old shared.old).shared }
+        ensures entry { result ≡ (rules.perform chip.old shared.old).entry };
+
+    /// The private work after an access, up to the chip's next event.
+    fn advance(chip: &mut Self::Chip)
+        requires { IsPerformed rules chip_ok shared_ok chip.old }
+        ensures { chip.new ≡ rules.advance chip.old };
+
+    /// The input pins of the chip of this number.
+    fn pins(shared: &Self::Shared, chip: u8) -> Self::Pins
+        ensures value { result ≡ rules.pins shared.now chip }
+        ensures ok { shared_ok shared.now };
+
+    /// A sample of the input pins, and the private work up to the chip's next event.
+    fn sample(chip: &mut Self::Chip, pins: &Self::Pins)
+        requires sample { (rules.next chip.old).sample ≡ true }
+        requires cycle { (rules.next chip.old).key.cycle < 2 ^ 50 }
+        ensures { chip.new ≡ rules.sample chip.old pins.now };
+
+    /// Whether accesses of the one chip can change the input pins of the other.
+    fn writes(writer: u8, chip: u8) -> bool
+        ensures { result ≡ rules.writes writer chip };
+
+    /// The least number of cycles between two events of the chip: 1 to 2^50.
+    fn gap(chip: u8) -> u64
+        requires { chip < rules.count }
+        ensures { result ≡ rules.gap chip };
+
+    ghost coded: { IsCoded rules chip_ok shared_ok code_of core_of };
+
+    ghost lawful: { Lawful rules chip_ok shared_ok };
+}

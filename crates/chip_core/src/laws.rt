@@ -1,0 +1,103 @@
+//! Laws of the least machine, as calls: `run_least` does what it says, and the others do nothing
+//! and stand for what they ensure.
+
+ghost use Rattle.std.specs.Prelude.{◌≡◌, ℕ, ◌+◌, ◌-◌, ◌*◌, ◌^◌, ◌<◌, ◌≤◌, false, [], ◌++◌, List, length};
+ghost use Rattle.md_word.specs.declared.event.Entry.{Entry};
+ghost use Rattle.md_word.specs.Keys.{key_lt};
+ghost use Rattle.chip_core.specs.declared.event.Event.{Event};
+ghost use Rattle.chip_core.specs.Cores.{CoreValue, IsCore, ReachesEnd, machine_of, seen};
+ghost use Rattle.chip_core.specs.Events.{HasRoom, IsEnabled, IsTidy, Seen, Stands, after, counted};
+ghost use Rattle.chip_core.specs.Limits.{all_moves_left, moves_left, moves_within};
+ghost use Rattle.chip_core.specs.Machines.{AllBelow, IsQuiet, IsRunTo, IsSound, Machine, OnPath, journal, key_of, made, mover, run};
+ghost use Rattle.chip_core.specs.Standing.{StandsFor};
+
+use crate::{ChipSet, Core};
+
+/// Brings a core to the machine after all events below cycle `t`: it carries out the event that
+/// [`Core::some_enabled`] names until there is none.
+///
+/// The journal has to have a free place for each access below `t`, which [`room`] shows.
+pub fn run_least<C: ChipSet>(core: &mut Core<C>, t: u64)
+    requires time { t ≤ 2 ^ 50 }
+    requires room { HasRoom C.rules t (seen C.rules core.old) core.old.room }
+    ensures run { ReachesEnd C.rules C.chip_ok C.shared_ok t core.old core.new }
+    ensures first { core.old.journal ≡ []
+        → IsRunTo C.rules (machine_of C.rules core.old) t (machine_of C.rules core.new) core.new.journal }
+    ensures room { core.new.room ≡ core.old.room }
+    ensures core { IsCore C.rules C.chip_ok C.shared_ok core.new }
+{
+    core.known();
+    while let Some(event) = core.some_enabled(t) {
+        core.carry_out(event);
+    }
+}
+
+/// A free place for each move that can lie below `t` is a free place for each access below it.
+pub fn room<C: ChipSet>(core: &Core<C>, t: u64)
+    requires time { t ≤ 2 ^ 50 }
+    requires room { length core.now.journal + all_moves_left C.rules t (machine_of C.rules core.now) ≤ core.now.room }
+    ensures { HasRoom C.rules t (seen C.rules core.now) core.now.room }
+{
+    core.known();
+}
+
+/// A run that goes on from where another ended is one run, with the one journal followed by the
+/// other.
+pub fn joined<C: ChipSet>()
+    ensures { (m w z : Machine C.Chip C.Shared) (s t : ℕ) (first second : List Entry) → s ≤ t
+        → IsRunTo C.rules m s w first → IsRunTo C.rules w t z second
+        → IsRunTo C.rules m t z (first ++ second) }
+{}
+
+/// What every stage of a run below `t` is: sound, as the machine of each core is, and moved by the
+/// chip of least key. A chip's count of moves tells the chip.
+pub fn stages<C: ChipSet>()
+    ensures core { (v : CoreValue C.Chip C.Shared) → IsCore C.rules C.chip_ok C.shared_ok v
+        → IsSound C.rules C.chip_ok C.shared_ok (machine_of C.rules v) }
+    ensures sound { (m : Machine C.Chip C.Shared) (t n : ℕ) → t ≤ 2 ^ 50 → IsSound C.rules C.chip_ok C.shared_ok m
+        → AllBelow C.rules m t n → IsSound C.rules C.chip_ok C.shared_ok (run C.rules m n) }
+    ensures mover { (m : Machine C.Chip C.Shared) → mover C.rules m < C.rules.count }
+    ensures least { (m : Machine C.Chip C.Shared) (i : ℕ) → IsSound C.rules C.chip_ok C.shared_ok m → i < C.rules.count
+        → key_lt (key_of C.rules m i) (key_of C.rules m (mover C.rules m)) ≡ false }
+    ensures once { (m : Machine C.Chip C.Shared) (t i n : ℕ) (c d : C.Chip)
+        → OnPath C.rules m t i n c → OnPath C.rules m t i n d → c ≡ d }
+{}
+
+/// How many moves and entries can lie below `t`, where a chip's moves take a gap each.
+pub fn limits<C: ChipSet>()
+    ensures spread { (m : Machine C.Chip C.Shared) (t n i : ℕ) → t ≤ 2 ^ 50 → IsSound C.rules C.chip_ok C.shared_ok m
+        → AllBelow C.rules m t n → i < C.rules.count
+        → (key_of C.rules m i).cycle + made C.rules m i n * C.rules.gap i ≤ (key_of C.rules (run C.rules m n) i).cycle }
+    ensures made { (m : Machine C.Chip C.Shared) (t n i : ℕ) → t ≤ 2 ^ 50 → IsSound C.rules C.chip_ok C.shared_ok m
+        → AllBelow C.rules m t n → i < C.rules.count → made C.rules m i n ≤ moves_left C.rules t m i }
+    ensures entered { (m : Machine C.Chip C.Shared) (t n : ℕ) → t ≤ 2 ^ 50 → IsSound C.rules C.chip_ok C.shared_ok m
+        → AllBelow C.rules m t n → length (journal C.rules m n) ≤ all_moves_left C.rules t m }
+    ensures within { (m : Machine C.Chip C.Shared) (from t : ℕ) → t ≤ 2 ^ 50 → IsQuiet C.rules m from
+        → all_moves_left C.rules t m ≤ moves_within C.rules (t - from) }
+{}
+
+/// What each enabled event keeps, with the counts of moves: for a core whose chips are held apart
+/// from its shared state.
+pub fn events<C: ChipSet>()
+    ensures core { (v : CoreValue C.Chip C.Shared) → IsCore C.rules C.chip_ok C.shared_ok v
+        → IsTidy C.rules C.chip_ok C.shared_ok (seen C.rules v) }
+    ensures first { (base : Seen C.Chip C.Shared) (t : ℕ) → t ≤ 2 ^ 50 → IsSound C.rules C.chip_ok C.shared_ok base.machine
+        → StandsFor C.rules base.machine base.bound t base.machine base.bound [] (λ i. 0) }
+    ensures tidy { (s : Seen C.Chip C.Shared) (e : Event) → IsTidy C.rules C.chip_ok C.shared_ok s
+        → IsEnabled C.rules s (2 ^ 50) e → IsTidy C.rules C.chip_ok C.shared_ok (after C.rules s e) }
+    ensures stands { (base s : Seen C.Chip C.Shared) (t : ℕ) (count : ℕ → ℕ) (e : Event) → t ≤ 2 ^ 50
+        → IsSound C.rules C.chip_ok C.shared_ok base.machine → IsTidy C.rules C.chip_ok C.shared_ok s
+        → StandsFor C.rules base.machine base.bound t s.machine s.bound s.journal count
+        → IsEnabled C.rules s t e
+        → let z = after C.rules s e in
+        StandsFor C.rules base.machine base.bound t z.machine z.bound z.journal (counted count e) }
+    ensures ended { (base s : Seen C.Chip C.Shared) (t : ℕ) → t ≤ 2 ^ 50
+        → IsSound C.rules C.chip_ok C.shared_ok base.machine → IsTidy C.rules C.chip_ok C.shared_ok s
+        → Stands C.rules base t s → IsQuiet C.rules s.machine t
+        → IsRunTo C.rules base.machine t s.machine s.journal }
+    ensures entered { (base s : Seen C.Chip C.Shared) (t : ℕ) → t ≤ 2 ^ 50 → IsSound C.rules C.chip_ok C.shared_ok base.machine
+        → Stands C.rules base t s → length s.journal ≤ all_moves_left C.rules t base.machine }
+    ensures later { (base s : Seen C.Chip C.Shared) (t from : ℕ) → t ≤ 2 ^ 50
+        → IsSound C.rules C.chip_ok C.shared_ok base.machine → Stands C.rules base t s
+        → IsQuiet C.rules base.machine from → IsQuiet C.rules s.machine from }
+{}

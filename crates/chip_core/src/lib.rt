@@ -1,0 +1,16 @@
+//! The least machine, which always moves the chip of least key, and the core, in which every order
+//! of enabled events leads to the same.
+#![tactic(auto)]
+
+mod chip_set;
+mod event;
+pub mod laws;
+mod look;
+mod scheduler;
+
+pub use chip_set::ChipSet;
+pub use event::Event;
+pub use scheduler::Core;
+
+#[cfg(test)]
+mod tests;

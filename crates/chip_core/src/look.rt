@@ -1,0 +1,99 @@
+ghost use Rattle.std.specs.Prelude.{◌≡◌, ℕ, ◌<◌, ◌≤◌, ◌↔◌, All, IsTrue, length, if◌then◌else◌};
+ghost use Rattle.md_word.specs.Keys.{key_lt};
+ghost use Rattle.chip_core.specs.Cores.{bound_in, chip_in, key_in};
+ghost use Rattle.chip_core.specs.Looks.{or_else, least_lagging, IsBelowOthers};
+ghost use Rattle.chip_core.specs.Machines.{least_below};
+
+use crate::{ChipSet, Event};
+use md_word::{Key, Next};
+
+/// What a look at all chips finds.
+#[derive(Clone, Copy)]
+pub(crate) struct Found {
+    /// The least number whose bound is below its chip's key.
+    pub(crate) lagging: Option<u8>,
+    /// The least of the next events.
+    pub(crate) least: Next,
+}
+
+/// Tells that these are chips that can occur.
+pub(crate) fn know_chips<C: ChipSet>(chips: &[C::Chip])
+    ensures { All C.chip_ok chips.now }
+{
+    for chip in chips {
+        let _next = C::next(chip);
+    }
+}
+
+/// Whether a key is below each bound but that of one number.
+pub(crate) fn is_below_others(key: &Key, bounds: &[Key], chip: usize) -> bool
+    ensures { IsTrue result ↔ IsBelowOthers key.now bounds.now chip }
+{
+    for (i, bound) in bounds.iter().enumerate() {
+        if i != chip && !key.is_below(bound) {
+            return false;
+        }
+    }
+    true
+}
+
+/// Whether some chip's next event lies below a cycle.
+pub(crate) fn is_any_short<C: ChipSet>(chips: &[C::Chip], t: u64) -> bool
+    ensures { IsTrue result ↔ ((i : ℕ) × (i < length chips.now) × ((key_in C.rules chips.now i).cycle < t)) }
+{
+    for chip in chips {
+        if C::next(chip).key.cycle < t {
+            return true;
+        }
+    }
+    false
+}
+
+fn first_of(found: Option<u8>, chip: u8, lags: bool) -> Option<u8>
+    ensures { result ≡ or_else found (if lags then Some chip else None) }
+{
+    match found {
+        Some(first) => Some(first),
+        None => if lags { Some(chip) } else { None },
+    }
+}
+
+fn lesser(least: Next, next: Next) -> Next
+    ensures { result ≡ (if key_lt next.key least.key then next else least) }
+{
+    if next.key.is_below(&least.key) {
+        next
+    } else {
+        least
+    }
+}
+
+/// Looks once at each chip and its bound.
+pub(crate) fn look<C: ChipSet>(chips: &[C::Chip], bounds: &[Key]) -> Found
+    requires some { 1 ≤ length chips.now }
+    requires few { length chips.now ≤ 5 }
+    requires bounds { length bounds.now ≡ length chips.now }
+    ensures lagging { result.lagging ≡ least_lagging (bound_in bounds.now) (key_in C.rules chips.now) (length chips.now) }
+    ensures least { result.least
+        ≡ C.rules.next (chip_in C.rules chips.now (least_below (key_in C.rules chips.now) (length chips.now))) }
+{
+    let mut least = C::next(&chips[0]);
+    let mut lagging = first_of(None, 0, bounds[0].is_below(&least.key));
+    for i in 1..chips.len() {
+        let next = C::next(&chips[i]);
+        lagging = first_of(lagging, i as u8, bounds[i].is_below(&next.key));
+        least = lesser(least, next);
+    }
+    Found { lagging, least }
+}
+
+/// The move that a next event is.
+pub(crate) fn event_of(next: &Next) -> Event
+    ensures { result ≡ (if next.now.sample then Event.Sample next.now.key.chip else Event.Perform next.now.key.chip) }
+{
+    if next.sample {
+        Event::Sample(next.key.chip)
+    } else {
+        Event::Perform(next.key.chip)
+    }
+}
