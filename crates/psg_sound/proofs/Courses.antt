@@ -1,0 +1,90 @@
+-- Courses that are cut and joined.
+use Rattle.std.proofs.Common.{◌≡◌, ◌∙◌, refl, sym, ap, ℕ, zero, suc, ◌+◌, ◌-◌, ◌*◌, ◌<◌, ◌≤◌, List, [], ◌∷◌, ◌++◌, length, get_or, take, add-zero, add-suc, add-one, arith}
+use Rattle.std.proofs.lemmas.List.{take_more}
+use Rattle.psg_sound.specs.declared.write.PsgWrite.{PsgWrite}
+use Rattle.psg_sound.specs.Synth.{Synth, written, ticked}
+use Rattle.psg_sound.specs.Batches.{Course, written_all, made_below, next_tick, after_ticks, ticks_below, course_to}
+
+-- the course with the writes made that come before a cycle
+abbrev pub due : ℕ → Course → Course
+due cycle c = made_below cycle c.chip c.rest
+
+-- the chip after all writes of a course
+abbrev pub finished : Course → Synth
+finished c = written_all c.rest c.chip
+
+pub due-made_below : (a b : ℕ) → a ≤ b → (s : Synth) (ws : List PsgWrite) → due b (made_below a s ws) ≡ made_below b s ws
+due-made_below a b h s [] = refl
+due-made_below a b h s (w ∷ ws) = grind (arith, due-made_below a b h (written w.value s) ws)
+
+pub finished-made_below : (a : ℕ) (s : Synth) (ws : List PsgWrite) → finished (made_below a s ws) ≡ written_all ws s
+finished-made_below a s [] = refl
+finished-made_below a s (w ∷ ws) = grind (arith, finished-made_below a (written w.value s) ws)
+
+pub made_below-zero : (s : Synth) (ws : List PsgWrite) → made_below 0 s ws ≡ record { chip = s; rest = ws }
+made_below-zero s [] = refl
+made_below-zero s (w ∷ ws) = grind arith
+
+-- ticks after ticks
+pub after_ticks-joined : (t n m : ℕ) (c : Course) → after_ticks (t + n) m (after_ticks t n c) ≡ after_ticks t (n + m) c
+after_ticks-joined t n zero c = ap (λ k. after_ticks t k c) (sym (add-zero n))
+after_ticks-joined t n (suc m) c =
+    let number : t + n + suc m ≡ t + suc (n + m) = omega arith in
+    ap (λ k. next_tick (240 * k) (after_ticks (t + n) m (after_ticks t n c))) number
+    ∙ ap (next_tick (240 * (t + suc (n + m)))) (after_ticks-joined t n m c) ∙ ap (λ k. after_ticks t k c) (sym (add-suc n m))
+
+-- what is made before the next tick at the latest is made by it
+pub after_ticks-due : (t a : ℕ) → a ≤ 240 * (t + 1) → (m : ℕ) (c : Course) → after_ticks t (suc m) (due a c) ≡ after_ticks t (suc m) c
+after_ticks-due t a h zero c =
+    let soon : a ≤ 240 * (t + 1) = h in
+    ap (λ (d : Course). record { chip = ticked d.chip; rest = d.rest }) (due-made_below a (240 * (t + suc zero)) (omega arith) c.chip c.rest)
+after_ticks-due t a h (suc m) c = ap (next_tick (240 * (t + suc (suc m)))) (after_ticks-due t a h m c)
+
+pub due-after_ticks : (t a b : ℕ) → a ≤ 240 * (t + 1) → a ≤ b → (m : ℕ) (c : Course) → due b (after_ticks t m (due a c)) ≡ due b (after_ticks t m c)
+due-after_ticks t a b h k zero c = due-made_below a b k c.chip c.rest
+due-after_ticks t a b h k (suc m) c = ap (due b) (after_ticks-due t a h m c)
+
+pub finished-after_ticks : (t a : ℕ) → a ≤ 240 * (t + 1) → (m : ℕ) (c : Course) → finished (after_ticks t m (due a c)) ≡ finished (after_ticks t m c)
+finished-after_ticks t a h zero c = finished-made_below a c.chip c.rest
+finished-after_ticks t a h (suc m) c = ap finished (after_ticks-due t a h m c)
+
+-- a course goes on from tick number t to number u
+pub course_to-joined : (from t u : ℕ) (s : Synth) (ws : List PsgWrite) → ticks_below from ≤ t → t ≤ u
+    → after_ticks t (u - t) (course_to from s ws t) ≡ course_to from s ws u
+course_to-joined from t u s ws h k =
+    let start : Course = record { chip = s; rest = ws } in
+    let low = ticks_below from in
+    let number : low + (t - low) ≡ t = omega arith in
+    let count : (t - low) + (u - t) ≡ u - low = omega arith in
+    ap (λ n. after_ticks n (u - t) (course_to from s ws t)) (sym number)
+    ∙ after_ticks-joined low (t - low) (u - t) start ∙ ap (λ n. after_ticks low n start) count
+
+-- the same where a sample has been heard on the way
+pub due-course_to : (from t u a b : ℕ) (s : Synth) (ws : List PsgWrite) (c : Course)
+    → ticks_below from ≤ t → t ≤ u → a ≤ 240 * (t + 1) → a ≤ b → c ≡ due a (course_to from s ws t)
+    → due b (after_ticks t (u - t) c) ≡ due b (course_to from s ws u)
+due-course_to from t u a b s ws c h k soon le e =
+    ap (λ (d : Course). due b (after_ticks t (u - t) d)) e ∙ due-after_ticks t a b soon le (u - t) (course_to from s ws t)
+    ∙ ap (due b) (course_to-joined from t u s ws h k)
+
+pub finished-course_to : (from t u a : ℕ) (s : Synth) (ws : List PsgWrite) (c : Course)
+    → ticks_below from ≤ t → t ≤ u → a ≤ 240 * (t + 1) → c ≡ due a (course_to from s ws t)
+    → finished (after_ticks t (u - t) c) ≡ finished (course_to from s ws u)
+finished-course_to from t u a s ws c h k soon e =
+    ap (λ (d : Course). finished (after_ticks t (u - t) d)) e ∙ finished-after_ticks t a soon (u - t) (course_to from s ws t)
+    ∙ ap finished (course_to-joined from t u s ws h k)
+
+-- one more tick
+pub after_ticks-next : (t n m : ℕ) (c d : Course) → d ≡ after_ticks t n c → m ≡ n + 1 → next_tick (240 * (t + m)) d ≡ after_ticks t m c
+after_ticks-next t n m c d e k =
+    ap (λ j. next_tick (240 * (t + j)) d) (k ∙ add-one n) ∙ ap (next_tick (240 * (t + suc n))) e ∙ ap (λ j. after_ticks t j c) (sym (k ∙ add-one n))
+
+-- ---- the loops
+
+pub written_all-append : (xs ys : List PsgWrite) (s : Synth) → written_all (xs ++ ys) s ≡ written_all ys (written_all xs s)
+written_all-append [] ys s = refl
+written_all-append (x ∷ xs) ys s = written_all-append xs ys (written x.value s)
+
+pub written_all-more : (ws : List PsgWrite) (i : ℕ) (d : PsgWrite) (s : Synth) → i < length ws
+    → written_all (take (i + 1) ws) s ≡ written (get_or ws i d).value (written_all (take i ws) s)
+written_all-more ws i d s h = ap (λ xs. written_all xs s) (take_more ws i d h) ∙ written_all-append (take i ws) (get_or ws i d ∷ []) s

@@ -1,0 +1,6 @@
+pub mod Courses
+pub mod Heard
+pub mod Histories
+pub mod Halves
+pub mod Levels
+pub mod Orders

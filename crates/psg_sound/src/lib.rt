@@ -1,0 +1,20 @@
+//! The programmable sound generator (PSG): the port that takes its writes, the synthesis of its
+//! level, and the mixed pair.
+#![tactic(auto)]
+
+mod amplitude;
+mod divider;
+mod noise;
+mod pair;
+mod port;
+mod synth;
+mod tone;
+mod write;
+
+pub use pair::mix;
+pub use port::PsgPort;
+pub use synth::PsgSynth;
+pub use write::{PsgList, PsgWrite};
+
+#[cfg(test)]
+mod tests;
