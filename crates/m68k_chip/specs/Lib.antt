@@ -1,0 +1,4 @@
+pub mod Chip
+pub mod Instructions
+pub mod Laws
+pub mod Memory
