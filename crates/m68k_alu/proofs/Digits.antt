@@ -1,0 +1,62 @@
+-- On bytes of two decimal digits the rule of ABCD, SBCD and NBCD is decimal arithmetic.
+use Rattle.std.proofs.Common.{◌≡◌, ℕ, ℤ, pos, negsuc, ◌+◌, ◌-◌, ◌*◌, ◌%◌, ◌≤◌, ◌+ℤ◌, ◌-ℤ◌, Bool, true, false, nat_lt, int_lt, if◌then◌else◌, refl, arith}
+use Rattle.std.proofs.lemmas.Bool.Decides.{nat_tests}
+use Rattle.std.proofs.lemmas.Int.{ints}
+use Rattle.md_word.specs.Width.{bit, word_of}
+use Rattle.md_word.specs.declared.flags.Flags.{Flags}
+use Rattle.m68k_alu.specs.declared.out.Out.{Out}
+use Rattle.m68k_alu.specs.Decimal.{AddsDecimals, IsDecimal, SubtractsDecimals, decimal, decimal_added, decimal_difference, decimal_subtracted, decimal_value, digit_difference, digit_sum, low_difference, low_sum}
+
+bit_small : (x : Bool) → bit x ≤ 1
+bit_small true = omega arith
+bit_small false = omega arith
+
+-- by whether the lower digits' sum passes 9, and the whole 9Fh
+sum_by : (a b x t s : ℕ) (low high : Bool) → x ≤ 1 → IsDecimal a → IsDecimal b
+    → s ≡ a % 16 + b % 16 + x → nat_lt 9 s ≡ low
+    → t ≡ a - a % 16 + (b - b % 16) + (if low then s + 6 else s) → nat_lt 0x9f t ≡ high
+    → IsDecimal ((if high then t + 0x60 else t) % 0x100)
+    × (decimal_value ((if high then t + 0x60 else t) % 0x100) + 100 * bit high ≡ decimal_value a + decimal_value b + x)
+sum_by a b x t s false false h p q d l e u = (record { upper = grind (arith, nat_tests); lower = grind (arith, nat_tests) }, grind (arith, nat_tests))
+sum_by a b x t s true false h p q d l e u = (record { upper = grind (arith, nat_tests); lower = grind (arith, nat_tests) }, grind (arith, nat_tests))
+sum_by a b x t s false true h p q d l e u = (record { upper = grind (arith, nat_tests); lower = grind (arith, nat_tests) }, grind (arith, nat_tests))
+sum_by a b x t s true true h p q d l e u = (record { upper = grind (arith, nat_tests); lower = grind (arith, nat_tests) }, grind (arith, nat_tests))
+
+pub adds : (source target : ℕ) (flags : Flags) (out : Out) → out ≡ decimal_added source target flags
+    → IsDecimal source → IsDecimal target → AddsDecimals source target flags.x out
+unfolding decimal_added decimal digit_sum low_sum
+adds source target flags out e p q =
+    let s : ℕ = target % 16 + source % 16 + bit flags.x in
+    let t : ℕ = digit_sum source target flags.x in
+    let both = sum_by target source (bit flags.x) t s (nat_lt 9 s) (nat_lt 0x9f t) (bit_small flags.x) q p refl refl refl refl in
+    rw e (record { digits = both.0; sum = both.1 })
+
+-- by whether the lower digits' difference is below 0, and the whole
+difference_by : (a b x : ℕ) (s z : ℤ) (high : Bool) → x ≤ 1 → IsDecimal a → IsDecimal b
+    → s ≡ pos (a % 16) -ℤ pos (b % 16) -ℤ pos x → nat_lt a (b + x) ≡ high
+    → z ≡ (
+    if high then pos (a - a % 16) -ℤ pos (b - b % 16) +ℤ (if int_lt s (pos 0) then s -ℤ pos 6 else s) -ℤ pos 0x60
+    else pos (a - a % 16) -ℤ pos (b - b % 16) +ℤ (if int_lt s (pos 0) then s -ℤ pos 6 else s)
+    )
+    → IsDecimal (word_of 0x100 z) × (decimal_value (word_of 0x100 z) + decimal_value b + x ≡ decimal_value a + 100 * bit high)
+difference_by a b x (pos s) (pos z) true h p q d u e = absurd (grind (arith, ints, nat_tests))
+difference_by a b x (pos s) (negsuc z) true h p q d u e = (record { upper = grind (arith, ints, nat_tests); lower = grind (arith, ints, nat_tests) }, grind (arith, ints, nat_tests))
+difference_by a b x (negsuc s) (pos z) true h p q d u e = absurd (grind (arith, ints, nat_tests))
+difference_by a b x (negsuc s) (negsuc z) true h p q d u e = (record { upper = grind (arith, ints, nat_tests); lower = grind (arith, ints, nat_tests) }, grind (arith, ints, nat_tests))
+difference_by a b x (pos s) (pos z) false h p q d u e = (record { upper = grind (arith, ints, nat_tests); lower = grind (arith, ints, nat_tests) }, grind (arith, ints, nat_tests))
+difference_by a b x (pos s) (negsuc z) false h p q d u e = absurd (grind (arith, ints, nat_tests))
+difference_by a b x (negsuc s) (pos z) false h p q d u e = (record { upper = grind (arith, ints, nat_tests); lower = grind (arith, ints, nat_tests) }, grind (arith, ints, nat_tests))
+difference_by a b x (negsuc s) (negsuc z) false h p q d u e = absurd (grind (arith, ints, nat_tests))
+
+pub subtracts : (source target : ℕ) (flags : Flags) (out : Out) → out ≡ decimal_subtracted source target flags
+    → IsDecimal source → IsDecimal target → SubtractsDecimals source target flags.x out
+unfolding decimal_subtracted decimal decimal_difference digit_difference low_difference
+subtracts source target flags out e p q =
+    let s : ℤ = pos (target % 16) -ℤ pos (source % 16) -ℤ pos (bit flags.x) in
+    let t : ℤ = digit_difference source target flags.x in
+    let both = difference_by target source (bit flags.x) s (if nat_lt target (source + bit flags.x) then t -ℤ pos 0x60 else t) (nat_lt target (source + bit flags.x)) (bit_small flags.x) q p refl refl refl in
+    rw e (record { digits = both.0; difference = both.1 })
+
+pub negates : (target : ℕ) (flags : Flags) (out : Out) → out ≡ decimal_subtracted target 0 flags
+    → IsDecimal target → SubtractsDecimals target 0 flags.x out
+negates target flags out e p = subtracts target 0 flags out e p (record { upper = omega arith; lower = omega arith })

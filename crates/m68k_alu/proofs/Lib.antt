@@ -1,0 +1,4 @@
+pub mod Digits
+pub mod Quotients
+pub mod Rotation
+pub mod Signs
