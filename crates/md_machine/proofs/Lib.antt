@@ -1,0 +1,9 @@
+pub mod Appended
+pub mod Joined
+pub mod LeastKeys
+pub mod Lifts
+pub mod Moves
+pub mod Samples
+pub mod Segments
+pub mod Silent
+pub mod Start

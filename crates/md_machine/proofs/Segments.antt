@@ -1,0 +1,114 @@
+-- A segment of the five chips' run, as the record's.
+use Rattle.std.proofs.Common.{◌≡◌, refl, ℕ, suc, ◌+◌, ◌-◌, ◌/◌, ◌<◌, ◌≤◌, cond, Bool, true, false, List, [], length, ap, ◌∙◌, arith, subst, lit<, zero, sym, ◌==◌, ◌⊎◌, inl, inr}
+use Rattle.std.specs.Prelude.{nat_lt}
+use Rattle.md_word.specs.declared.event.Entry.{Entry}
+use Rattle.md_word.specs.declared.key.Key.{Key}
+use Rattle.chip_core.specs.Limits.{all_moves_left, moves_left, moves_within, total}
+use Rattle.chip_core.specs.Machines as machines
+use Rattle.chip_core.specs.Machines.{AllBelow, IsSound, Machine, key_of, made, run}
+use Rattle.md_machine.specs.Console as consoles
+use Rattle.md_machine.specs.Console.{Console, key_in, levels, mover, ran}
+use Rattle.md_machine.specs.Machines.{kept_in}
+use Rattle.md_machine.specs.Parts.{BoardValue, IsBoard}
+use Rattle.md_machine.specs.Refinement.{console, psg_of, record_of}
+use Rattle.md_machine.specs.Rules.{IsChip, five}
+use Rattle.md_machine.specs.declared.chips.Chip.{Chip}
+use Rattle.md_machine.proofs.Moves.{five-each, key-same}
+use Rattle.md_machine.proofs.Lifts.{Movers, SoundTo, journal-same, mover-same, ran-same}
+use Rattle.md_machine.proofs.Samples.{KeepsAll, levels-kept}
+
+-- how many moves a segment has at most
+pub within-few : (span : ℕ) → span ≤ 896040 → moves_within five span ≤ 52500
+unfolding total
+within-few span short = omega arith
+
+-- how many batches of the PSG
+left_by : (b : Bool) (key to : ℕ) → to ≤ key + 896040 → cond b ((to - key) / 16128 + 1) 0 ≤ 56
+left_by true key to near = omega arith
+left_by false key to near = omega arith
+
+pub batches-few : (m : Machine Chip BoardValue) (from to : ℕ) → to ≤ from + 896040 → machines.IsQuiet five m from → moves_left five to m 4 ≤ 56
+batches-few m from to near quiet =
+    let late : from ≤ (key_of five m 4).cycle = quiet 4 (lit< tt) in
+    left_by (nat_lt (key_of five m 4).cycle to) (key_of five m 4).cycle to (omega arith)
+
+-- two machines with the same shared state and the same five chips have the same record
+pub console-alike : (w z : Machine Chip BoardValue) → w.shared ≡ z.shared → ((i : ℕ) → i < 5 → w.chip i ≡ z.chip i) → console w ≡ console z
+unfolding console
+console-alike w z shared chips =
+    ap (λ (c : Chip). record_of c (w.chip 1) (w.chip 2) (w.chip 3) (w.chip 4) w.shared) (chips 0 (lit< tt))
+    ∙ ap (λ (c : Chip). record_of (z.chip 0) c (w.chip 2) (w.chip 3) (w.chip 4) w.shared) (chips 1 (lit< tt))
+    ∙ ap (λ (c : Chip). record_of (z.chip 0) (z.chip 1) c (w.chip 3) (w.chip 4) w.shared) (chips 2 (lit< tt))
+    ∙ ap (λ (c : Chip). record_of (z.chip 0) (z.chip 1) (z.chip 2) c (w.chip 4) w.shared) (chips 3 (lit< tt))
+    ∙ ap (λ (c : Chip). record_of (z.chip 0) (z.chip 1) (z.chip 2) (z.chip 3) c w.shared) (chips 4 (lit< tt))
+    ∙ ap (λ (b : BoardValue). record_of (z.chip 0) (z.chip 1) (z.chip 2) (z.chip 3) (z.chip 4) b) shared
+
+-- the key of a stage's move is the record's
+move_key-same : (m : Machine Chip BoardValue) (k : ℕ) → SoundTo m (suc k) → Movers
+    → machines.move_key five m k ≡ key_in (ran (console m) k) (mover (ran (console m) k))
+move_key-same m k sound movers =
+    let stage : IsSound five IsChip IsBoard (run five m k) = sound k (omega arith) in
+    key-same (run five m k) stage (machines.mover five (run five m k)) (movers (run five m k))
+    ∙ ap (λ (i : ℕ). key_in (console (run five m k)) i) (mover-same (run five m k) stage)
+    ∙ ap (λ (z : Console). key_in z (mover z)) (ran-same m k (λ j below. sound j (omega arith)) movers)
+
+-- a run of the five chips, from a machine that keeps no levels, is the record's, with its entries
+-- and levels
+pub segment-run : (m w : Machine Chip BoardValue) (to : ℕ) (entered : List Entry) → machines.IsRunTo five m to w entered
+    → ((n : ℕ) → AllBelow five m to n → IsSound five IsChip IsBoard (run five m n)) → Movers → IsSound five IsChip IsBoard w
+    → ((n : ℕ) → AllBelow five m to n → made five m 4 n ≤ 56) → kept_in m ≡ []
+    → consoles.IsRunTo (console m) to (console w) entered (kept_in w)
+segment-run m w to entered runs sound movers sound-w few none =
+    let earlier : (k : ℕ) → k ≤ runs.moves → AllBelow five m to k = λ k within. record { each = λ j below. runs.below.each j (omega arith) } in
+    let stages : SoundTo m runs.moves = λ k below. sound k (earlier k (omega arith)) in
+    let keeps : KeepsAll m runs.moves = levels-kept m runs.moves stages movers none (few runs.moves runs.below) in
+    record {
+      moves = runs.moves;
+      below = λ k below. subst (λ (key : Key). key.cycle < to) (move_key-same m k (λ j within. stages j (omega arith)) movers) (runs.below.each k below);
+      quiet = λ i below. subst (λ (key : Key). to ≤ key.cycle) (key-same w sound-w i below) (runs.quiet i below);
+      console = console-alike w (run five m runs.moves) runs.shared runs.chips ∙ ran-same m runs.moves stages movers;
+      entered = runs.journal ∙ journal-same m runs.moves stages movers;
+      heard_to = ap (λ (c : Chip). (psg_of c).samples) (runs.chips 4 (lit< tt)) ∙ keeps.levels_are;
+    }
+
+pub at_most : {a b limit : ℕ} → a ≤ b → b ≤ limit → a ≤ limit
+at_most first second = omega arith
+
+-- the entries of a segment
+pub few_entries : (m : Machine Chip BoardValue) (from to : ℕ) {w : Machine Chip BoardValue} {entered : List Entry} (runs : machines.IsRunTo five m to w entered)
+    → length (machines.journal five m runs.moves) ≤ all_moves_left five to m → all_moves_left five to m ≤ moves_within five (to - from) → to ≤ from + 896040
+    → length entered ≤ 52500
+few_entries m from to runs within all near = omega (arith, ap length runs.journal, within-few (to - from) (omega arith))
+
+-- moves that stand below a cycle in the record stand there in the chips
+below_or_is : (k n : ℕ) → k < suc n → (k < n) ⊎ (k ≡ n)
+below_or_is k n below = grind arith
+
+pub below-lift : (m : Machine Chip BoardValue) (to n : ℕ) → ((k : ℕ) → AllBelow five m to k → IsSound five IsChip IsBoard (run five m k)) → Movers
+    → consoles.AllBelow (console m) to n → AllBelow five m to n
+below-lift m to zero sound movers below = record { each = λ k within. absurd (omega arith) }
+below-lift m to (suc n) sound movers below =
+    let earlier : AllBelow five m to n = below-lift m to n sound movers (λ k within. below k (omega arith)) in
+    let stages : SoundTo m (suc n) = λ k within. sound k (record { each = λ j lower. earlier.each j (omega arith) }) in
+    let last : (machines.move_key five m n).cycle < to = subst (λ (key : Key). key.cycle < to) (sym (move_key-same m n stages movers)) (below n (omega arith)) in
+    record {
+      each = λ k within. elim (below_or_is k n within) [
+        | inl lower ↦ earlier.each k lower
+        | inr is ↦ rw is last
+      ];
+    }
+
+-- each move is one chip's
+one-of : (i : ℕ) → i < 5 → cond (i == 0) 1 0 + cond (i == 1) 1 0 + cond (i == 2) 1 0 + cond (i == 3) 1 0 + cond (i == 4) 1 0 ≡ 1
+one-of = five-each (λ i. cond (i == 0) 1 0 + cond (i == 1) 1 0 + cond (i == 2) 1 0 + cond (i == 3) 1 0 + cond (i == 4) 1 0 ≡ 1) refl refl refl refl refl
+
+each-made : (m : Machine Chip BoardValue) (n : ℕ) → Movers → made five m 0 n + made five m 1 n + made five m 2 n + made five m 3 n + made five m 4 n ≡ n
+unfolding made
+each-made m zero movers = refl
+each-made m (suc n) movers = omega (arith, each-made m n movers, one-of (machines.mover five (run five m n)) (movers (run five m n)))
+
+pub moves-few : (m : Machine Chip BoardValue) (from to n : ℕ) → Movers → ((i : ℕ) → i < 5 → made five m i n ≤ moves_left five to m i)
+    → all_moves_left five to m ≤ moves_within five (to - from) → n ≤ to + 5
+unfolding total
+moves-few m from to n movers few all =
+    omega (arith, each-made m n movers, few 0 (lit< tt), few 1 (lit< tt), few 2 (lit< tt), few 3 (lit< tt), few 4 (lit< tt))

@@ -1,0 +1,26 @@
+use Rattle.std.proofs.Common.{vec_capacity, ℕ, List, ap, ◌∙◌}
+use Rattle.md_word.specs.declared.key.Key.{Key}
+use Rattle.chip_core.specs.Cores as cores
+use Rattle.chip_core.specs.Machines as machines
+use Rattle.chip_core.specs.Machines.{IsSound, Machine, least_below}
+use Rattle.md_machine.specs.Console.{key_in, mover}
+use Rattle.md_machine.specs.Machines.{MachineValue, core_in}
+use Rattle.md_machine.specs.Parts.{BoardValue, IsBoard}
+use Rattle.md_machine.specs.Refinement.{console}
+use Rattle.md_machine.specs.Rules.{IsChip, five}
+use Rattle.md_machine.specs.declared.chips.Chip.{Chip}
+use Rattle.md_machine.proofs.Lifts.{mover-same}
+use Rattle.md_machine.proofs.Moves.{key-same}
+use Rattle.md_machine.proofs.machine.Machine.least.Goals as goal
+
+pub returns : goal.returns
+unfolding machines.mover
+returns c =
+    let m = c.self.inside in
+    let first : Machine Chip BoardValue = cores.machine_of five (core_in m.board m.chips.items m.bounds.items m.journal.items (vec_capacity m.journal)) in
+    let sound : IsSound five IsChip IsBoard first = c.stages.ensures.core (core_in m.board m.chips.items m.bounds.items m.journal.items (vec_capacity m.journal)) c.self.invariant.sound in
+    ap (λ (k : Key). k.cycle) c.least_key.ensures
+    ∙ ap (λ (chips : List Chip). (cores.key_in five chips (least_below (cores.key_in five chips) 5)).cycle) c.as_slice.ensures.value
+    ∙ ap (λ (k : Key). k.cycle) (key-same first sound (machines.mover five first) (c.stages.ensures.mover first))
+    ∙ ap (λ (i : ℕ). (key_in (console first) i).cycle) (mover-same first sound)
+    ∙ ap (λ (v : MachineValue). (key_in v.console (mover v.console)).cycle) c.self.view_is

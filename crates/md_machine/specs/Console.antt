@@ -1,0 +1,131 @@
+-- The machine as one record, with each memory once, and what a move of each chip changes.
+use Rattle.std.specs.Prelude.{◌≡◌, ℕ, zero, suc, ℤ, ◌+◌, ◌-◌, ◌*◌, ◌/◌, ◌%◌, ◌^◌, ◌<◌, ◌≤◌, ◌==◌, cond, List, [], ◌∷◌, ◌++◌, length}
+use Rattle.md_word.specs.declared.event.Entry.{Entry}
+use Rattle.md_word.specs.declared.key.Key.{Key}
+use Rattle.chip_core.specs.Machines.{least_below}
+use Rattle.m68k_chip.specs.Chip.{State68, begun, ended, next_of, request_of}
+use Rattle.psg_sound.specs.Batches.{after_batch, samples}
+use Rattle.psg_sound.specs.Port.{left_from, taken_below}
+use Rattle.psg_sound.specs.Synth.{Synth, at_power_on}
+use Rattle.psg_sound.specs.declared.write.PsgWrite.{PsgWrite}
+use Rattle.m68k_chip.specs.Chip as main
+use Rattle.md_machine.specs.Bus.{answer_of, entry_of, held_after}
+use Rattle.md_machine.specs.Stubs as stubs
+
+pub record Console : Type 0 where
+  -- the cartridge's image
+  pub cart : List ℕ
+  pub cpu : State68
+  -- the cycles of the next events of the Z80, the lines, the FM batches and the PSG batches
+  pub sub : ℕ
+  pub line : ℕ
+  pub fm : ℕ
+  pub psg_cycle : ℕ
+  pub psg : Synth
+  -- the writes that the PSG's port holds
+  pub held : List PsgWrite
+
+-- at power-on the 68000, the Z80 and the lines have their first event at 0, and the batches at
+-- 16128
+abbrev pub power_on : List ℕ → Console
+power_on cart = record {
+  cart = cart;
+  cpu = main.power_on cart;
+  sub = 0;
+  line = 0;
+  fm = 16128;
+  psg_cycle = 16128;
+  psg = at_power_on;
+  held = [];
+}
+
+-- the number of the first sample of the batch at a cycle
+abbrev pub first_of : ℕ → ℕ
+first_of cycle = 16 * (cycle / 16128 - 1)
+
+-- the keys of the next events
+unfoldable pub key_in : Console → ℕ → Key
+key_in m i =
+    cond (i == 0) (next_of m.cpu).key
+    (cond (i == 1) (record { cycle = m.sub; chip = 1 })
+    (cond (i == 2) (record { cycle = m.line; chip = 2 })
+    (cond (i == 3) (record { cycle = m.fm; chip = 3 }) (record { cycle = m.psg_cycle; chip = 4 }))))
+
+-- the 68000: a sample begins an instruction, and an access ends one
+unfoldable pub main_moved : Console → Console
+main_moved m =
+    cond (next_of m.cpu).sample
+    (record m { cpu = begun m.cart m.cpu 0 })
+    (record m {
+      cpu = ended m.cart m.cpu (answer_of (request_of m.cart m.cpu)).value;
+      held = held_after m.held (next_of m.cpu).key (request_of m.cart m.cpu);
+    })
+
+-- the PSG takes the writes below its cycle and makes a batch of 16 samples
+unfoldable pub psg_moved : Console → Console
+psg_moved m = record m {
+  psg = after_batch (first_of m.psg_cycle) m.psg (taken_below m.psg_cycle m.held);
+  psg_cycle = m.psg_cycle + 16128;
+  held = left_from m.psg_cycle m.held;
+}
+
+-- the machine after the event of chip i, and after the private work up to its next event
+unfoldable pub moved : Console → ℕ → Console
+moved m i =
+    cond (i == 0) (main_moved m)
+    (cond (i == 1) (record m { sub = m.sub + 45 })
+    (cond (i == 2) (record m { line = m.line + 3420 })
+    (cond (i == 3) (record m { fm = m.fm + 16128 }) (psg_moved m))))
+
+-- the entry that it gives, if it is an access
+unfoldable pub told : Console → ℕ → List Entry
+told m i =
+    cond (i == 0) (cond (next_of m.cpu).sample [] (entry_of (next_of m.cpu).key (request_of m.cart m.cpu) ∷ []))
+    (cond (i == 1) []
+    (cond (i == 2) (stubs.line_entry m.line ∷ [])
+    (cond (i == 3) (stubs.fm_entry m.fm ∷ [])
+    (record {
+      key = record { cycle = m.psg_cycle; chip = 4 };
+      kind = 12;
+      address = m.psg_cycle / 16128 % 2 ^ 32;
+      value = length (taken_below m.psg_cycle m.held);
+    } ∷ []))))
+
+-- the levels that it makes
+unfoldable pub heard : Console → ℕ → List ℤ
+heard m i = cond (i == 4) (samples (first_of m.psg_cycle) m.psg (taken_below m.psg_cycle m.held)) []
+
+-- the chip of least key
+unfoldable pub mover : Console → ℕ
+mover m = least_below (key_in m) 5
+
+-- the machine after n moves, each by the chip of least key
+unfoldable pub ran : Console → ℕ → Console
+ran m zero = m
+ran m (suc n) = moved (ran m n) (mover (ran m n))
+
+-- the entries of the first n moves, in their order, and their levels
+unfoldable pub journal : Console → ℕ → List Entry
+journal m zero = []
+journal m (suc n) = journal m n ++ told (ran m n) (mover (ran m n))
+
+unfoldable pub levels : Console → ℕ → List ℤ
+levels m zero = []
+levels m (suc n) = levels m n ++ heard (ran m n) (mover (ran m n))
+
+-- the first n moves stand below the cycle
+abbrev pub AllBelow : Console → ℕ → ℕ → Type 0
+AllBelow m end n = (k : ℕ) → k < n → (key_in (ran m k) (mover (ran m k))).cycle < end
+
+-- no next event stands below the cycle
+abbrev pub IsQuiet : ℕ → Console → Type 0
+IsQuiet end m = (i : ℕ) → i < 5 → end ≤ (key_in m i).cycle
+
+-- after all events below the cycle and no other: the machine, the entries and the levels
+pub record IsRunTo (m : Console) (end : ℕ) (after : Console) (entries : List Entry) (sound : List ℤ) : Type 0 where
+  pub moves : ℕ
+  pub below : AllBelow m end moves
+  pub quiet : IsQuiet end after
+  pub console : after ≡ ran m moves
+  pub entered : entries ≡ journal m moves
+  pub heard_to : sound ≡ levels m moves

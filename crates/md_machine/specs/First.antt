@@ -1,0 +1,19 @@
+-- The parts of the machine at power-on.
+use Rattle.std.specs.Prelude.{ℕ, List, [], ◌∷◌, None}
+use Rattle.md_word.specs.declared.key.Key.{Key}
+use Rattle.m68k_chip.specs.Chip.{power_on}
+use Rattle.psg_sound.specs.Synth.{at_power_on}
+use Rattle.md_machine.specs.declared.chips.Chip.{Chip}
+use Rattle.md_machine.specs.declared.chips.Chip.TheVariants.{Main, Sub, Line, Fm, Psg}
+
+abbrev pub first_chips : List ℕ → List Chip
+first_chips cart =
+    Main (record { chip = record { cart = cart; state = power_on cart }; answer = None })
+    ∷ Sub (record { cycle = 0 }) ∷ Line (record { cycle = 0 }) ∷ Fm (record { cycle = 16128 })
+    ∷ Psg (record { synth = at_power_on; cycle = 16128; taken = []; samples = [] }) ∷ []
+
+-- each chip's bound is its key
+abbrev pub first_bounds : List Key
+first_bounds =
+    record { cycle = 0; chip = 0 } ∷ record { cycle = 0; chip = 1 } ∷ record { cycle = 0; chip = 2 }
+    ∷ record { cycle = 16128; chip = 3 } ∷ record { cycle = 16128; chip = 4 } ∷ []

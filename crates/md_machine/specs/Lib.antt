@@ -1,0 +1,14 @@
+pub mod Bus
+pub mod Code
+pub mod Console
+pub mod Drained
+pub mod First
+pub mod Laws
+pub mod Machines
+pub mod Movers
+pub mod Outputs
+pub mod Parts
+pub mod Refinement
+pub mod Rules
+pub mod ShownParts
+pub mod Stubs

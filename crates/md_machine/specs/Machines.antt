@@ -1,0 +1,50 @@
+-- The machine as contracts see it.
+use Rattle.std.specs.Prelude.{ℕ, ℤ, ◌≤◌, List, [], Option, IsSome, unwrap_or}
+use Rattle.md_word.specs.declared.event.Entry.{Entry}
+use Rattle.md_word.specs.declared.key.Key.{Key}
+use Rattle.chip_core.specs.Cores.{CoreValue, IsCore, machine_of}
+use Rattle.chip_core.specs.Machines as machines
+use Rattle.chip_core.specs.Machines.{Machine}
+use Rattle.md_machine.specs.Console.{Console}
+use Rattle.md_machine.specs.Parts.{BoardValue, IsBoard}
+use Rattle.md_machine.specs.Refinement.{console, psg_of}
+use Rattle.md_machine.specs.Rules.{IsChip, five}
+use Rattle.md_machine.specs.declared.chips.Chip.{Chip}
+
+-- the cycle to which the machine was brought, its record, and what was made since it was last
+-- drained: the journal's entries and the levels of the PSG
+pub record MachineValue : Type 0 where
+  pub at : ℕ
+  pub console : Console
+  pub entries : List Entry
+  pub levels : List ℤ
+
+-- the core of these parts
+abbrev pub core_in : Option BoardValue → List Chip → List Key → List Entry → ℕ → CoreValue Chip BoardValue
+core_in board chips bounds entries room = record {
+  shared = unwrap_or board (record { held = [] });
+  chips = chips;
+  bounds = bounds;
+  journal = entries;
+  room = room;
+}
+
+-- the levels that a machine of five chips keeps
+abbrev pub kept_in : Machine Chip BoardValue → List ℤ
+kept_in m = (psg_of (m.chip 4)).samples
+
+-- the machine of a core that was brought to a cycle
+abbrev pub machine_at : ℕ → CoreValue Chip BoardValue → MachineValue
+machine_at at core = record {
+  at = at;
+  console = console (machine_of five core);
+  entries = core.journal;
+  levels = kept_in (machine_of five core);
+}
+
+-- what holds of each machine: room for the entries of a segment, and no event below its cycle
+pub record IsMachine (at : ℕ) (board : Option BoardValue) (core : CoreValue Chip BoardValue) : Type 0 where
+  pub has_board : IsSome board
+  pub sound : IsCore five IsChip IsBoard core
+  pub room : 52500 ≤ core.room
+  pub quiet : machines.IsQuiet five (machine_of five core) at

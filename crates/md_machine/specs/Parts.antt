@@ -1,0 +1,29 @@
+-- The parts of the machine as contracts see them.
+use Rattle.std.specs.Prelude.{ℕ, ℤ, ◌≤◌, List, length}
+use Rattle.m68k_chip.specs.Chip.{IsChip68}
+use Rattle.md_machine.specs.declared.main_chip.MainChip.{MainChip}
+use Rattle.psg_sound.specs.Port.{IsPort}
+use Rattle.psg_sound.specs.Synth.{Synth, IsSynth}
+use Rattle.psg_sound.specs.declared.write.PsgWrite.{PsgWrite}
+
+abbrev pub IsMain : MainChip → Type 0
+IsMain c = IsChip68 c.chip
+
+-- the PSG's synthesis, the cycle of its next batch, the writes that it took for it, and its samples
+pub record PsgValue : Type 0 where
+  pub synth : Synth
+  pub cycle : ℕ
+  pub taken : List PsgWrite
+  pub samples : List ℤ
+
+pub record IsPsg (c : PsgValue) : Type 0 where
+  pub synth : IsSynth c.synth
+  pub taken : length c.taken ≤ 1024
+  pub samples : length c.samples ≤ 896
+
+-- what the chips share: the writes that the PSG's port holds
+pub record BoardValue : Type 0 where
+  pub held : List PsgWrite
+
+abbrev pub IsBoard : BoardValue → Type 0
+IsBoard b = IsPort b.held

@@ -1,0 +1,10 @@
+-- The core of the machine's parts.
+use Rattle.std.specs.Prelude.{Some, vec_capacity}
+use Rattle.chip_core.specs.Cores.{CoreValue}
+use Rattle.md_machine.specs.Machines.{core_in}
+use Rattle.md_machine.specs.Parts.{BoardValue}
+use Rattle.md_machine.specs.declared.chips.Chip.{Chip}
+use Rattle.md_machine.specs.declared.parts.Parts.{Parts}
+
+abbrev pub core_of : Parts → CoreValue Chip BoardValue
+core_of parts = core_in (Some parts.board) parts.chips.items parts.bounds.items parts.journal.items (vec_capacity parts.journal)

@@ -1,0 +1,18 @@
+use crate::main_chip::MainChip;
+use crate::psg_chip::PsgChip;
+use crate::stubs::{FmStub, LineStub, SubStub};
+
+/// A chip of the machine.
+#[derive(Drop)]
+pub enum Chip {
+    /// The 68000, chip 0.
+    Main(MainChip),
+    /// The Z80, chip 1.
+    Sub(SubStub),
+    /// The drawing half of the VDP, chip 2.
+    Line(LineStub),
+    /// The FM synthesis, chip 3.
+    Fm(FmStub),
+    /// The PSG synthesis, chip 4.
+    Psg(PsgChip),
+}

@@ -1,0 +1,54 @@
+ghost use Rattle.std.specs.Prelude.{◌≡◌, IfOk};
+ghost use Rattle.std.specs.Arc.{arc_value};
+ghost use Rattle.rom_header.specs.Cartridge.{IsImage};
+ghost use Rattle.md_machine.specs.First as first;
+
+use crate::chips::Chip;
+use crate::main_chip::MainChip;
+use crate::psg_chip::PsgChip;
+use crate::stubs::{FmStub, LineStub, SubStub};
+use m68k_chip::Chip68;
+use md_word::{Key, NoMemory};
+use rom_header::Cart;
+use std::alloc::Global;
+use std::sync::Arc;
+
+/// The five chips at power-on.
+pub(crate) fn first_chips(alloc: Global, cart: Arc<Cart>) -> Result<Vec<Chip>, NoMemory>
+    ensures { IfOk result (λ chips. (chips.items ≡ first.first_chips (arc_value cart)) × IsImage (arc_value cart)) }
+{
+    cart.bytes();
+    let main = MainChip {
+        chip: Chip68::power_on(alloc, cart)?,
+        answer: None,
+    };
+    let psg = PsgChip::power_on(alloc)?;
+    let chips = [
+        Chip::Main(main),
+        Chip::Sub(SubStub { cycle: 0 }),
+        Chip::Line(LineStub { cycle: 0 }),
+        Chip::Fm(FmStub { cycle: 16_128 }),
+        Chip::Psg(psg),
+    ];
+    Ok(Vec::from_array(alloc, chips)?)
+}
+
+/// The bounds at power-on: each chip's key.
+pub(crate) fn first_bounds(alloc: Global) -> Result<Vec<Key>, NoMemory>
+    ensures { IfOk result (λ bounds. bounds.items ≡ first.first_bounds) }
+{
+    let bounds = [
+        Key { cycle: 0, chip: 0 },
+        Key { cycle: 0, chip: 1 },
+        Key { cycle: 0, chip: 2 },
+        Key {
+            cycle: 16_128,
+            chip: 3,
+        },
+        Key {
+            cycle: 16_128,
+            chip: 4,
+        },
+    ];
+    Ok(Vec::from_array(alloc, bounds)?)
+}

@@ -1,0 +1,34 @@
+//! Laws of the machine, as calls that do nothing and stand for what they ensure.
+
+ghost use Rattle.std.specs.Prelude.{◌≡◌, ℕ, ℤ, ◌+◌, ◌*◌, ◌/◌, ◌^◌, ◌≤◌, ◌++◌, List};
+ghost use Rattle.md_word.specs.declared.event.Entry.{Entry};
+ghost use Rattle.chip_core.specs.Limits.{events_within};
+ghost use Rattle.md_machine.specs.Console.{AllBelow, Console, IsRunTo, power_on};
+ghost use Rattle.md_machine.specs.Rules.{five};
+
+use crate::set::MdChips;
+use chip_core::laws;
+use rom_header::Cart;
+
+/// A run that goes on from where another ended is one run, with the entries and levels of the one
+/// followed by those of the other.
+pub fn joined()
+    ensures { (m w z : Console) (s t : ℕ) (entries later_entries : List Entry) (sound later_sound : List ℤ) → s ≤ t
+        → IsRunTo m s w entries sound → IsRunTo w t z later_entries later_sound
+        → IsRunTo m t z (entries ++ later_entries) (sound ++ later_sound) }
+{}
+
+/// From power-on there are never more events below a cycle than cycles and chips.
+pub fn few_events(cart: &Cart, end: u64)
+    requires { end ≤ 2 ^ 50 }
+    ensures { (n : ℕ) → AllBelow (power_on cart.now) end n → n ≤ end + 5 }
+{
+    cart.bytes();
+    laws::stages::<MdChips>();
+    laws::limits::<MdChips>();
+}
+
+/// How many events a list of enabled events of the five chips has at most, over so many cycles.
+pub fn few_in_list()
+    ensures { (span : ℕ) → events_within five span ≤ 2 * (span / 28 + span / 45 + span / 3420 + 2 * (span / 16128) + 10) }
+{}

@@ -1,0 +1,154 @@
+ghost use Rattle.std.specs.Prelude.{◌≡◌, ◌≤◌, ◌<◌, ◌+◌, ◌*◌, ◌++◌, [], IfOk, length, vec_len, vec_capacity};
+ghost use Rattle.std.specs.Arc.{arc_value};
+ghost use Rattle.md_machine.specs.Console.{IsRunTo, key_in, mover, power_on};
+ghost use Rattle.md_machine.specs.Outputs.{journal_bytes, sound_bytes};
+ghost use Rattle.md_machine.specs.Refinement.{main_of};
+
+use crate::board::Board;
+use crate::chips::Chip;
+use crate::drains::{drain_chip, put_entries};
+use crate::first::{first_bounds, first_chips};
+use crate::least::least_key;
+use crate::parts::{Parts, run_parts};
+use crate::set::MdChips;
+use chip_core::laws;
+use md_word::{Entry, Key, NoMemory};
+use rom_header::Cart;
+use std::alloc::Global;
+use std::marker::Model;
+use std::mem;
+use std::sync::Arc;
+
+/// The entries of a frame at most.
+const MOST_ENTRIES: usize = 52_500;
+
+/// A Mega Drive: five chips and the board that they share.
+#[derive(Drop)]
+pub struct Machine {
+    at: u64,
+    board: Option<Board>,
+    chips: Vec<Chip>,
+    bounds: Vec<Key>,
+    journal: Vec<Entry>,
+}
+
+impl Model for Machine {
+    ghost use Rattle.std.specs.Prelude.{vec_capacity};
+    ghost use Rattle.md_machine.specs.Machines.{MachineValue, IsMachine, core_in, machine_at};
+
+    ghost Value = { MachineValue };
+
+    ghost view = { λ m. machine_at m.at (core_in m.board m.chips.items m.bounds.items m.journal.items (vec_capacity m.journal)) };
+
+    ghost invariant = { λ m. IsMachine m.at m.board (core_in m.board m.chips.items m.bounds.items m.journal.items (vec_capacity m.journal)) };
+}
+
+impl Machine {
+    /// The machine at power-on with this cartridge. All memory that it ever needs is taken here.
+    pub fn power_on(alloc: Global, cart: Arc<Cart>) -> Result<Machine, NoMemory>
+        ensures { IfOk result (λ machine. machine ≡ record { at = 0; console = power_on (arc_value cart); entries = []; levels = [] }) }
+    {
+        let board = Board::power_on(alloc)?;
+        let chips = first_chips(alloc, cart)?;
+        let bounds = first_bounds(alloc)?;
+        let journal = Vec::with_capacity(alloc, MOST_ENTRIES)?;
+        Ok(Machine {
+            at: 0,
+            board: Some(board),
+            chips,
+            bounds,
+            journal,
+        })
+    }
+
+    /// The cycle to which the machine was brought: all events below it are done, and no other.
+    pub fn at(&self) -> u64
+        ensures { result ≡ self.now.at }
+    {
+        self.at
+    }
+
+    /// The least cycle of a next event: that of the chip of least key.
+    pub fn least(&self) -> u64
+        ensures { result ≡ (key_in self.now.console (mover self.now.console)).cycle }
+    {
+        laws::stages::<MdChips>();
+        least_key(self.chips.as_slice()).cycle
+    }
+
+    /// Brings the machine to the cycle `to`, at most a frame on. It waits for nobody.
+    pub fn alone(&mut self, to: u64)
+        requires later { self.old.at < to }
+        requires near { to ≤ self.old.at + 896040 }
+        requires far { to ≤ 549755813888 }
+        requires entries { self.old.entries ≡ [] }
+        requires levels { self.old.levels ≡ [] }
+        ensures at { self.new.at ≡ to }
+        ensures run { IsRunTo self.old.console to self.new.console self.new.entries self.new.levels }
+        ensures entries { length self.new.entries ≤ 52500 }
+        ensures levels { length self.new.levels ≤ 896 }
+    {
+        if let Some(board) = self.board.take() {
+            let alloc = *self.chips.allocator();
+            let parts = Parts {
+                board,
+                chips: mem::replace(&mut self.chips, Vec::new(alloc)),
+                bounds: mem::replace(&mut self.bounds, Vec::new(alloc)),
+                journal: mem::replace(&mut self.journal, Vec::new(alloc)),
+            };
+            let Parts {
+                board,
+                chips,
+                bounds,
+                journal,
+            } = run_parts(parts, self.at, to);
+            self.board = Some(board);
+            self.chips = chips;
+            self.bounds = bounds;
+            self.journal = journal;
+            self.at = to;
+        }
+    }
+
+    /// The first opcode that the 68000 met and that is not built, with its address.
+    pub fn not_built(&self) -> Option<(u16, u32)>
+        ensures { result ≡ self.now.console.cpu.unbuilt }
+    {
+        unbuilt_of(&self.chips[0])
+    }
+
+    /// Appends the journal's records of the accesses since the machine was last drained.
+    pub fn drain_entries(&mut self, into: &mut Vec<u8>)
+        requires { vec_len into.old + 16 * length self.old.entries ≤ vec_capacity into.old }
+        ensures bytes { into.new.items ≡ into.old.items ++ journal_bytes self.old.entries }
+        ensures length { vec_len into.new ≡ vec_len into.old + 16 * length self.old.entries }
+        ensures machine { self.new ≡ record self.old { entries = [] } }
+        ensures room { vec_capacity into.new ≡ vec_capacity into.old }
+    {
+        put_entries(self.journal.as_slice(), into);
+        self.journal.clear();
+    }
+
+    /// Appends the pairs of samples that were made since the machine was last drained.
+    pub fn drain_pairs(&mut self, into: &mut Vec<u8>)
+        requires { vec_len into.old + 4 * length self.old.levels ≤ vec_capacity into.old }
+        ensures bytes { into.new.items ≡ into.old.items ++ sound_bytes self.old.levels }
+        ensures length { vec_len into.new ≡ vec_len into.old + 4 * length self.old.levels }
+        ensures machine { self.new ≡ record self.old { levels = [] } }
+        ensures room { vec_capacity into.new ≡ vec_capacity into.old }
+    {
+        let chip = &mut self.chips[4];
+        drain_chip(chip, into);
+    }
+}
+
+/// The opcode that a chip met and that is not built; none where the chip is not the 68000.
+#[tactic(auto, unfolding(m68k_chip::specs::Chip::power_on))]
+fn unbuilt_of(chip: &Chip) -> Option<(u16, u32)>
+    ensures { result ≡ (main_of chip.now).chip.state.unbuilt }
+{
+    match chip {
+        Chip::Main(main) => main.chip.not_built(),
+        _ => None,
+    }
+}

@@ -1,0 +1,51 @@
+ghost use Rattle.std.specs.Prelude.{◌≡◌, ◌^◌, ◌<◌, true, false, IsSome};
+ghost use Rattle.m68k_chip.specs.Chip.{next_of};
+ghost use Rattle.md_machine.specs.Parts.{BoardValue, IsMain};
+ghost use Rattle.md_machine.specs.Rules as rules;
+
+use crate::board::Board;
+use crate::main_chip::MainChip;
+use md_word::{Answer68, Entry, Next, Pins68};
+
+impl MainChip {
+    pub(crate) fn next(&self) -> Next
+        ensures value { result ≡ next_of self.now.chip.state }
+        ensures main { IsMain self.now }
+    {
+        self.chip.next()
+    }
+
+    /// The part of an access that needs the board: the answer is kept.
+    #[tactic(auto, unfolding(m68k_chip::specs::Chip::next_of))]
+    pub(crate) fn perform(&mut self, board: &mut Board) -> Entry
+        requires access { (next_of self.old.chip.state).sample ≡ false }
+        ensures chip { self.new ≡ (rules.main_perform self.old board.old).chip }
+        ensures board { board.new ≡ (rules.main_perform self.old board.old).shared }
+        ensures entry { result ≡ (rules.main_perform self.old board.old).entry }
+    {
+        let key = self.chip.next().key;
+        let (answer, entry) = board.carry_out(key, self.chip.request());
+        self.answer = Some(answer);
+        entry
+    }
+
+    /// The private work after an access.
+    pub(crate) fn advance(&mut self)
+        requires access { (next_of self.old.chip.state).sample ≡ false }
+        requires cycle { self.old.chip.state.next < 2 ^ 50 }
+        requires answer { IsSome self.old.answer }
+        ensures { self.new ≡ rules.main_advance self.old }
+    {
+        if let Some(answer) = self.answer.take() {
+            self.chip.answer(answer);
+        }
+    }
+
+    pub(crate) fn sample(&mut self, pins: &Pins68)
+        requires sample { (next_of self.old.chip.state).sample ≡ true }
+        requires cycle { self.old.chip.state.next < 2 ^ 50 }
+        ensures { self.new ≡ rules.main_sample self.old pins.now.level }
+    {
+        self.chip.sample(*pins);
+    }
+}

@@ -1,0 +1,114 @@
+ghost use Rattle.std.specs.Prelude.{◌≡◌, ◌^◌, ◌<◌, IfOk, [], ◌+◌};
+ghost use Rattle.psg_sound.specs.Synth.{at_power_on};
+ghost use Rattle.md_machine.specs.Rules as rules;
+
+use crate::board::Board;
+use crate::stubs::next_at;
+use arrayvec::ArrayVec;
+use md_word::{Entry, Next, NoMemory};
+use psg_sound::{PsgList, PsgSynth};
+use std::alloc::Global;
+use std::marker::Model;
+
+/// The master cycles of a batch of 16 samples.
+const BATCH: u64 = 16_128;
+
+/// The samples of a frame at most, in whole batches.
+pub(crate) const MOST_SAMPLES: usize = 896;
+
+/// The PSG's synthesis: an access each 16,128 cycles, which takes the writes that the port holds
+/// and makes 16 samples. It keeps the samples until they are drained, as long as there is room.
+#[derive(Drop)]
+pub struct PsgChip {
+    synth: PsgSynth,
+    cycle: u64,
+    taken: Box<PsgList>,
+    samples: Box<ArrayVec<i32, MOST_SAMPLES>>,
+}
+
+impl Model for PsgChip {
+    ghost use Rattle.md_machine.specs.Parts.{PsgValue, IsPsg};
+
+    ghost Value = { PsgValue };
+
+    ghost view = { λ c. record { synth = c.synth; cycle = c.cycle; taken = c.taken.value.items; samples = c.samples.value.items } };
+
+    ghost invariant = { λ c. IsPsg (record { synth = c.synth; cycle = c.cycle; taken = c.taken.value.items; samples = c.samples.value.items }) };
+}
+
+impl PsgChip {
+    ghost use Rattle.md_machine.specs.Parts.{IsPsg, BoardValue};
+
+    /// The synthesis at power-on: silent, and its first batch at 16,128.
+    pub(crate) fn power_on(alloc: Global) -> Result<PsgChip, NoMemory>
+        ensures { IfOk result (λ chip. chip ≡ record { synth = at_power_on; cycle = 16128; taken = []; samples = [] }) }
+    {
+        Ok(PsgChip {
+            synth: PsgSynth::power_on(),
+            cycle: BATCH,
+            taken: Box::new(alloc, PsgList::new())?,
+            samples: Box::new(alloc, ArrayVec::new())?,
+        })
+    }
+
+    pub(crate) fn next(&self) -> Next
+        ensures value { result ≡ rules.psg_next self.now.cycle }
+        ensures psg { IsPsg self.now }
+    {
+        next_at(self.cycle, 4, false)
+    }
+
+    /// Takes the writes for the batch that is due.
+    pub(crate) fn perform(&mut self, board: &mut Board) -> Entry
+        requires { self.old.cycle < 2 ^ 50 }
+        ensures chip { self.new ≡ (rules.psg_perform self.old board.old).chip }
+        ensures board { board.new ≡ (rules.psg_perform self.old board.old).shared }
+        ensures entry { result ≡ (rules.psg_perform self.old board.old).entry }
+    {
+        board.take(self.cycle, &mut self.taken);
+        Entry {
+            key: self.next().key,
+            kind: 12,
+            address: (self.cycle / BATCH % 0x1_0000_0000) as u32,
+            value: self.taken.len() as u16,
+        }
+    }
+
+    /// Makes the samples of the batch that is due.
+    pub(crate) fn advance(&mut self)
+        requires { self.old.cycle < 2 ^ 50 }
+        ensures { self.new ≡ rules.psg_advance self.old }
+    {
+        let first = 16 * (self.cycle / BATCH).saturating_sub(1);
+        let mut batch = [0; 16];
+        self.synth.batch(first, &self.taken, &mut batch);
+        keep(&batch, &mut self.samples);
+        self.cycle += BATCH;
+    }
+
+    /// The samples that were made since they were last drained.
+    pub(crate) fn samples(&self) -> &[i32]
+        ensures value { result.now ≡ self.now.samples }
+        ensures psg { IsPsg self.now }
+    {
+        self.samples.as_slice()
+    }
+
+    /// Lets the samples go.
+    pub(crate) fn drain(&mut self)
+        ensures { self.new ≡ record self.old { samples = [] } }
+    {
+        self.samples.clear();
+    }
+}
+
+/// Keeps the samples of a batch where there is room for them.
+fn keep(batch: &[i32; 16], samples: &mut ArrayVec<i32, MOST_SAMPLES>)
+    ensures { samples.new.items ≡ rules.kept samples.old.items batch.now }
+{
+    if samples.len() <= MOST_SAMPLES - 16 {
+        for sample in batch {
+            samples.push(*sample);
+        }
+    }
+}

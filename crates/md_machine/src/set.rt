@@ -1,0 +1,98 @@
+ghost use Rattle.std.specs.Prelude.{◌≡◌};
+ghost use Rattle.md_machine.specs.Parts.{IsBoard};
+ghost use Rattle.md_machine.specs.Rules as rules;
+ghost use Rattle.md_machine.specs.Code.{board_way, chip_way};
+ghost use Rattle.md_machine.specs.Laws.{lawful};
+ghost use Rattle.chip_core.specs.Codes.{code_of, core_of, coded};
+
+use crate::board::Board;
+use crate::chips::Chip;
+use chip_core::ChipSet;
+use md_word::{Entry, Next, Pins68};
+
+/// The five chips of the machine, as a set for the scheduler.
+pub struct MdChips;
+
+impl ChipSet for MdChips {
+    type Chip = Chip;
+
+    type Shared = Board;
+
+    type Pins = Pins68;
+
+    ghost rules = { rules.five };
+
+    ghost chip_ok = { rules.IsChip };
+
+    ghost shared_ok = { IsBoard };
+
+    ghost code_of = { code_of board_way chip_way };
+
+    ghost core_of = { core_of board_way chip_way };
+
+    fn count() -> u8 {
+        5
+    }
+
+    fn next(chip: &Chip) -> Next {
+        match chip {
+            Chip::Main(main) => main.next(),
+            Chip::Sub(sub) => sub.next(),
+            Chip::Line(line) => line.next(),
+            Chip::Fm(fm) => fm.next(),
+            Chip::Psg(psg) => psg.next(),
+        }
+    }
+
+    fn perform(chip: &mut Chip, board: &mut Board) -> Entry {
+        match chip {
+            Chip::Main(main) => main.perform(board),
+            Chip::Sub(sub) => sub.perform(),
+            Chip::Line(line) => line.perform(),
+            Chip::Fm(fm) => fm.perform(),
+            Chip::Psg(psg) => psg.perform(board),
+        }
+    }
+
+    #[tactic(auto, unfolding(m68k_chip::specs::Chip::next_of))]
+    fn advance(chip: &mut Chip) {
+        match chip {
+            Chip::Main(main) => main.advance(),
+            Chip::Sub(_) => {}
+            Chip::Line(line) => line.advance(),
+            Chip::Fm(fm) => fm.advance(),
+            Chip::Psg(psg) => psg.advance(),
+        }
+    }
+
+    fn pins(board: &Board, _chip: u8) -> Pins68 {
+        board.known();
+        Pins68 { level: 0 }
+    }
+
+    #[tactic(auto, unfolding(m68k_chip::specs::Chip::next_of))]
+    fn sample(chip: &mut Chip, pins: &Pins68) {
+        match chip {
+            Chip::Main(main) => main.sample(pins),
+            Chip::Sub(sub) => sub.sample(),
+            Chip::Line(_) | Chip::Fm(_) | Chip::Psg(_) => {}
+        }
+    }
+
+    fn writes(writer: u8, _chip: u8) -> bool {
+        writer == 0 || writer == 2
+    }
+
+    fn gap(chip: u8) -> u64 {
+        match chip {
+            0 => 28,
+            1 => 45,
+            2 => 3_420,
+            _ => 16_128,
+        }
+    }
+
+    ghost coded = { coded board_way chip_way rules.five rules.IsChip IsBoard };
+
+    ghost lawful = { lawful };
+}
