@@ -1,7 +1,7 @@
 pub mod Carts
+pub mod Least
+pub mod LeastRuns
 pub mod Numbers
 pub mod Puts
 pub mod Rows
-pub mod Runs
-pub mod Sounds
 pub mod Writes

@@ -8,7 +8,7 @@ use Rattle.rom_header.specs.Cartridge.{fault_of}
 use Rattle.rom_header.specs.declared.cart.CartFault.{CartFault}
 use Rattle.md_outer.specs.Outside.{DepotState, Files, Rose, SinkState, with_file}
 use Rattle.md_top.specs.Answers.{Causes, NoFaults, Reports}
-use Rattle.md_top.specs.Board.{sound_of, unbuilt}
+use Rattle.md_top.specs.Runs.{sound_of, unbuilt}
 use Rattle.md_top.specs.Endings.{HasCause, IsAccepted, IsReady, LeavesFiles, cart_ending, cart_limit, cart_of, file_ending, right_ending, run_ending, status_of}
 use Rattle.md_top.specs.Outputs.{with_part}
 use Rattle.md_top.specs.Words.{Run}

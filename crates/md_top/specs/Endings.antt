@@ -5,7 +5,7 @@ use Rattle.rom_header.specs.Cartridge.{fault_of, image}
 use Rattle.rom_header.specs.declared.cart.CartFault.{CartFault}
 use Rattle.rom_header.specs.declared.cart.CartFault.TheVariants.{Short, Long, NoMark, NoMemory}
 use Rattle.md_outer.specs.Outside.{DepotState, Files, Rose, bytes_of}
-use Rattle.md_top.specs.Board.{sound_of, unbuilt}
+use Rattle.md_top.specs.Runs.{sound_of, unbuilt}
 use Rattle.md_top.specs.Hex.{hex_of}
 use Rattle.md_top.specs.Outputs.{LeavesParts, written}
 use Rattle.md_top.specs.Words.{Run}

@@ -1,12 +1,9 @@
 pub mod Answers
-pub mod Board
 pub mod Endings
 pub mod Hex
 pub mod Least
 pub mod Outputs
-pub mod Processor
+pub mod Runs
 pub mod ShownRun
 pub mod Sound
-pub mod Stage
-pub mod Views
 pub mod Words

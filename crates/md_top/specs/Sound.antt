@@ -1,6 +1,6 @@
 -- Why a run gives no sound file.
 use Rattle.std.specs.Prelude.{◌≡◌, ℕ, List, Some}
-use Rattle.md_top.specs.Board.{unbuilt}
+use Rattle.md_top.specs.Runs.{unbuilt}
 use Rattle.md_top.specs.declared.sound.RunEnd.{RunEnd}
 use Rattle.md_top.specs.declared.sound.RunEnd.TheVariants.{NotBuilt, Memory}
 

@@ -1,13 +1,11 @@
 //! The emulator's command line: from its words to the bytes that a run writes.
 #![tactic(auto)]
 
-mod board;
 mod ending;
 mod hex;
 pub mod laws;
 mod output;
 mod perform;
-mod processor;
 mod put;
 mod report;
 mod run_words;

@@ -1,6 +1,6 @@
 ghost use Rattle.std.specs.Prelude.{◌≡◌, Some, [], OnOk, IfOk, IfErr};
 ghost use Rattle.md_outer.specs.Outside.{GoesOn, Rose};
-ghost use Rattle.md_top.specs.Board.{sound_of};
+ghost use Rattle.md_top.specs.Runs.{sound_of};
 ghost use Rattle.md_top.specs.Endings.{HasCause, IsReady, LeavesFiles, cart_of};
 ghost use Rattle.md_top.specs.Outputs.{written};
 ghost use Rattle.md_top.specs.ShownRun.{shown_run};

@@ -1,7 +1,7 @@
 ghost use Rattle.std.specs.Prelude.{◌≡◌, Some, None, OnOk, IfOk, IfErr};
 ghost use Rattle.rom_header.specs.Cartridge.{IsImage};
 ghost use Rattle.md_outer.specs.Outside.{GoesOn};
-ghost use Rattle.md_top.specs.Board.{sound_of};
+ghost use Rattle.md_top.specs.Runs.{sound_of};
 ghost use Rattle.md_top.specs.Endings.{HasCause, IsAccepted, IsReady, LeavesFiles, cart_of, refusal_of};
 ghost use Rattle.md_top.specs.ShownRun.{shown_run};
 
@@ -12,6 +12,7 @@ use crate::sound::{RunEnd, sound};
 use md_outer::{Depot, Fetch};
 use rom_header::{Cart, CartFault, GREATEST};
 use std::alloc::Global;
+use std::sync::Arc;
 
 /// Runs the cartridge that the words name, and writes the outputs that they ask for.
 pub(crate) fn perform<D: Depot>(alloc: Global, run: &RunWords<'_>, depot: &mut D) -> Ending
@@ -22,7 +23,10 @@ pub(crate) fn perform<D: Depot>(alloc: Global, run: &RunWords<'_>, depot: &mut D
         Ok(cart) => cart,
         Err(ending) => return ending,
     };
-    match sound(alloc, cart.bytes(), run.cycles) {
+    let Ok(cart) = Arc::new(alloc, cart) else {
+        return Ending::Memory;
+    };
+    match sound(alloc, cart, run.cycles) {
         Ok(bytes) => write_all(alloc, run, depot, bytes.as_slice()),
         Err(RunEnd::NotBuilt(opcode, address)) => Ending::NotBuilt(opcode, address),
         Err(RunEnd::Memory) => Ending::Memory,

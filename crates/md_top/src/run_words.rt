@@ -9,5 +9,5 @@ pub(crate) struct RunWords<'a> {
     pub cycles: u64,
     /// The sound file's name, if one is asked for.
     pub sound: Option<&'a str>,
-    ghost within: { cycles ≤ 896040 },
+    ghost within: { (1 ≤ cycles) × (cycles ≤ 896040) },
 }

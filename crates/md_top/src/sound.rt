@@ -1,10 +1,16 @@
-ghost use Rattle.std.specs.Prelude.{◌≡◌, ◌≤◌, ◌*◌, ◌%◌, length, pos, replicate, IfOk, IfErr, None};
-ghost use Rattle.md_top.specs.Board.{sound_file, sound_of, unbuilt};
+ghost use Rattle.std.specs.Prelude.{◌≡◌, ◌≤◌, length, IfOk, IfErr, None};
+ghost use Rattle.std.specs.Arc.{arc_value};
+ghost use Rattle.md_top.specs.Runs.{sound_file, sound_of, unbuilt};
 ghost use Rattle.md_top.specs.Sound.{IsRunEnd};
 
-use crate::board;
-use md_files::{put_pair, wav_head};
+use md_files::wav_head;
+use md_machine::{Machine, laws};
+use rom_header::Cart;
 use std::alloc::{AllocError, Global};
+use std::sync::Arc;
+
+/// The bytes of the pairs of a frame at most.
+const MOST_BYTES: usize = 4 * 896;
 
 /// Why a run gives no sound file.
 #[derive(Clone, Copy)]
@@ -14,36 +20,36 @@ pub(crate) enum RunEnd {
     Memory,
 }
 
-/// The sound file of a run of a cartridge's image from power-on to the cycle `end`.
-#[tactic(auto, unfolding(crate::specs::Board::sound_of, crate::specs::Board::unbuilt))]
-pub(crate) fn sound(alloc: Global, rom: &[u8], end: u64) -> Result<Vec<u8>, RunEnd>
-    requires least { 8 ≤ length rom.now }
-    requires even { length rom.now % 2 ≡ 0 }
-    requires end { end ≤ 896040 }
-    ensures bytes { IfOk result (λ bytes. (unbuilt rom.now end ≡ None) × (bytes.items ≡ sound_of rom.now end)) }
-    ensures err { IfErr result (IsRunEnd rom.now end) }
+/// The sound file of a run of a cartridge from power-on to the cycle `end`.
+pub(crate) fn sound(alloc: Global, cart: Arc<Cart>, end: u64) -> Result<Vec<u8>, RunEnd>
+    requires some { 1 ≤ end }
+    requires frame { end ≤ 896040 }
+    ensures bytes { IfOk result (λ bytes. (unbuilt (arc_value cart) end ≡ None) × (bytes.items ≡ sound_of (arc_value cart) end)) }
+    ensures err { IfErr result (IsRunEnd (arc_value cart) end) }
 {
-    let board = board::run(rom, end);
-    if let Some((opcode, address)) = board.cpu.unbuilt {
+    laws::few_events(&cart, end);
+    let Ok(mut machine) = Machine::power_on(alloc, cart) else {
+        return Err(RunEnd::Memory);
+    };
+    machine.alone(end);
+    if let Some((opcode, address)) = machine.not_built() {
         return Err(RunEnd::NotBuilt(opcode, address));
     }
-    match silence(alloc, board.batches as u32) {
+    match drain(alloc, &mut machine) {
         Ok(bytes) => Ok(bytes),
         Err(_) => Err(RunEnd::Memory),
     }
 }
 
-/// The sound file of so many batches of silence.
-#[tactic(auto, using(crate::proofs::Sounds::more_silent), unfolding(crate::specs::Board::sound_file))]
-fn silence(alloc: Global, batches: u32) -> Result<Vec<u8>, AllocError>
-    requires { batches ≤ 100 }
-    ensures { IfOk result (λ bytes. bytes.items ≡ sound_file (replicate (16 * batches) (pos 0))) }
+/// The sound file of the pairs that a machine holds.
+fn drain(alloc: Global, machine: &mut Machine) -> Result<Vec<u8>, AllocError>
+    requires { length machine.old.levels ≤ 896 }
+    ensures { IfOk result (λ bytes. bytes.items ≡ sound_file machine.old.levels) }
 {
-    let pairs = 16 * batches;
-    let mut bytes = Vec::with_capacity(alloc, 44 + 4 * pairs as usize)?;
-    wav_head(pairs, &mut bytes);
-    'pairs: for _pair in 0..pairs {
-        put_pair(0, 0, &mut bytes);
-    }
+    let mut pairs = Vec::with_capacity(alloc, MOST_BYTES)?;
+    machine.drain_pairs(&mut pairs);
+    let mut bytes = Vec::with_capacity(alloc, 44 + pairs.len())?;
+    wav_head((pairs.len() / 4) as u32, &mut bytes);
+    bytes.extend_from_slice(pairs.as_slice())?;
     Ok(bytes)
 }

@@ -34,6 +34,17 @@ fn idle(alloc: Global) -> Result<Vec<u8>, AllocError> {
     cartridge(alloc, [0x60, 0xfe], [0, 0], b"SEGA")
 }
 
+/// A program at 1C0h that sets the generator's first channel to full volume and goes on with an
+/// opcode: LEA, MOVE.B and the opcode.
+fn beep(alloc: Global, opcode: [u8; 2]) -> Result<Vec<u8>, AllocError> {
+    let mut image = idle(alloc)?;
+    write_at(&mut image, 4, &[0, 0, 0x01, 0xc0]);
+    let program = [0x41, 0xf9, 0, 0xc0, 0, 0x11, 0x10, 0xbc, 0, 0x90];
+    write_at(&mut image, 0x1c0, &program);
+    write_at(&mut image, 0x1ca, &opcode);
+    Ok(image)
+}
+
 /// A depot that holds the cartridge as `Z`.
 fn depot_with(
     alloc: Global,
@@ -83,6 +94,59 @@ fn a_run_writes_its_sound(rt: HostRuntime) -> Result<(), Fail> {
     assert_eq!(rt; status, 0);
     assert_eq!(rt; out.bytes(), b"cycles 0 to 16128\nsamples 0\n".as_slice());
     assert_eq!(rt; depot.file("W").unwrap_or(&[]).len(), 44);
+    Ok(())
+}
+
+/// The period of power-on is one tick of 240 cycles, so the level turns at each tick. Sample k
+/// stands after 4.2 k ticks, rounded down: even for 1 to 4 and for 10 to 14, and odd for the
+/// others.
+#[test]
+fn a_write_to_the_sound_generator_is_heard(rt: HostRuntime) -> Result<(), Fail> {
+    let alloc = rt.alloc();
+    let image = beep(alloc, [0x60, 0xfe])?;
+    let (status, depot, out) = answer(alloc, "run Z --cycles 16129 --sound W", image)?;
+    assert_eq!(rt; status, 0);
+    assert_eq!(rt; out.bytes(), b"cycles 0 to 16129\nsamples 16\n".as_slice());
+    let sound = depot.file("W").unwrap_or(&[]);
+    assert_eq!(rt; sound.len(), 108);
+    assert_eq!(rt; &sound[4..8], [0x64, 0, 0, 0].as_slice());
+    assert_eq!(rt; &sound[40..44], [0x40, 0, 0, 0].as_slice());
+    let levels = [
+        0i16, -2048, -2048, -2048, -2048, 2048, 2048, 2048, 2048, 2048, -2048, -2048, -2048, -2048,
+        -2048, 2048,
+    ];
+    let mut at = 44;
+    for level in levels {
+        let [low, high] = level.to_le_bytes();
+        assert_eq!(rt;
+            &sound[at..at + 4],
+            [low, high, low, high].as_slice(),
+            "{at}"
+        );
+        at += 4;
+    }
+    let image = beep(alloc, [0x60, 0xfe])?;
+    let (status, depot, _) = answer(alloc, "run Z --cycles 16128 --sound W", image)?;
+    assert_eq!(rt; status, 0);
+    assert_eq!(rt; depot.file("W").unwrap_or(&[]).len(), 44);
+    Ok(())
+}
+
+/// LEA takes 84 cycles and MOVE.B 84, so that the third instruction starts at 168.
+#[test]
+fn an_opcode_behind_an_access_is_met_where_it_starts(rt: HostRuntime) -> Result<(), Fail> {
+    let alloc = rt.alloc();
+    let image = beep(alloc, [0x4e, 0x72])?;
+    let (status, _, _) = answer(alloc, "run Z --cycles 168 --sound W", image)?;
+    assert_eq!(rt; status, 0);
+    let image = beep(alloc, [0x4e, 0x72])?;
+    let (status, depot, out) = answer(alloc, "run Z --cycles 169 --sound W", image)?;
+    assert_eq!(rt; status, 12);
+    assert_eq!(rt;
+        out.bytes(),
+        b"refused: not built 4e72 at 000001ca\n".as_slice()
+    );
+    assert_eq!(rt; depot.file("W").is_none(), true);
     Ok(())
 }
 

@@ -35,7 +35,7 @@ pub(crate) fn read_words(words: &[String]) -> Option<RunWords<'_>>
 /// The cycles of a run: a number of 1 to those of a frame.
 fn read_cycles(word: &str) -> Option<u64>
     ensures value { result ≡ meaning.cycles_of word.now }
-    ensures within { IfSome result (λ cycles. cycles ≤ 896040) }
+    ensures within { IfSome result (λ cycles. (1 ≤ cycles) × (cycles ≤ 896040)) }
 {
     match read_number(word) {
         Some(number) if 1 <= number && number <= 896_040 => Some(number),
