@@ -1,0 +1,25 @@
+ghost use Rattle.std.specs.Prelude.{◌≡◌, ◌≤◌};
+ghost use Rattle.m68k_decode.specs.Instructions.{of_words};
+
+use crate::Op;
+
+/// A decoded instruction.
+#[derive(Clone, Copy)]
+pub struct Decoded {
+    pub op: Op,
+    /// The bytes of the instruction with its extension words, 2 to 10.
+    pub length: u8,
+}
+
+impl Decoded {
+    /// An instruction of so many words.
+    pub(crate) fn of_words(count: u8, op: Op) -> Self
+        requires { count ≤ 5 }
+        ensures { result ≡ of_words count op }
+    {
+        Decoded {
+            op,
+            length: 2 * count,
+        }
+    }
+}
