@@ -1,0 +1,3 @@
+pub mod Oddness
+pub mod Stepping
+pub mod Sums

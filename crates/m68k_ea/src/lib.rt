@@ -1,0 +1,15 @@
+//! Where the operands of the 68000 stand: effective addresses, and what (An)+ and −(An) do to their
+//! register.
+#![tactic(auto)]
+
+mod addresses;
+mod operands;
+mod places;
+mod steps;
+
+pub use operands::place;
+pub use places::Place;
+pub use steps::stepped;
+
+#[cfg(test)]
+mod tests;
