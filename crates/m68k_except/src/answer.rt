@@ -1,0 +1,10 @@
+use arrayvec::ArrayVec;
+
+/// What an exception comes to.
+#[derive(Drop)]
+pub enum Frame {
+    /// The words in the order in which they are pushed.
+    Words(ArrayVec<u16, 7>),
+    /// The processor halts, and pushes nothing.
+    Halted,
+}
