@@ -97,9 +97,15 @@ fn a_run_writes_its_sound(rt: HostRuntime) -> Result<(), Fail> {
     Ok(())
 }
 
-/// The period of power-on is one tick of 240 cycles, so the level turns at each tick. Sample k
-/// stands after 4.2 k ticks, rounded down: even for 1 to 4 and for 10 to 14, and odd for the
-/// others.
+/// A sample of silence, and then the tone of power-on's period on both sides: -2,048 is F800h, and
+/// 2,048 is 0800h. The level turns at each tick of 240 cycles, and sample k stands after 4.2 k ticks,
+/// rounded down: even for 1 to 4 and for 10 to 14, and odd for the others.
+const BEEP_PAIRS: &[u8; 64] = b"\
+\0\0\0\0\x00\xf8\x00\xf8\x00\xf8\x00\xf8\x00\xf8\x00\xf8\
+\x00\xf8\x00\xf8\x00\x08\x00\x08\x00\x08\x00\x08\x00\x08\x00\x08\
+\x00\x08\x00\x08\x00\x08\x00\x08\x00\xf8\x00\xf8\x00\xf8\x00\xf8\
+\x00\xf8\x00\xf8\x00\xf8\x00\xf8\x00\xf8\x00\xf8\x00\x08\x00\x08";
+
 #[test]
 fn a_write_to_the_sound_generator_is_heard(rt: HostRuntime) -> Result<(), Fail> {
     let alloc = rt.alloc();
@@ -111,20 +117,7 @@ fn a_write_to_the_sound_generator_is_heard(rt: HostRuntime) -> Result<(), Fail> 
     assert_eq!(rt; sound.len(), 108);
     assert_eq!(rt; &sound[4..8], [0x64, 0, 0, 0].as_slice());
     assert_eq!(rt; &sound[40..44], [0x40, 0, 0, 0].as_slice());
-    let levels = [
-        0i16, -2048, -2048, -2048, -2048, 2048, 2048, 2048, 2048, 2048, -2048, -2048, -2048, -2048,
-        -2048, 2048,
-    ];
-    let mut at = 44;
-    for level in levels {
-        let [low, high] = level.to_le_bytes();
-        assert_eq!(rt;
-            &sound[at..at + 4],
-            [low, high, low, high].as_slice(),
-            "{at}"
-        );
-        at += 4;
-    }
+    assert_eq!(rt; &sound[44..], BEEP_PAIRS.as_slice());
     let image = beep(alloc, [0x60, 0xfe])?;
     let (status, depot, _) = answer(alloc, "run Z --cycles 16128 --sound W", image)?;
     assert_eq!(rt; status, 0);
