@@ -125,8 +125,8 @@ fn the_stack_pointer_is_the_active_one(rt: HostRuntime) {
     assert_eq!(rt; regs.ssp, 0x0100_0000);
 }
 
-// TST.L ($10,A0); MOVE.L ($FC,A0,D1.W),-(A2); BTST #n,($10,PC) at 1000h, whose number stands before
-// the displacement.
+// TST.L ($10,A0); MOVE.L ($FC,A0,D1.W),-(A2); BTST #n,($10,PC) and MOVEM.L ($FFFE,PC),list at 1000h,
+// whose number and whose list stand before the displacement.
 #[test]
 fn operands_of_instructions(rt: HostRuntime) {
     assert_eq!(rt;
@@ -144,6 +144,10 @@ fn operands_of_instructions(rt: HostRuntime) {
     assert_eq!(rt;
         place(PcDisplaced(0x0010), Byte, &SUPERVISOR, 0x1004),
         Place::Memory(0x1014)
+    );
+    assert_eq!(rt;
+        place(PcDisplaced(0xfffe), Long, &SUPERVISOR, 0x1004),
+        Place::Memory(0x1002)
     );
 }
 
