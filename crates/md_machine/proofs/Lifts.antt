@@ -1,10 +1,10 @@
 -- The run of the five chips is the run of the record.
-use Rattle.std.proofs.Common.{◌≡◌, ℕ, zero, suc, ◌<◌, ◌≤◌, cond, Bool, true, false, refl, ap, ◌∙◌, arith}
-use Rattle.md_word.specs.Keys.{key_lt}
+use Rattle.std.proofs.Common.{◌≡◌, ℕ, zero, suc, ◌<◌, ◌≤◌, refl, ap, ◌∙◌, arith}
 use Rattle.md_word.specs.declared.key.Key.{Key}
 use Rattle.chip_core.specs.Machines as machines
 use Rattle.chip_core.specs.Machines.{IsSound, Machine, key_of, least_below, move, run}
 use Rattle.md_machine.specs.Console.{Console, key_in, journal, moved, mover, ran, told}
+use Rattle.md_machine.specs.Movers.{least_below-lt}
 use Rattle.md_machine.specs.Parts.{BoardValue, IsBoard}
 use Rattle.md_machine.specs.Refinement.{console}
 use Rattle.md_machine.specs.Rules.{IsChip, five}
@@ -12,14 +12,9 @@ use Rattle.md_machine.specs.declared.chips.Chip.{Chip}
 use Rattle.md_machine.proofs.Moves.{key-same, move-same, told-same}
 
 -- the number of the least key is at most the count
-least-le : (b : Bool) (n l : ℕ) → l ≤ n → cond b n l ≤ suc n
-least-le true n l within = omega arith
-least-le false n l within = omega arith
-
 pub least_below-le : (f : ℕ → Key) (n : ℕ) → least_below f n ≤ n
-unfolding least_below
-least_below-le f zero = omega arith
-least_below-le f (suc n) = least-le (key_lt (f n) (f (least_below f n))) n (least_below f n) (least_below-le f n)
+least_below-le f zero = unfold least_below in omega arith
+least_below-le f (suc n) = let below : least_below f (suc n) < suc n = least_below-lt f n in omega arith
 
 -- two functions with the same keys have the same least
 pub least-same : (f g : ℕ → Key) (n : ℕ) → ((i : ℕ) → i < n → f i ≡ g i) → least_below f n ≡ least_below g n

@@ -9,7 +9,7 @@ chosen : (b : Bool) (low high n : ℕ) → low < n → high < n → cond b low h
 chosen true low high n first second = first
 chosen false low high n first second = second
 
-least_below-lt : (key : ℕ → Key) (n : ℕ) → least_below key (suc n) < suc n
+pub least_below-lt : (key : ℕ → Key) (n : ℕ) → least_below key (suc n) < suc n
 unfolding least_below
 least_below-lt key zero = chosen (key_lt (key 0) (key 0)) 0 0 1 (omega arith) (omega arith)
 least_below-lt key (suc n) =

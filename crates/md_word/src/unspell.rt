@@ -1,3 +1,5 @@
+ghost use Rattle.std.specs.Prelude.{◌≡◌};
+
 /// Why memory that was asked for is not there: the one error for want of memory.
 pub use std::alloc::AllocError as NoMemory;
 
@@ -14,6 +16,10 @@ pub enum Unspell {
 }
 
 impl From<NoMemory> for Unspell {
+    ghost use Rattle.md_word.specs.declared.unspell.Unspell.TheVariants.{NoMemory};
+
+    ghost from_gives = { λ _ fault. fault ≡ NoMemory };
+
     fn from(_: NoMemory) -> Self {
         Unspell::NoMemory
     }
