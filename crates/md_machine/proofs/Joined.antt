@@ -10,12 +10,12 @@ next a b = omega arith
 none : (a : ℕ) → a + 0 ≡ a
 none a = omega arith
 
-ran-add : (m : Console) (a b : ℕ) → ran m (a + b) ≡ ran (ran m a) b
+pub ran-add : (m : Console) (a b : ℕ) → ran m (a + b) ≡ ran (ran m a) b
 unfolding ran
 ran-add m a zero = ap (ran m) (none a)
 ran-add m a (suc b) = ap (ran m) (next a b) ∙ ap (λ z. moved z (mover z)) (ran-add m a b)
 
-journal-add : (m : Console) (a b : ℕ) → journal m (a + b) ≡ journal m a ++ journal (ran m a) b
+pub journal-add : (m : Console) (a b : ℕ) → journal m (a + b) ≡ journal m a ++ journal (ran m a) b
 unfolding journal
 journal-add m a zero = ap (journal m) (none a) ∙ sym (append-nil (journal m a))
 journal-add m a (suc b) =
@@ -24,7 +24,7 @@ journal-add m a (suc b) =
     ∙ ap (λ z. (journal m a ++ journal (ran m a) b) ++ told z (mover z)) (ran-add m a b)
     ∙ append_assoc (journal m a) (journal (ran m a) b) (told (ran (ran m a) b) (mover (ran (ran m a) b)))
 
-levels-add : (m : Console) (a b : ℕ) → levels m (a + b) ≡ levels m a ++ levels (ran m a) b
+pub levels-add : (m : Console) (a b : ℕ) → levels m (a + b) ≡ levels m a ++ levels (ran m a) b
 unfolding levels
 levels-add m a zero = ap (levels m) (none a) ∙ sym (append-nil (levels m a))
 levels-add m a (suc b) =

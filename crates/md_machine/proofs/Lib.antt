@@ -1,5 +1,7 @@
 pub mod Appended
+pub mod Counts
 pub mod Joined
+pub mod Kept
 pub mod LeastKeys
 pub mod Lifts
 pub mod Moves
