@@ -1,29 +1,14 @@
 -- The run of the five chips is the run of the record.
-use Rattle.std.proofs.Common.{◌≡◌, ℕ, zero, suc, ◌<◌, ◌≤◌, refl, ap, ◌∙◌, arith}
-use Rattle.md_word.specs.declared.key.Key.{Key}
+use Rattle.std.proofs.Common.{◌≡◌, ℕ, zero, suc, ◌<◌, refl, ap, ◌∙◌, arith}
+use Rattle.chip_core.specs.Equations.{least-same}
 use Rattle.chip_core.specs.Machines as machines
 use Rattle.chip_core.specs.Machines.{IsSound, Machine, key_of, least_below, move, run}
 use Rattle.md_machine.specs.Console.{Console, key_in, journal, moved, mover, ran, told}
-use Rattle.md_machine.specs.Movers.{least_below-lt}
 use Rattle.md_machine.specs.Parts.{BoardValue, IsBoard}
 use Rattle.md_machine.specs.Refinement.{console}
 use Rattle.md_machine.specs.Rules.{IsChip, five}
 use Rattle.md_machine.specs.declared.chips.Chip.{Chip}
 use Rattle.md_machine.proofs.Moves.{key-same, move-same, told-same}
-
--- the number of the least key is at most the count
-pub least_below-le : (f : ℕ → Key) (n : ℕ) → least_below f n ≤ n
-least_below-le f zero = unfold least_below in omega arith
-least_below-le f (suc n) = let below : least_below f (suc n) < suc n = least_below-lt f n in omega arith
-
--- two functions with the same keys have the same least
-pub least-same : (f g : ℕ → Key) (n : ℕ) → ((i : ℕ) → i < n → f i ≡ g i) → least_below f n ≡ least_below g n
-unfolding least_below
-least-same f g zero same = refl
-least-same f g (suc n) same =
-    let rest : least_below f n ≡ least_below g n = least-same f g n (λ i below. same i (omega arith)) in
-    let within : least_below g n ≤ n = least_below-le g n in
-    rw rest (rw (same n (omega arith), same (least_below g n) (omega arith)) refl)
 
 -- the same chip moves
 pub mover-same : (m : Machine Chip BoardValue) → IsSound five IsChip IsBoard m → machines.mover five m ≡ mover (console m)

@@ -1,9 +1,9 @@
 //! Laws of the machine, as calls that do nothing and stand for what they ensure.
 
-ghost use Rattle.std.specs.Prelude.{◌≡◌, ℕ, ℤ, ◌+◌, ◌-◌, ◌*◌, ◌/◌, ◌^◌, ◌≤◌, ◌++◌, List, length, Some};
+ghost use Rattle.std.specs.Prelude.{◌≡◌, ℕ, ℤ, ◌+◌, ◌-◌, ◌*◌, ◌/◌, ◌^◌, ◌≤◌, ◌++◌, List, length};
 ghost use Rattle.md_word.specs.declared.event.Entry.{Entry};
 ghost use Rattle.chip_core.specs.Limits.{events_within};
-ghost use Rattle.md_machine.specs.Console.{AllBelow, Console, IsRunTo, power_on, ran};
+ghost use Rattle.md_machine.specs.Console.{AllBelow, Console, IsRunTo, power_on};
 ghost use Rattle.md_machine.specs.Rules.{five};
 
 use crate::set::MdChips;
@@ -23,23 +23,6 @@ pub fn joined()
 pub fn levels_counted()
     ensures { (cart : List ℕ) (z : Console) (end : ℕ) (entries : List Entry) (sound : List ℤ) → 1 ≤ end
         → IsRunTo (power_on cart) end z entries sound → length sound ≡ 16 * ((end - 1) / 16128) }
-{}
-
-/// A run has at most an entry for each of its moves.
-pub fn entries_few()
-    ensures { (m z : Console) (end : ℕ) (entries : List Entry) (sound : List ℤ) (run : IsRunTo m end z entries sound)
-        → length entries ≤ run.moves }
-{}
-
-/// The opcode that is not built and was met first is told from then on.
-pub fn unbuilt_stays()
-    ensures { (m : Console) (a b : ℕ) (met : ℕ × ℕ) → (ran m a).cpu.unbuilt ≡ Some met
-        → (ran m (a + b)).cpu.unbuilt ≡ Some met }
-{}
-
-/// A run leaves the cartridge.
-pub fn cart_stays()
-    ensures { (m : Console) (n : ℕ) → (ran m n).cart ≡ m.cart }
 {}
 
 /// From power-on there are never more events below a cycle than cycles and chips.
