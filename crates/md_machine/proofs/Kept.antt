@@ -1,7 +1,8 @@
 -- What no move changes: the cartridge, and the first opcode that is not built and was met.
-use Rattle.std.proofs.Common.{◌≡◌, ℕ, zero, suc, ◌+◌, ◌<◌, cond, Bool, true, false, List, Some, refl, ap, ◌∙◌, arith}
+use Rattle.std.proofs.Common.{◌≡◌, ℕ, zero, suc, ◌+◌, ◌<◌, cond, Bool, true, false, List, None, Some, refl, ap, ◌∙◌, arith}
 use Rattle.m68k_chip.specs.Chip.{State68, begun, ended, finished, next_of, waited}
-use Rattle.md_machine.specs.Console.{Console, main_moved, moved, mover, psg_moved, ran}
+use Rattle.m68k_chip.specs.Chip as main
+use Rattle.md_machine.specs.Console.{Console, main_moved, moved, mover, power_on, psg_moved, ran}
 use Rattle.md_machine.specs.Movers.{mover-lt}
 use Rattle.md_machine.proofs.Moves.{five-each}
 
@@ -42,3 +43,8 @@ pub cart-stays : (m : Console) (n : ℕ) → (ran m n).cart ≡ m.cart
 unfolding ran
 cart-stays m zero = refl
 cart-stays m (suc n) = moved-cart (ran m n) (mover (ran m n)) (mover-lt (ran m n)) ∙ cart-stays m n
+
+-- at power-on none was met
+pub none-met : (cart : List ℕ) → (power_on cart).cpu.unbuilt ≡ None
+unfolding main.power_on
+none-met cart = refl

@@ -1,6 +1,9 @@
 -- The least number that passes a test.
-use Rattle.std.proofs.Common.{◌≡◌, ℕ, zero, suc, ◌<◌, ◌≤◌, ◌⊎◌, inl, inr, Bool, true, false, refl, ap, ◌∙◌, arith}
+use Rattle.std.proofs.Common.{◌≡◌, ℕ, zero, suc, ◌<◌, ◌≤◌, ◌⊎◌, inl, inr, Bool, true, false, refl, sym, ap, ◌∙◌, arith}
 use Rattle.md_top.specs.Least.{least}
+
+clash : true ≡ false → ⊥
+clash same = cc
 
 -- it is the number below which none does
 pub least-is : (test : ℕ → Bool) (limit n : ℕ) → n ≤ limit → test n ≡ true → ((k : ℕ) → k < n → test k ≡ false) → least test limit ≡ n
@@ -36,3 +39,23 @@ found_zero test false first = inr (λ k within. none_zero test k first within)
 pub least-found : (test : ℕ → Bool) (limit : ℕ) → (test (least test limit) ≡ true) ⊎ ((k : ℕ) → k ≤ limit → test k ≡ false)
 least-found test zero = found_zero test (test 0) refl
 least-found test (suc limit) = found_first test limit (test 0) refl (least-found (λ k. test (suc k)) limit)
+
+least-le_by : (test : ℕ → Bool) (limit n : ℕ) (b : Bool) → test 0 ≡ b → (test 0 ≡ false → suc (least (λ k. test (suc k)) limit) ≤ n) → least test (suc limit) ≤ n
+unfolding least
+least-le_by test limit n true first others = rw first (omega arith)
+least-le_by test limit n false first others = rw first (others first)
+
+-- it is at most any number that passes
+pub least-le : (test : ℕ → Bool) (limit n : ℕ) → test n ≡ true → least test limit ≤ n
+least-le test zero n passes = unfold least in omega arith
+least-le test (suc limit) zero passes = least-le_by test limit zero (test 0) refl (λ fails. absurd (clash (sym passes ∙ fails)))
+least-le test (suc limit) (suc n) passes =
+    least-le_by test limit (suc n) (test 0) refl (λ fails. omega (arith, least-le (λ k. test (suc k)) limit n passes))
+
+-- no number below it passes
+pub least-below : (test : ℕ → Bool) (limit k : ℕ) → k < least test limit → test k ≡ false
+least-below test limit k below = below_by (test k) refl
+  where
+    below_by : (b : Bool) → test k ≡ b → test k ≡ false
+    below_by true passes = absurd (omega (arith, least-le test limit k passes))
+    below_by false fails = fails

@@ -1,7 +1,9 @@
 pub mod Carts
+pub mod Ends
 pub mod Least
 pub mod LeastRuns
 pub mod Numbers
 pub mod Puts
 pub mod Rows
+pub mod Segments
 pub mod Writes

@@ -9,7 +9,7 @@ prefix_more front first second (rest, is) = (rest, append_assoc first front rest
 prefix_longer : (front first second : List ℕ) → IsPrefix front first → IsPrefix front (first ++ second)
 prefix_longer front first second (rest, is) = (rest ++ second, sym (append_assoc front rest second) ∙ ap (λ (l : List ℕ). l ++ second) is)
 
-rose_later : (before mid now : ℕ) → before ≤ mid → Rose mid now → Rose before now
+pub rose_later : (before mid now : ℕ) → before ≤ mid → Rose mid now → Rose before now
 rose_later before mid now later rose = omega arith
 
 -- a second text behind one that was put

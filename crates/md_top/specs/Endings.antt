@@ -1,25 +1,29 @@
 -- What a command line can come to: its status, what is put, why it comes, and what the files hold
 -- then.
-use Rattle.std.specs.Prelude.{◌≡◌, ◌⊎◌, ℕ, ◌-◌, ◌*◌, ◌/◌, ◌<◌, ◌≤◌, nat_lt, if◌then◌else◌, List, [], ◌++◌, length, codes, decimal, Option, Some, None, IsSomeAnd, unwrap_or}
+use Rattle.std.specs.Prelude.{◌≡◌, ◌≢◌, ◌⊎◌, ℕ, ◌-◌, ◌*◌, ◌/◌, ◌<◌, ◌≤◌, ◌==◌, nat_lt, if◌then◌else◌, List, [], ◌++◌, length, codes, decimal, Option, Some, None, IsSomeAnd, unwrap_or}
 use Rattle.rom_header.specs.Cartridge.{fault_of, image}
 use Rattle.rom_header.specs.declared.cart.CartFault.{CartFault}
 use Rattle.rom_header.specs.declared.cart.CartFault.TheVariants.{Short, Long, NoMark, NoMemory}
 use Rattle.md_outer.specs.Outside.{DepotState, Files, Rose, bytes_of}
-use Rattle.md_top.specs.Runs.{sound_of, unbuilt}
+use Rattle.md_top.specs.Limits.{IsEnd, last_cycle, segment_cycles, segment_end}
+use Rattle.md_top.specs.Runs.{entries_to, journal_of, sound_of, sound_until, unbuilt}
 use Rattle.md_top.specs.Hex.{hex_of}
-use Rattle.md_top.specs.Outputs.{LeavesParts, written}
+use Rattle.md_top.specs.Outputs.{Holds, IsUnwritten, LeavesParts}
 use Rattle.md_top.specs.Words.{Run}
 use Rattle.md_top.specs.declared.ending.Ending.{Ending}
-use Rattle.md_top.specs.declared.ending.Ending.TheVariants.{Done, Usage, ReadFault, TooLong, CartRefused, NotBuilt, SoundFault, Memory}
+use Rattle.md_top.specs.declared.ending.Ending.TheVariants.{Done, Usage, TooFar, ReadFault, TooLong, CartRefused, Behind, NotBuilt, SoundFault, JournalFault, Memory}
 
 -- the status that the program ends with
 abbrev pub status_of : Ending → ℕ
-status_of Done = 0
+status_of (Done accesses) = 0
 status_of Usage = 2
 status_of ReadFault = 3
 status_of SoundFault = 4
+status_of JournalFault = 4
 status_of (CartRefused fault) = 5
+status_of Behind = 9
 status_of Memory = 10
+status_of TooFar = 11
 status_of (NotBuilt opcode address) = 12
 status_of TooLong = 14
 
@@ -34,17 +38,23 @@ abbrev pub pairs_of : ℕ → ℕ
 pairs_of cycles = 16 * ((cycles - 1) / 16128)
 
 -- what a run that ends well puts
-abbrev pub lines_of : Run → List ℕ
-lines_of run = codes "cycles 0 to " ++ decimal run.cycles ++ codes "\nsamples " ++ decimal (pairs_of run.cycles) ++ codes "\n"
+abbrev pub lines_of : Run → ℕ → List ℕ
+lines_of run accesses =
+    codes "cycles 0 to " ++ decimal run.cycles
+    ++ codes "\nsamples " ++ decimal (pairs_of run.cycles)
+    ++ codes "\naccesses " ++ decimal accesses ++ codes "\n"
 
 -- what is put: the output, or the one line of a refusal
 abbrev pub text_of : Option Run → Ending → List ℕ
-text_of (Some run) Done = lines_of run
+text_of (Some run) (Done accesses) = lines_of run accesses
+text_of (Some run) TooFar = codes "refused: cycle " ++ decimal run.cycles ++ codes " is too far\n"
 text_of (Some run) ReadFault = codes "fault: reading " ++ run.rom ++ codes "\n"
 text_of (Some run) TooLong = codes "refused: " ++ run.rom ++ codes " is too long\n"
 text_of (Some run) (CartRefused fault) = codes "refused: cartridge: " ++ fault_text fault ++ codes "\n"
+text_of (Some run) Behind = codes "refused: cycle " ++ decimal run.cycles ++ codes " is not above 0\n"
 text_of (Some run) (NotBuilt opcode address) = codes "refused: not built " ++ hex_of 4 opcode ++ codes " at " ++ hex_of 8 address ++ codes "\n"
 text_of (Some run) SoundFault = codes "fault: writing " ++ unwrap_or run.sound [] ++ codes "\n"
+text_of (Some run) JournalFault = codes "fault: writing " ++ unwrap_or run.journal [] ++ codes "\n"
 text_of (Some run) Memory = codes "refused: memory\n"
 text_of command ending = codes "refused: usage\n"
 
@@ -67,46 +77,86 @@ IsAccepted file = IsSomeAnd file (λ bytes. (length bytes ≤ cart_limit) × (fa
 abbrev pub cart_of : Run → Files → List ℕ
 cart_of run files = image (bytes_of files run.rom)
 
--- the cartridge is accepted, and all opcodes that its run meets are built
-abbrev pub IsReady : Run → Files → Type 0
-IsReady run files = IsAccepted (files run.rom) × (unbuilt (cart_of run files) run.cycles ≡ None)
+-- the cycle lies within the limits, the cartridge is accepted, and all opcodes that its run meets
+-- are built
+pub record IsReady (run : Run) (files : Files) : Type 0 where
+  pub end : IsEnd run.cycles
+  pub accepted : IsAccepted (files run.rom)
+  pub built : unbuilt (cart_of run files) run.cycles ≡ None
+
+-- why the run of a cartridge ends, once it has begun
+abbrev pub RunCause : List ℕ → Run → DepotState → DepotState → Ending → Type 0
+RunCause cart run old new (Done accesses) = (unbuilt cart run.cycles ≡ None) × (accesses ≡ length (entries_to cart run.cycles))
+RunCause cart run old new (NotBuilt opcode address) = unbuilt cart run.cycles ≡ Some (opcode, address)
+RunCause cart run old new ending = IsUnwritten run old new ending
 
 -- Why each may come. What a file holds is spoken of where the depot tells it. Each cause says that
 -- the earlier ones do not stand.
 abbrev pub HasCause : Type 0 → Option Run → DepotState → DepotState → Ending → Type 0
-HasCause told (Some run) old new Done = told → IsReady run old.files
 HasCause told None old new Usage = Unit {0}
-HasCause told (Some run) old new ReadFault = Rose old.read_faults new.read_faults ⊎ (told × (old.files run.rom ≡ None))
-HasCause told (Some run) old new TooLong = told → IsSomeAnd (old.files run.rom) (λ bytes. cart_limit < length bytes)
-HasCause told (Some run) old new (CartRefused fault) = told → IsSomeAnd (old.files run.rom) (λ bytes. (length bytes ≤ cart_limit) × (fault_of bytes ≡ Some fault))
-HasCause told (Some run) old new (NotBuilt opcode address) = told → IsAccepted (old.files run.rom) × (unbuilt (cart_of run old.files) run.cycles ≡ Some (opcode, address))
-HasCause told (Some run) old new SoundFault = (told → IsReady run old.files) × Rose old.write_faults new.write_faults
-HasCause told (Some run) old new Memory = Unit {0}
+HasCause told (Some run) old new TooFar = last_cycle < run.cycles
+HasCause told (Some run) old new ReadFault =
+    (run.cycles ≤ last_cycle) × (Rose old.read_faults new.read_faults ⊎ (told × (old.files run.rom ≡ None)))
+HasCause told (Some run) old new TooLong =
+    (run.cycles ≤ last_cycle) × (told → IsSomeAnd (old.files run.rom) (λ bytes. cart_limit < length bytes))
+HasCause told (Some run) old new (CartRefused fault) =
+    (run.cycles ≤ last_cycle) × (told → IsSomeAnd (old.files run.rom) (λ bytes. (length bytes ≤ cart_limit) × (fault_of bytes ≡ Some fault)))
+HasCause told (Some run) old new Behind = (run.cycles ≡ 0) × (told → IsAccepted (old.files run.rom))
+HasCause told (Some run) old new (NotBuilt opcode address) =
+    IsEnd run.cycles × (told → IsAccepted (old.files run.rom) × RunCause (cart_of run old.files) run old new (NotBuilt opcode address))
+HasCause told (Some run) old new (Done accesses) =
+    IsEnd run.cycles × (told → IsAccepted (old.files run.rom) × RunCause (cart_of run old.files) run old new (Done accesses))
+HasCause told (Some run) old new SoundFault = IsEnd run.cycles × (told → IsAccepted (old.files run.rom)) × IsUnwritten run old new SoundFault
+HasCause told (Some run) old new JournalFault = IsEnd run.cycles × (told → IsAccepted (old.files run.rom)) × IsUnwritten run old new JournalFault
+HasCause told (Some run) old new Memory = run.cycles ≤ last_cycle
 HasCause told command old new ending = ⊥
+
+-- the outputs hold what a run of a cartridge made below a cycle
+abbrev pub HoldsUntil : List ℕ → Run → Files → Files → ℕ → Type 0
+HoldsUntil cart run old new at = Holds run old new (sound_until cart run.cycles at) (journal_of cart at)
+
+-- the segments before the one in which the opcode was met that is not built
+pub record LeavesSegments (cart : List ℕ) (run : Run) (old new : Files) : Type 0 where
+  pub segments : ℕ
+  pub before : unbuilt cart (segments * segment_cycles) ≡ None
+  pub met : unbuilt cart (segment_end (segments * segment_cycles) run.cycles) ≢ None
+  pub files : HoldsUntil cart run old new (segments * segment_cycles)
+
+-- what the files hold once the run of a cartridge has ended
+abbrev pub RunLeaves : List ℕ → Run → Files → Files → Ending → Type 0
+RunLeaves cart run old new (Done accesses) = HoldsUntil cart run old new run.cycles
+RunLeaves cart run old new (NotBuilt opcode address) = LeavesSegments cart run old new
+RunLeaves cart run old new SoundFault = LeavesParts run old new (sound_of cart run.cycles) (journal_of cart run.cycles)
+RunLeaves cart run old new JournalFault = LeavesParts run old new (sound_of cart run.cycles) (journal_of cart run.cycles)
+RunLeaves cart run old new Memory = LeavesParts run old new [] []
+RunLeaves cart run old new ending = new ≡ old
 
 -- what the files hold then
 abbrev pub LeavesFiles : Option Run → Files → Files → Ending → Type 0
-LeavesFiles (Some run) old new Done = new ≡ written run old (Some (sound_of (cart_of run old) run.cycles))
-LeavesFiles (Some run) old new SoundFault = LeavesParts run old new (sound_of (cart_of run old) run.cycles)
-LeavesFiles (Some run) old new Memory = LeavesParts run old new []
-LeavesFiles command old new ending = new ≡ old
+LeavesFiles (Some run) old new ending = RunLeaves (cart_of run old) run old new ending
+LeavesFiles None old new ending = new ≡ old
 
 -- The ending where neither a fault nor want of memory comes between: the refusals in their order.
--- behind an accepted cartridge, by the opcode that its run met and that is not built
-abbrev pub run_ending : Option (ℕ × ℕ) → Ending
-run_ending None = Done
-run_ending (Some met) = NotBuilt met.0 met.1
+-- at the end of a run, by the opcode that it met and that is not built, and its accesses
+abbrev pub met_ending : Option (ℕ × ℕ) → ℕ → Ending
+met_ending None accesses = Done accesses
+met_ending (Some met) accesses = NotBuilt met.0 met.1
 
--- behind the bytes of the cartridge's file
-abbrev pub cart_ending : Option CartFault → Option (ℕ × ℕ) → Ending
-cart_ending (Some fault) met = CartRefused fault
-cart_ending None met = run_ending met
+-- behind an accepted cartridge
+abbrev pub run_ending : List ℕ → ℕ → Ending
+run_ending cart end = if end == 0 then Behind else met_ending (unbuilt cart end) (length (entries_to cart end))
+
+-- behind the bytes of the cartridge's file; `accepted` is the ending where they are accepted
+abbrev pub cart_ending : Option CartFault → Ending → Ending
+cart_ending (Some fault) accepted = CartRefused fault
+cart_ending None accepted = accepted
 
 -- behind the cartridge's file
-abbrev pub file_ending : Option (List ℕ) → Option (ℕ × ℕ) → Ending
-file_ending None met = ReadFault
-file_ending (Some bytes) met = if nat_lt cart_limit (length bytes) then TooLong else cart_ending (fault_of bytes) met
+abbrev pub file_ending : Option (List ℕ) → Ending → Ending
+file_ending None accepted = ReadFault
+file_ending (Some bytes) accepted = if nat_lt cart_limit (length bytes) then TooLong else cart_ending (fault_of bytes) accepted
 
 abbrev pub right_ending : Option Run → Files → Ending
 right_ending None files = Usage
-right_ending (Some run) files = file_ending (files run.rom) (unbuilt (cart_of run files) run.cycles)
+right_ending (Some run) files =
+    if nat_lt last_cycle run.cycles then TooFar else file_ending (files run.rom) (run_ending (cart_of run files) run.cycles)

@@ -1,9 +1,10 @@
 pub mod Answers
+pub mod Courses
 pub mod Endings
 pub mod Hex
 pub mod Least
+pub mod Limits
 pub mod Outputs
 pub mod Runs
 pub mod ShownRun
-pub mod Sound
 pub mod Words

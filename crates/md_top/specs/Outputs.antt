@@ -1,7 +1,10 @@
 -- What the output files of a run hold.
-use Rattle.std.specs.Prelude.{◌≡◌, ℕ, List, Option, Some, None}
-use Rattle.md_outer.specs.Outside.{Files, IsPrefix, with_file}
+use Rattle.std.specs.Prelude.{◌≡◌, ℕ, List, ◌++◌, Option, Some, None, IsSome}
+use Rattle.md_outer.specs.Outside.{DepotState, Files, IsPrefix, Rose, with_file}
 use Rattle.md_top.specs.Words.{Run}
+use Rattle.md_top.specs.declared.ending.Ending.{Ending}
+use Rattle.md_top.specs.declared.ending.Ending.TheVariants.{SoundFault, JournalFault, Memory}
+use Rattle.md_top.specs.declared.outputs.Outputs.{Outputs}
 
 -- an output that is asked for and begun holds these bytes
 abbrev pub with_part : Files → Option (List ℕ) → Option (List ℕ) → Files
@@ -10,8 +13,12 @@ with_part files (Some name) (Some bytes) = with_file files name bytes
 with_part files None (Some bytes) = files
 
 -- the outputs of a run, each where it is asked for and begun; all other files stay
-abbrev pub written : Run → Files → Option (List ℕ) → Files
-written run files sound = with_part files run.sound sound
+abbrev pub written : Run → Files → Option (List ℕ) → Option (List ℕ) → Files
+written run files sound journal = with_part (with_part files run.sound sound) run.journal journal
+
+-- both outputs are begun, and hold these bytes
+abbrev pub Holds : Run → Files → Files → List ℕ → List ℕ → Type 0
+Holds run old new sound journal = new ≡ written run old (Some sound) (Some journal)
 
 -- an output that is begun holds a part of its bytes
 abbrev pub IsPartOf : Option (List ℕ) → List ℕ → Type 0
@@ -19,7 +26,41 @@ IsPartOf (Some part) whole = IsPrefix part whole
 IsPartOf None whole = Unit {0}
 
 -- each output is not begun, or holds a part of its bytes; all other files stay
-pub record LeavesParts (run : Run) (old new : Files) (whole_sound : List ℕ) : Type 0 where
+pub record LeavesParts (run : Run) (old new : Files) (whole_sound whole_journal : List ℕ) : Type 0 where
   pub sound : Option (List ℕ)
+  pub journal : Option (List ℕ)
   pub sound_part : IsPartOf sound whole_sound
-  pub files : new ≡ written run old sound
+  pub journal_part : IsPartOf journal whole_journal
+  pub files : new ≡ written run old sound journal
+
+-- an output that is asked for could not be written: a count of faults rose
+abbrev pub IsWriteFault : Run → DepotState → DepotState → Ending → Type 0
+IsWriteFault run old new SoundFault = IsSome run.sound × Rose old.write_faults new.write_faults
+IsWriteFault run old new JournalFault = IsSome run.journal × Rose old.write_faults new.write_faults
+IsWriteFault run old new ending = ⊥
+
+-- or memory was wanting
+abbrev pub IsUnwritten : Run → DepotState → DepotState → Ending → Type 0
+IsUnwritten run old new Memory = Unit {0}
+IsUnwritten run old new ending = IsWriteFault run old new ending
+
+-- an output that is asked for was begun, and this is its number
+abbrev pub IsBegun : (ℕ → Option (List ℕ)) → Option ℕ → Option (List ℕ) → Type 0
+IsBegun begun None name = name ≡ None
+IsBegun begun (Some file) name = IsSome name × (begun file ≡ name)
+
+pub record AreBegun (run : Run) (begun : ℕ → Option (List ℕ)) (outputs : Outputs) : Type 0 where
+  pub sound : IsBegun begun outputs.sound run.sound
+  pub journal : IsBegun begun outputs.journal run.journal
+
+-- whatever both outputs held before, they hold these pieces behind it
+abbrev pub Adds : Run → Files → Files → List ℕ → List ℕ → Type 0
+Adds run old new sound_piece journal_piece =
+    (first : Files) (sound journal : List ℕ) → Holds run first old sound journal
+    → Holds run first new (sound ++ sound_piece) (journal ++ journal_piece)
+
+-- whatever they held before, they hold that and parts of these pieces behind it
+abbrev pub AddsParts : Run → Files → Files → List ℕ → List ℕ → Type 0
+AddsParts run old new sound_piece journal_piece =
+    (first : Files) (sound journal : List ℕ) → Holds run first old sound journal
+    → LeavesParts run first new (sound ++ sound_piece) (journal ++ journal_piece)

@@ -1,8 +1,9 @@
 -- A run of the machine from power-on, which always moves the chip of least key.
-use Rattle.std.specs.Prelude.{ℕ, ℤ, ◌+◌, nat_le, Bool, List, ◌++◌, length, Option}
+use Rattle.std.specs.Prelude.{ℕ, ℤ, ◌+◌, ◌^◌, ◌≤◌, nat_le, Bool, List, ◌++◌, length, Option}
+use Rattle.md_word.specs.declared.event.Entry.{Entry}
 use Rattle.md_files.specs.Wav.{wav_head}
-use Rattle.md_machine.specs.Console.{Console, key_in, levels, mover, power_on, ran}
-use Rattle.md_machine.specs.Outputs.{sound_bytes}
+use Rattle.md_machine.specs.Console.{AllBelow, Console, journal, key_in, levels, mover, power_on, ran}
+use Rattle.md_machine.specs.Outputs.{journal_bytes, sound_bytes}
 use Rattle.md_top.specs.Least.{least}
 
 -- no next event stands below the cycle: the least one does not
@@ -22,10 +23,25 @@ run_to cart end = ran (power_on cart) (moves_to cart end)
 unfoldable pub unbuilt : List ℕ → ℕ → Option (ℕ × ℕ)
 unbuilt cart end = (run_to cart end).cpu.unbuilt
 
--- a sound file: a head, and the pair of each sample
-unfoldable pub sound_file : List ℤ → List ℕ
-sound_file samples = wav_head (length samples) ++ sound_bytes samples
+-- the entries of the accesses below the cycle, and the levels of the samples
+unfoldable pub entries_to : List ℕ → ℕ → List Entry
+entries_to cart end = journal (power_on cart) (moves_to cart end)
 
--- the sound file of a run to the cycle
-unfoldable pub sound_of : List ℕ → ℕ → List ℕ
-sound_of cart end = sound_file (levels (power_on cart) (moves_to cart end))
+unfoldable pub levels_to : List ℕ → ℕ → List ℤ
+levels_to cart end = levels (power_on cart) (moves_to cart end)
+
+-- the sound file of a run to the cycle `end`, as far as the cycle `at`: a head for all samples of
+-- the run, and the pairs of those below `at`
+unfoldable pub sound_until : List ℕ → ℕ → ℕ → List ℕ
+sound_until cart end at = wav_head (length (levels_to cart end)) ++ sound_bytes (levels_to cart at)
+
+-- the sound file of a run to the cycle, and its journal
+abbrev pub sound_of : List ℕ → ℕ → List ℕ
+sound_of cart end = sound_until cart end end
+
+unfoldable pub journal_of : List ℕ → ℕ → List ℕ
+journal_of cart end = journal_bytes (entries_to cart end)
+
+-- there are never more events below a cycle than cycles and chips
+abbrev pub FewEvents : List ℕ → Type 0
+FewEvents cart = (end n : ℕ) → end ≤ 2 ^ 50 → AllBelow (power_on cart) end n → n ≤ end + 5

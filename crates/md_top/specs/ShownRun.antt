@@ -4,4 +4,5 @@ use Rattle.md_top.specs.Words.{Run}
 use Rattle.md_top.specs.declared.run_words.RunWords.{RunWords}
 
 abbrev pub shown_run : RunWords → Run
-shown_run run = record { rom = run.rom.now; cycles = run.cycles; sound = option_copied run.sound }
+shown_run run =
+    record { rom = run.rom.now; cycles = run.cycles; sound = option_copied run.sound; journal = option_copied run.journal }

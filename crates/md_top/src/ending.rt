@@ -3,17 +3,24 @@ use rom_header::CartFault;
 /// What a command line comes to.
 #[derive(Clone, Copy)]
 pub(crate) enum Ending {
-    Done,
+    /// The run ended well, with so many accesses.
+    Done(u64),
     /// The words ask for nothing that there is.
     Usage,
+    /// The run's end lies behind the last cycle.
+    TooFar,
     /// The cartridge's file could not be read.
     ReadFault,
     /// The cartridge's file is longer than its limit.
     TooLong,
     CartRefused(CartFault),
+    /// The run's end is not above the cycle at which it begins.
+    Behind,
     /// The run met an opcode that is not built, at an address.
     NotBuilt(u16, u32),
     /// The sound file could not be written.
     SoundFault,
+    /// The journal could not be written.
+    JournalFault,
     Memory,
 }

@@ -1,15 +1,18 @@
 //! The emulator's command line: from its words to the bytes that a run writes.
 #![tactic(auto)]
 
+mod course;
 mod ending;
 mod hex;
 pub mod laws;
 mod output;
+mod outputs;
 mod perform;
 mod put;
 mod report;
+mod run_on;
 mod run_words;
-mod sound;
+mod segment;
 mod top;
 mod words;
 

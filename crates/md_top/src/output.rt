@@ -1,37 +1,116 @@
-ghost use Rattle.std.specs.Prelude.{◌≡◌, Some, [], OnOk, IfOk, IfErr};
+ghost use Rattle.std.specs.Prelude.{◌≡◌, [], OnOk, OnErr, IfOk, IfErr, IsErrOf, IsSome, Some};
+ghost use Rattle.std.specs.Option.{option_copied};
 ghost use Rattle.md_outer.specs.Outside.{GoesOn, Rose};
-ghost use Rattle.md_top.specs.Runs.{sound_of};
-ghost use Rattle.md_top.specs.Endings.{HasCause, IsReady, LeavesFiles, cart_of};
-ghost use Rattle.md_top.specs.Outputs.{written};
+ghost use Rattle.md_top.specs.Outputs.{Adds, AddsParts, AreBegun, Holds, IsBegun, IsUnwritten, IsWriteFault, LeavesParts, with_part};
 ghost use Rattle.md_top.specs.ShownRun.{shown_run};
 
 use crate::ending::Ending;
+use crate::outputs::Outputs;
 use crate::run_words::RunWords;
 use md_outer::{Begin, Depot, Failed};
 use std::alloc::Global;
 
-/// Begins each output that is asked for, and appends its bytes.
-pub(crate) fn write_all<D: Depot>(
+/// Begins each output that is asked for.
+pub(crate) fn begin_all<D: Depot>(
     alloc: Global,
     run: &RunWords<'_>,
     depot: &mut D,
-    sound: &[u8],
-) -> Ending
-    requires ready { D.told → IsReady (shown_run run.now) (D.state depot.old).files }
-    requires sound { D.told → sound.now ≡ sound_of (cart_of (shown_run run.now) (D.state depot.old).files) run.now.cycles }
-    ensures cause { HasCause D.told (Some (shown_run run.now)) (D.state depot.old) (D.state depot.new) result }
-    ensures files { D.told → LeavesFiles (Some (shown_run run.now)) (D.state depot.old).files (D.state depot.new).files result }
+) -> Result<Outputs, Ending>
+    ensures begun { IfOk result (AreBegun (shown_run run.now) (D.state depot.new).begun) }
+    ensures files { OnOk result (D.told → Holds (shown_run run.now) (D.state depot.old).files (D.state depot.new).files [] []) }
+    ensures err { IfErr result (IsUnwritten (shown_run run.now) (D.state depot.old) (D.state depot.new)) }
+    ensures err_files { OnErr result (D.told → LeavesParts (shown_run run.now) (D.state depot.old).files (D.state depot.new).files [] []) }
+    ensures goes_on { GoesOn (D.state depot.old) (D.state depot.new) }
 {
-    let Some(name) = run.sound else {
-        return Ending::Done;
+    let sound = match begin(alloc, run.sound, depot) {
+        Ok(sound) => sound,
+        Err(Begin::Failed) => return Err(Ending::SoundFault),
+        Err(Begin::NoMemory) => return Err(Ending::Memory),
     };
-    let file = match depot.begin(alloc, name) {
-        Ok(file) => file,
-        Err(Begin::Failed) => return Ending::SoundFault,
-        Err(Begin::NoMemory) => return Ending::Memory,
-    };
-    match depot.append(file, sound) {
-        Ok(()) => Ending::Done,
-        Err(Failed) => Ending::SoundFault,
+    match begin(alloc, run.journal, depot) {
+        Ok(journal) => Ok(Outputs { sound, journal }),
+        Err(Begin::Failed) => Err(Ending::JournalFault),
+        Err(Begin::NoMemory) => Err(Ending::Memory),
+    }
+}
+
+/// Begins an output, if it is asked for.
+fn begin<D: Depot>(alloc: Global, name: Option<&str>, depot: &mut D) -> Result<Option<u32>, Begin>
+    ensures begun { IfOk result (λ file. IsBegun (D.state depot.new).begun file (option_copied name.entry)) }
+    ensures files { OnOk result (D.told → (D.state depot.new).files ≡ with_part (D.state depot.old).files (option_copied name.entry) (Some [])) }
+    ensures failed { IsErrOf result Begin.Failed → IsSome (option_copied name.entry) × Rose (D.state depot.old).write_faults (D.state depot.new).write_faults }
+    ensures err_files { OnErr result (D.told → (D.state depot.new).files ≡ (D.state depot.old).files) }
+    ensures goes_on { GoesOn (D.state depot.old) (D.state depot.new) }
+{
+    match name {
+        Some(name) => match depot.begin(alloc, name) {
+            Ok(file) => Ok(Some(file)),
+            Err(refused) => Err(refused),
+        },
+        None => Ok(None),
+    }
+}
+
+/// Appends a piece to the sound file, if it is asked for.
+pub(crate) fn append_sound<D: Depot>(
+    run: &RunWords<'_>,
+    outputs: &Outputs,
+    depot: &mut D,
+    piece: &[u8],
+) -> Result<(), Ending>
+    requires begun { AreBegun (shown_run run.now) (D.state depot.old).begun outputs.now }
+    ensures files { OnOk result (D.told → Adds (shown_run run.now) (D.state depot.old).files (D.state depot.new).files piece.now []) }
+    ensures err { IfErr result (IsWriteFault (shown_run run.now) (D.state depot.old) (D.state depot.new)) }
+    ensures err_files { OnErr result (D.told → AddsParts (shown_run run.now) (D.state depot.old).files (D.state depot.new).files piece.now []) }
+    ensures goes_on { GoesOn (D.state depot.old) (D.state depot.new) }
+{
+    match outputs.sound {
+        Some(file) => match depot.append(file, piece) {
+            Ok(()) => Ok(()),
+            Err(Failed) => Err(Ending::SoundFault),
+        },
+        None => Ok(()),
+    }
+}
+
+/// Appends a piece to the journal, if it is asked for.
+fn append_journal<D: Depot>(
+    run: &RunWords<'_>,
+    outputs: &Outputs,
+    depot: &mut D,
+    piece: &[u8],
+) -> Result<(), Ending>
+    requires begun { AreBegun (shown_run run.now) (D.state depot.old).begun outputs.now }
+    ensures files { OnOk result (D.told → Adds (shown_run run.now) (D.state depot.old).files (D.state depot.new).files [] piece.now) }
+    ensures err { IfErr result (IsWriteFault (shown_run run.now) (D.state depot.old) (D.state depot.new)) }
+    ensures err_files { OnErr result (D.told → AddsParts (shown_run run.now) (D.state depot.old).files (D.state depot.new).files [] piece.now) }
+    ensures goes_on { GoesOn (D.state depot.old) (D.state depot.new) }
+{
+    match outputs.journal {
+        Some(file) => match depot.append(file, piece) {
+            Ok(()) => Ok(()),
+            Err(Failed) => Err(Ending::JournalFault),
+        },
+        None => Ok(()),
+    }
+}
+
+/// Appends a segment's pairs to the sound file and its records to the journal.
+pub(crate) fn append_records<D: Depot>(
+    run: &RunWords<'_>,
+    outputs: &Outputs,
+    depot: &mut D,
+    pairs: &[u8],
+    records: &[u8],
+) -> Result<(), Ending>
+    requires begun { AreBegun (shown_run run.now) (D.state depot.old).begun outputs.now }
+    ensures files { OnOk result (D.told → Adds (shown_run run.now) (D.state depot.old).files (D.state depot.new).files pairs.now records.now) }
+    ensures err { IfErr result (IsWriteFault (shown_run run.now) (D.state depot.old) (D.state depot.new)) }
+    ensures err_files { OnErr result (D.told → AddsParts (shown_run run.now) (D.state depot.old).files (D.state depot.new).files pairs.now records.now) }
+    ensures goes_on { GoesOn (D.state depot.old) (D.state depot.new) }
+{
+    match append_sound(run, outputs, depot, pairs) {
+        Ok(()) => append_journal(run, outputs, depot, records),
+        Err(ending) => Err(ending),
     }
 }

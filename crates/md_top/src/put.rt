@@ -61,3 +61,42 @@ pub(crate) fn put_five<S: Sink>(
         Err(failed) => Err(failed),
     }
 }
+
+/// Puts three texts, each with bytes behind it.
+fn put_six<S: Sink>(
+    out: &mut S,
+    first: &str,
+    second: &[u8],
+    third: &str,
+    fourth: &[u8],
+    fifth: &str,
+    sixth: &[u8],
+) -> Result<(), Failed>
+    ensures { PutsText S.told (first.now ++ second.now ++ third.now ++ fourth.now ++ fifth.now ++ sixth.now)
+        (S.state out.old) (S.state out.new) result }
+{
+    match put_five(out, first, second, third, fourth, fifth) {
+        Ok(()) => out.put(sixth),
+        Err(failed) => Err(failed),
+    }
+}
+
+/// Puts four texts with bytes between them.
+pub(crate) fn put_seven<S: Sink>(
+    out: &mut S,
+    first: &str,
+    second: &[u8],
+    third: &str,
+    fourth: &[u8],
+    fifth: &str,
+    sixth: &[u8],
+    seventh: &str,
+) -> Result<(), Failed>
+    ensures { PutsText S.told (first.now ++ second.now ++ third.now ++ fourth.now ++ fifth.now ++ sixth.now ++ seventh.now)
+        (S.state out.old) (S.state out.new) result }
+{
+    match put_six(out, first, second, third, fourth, fifth, sixth) {
+        Ok(()) => out.put(seventh.as_bytes()),
+        Err(failed) => Err(failed),
+    }
+}

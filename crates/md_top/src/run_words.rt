@@ -1,4 +1,6 @@
-ghost use Rattle.std.specs.Prelude.{◌≤◌};
+ghost use Rattle.std.specs.Prelude.{◌≡◌, true};
+ghost use Rattle.std.specs.Option.{option_copied};
+ghost use Rattle.md_top.specs.Words.{differ};
 
 /// What the words of a run ask for.
 #[derive(Clone, Copy)]
@@ -9,5 +11,7 @@ pub(crate) struct RunWords<'a> {
     pub cycles: u64,
     /// The sound file's name, if one is asked for.
     pub sound: Option<&'a str>,
-    ghost within: { (1 ≤ cycles) × (cycles ≤ 896040) },
+    /// The journal's name, if one is asked for.
+    pub journal: Option<&'a str>,
+    ghost outputs_differ: { differ (option_copied sound) (option_copied journal) ≡ true },
 }

@@ -1,0 +1,147 @@
+-- How a run ends: what the outputs hold on the way, and why it stops.
+use Rattle.std.proofs.Common.{◌≡◌, ℕ, ◌*◌, ◌/◌, ◌%◌, ◌^◌, ◌≤◌, List, [], ◌++◌, Result, Ok, Err, Option, Some, None, refl, sym, subst, ◌∙◌, arith}
+use Rattle.std.specs.Prelude.{IfErr, IsSome, OnOk, OnErr}
+use Rattle.md_outer.specs.Outside.{DepotState, Files, GoesOn, IsPrefix}
+use Rattle.md_machine.specs.Outputs.{journal_bytes, sound_bytes}
+use Rattle.md_top.specs.Endings.{HoldsUntil, LeavesSegments, RunCause, RunLeaves}
+use Rattle.md_top.specs.Limits.{segment_cycles, segment_end}
+use Rattle.md_top.specs.Outputs.{Adds, AddsParts, AreBegun, Holds, IsBegun, IsUnwritten, IsWriteFault, LeavesParts}
+use Rattle.md_top.specs.Runs.{FewEvents, entries_to, journal_of, levels_to, sound_of, sound_until, unbuilt}
+use Rattle.md_top.specs.Words.{Run}
+use Rattle.md_top.specs.declared.ending.Ending.{Ending}
+use Rattle.md_top.specs.declared.ending.Ending.TheVariants.{Done, NotBuilt, SoundFault, JournalFault, Memory}
+use Rattle.md_top.specs.declared.outputs.Outputs.{Outputs}
+use Rattle.md_top.proofs.Puts.{rose_later}
+use Rattle.md_top.proofs.Segments.{journal-first, journal-grows, sound-grows, sound-next}
+use Rattle.md_top.proofs.Writes.{parts-longer}
+
+-- RESULTS
+
+pub on-ok : {A E P Q : Type 0} (r : Result A E) → (P → Q) → OnOk r P → OnOk r Q
+on-ok (Ok x) f p = f p
+on-ok (Err e) f p = tt
+
+pub on-err : {A E P Q : Type 0} (r : Result A E) → (P → Q) → OnErr r P → OnErr r Q
+on-err (Ok x) f p = tt
+on-err (Err e) f p = f p
+
+pub both-err : {A E Q : Type 0} {P R : E → Type 0} (r : Result A E) → ((e : E) → P e → Q → R e) → IfErr r P → OnErr r Q → IfErr r R
+both-err (Ok x) f p q = tt
+both-err (Err e) f p q = f e p q
+
+-- WHAT THE OUTPUTS HOLD
+
+pub head-held : (run : Run) (cart : List ℕ) (first files : Files) (head : List ℕ) → FewEvents cart → head ≡ sound_until cart run.cycles 0
+    → Holds run first files head [] → HoldsUntil cart run first files 0
+head-held run cart first files head few is holds =
+    subst (λ (l : List ℕ). Holds run first files (sound_until cart run.cycles 0) l) (sym (journal-first cart few))
+    (subst (λ (l : List ℕ). Holds run first files l []) is holds)
+
+empty-first : (l : List ℕ) → IsPrefix [] l
+empty-first l = (l, refl)
+
+pub head-parts : (run : Run) (cart : List ℕ) (first files : Files) (head : List ℕ) → FewEvents cart → run.cycles ≤ 2 ^ 50 → head ≡ sound_until cart run.cycles 0
+    → LeavesParts run first files head [] → LeavesParts run first files (sound_of cart run.cycles) (journal_of cart run.cycles)
+head-parts run cart first files head few small is leaves =
+    parts-longer run first files head [] (sound_of cart run.cycles) (journal_of cart run.cycles) leaves
+    (subst (λ (l : List ℕ). IsPrefix l (sound_of cart run.cycles)) (sym is) (sound-grows cart run.cycles 0 run.cycles few small (omega arith)))
+    (empty-first (journal_of cart run.cycles))
+
+-- the journal behind a segment
+journal-next : (cart : List ℕ) (at to : ℕ) (records : List ℕ) → journal_bytes (entries_to cart to) ≡ journal_bytes (entries_to cart at) ++ records
+    → journal_of cart at ++ records ≡ journal_of cart to
+unfolding journal_of
+journal-next cart at to records is = sym is
+
+pub segment-held : (run : Run) (cart : List ℕ) (first old new : Files) (at to : ℕ) (pairs records : List ℕ)
+    → sound_bytes (levels_to cart to) ≡ sound_bytes (levels_to cart at) ++ pairs → journal_bytes (entries_to cart to) ≡ journal_bytes (entries_to cart at) ++ records
+    → Adds run old new pairs records → HoldsUntil cart run first old at → HoldsUntil cart run first new to
+segment-held run cart first old new at to pairs records more_sound more_journal adds holds =
+    subst (λ (l : List ℕ). Holds run first new l (journal_of cart to)) (sound-next cart run.cycles at to pairs more_sound)
+    (subst (λ (l : List ℕ). Holds run first new (sound_until cart run.cycles at ++ pairs) l) (journal-next cart at to records more_journal)
+    (adds first (sound_until cart run.cycles at) (journal_of cart at) holds))
+
+pub segment-parts : (run : Run) (cart : List ℕ) (first old new : Files) (at to : ℕ) (pairs records : List ℕ) → FewEvents cart → to ≤ run.cycles → run.cycles ≤ 2 ^ 50
+    → sound_bytes (levels_to cart to) ≡ sound_bytes (levels_to cart at) ++ pairs → journal_bytes (entries_to cart to) ≡ journal_bytes (entries_to cart at) ++ records
+    → AddsParts run old new pairs records → HoldsUntil cart run first old at → LeavesParts run first new (sound_of cart run.cycles) (journal_of cart run.cycles)
+segment-parts run cart first old new at to pairs records few within small more_sound more_journal adds holds =
+    parts-longer run first new (sound_until cart run.cycles at ++ pairs) (journal_of cart at ++ records) (sound_of cart run.cycles) (journal_of cart run.cycles)
+    (adds first (sound_until cart run.cycles at) (journal_of cart at) holds)
+    (subst (λ (l : List ℕ). IsPrefix l (sound_of cart run.cycles)) (sym (sound-next cart run.cycles at to pairs more_sound))
+    (sound-grows cart run.cycles to run.cycles few small within))
+    (subst (λ (l : List ℕ). IsPrefix l (journal_of cart run.cycles)) (sym (journal-next cart at to records more_journal))
+    (journal-grows cart to run.cycles few small within))
+
+-- the segments before an opcode that is not built
+clash : {met : ℕ × ℕ} → None ≡ Some met → ⊥
+clash same = cc
+
+pub segments-left : (run : Run) (cart : List ℕ) (first files : Files) (at : ℕ) (met : ℕ × ℕ) → at % segment_cycles ≡ 0 → unbuilt cart at ≡ None
+    → unbuilt cart (segment_end at run.cycles) ≡ Some met → HoldsUntil cart run first files at → LeavesSegments cart run first files
+segments-left run cart first files at met whole before is holds =
+    let same : at ≡ at / segment_cycles * segment_cycles = omega (arith, whole) in
+    record {
+      segments = at / segment_cycles;
+      before = subst (λ (n : ℕ). unbuilt cart n ≡ None) same before;
+      met = λ none. clash (sym none ∙ subst (λ (n : ℕ). unbuilt cart (segment_end n run.cycles) ≡ Some met) same is);
+      files = subst (λ (n : ℕ). HoldsUntil cart run first files n) same holds;
+    }
+
+-- WHY IT STOPS
+
+pub fault-cause : (cart : List ℕ) (run : Run) (old new : DepotState) (ending : Ending) → IsWriteFault run old new ending → RunCause cart run old new ending
+fault-cause cart run old new SoundFault fault = fault
+fault-cause cart run old new JournalFault fault = fault
+fault-cause cart run old new _ fault = absurd fault
+
+pub unwritten-cause : (cart : List ℕ) (run : Run) (old new : DepotState) (ending : Ending) → IsUnwritten run old new ending → RunCause cart run old new ending
+unwritten-cause cart run old new SoundFault fault = fault
+unwritten-cause cart run old new JournalFault fault = fault
+unwritten-cause cart run old new Memory fault = tt
+unwritten-cause cart run old new _ fault = absurd fault
+
+-- a cause from later on is one from before
+pub cause-before : (cart : List ℕ) (run : Run) (old mid new : DepotState) (ending : Ending) → GoesOn old mid → RunCause cart run mid new ending → RunCause cart run old new ending
+cause-before cart run old mid new (Done accesses) on cause = cause
+cause-before cart run old mid new (NotBuilt opcode address) on cause = cause
+cause-before cart run old mid new Memory on cause = tt
+cause-before cart run old mid new SoundFault on cause = (cause.0, rose_later old.write_faults mid.write_faults new.write_faults on.writes cause.1)
+cause-before cart run old mid new JournalFault on cause = (cause.0, rose_later old.write_faults mid.write_faults new.write_faults on.writes cause.1)
+cause-before cart run old mid new _ on cause = absurd cause
+
+pub fault-leaves : (cart : List ℕ) (run : Run) (first files : Files) (old new : DepotState) (ending : Ending) → IsWriteFault run old new ending
+    → LeavesParts run first files (sound_of cart run.cycles) (journal_of cart run.cycles) → RunLeaves cart run first files ending
+fault-leaves cart run first files old new SoundFault fault leaves = leaves
+fault-leaves cart run first files old new JournalFault fault leaves = leaves
+fault-leaves cart run first files old new _ fault leaves = absurd fault
+
+pub unwritten-leaves : (cart : List ℕ) (run : Run) (first files : Files) (old new : DepotState) (ending : Ending) → IsUnwritten run old new ending
+    → LeavesParts run first files [] [] → RunLeaves cart run first files ending
+unwritten-leaves cart run first files old new SoundFault fault leaves =
+    parts-longer run first files [] [] (sound_of cart run.cycles) (journal_of cart run.cycles) leaves (empty-first (sound_of cart run.cycles)) (empty-first (journal_of cart run.cycles))
+unwritten-leaves cart run first files old new JournalFault fault leaves =
+    parts-longer run first files [] [] (sound_of cart run.cycles) (journal_of cart run.cycles) leaves (empty-first (sound_of cart run.cycles)) (empty-first (journal_of cart run.cycles))
+unwritten-leaves cart run first files old new Memory fault leaves = leaves
+unwritten-leaves cart run first files old new _ fault leaves = absurd fault
+
+-- NUMBERS OF BEGUN OUTPUTS
+
+held : (name : Option (List ℕ)) (found : Option (List ℕ)) → IsSome name → found ≡ name → IsSome found
+held name found some is = rw is some
+
+begun-one : (old new : DepotState) (number : Option ℕ) (name : Option (List ℕ)) → GoesOn old new → IsBegun old.begun number name → IsBegun new.begun number name
+begun-one old new None name on begun = begun
+begun-one old new (Some file) name on (some, is) = (some, on.names file (held name (old.begun file) some is) ∙ is)
+
+pub begun-on : (run : Run) (old new : DepotState) (outputs : Outputs) → GoesOn old new → AreBegun run old.begun outputs → AreBegun run new.begun outputs
+begun-on run old new outputs on begun = record {
+  sound = begun-one old new outputs.sound run.sound on begun.sound;
+  journal = begun-one old new outputs.journal run.journal on begun.journal;
+}
+
+pub goes-far : (old mid new : DepotState) → GoesOn old mid → GoesOn mid new → GoesOn old new
+goes-far old mid new first second = record {
+  names = λ file some. second.names file (held (old.begun file) (mid.begun file) some (first.names file some)) ∙ first.names file some;
+  reads = omega (arith, first.reads, second.reads);
+  writes = omega (arith, first.writes, second.writes);
+}

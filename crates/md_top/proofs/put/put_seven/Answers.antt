@@ -1,0 +1,13 @@
+use Rattle.std.proofs.Common.{◌++◌}
+use Rattle.md_top.proofs.Puts.{puts_on, puts_stop}
+use Rattle.md_top.proofs.put.put_seven.Goals as goal
+
+pub returns-in-Ok : goal.returns-in-Ok
+returns-in-Ok g c =
+    puts_on g.S.Sink.told (c.args.first.now ++ c.args.second.now ++ c.args.third.now ++ c.args.fourth.now ++ c.args.fifth.now ++ c.args.sixth.now) c.args.seventh.now (g.S.Sink.state c.args.out.now) (g.S.Sink.state c.put_six.new.out) (g.S.Sink.state c.put.new.self) c.put.result
+    (c.in-Ok.ensures {u = tt}) (rw c.as_bytes.ensures.value at c.put.ensures)
+
+pub returns-in-Err : goal.returns-in-Err
+returns-in-Err g c =
+    puts_stop g.S.Sink.told (c.args.first.now ++ c.args.second.now ++ c.args.third.now ++ c.args.fourth.now ++ c.args.fifth.now ++ c.args.sixth.now) c.args.seventh.now (g.S.Sink.state c.args.out.now) (g.S.Sink.state c.put_six.new.out) c.in-Err.failed c.in-Err.failed
+    (c.in-Err.ensures {u = tt})

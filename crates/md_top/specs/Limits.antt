@@ -1,0 +1,18 @@
+-- The limits of a run. This project's profile.
+use Rattle.std.specs.Prelude.{ℕ, ◌+◌, ◌≤◌, min}
+
+-- the last cycle to which a run may go
+abbrev pub last_cycle : ℕ
+last_cycle = 549755813888
+
+-- the most cycles of a segment, whose records are written together
+abbrev pub segment_cycles : ℕ
+segment_cycles = 896040
+
+-- where the segment ends that begins at a cycle of a run
+abbrev pub segment_end : ℕ → ℕ → ℕ
+segment_end at end = min (at + segment_cycles) end
+
+-- a run that begins at power-on may end at the cycle
+abbrev pub IsEnd : ℕ → Type 0
+IsEnd end = (1 ≤ end) × (end ≤ last_cycle)

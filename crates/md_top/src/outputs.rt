@@ -1,0 +1,8 @@
+/// The numbers of the output files that were begun.
+#[derive(Clone, Copy)]
+pub(crate) struct Outputs {
+    /// The sound file, if one is asked for.
+    pub sound: Option<u32>,
+    /// The journal, if one is asked for.
+    pub journal: Option<u32>,
+}

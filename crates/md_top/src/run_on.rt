@@ -1,0 +1,144 @@
+ghost use Rattle.std.specs.Prelude.{◌≡◌, ◌≤◌, ◌<◌, ◌%◌, [], OnOk, OnErr, IfErr};
+ghost use Rattle.md_outer.specs.Outside.{Files, GoesOn};
+ghost use Rattle.md_top.specs.Courses.{IsUnderway, cart_in, cycle_of};
+ghost use Rattle.md_top.specs.Endings.{HoldsUntil, RunCause, RunLeaves, pairs_of};
+ghost use Rattle.md_top.specs.Limits.{IsEnd, last_cycle, segment_cycles};
+ghost use Rattle.md_top.specs.Limits as limits;
+ghost use Rattle.md_top.specs.Outputs.{AreBegun, Holds, IsWriteFault, LeavesParts};
+ghost use Rattle.md_top.specs.Runs.{journal_of, sound_of};
+ghost use Rattle.md_top.specs.ShownRun.{shown_run};
+
+use crate::course::Course;
+use crate::ending::Ending;
+use crate::output::{append_records, append_sound, begin_all};
+use crate::outputs::Outputs;
+use crate::run_words::RunWords;
+use crate::segment::advance;
+use md_files::wav_head;
+use md_outer::Depot;
+use std::alloc::Global;
+
+/// The most cycles of a segment.
+const SEGMENT: u64 = 896_040;
+
+/// Begins the outputs of a run at power-on, runs to its end, and writes what it makes.
+pub(crate) fn write_all<D: Depot>(
+    alloc: Global,
+    run: &RunWords<'_>,
+    depot: &mut D,
+    course: Course,
+) -> Ending
+    requires end { IsEnd run.now.cycles }
+    requires start { cycle_of course ≡ 0 }
+    requires underway { IsUnderway course }
+    ensures cause { RunCause (cart_in course) (shown_run run.now) (D.state depot.old) (D.state depot.new) result }
+    ensures files { D.told → RunLeaves (cart_in course) (shown_run run.now) (D.state depot.old).files (D.state depot.new).files result }
+{
+    let mut course = course;
+    let outputs = match begin_all(alloc, run, depot) {
+        Ok(outputs) => outputs,
+        Err(ending) => return ending,
+    };
+    match append_head(run, &outputs, depot, &mut course) {
+        Ok(()) => run_on(run, &outputs, depot, course),
+        Err(ending) => ending,
+    }
+}
+
+/// How many pairs of samples a run has.
+pub(crate) fn count_pairs(cycles: u64) -> u64
+    ensures { result ≡ pairs_of cycles }
+{
+    16 * (cycles.saturating_sub(1) / 16_128)
+}
+
+/// Appends the head of the sound file, whose sizes are those of the whole run.
+fn append_head<D: Depot>(
+    run: &RunWords<'_>,
+    outputs: &Outputs,
+    depot: &mut D,
+    course: &mut Course,
+) -> Result<(), Ending>
+    requires end { IsEnd run.now.cycles }
+    requires start { cycle_of course.old ≡ 0 }
+    requires underway { IsUnderway course.old }
+    requires begun { AreBegun (shown_run run.now) (D.state depot.old).begun outputs.now }
+    ensures machine { course.new.machine ≡ course.old.machine }
+    ensures accesses { course.new.accesses ≡ course.old.accesses }
+    ensures files { OnOk result (D.told → (first : Files) → Holds (shown_run run.now) first (D.state depot.old).files [] []
+        → HoldsUntil (cart_in course.old) (shown_run run.now) first (D.state depot.new).files 0) }
+    ensures err { IfErr result (IsWriteFault (shown_run run.now) (D.state depot.old) (D.state depot.new)) }
+    ensures err_files { OnErr result (D.told → (first : Files) → Holds (shown_run run.now) first (D.state depot.old).files [] []
+        → LeavesParts (shown_run run.now) first (D.state depot.new).files
+        (sound_of (cart_in course.old) run.now.cycles) (journal_of (cart_in course.old) run.now.cycles)) }
+    ensures goes_on { GoesOn (D.state depot.old) (D.state depot.new) }
+{
+    course.pairs.clear();
+    wav_head(count_pairs(run.cycles) as u32, &mut course.pairs);
+    append_sound(run, outputs, depot, course.pairs.as_slice())
+}
+
+/// Where the segment ends that begins at the cycle `at` of a run to `end`.
+fn segment_end(at: u64, end: u64) -> u64
+    requires { at ≤ last_cycle }
+    ensures { result ≡ limits.segment_end at end }
+{
+    (at + SEGMENT).min(end)
+}
+
+/// Runs on for a segment, and appends what it makes.
+fn run_segment<D: Depot>(
+    run: &RunWords<'_>,
+    outputs: &Outputs,
+    depot: &mut D,
+    course: &mut Course,
+) -> Result<(), Ending>
+    requires end { IsEnd run.now.cycles }
+    requires before { cycle_of course.old < run.now.cycles }
+    requires whole { cycle_of course.old % segment_cycles ≡ 0 }
+    requires underway { IsUnderway course.old }
+    requires begun { AreBegun (shown_run run.now) (D.state depot.old).begun outputs.now }
+    ensures cart { cart_in course.new ≡ cart_in course.old }
+    ensures cycle { OnOk result (cycle_of course.new ≡ limits.segment_end (cycle_of course.old) run.now.cycles) }
+    ensures underway { OnOk result (IsUnderway course.new) }
+    ensures files { OnOk result (D.told → (first : Files)
+        → HoldsUntil (cart_in course.old) (shown_run run.now) first (D.state depot.old).files (cycle_of course.old)
+        → HoldsUntil (cart_in course.old) (shown_run run.now) first (D.state depot.new).files (cycle_of course.new)) }
+    ensures err { IfErr result (RunCause (cart_in course.old) (shown_run run.now) (D.state depot.old) (D.state depot.new)) }
+    ensures err_files { IfErr result (λ ending. D.told → (first : Files)
+        → HoldsUntil (cart_in course.old) (shown_run run.now) first (D.state depot.old).files (cycle_of course.old)
+        → RunLeaves (cart_in course.old) (shown_run run.now) first (D.state depot.new).files ending) }
+    ensures goes_on { GoesOn (D.state depot.old) (D.state depot.new) }
+{
+    let end = segment_end(course.machine.at(), run.cycles);
+    if let Some((opcode, address)) = advance(course, end) {
+        return Err(Ending::NotBuilt(opcode, address));
+    }
+    append_records(
+        run,
+        outputs,
+        depot,
+        course.pairs.as_slice(),
+        course.records.as_slice(),
+    )
+}
+
+/// Runs from power-on to the end in as few segments as reach it, and appends what each makes.
+fn run_on<D: Depot>(run: &RunWords<'_>, outputs: &Outputs, depot: &mut D, course: Course) -> Ending
+    requires end { IsEnd run.now.cycles }
+    requires start { cycle_of course ≡ 0 }
+    requires underway { IsUnderway course }
+    requires begun { AreBegun (shown_run run.now) (D.state depot.old).begun outputs.now }
+    ensures cause { RunCause (cart_in course) (shown_run run.now) (D.state depot.old) (D.state depot.new) result }
+    ensures files { D.told → (first : Files)
+        → HoldsUntil (cart_in course) (shown_run run.now) first (D.state depot.old).files 0
+        → RunLeaves (cart_in course) (shown_run run.now) first (D.state depot.new).files result }
+{
+    let mut course = course;
+    'segments: while course.machine.at() < run.cycles {
+        if let Err(ending) = run_segment(run, outputs, depot, &mut course) {
+            return ending;
+        }
+    }
+    Ending::Done(course.accesses)
+}

@@ -1,0 +1,63 @@
+ghost use Rattle.std.specs.Prelude.{◌≡◌, ◌+◌, ◌<◌, ◌≤◌, ◌++◌, [], length, IfOk, IfSome, None, Some};
+ghost use Rattle.std.specs.Arc.{arc_value};
+ghost use Rattle.md_machine.specs.Outputs.{journal_bytes, sound_bytes};
+ghost use Rattle.md_top.specs.Courses.{IsUnderway, cart_in, cycle_of};
+ghost use Rattle.md_top.specs.Limits.{last_cycle, segment_cycles};
+ghost use Rattle.md_top.specs.Runs.{FewEvents, entries_to, levels_to, unbuilt};
+
+use crate::course::Course;
+use md_machine::{Machine, laws};
+use md_word::NoMemory;
+use rom_header::Cart;
+use std::alloc::Global;
+use std::sync::Arc;
+
+/// The bytes of a segment's pairs of samples at most.
+const MOST_PAIRS: usize = 4 * 896;
+
+/// The bytes of a segment's records at most.
+const MOST_RECORDS: usize = 16 * 52_500;
+
+/// The run of a cartridge at power-on. All memory that it ever needs is taken here.
+pub(crate) fn power_on(alloc: Global, cart: Arc<Cart>) -> Result<Course, NoMemory>
+    ensures cart { IfOk result (λ course. cart_in course ≡ arc_value cart) }
+    ensures start { IfOk result (λ course. cycle_of course ≡ 0) }
+    ensures underway { IfOk result IsUnderway }
+{
+    laws::few_events(&cart);
+    let machine = Machine::power_on(alloc, cart)?;
+    let pairs = Vec::with_capacity(alloc, MOST_PAIRS)?;
+    let records = Vec::with_capacity(alloc, MOST_RECORDS)?;
+    Ok(Course {
+        machine,
+        accesses: 0,
+        pairs,
+        records,
+    })
+}
+
+/// Brings a run to the cycle `to`, at most a segment on, and holds the records of what came
+/// between. An opcode that is not built and was met is answered, with its address.
+pub(crate) fn advance(course: &mut Course, to: u64) -> Option<(u16, u32)>
+    requires underway { IsUnderway course.old }
+    requires later { cycle_of course.old < to }
+    requires near { to ≤ cycle_of course.old + segment_cycles }
+    requires far { to ≤ last_cycle }
+    ensures cart { cart_in course.new ≡ cart_in course.old }
+    ensures cycle { cycle_of course.new ≡ to }
+    ensures met { result ≡ unbuilt (cart_in course.old) to }
+    ensures underway { result ≡ None → IsUnderway course.new }
+    ensures pairs { result ≡ None → sound_bytes (levels_to (cart_in course.old) to)
+        ≡ sound_bytes (levels_to (cart_in course.old) (cycle_of course.old)) ++ course.new.pairs.items }
+    ensures records { result ≡ None → journal_bytes (entries_to (cart_in course.old) to)
+        ≡ journal_bytes (entries_to (cart_in course.old) (cycle_of course.old)) ++ course.new.records.items }
+{
+    course.machine.alone(to);
+    let met = course.machine.not_built();
+    course.pairs.clear();
+    course.machine.drain_pairs(&mut course.pairs);
+    course.records.clear();
+    course.machine.drain_entries(&mut course.records);
+    course.accesses += (course.records.len() / 16) as u64;
+    met
+}
