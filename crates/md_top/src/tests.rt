@@ -84,7 +84,10 @@ fn a_run_writes_its_sound(rt: HostRuntime) -> Result<(), Fail> {
     let alloc = rt.alloc();
     let (status, depot, out) = answer(alloc, "run Z --cycles 16129 --sound W", idle(alloc)?)?;
     assert_eq!(rt; status, 0);
-    assert_eq!(rt; out.bytes(), b"cycles 0 to 16129\nsamples 16\n".as_slice());
+    assert_eq!(rt;
+        out.bytes(),
+        b"cycles 0 to 16129\nsamples 16\naccesses 7\n".as_slice()
+    );
     let sound = depot.file("W").unwrap_or(&[]);
     assert_eq!(rt; sound.len(), 108);
     assert_eq!(rt; &sound[4..8], [0x64, 0, 0, 0].as_slice());
@@ -92,8 +95,72 @@ fn a_run_writes_its_sound(rt: HostRuntime) -> Result<(), Fail> {
     assert_eq!(rt; &sound[44..], [0u8; 64].as_slice());
     let (status, depot, out) = answer(alloc, "run Z --cycles 16128 --sound W", idle(alloc)?)?;
     assert_eq!(rt; status, 0);
-    assert_eq!(rt; out.bytes(), b"cycles 0 to 16128\nsamples 0\n".as_slice());
+    assert_eq!(rt;
+        out.bytes(),
+        b"cycles 0 to 16128\nsamples 0\naccesses 5\n".as_slice()
+    );
     assert_eq!(rt; depot.file("W").unwrap_or(&[]).len(), 44);
+    Ok(())
+}
+
+// A frame has 262 lines and 55 batches of each sound chip.
+#[test]
+fn a_frame_with_its_journal(rt: HostRuntime) -> Result<(), Fail> {
+    let alloc = rt.alloc();
+    let words = "run Z --cycles 896040 --sound W --journal J";
+    let (status, depot, out) = answer(alloc, words, idle(alloc)?)?;
+    assert_eq!(rt; status, 0);
+    assert_eq!(rt;
+        out.bytes(),
+        b"cycles 0 to 896040\nsamples 880\naccesses 372\n".as_slice()
+    );
+    let sound = depot.file("W").unwrap_or(&[]);
+    assert_eq!(rt; sound.len(), 3564);
+    assert_eq!(rt; &sound[4..8], [0xe4, 0x0d, 0, 0].as_slice());
+    assert_eq!(rt; &sound[40..44], [0xc0, 0x0d, 0, 0].as_slice());
+    assert_eq!(rt; &sound[44..], [0u8; 3520].as_slice());
+    assert_eq!(rt; depot.file("J").unwrap_or(&[]).len(), 5952);
+    // The first line begins at cycle 0.
+    let (status, depot, out) = answer(alloc, "run Z --cycles 1 --journal J", idle(alloc)?)?;
+    assert_eq!(rt; status, 0);
+    assert_eq!(rt;
+        out.bytes(),
+        b"cycles 0 to 1\nsamples 0\naccesses 1\n".as_slice()
+    );
+    assert_eq!(rt;
+        depot.file("J").unwrap_or(&[]),
+        b"\0\0\0\0\0\0\0\0\x02\x0a\0\0\0\0\0\0".as_slice()
+    );
+    assert_eq!(rt; depot.file("W").is_none(), true);
+    Ok(())
+}
+
+// Three segments: lines to number 584 at 1,997,280, and 124 batches, the last at 1,999,872.
+#[test]
+fn segments_stand_one_behind_the_other(rt: HostRuntime) -> Result<(), Fail> {
+    let alloc = rt.alloc();
+    let words = "run Z --cycles 2000000 --sound W --journal J";
+    let (status, depot, out) = answer(alloc, words, idle(alloc)?)?;
+    assert_eq!(rt; status, 0);
+    assert_eq!(rt;
+        out.bytes(),
+        b"cycles 0 to 2000000\nsamples 1984\naccesses 833\n".as_slice()
+    );
+    let sound = depot.file("W").unwrap_or(&[]);
+    assert_eq!(rt; sound.len(), 44 + 4 * 1984);
+    assert_eq!(rt; &sound[4..8], [0x24, 0x1f, 0, 0].as_slice());
+    assert_eq!(rt; &sound[40..44], [0x00, 0x1f, 0, 0].as_slice());
+    let journal = depot.file("J").unwrap_or(&[]);
+    assert_eq!(rt; journal.len(), 16 * 833);
+    // The second segment begins with line 0 of the second frame.
+    assert_eq!(rt;
+        &journal[16 * 372..16 * 373],
+        b"\0\0\0\0\0\x0d\xac\x28\x02\x0a\0\0\0\0\0\0".as_slice()
+    );
+    assert_eq!(rt;
+        &journal[16 * 831..],
+        b"\0\0\0\0\0\x1e\x84\x00\x03\x0b\0\0\0\x7c\0\0\0\0\0\0\0\x1e\x84\x00\x04\x0c\0\0\0\x7c\0\0".as_slice()
+    );
     Ok(())
 }
 
@@ -112,7 +179,10 @@ fn a_write_to_the_sound_generator_is_heard(rt: HostRuntime) -> Result<(), Fail> 
     let image = beep(alloc, [0x60, 0xfe])?;
     let (status, depot, out) = answer(alloc, "run Z --cycles 16129 --sound W", image)?;
     assert_eq!(rt; status, 0);
-    assert_eq!(rt; out.bytes(), b"cycles 0 to 16129\nsamples 16\n".as_slice());
+    assert_eq!(rt;
+        out.bytes(),
+        b"cycles 0 to 16129\nsamples 16\naccesses 8\n".as_slice()
+    );
     let sound = depot.file("W").unwrap_or(&[]);
     assert_eq!(rt; sound.len(), 108);
     assert_eq!(rt; &sound[4..8], [0x64, 0, 0, 0].as_slice());
@@ -122,6 +192,42 @@ fn a_write_to_the_sound_generator_is_heard(rt: HostRuntime) -> Result<(), Fail> 
     let (status, depot, _) = answer(alloc, "run Z --cycles 16128 --sound W", image)?;
     assert_eq!(rt; status, 0);
     assert_eq!(rt; depot.file("W").unwrap_or(&[]).len(), 44);
+    Ok(())
+}
+
+/// A program at 1C0h that counts from 100 to 0 a hundred times and then meets an opcode that is not
+/// built: MOVEQ, MOVEQ, SUBQ.W, BNE to it, SUBQ.W, BNE to the second MOVEQ.
+///
+/// A count takes 28 cycles, 99 turns of 28 and 70, and one of 28 and 56; with SUBQ and BNE behind
+/// it 9,912, and the last time 9,898. So the opcode is met at 28 + 99 * 9,912 + 9,898 = 991,214.
+fn counter(alloc: Global) -> Result<Vec<u8>, AllocError> {
+    let mut image = idle(alloc)?;
+    write_at(&mut image, 4, &[0, 0, 0x01, 0xc0]);
+    let program = [
+        0x72, 0x64, 0x70, 0x64, 0x53, 0x40, 0x66, 0xfc, 0x53, 0x41, 0x66, 0xf6,
+    ];
+    write_at(&mut image, 0x1c0, &program);
+    write_at(&mut image, 0x1cc, &[0x4e, 0x72]);
+    Ok(image)
+}
+
+#[test]
+fn an_opcode_in_the_second_segment_leaves_the_first(rt: HostRuntime) -> Result<(), Fail> {
+    let alloc = rt.alloc();
+    let (status, _, _) = answer(alloc, "run Z --cycles 991214", counter(alloc)?)?;
+    assert_eq!(rt; status, 0);
+    let words = "run Z --cycles 991215 --sound W --journal J";
+    let (status, depot, out) = answer(alloc, words, counter(alloc)?)?;
+    assert_eq!(rt; status, 12);
+    assert_eq!(rt;
+        out.bytes(),
+        b"refused: not built 4e72 at 000001cc\n".as_slice()
+    );
+    // The head has the sizes of the whole run, of 61 batches; the first segment has 55.
+    let sound = depot.file("W").unwrap_or(&[]);
+    assert_eq!(rt; sound.len(), 44 + 4 * 880);
+    assert_eq!(rt; &sound[40..44], [0x40, 0x0f, 0, 0].as_slice());
+    assert_eq!(rt; depot.file("J").unwrap_or(&[]).len(), 16 * 372);
     Ok(())
 }
 
@@ -139,7 +245,7 @@ fn an_opcode_behind_an_access_is_met_where_it_starts(rt: HostRuntime) -> Result<
         out.bytes(),
         b"refused: not built 4e72 at 000001ca\n".as_slice()
     );
-    assert_eq!(rt; depot.file("W").is_none(), true);
+    assert_eq!(rt; depot.file("W").unwrap_or(&[]).len(), 44);
     Ok(())
 }
 
@@ -153,7 +259,7 @@ fn the_right_to_threads_changes_nothing(rt: HostRuntime) -> Result<(), Fail> {
     assert_eq!(rt; status, 0);
     assert_eq!(rt;
         out.bytes(),
-        b"cycles 0 to 896040\nsamples 880\n".as_slice()
+        b"cycles 0 to 896040\nsamples 880\naccesses 372\n".as_slice()
     );
     assert_eq!(rt; depot.file("W").unwrap_or(&[]).len(), 44 + 4 * 880);
     Ok(())
@@ -166,19 +272,24 @@ fn other_words_are_refused(rt: HostRuntime) -> Result<(), Fail> {
         "",
         "run",
         "run Z",
-        "run Z --cycles 5",
+        "run Z --cycles",
         "run Z --cycles 5 --sound",
         "run Z --cycles 5 --sound W W",
         "run Z --sound W --cycles 5",
+        "run Z --cycles 5 --journal J --sound W",
+        "run Z --cycles 5 --sound W --sound V",
+        "run Z --cycles 5 --sound W --journal",
+        "run Z --cycles 5 --sound W --journal W",
+        "run Z --cycles 5 --journal Z",
+        "run Z --cycles 5 --journal -J",
         "walk Z --cycles 5 --sound W",
         "run Z --cycle 5 --sound W",
         "run Z --cycles 5 --sounds W",
-        "run Z --cycles 0 --sound W",
-        "run Z --cycles 896041 --sound W",
+        "run Z --cycles=5 --sound W",
         "run Z --cycles +5 --sound W",
         "run Z --cycles 5x --sound W",
         "run Z --cycles 000000000000000000005 --sound W",
-        "run Z --cycles 18446744073709551621 --sound W",
+        "run Z --cycles 18446744073709551616 --sound W",
         "run Z --cycles  --sound W",
         "run  --cycles 5 --sound W",
         "run Z --cycles 5 --sound ",
@@ -205,7 +316,47 @@ fn leading_zeros_are_read(rt: HostRuntime) -> Result<(), Fail> {
         idle(alloc)?,
     )?;
     assert_eq!(rt; status, 0);
-    assert_eq!(rt; out.bytes(), b"cycles 0 to 16129\nsamples 16\n".as_slice());
+    assert_eq!(rt;
+        out.bytes(),
+        b"cycles 0 to 16129\nsamples 16\naccesses 7\n".as_slice()
+    );
+    Ok(())
+}
+
+/// An end that is too far is refused before the cartridge is read, and one that is not above the
+/// start behind it.
+#[test]
+fn ends_out_of_range_are_refused(rt: HostRuntime) -> Result<(), Fail> {
+    let alloc = rt.alloc();
+    let cases = [
+        (
+            "run Z --cycles 0 --sound W",
+            9,
+            "refused: cycle 0 is not above 0\n",
+        ),
+        ("run Y --cycles 0 --sound W", 3, "fault: reading Y\n"),
+        (
+            "run Y --cycles 549755813888 --sound W",
+            3,
+            "fault: reading Y\n",
+        ),
+        (
+            "run Y --cycles 549755813889 --sound W",
+            11,
+            "refused: cycle 549755813889 is too far\n",
+        ),
+        (
+            "run Z --cycles 18446744073709551615 --sound W",
+            11,
+            "refused: cycle 18446744073709551615 is too far\n",
+        ),
+    ];
+    for (words, wanted, line) in cases {
+        let (status, depot, out) = answer(alloc, words, idle(alloc)?)?;
+        assert_eq!(rt; status, wanted, "{words}");
+        assert_eq!(rt; out.bytes(), line.as_bytes(), "{words}");
+        assert_eq!(rt; depot.file("W").is_none(), true, "{words}");
+    }
     Ok(())
 }
 
@@ -236,10 +387,19 @@ fn other_cartridges_are_refused(rt: HostRuntime) -> Result<(), Fail> {
         ),
     ];
     for (image, wanted, line) in cases {
-        let (status, depot, out) = answer(alloc, "run Z --cycles 896040 --sound W", image)?;
+        let words = "run Z --cycles 896040 --sound W --journal J";
+        let (status, depot, out) = answer(alloc, words, image)?;
         assert_eq!(rt; status, wanted, "{line}");
         assert_eq!(rt; out.bytes(), line.as_bytes());
-        assert_eq!(rt; depot.file("W").is_none(), true, "{line}");
+        // A run that met an opcode leaves what it made in the segments before: none.
+        let lengths = if wanted == 12 {
+            (Some(44), Some(0))
+        } else {
+            (None, None)
+        };
+        let sound = depot.file("W").map(|bytes| bytes.len());
+        let journal = depot.file("J").map(|bytes| bytes.len());
+        assert_eq!(rt; (sound, journal), lengths, "{line}");
     }
     let (status, _, out) = answer(alloc, "run Y --cycles 5 --sound W", idle(alloc)?)?;
     assert_eq!(rt; status, 3);
@@ -264,12 +424,22 @@ fn an_opcode_is_met_where_its_instruction_starts(rt: HostRuntime) -> Result<(), 
     Ok(())
 }
 
+/// The bytes of the sound file and of the journal after a run whose write of this number fails: two
+/// begins, the head, the pairs and the records.
+const LENGTHS: [(Option<usize>, Option<usize>); 6] = [
+    (None, None),
+    (Some(0), None),
+    (Some(0), Some(0)),
+    (Some(44), Some(0)),
+    (Some(108), Some(0)),
+    (Some(108), Some(112)),
+];
+
 #[test]
-fn each_fault_in_turn(rt: HostRuntime) -> Result<(), Fail> {
+fn each_failing_read_and_write(rt: HostRuntime) -> Result<(), Fail> {
     let alloc = rt.alloc();
-    // One read; a begin and an append; the pieces of two lines.
-    for call in 0..8u64 {
-        let words = words_of(alloc, "run Z --cycles 16129 --sound W")?;
+    let words = words_of(alloc, "run Z --cycles 16129 --sound W --journal J")?;
+    for call in 0..6u64 {
         let bad = Vec::from_array(alloc, [call])?;
         let mut depot = depot_with(alloc, idle(alloc)?, bad, Vec::new(alloc))?;
         let mut out = MemSink::new(alloc, 1 << 16, Vec::new(alloc))?;
@@ -281,36 +451,46 @@ fn each_fault_in_turn(rt: HostRuntime) -> Result<(), Fail> {
         let mut depot = depot_with(alloc, idle(alloc)?, Vec::new(alloc), bad)?;
         let mut out = MemSink::new(alloc, 1 << 16, Vec::new(alloc))?;
         let status = drive_one(alloc, &words, &mut depot, &mut out);
-        assert_eq!(rt; status, if call < 2 { 4 } else { 0 }, "write {call}");
-        let length = depot.file("W").map(|bytes| bytes.len());
-        assert_eq!(rt;
-            length,
-            [None, Some(0)]
-                .get(call as usize)
-                .copied()
-                .unwrap_or(Some(108)),
-            "write {call}"
+        assert_eq!(rt; status, if call < 5 { 4 } else { 0 }, "write {call}");
+        let lengths = (
+            depot.file("W").map(|bytes| bytes.len()),
+            depot.file("J").map(|bytes| bytes.len()),
         );
-        let line = if call < 2 {
-            "fault: writing W\n"
-        } else {
-            "cycles 0 to 16129\nsamples 16\n"
+        let wanted = LENGTHS.get(call as usize).copied();
+        assert_eq!(rt; Some(lengths), wanted, "write {call}");
+        let line = match call {
+            0 | 2 | 3 => "fault: writing W\n",
+            1 | 4 => "fault: writing J\n",
+            _ => "cycles 0 to 16129\nsamples 16\naccesses 7\n",
         };
         assert_eq!(rt; out.bytes(), line.as_bytes(), "write {call}");
+    }
+    Ok(())
+}
 
+#[test]
+fn each_failing_piece_of_the_lines(rt: HostRuntime) -> Result<(), Fail> {
+    let alloc = rt.alloc();
+    let words = words_of(alloc, "run Z --cycles 16129 --sound W --journal J")?;
+    for call in 0..8u64 {
         let bad = Vec::from_array(alloc, [call])?;
         let mut depot = depot_with(alloc, idle(alloc)?, Vec::new(alloc), Vec::new(alloc))?;
         let mut out = MemSink::new(alloc, 1 << 16, bad)?;
         let status = drive_one(alloc, &words, &mut depot, &mut out);
-        assert_eq!(rt; status, if call < 5 { 13 } else { 0 }, "put {call}");
+        assert_eq!(rt; status, if call < 7 { 13 } else { 0 }, "put {call}");
         assert_eq!(rt;
-            b"cycles 0 to 16129\nsamples 16\n".starts_with(out.bytes()),
+            b"cycles 0 to 16129\nsamples 16\naccesses 7\n".starts_with(out.bytes()),
             true,
             "put {call}"
         );
         assert_eq!(rt;
             depot.file("W").map(|bytes| bytes.len()),
             Some(108),
+            "put {call}"
+        );
+        assert_eq!(rt;
+            depot.file("J").map(|bytes| bytes.len()),
+            Some(112),
             "put {call}"
         );
     }

@@ -13,10 +13,11 @@ use std::thread::Threads;
 /// Does what the words of the command line ask for, and answers the status that the program ends
 /// with.
 ///
-/// The words are those behind the program's name: `run ROM --cycles N --sound W` with N from 1 to
-/// 896,040 runs the cartridge ROM from power-on for N master cycles and writes its sound into W.
-/// Files are fetched from the depot and written to it; the lines are put into `out`. It waits for
-/// nobody.
+/// The words are those behind the program's name: `run ROM --cycles N`, then `--sound W` and
+/// `--journal J` where they are wanted, runs the cartridge ROM from power-on for N master cycles, 1
+/// to 549,755,813,888, and writes its sound into W and the journal of its accesses into J. Files are
+/// fetched from the depot and written to it, a segment of at most 896,040 cycles after the other;
+/// the lines are put into `out`. It waits for nobody.
 pub fn drive_one<D: Depot, S: Sink>(
     alloc: Global,
     words: &Vec<String>,
