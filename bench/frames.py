@@ -7,7 +7,6 @@ It runs two cartridges for FRAMES frames of 896,040 cycles, 600 if not given, wi
 with both outputs: `idle` is a branch to itself, and `scale` is examples/scale. The times are those
 of the clock on the wall, the program's start and the writing of its files included.
 """
-import os
 import pathlib
 import subprocess
 import sys
@@ -24,16 +23,28 @@ def build(source, image):
     subprocess.run([sys.executable, TOP / "examples" / "build.py", source, image], check=True)
 
 
+def memory(run):
+    """The peak of a process so far, in KiB; 0 once it has ended."""
+    try:
+        lines = pathlib.Path(f"/proc/{run.pid}/status").read_text().splitlines()
+    except OSError:
+        return 0
+    return max((int(line.split()[1]) for line in lines if line.startswith("VmHWM:")), default=0)
+
+
 def measure(name, image, frames, folder):
     words = [PROGRAM, "run", image, "--cycles", str(frames * FRAME)]
     words += ["--sound", folder / "sound.wav", "--journal", folder / "journal"]
     start = time.perf_counter()
     run = subprocess.Popen(words, stdout=subprocess.DEVNULL)
-    _, status, usage = os.wait4(run.pid, 0)
+    peak = 0
+    while run.poll() is None:
+        peak = max(peak, memory(run))
+        time.sleep(0.005)
     seconds = time.perf_counter() - start
-    if status != 0:
-        sys.exit(f"{name}: status {os.waitstatus_to_exitcode(status)}")
-    print(f"{name}: {frames / seconds:.0f} frames a second, {usage.ru_maxrss / 1024:.1f} MiB at most")
+    if run.returncode != 0:
+        sys.exit(f"{name}: status {run.returncode}")
+    print(f"{name}: {frames / seconds:.0f} frames a second, {peak / 1024:.1f} MiB at most")
 
 
 def main():
