@@ -1,0 +1,11 @@
+pub mod Aligned
+pub mod Later
+pub mod LaterFirst
+pub mod LaterOperations
+pub mod LaterRows
+pub mod LaterSamples
+pub mod LaterShapes
+pub mod Pushes
+pub mod Stack
+pub mod Touches
+pub mod Turns
