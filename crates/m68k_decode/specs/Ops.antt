@@ -11,9 +11,10 @@ use Rattle.md_word.specs.declared.task.Task.TheVariants as tasks
 use Rattle.m68k_decode.specs.declared.decoded.Decoded.{Decoded}
 use Rattle.m68k_decode.specs.declared.op.Op.{Op}
 use Rattle.m68k_decode.specs.declared.op.Op.TheVariants as ops
-use Rattle.m68k_decode.specs.Operands.{IsOperand}
+use Rattle.m68k_decode.specs.Addressing.{control, control_alterable_or_predecrement, control_or_postincrement}
+use Rattle.m68k_decode.specs.Operands.{ArePaired, IsOf, IsOperand}
 
--- its registers are some that there are, and its numbers fit
+-- its registers are some that there are, its numbers fit, and its modes are some that have a time
 abbrev pub IsOp : Op → Type 0
 IsOp (ops.Immediate _ size value mode) = (value < modulus_of size) × IsOperand size mode
 IsOp (ops.CompareImmediate size value mode) = (value < modulus_of size) × IsOperand size mode
@@ -30,9 +31,9 @@ IsOp (ops.MoveToSr mode) = IsOperand Word mode
 IsOp (ops.Nbcd mode) = IsOperand Byte mode
 IsOp (ops.Swap r) = r < 8
 IsOp (ops.Ext _ r) = r < 8
-IsOp (ops.Pea mode) = IsOperand Long mode
-IsOp (ops.MovemToMemory size _ mode) = IsOperand size mode
-IsOp (ops.MovemToRegisters size _ mode) = IsOperand size mode
+IsOp (ops.Pea mode) = IsOperand Long mode × IsOf control mode
+IsOp (ops.MovemToMemory size _ mode) = IsOperand size mode × IsOf control_alterable_or_predecrement mode
+IsOp (ops.MovemToRegisters size _ mode) = IsOperand size mode × IsOf control_or_postincrement mode
 IsOp (ops.Tst size mode) = IsOperand size mode
 IsOp (ops.Tas mode) = IsOperand Byte mode
 IsOp (ops.Trap number) = number < 16
@@ -40,9 +41,9 @@ IsOp (ops.Link r _) = r < 8
 IsOp (ops.Unlk r) = r < 8
 IsOp (ops.MoveToUsp r) = r < 8
 IsOp (ops.MoveFromUsp r) = r < 8
-IsOp (ops.Jsr mode) = IsOperand Long mode
-IsOp (ops.Jmp mode) = IsOperand Long mode
-IsOp (ops.Lea n mode) = (n < 8) × IsOperand Long mode
+IsOp (ops.Jsr mode) = IsOperand Long mode × IsOf control mode
+IsOp (ops.Jmp mode) = IsOperand Long mode × IsOf control mode
+IsOp (ops.Lea n mode) = (n < 8) × IsOperand Long mode × IsOf control mode
 IsOp (ops.Chk n mode) = (n < 8) × IsOperand Word mode
 IsOp (ops.Quick _ size number mode) = (0 < number) × (number ≤ 8) × IsOperand size mode
 IsOp (ops.Scc _ mode) = IsOperand Byte mode
@@ -50,8 +51,8 @@ IsOp (ops.Dbcc _ r _) = r < 8
 IsOp (ops.Moveq n _) = n < 8
 IsOp (ops.Divu n mode) = (n < 8) × IsOperand Word mode
 IsOp (ops.Divs n mode) = (n < 8) × IsOperand Word mode
-IsOp (ops.Decimal _ source target) = IsMode source × IsMode target
-IsOp (ops.Extended _ _ source target) = IsMode source × IsMode target
+IsOp (ops.Decimal _ source target) = IsMode source × IsMode target × ArePaired source target
+IsOp (ops.Extended _ _ source target) = IsMode source × IsMode target × ArePaired source target
 IsOp (ops.ToRegister _ size n mode) = (n < 8) × IsOperand size mode
 IsOp (ops.ToMemory _ size n mode) = (n < 8) × IsOperand size mode
 IsOp (ops.ToAddress _ size n mode) = (n < 8) × IsOperand size mode

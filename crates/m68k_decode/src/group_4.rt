@@ -1,4 +1,5 @@
-ghost use Rattle.std.specs.Prelude.{◌≡◌, slice_index};
+ghost use Rattle.std.specs.Prelude.{◌≡◌, slice_index, true};
+ghost use Rattle.m68k_decode.specs.Addressing as classes;
 ghost use Rattle.m68k_decode.specs.Instructions as instructions;
 ghost use Rattle.m68k_decode.specs.Nested as nested;
 ghost use Rattle.m68k_decode.specs.Rows as rows;
@@ -69,8 +70,9 @@ fn tas(words: &[u16; 5]) -> Decoded
     Decoded::of_words(operand.end, Op::Tas(operand.mode))
 }
 
-#[tactic(auto, unfolding(crate::specs::Instructions::made))]
+#[tactic(auto, using(crate::proofs::Classes::control_kept), unfolding(crate::specs::Instructions::made))]
 fn lea(words: &[u16; 5]) -> Decoded
+    requires { classes.control (classes.low_mode_number (slice_index words.now 0)) ≡ true }
     ensures value { result ≡ instructions.made rows.Lea words.now }
     ensures instruction { IsInstruction result }
 {
@@ -87,8 +89,9 @@ fn chk(words: &[u16; 5]) -> Decoded
     Decoded::of_words(operand.end, Op::Chk(high_register(words), operand.mode))
 }
 
-#[tactic(auto, unfolding(crate::specs::Instructions::made))]
+#[tactic(auto, using(crate::proofs::Classes::control_or_postincrement_kept), unfolding(crate::specs::Instructions::made))]
 fn movem_to_registers(words: &[u16; 5]) -> Decoded
+    requires { classes.control_or_postincrement (classes.low_mode_number (slice_index words.now 0)) ≡ true }
     ensures value { result ≡ instructions.made rows.MovemToRegisters words.now }
     ensures instruction { IsInstruction result }
 {

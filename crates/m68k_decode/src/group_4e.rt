@@ -1,4 +1,5 @@
-ghost use Rattle.std.specs.Prelude.{◌≡◌, slice_index};
+ghost use Rattle.std.specs.Prelude.{◌≡◌, slice_index, true};
+ghost use Rattle.m68k_decode.specs.Addressing as classes;
 ghost use Rattle.m68k_decode.specs.Instructions as instructions;
 ghost use Rattle.m68k_decode.specs.Nested as nested;
 ghost use Rattle.m68k_decode.specs.Rows as rows;
@@ -20,8 +21,9 @@ fn trap(words: &[u16; 5]) -> Decoded
     Decoded::of_words(1, Op::Trap((word & 15) as u8))
 }
 
-#[tactic(auto, unfolding(crate::specs::Instructions::made))]
+#[tactic(auto, using(crate::proofs::Classes::control_kept), unfolding(crate::specs::Instructions::made))]
 fn jsr(words: &[u16; 5]) -> Decoded
+    requires { classes.control (classes.low_mode_number (slice_index words.now 0)) ≡ true }
     ensures value { result ≡ instructions.made rows.Jsr words.now }
     ensures instruction { IsInstruction result }
 {
@@ -29,8 +31,9 @@ fn jsr(words: &[u16; 5]) -> Decoded
     Decoded::of_words(operand.end, Op::Jsr(operand.mode))
 }
 
-#[tactic(auto, unfolding(crate::specs::Instructions::made))]
+#[tactic(auto, using(crate::proofs::Classes::control_kept), unfolding(crate::specs::Instructions::made))]
 fn jmp(words: &[u16; 5]) -> Decoded
+    requires { classes.control (classes.low_mode_number (slice_index words.now 0)) ≡ true }
     ensures value { result ≡ instructions.made rows.Jmp words.now }
     ensures instruction { IsInstruction result }
 {

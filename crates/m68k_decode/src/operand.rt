@@ -1,8 +1,9 @@
-ghost use Rattle.std.specs.Prelude.{◌≡◌, ◌<◌, ◌≤◌, ◌/◌, ◌%◌, ◌+◌};
+ghost use Rattle.std.specs.Prelude.{◌≡◌, ◌<◌, ◌≤◌, ◌/◌, ◌%◌, ◌+◌, ◌*◌, slice_index};
 ghost use Rattle.md_word.specs.Fields.{bit_of};
 ghost use Rattle.md_word.specs.Modes.{IsMode};
 ghost use Rattle.m68k_decode.specs.Fields as fields;
-ghost use Rattle.m68k_decode.specs.Operands.{IsOperand};
+ghost use Rattle.m68k_decode.specs.Addressing.{low_mode_number, mode_number};
+ghost use Rattle.m68k_decode.specs.Operands.{IsOperand, number_of};
 
 use crate::fields::{number, words_of_number};
 use md_word::{Mode, Size};
@@ -34,6 +35,7 @@ fn mode_of(words: &[u16; 5], mode: u8, register: u8, size: Size, at: u8) -> Mode
     requires register_in_range { register < 8 }
     ensures value { result ≡ fields.mode_of mode register size at words.now }
     ensures operand { IsOperand size result }
+    ensures number { mode_number mode register < 12 → number_of result ≡ mode_number mode register }
 {
     match (mode, register) {
         (0, _) => Mode::Data(register),
@@ -78,6 +80,7 @@ fn words_of_mode(size: Size, mode: Mode) -> u8
 pub fn low_operand(words: &[u16; 5], size: Size, at: u8) -> Operand
     requires { at < 4 }
     ensures mode { result.mode ≡ fields.low_mode size at words.now }
+    ensures number { low_mode_number (slice_index words.now 0) < 12 → number_of result.mode ≡ low_mode_number (slice_index words.now 0) }
     ensures end { result.end ≡ at + fields.words_of_mode size result.mode }
     ensures short { result.end ≤ at + 2 }
     ensures operand { IsOperand size result.mode }
@@ -120,6 +123,7 @@ pub fn paired(words: &[u16; 5], register: u8) -> Mode
     requires { register < 8 }
     ensures value { result ≡ fields.paired words.now register }
     ensures registers { IsMode result }
+    ensures number { number_of result ≡ 4 * (slice_index words.now 0 / 8 % 2) }
 {
     let word = words[0];
     if word >> 3 & 1 == 1 {
