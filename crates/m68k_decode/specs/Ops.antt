@@ -1,11 +1,12 @@
--- What holds of every decoded instruction, and how often it accesses memory.
-use Rattle.std.specs.Prelude.{ℕ, ◌≡◌, ◌+◌, ◌*◌, ◌%◌, ◌<◌, ◌≤◌, count_ones}
+-- What holds of every decoded instruction, how often it accesses memory, and what it can spend.
+use Rattle.std.specs.Prelude.{ℕ, ◌≡◌, ◌≢◌, ◌+◌, ◌*◌, ◌%◌, ◌<◌, ◌≤◌, count_ones}
 use Rattle.md_word.specs.Modes.{IsMode}
 use Rattle.md_word.specs.Width.{modulus_of}
 use Rattle.md_word.specs.declared.mode.Mode.{Mode}
 use Rattle.md_word.specs.declared.mode.Mode.TheVariants as modes
 use Rattle.md_word.specs.declared.size.Size.{Size}
 use Rattle.md_word.specs.declared.size.Size.TheVariants.{Byte, Word, Long}
+use Rattle.md_word.specs.declared.spent.Spent.{Spent}
 use Rattle.md_word.specs.declared.task.Task.{Task}
 use Rattle.md_word.specs.declared.task.Task.TheVariants as tasks
 use Rattle.m68k_decode.specs.declared.decoded.Decoded.{Decoded}
@@ -139,3 +140,18 @@ accesses_of (ops.Mulu _ mode) = touches_of Word mode
 accesses_of (ops.Muls _ mode) = touches_of Word mode
 accesses_of (ops.ShiftMemory _ mode) = 2 * touches_of Word mode
 accesses_of _ = 0
+
+-- MOVEM tells how many registers its list has
+abbrev pub Counts : Op → ℕ → Type 0
+Counts (ops.MovemToMemory size list mode) count = count ≡ count_ones list
+Counts (ops.MovemToRegisters size list mode) count = count ≡ count_ones list
+Counts _ count = Unit {0}
+
+-- what an instruction can have spent: its own accesses, or with those of the exception in which it
+-- ended. An address error and a halt have the cause 3
+pub record IsSpent (op : Op) (spent : Spent) : Type 0 where
+  pub most : spent.accesses ≤ 32
+  pub own : spent.cause ≡ 0 → spent.accesses ≤ accesses_of op
+  pub counted : spent.cause ≡ 0 → Counts op spent.count
+  pub address_error : spent.cause ≡ 3 → spent.accesses ≤ 11
+  pub exception : spent.cause ≢ 0 → spent.cause ≢ 3 → spent.accesses ≤ 7

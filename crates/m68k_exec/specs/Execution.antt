@@ -1,6 +1,6 @@
 -- What each instruction does: a line a row, in the order of the table of instructions.
 -- M68000 Programmer's Reference Manual, sections 4 and 6.
-use Rattle.std.specs.Prelude.{ℕ, ◌≡◌, count_ones}
+use Rattle.std.specs.Prelude.{ℕ}
 use Rattle.md_word.specs.declared.regs.Regs.{Regs}
 use Rattle.m68k_decode.specs.declared.op.Op.{Op}
 use Rattle.m68k_decode.specs.declared.op.Op.TheVariants as ops
@@ -93,9 +93,3 @@ row (ops.ShiftMemory task mode) start regs = arithmetic.shift_memory task mode s
 row (ops.Illegal opcode) start regs = give (control.illegal start regs)
 row (ops.LineA opcode) start regs = give (control.line_a_opcode start regs)
 row (ops.LineF opcode) start regs = give (control.line_f_opcode start regs)
-
--- MOVEM tells how many registers its list has
-abbrev pub Counts : Op → ℕ → Type 0
-Counts (ops.MovemToMemory size list mode) count = count ≡ count_ones list
-Counts (ops.MovemToRegisters size list mode) count = count ≡ count_ones list
-Counts _ count = Unit {0}

@@ -1,18 +1,18 @@
 -- What the 68000 does at a sample: an instruction, a trace or an interrupt, for the answers of its
 -- shared accesses so far. M68000 User's Manual, section 6; the halt: this project's profile.
-use Rattle.std.specs.Prelude.{ℕ, ◌≡◌, ◌≢◌, ◌+◌, ◌%◌, ◌^◌, ◌≤◌, ◌<◌, Bool, true, false, not, ◌&&◌, ◌||◌, ◌==◌, nat_lt, if◌then◌else◌, List, [], Option, Some, None, Result, Ok, Err}
+use Rattle.std.specs.Prelude.{ℕ, ◌+◌, ◌%◌, ◌^◌, ◌<◌, Bool, true, false, not, ◌&&◌, ◌||◌, ◌==◌, nat_lt, if◌then◌else◌, List, [], Option, Some, None, Result, Ok, Err}
 use Rattle.md_word.specs.Fields.{bit_of}
 use Rattle.md_word.specs.declared.main_bus.Request68.TheVariants.{Ack}
 use Rattle.md_word.specs.declared.regs.Regs.{Regs}
 use Rattle.md_word.specs.declared.spent.Spent.{Spent}
 use Rattle.m68k_decode.specs.Fields.{opcode}
 use Rattle.m68k_decode.specs.Instructions.{decoded}
-use Rattle.m68k_decode.specs.Ops.{IsOp, accesses_of}
+use Rattle.m68k_decode.specs.Ops.{IsOp, IsSpent}
 use Rattle.m68k_decode.specs.declared.decoded.Decoded.{Decoded}
 use Rattle.m68k_decode.specs.declared.op.Op.{Op}
 use Rattle.m68k_exec.specs.Actions.{Done, asked, is_odd}
 use Rattle.m68k_exec.specs.Entries.{enter, number_of}
-use Rattle.m68k_exec.specs.Execution.{Counts, row}
+use Rattle.m68k_exec.specs.Execution.{row}
 use Rattle.m68k_exec.specs.Memory.{Memory, instruction_words}
 use Rattle.m68k_exec.specs.declared.exception.Exception.{Exception}
 use Rattle.m68k_exec.specs.declared.exception.Exception.TheVariants.{AddressError, Interrupt, Numbered}
@@ -158,15 +158,7 @@ abbrev pub WaitsBelow : Step → ℕ → ℕ → Type 0
 WaitsBelow (steps.Need request) answers limit = answers < limit
 WaitsBelow (steps.Done finish) answers limit = Unit {0}
 
--- how many accesses there can be: an instruction's own, or with those of the exception in which it
--- ended. An address error and a halt have the cause 3
-pub record IsSpent (op : Op) (spent : Spent) : Type 0 where
-  pub most : spent.accesses ≤ 32
-  pub own : spent.cause ≡ 0 → spent.accesses ≤ accesses_of op
-  pub counted : spent.cause ≡ 0 → Counts op spent.count
-  pub address_error : spent.cause ≡ 3 → spent.accesses ≤ 11
-  pub exception : spent.cause ≢ 0 → spent.cause ≢ 3 → spent.accesses ≤ 7
-
+-- what was spent is what its instruction can spend
 abbrev pub SpendsRightly : Step → Type 0
 SpendsRightly (steps.Need request) = Unit {0}
 SpendsRightly (steps.Done finish) = IsSpent finish.op finish.spent

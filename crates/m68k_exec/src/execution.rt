@@ -1,6 +1,6 @@
 ghost use Rattle.std.specs.Prelude.{◌≡◌, ◌≢◌, ◌+◌, ◌≤◌, IfOk};
 ghost use Rattle.arrayvec.specs.ArrayVec.{array_vec_len};
-ghost use Rattle.m68k_decode.specs.Ops.{IsOp, accesses_of};
+ghost use Rattle.m68k_decode.specs.Ops.{Counts, IsOp, accesses_of};
 ghost use Rattle.m68k_exec.specs.Clauses.{Meets, OddBelow, Spends, StopsBelow, done_of, memory_of};
 ghost use Rattle.m68k_exec.specs.Execution as execution;
 
@@ -46,7 +46,7 @@ pub fn execute(
     ensures spent { Spends progress.old progress.new (accesses_of op) 64 }
     ensures most { IfOk result (λ outcome. progress.new.used ≤ progress.old.used + 32) }
     ensures ended { IfOk result (λ outcome. outcome.cause ≢ 0 → progress.new.used ≤ progress.old.used + 4) }
-    ensures counted { IfOk result (λ outcome. execution.Counts op outcome.count) }
+    ensures counted { IfOk result (λ outcome. Counts op outcome.count) }
     ensures stops { StopsBelow result around.now (progress.old.used + 32) }
     ensures odd { OddBelow result (progress.old.used + 4) }
 {

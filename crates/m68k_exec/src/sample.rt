@@ -1,9 +1,8 @@
 ghost use Rattle.std.specs.Prelude.{◌≡◌, ◌≢◌, ◌+◌, ◌<◌, ◌≤◌, length};
 ghost use Rattle.arrayvec.specs.ArrayVec.{array_vec_len};
-ghost use Rattle.m68k_decode.specs.Ops.{IsInstruction, IsOp, accesses_of};
+ghost use Rattle.m68k_decode.specs.Ops.{Counts, IsInstruction, IsOp, accesses_of};
 ghost use Rattle.m68k_exec.specs.Clauses.{done_of, memory_of};
 ghost use Rattle.m68k_exec.specs.Entries.{IsException, number_of};
-ghost use Rattle.m68k_exec.specs.Execution.{Counts};
 ghost use Rattle.m68k_exec.specs.Samples.{NamesInstruction, SpendsRightly, WaitsBelow, told_by};
 ghost use Rattle.m68k_exec.specs.Samples as samples;
 

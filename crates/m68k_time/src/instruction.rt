@@ -1,4 +1,5 @@
-ghost use Rattle.std.specs.Prelude.{◌≡◌, ◌≤◌, ◌+◌, cond};
+ghost use Rattle.std.specs.Prelude.{◌≡◌, ◌≤◌, ◌+◌, ◌*◌, cond};
+ghost use Rattle.m68k_decode.specs.Ops.{IsOp, IsSpent};
 ghost use Rattle.m68k_time.specs.Addresses as addresses;
 ghost use Rattle.m68k_time.specs.Clocks as rows;
 
@@ -14,8 +15,12 @@ use md_word::{Mode, Size, Spent, Task};
 /// `spent.taken` says of Bcc and DBcc that the branch was taken, and of Scc that the condition
 /// held. A DBcc that neither branched nor expired had its condition met. Source: M68000 User's
 /// Manual, section 8.
+///
+/// They suffice for the accesses, each of which takes four clocks, and four more.
+#[tactic(auto, using(crate::proofs::Covers::covers))]
 pub fn clocks(op: &Op, spent: Spent) -> u32
-    ensures { result ≡ rows.clocks_of op.now spent }
+    ensures value { result ≡ rows.clocks_of op.now spent }
+    ensures covers { IsOp op.now → IsSpent op.now spent → 4 * spent.accesses + 4 ≤ result }
 {
     if spent.cause == 0 {
         row_time(op, spent)
