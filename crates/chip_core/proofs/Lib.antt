@@ -9,4 +9,5 @@ pub mod Looking
 pub mod Runs
 pub mod Stages
 pub mod Stands
+pub mod Turns
 pub mod Works

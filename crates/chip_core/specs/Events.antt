@@ -1,5 +1,5 @@
 -- The events of a core: where each is enabled, and what it does.
-use Rattle.std.specs.Prelude.{◌≡◌, ◌≢◌, ℕ, ◌+◌, ◌<◌, ◌≤◌, Bool, true, false, List, [], ◌∷◌, ◌++◌, length}
+use Rattle.std.specs.Prelude.{◌≡◌, ◌≢◌, ℕ, ◌+◌, ◌<◌, ◌≤◌, Bool, true, false, cond, List, [], ◌∷◌, ◌++◌, length}
 use Rattle.md_word.specs.declared.event.Entry.{Entry}
 use Rattle.md_word.specs.declared.key.Key.{Key}
 use Rattle.md_word.specs.Keys.{key_lt}
@@ -61,10 +61,26 @@ module _ {Chip Shared Pins : Type 0} (rules : Rules Chip Shared Pins) where
   after s (Perform i) = record { machine = move rules s.machine i; bound = put s.bound i (left_bound s.machine i); journal = s.journal ++ (accessed rules s.machine i).entry ∷ [] }
   after s (Sample i) = record { machine = move rules s.machine i; bound = put s.bound i (left_bound s.machine i); journal = s.journal }
 
+  -- the event that chip i waits at
+  abbrev pub own_event : Seen Chip Shared → ℕ → Event
+  own_event s i = cond (is_sample rules s.machine i) (Sample i) (Perform i)
+
+  -- the core after the event that chip i waits at, and the announcement of its next one
+  abbrev pub turned : Seen Chip Shared → ℕ → Seen Chip Shared
+  turned s i = after (after s (own_event s i)) (Announce i)
+
   -- the events of the list, each enabled at its turn, lead from one core to the other
   abbrev pub Leads : ℕ → Seen Chip Shared → List Event → Seen Chip Shared → Type 0
   Leads t s [] z = z ≡ s
   Leads t s (e ∷ es) z = IsEnabled s t e × Leads t (after s e) es z
+
+  -- some list of enabled events leads from one core to the other
+  abbrev pub Reaches : ℕ → Seen Chip Shared → Seen Chip Shared → Type 0
+  Reaches t s z = (events : List Event) × Leads t s events z
+
+  -- the bound of each chip below n is the chip's key
+  abbrev pub AreKeys : Seen Chip Shared → ℕ → Type 0
+  AreKeys s n = (i : ℕ) → i < n → s.bound i ≡ key_of rules s.machine i
 
   -- the core stands for the base, with some counts
   abbrev pub Stands : Seen Chip Shared → ℕ → Seen Chip Shared → Type 0

@@ -7,7 +7,7 @@ use md_word::{Entry, Next};
 /// Each chip waits at an event to come: an access to the shared state, or a sample of its input
 /// pins. An event has a key, its cycle of the master clock and the chip's number.
 pub trait ChipSet: Send + Sync {
-    ghost use Rattle.chip_core.specs.Chips.{IsPerformed, Lawful, Rules};
+    ghost use Rattle.chip_core.specs.Chips.{IsDue, IsPerformed, Lawful, Rules};
     ghost use Rattle.chip_core.specs.Cores.{CoreValue, IsCoded};
 
     /// A chip, at its next event.
@@ -56,6 +56,19 @@ pub trait ChipSet: Send + Sync {
     fn advance(chip: &mut Self::Chip)
         requires { IsPerformed rules chip_ok shared_ok chip.old }
         ensures { chip.new ≡ rules.advance chip.old };
+
+    /// An access and the private work after it, in one step: `perform` and `advance`, or what does
+    /// the same.
+    fn access(chip: &mut Self::Chip, shared: &mut Self::Shared) -> Entry
+        requires { IsDue rules chip_ok shared_ok chip.old shared.old (rules.next chip.old).key.chip false }
+        ensures chip { chip.new ≡ rules.advance (rules.perform chip.old shared.old).chip }
+        ensures shared { shared.new ≡ (rules.perform chip.old shared.old).shared }
+        ensures entry { result ≡ (rules.perform chip.old shared.old).entry }
+    {
+        let entry = Self::perform(chip, shared);
+        Self::advance(chip);
+        entry
+    }
 
     /// The input pins of the chip of this number.
     fn pins(shared: &Self::Shared, chip: u8) -> Self::Pins

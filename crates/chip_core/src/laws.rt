@@ -5,32 +5,14 @@ ghost use Rattle.std.specs.Prelude.{◌≡◌, ℕ, ◌+◌, ◌-◌, ◌*◌, �
 ghost use Rattle.md_word.specs.declared.event.Entry.{Entry};
 ghost use Rattle.md_word.specs.Keys.{key_lt};
 ghost use Rattle.chip_core.specs.declared.event.Event.{Event};
-ghost use Rattle.chip_core.specs.Cores.{CoreValue, IsCore, ReachesEnd, machine_of, seen};
+ghost use Rattle.chip_core.specs.Cores.{CoreValue, IsCore, machine_of, seen};
 ghost use Rattle.chip_core.specs.Events.{HasRoom, IsEnabled, IsTidy, Seen, Stands, after, counted};
 ghost use Rattle.chip_core.specs.Limits.{all_moves_left, moves_left, moves_within};
 ghost use Rattle.chip_core.specs.Machines.{AllBelow, IsQuiet, IsRunTo, IsSound, Machine, OnPath, journal, key_of, made, mover, run};
 ghost use Rattle.chip_core.specs.Standing.{StandsFor};
 
+pub use crate::scheduler::run_least::run_least;
 use crate::{ChipSet, Core};
-
-/// Brings a core to the machine after all events below cycle `t`: it carries out the event that
-/// [`Core::some_enabled`] names until there is none.
-///
-/// The journal has to have a free place for each access below `t`, which [`room`] shows.
-pub fn run_least<C: ChipSet>(core: &mut Core<C>, t: u64)
-    requires time { t ≤ 2 ^ 50 }
-    requires room { HasRoom C.rules t (seen C.rules core.old) core.old.room }
-    ensures run { ReachesEnd C.rules C.chip_ok C.shared_ok t core.old core.new }
-    ensures first { core.old.journal ≡ []
-        → IsRunTo C.rules (machine_of C.rules core.old) t (machine_of C.rules core.new) core.new.journal }
-    ensures room { core.new.room ≡ core.old.room }
-    ensures core { IsCore C.rules C.chip_ok C.shared_ok core.new }
-{
-    core.known();
-    while let Some(event) = core.some_enabled(t) {
-        core.carry_out(event);
-    }
-}
 
 /// A free place for each move that can lie below `t` is a free place for each access below it.
 pub fn room<C: ChipSet>(core: &Core<C>, t: u64)

@@ -58,13 +58,14 @@ fn first_of(found: Option<u8>, chip: u8, lags: bool) -> Option<u8>
     }
 }
 
-fn lesser(least: Next, next: Next) -> Next
-    ensures { result ≡ (if key_lt next.key least.key then next else least) }
+/// Takes the lesser of two next events. Field by field: their padding is not copied.
+fn take_lesser(least: &mut Next, next: &Next)
+    ensures { least.new ≡ (if key_lt next.now.key least.old.key then next.now else least.old) }
 {
     if next.key.is_below(&least.key) {
-        next
-    } else {
-        least
+        least.key.cycle = next.key.cycle;
+        least.key.chip = next.key.chip;
+        least.sample = next.sample;
     }
 }
 
@@ -82,9 +83,25 @@ pub(crate) fn look<C: ChipSet>(chips: &[C::Chip], bounds: &[Key]) -> Found
     for i in 1..chips.len() {
         let next = C::next(&chips[i]);
         lagging = first_of(lagging, i as u8, bounds[i].is_below(&next.key));
-        least = lesser(least, next);
+        take_lesser(&mut least, &next);
     }
     Found { lagging, least }
+}
+
+/// The number of the least of several bounds.
+pub(crate) fn least_of(bounds: &[Key]) -> u8
+    requires some { 1 ≤ length bounds.now }
+    requires few { length bounds.now ≤ 5 }
+    ensures value { result ≡ least_below (bound_in bounds.now) (length bounds.now) }
+    ensures inside { result < length bounds.now }
+{
+    let mut least = 0;
+    for i in 1..bounds.len() {
+        if bounds[i].is_below(&bounds[least]) {
+            least = i;
+        }
+    }
+    least as u8
 }
 
 /// The move that a next event is.

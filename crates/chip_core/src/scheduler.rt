@@ -9,6 +9,7 @@ use crate::{ChipSet, Event};
 use md_word::{Entry, Key};
 use std::marker::Model;
 
+pub(crate) mod run_least;
 mod steps;
 
 /// Chips that share a state, each at its next event, with a bound per chip and the journal of

@@ -35,8 +35,7 @@ impl<C: ChipSet> Core<C> {
         let i = chip as usize;
         let held = &mut self.chips[i];
         let next = C::next(held);
-        let entry = C::perform(held, &mut self.shared);
-        C::advance(held);
+        let entry = C::access(held, &mut self.shared);
         self.bounds[i] = bound_after::<C>(&next.key, chip);
         self.journal.push_reserved(entry);
     }

@@ -132,6 +132,23 @@ impl ChipSet for Five {
         chip.cycle += step_of(chip.number);
     }
 
+    fn access(chip: &mut Chip, shared: &mut Board) -> Entry {
+        if chip.number == 2 {
+            shared.line = chip.cycle;
+        }
+        let key = Key {
+            cycle: chip.cycle,
+            chip: chip.number,
+        };
+        chip.cycle += step_of(chip.number);
+        Entry {
+            key,
+            kind: chip.number,
+            address: 0,
+            value: 0,
+        }
+    }
+
     fn pins(shared: &Board, _chip: u8) -> u64 {
         shared.line
     }

@@ -22,5 +22,5 @@ loop-i-preserved g c =
           c.loop-i.lagging _ c.is_below-in-loop-i.result _ c.next-next.result.key refl (ap (λ n. n.key) here) c.is_below-in-loop-i.ensures
           c.loop-i.invariant.lagging c.first_of-lagging-in-loop-i.ensures;
       least = least-more (λ i. g.C.ChipSet.rules.next (slice_index_or c.args.chips.now i g.C.ChipSet.rules.blank)) c.loop-i.i c.loop-i.least _ c.next-next.result here
-          c.loop-i.invariant.least c.lesser-least.ensures;
+          c.loop-i.invariant.least c.take_lesser.ensures;
     }

@@ -1,4 +1,4 @@
-use Rattle.std.proofs.Common.{◌≡◌, ◌^◌, slice_set, ◌∙◌, arith, vec_capacity, length-set}
+use Rattle.std.proofs.Common.{◌≡◌, refl, ◌^◌, slice_set, ◌∙◌, arith, vec_capacity, length-set}
 use Rattle.chip_core.specs.Cores.{CoreValue, seen}
 use Rattle.chip_core.specs.Events.{IsEnabled, after}
 use Rattle.chip_core.specs.declared.event.Event.TheVariants.{Perform}
@@ -12,7 +12,7 @@ before g c = core_value g.C.ChipSet.rules c.self.inside.shared c.self.inside.chi
 
 abbrev now : (g : Over) → goal.After-push_reserved g → CoreValue g.row.C-Chip.Denot g.row.C-Shared.Denot
 now g c =
-    core_value g.C.ChipSet.rules c.perform-entry.new.shared (slice_set c.self.inside.chips.items c.args.chip c.advance.new.chip)
+    core_value g.C.ChipSet.rules c.access-entry.new.shared (slice_set c.self.inside.chips.items c.args.chip c.access-entry.new.chip)
     (slice_set c.self.inside.bounds.items c.args.chip c.bound_after.result) c.push_reserved.new.self.items (vec_capacity c.push_reserved.new.self)
 
 enabled : (g : Over) (c : goal.After-push_reserved g) → IsEnabled g.C.ChipSet.rules (seen g.C.ChipSet.rules (before g c)) (2 ^ 50) (Perform c.args.chip)
@@ -22,14 +22,14 @@ left : (g : Over) (c : goal.After-push_reserved g) → seen g.C.ChipSet.rules (n
 left g c =
     held-performed g.C.ChipSet.rules (before g c) c.args.chip (2 ^ 50) (enabled g c)
     (omega (arith, c.requires.enabled.0, c.self.invariant.shape.chip_count)) (omega (arith, c.requires.enabled.0, c.self.invariant.shape.bound_count))
-    c.index_mut-held.result.now c.perform-entry.new.chip c.advance.new.chip c.next-next.result c.bound_after.result c.perform-entry.new.shared c.perform-entry.result c.push_reserved.new.self.items (vec_capacity c.push_reserved.new.self)
-    c.index_mut-held.ensures.value c.next-next.ensures.value c.perform-entry.ensures.shared c.perform-entry.ensures.chip c.perform-entry.ensures.entry c.advance.ensures c.bound_after.ensures c.push_reserved.ensures.items
+    c.index_mut-held.result.now (g.C.ChipSet.rules.perform c.index_mut-held.result.now c.self.inside.shared).chip c.access-entry.new.chip c.next-next.result c.bound_after.result c.access-entry.new.shared c.access-entry.result c.push_reserved.new.self.items (vec_capacity c.push_reserved.new.self)
+    c.index_mut-held.ensures.value c.next-next.ensures.value c.access-entry.ensures.shared refl c.access-entry.ensures.entry c.access-entry.ensures.chip c.bound_after.ensures c.push_reserved.ensures.items
 
 pub invariant_of-self : goal.invariant_of-self
 invariant_of-self g c =
     core-after g.C.ChipSet.rules g.C.ChipSet.chip_ok g.C.ChipSet.shared_ok (g.met.C.ChipSet g.world.𝓛 g.world.𝓜 g.world.𝓡 ((λ s x. x), (λ x. x), (λ x. x), (λ x. x))).lawful
     (before g c) (now g c) c.self.invariant (Perform c.args.chip) (enabled g c)
-    (length-set c.self.inside.chips.items c.args.chip c.advance.new.chip ∙ c.self.invariant.shape.chip_count)
+    (length-set c.self.inside.chips.items c.args.chip c.access-entry.new.chip ∙ c.self.invariant.shape.chip_count)
     (length-set c.self.inside.bounds.items c.args.chip c.bound_after.result ∙ c.self.invariant.shape.bound_count)
     (left g c)
 

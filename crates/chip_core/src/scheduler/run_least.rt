@@ -1,0 +1,119 @@
+ghost use Rattle.std.specs.Prelude.{◌≡◌, ℕ, ◌^◌, ◌<◌, ◌≤◌, [], length, MatchOption};
+ghost use Rattle.chip_core.specs.declared.event.Event.{Event};
+ghost use Rattle.chip_core.specs.Cores.{IsCore, ReachesEnd, machine_of, seen};
+ghost use Rattle.chip_core.specs.Events.{AreKeys, HasPlace, HasRoom, IsEnabled, Reaches, after, own_event, turned};
+ghost use Rattle.chip_core.specs.Machines.{IsRunTo, least_below};
+
+use crate::look::least_of;
+use crate::{ChipSet, Core};
+
+/// Brings a core to the machine after all events below cycle `t`: it announces every chip, and then
+/// lets the chip of least bound make its event and announces it again, until no bound lies below.
+///
+/// The journal has to have a free place for each access below `t`, which [`crate::laws::room`]
+/// shows.
+pub fn run_least<C: ChipSet>(core: &mut Core<C>, t: u64)
+    requires time { t ≤ 2 ^ 50 }
+    requires room { HasRoom C.rules t (seen C.rules core.old) core.old.room }
+    ensures run { ReachesEnd C.rules C.chip_ok C.shared_ok t core.old core.new }
+    ensures first { core.old.journal ≡ []
+        → IsRunTo C.rules (machine_of C.rules core.old) t (machine_of C.rules core.new) core.new.journal }
+    ensures room { core.new.room ≡ core.old.room }
+    ensures core { IsCore C.rules C.chip_ok C.shared_ok core.new }
+{
+    core.known();
+    core.announce_all();
+    while let Some(chip) = core.first_below(t) {
+        core.turn(chip);
+    }
+}
+
+impl<C: ChipSet> Core<C> {
+    /// Each chip's bound becomes its key.
+    fn announce_all(&mut self)
+        ensures led { (t : ℕ) → Reaches C.rules t (seen C.rules self.old) (seen C.rules self.new) }
+        ensures keys { AreKeys C.rules (seen C.rules self.new) C.rules.count }
+        ensures room { self.new.room ≡ self.old.room }
+        ensures core { IsCore C.rules C.chip_ok C.shared_ok self.new }
+    {
+        self.known();
+        for chip in 0..C::count() {
+            self.set_bound(chip);
+        }
+    }
+
+    /// The chip's bound becomes its key, whether it lags or not.
+    fn set_bound(&mut self, chip: u8)
+        requires { chip < C.rules.count }
+        ensures after { seen C.rules self.new ≡ after C.rules (seen C.rules self.old) (Event.Announce chip) }
+        ensures room { self.new.room ≡ self.old.room }
+        ensures before { IsCore C.rules C.chip_ok C.shared_ok self.old }
+        ensures core { IsCore C.rules C.chip_ok C.shared_ok self.new }
+    {
+        let i = chip as usize;
+        let next = C::next(&self.chips[i]);
+        self.bounds[i] = next.key;
+    }
+
+    /// The chip of least bound, where that bound lies below cycle `t`.
+    fn first_below(&self, t: u64) -> Option<u8>
+        ensures found { MatchOption result
+            (t ≤ ((seen C.rules self.now).bound (least_below (seen C.rules self.now).bound C.rules.count)).cycle)
+            (λ i. (i ≡ least_below (seen C.rules self.now).bound C.rules.count) × (((seen C.rules self.now).bound i).cycle < t)) }
+        ensures core { IsCore C.rules C.chip_ok C.shared_ok self.now }
+    {
+        let chip = least_of(&self.bounds);
+        if self.bounds[chip as usize].cycle < t {
+            Some(chip)
+        } else {
+            None
+        }
+    }
+
+    /// The chip makes the event that it waits at, and its bound becomes the key of the next one.
+    fn turn(&mut self, chip: u8)
+        requires chip { chip < C.rules.count }
+        requires enabled { IsEnabled C.rules (seen C.rules self.old) (2 ^ 50) (own_event C.rules (seen C.rules self.old) chip) }
+        requires room { HasPlace (length self.old.journal) self.old.room (own_event C.rules (seen C.rules self.old) chip) }
+        ensures after { seen C.rules self.new ≡ turned C.rules (seen C.rules self.old) chip }
+        ensures room { self.new.room ≡ self.old.room }
+        ensures core { IsCore C.rules C.chip_ok C.shared_ok self.new }
+    {
+        if C::next(&self.chips[chip as usize]).sample {
+            self.turn_sample(chip);
+        } else {
+            self.turn_access(chip);
+        }
+    }
+
+    fn turn_sample(&mut self, chip: u8)
+        requires { IsEnabled C.rules (seen C.rules self.old) (2 ^ 50) (Event.Sample chip) }
+        ensures after { seen C.rules self.new
+            ≡ after C.rules (after C.rules (seen C.rules self.old) (Event.Sample chip)) (Event.Announce chip) }
+        ensures room { self.new.room ≡ self.old.room }
+        ensures core { IsCore C.rules C.chip_ok C.shared_ok self.new }
+    {
+        let i = chip as usize;
+        let pins = C::pins(&self.shared, chip);
+        let held = &mut self.chips[i];
+        C::sample(held, &pins);
+        let next = C::next(held);
+        self.bounds[i] = next.key;
+    }
+
+    fn turn_access(&mut self, chip: u8)
+        requires enabled { IsEnabled C.rules (seen C.rules self.old) (2 ^ 50) (Event.Perform chip) }
+        requires room { length self.old.journal < self.old.room }
+        ensures after { seen C.rules self.new
+            ≡ after C.rules (after C.rules (seen C.rules self.old) (Event.Perform chip)) (Event.Announce chip) }
+        ensures room { self.new.room ≡ self.old.room }
+        ensures core { IsCore C.rules C.chip_ok C.shared_ok self.new }
+    {
+        let i = chip as usize;
+        let held = &mut self.chips[i];
+        let entry = C::access(held, &mut self.shared);
+        let next = C::next(held);
+        self.bounds[i] = next.key;
+        self.journal.push_reserved(entry);
+    }
+}
