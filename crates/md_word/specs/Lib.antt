@@ -1,3 +1,4 @@
+pub mod Clock
 pub mod Coding
 pub mod Fields
 pub mod Keys

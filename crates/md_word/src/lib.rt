@@ -2,6 +2,7 @@
 //! and answers on the bus, operands and registers.
 #![tactic(auto)]
 
+pub mod clock;
 mod event;
 mod flags;
 mod key;
