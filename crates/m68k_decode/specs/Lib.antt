@@ -1,4 +1,5 @@
 pub mod Addressing
+pub mod Bounds
 pub mod Fields
 pub mod Instructions
 pub mod Lines

@@ -9,7 +9,7 @@ mod steps;
 
 pub use operands::place;
 pub use places::Place;
-pub use steps::stepped;
+pub use steps::{step, stepped};
 
 #[cfg(test)]
 mod tests;

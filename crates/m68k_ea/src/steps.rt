@@ -30,3 +30,25 @@ pub fn stepped(mode: Mode, size: Size, regs: &Regs) -> Regs
     }
     after
 }
+
+/// Moves the register of (An)+ up and that of −(An) down, by the bytes of the operand.
+#[tactic(auto, using(crate::proofs::Stepping::points_beside), unfolding(crate::specs::Steps::moved))]
+pub fn step(mode: Mode, size: Size, regs: &mut Regs)
+    requires { IsMode mode }
+    ensures stepped { regs.new ≡ steps.stepped mode size regs.old }
+    ensures points { steps.PointsBeside mode size regs.old regs.new }
+{
+    // The proof knows the length of an array once it is read.
+    let _registers = regs.a;
+    match mode {
+        Mode::PostInc(number) => {
+            let at = regs.address(number);
+            regs.set_address(number, raised(at, step_of(size, number)));
+        }
+        Mode::PreDec(number) => {
+            let at = regs.address(number);
+            regs.set_address(number, lowered(at, step_of(size, number)));
+        }
+        _ => {}
+    }
+}

@@ -1,10 +1,6 @@
-pub mod Aligned
+pub mod Bounds
+pub mod Compares
 pub mod Later
-pub mod LaterFirst
-pub mod LaterOperations
-pub mod LaterRows
-pub mod LaterSamples
-pub mod LaterShapes
 pub mod Pushes
 pub mod Stack
 pub mod Touches

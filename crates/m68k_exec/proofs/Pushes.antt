@@ -1,9 +1,9 @@
 -- A word of a frame is pushed, and what is left after it.
 use Rattle.std.proofs.Common.{◌≡◌, ℕ, suc, ◌+◌, ◌-◌, ◌%◌, ◌^◌, ◌<◌, List, Ok, refl, arith}
 use Rattle.std.specs.Prelude.{slice_index}
-use Rattle.m68k_exec.specs.Actions.{Done, go_on, write_word}
-use Rattle.m68k_exec.specs.Entries.{places, pushed}
-use Rattle.m68k_exec.specs.Memory.{Memory}
+use Rattle.m68k_exec.specs.Access.Actions.{Done, go_on, write_word}
+use Rattle.m68k_exec.specs.Sample.Entries.{places, pushed}
+use Rattle.m68k_exec.specs.Access.Memory.{Memory}
 
 pub step : (count k : ℕ) (words : List ℕ) (stack : ℕ) (memory : Memory) (done : Done) → k < count → pushed (count - k) k words stack memory done ≡ go_on (write_word ((stack + 2 ^ 32 - slice_index places k) % 2 ^ 32) (slice_index words k) memory done) (λ x after. pushed (count - (k + 1)) (k + 1) words stack memory after)
 step count k words stack memory done h =

@@ -9,7 +9,7 @@ use Rattle.m68k_ea.specs.Addresses.{address_sum, effective_address}
 use Rattle.m68k_ea.specs.Places.{is_misaligned, place_of, standing}
 use Rattle.m68k_ea.specs.declared.places.Place.{Place}
 use Rattle.m68k_ea.specs.declared.places.Place.TheVariants as places
-use Rattle.m68k_exec.specs.Operands.{touches}
+use Rattle.m68k_exec.specs.Access.Operands.{touches}
 
 standing-cases : (size : Size) (at : ℕ) (b : Bool) → is_misaligned size at ≡ b → touches size (standing size at) ≡ moves_of size
 unfolding standing

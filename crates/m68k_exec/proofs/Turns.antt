@@ -9,16 +9,13 @@ use Rattle.md_word.specs.declared.regs.Regs.{Regs}
 use Rattle.md_word.specs.declared.size.Size.{Size}
 use Rattle.md_word.specs.declared.size.Size.TheVariants.{Byte, Word, Long}
 use Rattle.m68k_decode.specs.Ops.{moves_of}
-use Rattle.m68k_exec.specs.Actions.{Done, go_on, read, write}
-use Rattle.m68k_exec.specs.Memory.{Memory}
-use Rattle.m68k_exec.specs.Movem.{named, next_address, place_at, places, load_each, store_each}
-use Rattle.m68k_exec.specs.Turns.{load_one, load_turn, store_one, store_turn}
-use Rattle.m68k_exec.specs.Clauses.{NotOdd, OddBelow}
-use Rattle.m68k_exec.specs.declared.movem.Loaded.{Loaded}
-use Rattle.m68k_exec.specs.declared.movem.Order.{Order}
-use Rattle.m68k_exec.specs.declared.movem.Order.TheVariants.{Rising}
-use Rattle.m68k_exec.specs.declared.stop.Stop.{Stop}
-use Rattle.m68k_exec.specs.declared.stop.Stop.TheVariants.{Ask, Odd}
+use Rattle.m68k_exec.specs.Access.Actions.{Done, go_on, read, write}
+use Rattle.m68k_exec.specs.Access.Memory.{Memory}
+use Rattle.m68k_exec.specs.Rows.Movem.{Loaded, named, next_address, place_at, places, load_each, store_each}
+use Rattle.m68k_exec.specs.Rows.Turns.{load_one, load_turn, store_one, store_turn}
+use Rattle.m68k_exec.specs.declared.rows.movem.Order.{Order}
+use Rattle.m68k_exec.specs.declared.rows.movem.Order.TheVariants.{Rising}
+use Rattle.m68k_exec.specs.declared.access.stop.Stop.{Stop}
 
 -- of 16 turns one less is left
 next-count : (n : ℕ) → n < 16 → 16 - n ≡ suc (16 - (n + 1))
@@ -65,22 +62,3 @@ load-turn size n at rest regs memory done false = refl
 pub load_step : (size : Size) (list n at : ℕ) (regs : Regs) (memory : Memory) (done : Done) → n < 16 → load_each size (places (16 - n) list n) at regs memory done ≡ go_on (load_turn size (list % 2 == 1) n at regs memory done) (λ next after. load_each size (places (16 - (n + 1)) (list / 2) (n + 1)) next.address next.regs memory after)
 load_step size list n at regs memory done h =
     rw (next-count n h) (load-turn size n at (places (16 - (n + 1)) (list / 2) (n + 1)) regs memory done (list % 2 == 1))
-
-moves-some : (size : Size) → 0 < moves_of size
-moves-some Byte = lit< tt
-moves-some Word = lit< tt
-moves-some Long = lit< tt
-
--- a list that is not empty makes an access
-pub some_moved : (list used : ℕ) (size : Size) → (list ≡ 0 → ⊥) → used < used + count_ones list * moves_of size
-some_moved list used size h =
-    let some : 0 < count_ones list = elim (eq-zero-or-pos (count_ones list)) [ inl e ↦ absurd (h (zero_from_ones list e)) | inr p ↦ p ] in
-    let moves : 0 < moves_of size = moves-some size in
-    let product : 0 < count_ones list * moves_of size = mul-pos some moves in
-    omega arith
-
--- without an address error there is none before any count of answers
-pub never_odd : {A : Type 0} (result : Result A Stop) (limit : ℕ) → NotOdd result → OddBelow result limit
-never_odd (Ok x) limit h = tt
-never_odd (Err (Ask request)) limit h = tt
-never_odd (Err (Odd address read used)) limit h = absurd h

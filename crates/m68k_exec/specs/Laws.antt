@@ -1,17 +1,27 @@
--- What holds of each action: answers beyond those that it takes change nothing.
-use Rattle.std.specs.Prelude.{ℕ, ◌≡◌, ◌<◌, ◌≤◌, Bool, length, slice_index, Ok, Err}
+-- What holds of each action and each sample, for any registers, memory and answers.
+use Rattle.std.specs.Prelude.{ℕ, ◌≡◌, ◌+◌, ◌-◌, ◌-ℤ◌, ◌%◌, ◌<◌, ◌≤◌, ◌==◌, nat_le, nat_lt, int_le, int_lt, Bool, true, false, not, length, slice_index, Ok, Err}
+use Rattle.md_word.specs.Width.{half_of, modulus_of, signed_of}
+use Rattle.md_word.specs.declared.flags.Flags.{Flags}
+use Rattle.md_word.specs.declared.task.Task.TheVariants as tasks
+use Rattle.m68k_alu.specs.Arithmetic.{fits}
+use Rattle.m68k_alu.specs.Tasks.{computed}
+use Rattle.m68k_decode.specs.declared.condition.Condition.TheVariants as conditions
+use Rattle.m68k_exec.specs.Access.Conditions.{holds}
 use Rattle.md_word.specs.declared.main_bus.Request68.{Request68}
 use Rattle.md_word.specs.declared.mode.Mode.{Mode}
 use Rattle.md_word.specs.declared.regs.Regs.{Regs}
 use Rattle.md_word.specs.declared.size.Size.{Size}
 use Rattle.m68k_decode.specs.declared.op.Op.{Op}
 use Rattle.m68k_ea.specs.declared.places.Place.{Place}
-use Rattle.m68k_exec.specs.declared.stop.Stop.TheVariants.{Odd}
-use Rattle.m68k_exec.specs.Actions.{Act, Done, asked, read, write}
-use Rattle.m68k_exec.specs.Execution.{row}
-use Rattle.m68k_exec.specs.Memory.{Memory}
-use Rattle.m68k_exec.specs.Operands.{fetch, load, pull, push, put, store}
-use Rattle.m68k_exec.specs.Samples.{Ended, sampled}
+use Rattle.m68k_decode.specs.Bounds.{FewCounted}
+use Rattle.m68k_decode.specs.Ops.{IsSpent}
+use Rattle.m68k_exec.specs.declared.access.stop.Stop.TheVariants.{Ask, Odd}
+use Rattle.m68k_exec.specs.Sample.Bounds.{Asks, Fits, IsStatus}
+use Rattle.m68k_exec.specs.Access.Actions.{Act, Done, asked, read, write}
+use Rattle.m68k_exec.specs.Sample.Execution.{row}
+use Rattle.m68k_exec.specs.Access.Memory.{Memory}
+use Rattle.m68k_exec.specs.Access.Operands.{fetch, load, pull, push, put, store}
+use Rattle.m68k_exec.specs.Sample.Samples.{Ended, sampled}
 
 -- two memories are the same to what takes so many answers: the first answers are the same
 pub record SameBelow (count : ℕ) (one other : Memory) : Type 0 where
@@ -45,3 +55,46 @@ pub record ActionsIgnoreLaterAnswers : Type 0 where
 pub record SamplesIgnoreLaterAnswers : Type 0 where
   pub row : (op : Op) (start : ℕ) (regs : Regs) → IgnoresLaterAnswers (row op start regs)
   pub sampled : (cause : ℕ) (regs : Regs) (one other : Memory) (ended : Ended) → sampled cause regs one ≡ Ok ended → SameBelow ended.spent.accesses one other → sampled cause regs other ≡ Ok ended
+
+-- a sample of any registers, memory and answers: what it spends is what its instruction can spend, it
+-- waits only where there are fewer than 32 answers, and it comes to its end, in an address error's
+-- handler where an operand stands at an odd address
+pub record SamplesAreBounded : Type 0 where
+  pub spends : (cause : ℕ) (regs : Regs) (memory : Memory) (ended : Ended) → sampled cause regs memory ≡ Ok ended → IsSpent ended.op ended.spent
+  pub waits : (cause : ℕ) (regs : Regs) (memory : Memory) (request : Request68) → sampled cause regs memory ≡ Err (Ask request) → length memory.answers < 32
+  pub comes_to : (cause : ℕ) (regs : Regs) (memory : Memory) (address : ℕ) (read : Bool) (used : ℕ) → sampled cause regs memory ≡ Err (Odd address read used) → ⊥
+
+-- from a status register with no other bits, a sample leaves one, and asks only for the acknowledge of
+-- its level or for a read or write at a shared address
+pub record SamplesAskRightly : Type 0 where
+  pub status : (cause : ℕ) (regs : Regs) (memory : Memory) (ended : Ended) → IsStatus regs.sr → sampled cause regs memory ≡ Ok ended → IsStatus ended.regs.sr
+  pub asks : (cause : ℕ) (regs : Regs) (memory : Memory) (request : Request68) → IsStatus regs.sr → sampled cause regs memory ≡ Err (Ask request) → Asks cause request
+
+-- where memory holds bytes and answers are words, a count that the time depends on is at most 64
+abbrev pub CountsAreFew : Type 0
+CountsAreFew = (cause : ℕ) (regs : Regs) (memory : Memory) (ended : Ended) → Fits memory → sampled cause regs memory ≡ Ok ended → ended.spent.cause ≡ 0 → FewCounted ended.op ended.spent.count
+
+-- the flags after CMP of a source and a target
+abbrev pub flags_after : Size → ℕ → ℕ → Flags → Flags
+flags_after size source target flags = (computed tasks.Cmp size source target flags).flags
+
+-- After CMP each condition is a comparison of the target with the source: HI, LS, CC and CS of whole
+-- numbers, GE, LT, GT and LE of numbers in two's complement. MI and PL tell the sign of the difference
+-- within the size, VS and VC whether the signed difference has a place in it.
+pub record ConditionsCompare (size : Size) (source target : ℕ) (flags : Flags) : Type 0 where
+  pub always : holds conditions.True (flags_after size source target flags) ≡ true
+  pub never : holds conditions.False (flags_after size source target flags) ≡ false
+  pub high : holds conditions.High (flags_after size source target flags) ≡ nat_lt source target
+  pub low_or_same : holds conditions.LowOrSame (flags_after size source target flags) ≡ nat_le target source
+  pub carry_clear : holds conditions.CarryClear (flags_after size source target flags) ≡ nat_le source target
+  pub carry_set : holds conditions.CarrySet (flags_after size source target flags) ≡ nat_lt target source
+  pub not_equal : holds conditions.NotEqual (flags_after size source target flags) ≡ not (target == source)
+  pub equal : holds conditions.Equal (flags_after size source target flags) ≡ (target == source)
+  pub overflow_clear : holds conditions.OverflowClear (flags_after size source target flags) ≡ not (not (fits size (signed_of size target -ℤ signed_of size source)))
+  pub overflow_set : holds conditions.OverflowSet (flags_after size source target flags) ≡ not (fits size (signed_of size target -ℤ signed_of size source))
+  pub plus : holds conditions.Plus (flags_after size source target flags) ≡ not (nat_le (half_of size) ((target + modulus_of size - source) % modulus_of size))
+  pub minus : holds conditions.Minus (flags_after size source target flags) ≡ nat_le (half_of size) ((target + modulus_of size - source) % modulus_of size)
+  pub greater_or_equal : holds conditions.GreaterOrEqual (flags_after size source target flags) ≡ int_le (signed_of size source) (signed_of size target)
+  pub less : holds conditions.LessThan (flags_after size source target flags) ≡ int_lt (signed_of size target) (signed_of size source)
+  pub greater : holds conditions.GreaterThan (flags_after size source target flags) ≡ int_lt (signed_of size source) (signed_of size target)
+  pub less_or_equal : holds conditions.LessOrEqual (flags_after size source target flags) ≡ int_le (signed_of size target) (signed_of size source)

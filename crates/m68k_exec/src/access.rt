@@ -1,22 +1,29 @@
-ghost use Rattle.std.specs.Prelude.{◌≡◌, ◌+◌, ◌%◌, ◌<◌, ◌≤◌, IfOk, OnOk};
+ghost use Rattle.std.specs.Prelude.{◌≡◌, ◌+◌, ◌%◌, ◌<◌, ◌≤◌, IfOk};
 ghost use Rattle.arrayvec.specs.ArrayVec.{array_vec_len};
 ghost use Rattle.md_word.specs.Width.{modulus_of};
-ghost use Rattle.m68k_decode.specs.Ops.{moves_of};
-ghost use Rattle.m68k_exec.specs.Actions as actions;
-ghost use Rattle.m68k_exec.specs.Clauses.{Meets, NotOdd, OddBelow, Spends, StopsBelow, done_of, memory_of};
-ghost use Rattle.m68k_exec.specs.Operands.{bytes_of};
+ghost use Rattle.m68k_exec.specs.Access.Actions as actions;
+ghost use Rattle.m68k_exec.specs.Access.Clauses.{Meets, NotOdd, Spends, done_of, memory_of};
+ghost use Rattle.m68k_exec.specs.Access.Operands.{bytes_of};
 
-use crate::memory::{bus_address, byte_seen, is_shared, put_byte, put_word, word_seen};
+pub mod conditions;
+pub mod memory;
+pub mod operands;
+pub mod outcome;
+pub mod shapes;
+pub mod stop;
+pub mod vector;
+pub mod view;
+
+use crate::access::memory::{bus_address, byte_seen, is_shared, put_byte, put_word, word_seen};
 use crate::{Around, Progress, Stop};
 use md_word::{Request68, Size};
 
 /// A shared access: takes the next answer, or stops with the request that waits for it.
-#[tactic(auto, unfolding(crate::specs::Actions::asked))]
+#[tactic(auto, unfolding(crate::specs::Access::Actions::asked))]
 pub fn ask(request: Request68, around: &Around, progress: &mut Progress) -> Result<u16, Stop>
     ensures value { Meets result (done_of progress.new)
         (actions.asked request (memory_of around.now) (done_of progress.old)) }
     ensures spent { Spends progress.old progress.new 1 0 }
-    ensures stops { StopsBelow result around.now (progress.old.used + 1) }
     ensures never_odd { NotOdd result }
 {
     if progress.used < around.answers.len() {
@@ -29,25 +36,22 @@ pub fn ask(request: Request68, around: &Around, progress: &mut Progress) -> Resu
 }
 
 /// A shared read of a byte, whose answer has one byte.
-#[tactic(auto, unfolding(crate::specs::Actions::asked_byte))]
+#[tactic(auto, unfolding(crate::specs::Access::Actions::asked_byte))]
 fn ask_byte(at: u32, around: &Around, progress: &mut Progress) -> Result<u8, Stop>
     ensures value { Meets result (done_of progress.new)
         (actions.asked_byte at (memory_of around.now) (done_of progress.old)) }
-    ensures spent { Spends progress.old progress.new 1 0 }
-    ensures stops { StopsBelow result around.now (progress.old.used + 1) }
-    ensures never_odd { NotOdd result }
+    ensures written { array_vec_len progress.new.writes ≤ array_vec_len progress.old.writes }
 {
     let answer = ask(Request68::Read8(at), around, progress)?;
     Ok((answer % 0x100) as u8)
 }
 
 /// A shared write, whose answer tells nothing.
-#[tactic(auto, unfolding(crate::specs::Actions::told))]
+#[tactic(auto, unfolding(crate::specs::Access::Actions::told))]
 fn tell(request: Request68, around: &Around, progress: &mut Progress) -> Result<(), Stop>
     ensures value { Meets result (done_of progress.new)
         (actions.told request (memory_of around.now) (done_of progress.old)) }
     ensures spent { Spends progress.old progress.new 1 0 }
-    ensures stops { StopsBelow result around.now (progress.old.used + 1) }
     ensures never_odd { NotOdd result }
 {
     ask(request, around, progress)?;
@@ -55,13 +59,11 @@ fn tell(request: Request68, around: &Around, progress: &mut Progress) -> Result<
 }
 
 /// Reads the byte at an address.
-#[tactic(auto, unfolding(crate::specs::Actions::read_byte))]
+#[tactic(auto, unfolding(crate::specs::Access::Actions::read_byte))]
 pub fn read_byte(address: u32, around: &Around, progress: &mut Progress) -> Result<u8, Stop>
     ensures value { Meets result (done_of progress.new)
         (actions.read_byte address (memory_of around.now) (done_of progress.old)) }
-    ensures spent { Spends progress.old progress.new 1 0 }
-    ensures stops { StopsBelow result around.now (progress.old.used + 1) }
-    ensures never_odd { NotOdd result }
+    ensures written { array_vec_len progress.new.writes ≤ array_vec_len progress.old.writes }
 {
     let at = bus_address(address);
     if is_shared(at) {
@@ -72,14 +74,12 @@ pub fn read_byte(address: u32, around: &Around, progress: &mut Progress) -> Resu
 }
 
 /// Reads the word at an even address on the bus.
-#[tactic(auto, unfolding(crate::specs::Actions::read_aligned))]
+#[tactic(auto, unfolding(crate::specs::Access::Actions::read_aligned))]
 fn read_aligned(at: u32, around: &Around, progress: &mut Progress) -> Result<u16, Stop>
     requires { at < 0x100_0000 }
     ensures value { Meets result (done_of progress.new)
         (actions.read_aligned at (memory_of around.now) (done_of progress.old)) }
-    ensures spent { Spends progress.old progress.new 1 0 }
-    ensures stops { StopsBelow result around.now (progress.old.used + 1) }
-    ensures never_odd { NotOdd result }
+    ensures written { array_vec_len progress.new.writes ≤ array_vec_len progress.old.writes }
 {
     if is_shared(at) {
         ask(Request68::Read16(at), around, progress)
@@ -89,14 +89,11 @@ fn read_aligned(at: u32, around: &Around, progress: &mut Progress) -> Result<u16
 }
 
 /// Reads the word at an address; an odd one is an address error.
-#[tactic(auto, unfolding(crate::specs::Actions::read_word))]
+#[tactic(auto, unfolding(crate::specs::Access::Actions::read_word))]
 pub fn read_word(address: u32, around: &Around, progress: &mut Progress) -> Result<u16, Stop>
     ensures value { Meets result (done_of progress.new)
         (actions.read_word address (memory_of around.now) (done_of progress.old)) }
-    ensures spent { Spends progress.old progress.new 1 0 }
-    ensures stops { StopsBelow result around.now (progress.old.used + 1) }
-    ensures even { address % 2 ≡ 0 → NotOdd result }
-    ensures aligned { OnOk result (address % 2 ≡ 0) }
+    ensures written { array_vec_len progress.new.writes ≤ array_vec_len progress.old.writes }
 {
     if address % 2 == 1 {
         return Err(Stop::Odd {
@@ -110,14 +107,11 @@ pub fn read_word(address: u32, around: &Around, progress: &mut Progress) -> Resu
 
 /// Reads the long at an address, the word at the lower address first; an odd address is an address
 /// error before any access.
-#[tactic(auto, unfolding(crate::specs::Actions::read_long))]
+#[tactic(auto, unfolding(crate::specs::Access::Actions::read_long))]
 pub fn read_long(address: u32, around: &Around, progress: &mut Progress) -> Result<u32, Stop>
     ensures value { Meets result (done_of progress.new)
         (actions.read_long address (memory_of around.now) (done_of progress.old)) }
-    ensures spent { Spends progress.old progress.new 2 0 }
-    ensures stops { StopsBelow result around.now (progress.old.used + 2) }
-    ensures odd { OddBelow result (progress.old.used + 1) }
-    ensures even { address % 2 ≡ 0 → NotOdd result }
+    ensures written { array_vec_len progress.new.writes ≤ array_vec_len progress.old.writes }
 {
     let high = read_word(address, around, progress)?;
     let low = read_word(address.wrapping_add(2), around, progress)?;
@@ -125,15 +119,12 @@ pub fn read_long(address: u32, around: &Around, progress: &mut Progress) -> Resu
 }
 
 /// Reads the operand of a size at an address.
-#[tactic(auto, unfolding(crate::specs::Actions::read))]
+#[tactic(auto, unfolding(crate::specs::Access::Actions::read))]
 pub fn read(size: Size, address: u32, around: &Around, progress: &mut Progress) -> Result<u32, Stop>
     ensures value { Meets result (done_of progress.new)
         (actions.read size address (memory_of around.now) (done_of progress.old)) }
     ensures below { IfOk result (λ value. value < modulus_of size) }
-    ensures spent { Spends progress.old progress.new (moves_of size) 0 }
-    ensures stops { StopsBelow result around.now (progress.old.used + moves_of size) }
-    ensures odd { OddBelow result (progress.old.used + 1) }
-    ensures even { address % 2 ≡ 0 → NotOdd result }
+    ensures written { array_vec_len progress.new.writes ≤ array_vec_len progress.old.writes }
 {
     match size {
         Size::Byte => Ok(u32::from(read_byte(address, around, progress)?)),
@@ -143,7 +134,7 @@ pub fn read(size: Size, address: u32, around: &Around, progress: &mut Progress) 
 }
 
 /// Writes the byte at an address.
-#[tactic(auto, unfolding(crate::specs::Actions::write_byte))]
+#[tactic(auto, unfolding(crate::specs::Access::Actions::write_byte))]
 pub fn write_byte(
     address: u32,
     value: u8,
@@ -153,9 +144,7 @@ pub fn write_byte(
     requires { array_vec_len progress.old.writes + 1 ≤ 80 }
     ensures value { Meets result (done_of progress.new)
         (actions.write_byte address value (memory_of around.now) (done_of progress.old)) }
-    ensures spent { Spends progress.old progress.new 1 1 }
-    ensures stops { StopsBelow result around.now (progress.old.used + 1) }
-    ensures never_odd { NotOdd result }
+    ensures written { array_vec_len progress.new.writes ≤ array_vec_len progress.old.writes + 1 }
 {
     let at = bus_address(address);
     if is_shared(at) {
@@ -166,14 +155,13 @@ pub fn write_byte(
 }
 
 /// Writes the word at an even address on the bus.
-#[tactic(auto, unfolding(crate::specs::Actions::write_aligned))]
+#[tactic(auto, unfolding(crate::specs::Access::Actions::write_aligned))]
 fn write_aligned(at: u32, value: u16, around: &Around, progress: &mut Progress) -> Result<(), Stop>
     requires at { at < 0x100_0000 }
     requires room { array_vec_len progress.old.writes + 2 ≤ 80 }
     ensures value { Meets result (done_of progress.new)
         (actions.write_aligned at value (memory_of around.now) (done_of progress.old)) }
     ensures spent { Spends progress.old progress.new 1 2 }
-    ensures stops { StopsBelow result around.now (progress.old.used + 1) }
     ensures never_odd { NotOdd result }
 {
     if is_shared(at) {
@@ -184,7 +172,7 @@ fn write_aligned(at: u32, value: u16, around: &Around, progress: &mut Progress) 
 }
 
 /// Writes the word at an address; an odd one is an address error.
-#[tactic(auto, unfolding(crate::specs::Actions::write_word))]
+#[tactic(auto, unfolding(crate::specs::Access::Actions::write_word))]
 pub fn write_word(
     address: u32,
     value: u16,
@@ -195,9 +183,7 @@ pub fn write_word(
     ensures value { Meets result (done_of progress.new)
         (actions.write_word address value (memory_of around.now) (done_of progress.old)) }
     ensures spent { Spends progress.old progress.new 1 2 }
-    ensures stops { StopsBelow result around.now (progress.old.used + 1) }
     ensures even { address % 2 ≡ 0 → NotOdd result }
-    ensures aligned { OnOk result (address % 2 ≡ 0) }
 {
     if address % 2 == 1 {
         return Err(Stop::Odd {
@@ -211,7 +197,7 @@ pub fn write_word(
 
 /// Writes the long at an address, the word at the lower address first; an odd address is an address
 /// error before any access.
-#[tactic(auto, unfolding(crate::specs::Actions::write_long))]
+#[tactic(auto, unfolding(crate::specs::Access::Actions::write_long))]
 pub fn write_long(
     address: u32,
     value: u32,
@@ -221,10 +207,7 @@ pub fn write_long(
     requires { array_vec_len progress.old.writes + 4 ≤ 80 }
     ensures value { Meets result (done_of progress.new)
         (actions.write_long address value (memory_of around.now) (done_of progress.old)) }
-    ensures spent { Spends progress.old progress.new 2 4 }
-    ensures stops { StopsBelow result around.now (progress.old.used + 2) }
-    ensures odd { OddBelow result (progress.old.used + 1) }
-    ensures even { address % 2 ≡ 0 → NotOdd result }
+    ensures written { array_vec_len progress.new.writes ≤ array_vec_len progress.old.writes + 4 }
 {
     write_word(address, (value / 0x1_0000) as u16, around, progress)?;
     write_word(
@@ -236,7 +219,7 @@ pub fn write_long(
 }
 
 /// Writes an operand of a size at an address.
-#[tactic(auto, unfolding(crate::specs::Actions::write))]
+#[tactic(auto, unfolding(crate::specs::Access::Actions::write))]
 pub fn write(
     size: Size,
     address: u32,
@@ -248,10 +231,7 @@ pub fn write(
     requires room { array_vec_len progress.old.writes + bytes_of size ≤ 80 }
     ensures value { Meets result (done_of progress.new)
         (actions.write size address value (memory_of around.now) (done_of progress.old)) }
-    ensures spent { Spends progress.old progress.new (moves_of size) (bytes_of size) }
-    ensures stops { StopsBelow result around.now (progress.old.used + moves_of size) }
-    ensures odd { OddBelow result (progress.old.used + 1) }
-    ensures even { address % 2 ≡ 0 → NotOdd result }
+    ensures written { array_vec_len progress.new.writes ≤ array_vec_len progress.old.writes + bytes_of size }
 {
     match size {
         Size::Byte => write_byte(address, value as u8, around, progress),

@@ -1,51 +1,17 @@
-//! What an instruction of the 68000 does: actions over private memory, the answers of shared
-//! accesses so far, and the bytes written so far.
+//! What the 68000 does at a sample: an instruction, an exception, a trace or an interrupt, over
+//! private memory, the answers of its shared accesses so far, and the bytes written so far.
 #![tactic(auto)]
 
 mod access;
-mod arithmetic;
-mod bits;
-mod branches;
-mod comparisons;
-mod conditions;
-mod control;
-mod entry;
-mod exception;
-mod execution;
-mod immediates;
 pub mod laws;
-mod links;
-mod memory;
-mod movem;
-mod movep;
-mod moves;
-mod multiprecision;
-mod operands;
-mod outcome;
-mod products;
-mod quotients;
-mod registers;
+mod rows;
 mod sample;
-mod setting;
-mod shapes;
-mod shifts;
-mod single;
-mod status;
-mod step;
-mod stop;
-mod vector;
-mod view;
 
-pub use operands::Operand;
-pub use outcome::Outcome;
+pub use access::memory::word_at;
+pub use access::view::Progress;
 pub use sample::go;
-pub use step::{Finish, Step};
-pub use stop::Stop;
-pub use view::{Around, Progress};
+pub use sample::step::{Finish, Step};
 
-#[cfg(test)]
-mod case;
-#[cfg(test)]
-mod instruction_tests;
-#[cfg(test)]
-mod tests;
+use access::outcome::Outcome;
+use access::stop::Stop;
+use access::view::Around;

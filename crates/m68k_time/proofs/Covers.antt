@@ -11,6 +11,7 @@ use Rattle.md_word.specs.declared.task.Task.{Task}
 use Rattle.md_word.specs.declared.task.Task.TheVariants as tasks
 use Rattle.m68k_decode.specs.Addressing.{control, control_alterable_or_predecrement, control_or_postincrement}
 use Rattle.m68k_decode.specs.Operands.{ArePaired, IsOf, number_of}
+use Rattle.m68k_decode.specs.Bounds.{HasModes}
 use Rattle.m68k_decode.specs.Ops.{Counts, IsOp, IsSpent, accesses_of, bit_touches, moves_of, touches_of}
 use Rattle.m68k_decode.specs.declared.displacement.Displacement.{Displacement}
 use Rattle.m68k_decode.specs.declared.displacement.Displacement.TheVariants as displacements
@@ -251,52 +252,52 @@ passed true displacement = omega arith
 passed false (displacements.Byte by) = omega arith
 passed false (displacements.Word by) = omega arith
 
-pub row-covers : (op : Op) (spent : Spent) → IsOp op → Counts op spent.count → 4 * accesses_of op + 4 ≤ row_time op spent
-row-covers (ops.Immediate task size value mode) spent is counted = changed size mode 8 16 12 20 (omega arith) (omega arith) (omega arith) (omega arith)
-row-covers (ops.CompareImmediate size value mode) spent is counted = tested size mode 8 14 8 12 (omega arith) (omega arith) (omega arith) (omega arith)
-row-covers (ops.BitByRegister task n mode) spent is counted = bits task mode
-row-covers (ops.BitByNumber task number mode) spent is counted = omega (arith, bits task mode)
-row-covers (ops.MovepToRegister size n r by) spent is counted = omega (arith, compared size, slower size)
-row-covers (ops.MovepToMemory size n r by) spent is counted = omega (arith, compared size, slower size)
-row-covers (ops.Move size source target) spent is counted = omega (arith, read size source, written size target)
-row-covers (ops.Movea size n mode) spent is counted = omega (arith, read size mode)
-row-covers (ops.Unary task size mode) spent is counted = changed size mode 4 6 8 12 (omega arith) (omega arith) (omega arith) (omega arith)
-row-covers (ops.MoveFromSr mode) spent is counted = changed Word mode 6 6 8 12 (omega arith) (omega arith) (omega arith) (omega arith)
-row-covers (ops.MoveToCcr mode) spent is counted = omega (arith, read Word mode)
-row-covers (ops.MoveToSr mode) spent is counted = omega (arith, read Word mode)
-row-covers (ops.Nbcd mode) spent is counted = changed Byte mode 6 6 8 12 (omega arith) (omega arith) (omega arith) (omega arith)
-row-covers (ops.Pea mode) spent is counted = omega (arith, peas mode is.1)
-row-covers (ops.MovemToMemory size list mode) spent is counted = listed size (count_ones list) spent.count (control_times mode).to_memory counted (stores mode is.1)
-row-covers (ops.MovemToRegisters size list mode) spent is counted = listed size (count_ones list) spent.count (control_times mode).to_registers counted (loads mode is.1)
-row-covers (ops.Tst size mode) spent is counted = omega (arith, read size mode)
-row-covers (ops.Tas mode) spent is counted = tested Byte mode 4 4 10 10 (omega arith) (omega arith) (omega arith) (omega arith)
-row-covers (ops.Jsr mode) spent is counted = omega (arith, jsrs mode is.1)
-row-covers (ops.Jmp mode) spent is counted = jmps mode is.1
-row-covers (ops.Lea n mode) spent is counted = leas mode is.2
-row-covers (ops.Chk n mode) spent is counted = omega (arith, read Word mode)
-row-covers (ops.Quick task size number mode) spent is counted = quicks size mode
-row-covers (ops.Scc condition mode) spent is counted =
+row-covers-modes : (op : Op) (spent : Spent) → HasModes op → Counts op spent.count → 4 * accesses_of op + 4 ≤ row_time op spent
+row-covers-modes (ops.Immediate task size value mode) spent is counted = changed size mode 8 16 12 20 (omega arith) (omega arith) (omega arith) (omega arith)
+row-covers-modes (ops.CompareImmediate size value mode) spent is counted = tested size mode 8 14 8 12 (omega arith) (omega arith) (omega arith) (omega arith)
+row-covers-modes (ops.BitByRegister task n mode) spent is counted = bits task mode
+row-covers-modes (ops.BitByNumber task number mode) spent is counted = omega (arith, bits task mode)
+row-covers-modes (ops.MovepToRegister size n r by) spent is counted = omega (arith, compared size, slower size)
+row-covers-modes (ops.MovepToMemory size n r by) spent is counted = omega (arith, compared size, slower size)
+row-covers-modes (ops.Move size source target) spent is counted = omega (arith, read size source, written size target)
+row-covers-modes (ops.Movea size n mode) spent is counted = omega (arith, read size mode)
+row-covers-modes (ops.Unary task size mode) spent is counted = changed size mode 4 6 8 12 (omega arith) (omega arith) (omega arith) (omega arith)
+row-covers-modes (ops.MoveFromSr mode) spent is counted = changed Word mode 6 6 8 12 (omega arith) (omega arith) (omega arith) (omega arith)
+row-covers-modes (ops.MoveToCcr mode) spent is counted = omega (arith, read Word mode)
+row-covers-modes (ops.MoveToSr mode) spent is counted = omega (arith, read Word mode)
+row-covers-modes (ops.Nbcd mode) spent is counted = changed Byte mode 6 6 8 12 (omega arith) (omega arith) (omega arith) (omega arith)
+row-covers-modes (ops.Pea mode) spent is counted = omega (arith, peas mode is)
+row-covers-modes (ops.MovemToMemory size list mode) spent is counted = listed size (count_ones list) spent.count (control_times mode).to_memory counted (stores mode is)
+row-covers-modes (ops.MovemToRegisters size list mode) spent is counted = listed size (count_ones list) spent.count (control_times mode).to_registers counted (loads mode is)
+row-covers-modes (ops.Tst size mode) spent is counted = omega (arith, read size mode)
+row-covers-modes (ops.Tas mode) spent is counted = tested Byte mode 4 4 10 10 (omega arith) (omega arith) (omega arith) (omega arith)
+row-covers-modes (ops.Jsr mode) spent is counted = omega (arith, jsrs mode is)
+row-covers-modes (ops.Jmp mode) spent is counted = jmps mode is
+row-covers-modes (ops.Lea n mode) spent is counted = leas mode is
+row-covers-modes (ops.Chk n mode) spent is counted = omega (arith, read Word mode)
+row-covers-modes (ops.Quick task size number mode) spent is counted = quicks size mode
+row-covers-modes (ops.Scc condition mode) spent is counted =
     at-place Byte mode (4 * (2 * touches_of Byte mode) + 4) (cond spent.taken 6 4) (8 + address_time Byte mode)
     (λ none. omega (arith, none, set spent.taken)) (twice Byte mode 8 12 (omega arith) (omega arith))
-row-covers (ops.Dbcc condition r by) spent is counted = looped spent.expired spent.taken
-row-covers (ops.Divu n mode) spent is counted = omega (arith, read Word mode)
-row-covers (ops.Divs n mode) spent is counted = omega (arith, read Word mode)
-row-covers (ops.Decimal task source target) spent is counted = pairs Byte source target 6 6 (omega arith) (omega arith) is.2
-row-covers (ops.Extended task size source target) spent is counted = pairs size source target 4 8 (omega arith) (omega arith) is.2
-row-covers (ops.ToRegister task size n mode) spent is counted = to-registers size mode
-row-covers (ops.ToMemory task size n mode) spent is counted = twice size mode 8 12 (omega arith) (omega arith)
-row-covers (ops.ToAddress task size n mode) spent is counted = to-addresses size mode
-row-covers (ops.Cmp size n mode) spent is counted = once size mode 4 6 (omega arith) (omega arith)
-row-covers (ops.Cmpa size n mode) spent is counted = omega (arith, read size mode)
-row-covers (ops.Eor size n mode) spent is counted = changed size mode 4 8 8 12 (omega arith) (omega arith) (omega arith) (omega arith)
-row-covers (ops.Cmpm size n r) spent is counted = compared size
-row-covers (ops.Mulu n mode) spent is counted = omega (arith, read Word mode)
-row-covers (ops.Muls n mode) spent is counted = omega (arith, read Word mode)
-row-covers (ops.ShiftByNumber task size number r) spent is counted = omega (arith, least size 4 6 8 (omega arith) (omega arith))
-row-covers (ops.ShiftByRegister task size n r) spent is counted = omega (arith, least size 4 6 8 (omega arith) (omega arith))
-row-covers (ops.ShiftMemory task mode) spent is counted = twice Word mode 8 12 (omega arith) (omega arith)
-row-covers (ops.Bcc condition displacement) spent is counted = passed spent.taken displacement
-row-covers _ spent is counted = omega arith
+row-covers-modes (ops.Dbcc condition r by) spent is counted = looped spent.expired spent.taken
+row-covers-modes (ops.Divu n mode) spent is counted = omega (arith, read Word mode)
+row-covers-modes (ops.Divs n mode) spent is counted = omega (arith, read Word mode)
+row-covers-modes (ops.Decimal task source target) spent is counted = pairs Byte source target 6 6 (omega arith) (omega arith) is
+row-covers-modes (ops.Extended task size source target) spent is counted = pairs size source target 4 8 (omega arith) (omega arith) is
+row-covers-modes (ops.ToRegister task size n mode) spent is counted = to-registers size mode
+row-covers-modes (ops.ToMemory task size n mode) spent is counted = twice size mode 8 12 (omega arith) (omega arith)
+row-covers-modes (ops.ToAddress task size n mode) spent is counted = to-addresses size mode
+row-covers-modes (ops.Cmp size n mode) spent is counted = once size mode 4 6 (omega arith) (omega arith)
+row-covers-modes (ops.Cmpa size n mode) spent is counted = omega (arith, read size mode)
+row-covers-modes (ops.Eor size n mode) spent is counted = changed size mode 4 8 8 12 (omega arith) (omega arith) (omega arith) (omega arith)
+row-covers-modes (ops.Cmpm size n r) spent is counted = compared size
+row-covers-modes (ops.Mulu n mode) spent is counted = omega (arith, read Word mode)
+row-covers-modes (ops.Muls n mode) spent is counted = omega (arith, read Word mode)
+row-covers-modes (ops.ShiftByNumber task size number r) spent is counted = omega (arith, least size 4 6 8 (omega arith) (omega arith))
+row-covers-modes (ops.ShiftByRegister task size n r) spent is counted = omega (arith, least size 4 6 8 (omega arith) (omega arith))
+row-covers-modes (ops.ShiftMemory task mode) spent is counted = twice Word mode 8 12 (omega arith) (omega arith)
+row-covers-modes (ops.Bcc condition displacement) spent is counted = passed spent.taken displacement
+row-covers-modes _ spent is counted = omega arith
 
 -- THE WHOLE TIME
 
@@ -319,15 +320,33 @@ is-none n is = grind (arith, nat_tests)
 some : (n : ℕ) → (n == 0) ≡ false → n ≢ 0
 some n is = grind (arith, nat_tests)
 
-covers-by : (b : Bool) (op : Op) (spent : Spent) → (spent.cause == 0) ≡ b → IsOp op → IsSpent op spent
+covers-by : (b : Bool) (op : Op) (spent : Spent) → (spent.cause == 0) ≡ b → HasModes op → IsSpent op spent
     → 4 * spent.accesses + 4 ≤ cond b (row_time op spent) (exception_time spent.cause op)
 covers-by true op spent none is rightly =
     let cause : spent.cause ≡ 0 = is-none spent.cause none in
-    omega (arith, rightly.own cause, row-covers op spent is (rightly.counted cause))
+    omega (arith, rightly.own cause, row-covers-modes op spent is (rightly.counted cause))
 covers-by false op spent ended-in is rightly =
     ended (spent.cause == 3) (spent.cause == 5) (spent.cause == 6) (nat_le 24 spent.cause && nat_le spent.cause 31) spent.accesses (operand_time op)
     (λ odd. rightly.address_error (is-three spent.cause odd))
     (λ other. rightly.exception (some spent.cause ended-in) (not-three spent.cause other))
 
+-- for what words decode to
+pub covers-modes : (op : Op) (spent : Spent) → HasModes op → IsSpent op spent → 4 * spent.accesses + 4 ≤ clocks_of op spent
+covers-modes op spent is rightly = covers-by (spent.cause == 0) op spent refl is rightly
+
+modes-of : (op : Op) → IsOp op → HasModes op
+modes-of (ops.Pea mode) is = is.1
+modes-of (ops.MovemToMemory size list mode) is = is.1
+modes-of (ops.MovemToRegisters size list mode) is = is.1
+modes-of (ops.Jsr mode) is = is.1
+modes-of (ops.Jmp mode) is = is.1
+modes-of (ops.Lea n mode) is = is.2
+modes-of (ops.Decimal operation source target) is = is.2
+modes-of (ops.Extended operation size source target) is = is.2
+modes-of op is = tt
+
 pub covers : (op : Op) (spent : Spent) → IsOp op → IsSpent op spent → 4 * spent.accesses + 4 ≤ clocks_of op spent
-covers op spent is rightly = covers-by (spent.cause == 0) op spent refl is rightly
+covers op spent is rightly = covers-modes op spent (modes-of op is) rightly
+
+pub row-covers : (op : Op) (spent : Spent) → IsOp op → Counts op spent.count → 4 * accesses_of op + 4 ≤ row_time op spent
+row-covers op spent is counted = row-covers-modes op spent (modes-of op is) counted

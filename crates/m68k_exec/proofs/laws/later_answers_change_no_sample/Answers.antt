@@ -1,5 +1,5 @@
-use Rattle.m68k_exec.proofs.LaterRows.{row}
-use Rattle.m68k_exec.proofs.LaterSamples.{sampled}
+use Rattle.m68k_exec.proofs.Later.Rows.{row}
+use Rattle.m68k_exec.proofs.Later.Samples.{sampled}
 use Rattle.m68k_exec.proofs.laws.later_answers_change_no_sample.Goals as goal
 
 pub returns : goal.returns

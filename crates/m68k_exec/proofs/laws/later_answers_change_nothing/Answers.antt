@@ -1,4 +1,4 @@
-use Rattle.m68k_exec.proofs.Later.{all}
+use Rattle.m68k_exec.proofs.Later.Accesses.{all}
 use Rattle.m68k_exec.proofs.laws.later_answers_change_nothing.Goals as goal
 
 pub returns : goal.returns

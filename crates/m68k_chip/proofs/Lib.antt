@@ -1,2 +1,0 @@
-pub mod Fetch
-pub mod States

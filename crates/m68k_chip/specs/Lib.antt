@@ -1,4 +1,0 @@
-pub mod Chip
-pub mod Instructions
-pub mod Laws
-pub mod Memory

@@ -1,0 +1,12 @@
+pub mod Aligned
+pub mod CountsFew
+pub mod Early
+pub mod Keeps
+pub mod KeepsRows
+pub mod KeepsSamples
+pub mod Spends
+pub mod Steps
+pub mod SystemByte
+pub mod Takes
+pub mod TakesEntry
+pub mod TakesRows

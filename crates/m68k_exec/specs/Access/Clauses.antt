@@ -1,0 +1,53 @@
+-- What the contracts of actions say.
+use Rattle.std.specs.Prelude.{◌≡◌, ◌+◌, ◌≤◌, ℕ, Result, Ok, Err}
+use Rattle.arrayvec.specs.ArrayVec.{array_vec_len}
+use Rattle.m68k_exec.specs.declared.access.stop.Stop.{Stop}
+use Rattle.m68k_exec.specs.declared.access.stop.Stop.TheVariants.{Ask, Odd}
+use Rattle.m68k_exec.specs.declared.access.view.Around.{Around}
+use Rattle.m68k_exec.specs.declared.access.view.Progress.{Progress}
+use Rattle.m68k_exec.specs.Access.Actions.{Done}
+use Rattle.m68k_exec.specs.Access.Memory.{Memory}
+use Rattle.md_word.specs.declared.regs.Regs.{Regs}
+use Rattle.m68k_exec.specs.Access.Operands.{Operand}
+use Rattle.m68k_exec.specs.Rows.Movem.{Loaded}
+use Rattle.m68k_exec.specs.Access.Outcomes.{Outcome, outcome_of}
+use Rattle.m68k_exec.specs.declared.access.outcome.Outcome as told
+
+abbrev pub memory_of : Around → Memory
+memory_of around = record { rom = around.rom.now; ram = around.ram.now; answers = around.answers.now }
+
+abbrev pub done_of : Progress → Done
+done_of progress = record { used = progress.used; writes = progress.writes.items }
+
+-- a call gave what the action means: the value with what was done then, or the stop
+abbrev pub Meets : {A : Type 0} → Result A Stop → Done → Result (A × Done) Stop → Type 0
+Meets (Ok x) after meaning = meaning ≡ Ok (x, after)
+Meets (Err stop) after meaning = meaning ≡ Err stop
+
+-- the same of calls that change the registers in place: what they left counts where they end well
+abbrev pub Leaves : Result (Unit {0}) Stop → Regs → Done → Result (Regs × Done) Stop → Type 0
+Leaves (Ok x) regs after meaning = meaning ≡ Ok (regs, after)
+Leaves (Err stop) regs after meaning = meaning ≡ Err stop
+
+abbrev pub Loads : Result ℕ Stop → Regs → Done → Result (Operand × Done) Stop → Type 0
+Loads (Ok x) regs after meaning = meaning ≡ Ok (record { value = x; regs = regs }, after)
+Loads (Err stop) regs after meaning = meaning ≡ Err stop
+
+abbrev pub Reaches : Result ℕ Stop → Regs → Done → Result (Loaded × Done) Stop → Type 0
+Reaches (Ok x) regs after meaning = meaning ≡ Ok (record { address = x; regs = regs }, after)
+Reaches (Err stop) regs after meaning = meaning ≡ Err stop
+
+abbrev pub Ends : Result told.Outcome Stop → Regs → Done → Result (Outcome × Done) Stop → Type 0
+Ends (Ok x) regs after meaning = meaning ≡ Ok (outcome_of x regs, after)
+Ends (Err stop) regs after meaning = meaning ≡ Err stop
+
+-- at most so many answers are taken, and at most so many bytes written
+pub record Spends (old new : Progress) (answers bytes : ℕ) : Type 0 where
+  pub used : new.used ≤ old.used + answers
+  pub written : array_vec_len new.writes ≤ array_vec_len old.writes + bytes
+
+-- there is no address error
+abbrev pub NotOdd : {A : Type 0} → Result A Stop → Type 0
+NotOdd (Ok x) = Unit {0}
+NotOdd (Err (Ask request)) = Unit {0}
+NotOdd (Err (Odd address read used)) = ⊥

@@ -1,0 +1,29 @@
+-- What an instruction comes to.
+use Rattle.std.specs.Prelude.{ℕ, Bool, false}
+use Rattle.md_word.specs.declared.regs.Regs.{Regs}
+use Rattle.m68k_exec.specs.declared.access.outcome.Outcome as told
+
+-- the registers after it, and what else there is to tell; of one that ends in an exception the
+-- registers with the program counter that it saves
+pub record Outcome : Type 0 where
+  pub regs : Regs
+  pub taken : Bool
+  pub expired : Bool
+  pub count : ℕ
+  pub cause : ℕ
+  pub stopped : Bool
+
+-- what a call told, with the registers that it left
+abbrev pub outcome_of : told.Outcome → Regs → Outcome
+outcome_of told regs = record { regs = regs; taken = told.taken; expired = told.expired; count = told.count; cause = told.cause; stopped = told.stopped }
+
+abbrev pub told_nothing : told.Outcome
+told_nothing = record { taken = false; expired = false; count = 0; cause = 0; stopped = false }
+
+abbrev pub ended_in : ℕ → told.Outcome
+ended_in cause = record told_nothing { cause = cause }
+
+-- the registers, and nothing else to tell
+abbrev pub plain : Regs → Outcome
+plain regs =
+    record { regs = regs; taken = false; expired = false; count = 0; cause = 0; stopped = false }

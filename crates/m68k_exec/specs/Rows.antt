@@ -1,0 +1,20 @@
+-- The instructions, by the rows of the table of instructions.
+pub mod Arithmetic
+pub mod Bits
+pub mod Branches
+pub mod Comparisons
+pub mod Control
+pub mod Immediates
+pub mod Links
+pub mod Movem
+pub mod Movep
+pub mod Moves
+pub mod Multiprecision
+pub mod Products
+pub mod Quotients
+pub mod Registers
+pub mod Setting
+pub mod Shifts
+pub mod Single
+pub mod Status
+pub mod Turns

@@ -1,0 +1,5 @@
+-- A sample: an instruction, an exception, a trace or an interrupt.
+pub mod Bounds
+pub mod Entries
+pub mod Execution
+pub mod Samples

@@ -1,0 +1,171 @@
+ghost use Rattle.std.specs.Prelude.{◌≡◌, ◌+◌, ◌<◌, ◌≤◌, ◌%◌, length, slice_index};
+ghost use Rattle.arrayvec.specs.ArrayVec.{array_vec_len};
+ghost use Rattle.m68k_exec.specs.Access.Actions as actions;
+ghost use Rattle.m68k_exec.specs.Access.Clauses.{Spends, done_of, memory_of};
+ghost use Rattle.m68k_exec.specs.Access.Memory as memory;
+
+use crate::{Around, Progress};
+
+/// The first address of the work RAM, which is repeated up to the last address.
+const WORK_RAM: u32 = 0xe0_0000;
+
+/// The byte that is read where nothing answers.
+const OPEN_BUS: u8 = 0xff;
+
+/// The address on the bus, of 24 bits.
+pub fn bus_address(address: u32) -> u32
+    ensures value { result ≡ memory.bus_address address }
+    ensures below { result < 0x100_0000 }
+    ensures parity { result % 2 ≡ address % 2 }
+{
+    address % 0x100_0000
+}
+
+/// Whether an address on the bus is shared with other chips.
+#[tactic(auto, unfolding(crate::specs::Access::Memory::is_shared))]
+pub fn is_shared(at: u32) -> bool
+    ensures { result ≡ memory.is_shared at }
+{
+    matches!(
+        at,
+        0xa0_0000..=0xa0_ffff
+            | 0xa1_0000..=0xa1_001f
+            | 0xa1_1100..=0xa1_1101
+            | 0xa1_1200..=0xa1_1201
+            | 0xc0_0000..=0xc0_001f
+    )
+}
+
+/// A byte outside the shared addresses, before the instruction.
+#[tactic(auto, unfolding(crate::specs::Access::Memory::byte_at))]
+fn byte_at(at: u32, rom: &[u8], ram: &[u8; 65536]) -> u8
+    ensures { result ≡ memory.byte_at rom.now ram.now at }
+{
+    if at >= WORK_RAM {
+        ram[(at % 0x1_0000) as usize]
+    } else if (at as usize) < rom.len() {
+        rom[at as usize]
+    } else {
+        OPEN_BUS
+    }
+}
+
+/// A word outside the shared addresses, before the instruction.
+#[tactic(auto, unfolding(crate::specs::Access::Memory::word_at))]
+pub fn word_at(at: u32, rom: &[u8], ram: &[u8; 65536]) -> u16
+    requires { at < 0x100_0000 }
+    ensures { result ≡ memory.word_at rom.now ram.now at }
+{
+    u16::from(byte_at(at, rom, ram)) * 0x100 + u16::from(byte_at(at + 1, rom, ram))
+}
+
+/// A word of an instruction, which is no access: at an odd address FFFFh.
+#[tactic(auto, unfolding(crate::specs::Access::Memory::instruction_word))]
+fn instruction_word(address: u32, around: &Around) -> u16
+    ensures { result ≡ memory.instruction_word address (memory_of around.now) }
+{
+    if address % 2 == 0 {
+        word_at(bus_address(address), around.rom, around.ram)
+    } else {
+        0xffff
+    }
+}
+
+/// A word of an instruction that lies in the cartridge.
+#[tactic(auto, unfolding(crate::specs::Access::Memory::instruction_word, crate::specs::Access::Memory::word_at, crate::specs::Access::Memory::byte_at))]
+fn cartridge_word(address: u32, around: &Around) -> u16
+    requires even { address % 2 ≡ 0 }
+    requires below { address % 0x100_0000 + 1 < 0xe0_0000 }
+    requires within { address % 0x100_0000 + 1 < length around.now.rom.now }
+    ensures { result ≡ memory.instruction_word address (memory_of around.now) }
+{
+    let at = bus_address(address) as usize;
+    u16::from(around.rom[at]) * 0x100 + u16::from(around.rom[at + 1])
+}
+
+/// As many words as the longest instruction has, from an address on. None is an access; at an odd
+/// address, and outside the cartridge and work RAM, each is FFFFh.
+#[tactic(auto, unfolding(crate::specs::Access::Memory::instruction_words))]
+pub fn instruction_words(address: u32, around: &Around) -> [u16; 5]
+    ensures { result ≡ memory.instruction_words address (memory_of around.now) }
+{
+    let at = bus_address(address);
+    if address % 2 == 0 && at < WORK_RAM - 10 && (at as usize) + 10 <= around.rom.len() {
+        [
+            cartridge_word(address, around),
+            cartridge_word(address.wrapping_add(2), around),
+            cartridge_word(address.wrapping_add(4), around),
+            cartridge_word(address.wrapping_add(6), around),
+            cartridge_word(address.wrapping_add(8), around),
+        ]
+    } else {
+        [
+            instruction_word(address, around),
+            instruction_word(address.wrapping_add(2), around),
+            instruction_word(address.wrapping_add(4), around),
+            instruction_word(address.wrapping_add(6), around),
+            instruction_word(address.wrapping_add(8), around),
+        ]
+    }
+}
+
+/// A byte of work RAM as these writes have left it: the latest counts.
+fn ram_byte(at: u32, ram: &[u8; 65536], writes: &[(u32, u8)]) -> u8
+    ensures { result ≡ slice_index (memory.ram_after ram.now writes.now) (memory.ram_place at) }
+{
+    let place = at % 0x1_0000;
+    let mut byte = ram[place as usize];
+    'writes: for (written, value) in writes {
+        if *written % 0x1_0000 == place {
+            byte = *value;
+        }
+    }
+    byte
+}
+
+/// What a private read of a byte sees, with the instruction's own writes.
+#[tactic(auto, unfolding(crate::specs::Access::Actions::byte_seen, crate::specs::Access::Memory::byte_at))]
+pub fn byte_seen(at: u32, around: &Around, progress: &Progress) -> u8
+    ensures { result ≡ actions.byte_seen at (memory_of around.now) (done_of progress.now) }
+{
+    if at >= WORK_RAM {
+        ram_byte(at, around.ram, progress.writes.as_slice())
+    } else {
+        byte_at(at, around.rom, around.ram)
+    }
+}
+
+/// What a private read of a word sees, with the instruction's own writes.
+#[tactic(auto, unfolding(crate::specs::Access::Actions::word_seen, crate::specs::Access::Actions::byte_seen, crate::specs::Access::Memory::word_at))]
+pub fn word_seen(at: u32, around: &Around, progress: &Progress) -> u16
+    requires { at < 0x100_0000 }
+    ensures { result ≡ actions.word_seen at (memory_of around.now) (done_of progress.now) }
+{
+    let high = byte_seen(at, around, progress);
+    let low = byte_seen(at + 1, around, progress);
+    u16::from(high) * 0x100 + u16::from(low)
+}
+
+/// Notes a private write of a byte, which is lost outside work RAM.
+#[tactic(auto, unfolding(crate::specs::Access::Actions::with_byte))]
+pub fn put_byte(at: u32, value: u8, progress: &mut Progress)
+    requires { array_vec_len progress.old.writes + 1 ≤ 80 }
+    ensures value { done_of progress.new ≡ actions.with_byte at value (done_of progress.old) }
+    ensures spent { Spends progress.old progress.new 0 1 }
+{
+    if at >= WORK_RAM {
+        progress.writes.push((at, value));
+    }
+}
+
+/// Notes a private write of a word, its high byte first.
+#[tactic(auto, unfolding(crate::specs::Access::Actions::with_word))]
+pub fn put_word(at: u32, value: u16, progress: &mut Progress)
+    requires at { at < 0x100_0000 }
+    requires room { array_vec_len progress.old.writes + 2 ≤ 80 }
+    ensures value { done_of progress.new ≡ actions.with_word at value (done_of progress.old) }
+    ensures spent { Spends progress.old progress.new 0 2 }
+{
+    put_byte(at, (value / 0x100) as u8, progress);
+    put_byte(at + 1, (value % 0x100) as u8, progress);
+}

@@ -1,0 +1,149 @@
+ghost use Rattle.std.specs.Prelude.{◌≡◌, ◌+◌, ◌*◌, ◌<◌, ◌≤◌, IfOk, ◌%◌};
+ghost use Rattle.arrayvec.specs.ArrayVec.{array_vec_len};
+ghost use Rattle.md_word.specs.Width.{modulus_of};
+ghost use Rattle.m68k_exec.specs.Access.Clauses.{Ends, Meets, done_of, memory_of};
+ghost use Rattle.m68k_exec.specs.Rows.Movep as movep;
+
+use crate::access::{read_byte, write_byte};
+use crate::access::operands::{effective, set_part};
+use crate::{Around, Outcome, Progress, Stop};
+use md_word::{Mode, Regs, Size};
+
+/// Reads a word whose bytes stand at every other address, the high byte first.
+#[tactic(auto, unfolding(crate::specs::Rows::Movep::spread_word))]
+fn spread_word(at: u32, around: &Around, progress: &mut Progress) -> Result<u16, Stop>
+    ensures value { Meets result (done_of progress.new) (movep.spread_word at (memory_of around.now) (done_of progress.old)) }
+    ensures written { array_vec_len progress.new.writes ≤ array_vec_len progress.old.writes }
+{
+    let high = read_byte(at, around, progress)?;
+    let low = read_byte(at.wrapping_add(2), around, progress)?;
+    Ok(u16::from(high) * 0x100 + u16::from(low))
+}
+
+/// Reads a long whose bytes stand at every other address, the highest byte first.
+#[tactic(auto, unfolding(crate::specs::Rows::Movep::spread_long))]
+fn spread_long(at: u32, around: &Around, progress: &mut Progress) -> Result<u32, Stop>
+    ensures value { Meets result (done_of progress.new) (movep.spread_long at (memory_of around.now) (done_of progress.old)) }
+    ensures written { array_vec_len progress.new.writes ≤ array_vec_len progress.old.writes }
+{
+    let high = spread_word(at, around, progress)?;
+    let low = spread_word(at.wrapping_add(4), around, progress)?;
+    Ok(u32::from(high) * 0x1_0000 + u32::from(low))
+}
+
+/// Reads a value of a size whose bytes stand at every other address.
+fn read_spread(size: Size, at: u32, around: &Around, progress: &mut Progress) -> Result<u32, Stop>
+    ensures value { Meets result (done_of progress.new) (movep.read_spread size at (memory_of around.now) (done_of progress.old)) }
+    ensures below { IfOk result (λ value. value < modulus_of size) }
+    ensures written { array_vec_len progress.new.writes ≤ array_vec_len progress.old.writes }
+{
+    match size {
+        Size::Byte => Ok(u32::from(read_byte(at, around, progress)?)),
+        Size::Word => Ok(u32::from(spread_word(at, around, progress)?)),
+        Size::Long => spread_long(at, around, progress),
+    }
+}
+
+/// Writes the bytes of a word to every other address, the high byte first.
+#[tactic(auto, unfolding(crate::specs::Rows::Movep::write_spread_word))]
+fn write_spread_word(
+    at: u32,
+    value: u16,
+    around: &Around,
+    progress: &mut Progress,
+) -> Result<(), Stop>
+    requires { array_vec_len progress.old.writes + 2 ≤ 80 }
+    ensures value { Meets result (done_of progress.new) (movep.write_spread_word at value (memory_of around.now) (done_of progress.old)) }
+    ensures written { array_vec_len progress.new.writes ≤ array_vec_len progress.old.writes + 2 }
+{
+    write_byte(at, (value / 0x100) as u8, around, progress)?;
+    write_byte(at.wrapping_add(2), (value % 0x100) as u8, around, progress)
+}
+
+/// Writes the bytes of a long to every other address, the highest byte first.
+#[tactic(auto, unfolding(crate::specs::Rows::Movep::write_spread_long))]
+fn write_spread_long(
+    at: u32,
+    value: u32,
+    around: &Around,
+    progress: &mut Progress,
+) -> Result<(), Stop>
+    requires { array_vec_len progress.old.writes + 4 ≤ 80 }
+    ensures value { Meets result (done_of progress.new) (movep.write_spread_long at value (memory_of around.now) (done_of progress.old)) }
+    ensures written { array_vec_len progress.new.writes ≤ array_vec_len progress.old.writes + 4 }
+{
+    write_spread_word(at, (value / 0x1_0000) as u16, around, progress)?;
+    write_spread_word(
+        at.wrapping_add(4),
+        (value % 0x1_0000) as u16,
+        around,
+        progress,
+    )
+}
+
+/// Writes the bytes of a value of a size to every other address.
+fn write_spread(
+    size: Size,
+    at: u32,
+    value: u32,
+    around: &Around,
+    progress: &mut Progress,
+) -> Result<(), Stop>
+    requires value { value < modulus_of size }
+    requires room { array_vec_len progress.old.writes + 4 ≤ 80 }
+    ensures value { Meets result (done_of progress.new) (movep.write_spread size at value (memory_of around.now) (done_of progress.old)) }
+    ensures written { array_vec_len progress.new.writes ≤ array_vec_len progress.old.writes + 4 }
+{
+    match size {
+        Size::Byte => write_byte(at, value as u8, around, progress),
+        Size::Word => write_spread_word(at, value as u16, around, progress),
+        Size::Long => write_spread_long(at, value, around, progress),
+    }
+}
+
+/// MOVEP d16(Ay),Dx: x, y and the displacement.
+#[tactic(auto, unfolding(crate::specs::Rows::Movep::movep_to_register))]
+pub fn movep_to_register(
+    size: Size,
+    x: u8,
+    y: u8,
+    by: u16,
+    start: u32,
+    around: &Around,
+    regs: &mut Regs,
+    progress: &mut Progress,
+) -> Result<Outcome, Stop>
+    requires x { x < 8 }
+    requires y { y < 8 }
+    ensures value { Ends result regs.new (done_of progress.new) (movep.movep_to_register size x y by start regs.old (memory_of around.now) (done_of progress.old)) }
+    ensures written { array_vec_len progress.new.writes ≤ array_vec_len progress.old.writes }
+{
+    let at = effective(Mode::Displaced(y, by), size, start.wrapping_add(2), regs);
+    let value = read_spread(size, at, around, progress)?;
+    set_part(size, x, value, regs);
+    Ok(Outcome::plain())
+}
+
+/// MOVEP Dx,d16(Ay): x, y and the displacement.
+#[tactic(auto, unfolding(crate::specs::Rows::Movep::movep_to_memory))]
+pub fn movep_to_memory(
+    size: Size,
+    x: u8,
+    y: u8,
+    by: u16,
+    start: u32,
+    around: &Around,
+    regs: &Regs,
+    progress: &mut Progress,
+) -> Result<Outcome, Stop>
+    requires x { x < 8 }
+    requires y { y < 8 }
+    requires fresh { array_vec_len progress.old.writes ≡ 0 }
+    ensures value { Ends result regs.now (done_of progress.new) (movep.movep_to_memory size x y by start regs.now (memory_of around.now) (done_of progress.old)) }
+    ensures written { array_vec_len progress.new.writes ≤ array_vec_len progress.old.writes + 4 }
+{
+    let at = effective(Mode::Displaced(y, by), size, start.wrapping_add(2), regs);
+    let value = size.low(regs.register(x));
+    write_spread(size, at, value, around, progress)?;
+    Ok(Outcome::plain())
+}
