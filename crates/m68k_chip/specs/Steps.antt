@@ -1,0 +1,26 @@
+-- What a step of the processor tells the chip.
+use Rattle.std.specs.Prelude.{◌≡◌, ℕ, List, Result, Ok, Err}
+use Rattle.md_word.specs.declared.main_bus.Request68.{Request68}
+use Rattle.md_word.specs.declared.regs.Regs.{Regs}
+use Rattle.m68k_exec.specs.Sample.Samples.{Ended}
+use Rattle.m68k_exec.specs.declared.access.stop.Stop.{Stop}
+use Rattle.m68k_exec.specs.declared.access.stop.Stop.TheVariants.{Ask, Odd}
+use Rattle.m68k_exec.specs.declared.sample.step.Finish.{Finish}
+
+-- what a finish tells, with the registers and the bytes written then
+abbrev pub ended_by : Finish → Regs → List (ℕ × ℕ) → Ended
+ended_by finish regs writes = record {
+  op = finish.op;
+  regs = regs;
+  writes = writes;
+  spent = finish.spent;
+  stopped = finish.stopped;
+  halted = finish.halted;
+  trace = finish.trace;
+}
+
+-- the request that waits, where one does
+abbrev pub IsTold : Result Ended Stop → Request68 → Type 0
+IsTold (Ok ended) request = Unit {0}
+IsTold (Err (Ask asked)) request = request ≡ asked
+IsTold (Err (Odd address read used)) request = Unit {0}

@@ -1,0 +1,32 @@
+ghost use Rattle.std.specs.Prelude.{◌≡◌};
+ghost use Rattle.m68k_chip.specs.Cases as cases;
+
+/// What the 68000 does at a sample.
+#[derive(Clone, Copy)]
+pub enum Case {
+    /// It is halted, and does nothing.
+    Halted,
+    /// A trace is pending.
+    Trace,
+    /// An interrupt of this level is taken.
+    Interrupt(u8),
+    /// It is stopped, and does nothing.
+    Stopped,
+    /// The instruction at the program counter.
+    Instruction,
+}
+
+impl Case {
+    /// What the sample carries out: 0 the instruction, 1 to 7 an interrupt of that level, 8 a
+    /// trace.
+    pub fn cause(self) -> Option<u8>
+        ensures { result ≡ cases.cause_of self }
+    {
+        match self {
+            Case::Halted | Case::Stopped => None,
+            Case::Trace => Some(8),
+            Case::Interrupt(level) => Some(level),
+            Case::Instruction => Some(0),
+        }
+    }
+}

@@ -1,0 +1,150 @@
+ghost use Rattle.std.specs.Prelude.{◌≡◌, ◌^◌, ◌<◌, ◌≤◌, true, false, replicate, IfOk};
+
+use crate::case::Case;
+use crate::sequencer::Sequencer;
+use crate::stage::Stage;
+use m68k_exec::Progress;
+use md_word::{Answer68, Key, Next, NoMemory, Pins68, Regs, Request68};
+use rom_header::Cart;
+use std::alloc::Global;
+use std::marker::Model;
+use std::sync::Arc;
+
+/// The 68000, with the cartridge and the work RAM, which no other chip reaches. It stands at its
+/// next event, and what it does without other chips belongs to the event before. Cycles are master
+/// cycles, 7 a clock. Source: M68000 Programmer's Reference Manual; M68000 User's Manual, sections
+/// 5, 6 and 8; the places of events are this project's profile.
+#[derive(Drop)]
+pub struct Chip68 {
+    cart: Arc<Cart>,
+    ram: Box<[u8; 65536]>,
+    sequencer: Sequencer,
+    progress: Progress,
+}
+
+impl Model for Chip68 {
+    ghost use Rattle.std.specs.Arc.{arc_value};
+    ghost use Rattle.m68k_chip.specs.Sound.{Chip68Value};
+    ghost use Rattle.m68k_chip.specs.States.{state_of};
+    ghost use Rattle.m68k_chip.specs.Held.{IsHeld};
+
+    ghost Value = { Chip68Value };
+
+    ghost view = { λ chip. record { cart = arc_value chip.cart; state = state_of chip.sequencer chip.ram.value } };
+
+    ghost invariant = { λ chip. IsHeld (record { cart = arc_value chip.cart; state = state_of chip.sequencer chip.ram.value }) chip.sequencer.request };
+}
+
+impl Chip68 {
+    ghost use Rattle.std.specs.Arc.{arc_value};
+    ghost use Rattle.m68k_chip.specs.Cases.{begins_at, case_of};
+    ghost use Rattle.m68k_chip.specs.Events.{answered, begun, request_of};
+    ghost use Rattle.m68k_chip.specs.Sound.{Fits, IsChip68};
+    ghost use Rattle.m68k_chip.specs.States.{next_of, power_on};
+
+    /// The 68000 at power-on: its next event is a sample at cycle 0. The supervisor's stack pointer
+    /// is the long at 0 of the cartridge and the program counter the long at 4; SR is 2700h, and all
+    /// else 0. It is refused where there is no memory for the work RAM.
+    pub fn power_on(alloc: Global, cart: Arc<Cart>) -> Result<Chip68, NoMemory>
+        ensures { IfOk result (λ chip. chip ≡ record { cart = arc_value cart; state = power_on (arc_value cart) }) }
+    {
+        let ram = zeroed(alloc)?;
+        let sequencer = Sequencer::power_on(cart.bytes());
+        Ok(Chip68 {
+            cart,
+            ram,
+            sequencer,
+            progress: Progress::new(),
+        })
+    }
+
+    /// The next event. The 68000 is chip 0.
+    #[tactic(auto, unfolding(crate::specs::States::next_of))]
+    pub fn next(&self) -> Next
+        ensures value { result ≡ next_of self.now.state }
+        ensures sound { IsChip68 self.now }
+    {
+        Next {
+            key: Key {
+                cycle: self.sequencer.next,
+                chip: 0,
+            },
+            sample: matches!(self.sequencer.stage, Stage::Sample),
+        }
+    }
+
+    /// The access that is the next event.
+    #[tactic(auto, unfolding(crate::specs::Events::request_of))]
+    pub fn request(&self) -> Request68
+        requires { (next_of self.now.state).sample ≡ false }
+        ensures { result ≡ request_of self.now.cart self.now.state }
+    {
+        self.sequencer.asked(&self.cart, &self.ram)
+    }
+
+    /// Takes the answer to the access that is the next event, and goes on to the event after it.
+    /// Work RAM is written once all accesses of an instruction are answered, and not before.
+    pub fn answer(&mut self, answer: Answer68)
+        requires asking { (next_of self.old.state).sample ≡ false }
+        requires far { self.old.state.next < 2 ^ 50 }
+        requires fits { Fits (request_of self.old.cart self.old.state) answer }
+        ensures { self.new ≡ record self.old { state = answered self.old.cart self.old.state answer } }
+    {
+        self.sequencer.answer(&answer, &self.cart, &mut self.ram, &mut self.progress);
+    }
+
+    /// Takes the sample that is the next event, and goes on to the event after it: a pending trace,
+    /// an interrupt above the mask, or the instruction at the program counter, up to the first
+    /// shared access if there is one. Where it is halted or stopped, the next sample follows 28
+    /// cycles later.
+    pub fn sample(&mut self, pins: Pins68)
+        requires sampling { (next_of self.old.state).sample ≡ true }
+        requires far { self.old.state.next < 2 ^ 50 }
+        ensures { self.new ≡ record self.old { state = begun self.old.cart self.old.state pins.level } }
+    {
+        self.sequencer.begin(pins.level, &self.cart, &mut self.ram, &mut self.progress);
+    }
+
+    /// The address of the instruction that the next event begins, which is a sample with these
+    /// pins; none where it does nothing, or begins a trace or an interrupt.
+    pub fn begins(&self, pins: Pins68) -> Option<u32>
+        requires { (next_of self.now.state).sample ≡ true }
+        ensures { result ≡ begins_at (case_of self.now.state pins.level) self.now.state.regs.pc }
+    {
+        match self.sequencer.case_at(pins.level) {
+            Case::Instruction => Some(self.sequencer.regs.pc),
+            Case::Halted | Case::Trace | Case::Interrupt(_) | Case::Stopped => None,
+        }
+    }
+
+    /// Where the processor is halted, the start of the instruction or exception that halted it.
+    pub fn halted(&self) -> Option<u64>
+        ensures { result ≡ self.now.state.halted }
+    {
+        self.sequencer.halted
+    }
+
+    /// The registers.
+    pub fn regs(&self) -> &Regs
+        ensures { result.now ≡ self.now.state.regs }
+    {
+        &self.sequencer.regs
+    }
+
+    /// The work RAM, which is repeated from E00000h to FFFFFFh.
+    pub fn ram(&self) -> &[u8; 65536]
+        ensures { result.now ≡ self.now.state.ram }
+    {
+        &self.ram
+    }
+}
+
+/// The work RAM at power-on.
+fn zeroed(alloc: Global) -> Result<Box<[u8; 65536]>, NoMemory>
+    ensures { IfOk result (λ ram. ram.value ≡ replicate 0x1_0000 0) }
+{
+    match Box::new(alloc, [0; 65536]) {
+        Ok(ram) => Ok(ram),
+        Err(_) => Err(NoMemory),
+    }
+}

@@ -1,0 +1,10 @@
+//! The 68000 as a chip with events: a sample of the interrupt level at the start of an instruction,
+//! an access to what other chips share, or a word of a transfer.
+#![tactic(auto)]
+
+mod case;
+mod chip;
+mod sequencer;
+mod stage;
+
+pub use chip::Chip68;
