@@ -3,13 +3,12 @@ use Rattle.std.proofs.Common.{◌≡◌, ℕ, ◌*◌, ◌/◌, ◌%◌, ◌^◌
 use Rattle.std.specs.Prelude.{IfErr, IsSome, OnOk, OnErr}
 use Rattle.md_outer.specs.Outside.{DepotState, Files, GoesOn, IsPrefix}
 use Rattle.md_machine.specs.Outputs.{journal_bytes, sound_bytes}
-use Rattle.md_top.specs.Endings.{HoldsUntil, LeavesSegments, RunCause, RunLeaves}
-use Rattle.md_top.specs.Limits.{segment_cycles, segment_end}
+use Rattle.md_top.specs.Endings.{HoldsUntil, RunCause, RunLeaves}
 use Rattle.md_top.specs.Outputs.{Adds, AddsParts, AreBegun, Holds, IsBegun, IsUnwritten, IsWriteFault, LeavesParts}
-use Rattle.md_top.specs.Runs.{FewEvents, entries_to, journal_of, levels_to, sound_of, sound_until, unbuilt}
+use Rattle.md_top.specs.Runs.{FewEvents, entries_to, journal_of, levels_to, sound_of, sound_until}
 use Rattle.md_top.specs.Words.{Run}
 use Rattle.md_top.specs.declared.ending.Ending.{Ending}
-use Rattle.md_top.specs.declared.ending.Ending.TheVariants.{Done, NotBuilt, SoundFault, JournalFault, Memory}
+use Rattle.md_top.specs.declared.ending.Ending.TheVariants.{Done, SoundFault, JournalFault, Memory}
 use Rattle.md_top.specs.declared.outputs.Outputs.{Outputs}
 use Rattle.md_top.proofs.Puts.{rose_later}
 use Rattle.md_top.proofs.Segments.{journal-first, journal-grows, sound-grows, sound-next}
@@ -72,21 +71,6 @@ segment-parts run cart first old new at to pairs records few within small more_s
     (subst (λ (l : List ℕ). IsPrefix l (journal_of cart run.cycles)) (sym (journal-next cart at to records more_journal))
     (journal-grows cart to run.cycles few small within))
 
--- the segments before an opcode that is not built
-clash : {met : ℕ × ℕ} → None ≡ Some met → ⊥
-clash same = cc
-
-pub segments-left : (run : Run) (cart : List ℕ) (first files : Files) (at : ℕ) (met : ℕ × ℕ) → at % segment_cycles ≡ 0 → unbuilt cart at ≡ None
-    → unbuilt cart (segment_end at run.cycles) ≡ Some met → HoldsUntil cart run first files at → LeavesSegments cart run first files
-segments-left run cart first files at met whole before is holds =
-    let same : at ≡ at / segment_cycles * segment_cycles = omega (arith, whole) in
-    record {
-      segments = at / segment_cycles;
-      before = subst (λ (n : ℕ). unbuilt cart n ≡ None) same before;
-      met = λ none. clash (sym none ∙ subst (λ (n : ℕ). unbuilt cart (segment_end n run.cycles) ≡ Some met) same is);
-      files = subst (λ (n : ℕ). HoldsUntil cart run first files n) same holds;
-    }
-
 -- WHY IT STOPS
 
 pub fault-cause : (cart : List ℕ) (run : Run) (old new : DepotState) (ending : Ending) → IsWriteFault run old new ending → RunCause cart run old new ending
@@ -102,8 +86,7 @@ unwritten-cause cart run old new _ fault = absurd fault
 
 -- a cause from later on is one from before
 pub cause-before : (cart : List ℕ) (run : Run) (old mid new : DepotState) (ending : Ending) → GoesOn old mid → RunCause cart run mid new ending → RunCause cart run old new ending
-cause-before cart run old mid new (Done accesses) on cause = cause
-cause-before cart run old mid new (NotBuilt opcode address) on cause = cause
+cause-before cart run old mid new (Done accesses halted) on cause = cause
 cause-before cart run old mid new Memory on cause = tt
 cause-before cart run old mid new SoundFault on cause = (cause.0, rose_later old.write_faults mid.write_faults new.write_faults on.writes cause.1)
 cause-before cart run old mid new JournalFault on cause = (cause.0, rose_later old.write_faults mid.write_faults new.write_faults on.writes cause.1)

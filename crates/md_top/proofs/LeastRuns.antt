@@ -6,9 +6,8 @@ use Rattle.md_word.specs.declared.event.Entry.{Entry}
 use Rattle.md_machine.specs.Console.{AllBelow, Console, IsRunTo, journal, key_in, levels, mover, power_on, ran}
 use Rattle.md_machine.specs.Movers.{mover-lt}
 use Rattle.md_machine.proofs.Joined.{journal-add, levels-add}
-use Rattle.md_machine.proofs.Kept.{unbuilt-stays}
 use Rattle.md_machine.proofs.LeastKeys.{least-cycle}
-use Rattle.md_top.specs.Runs.{FewEvents, entries_to, is_quiet, levels_to, moves_to, run_to, unbuilt}
+use Rattle.md_top.specs.Runs.{FewEvents, entries_to, is_quiet, levels_to, moves_to, run_to}
 use Rattle.md_top.proofs.Least.{least-below, least-found, least-is, least-le}
 
 passes : (end cycle : ℕ) → end ≤ cycle → nat_le end cycle ≡ true
@@ -107,11 +106,3 @@ later cart s t few small within =
       more_entries = ap (journal (power_on cart)) between ∙ journal-add (power_on cart) (moves_to cart s) (moves_to cart t - moves_to cart s);
       more_levels = ap (levels (power_on cart)) between ∙ levels-add (power_on cart) (moves_to cart s) (moves_to cart t - moves_to cart s);
     }
-
--- an opcode that is not built and was met is told at later cycles
-pub unbuilt-later : (cart : List ℕ) (s t : ℕ) → FewEvents cart → t ≤ 2 ^ 50 → s ≤ t → {met : ℕ × ℕ} → unbuilt cart s ≡ Some met → unbuilt cart t ≡ Some met
-unfolding unbuilt
-unbuilt-later cart s t few small within {met} is =
-    let on : moves_to cart s ≤ moves_to cart t = moves-later cart s t few small within in
-    let between : moves_to cart t ≡ moves_to cart s + (moves_to cart t - moves_to cart s) = omega (arith, on) in
-    ap (λ (n : ℕ). (ran (power_on cart) n).cpu.unbuilt) between ∙ unbuilt-stays (power_on cart) (moves_to cart s) (moves_to cart t - moves_to cart s) met is

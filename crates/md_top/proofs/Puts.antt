@@ -1,5 +1,5 @@
 -- Texts that are put one behind the other.
-use Rattle.std.proofs.Common.{ℕ, ◌≤◌, List, ◌++◌, Result, Ok, Err, ◌⊎◌, inl, inr, ap, ◌∙◌, sym, append_assoc, arith}
+use Rattle.std.proofs.Common.{ℕ, ◌≤◌, List, [], ◌++◌, Result, Ok, Err, ◌⊎◌, inl, inr, ap, ◌∙◌, sym, append-nil, append_assoc, arith}
 use Rattle.md_top.specs.Answers.{PutsAll, PutsPart}
 use Rattle.md_outer.specs.Outside.{IsPrefix, PutsText, Rose, SinkState}
 
@@ -31,6 +31,10 @@ puts_on told first second old mid new (Err fault) one two = record {
     (two.part t).2 ∙ ap (λ (l : List ℕ). l ++ (two.part t).0) (one.whole t) ∙ append_assoc old.bytes first (two.part t).0,
   );
 }
+
+-- no text is put without a call
+pub puts_none : {E : Type 0} (told : Type 0) (old : SinkState) → PutsText {E = E} told [] old old (Ok tt)
+puts_none told old = record { later = omega arith; whole = λ t. sym (append-nil old.bytes); failed = tt; part = tt }
 
 -- no second text behind one that failed
 pub puts_stop : {E F : Type 0} (told : Type 0) (first second : List ℕ) (old new : SinkState) (e : E) (f : F)

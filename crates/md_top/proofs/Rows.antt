@@ -9,12 +9,12 @@ use Rattle.rom_header.specs.declared.cart.CartFault.{CartFault}
 use Rattle.md_outer.specs.Outside.{DepotState, Files, Rose, SinkState, with_file}
 use Rattle.md_top.specs.Answers.{Causes, NoFaults, Reports}
 use Rattle.md_top.specs.Limits.{IsEnd, last_cycle, segment_cycles}
-use Rattle.md_top.specs.Runs.{entries_to, journal_of, sound_of, sound_until, unbuilt}
-use Rattle.md_top.specs.Endings.{HasCause, IsAccepted, LeavesFiles, cart_ending, cart_limit, cart_of, file_ending, met_ending, right_ending, run_ending, status_of}
+use Rattle.md_top.specs.Runs.{entries_to, halted_in, journal_of, sound_of, sound_until}
+use Rattle.md_top.specs.Endings.{HasCause, IsAccepted, LeavesFiles, cart_ending, cart_limit, cart_of, file_ending, right_ending, run_ending, status_of}
 use Rattle.md_top.specs.Outputs.{LeavesParts, with_part, written}
 use Rattle.md_top.specs.Words.{Run}
 use Rattle.md_top.specs.declared.ending.Ending.{Ending}
-use Rattle.md_top.specs.declared.ending.Ending.TheVariants.{Done, Usage, TooFar, ReadFault, TooLong, CartRefused, Behind, NotBuilt, SoundFault, JournalFault, Memory}
+use Rattle.md_top.specs.declared.ending.Ending.TheVariants.{Done, Usage, TooFar, ReadFault, TooLong, CartRefused, Behind, SoundFault, JournalFault, Memory}
 
 -- the right ending behind each kind of file
 not_below : (limit n : ℕ) → n ≤ limit → nat_lt limit n ≡ false
@@ -55,23 +55,13 @@ right_run run files near accepted = right_near run files near ∙ right_accepted
 
 right_behind : (run : Run) (files : Files) → run.cycles ≡ 0 → IsAccepted (files run.rom) → right_ending (Some run) files ≡ Behind
 right_behind run files zero accepted =
-    right_run run files (omega (arith, zero)) accepted ∙ ap (λ (n : ℕ). cond (n == 0) Behind (met_ending (unbuilt (cart_of run files) n) (length (entries_to (cart_of run files) n)))) zero
+    right_run run files (omega (arith, zero)) accepted ∙ ap (λ (n : ℕ). cond (n == 0) Behind (Done (length (entries_to (cart_of run files) n)) (halted_in (cart_of run files) n))) zero
 
-right_met : (run : Run) (files : Files) → IsEnd run.cycles → IsAccepted (files run.rom)
-    → right_ending (Some run) files ≡ met_ending (unbuilt (cart_of run files) run.cycles) (length (entries_to (cart_of run files) run.cycles))
-right_met run files end accepted =
+right_done : (run : Run) (files : Files) → IsEnd run.cycles → IsAccepted (files run.rom)
+    → right_ending (Some run) files ≡ Done (length (entries_to (cart_of run files) run.cycles)) (halted_in (cart_of run files) run.cycles)
+right_done run files end accepted =
     right_run run files end.1 accepted
-    ∙ ap (λ (b : Bool). cond b Behind (met_ending (unbuilt (cart_of run files) run.cycles) (length (entries_to (cart_of run files) run.cycles)))) (is_some_cycle run.cycles end.0)
-
-right_done : (run : Run) (files : Files) → IsEnd run.cycles → IsAccepted (files run.rom) → unbuilt (cart_of run files) run.cycles ≡ None
-    → right_ending (Some run) files ≡ Done (length (entries_to (cart_of run files) run.cycles))
-right_done run files end accepted built =
-    right_met run files end accepted ∙ ap (λ (met : Option (ℕ × ℕ)). met_ending met (length (entries_to (cart_of run files) run.cycles))) built
-
-right_not_built : (run : Run) (files : Files) (opcode address : ℕ) → IsEnd run.cycles → IsAccepted (files run.rom)
-    → unbuilt (cart_of run files) run.cycles ≡ Some (opcode, address) → right_ending (Some run) files ≡ NotBuilt opcode address
-right_not_built run files opcode address end accepted met =
-    right_met run files end accepted ∙ ap (λ (met : Option (ℕ × ℕ)). met_ending met (length (entries_to (cart_of run files) run.cycles))) met
+    ∙ ap (λ (b : Bool). cond b Behind (Done (length (entries_to (cart_of run files) run.cycles)) (halted_in (cart_of run files) run.cycles))) (is_some_cycle run.cycles end.0)
 
 right_missing : (run : Run) (files : Files) → run.cycles ≤ last_cycle → files run.rom ≡ None → right_ending (Some run) files ≡ ReadFault
 right_missing run files near missing = right_near run files near ∙ ap (λ (file : Option (List ℕ)). file_ending file (run_ending (cart_of run files) run.cycles)) missing
@@ -80,30 +70,28 @@ right_missing run files near missing = right_near run files near ∙ ap (λ (fil
 
 is_usage : (told sink : Type 0) (run : Run) (old new : DepotState) (out out' : SinkState) (status : ℕ) (ending : Ending)
     → HasCause told (Some run) old new ending → Reports sink (Some run) ending out out' status → status ≡ 2 → ⊥
-is_usage told sink run old new out out' status (Done accesses) cause (inl reports) two = omega (arith, reports.0)
-is_usage told sink run old new out out' status (Done accesses) cause (inr reports) two = omega (arith, reports.0)
+is_usage told sink run old new out out' status (Done accesses halted) cause (inl reports) two = omega (arith, reports.0)
+is_usage told sink run old new out out' status (Done accesses halted) cause (inr reports) two = omega (arith, reports.0)
 is_usage told sink run old new out out' status Usage cause reports two = absurd cause
 is_usage told sink run old new out out' status TooFar cause reports two = omega (arith, reports.0)
 is_usage told sink run old new out out' status ReadFault cause reports two = omega (arith, reports.0)
 is_usage told sink run old new out out' status TooLong cause reports two = omega (arith, reports.0)
 is_usage told sink run old new out out' status (CartRefused fault) cause reports two = omega (arith, reports.0)
 is_usage told sink run old new out out' status Behind cause reports two = omega (arith, reports.0)
-is_usage told sink run old new out out' status (NotBuilt opcode address) cause reports two = omega (arith, reports.0)
 is_usage told sink run old new out out' status SoundFault cause reports two = omega (arith, reports.0)
 is_usage told sink run old new out out' status JournalFault cause reports two = omega (arith, reports.0)
 is_usage told sink run old new out out' status Memory cause reports two = omega (arith, reports.0)
 
 is_far : (told sink : Type 0) (run : Run) (old new : DepotState) (out out' : SinkState) (status : ℕ) (ending : Ending)
     → HasCause told (Some run) old new ending → Reports sink (Some run) ending out out' status → status ≡ 11 → last_cycle < run.cycles
-is_far told sink run old new out out' status (Done accesses) cause (inl reports) eleven = absurd (omega (arith, reports.0))
-is_far told sink run old new out out' status (Done accesses) cause (inr reports) eleven = absurd (omega (arith, reports.0))
+is_far told sink run old new out out' status (Done accesses halted) cause (inl reports) eleven = absurd (omega (arith, reports.0))
+is_far told sink run old new out out' status (Done accesses halted) cause (inr reports) eleven = absurd (omega (arith, reports.0))
 is_far told sink run old new out out' status Usage cause reports eleven = absurd cause
 is_far told sink run old new out out' status TooFar cause reports eleven = cause
 is_far told sink run old new out out' status ReadFault cause reports eleven = absurd (omega (arith, reports.0))
 is_far told sink run old new out out' status TooLong cause reports eleven = absurd (omega (arith, reports.0))
 is_far told sink run old new out out' status (CartRefused fault) cause reports eleven = absurd (omega (arith, reports.0))
 is_far told sink run old new out out' status Behind cause reports eleven = absurd (omega (arith, reports.0))
-is_far told sink run old new out out' status (NotBuilt opcode address) cause reports eleven = absurd (omega (arith, reports.0))
 is_far told sink run old new out out' status SoundFault cause reports eleven = absurd (omega (arith, reports.0))
 is_far told sink run old new out out' status JournalFault cause reports eleven = absurd (omega (arith, reports.0))
 is_far told sink run old new out out' status Memory cause reports eleven = absurd (omega (arith, reports.0))
@@ -111,30 +99,28 @@ is_far told sink run old new out out' status Memory cause reports eleven = absur
 is_read_fault : (told sink : Type 0) (run : Run) (old new : DepotState) (out out' : SinkState) (status : ℕ) (ending : Ending)
     → HasCause told (Some run) old new ending → Reports sink (Some run) ending out out' status → status ≡ 3
     → Rose old.read_faults new.read_faults ⊎ (told × (old.files run.rom ≡ None))
-is_read_fault told sink run old new out out' status (Done accesses) cause (inl reports) three = absurd (omega (arith, reports.0))
-is_read_fault told sink run old new out out' status (Done accesses) cause (inr reports) three = absurd (omega (arith, reports.0))
+is_read_fault told sink run old new out out' status (Done accesses halted) cause (inl reports) three = absurd (omega (arith, reports.0))
+is_read_fault told sink run old new out out' status (Done accesses halted) cause (inr reports) three = absurd (omega (arith, reports.0))
 is_read_fault told sink run old new out out' status Usage cause reports three = absurd cause
 is_read_fault told sink run old new out out' status TooFar cause reports three = absurd (omega (arith, reports.0))
 is_read_fault told sink run old new out out' status ReadFault cause reports three = cause.1
 is_read_fault told sink run old new out out' status TooLong cause reports three = absurd (omega (arith, reports.0))
 is_read_fault told sink run old new out out' status (CartRefused fault) cause reports three = absurd (omega (arith, reports.0))
 is_read_fault told sink run old new out out' status Behind cause reports three = absurd (omega (arith, reports.0))
-is_read_fault told sink run old new out out' status (NotBuilt opcode address) cause reports three = absurd (omega (arith, reports.0))
 is_read_fault told sink run old new out out' status SoundFault cause reports three = absurd (omega (arith, reports.0))
 is_read_fault told sink run old new out out' status JournalFault cause reports three = absurd (omega (arith, reports.0))
 is_read_fault told sink run old new out out' status Memory cause reports three = absurd (omega (arith, reports.0))
 
 is_behind : (told sink : Type 0) (run : Run) (old new : DepotState) (out out' : SinkState) (status : ℕ) (ending : Ending)
     → HasCause told (Some run) old new ending → Reports sink (Some run) ending out out' status → status ≡ 9 → run.cycles ≡ 0
-is_behind told sink run old new out out' status (Done accesses) cause (inl reports) nine = absurd (omega (arith, reports.0))
-is_behind told sink run old new out out' status (Done accesses) cause (inr reports) nine = absurd (omega (arith, reports.0))
+is_behind told sink run old new out out' status (Done accesses halted) cause (inl reports) nine = absurd (omega (arith, reports.0))
+is_behind told sink run old new out out' status (Done accesses halted) cause (inr reports) nine = absurd (omega (arith, reports.0))
 is_behind told sink run old new out out' status Usage cause reports nine = absurd cause
 is_behind told sink run old new out out' status TooFar cause reports nine = absurd (omega (arith, reports.0))
 is_behind told sink run old new out out' status ReadFault cause reports nine = absurd (omega (arith, reports.0))
 is_behind told sink run old new out out' status TooLong cause reports nine = absurd (omega (arith, reports.0))
 is_behind told sink run old new out out' status (CartRefused fault) cause reports nine = absurd (omega (arith, reports.0))
 is_behind told sink run old new out out' status Behind cause reports nine = cause.0
-is_behind told sink run old new out out' status (NotBuilt opcode address) cause reports nine = absurd (omega (arith, reports.0))
 is_behind told sink run old new out out' status SoundFault cause reports nine = absurd (omega (arith, reports.0))
 is_behind told sink run old new out out' status JournalFault cause reports nine = absurd (omega (arith, reports.0))
 is_behind told sink run old new out out' status Memory cause reports nine = absurd (omega (arith, reports.0))
@@ -142,30 +128,28 @@ is_behind told sink run old new out out' status Memory cause reports nine = absu
 is_write_fault : (told sink : Type 0) (run : Run) (old new : DepotState) (out out' : SinkState) (status : ℕ) (ending : Ending)
     → HasCause told (Some run) old new ending → Reports sink (Some run) ending out out' status → status ≡ 4
     → Rose old.write_faults new.write_faults
-is_write_fault told sink run old new out out' status (Done accesses) cause (inl reports) four = absurd (omega (arith, reports.0))
-is_write_fault told sink run old new out out' status (Done accesses) cause (inr reports) four = absurd (omega (arith, reports.0))
+is_write_fault told sink run old new out out' status (Done accesses halted) cause (inl reports) four = absurd (omega (arith, reports.0))
+is_write_fault told sink run old new out out' status (Done accesses halted) cause (inr reports) four = absurd (omega (arith, reports.0))
 is_write_fault told sink run old new out out' status Usage cause reports four = absurd cause
 is_write_fault told sink run old new out out' status TooFar cause reports four = absurd (omega (arith, reports.0))
 is_write_fault told sink run old new out out' status ReadFault cause reports four = absurd (omega (arith, reports.0))
 is_write_fault told sink run old new out out' status TooLong cause reports four = absurd (omega (arith, reports.0))
 is_write_fault told sink run old new out out' status (CartRefused fault) cause reports four = absurd (omega (arith, reports.0))
 is_write_fault told sink run old new out out' status Behind cause reports four = absurd (omega (arith, reports.0))
-is_write_fault told sink run old new out out' status (NotBuilt opcode address) cause reports four = absurd (omega (arith, reports.0))
 is_write_fault told sink run old new out out' status SoundFault cause reports four = cause.2.1
 is_write_fault told sink run old new out out' status JournalFault cause reports four = cause.2.1
 is_write_fault told sink run old new out out' status Memory cause reports four = absurd (omega (arith, reports.0))
 
 is_out_fault : (sink : Type 0) (run : Run) (out out' : SinkState) (status : ℕ) (ending : Ending)
     → Reports sink (Some run) ending out out' status → status ≡ 13 → Rose out.faults out'.faults
-is_out_fault sink run out out' status (Done accesses) (inl reports) thirteen = absurd (omega (arith, reports.0))
-is_out_fault sink run out out' status (Done accesses) (inr reports) thirteen = reports.1.rose
+is_out_fault sink run out out' status (Done accesses halted) (inl reports) thirteen = absurd (omega (arith, reports.0))
+is_out_fault sink run out out' status (Done accesses halted) (inr reports) thirteen = reports.1.rose
 is_out_fault sink run out out' status Usage reports thirteen = absurd (omega (arith, reports.0))
 is_out_fault sink run out out' status TooFar reports thirteen = absurd (omega (arith, reports.0))
 is_out_fault sink run out out' status ReadFault reports thirteen = absurd (omega (arith, reports.0))
 is_out_fault sink run out out' status TooLong reports thirteen = absurd (omega (arith, reports.0))
 is_out_fault sink run out out' status (CartRefused fault) reports thirteen = absurd (omega (arith, reports.0))
 is_out_fault sink run out out' status Behind reports thirteen = absurd (omega (arith, reports.0))
-is_out_fault sink run out out' status (NotBuilt opcode address) reports thirteen = absurd (omega (arith, reports.0))
 is_out_fault sink run out out' status SoundFault reports thirteen = absurd (omega (arith, reports.0))
 is_out_fault sink run out out' status JournalFault reports thirteen = absurd (omega (arith, reports.0))
 is_out_fault sink run out out' status Memory reports thirteen = absurd (omega (arith, reports.0))
@@ -173,14 +157,13 @@ is_out_fault sink run out out' status Memory reports thirteen = absurd (omega (a
 -- where the end is too far no other ending comes
 far_only : (told sink : Type 0) (run : Run) (old new : DepotState) (out out' : SinkState) (status : ℕ) (ending : Ending)
     → HasCause told (Some run) old new ending → Reports sink (Some run) ending out out' status → last_cycle < run.cycles → status ≡ 11
-far_only told sink run old new out out' status (Done accesses) cause reports far = absurd (omega (arith, cause.0.1))
+far_only told sink run old new out out' status (Done accesses halted) cause reports far = absurd (omega (arith, cause.0.1))
 far_only told sink run old new out out' status Usage cause reports far = absurd cause
 far_only told sink run old new out out' status TooFar cause reports far = reports.0
 far_only told sink run old new out out' status ReadFault cause reports far = absurd (omega (arith, cause.0))
 far_only told sink run old new out out' status TooLong cause reports far = absurd (omega (arith, cause.0))
 far_only told sink run old new out out' status (CartRefused fault) cause reports far = absurd (omega (arith, cause.0))
 far_only told sink run old new out out' status Behind cause reports far = absurd (omega (arith, cause.0))
-far_only told sink run old new out out' status (NotBuilt opcode address) cause reports far = absurd (omega (arith, cause.0.1))
 far_only told sink run old new out out' status SoundFault cause reports far = absurd (omega (arith, cause.0.1))
 far_only told sink run old new out out' status JournalFault cause reports far = absurd (omega (arith, cause.0.1))
 far_only told sink run old new out out' status Memory cause reports far = absurd (omega (arith, cause))
@@ -189,9 +172,9 @@ far_only told sink run old new out out' status Memory cause reports far = absurd
 is_right : (told sink : Type 0) (run : Run) (old new : DepotState) (out out' : SinkState) (status : ℕ) (ending : Ending)
     → HasCause told (Some run) old new ending → Reports sink (Some run) ending out out' status → NoFaults old new out out' → told
     → (status ≡ status_of (right_ending (Some run) old.files)) ⊎ (status ≡ 10)
-is_right told sink run old new out out' status (Done accesses) (end, cause) (inl reports) clean t =
-    let c = cause t in inl (rw (right_done run old.files end c.0 c.1.0) reports.0)
-is_right told sink run old new out out' status (Done accesses) cause (inr reports) clean t = absurd (clean.puts reports.1.rose)
+is_right told sink run old new out out' status (Done accesses halted) (end, cause) (inl reports) clean t =
+    let c = cause t in inl (rw (right_done run old.files end c.0) reports.0)
+is_right told sink run old new out out' status (Done accesses halted) cause (inr reports) clean t = absurd (clean.puts reports.1.rose)
 is_right told sink run old new out out' status Usage cause reports clean t = absurd cause
 is_right told sink run old new out out' status TooFar cause reports clean t = inl (rw (right_far run old.files cause) reports.0)
 is_right told sink run old new out out' status ReadFault (near, inl rose) reports clean t = absurd (clean.reads rose)
@@ -201,15 +184,13 @@ is_right told sink run old new out out' status TooLong (near, cause) reports cle
 is_right told sink run old new out out' status (CartRefused fault) (near, cause) reports clean t =
     inl (rw (right_near run old.files near, right_refused (old.files run.rom) (run_ending (cart_of run old.files) run.cycles) fault (cause t)) reports.0)
 is_right told sink run old new out out' status Behind (zero, cause) reports clean t = inl (rw (right_behind run old.files zero (cause t)) reports.0)
-is_right told sink run old new out out' status (NotBuilt opcode address) (end, cause) reports clean t =
-    let c = cause t in inl (rw (right_not_built run old.files opcode address end c.0 c.1) reports.0)
 is_right told sink run old new out out' status SoundFault cause reports clean t = absurd (clean.writes cause.2.1)
 is_right told sink run old new out out' status JournalFault cause reports clean t = absurd (clean.writes cause.2.1)
 is_right told sink run old new out out' status Memory cause reports clean t = inr reports.0
 
-ready_ends : (status accesses : ℕ) → {right : Ending} → (status ≡ status_of right) ⊎ (status ≡ 10) → right ≡ Done accesses → (status ≡ 0) ⊎ (status ≡ 10)
-ready_ends status accesses (inl is) done = inl (is ∙ ap status_of done)
-ready_ends status accesses (inr memory) done = inr memory
+ready_ends : (status accesses : ℕ) (halted : Option ℕ) → {right : Ending} → (status ≡ status_of right) ⊎ (status ≡ 10) → right ≡ Done accesses halted → (status ≡ 0) ⊎ (status ≡ 10)
+ready_ends status accesses halted (inl is) done = inl (is ∙ ap status_of done)
+ready_ends status accesses halted (inr memory) done = inr memory
 
 is_other : (b : Bool) → (b ≡ true → ⊥) → b ≡ false
 is_other true differ = absurd (differ refl)
@@ -238,13 +219,9 @@ parts_other run old new sound journal leaves name no_sound no_journal =
 
 leaves_other : (run : Run) (old new : Files) (ending : Ending) → LeavesFiles (Some run) old new ending
     → (name : List ℕ) → run.sound ≢ Some name → run.journal ≢ Some name → new name ≡ old name
-leaves_other run old new (Done accesses) leaves name no_sound no_journal =
+leaves_other run old new (Done accesses halted) leaves name no_sound no_journal =
     ap (λ (files : Files). files name) leaves
     ∙ written_other run old (Some (sound_of (cart_of run old) run.cycles)) (Some (journal_of (cart_of run old) run.cycles)) name no_sound no_journal
-leaves_other run old new (NotBuilt opcode address) leaves name no_sound no_journal =
-    ap (λ (files : Files). files name) leaves.files
-    ∙ written_other run old (Some (sound_until (cart_of run old) run.cycles (leaves.segments * segment_cycles))) (Some (journal_of (cart_of run old) (leaves.segments * segment_cycles)))
-    name no_sound no_journal
 leaves_other run old new SoundFault leaves name no_sound no_journal =
     parts_other run old new (sound_of (cart_of run old) run.cycles) (journal_of (cart_of run old) run.cycles) leaves name no_sound no_journal
 leaves_other run old new JournalFault leaves name no_sound no_journal =
@@ -269,7 +246,7 @@ causes_of told sink run old new out out' status ending cause leaves reports = re
   out_fault = λ thirteen. is_out_fault sink run out out' status ending reports thirteen;
   exact = λ clean t. is_right told sink run old new out out' status ending cause reports clean t;
   complete = λ clean t ready.
-      ready_ends status (length (entries_to (cart_of run old.files) run.cycles))
-      (is_right told sink run old new out out' status ending cause reports clean t) (right_done run old.files ready.end ready.accepted ready.built);
+      ready_ends status (length (entries_to (cart_of run old.files) run.cycles)) (halted_in (cart_of run old.files) run.cycles)
+      (is_right told sink run old new out out' status ending cause reports clean t) (right_done run old.files ready.end ready.accepted);
   others = λ t. leaves_other run old.files new.files ending (leaves t);
 }

@@ -11,11 +11,11 @@ use Rattle.md_machine.specs.Machines.{MachineValue}
 use Rattle.md_machine.specs.Outputs.{journal_bytes, level_bytes, sound_bytes}
 use Rattle.md_machine.proofs.Counts.{entries-few, levels-counted}
 use Rattle.md_machine.proofs.Joined.{run-joined}
-use Rattle.md_machine.proofs.Kept.{cart-stays, none-met}
+use Rattle.md_machine.proofs.Kept.{cart-stays}
 use Rattle.md_top.specs.Courses.{CameTo}
 use Rattle.md_top.specs.Endings.{pairs_of}
 use Rattle.md_top.specs.Limits.{IsEnd}
-use Rattle.md_top.specs.Runs.{FewEvents, entries_to, journal_of, levels_to, moves_to, run_to, sound_until, unbuilt}
+use Rattle.md_top.specs.Runs.{FewEvents, entries_to, halted_in, journal_of, levels_to, moves_to, run_to, sound_until}
 use Rattle.md_top.proofs.LeastRuns.{Found, Later, later, moves-found, run-found, run-made}
 
 -- the bytes of records one behind the other
@@ -33,12 +33,10 @@ pub record Segment (cart : List ℕ) (at to : ℕ) (after : MachineValue) : Type
   pub same_cart : after.console.cart ≡ cart
   pub entries : entries_to cart to ≡ entries_to cart at ++ after.entries
   pub levels : levels_to cart to ≡ levels_to cart at ++ after.levels
-  pub met : after.console.cpu.unbuilt ≡ unbuilt cart to
 
 pub segment : (cart : List ℕ) (at to : ℕ) (before : Console) (after : MachineValue) → FewEvents cart → to ≤ 2 ^ 50 → at ≤ to
     → IsRunTo (power_on cart) at before (entries_to cart at) (levels_to cart at) → IsRunTo before to after.console after.entries after.levels
     → Segment cart at to after
-unfolding unbuilt
 segment cart at to before after few small within first second =
     let whole : IsRunTo (power_on cart) to after.console (entries_to cart at ++ after.entries) (levels_to cart at ++ after.levels) =
     run-joined (power_on cart) before after.console at to (entries_to cart at) after.entries (levels_to cart at) after.levels within first second in
@@ -49,7 +47,6 @@ segment cart at to before after few small within first second =
       same_cart = ap (λ (m : Console). m.cart) whole.console ∙ cart-stays (power_on cart) whole.moves;
       entries = sym found.entered;
       levels = sym found.heard_to;
-      met = ap (λ (m : Console). m.cpu.unbuilt) found.console;
     }
 
 -- a run has no more entries than cycles and chips
@@ -92,10 +89,6 @@ pub no-levels : (cart : List ℕ) → FewEvents cart → levels_to cart 0 ≡ []
 unfolding levels_to levels
 no-levels cart few = ap (levels (power_on cart)) (no-moves cart few)
 
-none-built : (cart : List ℕ) → FewEvents cart → unbuilt cart 0 ≡ None
-unfolding unbuilt ran
-none-built cart few = ap (λ (n : ℕ). (ran (power_on cart) n).cpu.unbuilt) (no-moves cart few) ∙ none-met cart
-
 pub start : (cart : List ℕ) → FewEvents cart → CameTo cart (record { at = 0; console = power_on cart; entries = []; levels = [] }) 0
 unfolding ran
 start cart few = record {
@@ -104,17 +97,16 @@ start cart few = record {
   entries = refl;
   levels = refl;
   counted = sym (ap length (no-entries cart few));
-  built = none-built cart few;
 }
 
 -- behind a segment
 pub came-to : (cart : List ℕ) (at to accesses : ℕ) (after machine : MachineValue) → FewEvents cart → Segment cart at to after
-    → machine ≡ record { at = to; console = after.console; entries = []; levels = [] } → accesses ≡ length (entries_to cart to) → unbuilt cart to ≡ None
+    → machine ≡ record { at = to; console = after.console; entries = []; levels = [] } → accesses ≡ length (entries_to cart to)
     → CameTo machine.console.cart machine accesses
-came-to cart at to accesses after machine few made is counted built =
+came-to cart at to accesses after machine few made is counted =
     subst (λ (m : MachineValue). CameTo m.console.cart m accesses) (sym is)
     (subst (λ (c : List ℕ). CameTo c (record { at = to; console = after.console; entries = []; levels = [] }) accesses) (sym made.same_cart)
-    (record { few = few; run = made.run; entries = refl; levels = refl; counted = counted; built = built }))
+    (record { few = few; run = made.run; entries = refl; levels = refl; counted = counted }))
 
 -- the outputs behind a segment
 pub sound-next : (cart : List ℕ) (end at to : ℕ) (pairs : List ℕ) → sound_bytes (levels_to cart to) ≡ sound_bytes (levels_to cart at) ++ pairs
@@ -136,3 +128,8 @@ head-first cart end few (some, near) =
 pub journal-first : (cart : List ℕ) → FewEvents cart → journal_of cart 0 ≡ []
 unfolding journal_of journal_bytes
 journal-first cart few = ap journal_bytes (no-entries cart few)
+
+-- whether the 68000 of a run is halted
+pub halted-found : (cart : List ℕ) (machine : MachineValue) (accesses : ℕ) → CameTo cart machine accesses → machine.at ≤ 2 ^ 50 → machine.console.main.halted ≡ halted_in cart machine.at
+unfolding halted_in
+halted-found cart machine accesses came small = ap (λ (m : Console). m.main.halted) (run-found cart machine.at came.few small came.run).console

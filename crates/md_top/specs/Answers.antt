@@ -19,8 +19,8 @@ pub record PutsPart (told : Type 0) (text : List ℕ) (old new : SinkState) : Ty
 
 -- the status, and what was put: a sink that fails changes the status of a run that ended well alone
 abbrev pub Reports : Type 0 → Option Run → Ending → SinkState → SinkState → ℕ → Type 0
-Reports told command (Done accesses) old new status =
-    ((status ≡ 0) × PutsAll told (text_of command (Done accesses)) old new) ⊎ ((status ≡ 13) × PutsPart told (text_of command (Done accesses)) old new)
+Reports told command (Done accesses halted) old new status =
+    ((status ≡ 0) × PutsAll told (text_of command (Done accesses halted)) old new) ⊎ ((status ≡ 13) × PutsPart told (text_of command (Done accesses halted)) old new)
 Reports told command ending old new status =
     (status ≡ status_of ending) × (PutsAll told (text_of command ending) old new ⊎ PutsPart told (text_of command ending) old new)
 

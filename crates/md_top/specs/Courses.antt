@@ -1,8 +1,8 @@
 -- A run on its way, at the end of a segment.
-use Rattle.std.specs.Prelude.{◌≡◌, ℕ, List, [], length, None}
+use Rattle.std.specs.Prelude.{◌≡◌, ℕ, List, [], length}
 use Rattle.md_machine.specs.Console.{IsRunTo, power_on}
 use Rattle.md_machine.specs.Machines.{MachineValue}
-use Rattle.md_top.specs.Runs.{FewEvents, entries_to, levels_to, unbuilt}
+use Rattle.md_top.specs.Runs.{FewEvents, entries_to, levels_to}
 use Rattle.md_top.specs.declared.course.Course.{Course}
 
 -- the cartridge of a run, and the cycle to which it came
@@ -12,15 +12,13 @@ cart_in course = course.machine.console.cart
 abbrev pub cycle_of : Course → ℕ
 cycle_of course = course.machine.at
 
--- a machine came from power-on to its cycle with so many accesses, and its records were drained;
--- each opcode that it met is built
+-- a machine came from power-on to its cycle with so many accesses, and its records were drained
 pub record CameTo (cart : List ℕ) (machine : MachineValue) (accesses : ℕ) : Type 0 where
   pub few : FewEvents cart
   pub run : IsRunTo (power_on cart) machine.at machine.console (entries_to cart machine.at) (levels_to cart machine.at)
   pub entries : machine.entries ≡ []
   pub levels : machine.levels ≡ []
   pub counted : accesses ≡ length (entries_to cart machine.at)
-  pub built : unbuilt cart machine.at ≡ None
 
 abbrev pub IsUnderway : Course → Type 0
 IsUnderway course = CameTo (cart_in course) course.machine course.accesses

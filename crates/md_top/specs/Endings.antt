@@ -5,17 +5,16 @@ use Rattle.rom_header.specs.Cartridge.{fault_of, image}
 use Rattle.rom_header.specs.declared.cart.CartFault.{CartFault}
 use Rattle.rom_header.specs.declared.cart.CartFault.TheVariants.{Short, Long, NoMark, NoMemory}
 use Rattle.md_outer.specs.Outside.{DepotState, Files, Rose, bytes_of}
-use Rattle.md_top.specs.Limits.{IsEnd, last_cycle, segment_cycles, segment_end}
-use Rattle.md_top.specs.Runs.{entries_to, journal_of, sound_of, sound_until, unbuilt}
-use Rattle.md_top.specs.Hex.{hex_of}
+use Rattle.md_top.specs.Limits.{IsEnd, last_cycle}
+use Rattle.md_top.specs.Runs.{entries_to, halted_in, journal_of, sound_of, sound_until}
 use Rattle.md_top.specs.Outputs.{Holds, IsUnwritten, LeavesParts}
 use Rattle.md_top.specs.Words.{Run}
 use Rattle.md_top.specs.declared.ending.Ending.{Ending}
-use Rattle.md_top.specs.declared.ending.Ending.TheVariants.{Done, Usage, TooFar, ReadFault, TooLong, CartRefused, Behind, NotBuilt, SoundFault, JournalFault, Memory}
+use Rattle.md_top.specs.declared.ending.Ending.TheVariants.{Done, Usage, TooFar, ReadFault, TooLong, CartRefused, Behind, SoundFault, JournalFault, Memory}
 
 -- the status that the program ends with
 abbrev pub status_of : Ending → ℕ
-status_of (Done accesses) = 0
+status_of (Done accesses halted) = 0
 status_of Usage = 2
 status_of ReadFault = 3
 status_of SoundFault = 4
@@ -24,7 +23,6 @@ status_of (CartRefused fault) = 5
 status_of Behind = 9
 status_of Memory = 10
 status_of TooFar = 11
-status_of (NotBuilt opcode address) = 12
 status_of TooLong = 14
 
 abbrev pub fault_text : CartFault → List ℕ
@@ -37,22 +35,30 @@ fault_text NoMemory = codes "no memory"
 abbrev pub pairs_of : ℕ → ℕ
 pairs_of cycles = 16 * ((cycles - 1) / 16128)
 
--- what a run that ends well puts
-abbrev pub lines_of : Run → ℕ → List ℕ
-lines_of run accesses =
+-- the line of a 68000 that is halted: the start of the instruction or exception that halted it
+abbrev pub halted_line : Option ℕ → List ℕ
+halted_line None = []
+halted_line (Some since) = codes "halted at " ++ decimal since ++ codes "\n"
+
+-- how far a run went, and how much it made
+abbrev pub counts_of : Run → ℕ → List ℕ
+counts_of run accesses =
     codes "cycles 0 to " ++ decimal run.cycles
     ++ codes "\nsamples " ++ decimal (pairs_of run.cycles)
     ++ codes "\naccesses " ++ decimal accesses ++ codes "\n"
 
+-- what a run that ends well puts
+abbrev pub lines_of : Run → ℕ → Option ℕ → List ℕ
+lines_of run accesses halted = counts_of run accesses ++ halted_line halted
+
 -- what is put: the output, or the one line of a refusal
 abbrev pub text_of : Option Run → Ending → List ℕ
-text_of (Some run) (Done accesses) = lines_of run accesses
+text_of (Some run) (Done accesses halted) = lines_of run accesses halted
 text_of (Some run) TooFar = codes "refused: cycle " ++ decimal run.cycles ++ codes " is too far\n"
 text_of (Some run) ReadFault = codes "fault: reading " ++ run.rom ++ codes "\n"
 text_of (Some run) TooLong = codes "refused: " ++ run.rom ++ codes " is too long\n"
 text_of (Some run) (CartRefused fault) = codes "refused: cartridge: " ++ fault_text fault ++ codes "\n"
 text_of (Some run) Behind = codes "refused: cycle " ++ decimal run.cycles ++ codes " is not above 0\n"
-text_of (Some run) (NotBuilt opcode address) = codes "refused: not built " ++ hex_of 4 opcode ++ codes " at " ++ hex_of 8 address ++ codes "\n"
 text_of (Some run) SoundFault = codes "fault: writing " ++ unwrap_or run.sound [] ++ codes "\n"
 text_of (Some run) JournalFault = codes "fault: writing " ++ unwrap_or run.journal [] ++ codes "\n"
 text_of (Some run) Memory = codes "refused: memory\n"
@@ -77,17 +83,14 @@ IsAccepted file = IsSomeAnd file (λ bytes. (length bytes ≤ cart_limit) × (fa
 abbrev pub cart_of : Run → Files → List ℕ
 cart_of run files = image (bytes_of files run.rom)
 
--- the cycle lies within the limits, the cartridge is accepted, and all opcodes that its run meets
--- are built
+-- the cycle lies within the limits, and the cartridge is accepted
 pub record IsReady (run : Run) (files : Files) : Type 0 where
   pub end : IsEnd run.cycles
   pub accepted : IsAccepted (files run.rom)
-  pub built : unbuilt (cart_of run files) run.cycles ≡ None
 
 -- why the run of a cartridge ends, once it has begun
 abbrev pub RunCause : List ℕ → Run → DepotState → DepotState → Ending → Type 0
-RunCause cart run old new (Done accesses) = (unbuilt cart run.cycles ≡ None) × (accesses ≡ length (entries_to cart run.cycles))
-RunCause cart run old new (NotBuilt opcode address) = unbuilt cart run.cycles ≡ Some (opcode, address)
+RunCause cart run old new (Done accesses halted) = (accesses ≡ length (entries_to cart run.cycles)) × (halted ≡ halted_in cart run.cycles)
 RunCause cart run old new ending = IsUnwritten run old new ending
 
 -- Why each may come. What a file holds is spoken of where the depot tells it. Each cause says that
@@ -102,10 +105,8 @@ HasCause told (Some run) old new TooLong =
 HasCause told (Some run) old new (CartRefused fault) =
     (run.cycles ≤ last_cycle) × (told → IsSomeAnd (old.files run.rom) (λ bytes. (length bytes ≤ cart_limit) × (fault_of bytes ≡ Some fault)))
 HasCause told (Some run) old new Behind = (run.cycles ≡ 0) × (told → IsAccepted (old.files run.rom))
-HasCause told (Some run) old new (NotBuilt opcode address) =
-    IsEnd run.cycles × (told → IsAccepted (old.files run.rom) × RunCause (cart_of run old.files) run old new (NotBuilt opcode address))
-HasCause told (Some run) old new (Done accesses) =
-    IsEnd run.cycles × (told → IsAccepted (old.files run.rom) × RunCause (cart_of run old.files) run old new (Done accesses))
+HasCause told (Some run) old new (Done accesses halted) =
+    IsEnd run.cycles × (told → IsAccepted (old.files run.rom) × RunCause (cart_of run old.files) run old new (Done accesses halted))
 HasCause told (Some run) old new SoundFault = IsEnd run.cycles × (told → IsAccepted (old.files run.rom)) × IsUnwritten run old new SoundFault
 HasCause told (Some run) old new JournalFault = IsEnd run.cycles × (told → IsAccepted (old.files run.rom)) × IsUnwritten run old new JournalFault
 HasCause told (Some run) old new Memory = run.cycles ≤ last_cycle
@@ -115,17 +116,9 @@ HasCause told command old new ending = ⊥
 abbrev pub HoldsUntil : List ℕ → Run → Files → Files → ℕ → Type 0
 HoldsUntil cart run old new at = Holds run old new (sound_until cart run.cycles at) (journal_of cart at)
 
--- the segments before the one in which the opcode was met that is not built
-pub record LeavesSegments (cart : List ℕ) (run : Run) (old new : Files) : Type 0 where
-  pub segments : ℕ
-  pub before : unbuilt cart (segments * segment_cycles) ≡ None
-  pub met : unbuilt cart (segment_end (segments * segment_cycles) run.cycles) ≢ None
-  pub files : HoldsUntil cart run old new (segments * segment_cycles)
-
 -- what the files hold once the run of a cartridge has ended
 abbrev pub RunLeaves : List ℕ → Run → Files → Files → Ending → Type 0
-RunLeaves cart run old new (Done accesses) = HoldsUntil cart run old new run.cycles
-RunLeaves cart run old new (NotBuilt opcode address) = LeavesSegments cart run old new
+RunLeaves cart run old new (Done accesses halted) = HoldsUntil cart run old new run.cycles
 RunLeaves cart run old new SoundFault = LeavesParts run old new (sound_of cart run.cycles) (journal_of cart run.cycles)
 RunLeaves cart run old new JournalFault = LeavesParts run old new (sound_of cart run.cycles) (journal_of cart run.cycles)
 RunLeaves cart run old new Memory = LeavesParts run old new [] []
@@ -137,14 +130,9 @@ LeavesFiles (Some run) old new ending = RunLeaves (cart_of run old) run old new 
 LeavesFiles None old new ending = new ≡ old
 
 -- The ending where neither a fault nor want of memory comes between: the refusals in their order.
--- at the end of a run, by the opcode that it met and that is not built, and its accesses
-abbrev pub met_ending : Option (ℕ × ℕ) → ℕ → Ending
-met_ending None accesses = Done accesses
-met_ending (Some met) accesses = NotBuilt met.0 met.1
-
 -- behind an accepted cartridge
 abbrev pub run_ending : List ℕ → ℕ → Ending
-run_ending cart end = if end == 0 then Behind else met_ending (unbuilt cart end) (length (entries_to cart end))
+run_ending cart end = if end == 0 then Behind else Done (length (entries_to cart end)) (halted_in cart end)
 
 -- behind the bytes of the cartridge's file; `accepted` is the ending where they are accepted
 abbrev pub cart_ending : Option CartFault → Ending → Ending

@@ -1,7 +1,6 @@
 pub mod Answers
 pub mod Courses
 pub mod Endings
-pub mod Hex
 pub mod Least
 pub mod Limits
 pub mod Outputs

@@ -19,9 +19,9 @@ moves_to cart end = least (λ n. is_quiet end (ran (power_on cart) n)) (end + 5)
 abbrev pub run_to : List ℕ → ℕ → Console
 run_to cart end = ran (power_on cart) (moves_to cart end)
 
--- the opcode that is not built and was met below the cycle, with its address
-unfoldable pub unbuilt : List ℕ → ℕ → Option (ℕ × ℕ)
-unbuilt cart end = (run_to cart end).cpu.unbuilt
+-- the start of the instruction or exception that halted the 68000 below the cycle, if one did
+unfoldable pub halted_in : List ℕ → ℕ → Option ℕ
+halted_in cart end = (run_to cart end).main.halted
 
 -- the entries of the accesses below the cycle, and the levels of the samples
 unfoldable pub entries_to : List ℕ → ℕ → List Entry

@@ -3,8 +3,9 @@ use rom_header::CartFault;
 /// What a command line comes to.
 #[derive(Clone, Copy)]
 pub(crate) enum Ending {
-    /// The run ended well, with so many accesses.
-    Done(u64),
+    /// The run ended well, with so many accesses. Where the 68000 is halted, the start of what
+    /// halted it.
+    Done(u64, Option<u64>),
     /// The words ask for nothing that there is.
     Usage,
     /// The run's end lies behind the last cycle.
@@ -16,8 +17,6 @@ pub(crate) enum Ending {
     CartRefused(CartFault),
     /// The run's end is not above the cycle at which it begins.
     Behind,
-    /// The run met an opcode that is not built, at an address.
-    NotBuilt(u16, u32),
     /// The sound file could not be written.
     SoundFault,
     /// The journal could not be written.

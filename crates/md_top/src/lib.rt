@@ -3,7 +3,6 @@
 
 mod course;
 mod ending;
-mod hex;
 pub mod laws;
 mod output;
 mod outputs;

@@ -2,13 +2,11 @@ ghost use Rattle.std.specs.Prelude.{◌≡◌, ◌⊎◌, ◌++◌, [], Some, co
 ghost use Rattle.std.specs.Option.{option_copied};
 ghost use Rattle.md_outer.specs.Outside.{PutsText};
 ghost use Rattle.md_top.specs.Answers.{PutsAll, PutsPart, Reports};
-ghost use Rattle.md_top.specs.Endings.{fault_text, lines_of};
-ghost use Rattle.md_top.specs.Hex.{hex_of};
+ghost use Rattle.md_top.specs.Endings.{counts_of, fault_text, halted_line, lines_of};
 ghost use Rattle.md_top.specs.ShownRun.{shown_run};
 
 use crate::ending::Ending;
-use crate::hex::{hex_eight, hex_four};
-use crate::put::{put_five, put_seven, put_three};
+use crate::put::{put_seven, put_three};
 use crate::run_on::count_pairs;
 use crate::run_words::RunWords;
 use itoa::Buffer;
@@ -20,7 +18,7 @@ pub(crate) fn report<S: Sink>(run: &RunWords<'_>, ending: Ending, out: &mut S) -
     ensures { Reports S.told (Some (shown_run run.now)) ending (S.state out.old) (S.state out.new) result }
 {
     match ending {
-        Ending::Done(accesses) => match put_lines(out, run, accesses) {
+        Ending::Done(accesses, halted) => match put_lines(out, run, accesses, halted) {
             Ok(()) => 0,
             Err(Failed) => 13,
         },
@@ -30,7 +28,6 @@ pub(crate) fn report<S: Sink>(run: &RunWords<'_>, ending: Ending, out: &mut S) -
         Ending::TooLong => refuse(out, 14, "refused: ", run.rom, " is too long\n"),
         Ending::CartRefused(fault) => refuse(out, 5, "refused: cartridge: ", text_of(fault), "\n"),
         Ending::Behind => refuse_cycle(out, 9, run.cycles, " is not above 0\n"),
-        Ending::NotBuilt(opcode, address) => refuse_opcode(out, opcode, address),
         Ending::SoundFault => refuse_output(out, run.sound),
         Ending::JournalFault => refuse_output(out, run.journal),
         Ending::Memory => refuse(out, 10, "refused: memory\n", "", ""),
@@ -59,25 +56,6 @@ fn text_of(fault: CartFault) -> &'static str
     }
 }
 
-/// Refuses an opcode that is not built.
-fn refuse_opcode<S: Sink>(out: &mut S, opcode: u16, address: u32) -> u8
-    ensures status { result ≡ 12 }
-    ensures put { let line = codes "refused: not built " ++ hex_of 4 opcode ++ codes " at " ++ hex_of 8 address ++ codes "\n" in
-        PutsAll S.told line (S.state out.old) (S.state out.new) ⊎ PutsPart S.told line (S.state out.old) (S.state out.new) }
-{
-    let _ = put_opcode(out, opcode, address);
-    12
-}
-
-fn put_opcode<S: Sink>(out: &mut S, opcode: u16, address: u32) -> Result<(), Failed>
-    ensures { PutsText S.told (codes "refused: not built " ++ hex_of 4 opcode ++ codes " at " ++ hex_of 8 address ++ codes "\n")
-        (S.state out.old) (S.state out.new) result }
-{
-    let opcode = hex_four(opcode);
-    let address = hex_eight(address);
-    put_five(out, "refused: not built ", &opcode, " at ", &address, "\n")
-}
-
 /// Refuses the cycle of a run's end.
 fn refuse_cycle<S: Sink>(out: &mut S, status: u8, cycle: u64, why: &str) -> u8
     ensures status { result ≡ status }
@@ -101,8 +79,40 @@ fn refuse_output<S: Sink>(out: &mut S, name: Option<&str>) -> u8
 }
 
 /// Puts the lines of a run that ends well.
-fn put_lines<S: Sink>(out: &mut S, run: &RunWords<'_>, accesses: u64) -> Result<(), Failed>
-    ensures { PutsText S.told (lines_of (shown_run run.now) accesses) (S.state out.old) (S.state out.new) result }
+fn put_lines<S: Sink>(
+    out: &mut S,
+    run: &RunWords<'_>,
+    accesses: u64,
+    halted: Option<u64>,
+) -> Result<(), Failed>
+    ensures { PutsText S.told (lines_of (shown_run run.now) accesses halted) (S.state out.old) (S.state out.new) result }
+{
+    match put_counts(out, run, accesses) {
+        Ok(()) => put_halted(out, halted),
+        Err(failed) => Err(failed),
+    }
+}
+
+/// Puts the line of a 68000 that is halted, if it is.
+fn put_halted<S: Sink>(out: &mut S, halted: Option<u64>) -> Result<(), Failed>
+    ensures { PutsText S.told (halted_line halted) (S.state out.old) (S.state out.new) result }
+{
+    match halted {
+        Some(since) => put_since(out, since),
+        None => Ok(()),
+    }
+}
+
+fn put_since<S: Sink>(out: &mut S, since: u64) -> Result<(), Failed>
+    ensures { PutsText S.told (codes "halted at " ++ decimal since ++ codes "\n") (S.state out.old) (S.state out.new) result }
+{
+    let mut digits = Buffer::new();
+    put_three(out, "halted at ", digits.format(since).as_bytes(), "\n")
+}
+
+/// Puts how far a run went, and how much it made.
+fn put_counts<S: Sink>(out: &mut S, run: &RunWords<'_>, accesses: u64) -> Result<(), Failed>
+    ensures { PutsText S.told (counts_of (shown_run run.now) accesses) (S.state out.old) (S.state out.new) result }
 {
     let mut cycles = Buffer::new();
     let mut pairs = Buffer::new();

@@ -104,16 +104,14 @@ fn run_segment<D: Depot>(
     ensures files { OnOk result (D.told → (first : Files)
         → HoldsUntil (cart_in course.old) (shown_run run.now) first (D.state depot.old).files (cycle_of course.old)
         → HoldsUntil (cart_in course.old) (shown_run run.now) first (D.state depot.new).files (cycle_of course.new)) }
-    ensures err { IfErr result (RunCause (cart_in course.old) (shown_run run.now) (D.state depot.old) (D.state depot.new)) }
+    ensures err { IfErr result (IsWriteFault (shown_run run.now) (D.state depot.old) (D.state depot.new)) }
     ensures err_files { IfErr result (λ ending. D.told → (first : Files)
         → HoldsUntil (cart_in course.old) (shown_run run.now) first (D.state depot.old).files (cycle_of course.old)
         → RunLeaves (cart_in course.old) (shown_run run.now) first (D.state depot.new).files ending) }
     ensures goes_on { GoesOn (D.state depot.old) (D.state depot.new) }
 {
     let end = segment_end(course.machine.at(), run.cycles);
-    if let Some((opcode, address)) = advance(course, end) {
-        return Err(Ending::NotBuilt(opcode, address));
-    }
+    advance(course, end);
     append_records(
         run,
         outputs,
@@ -140,5 +138,5 @@ fn run_on<D: Depot>(run: &RunWords<'_>, outputs: &Outputs, depot: &mut D, course
             return ending;
         }
     }
-    Ending::Done(course.accesses)
+    Ending::Done(course.accesses, course.machine.main_chip().halted())
 }

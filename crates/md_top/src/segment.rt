@@ -3,7 +3,7 @@ ghost use Rattle.std.specs.Arc.{arc_value};
 ghost use Rattle.md_machine.specs.Outputs.{journal_bytes, sound_bytes};
 ghost use Rattle.md_top.specs.Courses.{IsUnderway, cart_in, cycle_of};
 ghost use Rattle.md_top.specs.Limits.{last_cycle, segment_cycles};
-ghost use Rattle.md_top.specs.Runs.{FewEvents, entries_to, levels_to, unbuilt};
+ghost use Rattle.md_top.specs.Runs.{FewEvents, entries_to, levels_to};
 
 use crate::course::Course;
 use md_machine::{Machine, laws};
@@ -37,27 +37,24 @@ pub(crate) fn power_on(alloc: Global, cart: Arc<Cart>) -> Result<Course, NoMemor
 }
 
 /// Brings a run to the cycle `to`, at most a segment on, and holds the records of what came
-/// between. An opcode that is not built and was met is answered, with its address.
-pub(crate) fn advance(course: &mut Course, to: u64) -> Option<(u16, u32)>
+/// between.
+pub(crate) fn advance(course: &mut Course, to: u64)
     requires underway { IsUnderway course.old }
     requires later { cycle_of course.old < to }
     requires near { to ≤ cycle_of course.old + segment_cycles }
     requires far { to ≤ last_cycle }
     ensures cart { cart_in course.new ≡ cart_in course.old }
     ensures cycle { cycle_of course.new ≡ to }
-    ensures met { result ≡ unbuilt (cart_in course.old) to }
-    ensures underway { result ≡ None → IsUnderway course.new }
-    ensures pairs { result ≡ None → sound_bytes (levels_to (cart_in course.old) to)
+    ensures underway { IsUnderway course.new }
+    ensures pairs { sound_bytes (levels_to (cart_in course.old) to)
         ≡ sound_bytes (levels_to (cart_in course.old) (cycle_of course.old)) ++ course.new.pairs.items }
-    ensures records { result ≡ None → journal_bytes (entries_to (cart_in course.old) to)
+    ensures records { journal_bytes (entries_to (cart_in course.old) to)
         ≡ journal_bytes (entries_to (cart_in course.old) (cycle_of course.old)) ++ course.new.records.items }
 {
     course.machine.alone(to);
-    let met = course.machine.not_built();
     course.pairs.clear();
     course.machine.drain_pairs(&mut course.pairs);
     course.records.clear();
     course.machine.drain_entries(&mut course.records);
     course.accesses += (course.records.len() / 16) as u64;
-    met
 }

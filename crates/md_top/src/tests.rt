@@ -195,57 +195,56 @@ fn a_write_to_the_sound_generator_is_heard(rt: HostRuntime) -> Result<(), Fail> 
     Ok(())
 }
 
-/// A program at 1C0h that counts from 100 to 0 a hundred times and then meets an opcode that is not
-/// built: MOVEQ, MOVEQ, SUBQ.W, BNE to it, SUBQ.W, BNE to the second MOVEQ.
+/// A program at 1C0h that counts from 100 to 0 a hundred times and then jumps to an odd address,
+/// with an odd stack pointer: MOVEQ, MOVEQ, SUBQ.W, BNE to it, SUBQ.W, BNE to the second MOVEQ, JMP.
 ///
 /// A count takes 28 cycles, 99 turns of 28 and 70, and one of 28 and 56; with SUBQ and BNE behind
-/// it 9,912, and the last time 9,898. So the opcode is met at 28 + 99 * 9,912 + 9,898 = 991,214.
+/// it 9,912, and the last time 9,898. JMP of an absolute word takes 70. So the address error, which
+/// halts the 68000, begins at 28 + 99 * 9,912 + 9,898 + 70 = 991,284.
 fn counter(alloc: Global) -> Result<Vec<u8>, AllocError> {
     let mut image = idle(alloc)?;
-    write_at(&mut image, 4, &[0, 0, 0x01, 0xc0]);
+    write_at(&mut image, 3, &[0x01, 0, 0, 0x01, 0xc0]);
     let program = [
         0x72, 0x64, 0x70, 0x64, 0x53, 0x40, 0x66, 0xfc, 0x53, 0x41, 0x66, 0xf6,
     ];
     write_at(&mut image, 0x1c0, &program);
-    write_at(&mut image, 0x1cc, &[0x4e, 0x72]);
+    write_at(&mut image, 0x1cc, &[0x4e, 0xf8, 0x00, 0x01]);
     Ok(image)
 }
 
 #[test]
-fn an_opcode_in_the_second_segment_leaves_the_first(rt: HostRuntime) -> Result<(), Fail> {
+fn a_halt_in_the_second_segment(rt: HostRuntime) -> Result<(), Fail> {
     let alloc = rt.alloc();
-    let (status, _, _) = answer(alloc, "run Z --cycles 991214", counter(alloc)?)?;
+    let (status, _, out) = answer(alloc, "run Z --cycles 991284", counter(alloc)?)?;
     assert_eq!(rt; status, 0);
-    let words = "run Z --cycles 991215 --sound W --journal J";
-    let (status, depot, out) = answer(alloc, words, counter(alloc)?)?;
-    assert_eq!(rt; status, 12);
     assert_eq!(rt;
         out.bytes(),
-        b"refused: not built 4e72 at 000001cc\n".as_slice()
+        b"cycles 0 to 991284\nsamples 976\naccesses 412\n".as_slice()
     );
-    // The head has the sizes of the whole run, of 61 batches; the first segment has 55.
-    let sound = depot.file("W").unwrap_or(&[]);
-    assert_eq!(rt; sound.len(), 44 + 4 * 880);
-    assert_eq!(rt; &sound[40..44], [0x40, 0x0f, 0, 0].as_slice());
-    assert_eq!(rt; depot.file("J").unwrap_or(&[]).len(), 16 * 372);
+    let words = "run Z --cycles 991285 --sound W --journal J";
+    let (status, depot, out) = answer(alloc, words, counter(alloc)?)?;
+    assert_eq!(rt; status, 0);
+    assert_eq!(rt;
+        out.bytes(),
+        b"cycles 0 to 991285\nsamples 976\naccesses 412\nhalted at 991284\n".as_slice()
+    );
+    assert_eq!(rt; depot.file("W").unwrap_or(&[]).len(), 44 + 4 * 976);
+    assert_eq!(rt; depot.file("J").unwrap_or(&[]).len(), 16 * 412);
     Ok(())
 }
 
-/// LEA takes 84 cycles and MOVE.B 84, so that the third instruction starts at 168.
+// The stack pointer and the program counter are odd: the first instruction halts.
 #[test]
-fn an_opcode_behind_an_access_is_met_where_it_starts(rt: HostRuntime) -> Result<(), Fail> {
+fn a_halt_at_power_on(rt: HostRuntime) -> Result<(), Fail> {
     let alloc = rt.alloc();
-    let image = beep(alloc, [0x4e, 0x72])?;
-    let (status, _, _) = answer(alloc, "run Z --cycles 168 --sound W", image)?;
+    let mut image = idle(alloc)?;
+    write_at(&mut image, 3, &[0x01, 0, 0, 0x01, 0xfd]);
+    let (status, _, out) = answer(alloc, "run Z --cycles 896040", image)?;
     assert_eq!(rt; status, 0);
-    let image = beep(alloc, [0x4e, 0x72])?;
-    let (status, depot, out) = answer(alloc, "run Z --cycles 169 --sound W", image)?;
-    assert_eq!(rt; status, 12);
     assert_eq!(rt;
         out.bytes(),
-        b"refused: not built 4e72 at 000001ca\n".as_slice()
+        b"cycles 0 to 896040\nsamples 880\naccesses 372\nhalted at 0\n".as_slice()
     );
-    assert_eq!(rt; depot.file("W").unwrap_or(&[]).len(), 44);
     Ok(())
 }
 
@@ -363,7 +362,7 @@ fn ends_out_of_range_are_refused(rt: HostRuntime) -> Result<(), Fail> {
 #[test]
 fn other_cartridges_are_refused(rt: HostRuntime) -> Result<(), Fail> {
     let alloc = rt.alloc();
-    let cases: [(Vec<u8>, u8, &str); 5] = [
+    let cases: [(Vec<u8>, u8, &str); 3] = [
         (vec![in alloc; 0u8; 511]?, 5, "refused: cartridge: short\n"),
         (
             vec![in alloc; 0u8; 4_194_305]?,
@@ -375,52 +374,17 @@ fn other_cartridges_are_refused(rt: HostRuntime) -> Result<(), Fail> {
             5,
             "refused: cartridge: no mark\n",
         ),
-        (
-            cartridge(alloc, [0x4e, 0x72], [0, 0], b"SEGA")?,
-            12,
-            "refused: not built 4e72 at 000001fc\n",
-        ),
-        (
-            cartridge(alloc, [0x4e, 0x71], [0x60, 0x00], b"SEGA")?,
-            12,
-            "refused: not built 6000 at 000001fe\n",
-        ),
     ];
     for (image, wanted, line) in cases {
         let words = "run Z --cycles 896040 --sound W --journal J";
         let (status, depot, out) = answer(alloc, words, image)?;
         assert_eq!(rt; status, wanted, "{line}");
         assert_eq!(rt; out.bytes(), line.as_bytes());
-        // A run that met an opcode leaves what it made in the segments before: none.
-        let lengths = if wanted == 12 {
-            (Some(44), Some(0))
-        } else {
-            (None, None)
-        };
-        let sound = depot.file("W").map(|bytes| bytes.len());
-        let journal = depot.file("J").map(|bytes| bytes.len());
-        assert_eq!(rt; (sound, journal), lengths, "{line}");
+        assert!(rt; depot.file("W").is_none() && depot.file("J").is_none(), "{line}");
     }
     let (status, _, out) = answer(alloc, "run Y --cycles 5 --sound W", idle(alloc)?)?;
     assert_eq!(rt; status, 3);
     assert_eq!(rt; out.bytes(), b"fault: reading Y\n".as_slice());
-    Ok(())
-}
-
-#[test]
-fn an_opcode_is_met_where_its_instruction_starts(rt: HostRuntime) -> Result<(), Fail> {
-    let alloc = rt.alloc();
-    // A NOP takes 28 cycles, so the next instruction starts at 28.
-    let image = cartridge(alloc, [0x4e, 0x71], [0x4e, 0x72], b"SEGA")?;
-    let (status, _, _) = answer(alloc, "run Z --cycles 28 --sound W", image)?;
-    assert_eq!(rt; status, 0);
-    let image = cartridge(alloc, [0x4e, 0x71], [0x4e, 0x72], b"SEGA")?;
-    let (status, _, out) = answer(alloc, "run Z --cycles 29 --sound W", image)?;
-    assert_eq!(rt; status, 12);
-    assert_eq!(rt;
-        out.bytes(),
-        b"refused: not built 4e72 at 000001fe\n".as_slice()
-    );
     Ok(())
 }
 

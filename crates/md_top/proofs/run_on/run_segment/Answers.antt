@@ -1,22 +1,9 @@
-use Rattle.std.proofs.Common.{ℕ, sym, ap, ◌∙◌, subst, arith}
+use Rattle.std.proofs.Common.{ℕ, sym, subst, arith}
 use Rattle.md_top.specs.Courses.{cart_in, cycle_of}
 use Rattle.md_top.specs.Endings.{HoldsUntil}
-use Rattle.md_top.specs.Runs.{unbuilt}
 use Rattle.md_top.specs.ShownRun.{shown_run}
-use Rattle.md_top.proofs.Ends.{both-err, fault-leaves, on-ok, segment-held, segment-parts, segments-left}
-use Rattle.md_top.proofs.LeastRuns.{unbuilt-later}
+use Rattle.md_top.proofs.Ends.{both-err, fault-leaves, on-ok, segment-held, segment-parts}
 use Rattle.md_top.proofs.run_on.run_segment.Goals as goal
-
-pub returns-in-Some-clause-err : goal.returns-in-Some-clause-err
-returns-in-Some-clause-err g c =
-    unbuilt-later (cart_in c.args.course.now) c.segment_end-end.result c.args.run.now.cycles c.requires.underway.few (omega (arith, c.requires.end.1))
-    (omega (arith, c.segment_end-end.ensures)) (sym c.advance.ensures.met ∙ c.in-Some.is)
-
-pub returns-in-Some-clause-err_files : goal.returns-in-Some-clause-err_files
-returns-in-Some-clause-err_files g c = λ t first holds.
-    segments-left (shown_run c.args.run.now) (cart_in c.args.course.now) first (g.D.Depot.state c.args.depot.now).files (cycle_of c.args.course.now) (c.in-Some.opcode, c.in-Some.address)
-    c.requires.whole c.requires.underway.built
-    (ap (λ (n : ℕ). unbuilt (cart_in c.args.course.now) n) (sym (rw c.at.ensures at c.segment_end-end.ensures)) ∙ sym c.advance.ensures.met ∙ c.in-Some.is) holds
 
 pub returns-clause-files : goal.returns-clause-files
 returns-clause-files g c =
@@ -25,7 +12,7 @@ returns-clause-files g c =
     subst (λ (n : ℕ). HoldsUntil (cart_in c.args.course.now) (shown_run c.args.run.now) first (g.D.Depot.state c.append_records.new.depot).files n) (sym c.advance.ensures.cycle)
     (segment-held (shown_run c.args.run.now) (cart_in c.args.course.now) first (g.D.Depot.state c.args.depot.now).files (g.D.Depot.state c.append_records.new.depot).files
     (cycle_of c.args.course.now) c.segment_end-end.result c.as_slice.result.now c.as_slice-2.result.now
-    (rw c.as_slice.ensures.value (c.advance.ensures.pairs c.in_default.is)) (rw c.as_slice-2.ensures.value (c.advance.ensures.records c.in_default.is))
+    (rw c.as_slice.ensures.value c.advance.ensures.pairs) (rw c.as_slice-2.ensures.value c.advance.ensures.records)
     (adds t) holds))
     c.append_records.ensures.files
 
@@ -38,6 +25,6 @@ returns-clause-err_files g c =
     (segment-parts (shown_run c.args.run.now) (cart_in c.args.course.now) first (g.D.Depot.state c.args.depot.now).files (g.D.Depot.state c.append_records.new.depot).files
     (cycle_of c.args.course.now) c.segment_end-end.result c.as_slice.result.now c.as_slice-2.result.now
     c.requires.underway.few (omega (arith, c.segment_end-end.ensures)) (omega (arith, c.requires.end.1))
-    (rw c.as_slice.ensures.value (c.advance.ensures.pairs c.in_default.is)) (rw c.as_slice-2.ensures.value (c.advance.ensures.records c.in_default.is))
+    (rw c.as_slice.ensures.value c.advance.ensures.pairs) (rw c.as_slice-2.ensures.value c.advance.ensures.records)
     (adds t) holds))
     c.append_records.ensures.err c.append_records.ensures.err_files

@@ -32,15 +32,8 @@ returns-clause-cart c =
     ap (λ (m : MachineValue). m.console.cart) (c.drain_entries.ensures.machine ∙ ap (λ (m : MachineValue). record m { entries = [] }) c.drain_pairs.ensures.machine)
     ∙ made.same_cart
 
-pub returns-clause-met : goal.returns-clause-met
-returns-clause-met c =
-    let made : Segment (cart_in c.args.course.now) (cycle_of c.args.course.now) c.args.to c.alone.new.self =
-    segment (cart_in c.args.course.now) (cycle_of c.args.course.now) c.args.to c.args.course.now.machine.console c.alone.new.self c.requires.underway.few
-    (omega (arith, c.requires.far)) (omega (arith, c.requires.later)) c.requires.underway.run c.alone.ensures.run in
-    c.not_built-met.ensures ∙ made.met
-
 pub returns-clause-underway : goal.returns-clause-underway
-returns-clause-underway c = λ none.
+returns-clause-underway c =
     let made : Segment (cart_in c.args.course.now) (cycle_of c.args.course.now) c.args.to c.alone.new.self =
     segment (cart_in c.args.course.now) (cycle_of c.args.course.now) c.args.to c.args.course.now.machine.console c.alone.new.self c.requires.underway.few
     (omega (arith, c.requires.far)) (omega (arith, c.requires.later)) c.requires.underway.run c.alone.ensures.run in
@@ -61,10 +54,9 @@ returns-clause-underway c = λ none.
       c.clear-2.ensures.len,
       ap (λ (m : MachineValue). length m.entries) c.drain_pairs.ensures.machine,
     ))
-    (sym (c.not_built-met.ensures ∙ made.met) ∙ none)
 
 pub returns-clause-pairs : goal.returns-clause-pairs
-returns-clause-pairs c = λ none.
+returns-clause-pairs c =
     let made : Segment (cart_in c.args.course.now) (cycle_of c.args.course.now) c.args.to c.alone.new.self =
     segment (cart_in c.args.course.now) (cycle_of c.args.course.now) c.args.to c.args.course.now.machine.console c.alone.new.self c.requires.underway.few
     (omega (arith, c.requires.far)) (omega (arith, c.requires.later)) c.requires.underway.run c.alone.ensures.run in
@@ -74,7 +66,7 @@ returns-clause-pairs c = λ none.
     ∙ ap (λ (l : List ℕ). sound_bytes (levels_to (cart_in c.args.course.now) (cycle_of c.args.course.now)) ++ l) (sym piece)
 
 pub returns-clause-records : goal.returns-clause-records
-returns-clause-records c = λ none.
+returns-clause-records c =
     let made : Segment (cart_in c.args.course.now) (cycle_of c.args.course.now) c.args.to c.alone.new.self =
     segment (cart_in c.args.course.now) (cycle_of c.args.course.now) c.args.to c.args.course.now.machine.console c.alone.new.self c.requires.underway.few
     (omega (arith, c.requires.far)) (omega (arith, c.requires.later)) c.requires.underway.run c.alone.ensures.run in
