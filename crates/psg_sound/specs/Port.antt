@@ -20,5 +20,6 @@ is_below cycle w = nat_lt w.key.cycle cycle
 abbrev pub taken_below : ℕ → List PsgWrite → List PsgWrite
 taken_below cycle writes = filter (is_below cycle) writes
 
+-- the writes that are stamped at the cycle or later
 abbrev pub left_from : ℕ → List PsgWrite → List PsgWrite
 left_from cycle writes = filter (λ w. not (is_below cycle w)) writes
