@@ -20,9 +20,11 @@ access_of (Write16 address value) = record { answer = 0; kind = 3; address = add
 access_of (Ack level) = record { answer = 0; kind = 4; address = 0; value = level }
 access_of (Word value) = record { answer = 0; kind = 5; address = 0; value = value }
 
+-- the answer to an access, which starts no transfer
 unfoldable pub answer_of : Request68 → Answer68
 answer_of request = record { value = (access_of request).answer; transfer = None; cost = 0 }
 
+-- the entry of an access with this key
 unfoldable pub entry_of : Key → Request68 → Entry
 entry_of key request = record { key = key; kind = (access_of request).kind; address = (access_of request).address; value = (access_of request).value }
 

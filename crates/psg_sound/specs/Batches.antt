@@ -37,6 +37,7 @@ after_ticks t (suc n) c = next_tick (240 * (t + suc n)) (after_ticks t n c)
 abbrev pub ticks_to : ℕ → ℕ
 ticks_to cycle = cycle / 240
 
+-- those that stand below it
 abbrev pub ticks_below : ℕ → ℕ
 ticks_below cycle = (cycle - 1) / 240
 

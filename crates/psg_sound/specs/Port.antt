@@ -23,5 +23,6 @@ is_below cycle w = order.is_below stamp_of cycle w
 abbrev pub taken_below : ℕ → List PsgWrite → List PsgWrite
 taken_below cycle writes = held.taken_below stamp_of cycle writes
 
+-- the writes that are stamped at the cycle or later
 abbrev pub left_from : ℕ → List PsgWrite → List PsgWrite
 left_from cycle writes = held.left_from stamp_of cycle writes
