@@ -1,7 +1,7 @@
 ghost use Rattle.std.specs.Prelude.{IsTrue};
 ghost use Rattle.md_word.specs.Modes.{IsMode};
 
-use super::*;
+use m68k_ea::{Place, place, stepped};
 use md_word::Mode::{
     self, AbsLong, AbsShort, Address, Data, Displaced, Immediate, Indexed, Indirect, PcDisplaced,
     PcIndexed, PostInc, PreDec,
@@ -9,7 +9,6 @@ use md_word::Mode::{
 use md_word::Regs;
 use md_word::Size::{self, Byte, Long, Word};
 use std::process::Abort;
-use std::test::*;
 
 const SUPERVISOR: Regs = Regs {
     d: [0x8000, 0xffff_fffe, 0x0001_0004, 0, 0, 0, 0, 0x7fff_ffff],
@@ -95,60 +94,53 @@ fn is_mode(mode: Mode) -> bool
     }
 }
 
-fn stands(rt: &impl Abort, rows: &[Row]) {
+// The stack pointer is the active one: here the user's.
+const STACKS: [Row; 2] = [
+    (Indirect(7), Long, Place::Memory(0x00ff_0000)),
+    (Indexed(1, 15, true, 0x00), Long, Place::Memory(0x00ff_0000)),
+];
+
+// TST.L ($10,A0) and MOVE.L ($FC,A0,D1.W),.. at 1000h.
+const BEHIND_ONE_WORD: [Row; 2] = [
+    (Displaced(0, 0x0010), Long, Place::Memory(0x1010)),
+    (Indexed(0, 1, false, 0xfc), Long, Place::Memory(0x0ffa)),
+];
+
+// MOVE.L ..,-(A2), and BTST #n,($10,PC) and MOVEM.L ($FFFE,PC),list, whose number and whose list stand
+// before the displacement, at 1000h.
+const BEHIND_TWO_WORDS: [Row; 3] = [
+    (PreDec(2), Long, Place::Memory(0xffff_fffa)),
+    (PcDisplaced(0x0010), Byte, Place::Memory(0x1014)),
+    (PcDisplaced(0xfffe), Long, Place::Memory(0x1002)),
+];
+
+fn stands(rt: &impl Abort, regs: &Regs, pc: u32, rows: &[Row]) {
     for (row, &(mode, size, want)) in rows.iter().enumerate() {
         assert!(rt; is_mode(mode));
-        assert_eq!(rt; place(mode, size, &SUPERVISOR, PC), want, "row {row}");
+        assert_eq!(rt; place(mode, size, regs, pc), want, "row {row} at {pc:x}");
     }
 }
 
 #[test]
 fn each_mode_at_the_ends_of_its_registers(rt: HostRuntime) {
-    stands(&rt, &DIRECT);
-    stands(&rt, &INDIRECT);
-    stands(&rt, &INDEXED);
-    stands(&rt, &OTHERS);
+    stands(&rt, &SUPERVISOR, PC, &DIRECT);
+    stands(&rt, &SUPERVISOR, PC, &INDIRECT);
+    stands(&rt, &SUPERVISOR, PC, &INDEXED);
+    stands(&rt, &SUPERVISOR, PC, &OTHERS);
+    stands(&rt, &USER, PC, &STACKS);
 }
 
 #[test]
-fn the_stack_pointer_is_the_active_one(rt: HostRuntime) {
-    assert_eq!(rt;
-        place(Indirect(7), Long, &USER, PC),
-        Place::Memory(0x00ff_0000)
-    );
-    assert_eq!(rt;
-        place(Indexed(1, 15, true, 0x00), Long, &USER, PC),
-        Place::Memory(0x00ff_0000)
-    );
+fn operands_of_instructions(rt: HostRuntime) {
+    stands(&rt, &SUPERVISOR, 0x1002, &BEHIND_ONE_WORD);
+    stands(&rt, &SUPERVISOR, 0x1004, &BEHIND_TWO_WORDS);
+}
+
+#[test]
+fn a_step_moves_the_active_stack_pointer(rt: HostRuntime) {
     let regs = stepped(PostInc(7), Byte, &USER);
     assert_eq!(rt; regs.usp, 0x00ff_0002);
     assert_eq!(rt; regs.ssp, 0x0100_0000);
-}
-
-// TST.L ($10,A0); MOVE.L ($FC,A0,D1.W),-(A2); BTST #n,($10,PC) and MOVEM.L ($FFFE,PC),list at 1000h,
-// whose number and whose list stand before the displacement.
-#[test]
-fn operands_of_instructions(rt: HostRuntime) {
-    assert_eq!(rt;
-        place(Displaced(0, 0x0010), Long, &SUPERVISOR, 0x1002),
-        Place::Memory(0x1010)
-    );
-    assert_eq!(rt;
-        place(Indexed(0, 1, false, 0xfc), Long, &SUPERVISOR, 0x1002),
-        Place::Memory(0x0ffa)
-    );
-    assert_eq!(rt;
-        place(PreDec(2), Long, &SUPERVISOR, 0x1004),
-        Place::Memory(0xffff_fffa)
-    );
-    assert_eq!(rt;
-        place(PcDisplaced(0x0010), Byte, &SUPERVISOR, 0x1004),
-        Place::Memory(0x1014)
-    );
-    assert_eq!(rt;
-        place(PcDisplaced(0xfffe), Long, &SUPERVISOR, 0x1004),
-        Place::Memory(0x1002)
-    );
 }
 
 #[test]
@@ -169,6 +161,6 @@ fn steps_wrap_and_keep_the_stack_even(rt: HostRuntime) {
     for (mode, size, number, want) in rows {
         assert!(rt; is_mode(mode) && number < 8);
         let regs = stepped(mode, size, &SUPERVISOR);
-        assert_eq!(rt; regs.address(number), want, "A{number} {size:?}");
+        assert_eq!(rt; regs.address(number), want, "A{number}");
     }
 }

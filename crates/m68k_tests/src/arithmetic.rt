@@ -1,12 +1,11 @@
-use super::*;
+use m68k_alu::{Quotient, compute, divide};
 use md_word::Flags;
 use md_word::Size::{self, Byte, Long, Word};
 use md_word::Task::{
-    Abcd, Add, Addx, And, Asl, Asr, Bchg, Bclr, Bset, Btst, Clr, Cmp, Eor, Ext, Lsl, Lsr, Move,
-    Muls, Mulu, Nbcd, Neg, Negx, Not, Or, Rol, Ror, Roxl, Roxr, Sbcd, Sub, Subx, Swap, Tas,
+    self, Abcd, Add, Addx, And, Asl, Asr, Bchg, Bclr, Bset, Btst, Clr, Cmp, Eor, Ext, Lsl, Lsr,
+    Move, Muls, Mulu, Nbcd, Neg, Negx, Not, Or, Rol, Ror, Roxl, Roxr, Sbcd, Sub, Subx, Swap, Tas,
 };
 use std::process::Abort;
-use std::test::*;
 
 // The condition codes as the status register has them: X, N, Z, V, C from bit 4 down.
 fn codes(bits: u8) -> Flags {
@@ -124,12 +123,12 @@ const SHIFTS: [Row; 19] = [
 ];
 
 fn holds(rt: &impl Abort, rows: &[Row]) {
-    for &(task, size, source, target, before, value, after) in rows {
-        assert!(rt; u64::from(source) < size.modulus());
-        assert!(rt; u64::from(target) < size.modulus());
+    for (row, &(task, size, source, target, before, value, after)) in rows.iter().enumerate() {
+        let most = size.modulus();
+        assert!(rt; u64::from(source) < most && u64::from(target) < most);
         let out = compute(task, size, source, target, codes(before));
-        assert_eq!(rt; out.value, value, "{size:?} {source:x} {target:x}");
-        assert_eq!(rt; out.flags, codes(after), "{size:?} {source:x} {target:x}");
+        assert_eq!(rt; out.value, value, "row {row}");
+        assert_eq!(rt; out.flags, codes(after), "row {row}");
     }
 }
 
@@ -141,53 +140,53 @@ fn each_operation_at_its_corners(rt: HostRuntime) {
     holds(&rt, &SHIFTS);
 }
 
-// What a division gives: its value, or none where it has no quotient.
-fn value_of(quotient: Quotient) -> Option<u32> {
+/// What a division gives, in a word, and its value, or 0 where it has none.
+fn told(quotient: Quotient) -> (&'static str, u32) {
     match quotient {
-        Quotient::Value(value) => Some(value),
-        Quotient::Zero | Quotient::Overflow => None,
+        Quotient::Value(value) => ("value", value),
+        Quotient::Zero => ("zero", 0),
+        Quotient::Overflow => ("overflow", 0),
     }
 }
 
+// Whether it is signed, the divisor, the dividend, and what it gives.
+const DIVISIONS: [(bool, u16, u32, &str, u32); 16] = [
+    (false, 7, 100, "value", 0x0002_000e),
+    (false, 1, 0x0000_ffff, "value", 0x0000_ffff),
+    (false, 1, 0x0001_0000, "overflow", 0),
+    (false, 0xffff, 0xfffe_ffff, "value", 0xfffe_ffff),
+    (false, 0xffff, 0xffff_0000, "overflow", 0),
+    (true, 0xfffe, 7, "value", 0x0001_fffd),
+    (true, 2, 0xffff_fff9, "value", 0xffff_fffd),
+    (true, 1, 0xffff_8000, "value", 0x0000_8000),
+    (true, 1, 0xffff_7fff, "overflow", 0),
+    (true, 1, 0x0000_8000, "overflow", 0),
+    (true, 0xffff, 0xffff_8000, "overflow", 0),
+    (true, 0xffff, 0x8000_0000, "overflow", 0),
+    (true, 0x8000, 0x8000_0000, "overflow", 0),
+    (false, 0, 5, "zero", 0),
+    (true, 0, 0, "zero", 0),
+    (true, 1, 0x8000, "overflow", 0),
+];
+
 #[test]
 fn divides(rt: HostRuntime) {
-    let rows: [(bool, u16, u32, Option<u32>); 13] = [
-        (false, 7, 100, Some(0x0002_000e)),
-        (false, 1, 0x0000_ffff, Some(0x0000_ffff)),
-        (false, 1, 0x0001_0000, None),
-        (false, 0xffff, 0xfffe_ffff, Some(0xfffe_ffff)),
-        (false, 0xffff, 0xffff_0000, None),
-        (true, 0xfffe, 7, Some(0x0001_fffd)),
-        (true, 2, 0xffff_fff9, Some(0xffff_fffd)),
-        (true, 1, 0xffff_8000, Some(0x0000_8000)),
-        (true, 1, 0xffff_7fff, None),
-        (true, 1, 0x0000_8000, None),
-        (true, 0xffff, 0xffff_8000, None),
-        (true, 0xffff, 0x8000_0000, None),
-        (true, 0x8000, 0x8000_0000, None),
-    ];
-    for (signed, source, target, want) in rows {
-        assert_eq!(rt;
-            value_of(divide(signed, source, target)),
-            want,
-            "{target:x} / {source:x}"
-        );
+    for (signed, source, target, kind, value) in DIVISIONS {
+        let found = told(divide(signed, source, target));
+        assert_eq!(rt; found.0, kind, "{target:x} / {source:x}");
+        assert_eq!(rt; found.1, value);
     }
-    assert!(rt; matches!(divide(false, 0, 5), Quotient::Zero));
-    assert!(rt; matches!(divide(true, 0, 0), Quotient::Zero));
-    assert!(rt; matches!(divide(true, 1, 0x8000), Quotient::Overflow));
 }
 
 #[test]
 fn codes_of_divisions(rt: HostRuntime) {
-    assert_eq!(rt; Quotient::Zero.flags(codes(0b11111)), codes(0b11110));
-    assert_eq!(rt; Quotient::Overflow.flags(codes(0b11101)), codes(0b11110));
-    assert_eq!(rt;
-        Quotient::Value(0x0000_8000).flags(codes(0b10111)),
-        codes(0b11000)
-    );
-    assert_eq!(rt;
-        Quotient::Value(0x0001_0000).flags(codes(0b01011)),
-        codes(0b00100)
-    );
+    let rows = [
+        (Quotient::Zero, 0b11111, 0b11110),
+        (Quotient::Overflow, 0b11101, 0b11110),
+        (Quotient::Value(0x0000_8000), 0b10111, 0b11000),
+        (Quotient::Value(0x0001_0000), 0b01011, 0b00100),
+    ];
+    for (quotient, before, after) in rows {
+        assert_eq!(rt; quotient.flags(codes(before)), codes(after));
+    }
 }
