@@ -1,76 +1,78 @@
-mod five;
-
-use crate::{ChipSet, Event, laws};
-use five::{Board, Chip, Five, at, key, power_on, step_of};
+use crate::five::{Board, Chip, Five, at, key, power_on, step_of};
+use chip_core::{ChipSet, Event, laws};
 use md_word::{Entry, Key};
 use std::alloc::{AllocError, Global};
 use std::test::Fail;
 
-#[test]
-fn an_event_waits_for_earlier_chips(rt: HostRuntime) -> Result<(), Fail> {
-    let mut core = power_on(rt.alloc(), 4)?;
-    assert_eq!(rt; core.run_events(1, &[Event::Sample(1)]), 0);
-    assert_eq!(rt;
-        core.run_events(1, &[Event::Sample(0), Event::Sample(1), Event::Sample(0)]),
-        2
-    );
-    Ok(())
-}
+/// The first events of the five, of which the last has to wait.
+const FIRST: [Event; 5] = [
+    Event::Sample(0),
+    Event::Announce(0),
+    Event::Sample(1),
+    Event::Perform(2),
+    Event::Sample(0),
+];
 
+// The cycle below which events lie, a list, and how many of its events happen from power-on on.
 #[test]
 fn a_list_stops_at_the_first_event_that_is_not_enabled(rt: HostRuntime) -> Result<(), Fail> {
-    let mut core = power_on(rt.alloc(), 5)?;
-    let list = [
-        Event::Sample(0),
-        Event::Announce(0),
-        Event::Sample(1),
-        Event::Perform(2),
-        Event::Sample(0),
+    let rows: [(u64, &[Event], usize); 5] = [
+        (1, &[Event::Sample(1)], 0),
+        (
+            1,
+            &[Event::Sample(0), Event::Sample(1), Event::Sample(0)],
+            2,
+        ),
+        (1, &[Event::Sample(5)], 0),
+        (1, &FIRST[..4], 4),
+        (100, &FIRST, 4),
     ];
-    assert_eq!(rt; core.run_events(100, &list), 4);
-    let (board, chips, bounds, journal) = core.into_parts();
-    assert_eq!(rt; board, Board { line: 0 });
-    assert_eq!(rt;
-        chips.as_slice(),
-        [
-            seen(0, 70),
-            seen(1, 45),
-            at(2, 3420),
-            at(3, 16128),
-            at(4, 16128)
-        ]
-        .as_slice()
-    );
-    assert_eq!(rt; bounds.as_slice(), bounds_after_four_events().as_slice());
-    assert_eq!(rt; journal.as_slice(), [entry(key(2, 0))].as_slice());
+    for (t, list, want) in rows {
+        let mut core = power_on(rt.alloc(), 5)?;
+        assert!(rt; t <= 100 && list.len() <= 5);
+        assert_eq!(rt; core.run_events(t, list), want);
+    }
     Ok(())
 }
 
+#[test]
+fn four_events_leave_their_chips_and_bounds(rt: HostRuntime) -> Result<(), Fail> {
+    let mut core = power_on(rt.alloc(), 5)?;
+    assert_eq!(rt; core.run_events(100, &FIRST), 4);
+    let (board, chips, bounds, journal) = core.into_parts();
+    let want = [
+        seen(0, 70),
+        seen(1, 45),
+        at(2, 3420),
+        at(3, 16128),
+        at(4, 16128),
+    ];
+    assert_eq!(rt; board.line, 0);
+    assert!(rt; chips.as_slice() == want.as_slice());
+    assert!(rt; bounds.as_slice() == bounds_after_four_events().as_slice());
+    assert!(rt; journal.as_slice() == [entry(key(2, 0))].as_slice());
+    Ok(())
+}
+
+// Below cycle 1 no event is left, and below 46 there is the second chip's sample.
 #[test]
 fn a_core_with_no_key_below_the_end_has_no_event_left(rt: HostRuntime) -> Result<(), Fail> {
     let mut core = power_on(rt.alloc(), 4)?;
     assert_eq!(rt; core.some_enabled(1), Some(Event::Sample(0)));
-    let list = [
-        Event::Sample(0),
-        Event::Announce(0),
-        Event::Sample(1),
-        Event::Perform(2),
-    ];
-    assert_eq!(rt; core.run_events(1, &list), 4);
-    assert_eq!(rt; core.is_short(1), false);
-    assert_eq!(rt; core.some_enabled(1), None);
-    assert_eq!(rt; core.is_short(46), true);
-    assert_eq!(rt; core.some_enabled(46), Some(Event::Sample(1)));
+    assert_eq!(rt; core.run_events(1, &FIRST[..4]), 4);
+    for (t, event) in [(1, None), (46, Some(Event::Sample(1)))] {
+        assert_eq!(rt; core.some_enabled(t), event);
+        assert_eq!(rt; core.is_short(t), event.is_some());
+    }
     Ok(())
 }
 
 #[test]
 fn a_number_that_no_chip_has_is_never_enabled(rt: HostRuntime) -> Result<(), Fail> {
-    let mut core = power_on(rt.alloc(), 1)?;
-    assert_eq!(rt; core.enabled(1, Event::Announce(5)), false);
-    assert_eq!(rt; core.enabled(1, Event::Perform(5)), false);
-    assert_eq!(rt; core.enabled(1, Event::Sample(255)), false);
-    assert_eq!(rt; core.run_events(1, &[Event::Sample(5)]), 0);
+    let core = power_on(rt.alloc(), 1)?;
+    for event in [Event::Announce(5), Event::Perform(5), Event::Sample(255)] {
+        assert_eq!(rt; core.enabled(1, event), false);
+    }
     Ok(())
 }
 
@@ -86,8 +88,8 @@ fn each_event_does_what_it_says(rt: HostRuntime) -> Result<(), Fail> {
     assert!(rt; core.enabled(1 << 50, Event::Perform(2)));
     core.perform(2);
     let (_board, _chips, bounds, journal) = core.into_parts();
-    assert_eq!(rt; bounds.as_slice(), bounds_after_four_events().as_slice());
-    assert_eq!(rt; journal.as_slice(), [entry(key(2, 0))].as_slice());
+    assert!(rt; bounds.as_slice() == bounds_after_four_events().as_slice());
+    assert!(rt; journal.as_slice() == [entry(key(2, 0))].as_slice());
     Ok(())
 }
 
@@ -164,9 +166,9 @@ fn the_run_is_that_of_the_least_key(rt: HostRuntime) -> Result<(), Fail> {
     laws::room(&core, 40000);
     laws::run_least(&mut core, 40000);
     let (board, chips, _bounds, journal) = core.into_parts();
-    assert_eq!(rt; board, plain_board);
-    assert_eq!(rt; chips.as_slice(), plain_chips.as_slice());
-    assert_eq!(rt; journal.as_slice(), plain_journal.as_slice());
+    assert_eq!(rt; board.line, plain_board.line);
+    assert!(rt; chips.as_slice() == plain_chips.as_slice());
+    assert!(rt; journal.as_slice() == plain_journal.as_slice());
     assert_eq!(rt; journal.len(), 16);
     Ok(())
 }
@@ -174,8 +176,9 @@ fn the_run_is_that_of_the_least_key(rt: HostRuntime) -> Result<(), Fail> {
 #[test]
 fn the_set_is_as_its_rules_say(rt: HostRuntime) {
     assert_eq!(rt; Five::count(), 5);
-    assert_eq!(rt; Five::writes(2, 0), true);
-    assert_eq!(rt; Five::writes(0, 2), false);
+    for (writer, chip, want) in [(2, 0, true), (0, 2, false)] {
+        assert_eq!(rt; Five::writes(writer, chip), want);
+    }
 }
 
 #[test]

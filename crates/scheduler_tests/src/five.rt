@@ -1,27 +1,27 @@
 ghost use Rattle.std.specs.Prelude.{◌≡◌, ◌==◌, cond, [], ◌∷◌, IfOk};
 
-use crate::{ChipSet, Core};
+use chip_core::{ChipSet, Core};
 use md_word::{Entry, Key, Next};
 use std::alloc::{AllocError, Global};
 
 // Five chips at the gaps of a Mega Drive: two of them sample, and three make accesses, of which one
 // changes the pins.
-pub(super) struct Five;
+pub struct Five;
 
-#[derive(Clone, Copy, PartialEq, Debug)]
-pub(super) struct Chip {
-    pub(super) number: u8,
-    pub(super) cycle: u64,
+#[derive(Clone, Copy, PartialEq)]
+pub struct Chip {
+    pub number: u8,
+    pub cycle: u64,
     // the pins that it last saw
-    pub(super) seen: u64,
+    pub seen: u64,
 }
 
-#[derive(Clone, Copy, PartialEq, Debug)]
-pub(super) struct Board {
-    pub(super) line: u64,
+#[derive(Clone, Copy)]
+pub struct Board {
+    pub line: u64,
 }
 
-pub(super) fn step_of(chip: u8) -> u64
+pub fn step_of(chip: u8) -> u64
     ensures { result ≡ cond (chip == 0) 70 (cond (chip == 1) 45 (cond (chip == 2) 3420 16128)) }
 {
     match chip {
@@ -173,7 +173,7 @@ impl ChipSet for Five {
 }
 
 // The five at power-on, each bound equal to its chip's key.
-pub(super) fn power_on(alloc: Global, room: usize) -> Result<Core<Five>, AllocError>
+pub fn power_on(alloc: Global, room: usize) -> Result<Core<Five>, AllocError>
     ensures { IfOk result (λ core. core ≡ record {
       shared = record { line = 0 };
       chips = record { number = 0; cycle = 0; seen = 7 } ∷ record { number = 1; cycle = 0; seen = 7 }
@@ -197,7 +197,7 @@ pub(super) fn power_on(alloc: Global, room: usize) -> Result<Core<Five>, AllocEr
     Ok(Core::make(Board { line: 0 }, chips, bounds, journal))
 }
 
-pub(super) fn at(number: u8, cycle: u64) -> Chip
+pub fn at(number: u8, cycle: u64) -> Chip
     ensures { result ≡ record { number = number; cycle = cycle; seen = 7 } }
 {
     Chip {
@@ -207,7 +207,7 @@ pub(super) fn at(number: u8, cycle: u64) -> Chip
     }
 }
 
-pub(super) fn key(chip: u8, cycle: u64) -> Key
+pub fn key(chip: u8, cycle: u64) -> Key
     ensures { result ≡ record { cycle = cycle; chip = chip } }
 {
     Key { cycle, chip }
