@@ -1,7 +1,7 @@
 ghost use Rattle.std.specs.Prelude.{IsTrue};
 ghost use Rattle.md_word.specs.Modes.{IsMode};
 
-use m68k_ea::{Place, place, stepped};
+use m68k_ea::{Place, place, step, stepped};
 use md_word::Mode::{
     self, AbsLong, AbsShort, Address, Data, Displaced, Immediate, Indexed, Indirect, PcDisplaced,
     PcIndexed, PostInc, PreDec,
@@ -138,9 +138,12 @@ fn operands_of_instructions(rt: HostRuntime) {
 
 #[test]
 fn a_step_moves_the_active_stack_pointer(rt: HostRuntime) {
-    let regs = stepped(PostInc(7), Byte, &USER);
-    assert_eq!(rt; regs.usp, 0x00ff_0002);
-    assert_eq!(rt; regs.ssp, 0x0100_0000);
+    let mut moved = USER;
+    step(PostInc(7), Byte, &mut moved);
+    for regs in [moved, stepped(PostInc(7), Byte, &USER)] {
+        assert_eq!(rt; regs.usp, 0x00ff_0002);
+        assert_eq!(rt; regs.ssp, 0x0100_0000);
+    }
 }
 
 #[test]

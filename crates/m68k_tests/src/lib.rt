@@ -1,4 +1,5 @@
-//! Tests of the 68000: arithmetic, decoding, effective addresses, times and exceptions.
+//! Tests of the 68000: arithmetic, decoding, effective addresses, times, exceptions
+//! and whole samples.
 #![tactic(auto)]
 
 #[cfg(test)]
@@ -6,9 +7,13 @@ mod addresses;
 #[cfg(test)]
 mod arithmetic;
 #[cfg(test)]
+mod case;
+#[cfg(test)]
 mod decoding;
 #[cfg(test)]
 mod exceptions;
+#[cfg(test)]
+mod samples;
 #[cfg(test)]
 mod text;
 #[cfg(test)]

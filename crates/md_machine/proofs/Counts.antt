@@ -2,7 +2,8 @@
 use Rattle.std.proofs.Common.{◌≡◌, ℕ, zero, suc, ◌+◌, ◌-◌, ◌*◌, ◌/◌, ◌<◌, ◌≤◌, cond, Bool, true, false, List, [], ◌∷◌, length, length-append, refl, sym, ap, ◌∙◌, subst, arith}
 use Rattle.std.specs.Prelude.{ℤ}
 use Rattle.md_word.specs.declared.event.Entry.{Entry}
-use Rattle.m68k_chip.specs.Chip.{next_of, request_of}
+use Rattle.m68k_chip.specs.Events.{request_of}
+use Rattle.m68k_chip.specs.States.{next_of}
 use Rattle.psg_sound.specs.Port.{taken_below}
 use Rattle.psg_sound.specs.SynthLaws.{length-samples}
 use Rattle.md_machine.specs.Bus.{entry_of}
@@ -23,7 +24,7 @@ batch : (z : Console) (i : ℕ) → i < 5 → Batch z i
 unfolding key_in moved heard main_moved psg_moved
 batch z =
     five-each (λ i. Batch z i)
-    (none (main-leaves (next_of z.cpu).sample _ _ z.psg_cycle refl refl) refl)
+    (none (main-leaves (next_of z.main).sample _ _ z.psg_cycle refl refl) refl)
     (none refl refl) (none refl refl) (none refl refl)
     (made refl refl (length-samples (first_of z.psg_cycle) z.psg (taken_below z.psg_cycle z.held)))
 
@@ -77,7 +78,7 @@ told-by false e = omega arith
 told-few : (z : Console) (i : ℕ) → i < 5 → length (told z i) ≤ 1
 unfolding told
 told-few z = five-each (λ i. length (told z i) ≤ 1)
-    (told-by (next_of z.cpu).sample (entry_of (next_of z.cpu).key (request_of z.cart z.cpu))) (omega arith) (omega arith) (omega arith) (omega arith)
+    (told-by (next_of z.main).sample (entry_of (next_of z.main).key (request_of z.cart z.main))) (omega arith) (omega arith) (omega arith) (omega arith)
 
 journal-few : (m : Console) (n : ℕ) → length (journal m n) ≤ n
 unfolding journal

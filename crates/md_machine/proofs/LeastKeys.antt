@@ -4,7 +4,7 @@ use Rattle.md_word.specs.Keys.{key_lt}
 use Rattle.md_word.specs.declared.key.Key.{Key}
 use Rattle.chip_core.specs.Machines.{least_below}
 use Rattle.chip_core.proofs.Keys.{least-is, rank}
-use Rattle.m68k_chip.specs.Chip.{next_of}
+use Rattle.m68k_chip.specs.States.{next_of}
 use Rattle.md_machine.specs.Console.{Console, key_in, mover}
 use Rattle.md_machine.proofs.Moves.{five-each}
 

@@ -1,3 +1,4 @@
+pub mod Advances
 pub mod Appended
 pub mod Counts
 pub mod Joined

@@ -3,7 +3,8 @@ use Rattle.std.proofs.Common.{◌≡◌, ℕ, zero, suc, ◌/◌, ◌%◌, ◌^�
 use Rattle.md_word.specs.declared.event.Entry.{Entry}
 use Rattle.md_word.specs.declared.key.Key.{Key}
 use Rattle.chip_core.specs.Machines.{IsSound, Machine, entries, is_sample, key_of, move, put}
-use Rattle.m68k_chip.specs.Chip.{next_of, request_of}
+use Rattle.m68k_chip.specs.Events.{request_of}
+use Rattle.m68k_chip.specs.States.{next_of}
 use Rattle.psg_sound.specs.Port.{taken_below}
 use Rattle.md_machine.specs.Bus.{entry_of}
 use Rattle.md_machine.specs.Stubs as stubs

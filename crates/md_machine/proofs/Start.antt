@@ -6,9 +6,9 @@ use Rattle.md_word.specs.declared.event.Entry.{Entry}
 use Rattle.md_word.specs.declared.key.Key.{Key}
 use Rattle.rom_header.specs.Cartridge.{IsImage}
 use Rattle.chip_core.specs.Cores.{IsCore, machine_of, no_key}
-use Rattle.m68k_chip.specs.Chip as main
-use Rattle.m68k_chip.specs.Chip.{next_of}
-use Rattle.m68k_chip.specs.Laws.{power_on-ok}
+use Rattle.m68k_chip.specs.States as states
+use Rattle.m68k_chip.specs.States.{next_of}
+use Rattle.m68k_chip.proofs.Laws.{power_on-ok}
 use Rattle.md_machine.specs.Console.{power_on}
 use Rattle.md_machine.specs.First.{first_bounds, first_chips}
 use Rattle.md_machine.specs.Machines.{IsMachine, core_in, machine_at}
@@ -22,7 +22,7 @@ use Rattle.chip_core.specs.Machines as machines
 use Rattle.md_machine.proofs.Moves.{five-each}
 
 pub first-core : (cart : List ℕ) (room : ℕ) → IsImage cart → IsCore five IsChip IsBoard (core_in (Some (record { held = [] })) (first_chips cart) first_bounds [] room)
-unfolding next_of main.power_on
+unfolding next_of states.power_on
 first-core cart room image = record {
   shape = record {
     chip_count = refl;

@@ -11,18 +11,19 @@ use Rattle.md_machine.specs.declared.access.Access.{Access}
 use Rattle.psg_sound.specs.Port.{held_with}
 use Rattle.psg_sound.specs.declared.write.PsgWrite.{PsgWrite}
 
--- what an access answers, and how the journal tells it
+-- what an access answers, and how the journal tells it; a word of a transfer costs 34 cycles, since
+-- nothing is drawn
 abbrev pub access_of : Request68 → Access
-access_of (Read8 address) = record { answer = 0xff; kind = 0; address = address; value = 0xff }
-access_of (Read16 address) = record { answer = 0xffff; kind = 1; address = address; value = 0xffff }
-access_of (Write8 address value) = record { answer = 0; kind = 2; address = address; value = value }
-access_of (Write16 address value) = record { answer = 0; kind = 3; address = address; value = value }
-access_of (Ack level) = record { answer = 0; kind = 4; address = 0; value = level }
-access_of (Word value) = record { answer = 0; kind = 5; address = 0; value = value }
+access_of (Read8 address) = record { answer = 0xff; cost = 0; kind = 0; address = address; value = 0xff }
+access_of (Read16 address) = record { answer = 0xffff; cost = 0; kind = 1; address = address; value = 0xffff }
+access_of (Write8 address value) = record { answer = 0; cost = 0; kind = 2; address = address; value = value }
+access_of (Write16 address value) = record { answer = 0; cost = 0; kind = 3; address = address; value = value }
+access_of (Ack level) = record { answer = 0; cost = 0; kind = 4; address = 0; value = level }
+access_of (Word value) = record { answer = 0; cost = 34; kind = 5; address = 0; value = value }
 
 -- the answer to an access, which starts no transfer
 unfoldable pub answer_of : Request68 → Answer68
-answer_of request = record { value = (access_of request).answer; transfer = None; cost = 0 }
+answer_of request = record { value = (access_of request).answer; transfer = None; cost = (access_of request).cost }
 
 -- the entry of an access with this key
 unfoldable pub entry_of : Key → Request68 → Entry

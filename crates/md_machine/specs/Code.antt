@@ -1,11 +1,13 @@
 -- Chips and board as lists of numbers, and back.
-use Rattle.std.specs.Prelude.{◌≡◌, ℕ, ◌⊎◌, refl}
+use Rattle.std.specs.Prelude.{◌≡◌, ℕ, ◌⊎◌, Bool, true, false, refl}
 use Rattle.std.proofs.Common.{inl, inr}
 use Rattle.md_word.specs.Coding.{Way, number, flag, integer, both, either, many, maybe, by_way}
 use Rattle.md_word.specs.declared.main_bus.Answer68.{Answer68}
 use Rattle.md_word.specs.declared.main_bus.Transfer.{Transfer}
 use Rattle.md_word.specs.declared.regs.Regs.{Regs}
-use Rattle.m68k_chip.specs.Chip.{State68}
+use Rattle.m68k_chip.specs.States.{State68}
+use Rattle.m68k_chip.specs.declared.stage.Stage.{Stage}
+use Rattle.m68k_chip.specs.declared.stage.Stage.TheVariants.{Sample, Access, Word}
 use Rattle.psg_sound.specs.Synth.{Synth}
 use Rattle.psg_sound.specs.declared.divider.Divider.{Divider}
 use Rattle.psg_sound.specs.declared.noise.Noise.{Noise}
@@ -24,18 +26,60 @@ regs_way =
     (λ r. ((r.d, r.a), ((r.usp, r.ssp), (r.pc, r.sr))))
     (λ p. record { d = p.0.0; a = p.0.1; usp = p.1.0.0; ssp = p.1.0.1; pc = p.1.1.0; sr = p.1.1.1 }) (λ r. refl)
 
--- the way of the 68000's state
-abbrev pub state_way : Way State68
-state_way =
-    by_way (both (both regs_way (many number)) (both (both number number) (both flag (maybe (both number number)))))
-    (λ s. ((s.regs, s.ram), ((s.next, s.start), (s.asking, s.unbuilt))))
-    (λ p. record { regs = p.0.0; ram = p.0.1; next = p.1.0.0; start = p.1.0.1; asking = p.1.1.0; unbuilt = p.1.1.1 }) (λ s. refl)
+-- a stage by two flags: whether an access is next, and whether it is a word
+abbrev pub stage_of : Bool → Bool → Stage
+stage_of false word = Sample
+stage_of true false = Access
+stage_of true true = Word
+
+-- whether an access is next, of a chip or of a transfer
+abbrev pub is_access : Stage → Bool
+is_access Sample = false
+is_access Access = true
+is_access Word = true
+
+-- whether a word of a transfer is next
+abbrev pub is_word : Stage → Bool
+is_word Sample = false
+is_word Access = false
+is_word Word = true
+
+-- the two flags tell the stage
+pub stage_same : (stage : Stage) → stage_of (is_access stage) (is_word stage) ≡ stage
+stage_same Sample = refl
+stage_same Access = refl
+stage_same Word = refl
+
+-- the way of a stage
+abbrev pub stage_way : Way Stage
+stage_way = by_way (both flag flag) (λ s. (is_access s, is_word s)) (λ p. stage_of p.0 p.1) stage_same
 
 -- the way of a transfer
 abbrev pub transfer_way : Way Transfer
 transfer_way =
     by_way (both number (both number number)) (λ t. (t.source, (t.words, t.cost)))
     (λ p. record { source = p.0; words = p.1.0; cost = p.1.1 }) (λ t. refl)
+
+-- the way of the 68000's state
+abbrev pub state_way : Way State68
+state_way =
+    by_way
+    (both (both (both number stage_way) (both number regs_way)) (both (both (both flag flag) (both (maybe number) number)) (both (many number) (both transfer_way (many number)))))
+    (λ s. (((s.next, s.stage), (s.start, s.regs)), (((s.stopped, s.trace), (s.halted, s.cause)), (s.answers, (s.transfer, s.ram)))))
+    (λ p. record {
+      next = p.0.0.0;
+      stage = p.0.0.1;
+      start = p.0.1.0;
+      regs = p.0.1.1;
+      stopped = p.1.0.0.0;
+      trace = p.1.0.0.1;
+      halted = p.1.0.1.0;
+      cause = p.1.0.1.1;
+      answers = p.1.1.0;
+      transfer = p.1.1.1.0;
+      ram = p.1.1.1.1;
+    })
+    (λ s. refl)
 
 -- the way of an answer
 abbrev pub answer_way : Way Answer68

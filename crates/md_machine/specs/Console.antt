@@ -3,12 +3,13 @@ use Rattle.std.specs.Prelude.{◌≡◌, ℕ, zero, suc, ℤ, ◌+◌, ◌-◌, 
 use Rattle.md_word.specs.declared.event.Entry.{Entry}
 use Rattle.md_word.specs.declared.key.Key.{Key}
 use Rattle.chip_core.specs.Machines.{least_below}
-use Rattle.m68k_chip.specs.Chip.{State68, begun, ended, next_of, request_of}
+use Rattle.m68k_chip.specs.Events.{answered, begun, request_of}
+use Rattle.m68k_chip.specs.States.{State68, next_of}
+use Rattle.m68k_chip.specs.States as states
 use Rattle.psg_sound.specs.Batches.{after_batch, samples}
 use Rattle.psg_sound.specs.Port.{left_from, taken_below}
 use Rattle.psg_sound.specs.Synth.{Synth, at_power_on}
 use Rattle.psg_sound.specs.declared.write.PsgWrite.{PsgWrite}
-use Rattle.m68k_chip.specs.Chip as main
 use Rattle.md_machine.specs.Bus.{answer_of, entry_of, held_after}
 use Rattle.md_machine.specs.Stubs as stubs
 
@@ -16,7 +17,7 @@ use Rattle.md_machine.specs.Stubs as stubs
 pub record Console : Type 0 where
   -- the cartridge's image
   pub cart : List ℕ
-  pub cpu : State68
+  pub main : State68
   -- the cycles of the next events of the Z80, the lines, the FM batches and the PSG batches
   pub sub : ℕ
   pub line : ℕ
@@ -31,7 +32,7 @@ pub record Console : Type 0 where
 abbrev pub power_on : List ℕ → Console
 power_on cart = record {
   cart = cart;
-  cpu = main.power_on cart;
+  main = states.power_on cart;
   sub = 0;
   line = 0;
   fm = 16128;
@@ -47,19 +48,19 @@ first_of cycle = 16 * (cycle / 16128 - 1)
 -- the keys of the next events
 unfoldable pub key_in : Console → ℕ → Key
 key_in m i =
-    cond (i == 0) (next_of m.cpu).key
+    cond (i == 0) (next_of m.main).key
     (cond (i == 1) (record { cycle = m.sub; chip = 1 })
     (cond (i == 2) (record { cycle = m.line; chip = 2 })
     (cond (i == 3) (record { cycle = m.fm; chip = 3 }) (record { cycle = m.psg_cycle; chip = 4 }))))
 
--- the 68000: a sample begins an instruction, and an access ends one
+-- the 68000: a sample begins an instruction, and an access goes on with its answer
 unfoldable pub main_moved : Console → Console
 main_moved m =
-    cond (next_of m.cpu).sample
-    (record m { cpu = begun m.cart m.cpu 0 })
+    cond (next_of m.main).sample
+    (record m { main = begun m.cart m.main 0 })
     (record m {
-      cpu = ended m.cart m.cpu (answer_of (request_of m.cart m.cpu)).value;
-      held = held_after m.held (next_of m.cpu).key (request_of m.cart m.cpu);
+      main = answered m.cart m.main (answer_of (request_of m.cart m.main));
+      held = held_after m.held (next_of m.main).key (request_of m.cart m.main);
     })
 
 -- the PSG takes the writes below its cycle and makes a batch of 16 samples
@@ -81,7 +82,7 @@ moved m i =
 -- the entry that it gives, if it is an access
 unfoldable pub told : Console → ℕ → List Entry
 told m i =
-    cond (i == 0) (cond (next_of m.cpu).sample [] (entry_of (next_of m.cpu).key (request_of m.cart m.cpu) ∷ []))
+    cond (i == 0) (cond (next_of m.main).sample [] (entry_of (next_of m.main).key (request_of m.cart m.main) ∷ []))
     (cond (i == 1) []
     (cond (i == 2) (stubs.line_entry m.line ∷ [])
     (cond (i == 3) (stubs.fm_entry m.fm ∷ [])

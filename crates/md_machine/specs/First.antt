@@ -1,7 +1,7 @@
 -- The parts of the machine at power-on.
 use Rattle.std.specs.Prelude.{ℕ, List, [], ◌∷◌, None}
 use Rattle.md_word.specs.declared.key.Key.{Key}
-use Rattle.m68k_chip.specs.Chip.{power_on}
+use Rattle.m68k_chip.specs.States.{power_on}
 use Rattle.psg_sound.specs.Synth.{at_power_on}
 use Rattle.md_machine.specs.declared.chips.Chip.{Chip}
 use Rattle.md_machine.specs.declared.chips.Chip.TheVariants.{Main, Sub, Line, Fm, Psg}

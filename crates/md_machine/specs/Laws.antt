@@ -1,16 +1,19 @@
 -- What the scheduler asks of the five chips.
 use Rattle.std.specs.Prelude.{◌≡◌, ℕ, ◌^◌, ◌<◌, ◌≤◌, nat_le, Bool, true, false, ◌==◌, refl, List, ◌++◌, length, ℤ, Option, Some, None, cond}
-use Rattle.std.proofs.Common.{arith, sym, length-append, lit<, lit≤}
+use Rattle.std.proofs.Common.{inl, arith, sym, length-append, lit<, lit≤}
 use Rattle.std.proofs.lemmas.Bool.Decides.{nat_tests}
 use Rattle.chip_core.specs.Chips.{Follows, IsDue, Lawful}
 use Rattle.md_word.specs.declared.key.Key.{Key}
 use Rattle.md_word.specs.declared.main_bus.Request68.{Request68}
-use Rattle.m68k_chip.specs.Chip.{State68, next_of}
+use Rattle.md_word.specs.declared.main_bus.Request68.TheVariants.{Read8, Read16, Write8, Write16, Ack, Word}
+use Rattle.m68k_chip.specs.Events.{request_of}
+use Rattle.m68k_chip.specs.Sound.{Fits, FitsValue, IsCost}
+use Rattle.m68k_chip.specs.States.{State68, next_of}
 use Rattle.psg_sound.specs.Batches.{samples}
 use Rattle.psg_sound.specs.Port.{IsPort, taken_below}
 use Rattle.psg_sound.specs.declared.write.PsgWrite.{PsgWrite}
-use Rattle.md_machine.specs.Bus.{entry_of, held_after, held_by, psg_byte}
-use Rattle.m68k_chip.specs.Laws.{begun-ok, begun-later, ended-ok, ended-later}
+use Rattle.md_machine.specs.Bus.{answer_of, entry_of, held_after, held_by, psg_byte}
+use Rattle.m68k_chip.proofs.Laws.{answered-later, answered-ok, begun-later, begun-ok}
 use Rattle.psg_sound.specs.PortLaws.{IsPort-held_with, IsPort-left_from, taken_below-few}
 use Rattle.psg_sound.specs.SynthLaws.{IsSynth-after_batch, length-samples}
 use Rattle.md_machine.specs.Parts.{BoardValue, IsBoard, IsPsg, PsgValue}
@@ -22,10 +25,20 @@ use Rattle.md_machine.specs.declared.chips.Chip.TheVariants.{Main, Sub, Line, Fm
 clash : true ≡ false → ⊥
 clash same = cc
 
+-- what the board answers fits
+pub answer-fits : (request : Request68) → Fits request (answer_of request)
+unfolding answer_of
+answer-fits (Read8 at) = record { value = lit< tt; transfer = tt; cost = tt }
+answer-fits (Read16 at) = record { value = lit< tt; transfer = tt; cost = tt }
+answer-fits (Write8 at value) = record { value = refl; transfer = tt; cost = tt }
+answer-fits (Write16 at value) = record { value = refl; transfer = tt; cost = tt }
+answer-fits (Ack level) = record { value = refl; transfer = tt; cost = tt }
+answer-fits (Word value) = record { value = refl; transfer = tt; cost = inl refl }
+
 -- an access leads to a next event a gap later
 access-next : (c : Chip) (s : BoardValue) (i : ℕ) → IsDue five IsChip IsBoard c s i false → Follows gap (next c).key (next (advance (perform c s).chip)).key
 unfolding next_of
-access-next (Main c) s i d = record { number = refl; later = ended-later c.chip _ d.chip d.kind }
+access-next (Main c) s i d = record { number = refl; later = answered-later c.chip _ d.chip d.kind (answer-fits (request_of c.chip.cart c.chip.state)) }
 access-next (Sub c) s i d = absurd (clash d.kind)
 access-next (Line c) s i d = record { number = refl; later = omega arith }
 access-next (Fm c) s i d = record { number = refl; later = omega arith }
@@ -57,14 +70,14 @@ psg-ok c s ok board = record {
 }
 
 access-chip : (c : Chip) (s : BoardValue) (i : ℕ) → IsDue five IsChip IsBoard c s i false → IsChip (advance (perform c s).chip)
-access-chip (Main c) s i d = ended-ok c.chip _ d.chip d.kind
+access-chip (Main c) s i d = answered-ok c.chip _ d.chip d.kind (answer-fits (request_of c.chip.cart c.chip.state))
 access-chip (Sub c) s i d = tt
 access-chip (Line c) s i d = tt
 access-chip (Fm c) s i d = tt
 access-chip (Psg c) s i d = psg-ok c s d.chip d.shared
 
 sample-chip : (c : Chip) (s : BoardValue) (i : ℕ) → IsDue five IsChip IsBoard c s i true → IsChip (sample c no_pins)
-sample-chip (Main c) s i d = begun-ok c.chip 0 d.chip d.kind
+sample-chip (Main c) s i d = begun-ok c.chip 0 refl d.chip d.kind
 sample-chip (Sub c) s i d = tt
 sample-chip (Line c) s i d = tt
 sample-chip (Fm c) s i d = tt

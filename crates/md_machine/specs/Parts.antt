@@ -1,6 +1,6 @@
 -- The parts of the machine as contracts see them.
 use Rattle.std.specs.Prelude.{ℕ, ℤ, ◌≤◌, List, length}
-use Rattle.m68k_chip.specs.Chip.{IsChip68}
+use Rattle.m68k_chip.specs.Sound.{IsChip68}
 use Rattle.md_machine.specs.declared.main_chip.MainChip.{MainChip}
 use Rattle.psg_sound.specs.Port.{IsPort}
 use Rattle.psg_sound.specs.Synth.{Synth, IsSynth}

@@ -1,7 +1,7 @@
 -- The record of a machine of five chips.
 use Rattle.std.specs.Prelude.{ℕ, [], None}
 use Rattle.chip_core.specs.Machines.{Machine}
-use Rattle.m68k_chip.specs.Chip as main
+use Rattle.m68k_chip.specs.States as states
 use Rattle.psg_sound.specs.Synth.{at_power_on}
 use Rattle.md_machine.specs.Console.{Console}
 use Rattle.md_machine.specs.Parts.{BoardValue, PsgValue}
@@ -12,7 +12,7 @@ use Rattle.md_machine.specs.declared.chips.Chip.TheVariants.{Main, Sub, Line, Fm
 -- the 68000 of a chip; where it is another, any
 abbrev pub main_of : Chip → MainChip
 main_of (Main c) = c
-main_of _ = record { chip = record { cart = []; state = main.power_on [] }; answer = None }
+main_of _ = record { chip = record { cart = []; state = states.power_on [] }; answer = None }
 
 -- the PSG of a chip; where it is another, any
 abbrev pub psg_of : Chip → PsgValue
@@ -31,7 +31,7 @@ cycle_of _ = 0
 abbrev pub record_of : Chip → Chip → Chip → Chip → Chip → BoardValue → Console
 record_of c0 c1 c2 c3 c4 b = record {
   cart = (main_of c0).chip.cart;
-  cpu = (main_of c0).chip.state;
+  main = (main_of c0).chip.state;
   sub = cycle_of c1;
   line = cycle_of c2;
   fm = cycle_of c3;

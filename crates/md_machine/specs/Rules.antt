@@ -4,7 +4,8 @@ use Rattle.md_word.specs.declared.event.Next.{Next}
 use Rattle.md_word.specs.declared.main_bus.Answer68.{Answer68}
 use Rattle.md_word.specs.declared.pins.Pins68.{Pins68}
 use Rattle.chip_core.specs.Chips.{Accessed, Rules}
-use Rattle.m68k_chip.specs.Chip.{begun, ended, next_of, request_of}
+use Rattle.m68k_chip.specs.Events.{answered, begun, request_of}
+use Rattle.m68k_chip.specs.States.{next_of}
 use Rattle.psg_sound.specs.Batches.{after_batch, samples}
 use Rattle.psg_sound.specs.Port.{left_from, taken_below}
 use Rattle.md_machine.specs.Bus.{answer_of, entry_of, held_after}
@@ -14,14 +15,14 @@ use Rattle.md_machine.specs.declared.main_chip.MainChip.{MainChip}
 use Rattle.md_machine.specs.declared.chips.Chip.{Chip}
 use Rattle.md_machine.specs.declared.chips.Chip.TheVariants.{Main, Sub, Line, Fm, Psg}
 
--- the value of an answer that is kept
-abbrev pub answered : Option Answer68 → ℕ
-answered None = 0
-answered (Some answer) = answer.value
+-- the answer that is kept; where there is none, any
+abbrev pub answer_in : Option Answer68 → Answer68
+answer_in None = record { value = 0; transfer = None; cost = 0 }
+answer_in (Some answer) = answer
 
 -- the 68000: an access keeps its answer, and the private work takes it
 abbrev pub main_advance : MainChip → MainChip
-main_advance c = record { chip = record c.chip { state = ended c.chip.cart c.chip.state (answered c.answer) }; answer = None }
+main_advance c = record { chip = record c.chip { state = answered c.chip.cart c.chip.state (answer_in c.answer) }; answer = None }
 
 -- the 68000 begins an instruction
 abbrev pub main_sample : MainChip → ℕ → MainChip

@@ -3,10 +3,15 @@ ghost use Rattle.md_machine.specs.Bus as bus;
 
 use md_word::Request68;
 
+/// The master cycles of a transferred word while nothing is drawn.
+const UNDRAWN_COST: u16 = 34;
+
 /// What an access answers, and how the journal tells it.
 #[derive(Clone, Copy)]
 pub(crate) struct Access {
     pub answer: u16,
+    /// The master cycles that a word of a transfer tells for the next.
+    pub cost: u16,
     pub kind: u8,
     pub address: u32,
     pub value: u16,
@@ -16,6 +21,10 @@ pub(crate) struct Access {
 pub(crate) fn access_of(request: Request68) -> Access
     ensures { result ≡ bus.access_of request }
 {
+    let cost = match request {
+        Request68::Word(_) => UNDRAWN_COST,
+        _ => 0,
+    };
     let (answer, kind, address, value) = match request {
         Request68::Read8(address) => (0xff, 0, address, 0xff),
         Request68::Read16(address) => (0xffff, 1, address, 0xffff),
@@ -26,6 +35,7 @@ pub(crate) fn access_of(request: Request68) -> Access
     };
     Access {
         answer,
+        cost,
         kind,
         address,
         value,

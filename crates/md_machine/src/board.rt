@@ -49,7 +49,7 @@ impl Board {
         let answer = Answer68 {
             value: access.answer,
             transfer: None,
-            cost: 0,
+            cost: access.cost,
         };
         let entry = Entry {
             key,

@@ -3,6 +3,7 @@ ghost use Rattle.std.specs.Arc.{arc_value};
 ghost use Rattle.md_machine.specs.Console.{IsRunTo, key_in, mover, power_on};
 ghost use Rattle.md_machine.specs.Outputs.{journal_bytes, sound_bytes};
 ghost use Rattle.md_machine.specs.Refinement.{main_of};
+ghost use Rattle.md_machine.specs.Rules.{next};
 
 use crate::board::Board;
 use crate::chips::Chip;
@@ -12,6 +13,7 @@ use crate::least::least_key;
 use crate::parts::{Parts, run_parts};
 use crate::set::MdChips;
 use chip_core::laws;
+use m68k_chip::Chip68;
 use md_word::{Entry, Key, NoMemory};
 use rom_header::Cart;
 use std::alloc::Global;
@@ -110,11 +112,11 @@ impl Machine {
         }
     }
 
-    /// The first opcode that the 68000 met and that is not built, with its address.
-    pub fn not_built(&self) -> Option<(u16, u32)>
-        ensures { result ≡ self.now.console.cpu.unbuilt }
+    /// The 68000.
+    pub fn main_chip(&self) -> &Chip68
+        ensures { result.now ≡ record { cart = self.now.console.cart; state = self.now.console.main } }
     {
-        unbuilt_of(&self.chips[0])
+        main_in(&self.chips[0])
     }
 
     /// Appends the journal's records of the accesses since the machine was last drained.
@@ -142,13 +144,14 @@ impl Machine {
     }
 }
 
-/// The opcode that a chip met and that is not built; none where the chip is not the 68000.
-#[tactic(auto, unfolding(m68k_chip::specs::Chip::power_on))]
-fn unbuilt_of(chip: &Chip) -> Option<(u16, u32)>
-    ensures { result ≡ (main_of chip.now).chip.state.unbuilt }
+/// The 68000 of the chip whose number is 0.
+#[tactic(auto, unfolding(m68k_chip::specs::States::next_of))]
+fn main_in(chip: &Chip) -> &Chip68
+    requires { (next chip.now).key.chip ≡ 0 }
+    ensures { result.now ≡ (main_of chip.now).chip }
 {
     match chip {
-        Chip::Main(main) => main.chip.not_built(),
-        _ => None,
+        Chip::Main(main) => &main.chip,
+        Chip::Sub(_) | Chip::Line(_) | Chip::Fm(_) | Chip::Psg(_) => unreachable!(),
     }
 }

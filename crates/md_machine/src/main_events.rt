@@ -1,5 +1,7 @@
-ghost use Rattle.std.specs.Prelude.{◌≡◌, ◌^◌, ◌<◌, true, false, IsSome};
-ghost use Rattle.m68k_chip.specs.Chip.{next_of};
+ghost use Rattle.std.specs.Prelude.{◌≡◌, ◌^◌, ◌<◌, true, false, IfSome, IsSome};
+ghost use Rattle.m68k_chip.specs.Events.{request_of};
+ghost use Rattle.m68k_chip.specs.Sound.{Fits};
+ghost use Rattle.m68k_chip.specs.States.{next_of};
 ghost use Rattle.md_machine.specs.Parts.{BoardValue, IsMain};
 ghost use Rattle.md_machine.specs.Rules as rules;
 
@@ -16,7 +18,7 @@ impl MainChip {
     }
 
     /// The part of an access that needs the board: the answer is kept.
-    #[tactic(auto, unfolding(m68k_chip::specs::Chip::next_of))]
+    #[tactic(auto, unfolding(m68k_chip::specs::States::next_of))]
     pub(crate) fn perform(&mut self, board: &mut Board) -> Entry
         requires access { (next_of self.old.chip.state).sample ≡ false }
         ensures chip { self.new ≡ (rules.main_perform self.old board.old).chip }
@@ -34,6 +36,7 @@ impl MainChip {
         requires access { (next_of self.old.chip.state).sample ≡ false }
         requires cycle { self.old.chip.state.next < 2 ^ 50 }
         requires answer { IsSome self.old.answer }
+        requires fits { IfSome self.old.answer (Fits (request_of self.old.chip.cart self.old.chip.state)) }
         ensures { self.new ≡ rules.main_advance self.old }
     {
         if let Some(answer) = self.answer.take() {

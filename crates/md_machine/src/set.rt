@@ -54,7 +54,7 @@ impl ChipSet for MdChips {
         }
     }
 
-    #[tactic(auto, unfolding(m68k_chip::specs::Chip::next_of))]
+    #[tactic(auto, unfolding(m68k_chip::specs::States::next_of))]
     fn advance(chip: &mut Chip) {
         match chip {
             Chip::Main(main) => main.advance(),
@@ -70,7 +70,7 @@ impl ChipSet for MdChips {
         Pins68 { level: 0 }
     }
 
-    #[tactic(auto, unfolding(m68k_chip::specs::Chip::next_of))]
+    #[tactic(auto, unfolding(m68k_chip::specs::States::next_of))]
     fn sample(chip: &mut Chip, pins: &Pins68) {
         match chip {
             Chip::Main(main) => main.sample(pins),
