@@ -11,6 +11,3 @@ mod scheduler;
 pub use chip_set::ChipSet;
 pub use event::Event;
 pub use scheduler::Core;
-
-#[cfg(test)]
-mod tests;

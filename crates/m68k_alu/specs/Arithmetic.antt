@@ -12,10 +12,12 @@ use Rattle.m68k_alu.specs.Results.{shown}
 unfoldable pub fits : Size → ℤ → Bool
 fits size z = int_le (pos 0 -ℤ pos (half_of size)) z && int_lt z (pos (half_of size))
 
+-- whether target + source + carry, in two's complement, passes the size's range
 unfoldable pub sum_overflows : Size → ℕ → ℕ → Bool → Bool
 sum_overflows size source target carry =
     not (fits size (signed_of size target +ℤ signed_of size source +ℤ pos (bit carry)))
 
+-- whether target − source − borrow, in two's complement, passes the size's range
 unfoldable pub difference_overflows : Size → ℕ → ℕ → Bool → Bool
 difference_overflows size source target borrow =
     not (fits size (signed_of size target -ℤ signed_of size source -ℤ pos (bit borrow)))

@@ -43,6 +43,7 @@ set_tested target flags = record (moved Byte target flags) { value = target % 0x
 unfoldable pub product : ℕ → ℕ → ℕ
 product source target = (source % 0x1_0000) * (target % 0x1_0000)
 
+-- the same of numbers in two's complement
 unfoldable pub signed_product : ℕ → ℕ → ℕ
 signed_product source target =
     word_of (2 ^ 32) (signed_of Word (target % 0x1_0000) *ℤ signed_of Word (source % 0x1_0000))

@@ -23,6 +23,7 @@ low_sum source target carry =
 unfoldable pub digit_sum : ℕ → ℕ → Bool → ℕ
 digit_sum source target carry = target - target % 16 + (source - source % 16) + low_sum source target carry
 
+-- ABCD: 60h more where the sum is above 9Fh
 unfoldable pub decimal_added : ℕ → ℕ → Flags → Out
 decimal_added source target flags =
     let t = digit_sum source target flags.x in
@@ -46,6 +47,7 @@ decimal_difference source target borrow =
     let t = digit_difference source target borrow in
     word_of 0x100 (if nat_lt target (source + bit borrow) then t -ℤ pos 0x60 else t)
 
+-- SBCD, and NBCD from 0: X and C where the bytes' difference is below 0
 unfoldable pub decimal_subtracted : ℕ → ℕ → Flags → Out
 decimal_subtracted source target flags =
     decimal (decimal_difference source target flags.x) (nat_lt target (source + bit flags.x)) flags

@@ -13,6 +13,7 @@ abbrev pub dividend_of : Bool → ℕ → ℤ
 dividend_of true target = signed_of Long target
 dividend_of false target = pos target
 
+-- the word that divides, signed or not
 abbrev pub divisor_of : Bool → ℕ → ℤ
 divisor_of true source = signed_of Word source
 divisor_of false source = pos source

@@ -30,10 +30,12 @@ out_below count number = word_of 2 (halved (number *ℤ pos 2) count) == 1
 unfoldable pub doubling_overflows : Size → ℕ → ℕ → Bool
 doubling_overflows size count target = not (fits size (signed_of size target *ℤ pos (2 ^ count)))
 
+-- ASL and LSL, with this V: the low part of the number doubled so many times
 unfoldable pub shifted_left : Size → ℕ → ℕ → Bool → Flags → Out
 shifted_left size count target v flags =
     shifted size count (target * 2 ^ count % modulus_of size) v (out_above size count target) flags
 
+-- ASR of a signed number and LSR of one without a sign: V is cleared
 unfoldable pub shifted_right : Size → ℕ → ℤ → Flags → Out
 shifted_right size count number flags =
     shifted size count (word_of (modulus_of size) (halved number count)) false (out_below count number) flags

@@ -131,7 +131,7 @@ pub fn product(source: u32, target: u32) -> u32
 }
 
 /// The product of the low words in two's complement.
-#[tactic(auto, using(std::proofs::lemmas::Int::ints, std::proofs::lemmas::Bool::Decides::nat_tests), unfolding(crate::specs::Bits::signed_product))]
+#[tactic(auto, unfolding(crate::specs::Bits::signed_product))]
 pub fn signed_product(source: u32, target: u32) -> u32
     ensures { result ≡ bits.signed_product source target }
 {

@@ -57,7 +57,7 @@ pub fn decimal_added(source: u32, target: u32, flags: Flags) -> Out
 }
 
 /// The low digits' difference, corrected.
-#[tactic(auto, using(std::proofs::lemmas::Int::ints, std::proofs::lemmas::Bool::Decides::nat_tests), unfolding(crate::specs::Decimal::low_difference))]
+#[tactic(auto, unfolding(crate::specs::Decimal::low_difference))]
 fn low_difference(source: u32, target: u32, borrow: bool) -> i32
     ensures value { result ≡ decimal.low_difference source target borrow }
     ensures least { negsuc 21 ≤ℤ result }

@@ -17,6 +17,3 @@ pub use md_word::{Task, extend};
 pub use out::Out;
 pub use quotient::Quotient;
 pub use tasks::compute;
-
-#[cfg(test)]
-mod tests;

@@ -21,6 +21,7 @@ opcode words = slice_index words 0
 unfoldable pub high_register : List ℕ → ℕ
 high_register words = opcode words / 512 % 8
 
+-- the register in bits 2 to 0
 unfoldable pub low_register : List ℕ → ℕ
 low_register words = opcode words % 8
 

@@ -131,5 +131,6 @@ abbrev pub picked : Option Row → List ℕ → Decoded
 picked None words = unmatched words
 picked (Some row) words = made row words
 
+-- what five words decode to
 unfoldable pub decoded : List ℕ → Decoded
 decoded words = chosen (rows_of (opcode words)) words

@@ -20,10 +20,12 @@ abbrev pub mask_of : List ℕ → ℕ → ℕ
 mask_of [] so_far = so_far
 mask_of (c ∷ cs) so_far = mask_of cs (if c == 32 then so_far else (if nat_le c 49 then (so_far * 2 + 1) else (so_far * 2)))
 
+-- the fixed bits of a pattern
 abbrev pub bits_of : List ℕ → ℕ → ℕ
 bits_of [] so_far = so_far
 bits_of (c ∷ cs) so_far = bits_of cs (if c == 32 then so_far else (if c == 49 then (so_far * 2 + 1) else (so_far * 2)))
 
+-- the line of a pattern, what it allows, and its row
 abbrev pub line : List ℕ → (ℕ → Bool) → Row → Line
 line pattern allowed row = record { mask = mask_of pattern 0; bits = bits_of pattern 0; allowed = allowed; row = row }
 
@@ -56,6 +58,7 @@ words_on class w = sized_on class w && not (byte_of_address w)
 abbrev pub moved_to : (ℕ → Bool) → ℕ → Bool
 moved_to class w = any (low_mode_number w) && class (mode_number (w / 64 % 8) (w / 512 % 8))
 
+-- the same of a byte, whose source is no address register
 abbrev pub byte_moved_to : (ℕ → Bool) → ℕ → Bool
 byte_moved_to class w = moved_to class w && not (low_mode_number w == 1)
 
@@ -63,6 +66,7 @@ byte_moved_to class w = moved_to class w && not (low_mode_number w == 1)
 abbrev pub conditional : ℕ → Bool
 conditional w = nat_le 2 (w / 256 % 16)
 
+-- ORI to CMPI, BTST to BSET, MOVEP
 unfoldable pub lines_0 : List Line
 lines_0 =
     line (codes "0000 0000 ss eeeeee") (sized_on data_alterable) (Immediate tasks.Or) ∷
@@ -89,23 +93,27 @@ lines_0 =
     line (codes "0000 nnn1 1s00 1rrr") all MovepToMemory ∷
     []
 
+-- MOVE.B
 unfoldable pub lines_1 : List Line
 lines_1 =
     line (codes "0001 nnnmmm eeeeee") (byte_moved_to data_alterable) (Move Byte) ∷
     []
 
+-- MOVE.L and MOVEA.L
 unfoldable pub lines_2 : List Line
 lines_2 =
     line (codes "0010 nnnmmm eeeeee") (moved_to data_alterable) (Move Long) ∷
     line (codes "0010 nnn001 eeeeee") (on any) (Movea Long) ∷
     []
 
+-- MOVE.W and MOVEA.W
 unfoldable pub lines_3 : List Line
 lines_3 =
     line (codes "0011 nnnmmm eeeeee") (moved_to data_alterable) (Move Word) ∷
     line (codes "0011 nnn001 eeeeee") (on any) (Movea Word) ∷
     []
 
+-- operations on one operand, LEA, CHK, MOVEM and control
 unfoldable pub lines_4 : List Line
 lines_4 =
     line (codes "0100 0000 ss eeeeee") (sized_on data_alterable) (Unary tasks.Negx) ∷
@@ -142,6 +150,7 @@ lines_4 =
     line (codes "0100 nnn1 10 eeeeee") (on data_mode) Chk ∷
     []
 
+-- ADDQ, SUBQ, Scc, DBcc
 unfoldable pub lines_5 : List Line
 lines_5 =
     line (codes "0101 qqq0 ss eeeeee") (words_on alterable) (Quick tasks.Add) ∷
@@ -150,6 +159,7 @@ lines_5 =
     line (codes "0101 cccc 1100 1rrr") all Dbcc ∷
     []
 
+-- BRA, BSR, Bcc
 unfoldable pub lines_6 : List Line
 lines_6 =
     line (codes "0110 0000 dddddddd") all Bra ∷
@@ -157,11 +167,13 @@ lines_6 =
     line (codes "0110 cccc dddddddd") conditional Bcc ∷
     []
 
+-- MOVEQ
 unfoldable pub lines_7 : List Line
 lines_7 =
     line (codes "0111 nnn0 dddddddd") all Moveq ∷
     []
 
+-- OR, DIVU, DIVS, SBCD
 unfoldable pub lines_8 : List Line
 lines_8 =
     line (codes "1000 nnn0 11 eeeeee") (on data_mode) Divu ∷
@@ -171,6 +183,7 @@ lines_8 =
     line (codes "1000 nnn1 ss eeeeee") (sized_on memory_alterable) (ToMemory tasks.Or) ∷
     []
 
+-- SUB, SUBA, SUBX
 unfoldable pub lines_9 : List Line
 lines_9 =
     line (codes "1001 nnn0 ss eeeeee") (words_on any) (ToRegister tasks.Sub) ∷
@@ -179,6 +192,7 @@ lines_9 =
     line (codes "1001 nnn1 ss00 mrrr") sized (Extended tasks.Subx) ∷
     []
 
+-- CMP, CMPA, CMPM, EOR
 unfoldable pub lines_b : List Line
 lines_b =
     line (codes "1011 nnn0 ss eeeeee") (words_on any) Cmp ∷
@@ -187,6 +201,7 @@ lines_b =
     line (codes "1011 nnn1 ss00 1rrr") sized Cmpm ∷
     []
 
+-- AND, MULU, MULS, ABCD, EXG
 unfoldable pub lines_c : List Line
 lines_c =
     line (codes "1100 nnn0 11 eeeeee") (on data_mode) Mulu ∷
@@ -199,6 +214,7 @@ lines_c =
     line (codes "1100 nnn1 ss eeeeee") (sized_on memory_alterable) (ToMemory tasks.And) ∷
     []
 
+-- ADD, ADDA, ADDX
 unfoldable pub lines_d : List Line
 lines_d =
     line (codes "1101 nnn0 ss eeeeee") (words_on any) (ToRegister tasks.Add) ∷
@@ -207,6 +223,7 @@ lines_d =
     line (codes "1101 nnn1 ss00 mrrr") sized (Extended tasks.Addx) ∷
     []
 
+-- shifts and rotates
 unfoldable pub lines_e : List Line
 lines_e =
     line (codes "1110 nnnd ss0t trrr") sized ShiftByNumber ∷
@@ -233,6 +250,7 @@ lines_of digit =
     if digit == 14 then lines_e else
     []
 
+-- whether a word has a line's fixed bits, and the rest of it is allowed
 unfoldable pub matches : ℕ → Line → Bool
 matches w l = bit_and w l.mask == l.bits && l.allowed w
 

@@ -18,6 +18,7 @@ when holds row = if holds then Some row else None
 abbrev pub at : (ℕ → Bool) → ℕ → Row → Option Row
 at class w row = when (class (low_mode_number w)) row
 
+-- MOVEP, and BTST to BSET by a data register
 unfoldable pub by_register : ℕ → Option Row
 by_register w =
     if w / 8 % 8 == 1 then (if w / 128 % 2 == 0 then Some rows.MovepToRegister else Some rows.MovepToMemory) else
@@ -26,6 +27,7 @@ by_register w =
     if w / 64 % 4 == 2 then at data_alterable w (rows.BitByRegister tasks.Bclr) else
     at data_alterable w (rows.BitByRegister tasks.Bset)
 
+-- BTST to BSET by a number
 unfoldable pub by_number : ℕ → Option Row
 by_number w =
     if w / 64 % 4 == 0 then at data_but_immediate w (rows.BitByNumber tasks.Btst) else
@@ -39,6 +41,7 @@ status size task =
     if size == 0 then Some (rows.ImmediateToCcr task) else
     when (size == 1) (rows.ImmediateToSr task)
 
+-- ORI, ANDI and EORI to CCR or SR
 unfoldable pub to_status : ℕ → Option Row
 to_status w =
     if w / 512 % 8 == 0 then status (w / 64 % 4) tasks.Or else
@@ -46,6 +49,7 @@ to_status w =
     if w / 512 % 8 == 5 then status (w / 64 % 4) tasks.Eor else
     None
 
+-- ORI to EORI, and CMPI
 unfoldable pub immediates : ℕ → Option Row
 immediates w =
     if not (sized w) || not (data_alterable (low_mode_number w)) then None else
@@ -56,6 +60,7 @@ immediates w =
     if w / 512 % 8 == 5 then Some (rows.Immediate tasks.Eor) else
     when (w / 512 % 8 == 6) rows.CompareImmediate
 
+-- the first digit 0
 unfoldable pub group_0 : ℕ → Option Row
 group_0 w =
     if w / 256 % 2 == 1 then by_register w else
@@ -67,20 +72,24 @@ group_0 w =
 abbrev pub moves : ℕ → Bool
 moves w = data_alterable (mode_number (w / 64 % 8) (w / 512 % 8))
 
+-- the first digit 1: MOVE.B
 unfoldable pub group_1 : ℕ → Option Row
 group_1 w = when (data_mode (low_mode_number w) && moves w) (rows.Move Byte)
 
+-- the first digit 2 or 3: MOVE and MOVEA of a size
 unfoldable pub group_2_or_3 : Size → ℕ → Option Row
 group_2_or_3 size w =
     if w / 64 % 8 == 1 then at any w (rows.Movea size) else
     when (any (low_mode_number w) && moves w) (rows.Move size)
 
+-- CHK and LEA
 unfoldable pub with_register : ℕ → Option Row
 with_register w =
     if w / 64 % 4 == 2 then at data_mode w rows.Chk else
     if w / 64 % 4 == 3 then at control w rows.Lea else
     None
 
+-- MOVE from SR, to CCR and to SR
 unfoldable pub with_status : ℕ → Option Row
 with_status w =
     if w / 512 % 4 == 0 then at data_alterable w rows.MoveFromSr else
@@ -88,6 +97,7 @@ with_status w =
     if w / 512 % 4 == 3 then at data_mode w rows.MoveToSr else
     None
 
+-- NEGX, CLR, NEG and NOT
 unfoldable pub unaries : ℕ → Option Row
 unaries w =
     if not (data_alterable (low_mode_number w)) then None else
@@ -96,12 +106,14 @@ unaries w =
     if w / 512 % 4 == 2 then Some (rows.Unary tasks.Neg) else
     Some (rows.Unary tasks.Not)
 
+-- ILLEGAL, TAS and TST
 unfoldable pub tests : ℕ → Option Row
 tests w =
     if w % 256 == 0xfc then Some rows.Illegal else
     if nat_le 0xc0 (w % 256) then at data_alterable w rows.Tas else
     at data_alterable w rows.Tst
 
+-- the first two digits 48: NBCD, SWAP, PEA, EXT, and MOVEM to memory
 unfoldable pub group_48 : ℕ → Option Row
 group_48 w =
     if w / 64 % 4 == 0 then at data_alterable w rows.Nbcd else
@@ -109,6 +121,7 @@ group_48 w =
     if w / 8 % 8 == 0 then Some rows.Ext else
     at control_alterable_or_predecrement w rows.MovemToMemory
 
+-- TRAP to RTR, by the low six bits
 unfoldable pub controls : ℕ → Option Row
 controls w =
     if nat_lt (w % 64) 16 then Some rows.Trap else
@@ -124,6 +137,7 @@ controls w =
     if w % 64 == 54 then Some rows.Trapv else
     when (w % 64 == 55) rows.Rtr
 
+-- the first two digits 4E: TRAP to RTR, JSR and JMP
 unfoldable pub group_4e : ℕ → Option Row
 group_4e w =
     if w / 64 % 4 == 0 then None else
@@ -131,6 +145,7 @@ group_4e w =
     if w / 64 % 4 == 2 then at control w rows.Jsr else
     at control w rows.Jmp
 
+-- the first digit 4
 unfoldable pub group_4 : ℕ → Option Row
 group_4 w =
     if w / 256 % 2 == 1 then with_register w else
@@ -140,6 +155,7 @@ group_4 w =
     if w / 256 % 16 == 12 then (if nat_lt (w / 64 % 4) 2 then None else at control_or_postincrement w rows.MovemToRegisters) else
     group_4e w
 
+-- the first digit 5: DBcc, Scc, ADDQ and SUBQ
 unfoldable pub group_5 : ℕ → Option Row
 group_5 w =
     if w / 64 % 4 == 3 then (if w / 8 % 8 == 1 then Some rows.Dbcc else at data_alterable w rows.Scc) else
@@ -147,15 +163,18 @@ group_5 w =
     if w / 256 % 2 == 0 then Some (rows.Quick tasks.Add) else
     Some (rows.Quick tasks.Sub)
 
+-- the first digit 6: BRA, BSR and Bcc
 unfoldable pub group_6 : ℕ → Option Row
 group_6 w =
     if w / 256 % 16 == 0 then Some rows.Bra else
     if w / 256 % 16 == 1 then Some rows.Bsr else
     Some rows.Bcc
 
+-- the first digit 7: MOVEQ
 unfoldable pub group_7 : ℕ → Option Row
 group_7 w = when (w / 256 % 2 == 0) rows.Moveq
 
+-- the first digit 8: DIVU, DIVS, SBCD and OR
 unfoldable pub group_8 : ℕ → Option Row
 group_8 w =
     if w / 64 % 4 == 3 then (if w / 256 % 2 == 0 then at data_mode w rows.Divu else at data_mode w rows.Divs) else
@@ -163,6 +182,7 @@ group_8 w =
     if w / 64 % 4 == 0 && w / 16 % 4 == 0 then Some (rows.Decimal tasks.Sbcd) else
     at memory_alterable w (rows.ToMemory tasks.Or)
 
+-- the first digits 9 and D: to a register, to memory, with X, and of an address register
 unfoldable pub sums : Task → Task → ℕ → Option Row
 sums task with_extend w =
     if w / 64 % 4 == 3 then at any w (rows.ToAddress task) else
@@ -170,6 +190,7 @@ sums task with_extend w =
     if w / 16 % 4 == 0 then Some (rows.Extended with_extend) else
     at memory_alterable w (rows.ToMemory task)
 
+-- the first digit B: CMPA, CMP, CMPM and EOR
 unfoldable pub group_b : ℕ → Option Row
 group_b w =
     if w / 64 % 4 == 3 then at any w rows.Cmpa else
@@ -177,6 +198,7 @@ group_b w =
     if w / 8 % 8 == 1 then Some rows.Cmpm else
     at data_alterable w rows.Eor
 
+-- ABCD, EXG, and AND to memory
 unfoldable pub exchanges : ℕ → Option Row
 exchanges w =
     if w / 64 % 4 == 0 && nat_lt (w / 8 % 8) 2 then Some (rows.Decimal tasks.Abcd) else
@@ -185,18 +207,21 @@ exchanges w =
     if w / 64 % 4 == 2 && w / 8 % 8 == 1 then Some rows.ExgMixed else
     at memory_alterable w (rows.ToMemory tasks.And)
 
+-- the first digit C: MULU, MULS, ABCD, EXG and AND
 unfoldable pub group_c : ℕ → Option Row
 group_c w =
     if w / 64 % 4 == 3 then (if w / 256 % 2 == 0 then at data_mode w rows.Mulu else at data_mode w rows.Muls) else
     if w / 256 % 2 == 0 then at data_mode w (rows.ToRegister tasks.And) else
     exchanges w
 
+-- the first digit E: shifts of memory, by a number and by a register
 unfoldable pub group_e : ℕ → Option Row
 group_e w =
     if w / 64 % 4 == 3 then when (w / 2048 % 2 == 0 && memory_alterable (low_mode_number w)) rows.ShiftMemory else
     if w / 32 % 2 == 0 then Some rows.ShiftByNumber else
     Some rows.ShiftByRegister
 
+-- the row of a first word, by its first digit
 unfoldable pub nested : ℕ → Option Row
 nested w =
     if w / 4096 == 0 then group_0 w else

@@ -27,6 +27,3 @@ pub use decoded::Decoded;
 pub use decoder::decode;
 pub use displacement::Displacement;
 pub use op::Op;
-
-#[cfg(test)]
-mod tests;

@@ -10,6 +10,3 @@ mod steps;
 pub use operands::place;
 pub use places::Place;
 pub use steps::{step, stepped};
-
-#[cfg(test)]
-mod tests;

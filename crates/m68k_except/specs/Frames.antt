@@ -6,6 +6,7 @@ use Rattle.md_word.specs.declared.regs.Regs.{Regs}
 use Rattle.m68k_except.specs.declared.answer.Frame.{Frame}
 use Rattle.m68k_except.specs.declared.answer.Frame.TheVariants.{Words, Halted}
 
+-- whether an address is odd
 abbrev pub is_odd : ℕ → Bool
 is_odd n = n % 2 == 1
 

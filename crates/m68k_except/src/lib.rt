@@ -6,6 +6,3 @@ mod exception;
 
 pub use answer::Frame;
 pub use exception::frame;
-
-#[cfg(test)]
-mod tests;

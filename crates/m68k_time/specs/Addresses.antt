@@ -41,9 +41,11 @@ pub record ControlTimes : Type 0 where
   pub to_memory : ℕ
   pub to_registers : ℕ
 
+-- the times of a mode, in the order of their columns
 abbrev pub row : ℕ → ℕ → ℕ → ℕ → ℕ → ℕ → ControlTimes
 row lea pea jmp jsr to_memory to_registers = record { lea = lea; pea = pea; jmp = jmp; jsr = jsr; to_memory = to_memory; to_registers = to_registers }
 
+-- the times of each mode
 abbrev pub control_times : Mode → ControlTimes
 control_times (Indirect _) = row 4 12 8 16 8 12
 control_times (PostInc _) = row 0 0 0 0 0 12

@@ -30,6 +30,7 @@ abbrev pub quick_time : Size → Mode → ℕ
 quick_time size (modes.Address _) = 8
 quick_time size mode = placed mode (by_size size 4 8) (by_size size 8 12 + address_time size mode)
 
+-- the time of an instruction that ends in no exception
 abbrev pub row_time : Op → Spent → ℕ
 row_time (ops.Immediate _ size _ mode) spent = placed mode (by_size size 8 16) (by_size size 12 20 + address_time size mode)
 row_time (ops.CompareImmediate size _ mode) spent = placed mode (by_size size 8 14) (by_size size 8 12 + address_time size mode)

@@ -7,6 +7,3 @@ mod exception;
 mod instruction;
 
 pub use instruction::clocks;
-
-#[cfg(test)]
-mod tests;

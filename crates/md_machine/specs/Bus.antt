@@ -21,9 +21,11 @@ access_of (Write16 address value) = record { answer = 0; cost = 0; kind = 3; add
 access_of (Ack level) = record { answer = 0; cost = 0; kind = 4; address = 0; value = level }
 access_of (Word value) = record { answer = 0; cost = 34; kind = 5; address = 0; value = value }
 
+-- the answer to an access, which starts no transfer
 unfoldable pub answer_of : Request68 → Answer68
 answer_of request = record { value = (access_of request).answer; transfer = None; cost = (access_of request).cost }
 
+-- the entry of an access with this key
 unfoldable pub entry_of : Key → Request68 → Entry
 entry_of key request = record { key = key; kind = (access_of request).kind; address = (access_of request).address; value = (access_of request).value }
 

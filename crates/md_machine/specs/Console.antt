@@ -13,6 +13,7 @@ use Rattle.psg_sound.specs.declared.write.PsgWrite.{PsgWrite}
 use Rattle.md_machine.specs.Bus.{answer_of, entry_of, held_after}
 use Rattle.md_machine.specs.Stubs as stubs
 
+-- the machine: the cartridge, the 68000, the cycles of the other chips, and the sound generator
 pub record Console : Type 0 where
   -- the cartridge's image
   pub cart : List ℕ
@@ -110,6 +111,7 @@ unfoldable pub journal : Console → ℕ → List Entry
 journal m zero = []
 journal m (suc n) = journal m n ++ told (ran m n) (mover (ran m n))
 
+-- the levels of the first n moves, in their order
 unfoldable pub levels : Console → ℕ → List ℤ
 levels m zero = []
 levels m (suc n) = levels m n ++ heard (ran m n) (mover (ran m n))

@@ -6,6 +6,7 @@ use Rattle.psg_sound.specs.Synth.{at_power_on}
 use Rattle.md_machine.specs.declared.chips.Chip.{Chip}
 use Rattle.md_machine.specs.declared.chips.Chip.TheVariants.{Main, Sub, Line, Fm, Psg}
 
+-- the five chips at power-on
 abbrev pub first_chips : List ℕ → List Chip
 first_chips cart =
     Main (record { chip = record { cart = cart; state = power_on cart }; answer = None })

@@ -10,8 +10,10 @@ use Rattle.psg_sound.specs.Pair.{mixed}
 abbrev pub level_bytes : ℤ → List ℕ
 level_bytes level = pair_bytes (mixed (pos 0) level) (mixed (pos 0) level)
 
+-- the pairs of samples of levels
 unfoldable pub sound_bytes : List ℤ → List ℕ
 sound_bytes levels = flat_map level_bytes levels
 
+-- the records of entries
 unfoldable pub journal_bytes : List Entry → List ℕ
 journal_bytes entries = flat_map entry_bytes entries

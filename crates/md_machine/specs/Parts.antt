@@ -6,6 +6,7 @@ use Rattle.psg_sound.specs.Port.{IsPort}
 use Rattle.psg_sound.specs.Synth.{Synth, IsSynth}
 use Rattle.psg_sound.specs.declared.write.PsgWrite.{PsgWrite}
 
+-- what holds of the 68000
 abbrev pub IsMain : MainChip → Type 0
 IsMain c = IsChip68 c.chip
 
@@ -16,6 +17,7 @@ pub record PsgValue : Type 0 where
   pub taken : List PsgWrite
   pub samples : List ℤ
 
+-- what holds of the sound generator: its ranges, and the most that it keeps
 pub record IsPsg (c : PsgValue) : Type 0 where
   pub synth : IsSynth c.synth
   pub taken : length c.taken ≤ 1024
@@ -25,5 +27,6 @@ pub record IsPsg (c : PsgValue) : Type 0 where
 pub record BoardValue : Type 0 where
   pub held : List PsgWrite
 
+-- what holds of the board: its port is one
 abbrev pub IsBoard : BoardValue → Type 0
 IsBoard b = IsPort b.held

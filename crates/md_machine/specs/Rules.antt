@@ -24,9 +24,11 @@ answer_in (Some answer) = answer
 abbrev pub main_advance : MainChip → MainChip
 main_advance c = record { chip = record c.chip { state = answered c.chip.cart c.chip.state (answer_in c.answer) }; answer = None }
 
+-- the 68000 begins an instruction
 abbrev pub main_sample : MainChip → ℕ → MainChip
 main_sample c level = record c { chip = record c.chip { state = begun c.chip.cart c.chip.state level } }
 
+-- the board answers the 68000's access
 abbrev pub main_perform : MainChip → BoardValue → Accessed MainChip BoardValue
 main_perform c b =
     let request = request_of c.chip.cart c.chip.state in
@@ -58,6 +60,7 @@ psg_perform c b =
       entry = record { key = (psg_next c.cycle).key; kind = 12; address = c.cycle / 16128 % 2 ^ 32; value = length (taken_below c.cycle b.held) };
     }
 
+-- it makes its batch, and keeps the samples
 abbrev pub psg_advance : PsgValue → PsgValue
 psg_advance c =
     record {
@@ -79,6 +82,7 @@ next (Psg c) = psg_next c.cycle
 abbrev pub of_kind : {A : Type 0} → (A → Chip) → Accessed A BoardValue → Accessed Chip BoardValue
 of_kind kind a = record { chip = kind a.chip; shared = a.shared; entry = a.entry }
 
+-- the part of each chip's access that needs the board
 abbrev pub perform : Chip → BoardValue → Accessed Chip BoardValue
 perform (Main c) b = of_kind Main (main_perform c b)
 perform (Sub c) b = record { chip = Sub c; shared = b; entry = stubs.sub_entry c.cycle }
@@ -86,6 +90,7 @@ perform (Line c) b = record { chip = Line c; shared = b; entry = stubs.line_entr
 perform (Fm c) b = record { chip = Fm c; shared = b; entry = stubs.fm_entry c.cycle }
 perform (Psg c) b = of_kind Psg (psg_perform c b)
 
+-- each chip's private work after an access
 abbrev pub advance : Chip → Chip
 advance (Main c) = Main (main_advance c)
 advance (Sub c) = Sub c
@@ -97,6 +102,7 @@ advance (Psg c) = Psg (psg_advance c)
 abbrev pub no_pins : Pins68
 no_pins = record { level = 0; known = refl }
 
+-- each chip's sample
 abbrev pub sample : Chip → Pins68 → Chip
 sample (Main c) pins = Main (main_sample c pins.level)
 sample (Sub c) pins = Sub (record { cycle = c.cycle + 45 })
@@ -108,6 +114,7 @@ sample (Psg c) pins = Psg c
 abbrev pub writes : ℕ → ℕ → Bool
 writes writer chip = writer == 0 || writer == 2
 
+-- the least cycles between two events of each chip
 abbrev pub gap : ℕ → ℕ
 gap i = if i == 0 then 28 else (if i == 1 then 45 else (if i == 2 then 3420 else 16128))
 

@@ -6,5 +6,6 @@ use Rattle.md_machine.specs.Parts.{BoardValue}
 use Rattle.md_machine.specs.declared.chips.Chip.{Chip}
 use Rattle.md_machine.specs.declared.parts.Parts.{Parts}
 
+-- the core of these parts
 abbrev pub core_of : Parts → CoreValue Chip BoardValue
 core_of parts = core_in (Some parts.board) parts.chips.items parts.bounds.items parts.journal.items (vec_capacity parts.journal)

@@ -26,6 +26,3 @@ pub use out_sink::OutSink;
 pub use sink::{Failed, Sink};
 /// Memory that was asked for is not there: the one error for want of memory.
 pub use std::alloc::AllocError as NoMemory;
-
-#[cfg(test)]
-mod tests;

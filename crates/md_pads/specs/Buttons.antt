@@ -10,24 +10,31 @@ word_of buttons = buttons.0
 abbrev pub up : ℕ
 up = 0
 
+-- the place of Down
 abbrev pub down : ℕ
 down = 1
 
+-- the place of Left
 abbrev pub left : ℕ
 left = 2
 
+-- the place of Right
 abbrev pub right : ℕ
 right = 3
 
+-- the place of B
 abbrev pub button_b : ℕ
 button_b = 4
 
+-- the place of C
 abbrev pub button_c : ℕ
 button_c = 5
 
+-- the place of A
 abbrev pub button_a : ℕ
 button_a = 6
 
+-- the place of Start
 abbrev pub start : ℕ
 start = 7
 

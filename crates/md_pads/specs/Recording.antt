@@ -16,6 +16,7 @@ pub record IsRecording (frames : List Frame) : Type 0 where
   pub few : length frames ≤ 1048576
   pub words : All IsFrame frames
 
+-- a frame as two words, high byte first
 abbrev pub frame_bytes : Frame → List ℕ
 frame_bytes frame = to_be_bytes w16 frame.0 ++ to_be_bytes w16 frame.1
 

@@ -12,6 +12,3 @@ pub use buttons::Buttons;
 pub use fault::RecFault;
 pub use port::PadPort;
 pub use recording::{MARK, MOST_FRAMES, Recording};
-
-#[cfg(test)]
-mod tests;

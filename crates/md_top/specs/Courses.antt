@@ -9,6 +9,7 @@ use Rattle.md_top.specs.declared.course.Course.{Course}
 abbrev pub cart_in : Course → List ℕ
 cart_in course = course.machine.console.cart
 
+-- the cycle to which it came
 abbrev pub cycle_of : Course → ℕ
 cycle_of course = course.machine.at
 
@@ -20,5 +21,6 @@ pub record CameTo (cart : List ℕ) (machine : MachineValue) (accesses : ℕ) : 
   pub levels : machine.levels ≡ []
   pub counted : accesses ≡ length (entries_to cart machine.at)
 
+-- a run came from power-on to where it is
 abbrev pub IsUnderway : Course → Type 0
 IsUnderway course = CameTo (cart_in course) course.machine course.accesses

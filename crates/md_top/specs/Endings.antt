@@ -25,6 +25,7 @@ status_of Memory = 10
 status_of TooFar = 11
 status_of TooLong = 14
 
+-- why a cartridge is refused, as it is put
 abbrev pub fault_text : CartFault → List ℕ
 fault_text Short = codes "short"
 fault_text Long = codes "long"
@@ -144,6 +145,7 @@ abbrev pub file_ending : Option (List ℕ) → Ending → Ending
 file_ending None accepted = ReadFault
 file_ending (Some bytes) accepted = if nat_lt cart_limit (length bytes) then TooLong else cart_ending (fault_of bytes) accepted
 
+-- what a command line comes to, with these files
 abbrev pub right_ending : Option Run → Files → Ending
 right_ending None files = Usage
 right_ending (Some run) files =

@@ -49,6 +49,7 @@ abbrev pub IsBegun : (ℕ → Option (List ℕ)) → Option ℕ → Option (List
 IsBegun begun None name = name ≡ None
 IsBegun begun (Some file) name = IsSome name × (begun file ≡ name)
 
+-- the outputs that are asked for were begun, and these are their numbers
 pub record AreBegun (run : Run) (begun : ℕ → Option (List ℕ)) (outputs : Outputs) : Type 0 where
   pub sound : IsBegun begun outputs.sound run.sound
   pub journal : IsBegun begun outputs.journal run.journal

@@ -27,6 +27,7 @@ halted_in cart end = (run_to cart end).main.halted
 unfoldable pub entries_to : List ℕ → ℕ → List Entry
 entries_to cart end = journal (power_on cart) (moves_to cart end)
 
+-- the levels of the samples below the cycle
 unfoldable pub levels_to : List ℕ → ℕ → List ℤ
 levels_to cart end = levels (power_on cart) (moves_to cart end)
 
@@ -39,6 +40,7 @@ sound_until cart end at = wav_head (length (levels_to cart end)) ++ sound_bytes 
 abbrev pub sound_of : List ℕ → ℕ → List ℕ
 sound_of cart end = sound_until cart end end
 
+-- the journal of a run to the cycle
 unfoldable pub journal_of : List ℕ → ℕ → List ℕ
 journal_of cart end = journal_bytes (entries_to cart end)
 

@@ -6,6 +6,7 @@ use Rattle.std.specs.Prelude.{ℕ}
 abbrev pub main_clock : ℕ
 main_clock = 7
 
+-- a clock of the Z80
 abbrev pub sub_clock : ℕ
 sub_clock = 15
 
@@ -13,6 +14,7 @@ sub_clock = 15
 abbrev pub line : ℕ
 line = 3420
 
+-- a frame of 262 lines
 abbrev pub frame : ℕ
 frame = 896040
 
@@ -20,9 +22,11 @@ frame = 896040
 abbrev pub fm_sample : ℕ
 fm_sample = 1008
 
+-- a tick of the sound generator
 abbrev pub psg_tick : ℕ
 psg_tick = 240
 
+-- a batch of 16 samples
 abbrev pub batch : ℕ
 batch = 16128
 

@@ -36,6 +36,7 @@ address_of regs n =
     if nat_lt n 7 then slice_index regs.a n
     else (if is_supervisor regs then regs.ssp else regs.usp)
 
+-- the registers with this value in address register n
 unfoldable pub with_address : Regs → ℕ → ℕ → Regs
 with_address regs n value =
     if nat_lt n 7 then record regs { a = slice_set regs.a n value }
@@ -45,6 +46,7 @@ with_address regs n value =
 unfoldable pub register_of : Regs → ℕ → ℕ
 register_of regs n = if nat_lt n 8 then slice_index regs.d n else address_of regs (n - 8)
 
+-- the registers with this value in register n
 unfoldable pub with_register : Regs → ℕ → ℕ → Regs
 with_register regs n value =
     if nat_lt n 8 then record regs { d = slice_set regs.d n value }

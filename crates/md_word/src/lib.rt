@@ -2,6 +2,7 @@
 //! and answers on the bus, operands and registers.
 #![tactic(auto)]
 
+mod bit;
 pub mod clock;
 mod event;
 mod flags;
@@ -14,8 +15,10 @@ mod size;
 mod spent;
 mod sub_bus;
 mod task;
+mod task80;
 mod unspell;
 
+pub use bit::Bit;
 pub use event::{Entry, Next};
 pub use flags::Flags;
 pub use key::Key;
@@ -27,4 +30,5 @@ pub use size::{Size, extend};
 pub use spent::Spent;
 pub use sub_bus::{Answer80, Parcel, Request80};
 pub use task::Task;
+pub use task80::Task80;
 pub use unspell::{NoMemory, Unspell};

@@ -1,29 +1,19 @@
 -- Courses that are cut and joined.
-use Rattle.std.proofs.Common.{◌≡◌, ◌∙◌, refl, sym, ap, ℕ, zero, suc, ◌+◌, ◌-◌, ◌*◌, ◌<◌, ◌≤◌, List, [], ◌∷◌, ◌++◌, length, get_or, take, add-zero, add-suc, add-one, arith}
-use Rattle.std.proofs.lemmas.List.{take_more}
+use Rattle.std.proofs.Common.{◌≡◌, ◌∙◌, sym, ap, ℕ, zero, suc, ◌+◌, ◌-◌, ◌*◌, ◌≤◌, List, add-zero, add-suc, add-one, arith}
+use Rattle.stamped_writes.proofs.Courses as courses
+use Rattle.stamped_writes.proofs.Courses.{due-made_below, finished-made_below}
 use Rattle.psg_sound.specs.declared.write.PsgWrite.{PsgWrite}
-use Rattle.psg_sound.specs.Synth.{Synth, written, ticked}
-use Rattle.psg_sound.specs.Batches.{Course, written_all, made_below, next_tick, after_ticks, ticks_below, course_to}
+use Rattle.psg_sound.specs.Synth.{Synth, ticked}
+use Rattle.psg_sound.specs.Stamp.{stamp_of}
+use Rattle.psg_sound.specs.Batches.{Course, write_made, next_tick, after_ticks, ticks_below, course_to}
 
 -- the course with the writes made that come before a cycle
 abbrev pub due : ℕ → Course → Course
-due cycle c = made_below cycle c.chip c.rest
+due cycle c = courses.due stamp_of write_made cycle c
 
 -- the chip after all writes of a course
 abbrev pub finished : Course → Synth
-finished c = written_all c.rest c.chip
-
-pub due-made_below : (a b : ℕ) → a ≤ b → (s : Synth) (ws : List PsgWrite) → due b (made_below a s ws) ≡ made_below b s ws
-due-made_below a b h s [] = refl
-due-made_below a b h s (w ∷ ws) = grind (arith, due-made_below a b h (written w.value s) ws)
-
-pub finished-made_below : (a : ℕ) (s : Synth) (ws : List PsgWrite) → finished (made_below a s ws) ≡ written_all ws s
-finished-made_below a s [] = refl
-finished-made_below a s (w ∷ ws) = grind (arith, finished-made_below a (written w.value s) ws)
-
-pub made_below-zero : (s : Synth) (ws : List PsgWrite) → made_below 0 s ws ≡ record { chip = s; rest = ws }
-made_below-zero s [] = refl
-made_below-zero s (w ∷ ws) = grind arith
+finished c = courses.finished write_made c
 
 -- ticks after ticks
 pub after_ticks-joined : (t n m : ℕ) (c : Course) → after_ticks (t + n) m (after_ticks t n c) ≡ after_ticks t (n + m) c
@@ -37,15 +27,15 @@ after_ticks-joined t n (suc m) c =
 pub after_ticks-due : (t a : ℕ) → a ≤ 240 * (t + 1) → (m : ℕ) (c : Course) → after_ticks t (suc m) (due a c) ≡ after_ticks t (suc m) c
 after_ticks-due t a h zero c =
     let soon : a ≤ 240 * (t + 1) = h in
-    ap (λ (d : Course). record { chip = ticked d.chip; rest = d.rest }) (due-made_below a (240 * (t + suc zero)) (omega arith) c.chip c.rest)
+    ap (λ (d : Course). record { chip = ticked d.chip; rest = d.rest }) (due-made_below stamp_of write_made a (240 * (t + suc zero)) (omega arith) c.chip c.rest)
 after_ticks-due t a h (suc m) c = ap (next_tick (240 * (t + suc (suc m)))) (after_ticks-due t a h m c)
 
 pub due-after_ticks : (t a b : ℕ) → a ≤ 240 * (t + 1) → a ≤ b → (m : ℕ) (c : Course) → due b (after_ticks t m (due a c)) ≡ due b (after_ticks t m c)
-due-after_ticks t a b h k zero c = due-made_below a b k c.chip c.rest
+due-after_ticks t a b h k zero c = due-made_below stamp_of write_made a b k c.chip c.rest
 due-after_ticks t a b h k (suc m) c = ap (due b) (after_ticks-due t a h m c)
 
 pub finished-after_ticks : (t a : ℕ) → a ≤ 240 * (t + 1) → (m : ℕ) (c : Course) → finished (after_ticks t m (due a c)) ≡ finished (after_ticks t m c)
-finished-after_ticks t a h zero c = finished-made_below a c.chip c.rest
+finished-after_ticks t a h zero c = finished-made_below stamp_of write_made a c.chip c.rest
 finished-after_ticks t a h (suc m) c = ap finished (after_ticks-due t a h m c)
 
 -- a course goes on from tick number t to number u
@@ -78,13 +68,3 @@ finished-course_to from t u a s ws c h k soon e =
 pub after_ticks-next : (t n m : ℕ) (c d : Course) → d ≡ after_ticks t n c → m ≡ n + 1 → next_tick (240 * (t + m)) d ≡ after_ticks t m c
 after_ticks-next t n m c d e k =
     ap (λ j. next_tick (240 * (t + j)) d) (k ∙ add-one n) ∙ ap (next_tick (240 * (t + suc n))) e ∙ ap (λ j. after_ticks t j c) (sym (k ∙ add-one n))
-
--- ---- the loops
-
-pub written_all-append : (xs ys : List PsgWrite) (s : Synth) → written_all (xs ++ ys) s ≡ written_all ys (written_all xs s)
-written_all-append [] ys s = refl
-written_all-append (x ∷ xs) ys s = written_all-append xs ys (written x.value s)
-
-pub written_all-more : (ws : List PsgWrite) (i : ℕ) (d : PsgWrite) (s : Synth) → i < length ws
-    → written_all (take (i + 1) ws) s ≡ written (get_or ws i d).value (written_all (take i ws) s)
-written_all-more ws i d s h = ap (λ xs. written_all xs s) (take_more ws i d h) ∙ written_all-append (take i ws) (get_or ws i d ∷ []) s

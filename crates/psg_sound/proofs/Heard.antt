@@ -1,9 +1,11 @@
 -- A batch on its way from sample to sample.
 use Rattle.std.proofs.Common.{◌≡◌, ◌∙◌, sym, ap, ℕ, ◌+◌, ◌-◌, ◌*◌, ◌<◌, ◌≤◌, List, arith}
+use Rattle.stamped_writes.proofs.Courses.{made_below-zero}
 use Rattle.psg_sound.specs.declared.write.PsgWrite.{PsgWrite}
 use Rattle.psg_sound.specs.Synth.{Synth, level}
-use Rattle.psg_sound.specs.Batches.{Course, after_ticks, ticks_to, ticks_below, course_to, sample, after_batch}
-use Rattle.psg_sound.proofs.Courses.{due, finished, made_below-zero, due-course_to, finished-course_to}
+use Rattle.psg_sound.specs.Stamp.{stamp_of}
+use Rattle.psg_sound.specs.Batches.{Course, write_made, after_ticks, ticks_to, ticks_below, course_to, sample, after_batch}
+use Rattle.psg_sound.proofs.Courses.{due, finished, due-course_to, finished-course_to}
 
 -- the course of a batch that has made so many ticks and the writes before some cycle, at a bound at
 -- the latest
@@ -23,7 +25,7 @@ IsHeard-first first s ws rest ticks bound e f h =
     record {
       cycle = 0;
       course =
-          (λ i. record { chip = s; rest = e i }) ∙ sym (made_below-zero s ws)
+          (λ i. record { chip = s; rest = e i }) ∙ sym (made_below-zero stamp_of write_made s ws)
           ∙ ap (λ n. due 0 (after_ticks low n (record { chip = s; rest = ws }))) none;
       soon = omega arith;
       past = omega arith;

@@ -3,4 +3,3 @@ pub mod Heard
 pub mod Histories
 pub mod Halves
 pub mod Levels
-pub mod Orders

@@ -1,26 +1,28 @@
 -- A batch of sixteen samples, from any chip and any list of writes.
 -- The PSG ticks every 240 cycles of the master clock; a sample stands every 1,008.
-use Rattle.std.specs.Prelude.{ℕ, zero, suc, ◌+◌, ◌-◌, ◌*◌, ◌/◌, nat_lt, ℤ, if◌then◌else◌, List, [], ◌∷◌, map}
+use Rattle.std.specs.Prelude.{ℕ, zero, suc, ◌+◌, ◌-◌, ◌*◌, ◌/◌, ℤ, List, map}
 use Rattle.std.specs.List.{range_with_len}
+use Rattle.stamped_writes.specs.Course as course
 use Rattle.psg_sound.specs.declared.write.PsgWrite.{PsgWrite}
+use Rattle.psg_sound.specs.Stamp.{stamp_of}
 use Rattle.psg_sound.specs.Synth.{Synth, written, ticked, level}
 
 -- a chip, and the writes that are still to come
-pub record Course : Type 0 where
-  pub chip : Synth
-  pub rest : List PsgWrite
+abbrev pub Course : Type 0
+Course = course.Course PsgWrite Synth
+
+-- the chip after a write
+abbrev pub write_made : PsgWrite → Synth → Synth
+write_made w s = written w.value s
 
 -- the chip after these writes
 abbrev pub written_all : List PsgWrite → Synth → Synth
-written_all [] s = s
-written_all (w ∷ ws) s = written_all ws (written w.value s)
+written_all ws s = course.written_all write_made ws s
 
 -- the writes made that come before a cycle: in the list's order, up to the first that is stamped at
 -- it or later
 abbrev pub made_below : ℕ → Synth → List PsgWrite → Course
-made_below cycle s [] = record { chip = s; rest = [] }
-made_below cycle s (w ∷ ws) =
-    if nat_lt w.key.cycle cycle then made_below cycle (written w.value s) ws else record { chip = s; rest = w ∷ ws }
+made_below cycle s ws = course.made_below stamp_of write_made cycle s ws
 
 -- a tick at a cycle, after the writes that come before it
 abbrev pub next_tick : ℕ → Course → Course
@@ -35,6 +37,7 @@ after_ticks t (suc n) c = next_tick (240 * (t + suc n)) (after_ticks t n c)
 abbrev pub ticks_to : ℕ → ℕ
 ticks_to cycle = cycle / 240
 
+-- those that stand below it
 abbrev pub ticks_below : ℕ → ℕ
 ticks_below cycle = (cycle - 1) / 240
 

@@ -1,14 +1,16 @@
 -- The level over a whole history of writes from power-on, by their stamps alone.
 -- A write comes before the ticks above its stamp, and after the others.
-use Rattle.std.specs.Prelude.{◌≡◌, ℕ, zero, suc, ◌+◌, ◌*◌, ◌<◌, ◌≤◌, nat_le, nat_lt, ◌&&◌, ℤ, List, [], ◌∷◌, ◌++◌, filter, map}
+use Rattle.std.specs.Prelude.{◌≡◌, ℕ, zero, suc, ◌+◌, ◌*◌, ℤ, List, ◌++◌, map}
 use Rattle.std.specs.List.{range_with_len}
+use Rattle.stamped_writes.specs.Order as order
 use Rattle.psg_sound.specs.declared.write.PsgWrite.{PsgWrite}
+use Rattle.psg_sound.specs.Stamp.{stamp_of}
 use Rattle.psg_sound.specs.Synth.{Synth, at_power_on, ticked, level}
 use Rattle.psg_sound.specs.Batches.{written_all, ticks_to, ticks_below}
 
 -- the writes stamped from one cycle on and below another
 abbrev pub stamped : ℕ → ℕ → List PsgWrite → List PsgWrite
-stamped from to writes = filter (λ w. nat_le from w.key.cycle && nat_lt w.key.cycle to) writes
+stamped from to writes = order.stamped stamp_of from to writes
 
 -- the chip after so many ticks and the writes that come before the last of them
 abbrev pub after_tick : List PsgWrite → ℕ → Synth
@@ -30,8 +32,7 @@ chip_before history k = heard history (ticks_below (1008 * k)) (1008 * k)
 
 -- stamped from one cycle on and below another, in the order of their stamps
 abbrev pub IsInOrder : ℕ → ℕ → List PsgWrite → Type 0
-IsInOrder from to [] = Unit {0}
-IsInOrder from to (w ∷ ws) = (from ≤ w.key.cycle) × (w.key.cycle < to) × IsInOrder w.key.cycle to ws
+IsInOrder from to ws = order.IsInOrder stamp_of from to ws
 
 -- a batch's writes after those of the history: both in order, the batch's from its first sample's
 -- cycle on and below the next batch's

@@ -3,6 +3,7 @@ pub mod History
 pub mod Pair
 pub mod Port
 pub mod PortLaws
+pub mod Stamp
 pub mod Synth
 pub mod SynthLaws
 pub mod Voices

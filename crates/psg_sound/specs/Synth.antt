@@ -6,6 +6,7 @@ use Rattle.psg_sound.specs.declared.noise.Noise.{Noise}
 use Rattle.psg_sound.specs.declared.tone.Tone.{Tone}
 use Rattle.psg_sound.specs.Voices.{IsTone, IsNoise, tone_ticked, noise_ticked, with_tone_period, with_tone_volume, with_noise_control, with_noise_volume, tone_level, noise_level}
 
+-- the chip: its register for data bytes, and its channels
 pub record Synth : Type 0 where
   -- the register that data bytes go to: twice the channel, and 1 more for its volume
   pub latch : ℕ
@@ -26,6 +27,7 @@ pub record IsSynth (s : Synth) : Type 0 where
 abbrev pub first_divider : Divider
 first_divider = record { counter = 1; bit = false }
 
+-- a tone channel at power-on
 abbrev pub silent_tone : Tone
 silent_tone = record { period = 0; volume = 15; divider = first_divider }
 
@@ -48,6 +50,7 @@ abbrev pub tone_stored : Bool → Bool → ℕ → Tone → Tone
 tone_stored period volume value t =
     if period then with_tone_period value t else (if volume then with_tone_volume value t else t)
 
+-- a noise channel whose control, or whose volume, takes the byte
 abbrev pub noise_stored : Bool → Bool → ℕ → Noise → Noise
 noise_stored control volume value n =
     if control then with_noise_control value n else (if volume then with_noise_volume value n else n)

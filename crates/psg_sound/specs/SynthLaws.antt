@@ -45,10 +45,12 @@ IsSynth-stored value s h = record {
   noise = IsNoise-stored _ _ value s.noise h.noise;
 }
 
+-- a write keeps the ranges
 pub IsSynth-written : (value : ℕ) (s : Synth) → IsSynth s → IsSynth (written value s)
 unfolding written
 IsSynth-written value s h = IsSynth-stored value (latched value s) (IsSynth-latched value s h)
 
+-- a tick keeps the ranges
 pub IsSynth-ticked : (s : Synth) → IsSynth s → IsSynth (ticked s)
 unfolding ticked
 IsSynth-ticked s h = record {
@@ -72,6 +74,7 @@ IsSynth-after_ticks t zero c h = h
 IsSynth-after_ticks t (suc n) c h =
     IsSynth-ticked _ (IsSynth-made_below (240 * (t + suc n)) (after_ticks t n c).chip (after_ticks t n c).rest (IsSynth-after_ticks t n c h))
 
+-- a batch keeps the ranges
 pub IsSynth-after_batch : (first : ℕ) (s : Synth) (ws : List PsgWrite) → IsSynth s → IsSynth (after_batch first s ws)
 unfolding after_batch
 IsSynth-after_batch first s ws h =
@@ -81,10 +84,12 @@ IsSynth-after_batch first s ws h =
     let course = after_ticks from count start in
     IsSynth-written_all course.rest course.chip (IsSynth-after_ticks from count start h)
 
+-- a batch has sixteen samples
 pub length-samples : (first : ℕ) (s : Synth) (ws : List PsgWrite) → length (samples first s ws) ≡ 16
 unfolding samples
 length-samples first s ws = length-map-range_with_len (λ k. sample first s ws (first + k)) 0 16
 
+-- the ranges hold at power-on
 pub IsSynth-at_power_on : IsSynth at_power_on
 IsSynth-at_power_on =
     let tone : IsTone silent_tone = record { period = lit< tt; volume = lit< tt; low = lit≤ tt; high = lit< tt } in

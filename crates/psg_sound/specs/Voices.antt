@@ -36,15 +36,19 @@ pub record IsTone (t : Tone) : Type 0 where
   pub low : 1 ≤ t.divider.counter
   pub high : t.divider.counter < 1024
 
+-- a tone channel after a tick
 abbrev pub tone_ticked : Tone → Tone
 tone_ticked t = record t { divider = divided (period_of t.period) t.divider }
 
+-- a tone channel whose period takes a byte
 abbrev pub with_tone_period : ℕ → Tone → Tone
 with_tone_period value t = record t { period = period_written value t.period }
 
+-- a tone channel whose volume takes the low four bits of a byte
 abbrev pub with_tone_volume : ℕ → Tone → Tone
 with_tone_volume value t = record t { volume = value % 16 }
 
+-- what a tone channel adds to the level
 abbrev pub tone_level : Tone → ℤ
 tone_level t = signed_level t.divider.bit t.volume
 
@@ -76,9 +80,11 @@ noise_ticked tone3 n =
     let after = divided (noise_period n.control tone3) n.divider in
     record n { divider = after; register = if after.bit && not n.divider.bit then shifted n.control n.register else n.register }
 
+-- the noise channel whose control takes the low four bits of a byte: its register starts anew
 abbrev pub with_noise_control : ℕ → Noise → Noise
 with_noise_control value n = record n { control = value % 16; register = 0x8000 }
 
+-- the noise channel whose volume takes the low four bits of a byte
 abbrev pub with_noise_volume : ℕ → Noise → Noise
 with_noise_volume value n = record n { volume = value % 16 }
 

@@ -1,4 +1,4 @@
-ghost use Rattle.std.specs.Prelude.{◌≡◌, ℕ, ◌≤◌, List, length, ◌⊎◌, Some, IfOk, IfErr, IfSome};
+ghost use Rattle.std.specs.Prelude.{◌≡◌, ℕ, ◌≤◌, ◌%◌, List, length, ◌⊎◌, Some, IfOk, IfErr, IfSome};
 ghost use Rattle.rom_header.specs.Cartridge.{IsImage, fault_of, has_mark, image};
 
 use std::alloc::Global;
@@ -52,6 +52,7 @@ impl Cart {
         ensures refused { IfSome (fault_of bytes.items) (λ fault. result ≡ Err fault) }
         ensures accepted { IfOk result (λ cart. (fault_of bytes.items ≡ None) × (cart ≡ image bytes.items)) }
         ensures fault { IfErr result (λ fault. (fault_of bytes.items ≡ Some fault) ⊎ (fault ≡ CartFault.NoMemory)) }
+        ensures memory { result ≡ Err CartFault.NoMemory → length bytes.items % 2 ≡ 1 }
     {
         if bytes.len() < LEAST {
             return Err(CartFault::Short);

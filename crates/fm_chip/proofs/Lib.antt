@@ -1,0 +1,5 @@
+pub mod Courses
+pub mod Histories
+pub mod Mixed
+pub mod Overflows
+pub mod Ports

@@ -1,0 +1,12 @@
+pub mod Batches
+pub mod Channels
+pub mod History
+pub mod Keys
+pub mod Latches
+pub mod Lfo
+pub mod Operators
+pub mod Port
+pub mod Registers
+pub mod Stamp
+pub mod Synth
+pub mod Timers

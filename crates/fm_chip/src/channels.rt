@@ -1,0 +1,152 @@
+ghost use Rattle.std.specs.Prelude.{◌≡◌, ◌+◌, ◌*◌, ◌^◌, ◌<◌, ◌≤◌, ◌≤ℤ◌, pos, negsuc, All};
+ghost use Rattle.fm_chip.specs.Channels as meaning;
+ghost use Rattle.fm_chip.specs.Channels.{IsChannel};
+ghost use Rattle.fm_voice.specs.Channel.{IsLevel, heard};
+
+use crate::converter::chosen;
+use crate::lfo::tremolo;
+use crate::operator::{Operator, phase_step};
+use crate::registers::{FEEDBACK_ALGORITHM, Registers, SIDES_DEPTHS, of_channel};
+use fm_voice::channel;
+
+/// A channel: four operators.
+#[derive(Clone, Copy)]
+pub struct Channel {
+    pub one: Operator,
+    pub two: Operator,
+    pub three: Operator,
+    pub four: Operator,
+    /// The last two outputs of operator 1, the older one first.
+    pub last: [i32; 2],
+}
+
+/// What all channels share at a sample.
+#[derive(Clone, Copy)]
+pub struct Moment {
+    /// Whether the envelopes tick.
+    pub ticks: bool,
+    /// The counter of the envelopes.
+    pub counter: u32,
+    /// The place of the low frequency oscillator, below 128.
+    pub t: u32,
+}
+
+impl Channel {
+    /// Makes a tick of all four envelopes.
+    #[tactic(auto, unfolding(crate::specs::Channels::all_enveloped))]
+    fn tick(&mut self, registers: &Registers, counter: u32, number: u32)
+        requires channel { IsChannel self.old }
+        requires number { number < 6 }
+        ensures value { self.new ≡ meaning.all_enveloped registers.now counter number self.old }
+        ensures channel { IsChannel self.new }
+    {
+        self.one.tick(registers, counter, number, 0);
+        self.two.tick(registers, counter, number, 1);
+        self.three.tick(registers, counter, number, 2);
+        self.four.tick(registers, counter, number, 3);
+    }
+
+    #[tactic(auto, unfolding(crate::specs::Channels::phases))]
+    fn phases(&self) -> [u32; 4]
+        requires { IsChannel self.now }
+        ensures value { result ≡ meaning.phases self.now }
+        ensures below { All (λ p. p < 2 ^ 20) result }
+    {
+        [
+            self.one.phase,
+            self.two.phase,
+            self.three.phase,
+            self.four.phase,
+        ]
+    }
+
+    /// The attenuations of the four operators, with what tremolo adds.
+    #[tactic(auto, unfolding(crate::specs::Channels::attenuations))]
+    fn attenuations(&self, registers: &Registers, tremolo: u32, number: u32) -> [u32; 4]
+        requires channel { IsChannel self.now }
+        requires tremolo { tremolo < 127 }
+        requires number { number < 6 }
+        ensures value { result ≡ meaning.attenuations registers.now tremolo number self.now }
+        ensures most { All (λ a. a ≤ 1023) result }
+    {
+        [
+            self.one.attenuation(registers, tremolo, number, 0),
+            self.two.attenuation(registers, tremolo, number, 1),
+            self.three.attenuation(registers, tremolo, number, 2),
+            self.four.attenuation(registers, tremolo, number, 3),
+        ]
+    }
+
+    /// The level where the oscillator stands at `t`.
+    #[tactic(auto, unfolding(crate::specs::Channels::voice_of, crate::specs::Channels::sounded))]
+    fn sound(&mut self, registers: &Registers, t: u32, number: u32) -> i32
+        requires channel { IsChannel self.old }
+        requires t { t < 128 }
+        requires number { number < 6 }
+        ensures value { result ≡ heard (meaning.voice_of registers.now t number self.old) }
+        ensures after { self.new ≡ meaning.sounded registers.now t number self.old }
+        ensures level { IsLevel result }
+        ensures channel { IsChannel self.new }
+    {
+        let algorithm = of_channel(registers, number, FEEDBACK_ALGORITHM);
+        let depth = of_channel(registers, number, SIDES_DEPTHS) / 16 % 4;
+        let phases = self.phases();
+        let attenuations = self.attenuations(registers, tremolo(depth, t), number);
+        channel(
+            (algorithm % 8) as u8,
+            (algorithm / 8 % 8) as u8,
+            &phases,
+            &attenuations,
+            &mut self.last,
+        )
+    }
+
+    /// Moves all four phases on.
+    #[tactic(auto, unfolding(crate::specs::Channels::all_advanced))]
+    fn advance(&mut self, registers: &Registers, t: u32, number: u32)
+        requires channel { IsChannel self.old }
+        requires t { t < 128 }
+        requires number { number < 6 }
+        ensures value { self.new ≡ meaning.all_advanced registers.now t number self.old }
+        ensures channel { IsChannel self.new }
+    {
+        let depth = of_channel(registers, number, SIDES_DEPTHS) % 8;
+        self.one.advance(phase_step(registers, depth, t, number, 0));
+        self.two.advance(phase_step(registers, depth, t, number, 1));
+        self.three
+            .advance(phase_step(registers, depth, t, number, 2));
+        self.four
+            .advance(phase_step(registers, depth, t, number, 3));
+    }
+
+    /// Makes the envelopes' tick where it is due.
+    #[tactic(auto, unfolding(crate::specs::Channels::ready))]
+    fn make_ready(&mut self, registers: &Registers, moment: &Moment, number: u32)
+        requires channel { IsChannel self.old }
+        requires number { number < 6 }
+        ensures value { self.new ≡ meaning.ready registers.now moment.now number self.old }
+        ensures channel { IsChannel self.new }
+    {
+        if moment.ticks {
+            self.tick(registers, moment.counter, number);
+        }
+    }
+
+    /// Makes a sample of channel `number`, 0 to 5: the envelopes tick where that is due, it sounds, and
+    /// its phases advance. Returns its level.
+    #[tactic(auto, unfolding(crate::specs::Channels::channel_value, crate::specs::Channels::channel_after, crate::specs::Channels::value))]
+    pub fn sample(&mut self, registers: &Registers, moment: &Moment, number: u32) -> i32
+        requires channel { IsChannel self.old }
+        requires t { moment.now.t < 128 }
+        requires number { number < 6 }
+        ensures value { result ≡ meaning.channel_value registers.now moment.now number self.old }
+        ensures after { self.new ≡ meaning.channel_after registers.now moment.now number self.old }
+        ensures level { IsLevel result }
+        ensures channel { IsChannel self.new }
+    {
+        self.make_ready(registers, moment, number);
+        let level = self.sound(registers, moment.t, number);
+        self.advance(registers, moment.t, number);
+        chosen(registers, number, level)
+    }
+}

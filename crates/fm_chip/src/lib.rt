@@ -1,0 +1,23 @@
+//! The FM chip: the port that takes its writes and has its timers, and the synthesis of its samples.
+#![tactic(auto)]
+
+mod channels;
+mod converter;
+mod frequency;
+mod keys;
+mod latch;
+mod lfo;
+mod mixing;
+mod operator;
+mod port;
+mod registers;
+mod synth;
+mod timer;
+mod timers;
+mod write;
+
+pub use channels::Channel;
+pub use operator::Operator;
+pub use port::FmPort;
+pub use synth::FmSynth;
+pub use write::{FmList, FmWrite};

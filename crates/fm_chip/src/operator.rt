@@ -1,0 +1,139 @@
+ghost use Rattle.std.specs.Prelude.{◌≡◌, ◌+◌, ◌*◌, ◌^◌, ◌<◌, ◌≤◌};
+ghost use Rattle.fm_chip.specs.Operators as meaning;
+ghost use Rattle.fm_chip.specs.Operators.{IsOperator};
+ghost use Rattle.fm_env.specs.Envelopes.{plain};
+
+use crate::lfo::gain;
+use crate::registers::{
+    DETUNE_MULTIPLE, Registers, TOTAL_LEVEL, TREMOLO_DECAY, frequency, of_operator, rate,
+    sustain_level,
+};
+use fm_env::Envelope;
+use fm_voice::step_of;
+
+/// An operator. The registers are not its own: they come with each call.
+#[derive(Clone, Copy)]
+pub struct Operator {
+    /// Its phase, below 2^20.
+    pub phase: u32,
+    /// The attenuation of its envelope, at most 1,023.
+    pub v: u16,
+    /// The state of its envelope, 0 to 3.
+    pub state: u8,
+    /// Whether its key is on.
+    pub on: bool,
+}
+
+impl Operator {
+    /// Its envelope.
+    fn envelope(&self) -> Envelope
+        requires { IsOperator self.now }
+        ensures { plain result ≡ meaning.envelope_of self.now }
+    {
+        Envelope {
+            v: self.v,
+            state: self.state,
+            on: self.on,
+        }
+    }
+
+    /// Takes its envelope back.
+    fn keep(&mut self, envelope: &Envelope)
+        requires { IsOperator self.old }
+        ensures value { self.new ≡ meaning.kept (plain envelope.now) self.old }
+        ensures operator { IsOperator self.new }
+    {
+        self.v = envelope.v;
+        self.state = envelope.state;
+        self.on = envelope.on;
+    }
+
+    /// Makes a tick of its envelope; it is this operator, 0 to 3, of this channel.
+    #[tactic(auto, unfolding(crate::specs::Operators::enveloped))]
+    pub fn tick(&mut self, registers: &Registers, counter: u32, channel: u32, operator: u32)
+        requires operator { IsOperator self.old }
+        requires channel { channel < 6 }
+        requires number { operator < 4 }
+        ensures value { self.new ≡ meaning.enveloped registers.now counter channel operator self.old }
+        ensures operator { IsOperator self.new }
+    {
+        let mut envelope = self.envelope();
+        let rate = rate(registers, channel, operator, envelope.stepping_state());
+        let level = sustain_level(registers, channel, operator);
+        envelope.tick(counter, rate, level);
+        self.keep(&envelope);
+    }
+
+    /// The attenuation at which it sounds, with what tremolo adds.
+    #[tactic(auto, unfolding(crate::specs::Operators::attenuation))]
+    pub fn attenuation(
+        &self,
+        registers: &Registers,
+        tremolo: u32,
+        channel: u32,
+        operator: u32,
+    ) -> u32
+        requires operator { IsOperator self.now }
+        requires tremolo { tremolo < 127 }
+        requires channel { channel < 6 }
+        requires number { operator < 4 }
+        ensures value { result ≡ meaning.attenuation registers.now tremolo channel operator self.now.v }
+        ensures most { result ≤ 1023 }
+    {
+        let level = 8 * (of_operator(registers, channel, operator, TOTAL_LEVEL) % 128);
+        let extra = if of_operator(registers, channel, operator, TREMOLO_DECAY) >= 128 {
+            tremolo
+        } else {
+            0
+        };
+        (u32::from(self.v) + level + extra).min(1023)
+    }
+
+    /// Moves its phase on by a step.
+    #[tactic(auto, unfolding(crate::specs::Operators::advanced))]
+    pub fn advance(&mut self, step: u32)
+        requires operator { IsOperator self.old }
+        requires step { step < 2 ^ 21 }
+        ensures value { self.new ≡ meaning.advanced step self.old }
+        ensures operator { IsOperator self.new }
+    {
+        self.phase = (self.phase + step) % 0x10_0000;
+    }
+
+    /// Puts its key on or off; a key that goes on starts the phase again. `attack` is the rate of its
+    /// attack.
+    #[tactic(auto, unfolding(crate::specs::Operators::pressed))]
+    pub fn press(&mut self, on: bool, attack: u32)
+        requires operator { IsOperator self.old }
+        ensures value { self.new ≡ meaning.pressed on attack self.old }
+        ensures operator { IsOperator self.new }
+    {
+        let mut envelope = self.envelope();
+        if on && !self.on {
+            self.phase = 0;
+        }
+        envelope.key(on, attack);
+        self.keep(&envelope);
+    }
+}
+
+/// The step of an operator's phase, with vibrato of a depth where the oscillator stands at `t`.
+#[tactic(auto, unfolding(crate::specs::Operators::phase_step))]
+pub fn phase_step(registers: &Registers, depth: u32, t: u32, channel: u32, operator: u32) -> u32
+    requires depth { depth < 8 }
+    requires t { t < 128 }
+    requires channel { channel < 6 }
+    requires operator { operator < 4 }
+    ensures value { result ≡ meaning.phase_step registers.now depth t channel operator }
+    ensures below { result < 2 ^ 21 }
+{
+    let frequency = frequency(registers, channel, operator);
+    let tune = of_operator(registers, channel, operator, DETUNE_MULTIPLE);
+    step_of(
+        frequency.fnum,
+        gain(frequency.fnum, depth, t),
+        frequency.block,
+        (tune / 16 % 8) as u8,
+        (tune % 16) as u8,
+    )
+}

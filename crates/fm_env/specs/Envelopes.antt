@@ -1,0 +1,69 @@
+-- The envelope of an operator: a tick and a key.
+-- Yamaha, YM2608 Application Manual, envelope generator; the steps are this project's profile.
+use Rattle.std.specs.Prelude.{ℕ, ◌+◌, ◌*◌, ◌==◌, nat_lt, nat_le, min, pos, neg_ℤ, ◌+ℤ◌, Bool, true, false, ◌&&◌, not, if◌then◌else◌}
+use Rattle.std.specs.Int.{int_div_euclid}
+use Rattle.std.specs.Int.RustNames.{unsigned_abs}
+use Rattle.fm_env.specs.declared.envelope.Envelope.{Envelope}
+use Rattle.fm_env.specs.Steps.{step}
+
+-- an envelope as plain data
+pub record Plain : Type 0 where
+  -- the attenuation: 0 the loudest, 1,023 silence
+  pub v : ℕ
+  pub state : ℕ
+  pub on : Bool
+
+abbrev pub plain : Envelope → Plain
+plain e = record { v = e.v; state = e.state; on = e.on }
+
+-- the states by their numbers
+abbrev pub attack : ℕ
+attack = 0
+
+abbrev pub decay : ℕ
+decay = 1
+
+abbrev pub sustain : ℕ
+sustain = 2
+
+abbrev pub release : ℕ
+release = 3
+
+-- the state in which it steps: an attack that has come to 0 is a decay
+abbrev pub stepping_state : Plain → ℕ
+stepping_state e = if (e.state == attack) && (e.v == 0) then decay else e.state
+
+unfoldable pub turned : Plain → Plain
+turned e = record e { state = stepping_state e }
+
+-- attack adds (−(v + 1)·i)/16, rounded down
+unfoldable pub attacked : ℕ → ℕ → ℕ
+attacked i v = unsigned_abs (pos v +ℤ int_div_euclid (neg_ℤ (pos ((v + 1) * i))) (pos 16))
+
+-- decay adds i where the attenuation is below the sustain level
+unfoldable pub decayed : ℕ → ℕ → ℕ → ℕ
+decayed i level v = if nat_lt v level then v + i else v
+
+-- sustain and release add i, up to silence
+unfoldable pub fallen : ℕ → ℕ → ℕ
+fallen i v = min (v + i) 1023
+
+-- a step by i: a decay that ends at the sustain level or above it goes to sustain
+unfoldable pub stepped : ℕ → ℕ → Plain → Plain
+stepped i level e =
+    if e.state == attack then record e { v = attacked i e.v } else (
+    if e.state == decay then record e {
+      v = decayed i level e.v;
+      state = if nat_le level (decayed i level e.v) then sustain else decay;
+    } else record e { v = fallen i e.v })
+
+-- the envelope after a tick: the rate is that of the state in which it steps
+unfoldable pub ticked : ℕ → ℕ → ℕ → Plain → Plain
+ticked counter rate level e = stepped (step counter rate) level (turned e)
+
+-- the envelope after its key was put on or off, by the attack's rate: a key that goes on starts the
+-- attack, at full level where the rate is 62 or more; one that is off gives release
+unfoldable pub keyed : Bool → ℕ → Plain → Plain
+keyed on rate e =
+    if not on then record e { on = false; state = release } else (
+    if e.on then e else record { v = if nat_le 62 rate then 0 else e.v; state = attack; on = true })

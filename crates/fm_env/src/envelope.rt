@@ -1,0 +1,104 @@
+ghost use Rattle.std.specs.Prelude.{◌≡◌, ◌<◌, ◌≤◌, ◌==◌, ◌&&◌};
+
+use crate::step::step;
+use crate::value::{attacked, decayed, fallen};
+
+/// The states of an envelope, as `Envelope::state` has them.
+pub const ATTACK: u8 = 0;
+
+pub const DECAY: u8 = 1;
+
+pub const SUSTAIN: u8 = 2;
+
+pub const RELEASE: u8 = 3;
+
+/// An attack at this rate or above is over at once.
+const AT_ONCE: u32 = 62;
+
+/// The envelope of an operator.
+///
+/// Source: Yamaha, YM2608 Application Manual, envelope generator; the steps are this project's
+/// profile.
+#[derive(Clone, Copy)]
+pub struct Envelope {
+    /// The attenuation, 0 the loudest, 1,023 silence.
+    pub v: u16,
+    /// `ATTACK`, `DECAY`, `SUSTAIN` or `RELEASE`.
+    pub state: u8,
+    /// Whether the key is on.
+    pub on: bool,
+    pub ghost v_in_range: { v ≤ 1023 },
+    pub ghost state_in_range: { state ≤ 3 },
+}
+
+impl Envelope {
+    ghost use Rattle.fm_env.specs.Envelopes as meaning;
+    ghost use Rattle.fm_env.specs.Envelopes.{plain};
+
+    /// The state in which it steps at its next tick: decay where an attack stands at 0.
+    #[tactic(auto, unfolding(crate::specs::Envelopes::turned))]
+    pub fn stepping_state(&self) -> u8
+        ensures value { result ≡ meaning.stepping_state (plain self.now) }
+        ensures range { result ≤ 3 }
+    {
+        if self.state == ATTACK && self.v == 0 {
+            DECAY
+        } else {
+            self.state
+        }
+    }
+
+    /// Makes one tick, where the counter that all envelopes share has come to `counter`.
+    ///
+    /// `rate`, 0 to 63, is that of the state in which it steps. `level`, 0 to 992, is the
+    /// attenuation at which decay ends.
+    #[tactic(auto, unfolding(crate::specs::Envelopes::ticked, crate::specs::Envelopes::stepped))]
+    pub fn tick(&mut self, counter: u32, rate: u32, level: u32)
+        requires rate { rate < 64 }
+        requires level { level ≤ 992 }
+        ensures value { plain self.new ≡ meaning.ticked counter rate level (plain self.old) }
+    {
+        let i = step(counter, rate);
+        self.turn();
+        let v = u32::from(self.v);
+        match self.state {
+            ATTACK => self.v = attacked(i, v) as u16,
+            DECAY => {
+                let v = decayed(i, level, v);
+                self.v = v as u16;
+                if v >= level {
+                    self.state = SUSTAIN;
+                }
+            }
+            _ => self.v = fallen(i, v) as u16,
+        }
+    }
+
+    /// An attack that has come to 0 goes to decay.
+    #[tactic(auto, unfolding(crate::specs::Envelopes::turned))]
+    fn turn(&mut self)
+        ensures value { plain self.new ≡ meaning.turned (plain self.old) }
+        ensures above { self.new.state ≡ 0 → 0 < self.new.v }
+    {
+        self.state = self.stepping_state();
+    }
+
+    /// Puts the key on or off. `rate` is the attack's.
+    ///
+    /// A key that goes on starts the attack, at once at full level where the rate is 62 or more;
+    /// one that is on already changes nothing. A key that is off gives release.
+    #[tactic(auto, unfolding(crate::specs::Envelopes::keyed))]
+    pub fn key(&mut self, on: bool, rate: u32)
+        ensures value { plain self.new ≡ meaning.keyed on rate (plain self.old) }
+    {
+        if !on {
+            self.state = RELEASE;
+        } else if !self.on {
+            self.state = ATTACK;
+            if rate >= AT_ONCE {
+                self.v = 0;
+            }
+        }
+        self.on = on;
+    }
+}

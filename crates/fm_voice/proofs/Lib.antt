@@ -1,0 +1,5 @@
+pub mod Looked
+pub mod Carried
+pub mod Sounding
+pub mod Tables
+pub mod Weaker

@@ -1,0 +1,20 @@
+//! Tests of the 68000: arithmetic, decoding, effective addresses, times, exceptions
+//! and whole samples.
+#![tactic(auto)]
+
+#[cfg(test)]
+mod addresses;
+#[cfg(test)]
+mod arithmetic;
+#[cfg(test)]
+mod case;
+#[cfg(test)]
+mod decoding;
+#[cfg(test)]
+mod exceptions;
+#[cfg(test)]
+mod samples;
+#[cfg(test)]
+mod text;
+#[cfg(test)]
+mod times;

@@ -1,0 +1,190 @@
+use crate::five::{Board, Chip, Five, at, key, power_on, step_of};
+use chip_core::{ChipSet, Event, laws};
+use md_word::{Entry, Key};
+use std::alloc::{AllocError, Global};
+use std::test::Fail;
+
+/// The first events of the five, of which the last has to wait.
+const FIRST: [Event; 5] = [
+    Event::Sample(0),
+    Event::Announce(0),
+    Event::Sample(1),
+    Event::Perform(2),
+    Event::Sample(0),
+];
+
+// The cycle below which events lie, a list, and how many of its events happen from power-on on.
+#[test]
+fn a_list_stops_at_the_first_event_that_is_not_enabled(rt: HostRuntime) -> Result<(), Fail> {
+    let rows: [(u64, &[Event], usize); 5] = [
+        (1, &[Event::Sample(1)], 0),
+        (
+            1,
+            &[Event::Sample(0), Event::Sample(1), Event::Sample(0)],
+            2,
+        ),
+        (1, &[Event::Sample(5)], 0),
+        (1, &FIRST[..4], 4),
+        (100, &FIRST, 4),
+    ];
+    for (t, list, want) in rows {
+        let mut core = power_on(rt.alloc(), 5)?;
+        assert!(rt; t <= 100 && list.len() <= 5);
+        assert_eq!(rt; core.run_events(t, list), want);
+    }
+    Ok(())
+}
+
+#[test]
+fn four_events_leave_their_chips_and_bounds(rt: HostRuntime) -> Result<(), Fail> {
+    let mut core = power_on(rt.alloc(), 5)?;
+    assert_eq!(rt; core.run_events(100, &FIRST), 4);
+    let (board, chips, bounds, journal) = core.into_parts();
+    let want = [
+        seen(0, 70),
+        seen(1, 45),
+        at(2, 3420),
+        at(3, 16128),
+        at(4, 16128),
+    ];
+    assert_eq!(rt; board.line, 0);
+    assert!(rt; chips.as_slice() == want.as_slice());
+    assert!(rt; bounds.as_slice() == bounds_after_four_events().as_slice());
+    assert!(rt; journal.as_slice() == [entry(key(2, 0))].as_slice());
+    Ok(())
+}
+
+// Below cycle 1 no event is left, and below 46 there is the second chip's sample.
+#[test]
+fn a_core_with_no_key_below_the_end_has_no_event_left(rt: HostRuntime) -> Result<(), Fail> {
+    let mut core = power_on(rt.alloc(), 4)?;
+    assert_eq!(rt; core.some_enabled(1), Some(Event::Sample(0)));
+    assert_eq!(rt; core.run_events(1, &FIRST[..4]), 4);
+    for (t, event) in [(1, None), (46, Some(Event::Sample(1)))] {
+        assert_eq!(rt; core.some_enabled(t), event);
+        assert_eq!(rt; core.is_short(t), event.is_some());
+    }
+    Ok(())
+}
+
+#[test]
+fn a_number_that_no_chip_has_is_never_enabled(rt: HostRuntime) -> Result<(), Fail> {
+    let core = power_on(rt.alloc(), 1)?;
+    for event in [Event::Announce(5), Event::Perform(5), Event::Sample(255)] {
+        assert_eq!(rt; core.enabled(1, event), false);
+    }
+    Ok(())
+}
+
+#[test]
+fn each_event_does_what_it_says(rt: HostRuntime) -> Result<(), Fail> {
+    let mut core = power_on(rt.alloc(), 1)?;
+    assert!(rt; core.enabled(1 << 50, Event::Sample(0)));
+    core.sample(0);
+    assert!(rt; core.enabled(1 << 50, Event::Announce(0)));
+    core.announce(0);
+    assert!(rt; core.enabled(1 << 50, Event::Sample(1)));
+    core.sample(1);
+    assert!(rt; core.enabled(1 << 50, Event::Perform(2)));
+    core.perform(2);
+    let (_board, _chips, bounds, journal) = core.into_parts();
+    assert!(rt; bounds.as_slice() == bounds_after_four_events().as_slice());
+    assert!(rt; journal.as_slice() == [entry(key(2, 0))].as_slice());
+    Ok(())
+}
+
+fn bounds_after_four_events() -> [Key; 5] {
+    [
+        key(0, 70),
+        key(1, 45),
+        key(2, 3420),
+        key(3, 16128),
+        key(4, 16128),
+    ]
+}
+
+// A chip that has seen the line of cycle 0.
+fn seen(number: u8, cycle: u64) -> Chip {
+    Chip {
+        number,
+        cycle,
+        seen: 0,
+    }
+}
+
+fn entry(key: Key) -> Entry {
+    Entry {
+        key,
+        kind: key.chip,
+        address: 0,
+        value: 0,
+    }
+}
+
+// The machine that looks for the least key and moves that chip, in plain words.
+fn moved_by_least_key(alloc: Global, t: u64) -> Result<(Board, Vec<Chip>, Vec<Entry>), AllocError> {
+    let mut board = Board { line: 0 };
+    let mut chips = vec![in alloc; at(0, 0), at(1, 0), at(2, 0), at(3, 16128), at(4, 16128)]?;
+    let mut journal = Vec::new(alloc);
+    for _move in 0..2000 {
+        let least = least_of(&chips);
+        if let Some(chip) = chips.get_mut(least) {
+            if chip.cycle < t {
+                move_chip(chip, &mut board, &mut journal)?;
+            }
+        }
+    }
+    Ok((board, chips, journal))
+}
+
+fn least_of(chips: &[Chip]) -> usize {
+    let least = chips.iter().min_by_key(|chip| (chip.cycle, chip.number));
+    least.map_or(0, |chip| usize::from(chip.number))
+}
+
+fn move_chip(
+    chip: &mut Chip,
+    board: &mut Board,
+    journal: &mut Vec<Entry>,
+) -> Result<(), AllocError> {
+    if chip.number < 2 {
+        chip.seen = board.line;
+    } else {
+        journal.push(entry(key(chip.number, chip.cycle)))?;
+    }
+    if chip.number == 2 {
+        board.line = chip.cycle;
+    }
+    chip.cycle = chip.cycle.saturating_add(step_of(chip.number));
+    Ok(())
+}
+
+#[test]
+fn the_run_is_that_of_the_least_key(rt: HostRuntime) -> Result<(), Fail> {
+    let (plain_board, plain_chips, plain_journal) = moved_by_least_key(rt.alloc(), 40000)?;
+    let mut core = power_on(rt.alloc(), 5000)?;
+    laws::room(&core, 40000);
+    laws::run_least(&mut core, 40000);
+    let (board, chips, _bounds, journal) = core.into_parts();
+    assert_eq!(rt; board.line, plain_board.line);
+    assert!(rt; chips.as_slice() == plain_chips.as_slice());
+    assert!(rt; journal.as_slice() == plain_journal.as_slice());
+    assert_eq!(rt; journal.len(), 16);
+    Ok(())
+}
+
+#[test]
+fn the_set_is_as_its_rules_say(rt: HostRuntime) {
+    assert_eq!(rt; Five::count(), 5);
+    for (writer, chip, want) in [(2, 0, true), (0, 2, false)] {
+        assert_eq!(rt; Five::writes(writer, chip), want);
+    }
+}
+
+#[test]
+fn the_laws_are_called() {
+    laws::joined::<Five>();
+    laws::stages::<Five>();
+    laws::limits::<Five>();
+    laws::events::<Five>();
+}

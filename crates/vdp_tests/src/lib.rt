@@ -1,0 +1,13 @@
+//! Tests of the VDP's crates.
+#![tactic(auto)]
+
+#[cfg(test)]
+mod dma;
+#[cfg(test)]
+mod lines;
+#[cfg(test)]
+mod planes;
+#[cfg(test)]
+mod ports;
+#[cfg(test)]
+mod sprites;

@@ -1,0 +1,4 @@
+pub mod Digits
+pub mod FlagBits
+pub mod Numbers
+pub mod Rotations

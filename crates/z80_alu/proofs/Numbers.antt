@@ -1,0 +1,82 @@
+-- ADD, ADC, SUB and SBC are sums and differences of whole numbers, and of numbers in two's
+-- complement where they do not overflow.
+use Rattle.std.proofs.Common.{◌≡◌, ℕ, pos, ◌+◌, ◌*◌, ◌%◌, ◌<◌, ◌≤◌, ◌+ℤ◌, ◌-ℤ◌, Bool, true, false, nat_le, nat_lt, refl, ap, arith}
+use Rattle.std.proofs.lemmas.Bool.Decides.{nat_tests}
+use Rattle.std.proofs.lemmas.Int.{ints}
+use Rattle.md_word.specs.Width.{bit, signed_of, word_of}
+use Rattle.md_word.specs.declared.size.Size.TheVariants.{Byte}
+use Rattle.z80_alu.specs.declared.flags80.Flags80.{Flags80}
+use Rattle.z80_alu.specs.Arithmetic.{added, difference_overflows, fits, subtracted, sum_overflows}
+use Rattle.z80_alu.specs.Flags.{flags_of, shown, told}
+use Rattle.z80_alu.specs.Laws.{AddsNumbers, IsDifference, IsSum, SubtractsNumbers}
+use Rattle.z80_alu.proofs.FlagBits.{flags_of-byte}
+
+whole_sum : (n : ℕ) → n < 0x200 → n % 0x100 + 0x100 * bit (nat_le 0x100 n) ≡ n
+whole_sum n below = grind (arith, nat_tests)
+
+signed_sum : (a b : ℕ) (carry : Bool) → a < 0x100 → b < 0x100 → sum_overflows Byte a b carry ≡ false
+    → signed_of Byte ((a + b + bit carry) % 0x100) ≡ signed_of Byte a +ℤ signed_of Byte b +ℤ pos (bit carry)
+unfolding sum_overflows fits signed_of
+signed_sum a b true h k e = grind (arith, ints, nat_tests)
+signed_sum a b false h k e = grind (arith, ints, nat_tests)
+
+-- C and P/V of a sum
+carry_of_sum : (a b : ℕ) (carry : Bool) → (flags_of (added a b carry).f).c ≡ nat_le 0x100 (a + b + bit carry)
+unfolding added shown told
+carry_of_sum a b carry = ap (λ (flags : Flags80). flags.c) (flags_of-byte _)
+
+overflow_of_sum : (a b : ℕ) (carry : Bool) → (flags_of (added a b carry).f).pv ≡ sum_overflows Byte a b carry
+unfolding added shown told
+overflow_of_sum a b carry = ap (λ (flags : Flags80). flags.pv) (flags_of-byte _)
+
+value_of_sum : (a b : ℕ) (carry : Bool) → (added a b carry).value ≡ (a + b + bit carry) % 0x100
+unfolding added shown told
+value_of_sum a b carry = refl
+
+bit-most : (carry : Bool) → bit carry ≤ 1
+bit-most true = omega arith
+bit-most false = omega arith
+
+sum : (a b : ℕ) (carry : Bool) → a < 0x100 → b < 0x100 → IsSum a b carry (added a b carry)
+sum a b carry h k =
+    let one = bit-most carry in
+    record {
+      whole = rw (carry_of_sum a b carry, value_of_sum a b carry) (whole_sum (a + b + bit carry) (omega arith));
+      signed = λ e. rw (value_of_sum a b carry) (signed_sum a b carry h k (rw (overflow_of_sum a b carry) at e));
+    }
+
+pub adds_numbers : AddsNumbers
+adds_numbers a b f h k = (sum a b false h k, sum a b (flags_of f).c h k)
+
+-- C and P/V of a difference
+borrow_of_difference : (a b : ℕ) (borrow : Bool) → (flags_of (subtracted a b borrow).f).c ≡ nat_lt a (b + bit borrow)
+unfolding subtracted shown told
+borrow_of_difference a b borrow = ap (λ (flags : Flags80). flags.c) (flags_of-byte _)
+
+overflow_of_difference : (a b : ℕ) (borrow : Bool) → (flags_of (subtracted a b borrow).f).pv ≡ difference_overflows Byte a b borrow
+unfolding subtracted shown told
+overflow_of_difference a b borrow = ap (λ (flags : Flags80). flags.pv) (flags_of-byte _)
+
+value_of_difference : (a b : ℕ) (borrow : Bool) → (subtracted a b borrow).value ≡ word_of 0x100 (pos a -ℤ pos b -ℤ pos (bit borrow))
+unfolding subtracted shown told
+value_of_difference a b borrow = refl
+
+whole_difference : (a b : ℕ) (borrow : Bool) → a < 0x100 → b < 0x100
+    → word_of 0x100 (pos a -ℤ pos b -ℤ pos (bit borrow)) + b + bit borrow ≡ a + 0x100 * bit (nat_lt a (b + bit borrow))
+whole_difference a b true h k = grind (arith, ints, nat_tests)
+whole_difference a b false h k = grind (arith, ints, nat_tests)
+
+signed_difference : (a b : ℕ) (borrow : Bool) → a < 0x100 → b < 0x100 → difference_overflows Byte a b borrow ≡ false
+    → signed_of Byte (word_of 0x100 (pos a -ℤ pos b -ℤ pos (bit borrow))) ≡ signed_of Byte a -ℤ signed_of Byte b -ℤ pos (bit borrow)
+unfolding difference_overflows fits signed_of
+signed_difference a b true h k e = grind (arith, ints, nat_tests)
+signed_difference a b false h k e = grind (arith, ints, nat_tests)
+
+difference : (a b : ℕ) (borrow : Bool) → a < 0x100 → b < 0x100 → IsDifference a b borrow (subtracted a b borrow)
+difference a b borrow h k = record {
+  whole = rw (borrow_of_difference a b borrow, value_of_difference a b borrow) (whole_difference a b borrow h k);
+  signed = λ e. rw (value_of_difference a b borrow) (signed_difference a b borrow h k (rw (overflow_of_difference a b borrow) at e));
+}
+
+pub subtracts_numbers : SubtractsNumbers
+subtracts_numbers a b f h k = (difference a b false h k, difference a b (flags_of f).c h k)

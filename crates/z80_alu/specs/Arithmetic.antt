@@ -1,0 +1,42 @@
+-- Sums and differences of bytes with their flags.
+-- Zilog UM0080, "8-Bit Arithmetic Group": carry and borrow are of the whole numbers, half carry of
+-- their low digits, overflow of the numbers in two's complement.
+use Rattle.std.specs.Prelude.{ℕ, ℤ, pos, ◌+◌, ◌%◌, ◌+ℤ◌, ◌-ℤ◌, Bool, true, false, not, ◌&&◌, ◌==◌, nat_lt, nat_le, int_lt, int_le}
+use Rattle.md_word.specs.Width.{bit, half_of, signed_of, word_of}
+use Rattle.md_word.specs.declared.size.Size.{Size}
+use Rattle.md_word.specs.declared.size.Size.TheVariants.{Byte}
+use Rattle.z80_alu.specs.declared.flags80.Flags80.{Flags80}
+use Rattle.z80_alu.specs.declared.out80.Out80.{Out80}
+use Rattle.z80_alu.specs.Flags.{shown}
+
+-- whether a signed number is within the size's range in two's complement
+unfoldable pub fits : Size → ℤ → Bool
+fits size z = int_le (pos 0 -ℤ pos (half_of size)) z && int_lt z (pos (half_of size))
+
+unfoldable pub sum_overflows : Size → ℕ → ℕ → Bool → Bool
+sum_overflows size a b carry = not (fits size (signed_of size a +ℤ signed_of size b +ℤ pos (bit carry)))
+
+unfoldable pub difference_overflows : Size → ℕ → ℕ → Bool → Bool
+difference_overflows size a b borrow = not (fits size (signed_of size a -ℤ signed_of size b -ℤ pos (bit borrow)))
+
+-- a + b + carry; H where the low digits' sum passes a digit, C where the sum passes a byte
+unfoldable pub added : ℕ → ℕ → Bool → Out80
+added a b carry =
+    shown ((a + b + bit carry) % 0x100) (nat_le 16 (a % 16 + b % 16 + bit carry)) (sum_overflows Byte a b carry) false (nat_le 0x100 (a + b + bit carry))
+
+-- a − b − borrow; H where the low digits' difference is below 0, C where the difference is
+unfoldable pub subtracted : ℕ → ℕ → Bool → Out80
+subtracted a b borrow =
+    shown (word_of 0x100 (pos a -ℤ pos b -ℤ pos (bit borrow))) (nat_lt (a % 16) (b % 16 + bit borrow)) (difference_overflows Byte a b borrow) true (nat_lt a (b + bit borrow))
+
+-- the flags of a − b; a stays
+unfoldable pub compared : ℕ → ℕ → Out80
+compared a b = record { value = a; f = (subtracted a b false).f }
+
+-- one more: P/V where the operand was 7Fh, C as it was
+unfoldable pub incremented : ℕ → Flags80 → Out80
+incremented b flags = shown ((b + 1) % 0x100) (b % 16 == 15) (b == 0x7f) false flags.c
+
+-- one less: P/V where the operand was 80h, C as it was
+unfoldable pub decremented : ℕ → Flags80 → Out80
+decremented b flags = shown ((b + 0xff) % 0x100) (b % 16 == 0) (b == 0x80) true flags.c

@@ -1,0 +1,9 @@
+pub mod Arithmetic
+pub mod Decimal
+pub mod Flags
+pub mod Laws
+pub mod Logic
+pub mod Pairs
+pub mod Shifts
+pub mod Tasks
+pub mod Transfers

@@ -1,0 +1,12 @@
+/// How a block instruction steps through memory, and whether it repeats: I, D, IR, DR.
+#[derive(Clone, Copy)]
+pub enum Block {
+    /// One step up.
+    Increment,
+    /// One step down.
+    Decrement,
+    /// Steps up until its counter is 0.
+    IncrementRepeat,
+    /// Steps down until its counter is 0.
+    DecrementRepeat,
+}

@@ -1,0 +1,9 @@
+//! Tests of the Z80: its instructions against rows of the manual.
+#![tactic(auto)]
+
+#[cfg(test)]
+mod alu;
+#[cfg(test)]
+mod decode;
+#[cfg(test)]
+mod names;
