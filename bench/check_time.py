@@ -58,16 +58,16 @@ def renamed(top, crate, libraries):
 
 
 def measure(names, flags):
-    below = crates(TOP)
-    for crate in names or below:
+    libraries = crates(TOP)
+    for crate in names or libraries:
         with tempfile.TemporaryDirectory() as name:
             top = pathlib.Path(name)
             shutil.copytree(TOP / "crates", top / "crates", ignore=shutil.ignore_patterns("out"))
             for file in ("crates.txt", "HANDLES"):
                 shutil.copy(TOP / file, top / file)
-            folder = renamed(top, crate, below[crate])
-            for library in below[crate]:
-                if library in below:
+            folder = renamed(top, crate, libraries[crate])
+            for library in libraries[crate]:
+                if library in libraries:
                     run(top / "crates" / library, "rt", "lib")
             yield crate, "check" + "".join(flags), run(folder, "rt", "check", "--jobs", "1", *flags)
 
@@ -86,7 +86,15 @@ def processes():
     return found
 
 
-def kind_of(words, crate):
+def below(top, found):
+    """The processes that a process started, and those that they started."""
+    ours = {top} & found.keys()
+    while more := {pid for pid in found if found[pid][0] in ours} - ours:
+        ours |= more
+    return ours
+
+
+def kind_of(words):
     if any("must-fail" in word or "rt-edit" in word for word in words):
         return "edit"
     return words[1] + ("--test" if "--test" in words else "")
@@ -97,15 +105,11 @@ def watch(command):
     seen = {}
     while job.poll() is None:
         found = processes()
-        ours = {job.pid}
-        for pid in sorted(found):
-            if found[pid][0] in ours:
-                ours.add(pid)
-        for pid in ours & found.keys():
+        for pid in below(job.pid, found):
             _, start, seconds, words = found[pid]
             if "--crate-name" in words:
                 crate = words[words.index("--crate-name") + 1]
-                seen[pid, start] = crate, kind_of(words, crate), seconds
+                seen[pid, start] = crate, kind_of(words), seconds
         time.sleep(0.25)
     sums = collections.Counter()
     for crate, kind, seconds in seen.values():
@@ -116,11 +120,9 @@ def watch(command):
 
 def read(file):
     for line in pathlib.Path(file).read_text().splitlines():
-        words = line.split()
-        if len(words) == 3 and words[0] != "all":
-            with_seconds = words[2].replace(".", "", 1).isdigit()
-            if with_seconds:
-                yield words[0], words[1], float(words[2])
+        if row := re.fullmatch(r"(\w+) +(\S+) +(\d+\.\d)", line):
+            if row[2] != "all":
+                yield row[1], row[2], float(row[3])
 
 
 def main():

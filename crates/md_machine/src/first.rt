@@ -1,12 +1,15 @@
-ghost use Rattle.std.specs.Prelude.{◌≡◌, IfOk};
+ghost use Rattle.std.specs.Prelude.{◌≡◌, [], IfOk};
 ghost use Rattle.std.specs.Arc.{arc_value};
 ghost use Rattle.rom_header.specs.Cartridge.{IsImage};
 ghost use Rattle.md_machine.specs.First as first;
 
+use crate::board::Board;
 use crate::chips::Chip;
 use crate::main_chip::MainChip;
 use crate::psg_chip::PsgChip;
+use crate::set::MdChips;
 use crate::stubs::{FmStub, LineStub, SubStub};
+use chip_core::Core;
 use m68k_chip::Chip68;
 use md_word::{Key, NoMemory};
 use rom_header::Cart;
@@ -51,4 +54,22 @@ pub(crate) fn first_bounds(alloc: Global) -> Result<Vec<Key>, NoMemory>
         },
     ];
     Ok(Vec::from_array(alloc, bounds)?)
+}
+
+/// The core of the five chips at power-on with this cartridge: each bound is its chip's key, and the
+/// journal has room for so many entries.
+pub fn first_core(alloc: Global, cart: Arc<Cart>, room: usize) -> Result<Core<MdChips>, NoMemory>
+    ensures { IfOk result (λ core. core ≡ record {
+      shared = record { held = [] };
+      chips = first.first_chips (arc_value cart);
+      bounds = first.first_bounds;
+      journal = [];
+      room = room;
+    }) }
+{
+    let board = Board::power_on(alloc)?;
+    let chips = first_chips(alloc, cart)?;
+    let bounds = first_bounds(alloc)?;
+    let journal = Vec::with_capacity(alloc, room)?;
+    Ok(Core::make(board, chips, bounds, journal))
 }

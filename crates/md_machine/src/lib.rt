@@ -16,8 +16,6 @@ mod psg_chip;
 mod set;
 mod stubs;
 
+pub use first::first_core;
 pub use machine::Machine;
 pub use set::MdChips;
-
-#[cfg(test)]
-mod tests;

@@ -7,7 +7,7 @@ use Rattle.md_machine.specs.First.{first_bounds, first_chips}
 use Rattle.md_machine.specs.Rules.{five}
 use Rattle.md_machine.specs.declared.chips.Chip.{Chip}
 use Rattle.md_machine.proofs.Start.{first-core}
-use Rattle.md_machine.proofs.tests.core_of.Goals as goal
+use Rattle.md_machine.proofs.first.first_core.Goals as goal
 
 shaped : (cart : List ℕ) (chips : List Chip) (bounds : List Key) → chips ≡ first_chips cart → bounds ≡ first_bounds → IsImage cart → IsShaped five chips bounds
 shaped cart chips bounds c k image =
