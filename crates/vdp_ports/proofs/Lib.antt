@@ -1,0 +1,3 @@
+pub mod ByCases
+pub mod Kept
+pub mod Same

@@ -1,0 +1,42 @@
+-- The start of a fill and of a copy. Genesis Technical Overview, DMA; the times are this project's
+-- profile.
+use Rattle.std.specs.Prelude.{ℕ, ◌+◌, ◌*◌, ◌%◌, ◌/◌, false}
+use Rattle.vdp_ports.specs.Vdp.{Vdp, register}
+
+-- registers 19 and 20; 0 stands for all of the memory
+unfoldable pub length_of : Vdp → ℕ
+length_of s = (register s 19 + 256 * register s 20 + 0xffff) % 0x1_0000 + 1
+
+-- without an older fill or copy, and without an armed one
+unfoldable pub dropped : Vdp → Vdp
+dropped s = record s { armed = false; dma_kind = 0; byte = 0; source = 0; address = 0; left = 0; next_stamp = 0 }
+
+-- the address of the port after all bytes of a fill or copy
+unfoldable pub end_of : Vdp → ℕ
+end_of s = (s.a + length_of s * register s 15) % 0x1_0000
+
+-- a fill starts with its data write at a cycle: it puts the word's upper byte, first 17 cycles later
+unfoldable pub filling : ℕ → ℕ → Vdp → Vdp
+filling cycle word s = record s {
+  armed = false;
+  dma_kind = 1;
+  byte = word / 256;
+  source = 0;
+  address = s.a;
+  left = length_of s;
+  next_stamp = cycle + 17;
+  a = end_of s;
+}
+
+-- a copy starts at a cycle: its first byte comes 34 cycles later
+unfoldable pub copying : ℕ → Vdp → Vdp
+copying cycle s = record s {
+  armed = false;
+  dma_kind = 2;
+  byte = 0;
+  source = register s 21 + 256 * register s 22;
+  address = s.a;
+  left = length_of s;
+  next_stamp = cycle + 34;
+  a = end_of s;
+}

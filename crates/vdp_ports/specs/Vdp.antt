@@ -1,0 +1,65 @@
+-- The video display processor as contracts see it: registers, memories, ports, a fill or copy that
+-- goes on, interrupts. Genesis Technical Overview, the VDP.
+use Rattle.std.specs.Prelude.{◌≡◌, ℕ, Bool, false, List, length, slice_index, replicate}
+
+-- the VDP; a fill or copy is settled when somebody looks
+pub record Vdp : Type 0 where
+  pub registers : List ℕ
+  pub vram : List ℕ
+  pub cram : List ℕ
+  pub vsram : List ℕ
+  pub pending : Bool
+  pub code : ℕ
+  pub a : ℕ
+  pub armed : Bool
+  -- 0 none, 1 fill, 2 copy; for 0 the fields byte to next_stamp are 0
+  pub dma_kind : ℕ
+  pub byte : ℕ
+  pub source : ℕ
+  pub address : ℕ
+  pub left : ℕ
+  pub next_stamp : ℕ
+  pub vertical : Bool
+  pub horizontal : Bool
+  pub overflow : Bool
+  pub collision : Bool
+  pub line_counter : ℕ
+  pub int_from : ℕ
+  pub int_to : ℕ
+
+-- the sizes of the registers and the three memories, which hold of each VDP
+pub record IsVdp (registers vram cram vsram : List ℕ) : Type 0 where
+  pub of_registers : length registers ≡ 24
+  pub of_vram : length vram ≡ 0x1_0000
+  pub of_cram : length cram ≡ 64
+  pub of_vsram : length vsram ≡ 40
+
+-- a register by its number
+abbrev pub register : Vdp → ℕ → ℕ
+register s n = slice_index s.registers n
+
+-- at power-on all is 0
+abbrev pub at_power_on : Vdp
+at_power_on = record {
+  registers = replicate 24 0;
+  vram = replicate 0x1_0000 0;
+  cram = replicate 64 0;
+  vsram = replicate 40 0;
+  pending = false;
+  code = 0;
+  a = 0;
+  armed = false;
+  dma_kind = 0;
+  byte = 0;
+  source = 0;
+  address = 0;
+  left = 0;
+  next_stamp = 0;
+  vertical = false;
+  horizontal = false;
+  overflow = false;
+  collision = false;
+  line_counter = 0;
+  int_from = 0;
+  int_to = 0;
+}

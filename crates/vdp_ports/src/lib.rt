@@ -1,0 +1,14 @@
+//! The registers, memories and ports of the video display processor (VDP).
+#![tactic(auto)]
+
+mod code;
+mod control;
+mod data;
+mod dma;
+mod memory;
+pub mod register;
+mod state;
+
+pub use dma::{COPY, FILL, NO_DMA};
+pub use memory::other_byte;
+pub use state::VdpState;

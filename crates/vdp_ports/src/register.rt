@@ -1,0 +1,20 @@
+// The numbers of registers. Source: Genesis Technical Overview, the VDP's registers.
+
+/// Bit 4 lets the horizontal interrupt through.
+pub const MODE_1: usize = 0;
+/// Bit 6 the display, bit 5 the vertical interrupt, bit 4 fills, copies and transfers.
+pub const MODE_2: usize = 1;
+/// How many lines pass between two horizontal interrupts, less 1.
+pub const LINE_INTERVAL: usize = 10;
+/// What an access adds to the address.
+pub const INCREMENT: usize = 15;
+/// The length of a fill, copy or transfer, in bytes of a fill or copy and words of a transfer.
+pub const LENGTH_LOW: usize = 19;
+
+pub const LENGTH_HIGH: usize = 20;
+/// Where a copy or transfer reads.
+pub const SOURCE_LOW: usize = 21;
+
+pub const SOURCE_MIDDLE: usize = 22;
+/// Bits 7 and 6 choose between transfer, fill and copy.
+pub const SOURCE_HIGH: usize = 23;
