@@ -71,13 +71,13 @@ unfolding accessed
 accessed-kept at s h = record { code = h.code; interval = h.interval; cram = h.cram; vsram = h.vsram; going = h.going }
 
 -- a choice keeps the rules where both of its sides do
-kept-if : (b : Bool) (at : ℕ) (s t : Vdp) → (b ≡ true → HasRules at s) → (b ≡ false → HasRules at t) → HasRules at (if b then s else t)
-kept-if true at s t h k = h refl
-kept-if false at s t h k = k refl
+pub kept_if : (b : Bool) (at : ℕ) (s t : Vdp) → (b ≡ true → HasRules at s) → (b ≡ false → HasRules at t) → HasRules at (if b then s else t)
+kept_if true at s t h k = h refl
+kept_if false at s t h k = k refl
 
 stored-kept : (at word : ℕ) (s : Vdp) → HasRules at s → HasRules at (stored word s)
 unfolding stored
-stored-kept at word s h = kept-if (nat_lt (word / 256 % 32) 24) at _ _
+stored-kept at word s h = kept_if (nat_lt (word / 256 % 32) 24) at _ _
     (λ e. record { code = h.code; interval = h.interval; cram = h.cram; vsram = h.vsram; going = h.going }) (λ e. h)
 
 and-twice : (m w : ℕ) → bit_and (bit_and w m) m ≡ bit_and w m
@@ -86,9 +86,9 @@ and-twice m w = and_assoc m w m ∙ ap (bit_and w) (and_self m)
 put-kept : (at word : ℕ) (s : Vdp) → HasRules at s → HasRules at (put word s)
 unfolding put
 put-kept at word s h =
-    kept-if (s.code % 16 == 1) at _ _
+    kept_if (s.code % 16 == 1) at _ _
     (λ e. record { code = h.code; interval = h.interval; cram = h.cram; vsram = h.vsram; going = h.going })
-    (λ e. kept-if (s.code % 16 == 3) at _ _
+    (λ e. kept_if (s.code % 16 == 3) at _ _
     (λ f. record {
       code = h.code;
       interval = h.interval;
@@ -96,7 +96,7 @@ put-kept at word s h =
       vsram = h.vsram;
       going = h.going;
     })
-    (λ f. kept-if ((s.code % 16 == 5) && nat_lt (s.a / 2 % 64) 40) at _ _
+    (λ f. kept_if ((s.code % 16 == 5) && nat_lt (s.a / 2 % 64) 40) at _ _
     (λ g. record {
       code = h.code;
       interval = h.interval;
@@ -120,7 +120,7 @@ status_read_kept at s h = record { code = h.code; interval = h.interval; cram = 
 pub written_kept : (cycle at word : ℕ) (s : Vdp) → cycle < at → HasRules at s → HasRules at (written cycle word s)
 unfolding written
 written_kept cycle at word s l h =
-    kept-if s.armed at _ _ (λ e. filling-kept cycle at word (transferred word s) l (transferred_kept at word s h)) (λ e. transferred_kept at word s h)
+    kept_if s.armed at _ _ (λ e. filling-kept cycle at word (transferred word s) l (transferred_kept at word s h)) (λ e. transferred_kept at word s h)
 
 armed-kept : (at : ℕ) (s : Vdp) → HasRules at s → HasRules at (armed s)
 unfolding armed
@@ -130,14 +130,14 @@ armed-kept at s h = (let d = dropped-kept at s h in
 started-kept : (cycle at : ℕ) (s : Vdp) → cycle < at → HasRules at s → HasRules at (started cycle s)
 unfolding started
 started-kept cycle at s l h =
-    kept-if (transfers s) at _ _ (λ e. dropped-kept at s h) (λ e. kept-if (register s 23 / 64 == 2) at _ _ (λ f. armed-kept at s h) (λ f. copying-kept cycle at s l h))
+    kept_if (transfers s) at _ _ (λ e. dropped-kept at s h) (λ e. kept_if (register s 23 / 64 == 2) at _ _ (λ f. armed-kept at s h) (λ f. copying-kept cycle at s l h))
 
 pub controlled_kept : (cycle at word : ℕ) (s : Vdp) → word < 0x1_0000 → cycle < at → HasRules at s → HasRules at (controlled cycle word s)
 unfolding controlled
 controlled_kept cycle at word s w l h =
-    kept-if s.pending at _ _
-    (λ p. kept-if (starts (second word s)) at _ _ (λ e. started-kept cycle at (second word s) l (second-kept at word s h)) (λ e. second-kept at word s h))
-    (λ p. kept-if (word / 0x4000 == 2) at _ _ (λ e. stored-kept at word s h) (λ e. first-kept at word s w h))
+    kept_if s.pending at _ _
+    (λ p. kept_if (starts (second word s)) at _ _ (λ e. started-kept cycle at (second word s) l (second-kept at word s h)) (λ e. second-kept at word s h))
+    (λ p. kept_if (word / 0x4000 == 2) at _ _ (λ e. stored-kept at word s h) (λ e. first-kept at word s w h))
 
 pub power_on_rules : (at : ℕ) → HasRules at at_power_on
 power_on_rules at = record {

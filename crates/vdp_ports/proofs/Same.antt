@@ -7,9 +7,9 @@ use Rattle.vdp_ports.specs.Control.{stored, first, second, started, armed, start
 use Rattle.vdp_ports.specs.Pins.{HasSameInterval, HasSamePins}
 
 -- a choice leaves the pins where both of its sides do
-same-if : (b : Bool) (r s t : Vdp) → HasSamePins r s → HasSamePins r t → HasSamePins r (if b then s else t)
-same-if true r s t h k = h
-same-if false r s t h k = k
+pub same_if : (b : Bool) (r s t : Vdp) → HasSamePins r s → HasSamePins r t → HasSamePins r (if b then s else t)
+same_if true r s t h k = h
+same_if false r s t h k = k
 
 interval-if : (b : Bool) (r s t : Vdp) → HasSameInterval r s → HasSameInterval r t → HasSameInterval r (if b then s else t)
 interval-if true r s t h k = h
@@ -24,9 +24,9 @@ hold s t from to = record { from_stays = from; to_stays = to }
 put-same : (word : ℕ) (s : Vdp) → HasSamePins s (put word s)
 unfolding put level
 put-same word s =
-    same-if (s.code % 16 == 1) s _ _ (stay _ _ refl refl refl)
-    (same-if (s.code % 16 == 3) s _ _ (stay _ _ refl refl refl)
-    (same-if ((s.code % 16 == 5) && nat_lt (place s) 40) s _ _ (stay _ _ refl refl refl) (stay _ _ refl refl refl)))
+    same_if (s.code % 16 == 1) s _ _ (stay _ _ refl refl refl)
+    (same_if (s.code % 16 == 3) s _ _ (stay _ _ refl refl refl)
+    (same_if ((s.code % 16 == 5) && nat_lt (place s) 40) s _ _ (stay _ _ refl refl refl) (stay _ _ refl refl refl)))
 
 pub accessed_same : (s : Vdp) → HasSamePins s (accessed s)
 unfolding accessed level
@@ -44,7 +44,7 @@ filling-same cycle word s t h = stay _ _ h.level_stays h.interval_stays.from_sta
 pub written_same : (cycle word : ℕ) (s : Vdp) → HasSamePins s (written cycle word s)
 unfolding written
 written_same cycle word s =
-    same-if s.armed s _ _ (filling-same cycle word s (transferred word s) (transferred_same word s)) (transferred_same word s)
+    same_if s.armed s _ _ (filling-same cycle word s (transferred word s) (transferred_same word s)) (transferred_same word s)
 
 pub status_read_same : (s : Vdp) → HasSamePins s (status_read s)
 unfolding status_read level

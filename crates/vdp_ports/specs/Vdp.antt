@@ -12,7 +12,7 @@ pub record Vdp : Type 0 where
   pub code : ℕ
   pub a : ℕ
   pub armed : Bool
-  -- 0 none, 1 fill, 2 copy; for 0 the fields byte to next_stamp are 0
+  -- 0 neither, 1 a fill, 2 a copy; where neither goes on, the next five are 0
   pub dma_kind : ℕ
   pub byte : ℕ
   pub source : ℕ
