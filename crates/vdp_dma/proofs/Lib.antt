@@ -1,0 +1,4 @@
+pub mod Counts
+pub mod Kept
+pub mod Same
+pub mod Settled

@@ -1,0 +1,146 @@
+ghost use Rattle.std.specs.Prelude.{◌≡◌, ◌+◌, ◌*◌, ◌^◌, ◌<◌, ◌≤◌, ℕ, length};
+ghost use Rattle.vdp_ports.specs.Vdp.{Vdp};
+ghost use Rattle.vdp_ports.specs.Pins.{HasSamePins};
+ghost use Rattle.vdp_ports.specs.Rules.{HasRules};
+ghost use Rattle.vdp_ports.specs.Data.{transferred};
+ghost use Rattle.vdp_dma.specs.Settling as meaning;
+
+use vdp_ports::register::INCREMENT;
+use vdp_ports::{COPY, NO_DMA, VdpState, other_byte};
+
+/// Master cycles from one byte to the next.
+#[tactic(auto, unfolding(crate::specs::Settling::step))]
+fn step(state: &VdpState) -> u64
+    ensures value { result ≡ meaning.step state.now }
+    ensures least { 0 < result }
+    ensures most { result ≤ 34 }
+{
+    if state.dma_kind == COPY { 34 } else { 17 }
+}
+
+/// The running address before byte k.
+#[tactic(auto, unfolding(crate::specs::Settling::running))]
+fn running(state: &VdpState, k: u32) -> u16
+    ensures { result ≡ meaning.running state.now k }
+{
+    ((u64::from(state.address) + u64::from(state.registers[INCREMENT]) * u64::from(k))
+        % 0x1_0000) as u16
+}
+
+/// Puts byte k of what is left into VRAM.
+#[tactic(auto, unfolding(crate::specs::Settling::write))]
+fn put_one(state: &mut VdpState, k: u32)
+    ensures { state.new ≡ record state.old { vram = meaning.done state.old.vram (meaning.write state.old k state.old.vram) } }
+{
+    let address = running(state, k);
+    if state.dma_kind == COPY {
+        let from = (u64::from(state.source) + u64::from(k)) % 0x1_0000;
+        state.vram[usize::from(address)] = state.vram[from as usize];
+    } else {
+        state.vram[usize::from(other_byte(address))] = state.byte;
+    }
+}
+
+/// How many of the bytes that are left are stamped below a cycle.
+#[tactic(auto, using(crate::proofs::Counts::due_count), unfolding(crate::proofs::Counts::count, crate::proofs::Counts::below_by))]
+fn due(state: &VdpState, cycle: u64) -> u32
+    ensures value { result ≡ length (meaning.due cycle state.now) }
+    ensures most { result ≤ state.now.left }
+    ensures below { 0 < result → state.now.next_stamp < cycle }
+{
+    if state.left == 0 || state.next_stamp >= cycle {
+        return 0;
+    }
+    u64::from(state.left).min((cycle - 1 - state.next_stamp) / step(state) + 1) as u32
+}
+
+/// Whether a byte of a fill or copy stamped at the cycle or later is left.
+#[tactic(auto, unfolding(crate::specs::Settling::is_busy))]
+pub fn busy(state: &VdpState, cycle: u64) -> bool
+    ensures { result ≡ meaning.is_busy cycle state.now }
+{
+    due(state, cycle) < state.left
+}
+
+/// Puts the next bytes into VRAM.
+#[tactic(auto, unfolding(crate::specs::Settling::vram_after))]
+fn put_bytes(state: &mut VdpState, count: u32)
+    ensures { state.new ≡ record state.old { vram = meaning.vram_after state.old count } }
+{
+    for k in 0..count {
+        put_one(state, k);
+    }
+}
+
+/// Counts the bytes that were put; some are left.
+#[tactic(auto, unfolding(crate::specs::Settling::moved))]
+fn go_on(state: &mut VdpState, count: u32)
+    requires left { count < state.old.left }
+    requires stamp { state.old.next_stamp ≤ 2 ^ 50 }
+    ensures { state.new ≡ meaning.moved count state.old.vram state.old }
+{
+    let address = running(state, count);
+    let cycles = step(state) * u64::from(count);
+    if state.dma_kind == COPY {
+        state.source = ((u64::from(state.source) + u64::from(count)) % 0x1_0000) as u16;
+    }
+    state.address = address;
+    state.left -= count;
+    state.next_stamp += cycles;
+}
+
+/// Ends a fill or copy of which no byte is left.
+#[tactic(auto, unfolding(crate::specs::Settling::finished))]
+fn finish(state: &mut VdpState)
+    ensures { state.new ≡ meaning.finished state.old.vram state.old }
+{
+    state.dma_kind = NO_DMA;
+    state.byte = 0;
+    state.source = 0;
+    state.address = 0;
+    state.left = 0;
+    state.next_stamp = 0;
+}
+
+/// Makes the bytes that are due. `settle` promises more of it.
+#[tactic(auto, using(crate::proofs::Settled::settled_none, crate::proofs::Settled::settled_some, crate::proofs::Settled::settled_all))]
+fn make_due(state: &mut VdpState, cycle: u64)
+    requires { cycle ≤ 2 ^ 50 }
+    ensures { state.new ≡ meaning.settled cycle state.old }
+{
+    let count = due(state, cycle);
+    if count == 0 {
+        return;
+    }
+    put_bytes(state, count);
+    if count < state.left {
+        go_on(state, count);
+    } else {
+        finish(state);
+    }
+}
+
+/// Makes the bytes of a fill or copy that are stamped below a cycle. To settle at an earlier cycle
+/// before changes nothing, and where bytes are left, the next one is not due.
+///
+/// It takes the time of the bytes that it makes, and of one test where there is none.
+pub fn settle(state: &mut VdpState, cycle: u64)
+    requires { cycle ≤ 2 ^ 50 }
+    ensures value { state.new ≡ meaning.settled cycle state.old }
+    ensures again { (earlier : ℕ) (before : Vdp) → earlier ≤ cycle → state.old ≡ meaning.settled earlier before → state.new ≡ meaning.settled cycle before }
+    ensures next { 0 < state.new.left → cycle ≤ state.new.next_stamp }
+    ensures rules { (at : ℕ) → at ≤ cycle → HasRules at state.old → HasRules cycle state.new }
+    ensures pins { HasSamePins state.old state.new }
+{
+    make_due(state, cycle);
+}
+
+/// A word of a transfer: a data write that starts no armed fill. Fill and copy are settled to its
+/// cycle.
+pub fn transfer_word(state: &mut VdpState, word: u16)
+    ensures value { state.new ≡ transferred word state.old }
+    ensures rules { (at : ℕ) → HasRules at state.old → HasRules at state.new }
+    ensures pins { HasSamePins state.old state.new }
+{
+    state.transfer(word);
+}
