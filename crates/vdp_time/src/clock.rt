@@ -1,0 +1,91 @@
+ghost use Rattle.std.specs.Prelude.{◌≡◌, ◌+◌, ◌-◌, ◌<◌, ◌≤◌};
+ghost use Rattle.vdp_time.specs.Lines as meaning;
+
+/// Master cycles of a line.
+pub(crate) const LINE: u64 = 3420;
+/// Lines of a frame.
+const LINES: u64 = 262;
+/// Master cycles of a frame.
+const FRAME: u64 = 896_040;
+/// Lines of the picture; the others lie in the vertical blanking.
+pub(crate) const HEIGHT: u32 = 224;
+/// The cycle in its line from which the horizontal blanking lasts.
+const H_BLANK: u64 = 2560;
+
+/// The line, in its frame, of a cycle: 0 to 261.
+#[tactic(auto, unfolding(crate::specs::Lines::line_of))]
+pub fn line_of(cycle: u64) -> u32
+    ensures value { result ≡ meaning.line_of cycle }
+    ensures below { result < 262 }
+{
+    (cycle / LINE % LINES) as u32
+}
+
+/// The frame of a cycle, from 0.
+#[tactic(auto, unfolding(crate::specs::Lines::frame_of))]
+pub fn frame_of(cycle: u64) -> u64
+    ensures { result ≡ meaning.frame_of cycle }
+{
+    cycle / FRAME
+}
+
+/// The counters at a cycle, V in the upper byte and H in the lower. `wide` is the 320 mode. Source:
+/// Genesis Technical Overview, the HV counter; its jumps are this project's profile.
+#[tactic(auto, unfolding(crate::specs::Lines::hv))]
+pub fn hv(cycle: u64, wide: bool) -> u16
+    ensures { result ≡ meaning.hv cycle wide }
+{
+    (v_counter(cycle) * 256 + h_counter(cycle, wide)) as u16
+}
+
+/// Whether a cycle lies in the horizontal and in the vertical blanking: HB and VB of the status. With
+/// the display off it always lies in the vertical one.
+#[tactic(auto, unfolding(crate::specs::Lines::h_blank, crate::specs::Lines::v_blank))]
+pub fn blank(cycle: u64, display: bool) -> (bool, bool)
+    ensures h { result.0 ≡ meaning.h_blank cycle }
+    ensures v { result.1 ≡ meaning.v_blank cycle display }
+{
+    (
+        cycle % LINE >= H_BLANK,
+        line_of(cycle) >= HEIGHT || !display,
+    )
+}
+
+/// A counter that jumps: where it would come to `last`, it goes on from `again`.
+#[tactic(auto, unfolding(crate::specs::Lines::jumping))]
+fn jumping(last: u32, again: u32, count: u32) -> u32
+    requires again { again < 0x1_0000 }
+    requires count { count < 0x1_0000 }
+    ensures value { result ≡ meaning.jumping last again count }
+    ensures most { count < last + (256 - again) → last ≤ 256 → again ≤ 256 → result < 256 }
+{
+    if count < last {
+        count
+    } else {
+        again + (count - last)
+    }
+}
+
+/// The V counter: 0 to 234, then 229 to 255.
+#[tactic(auto, unfolding(crate::specs::Lines::v_counter))]
+fn v_counter(cycle: u64) -> u32
+    ensures value { result ≡ meaning.v_counter cycle }
+    ensures byte { result < 256 }
+{
+    jumping(235, 229, line_of(cycle))
+}
+
+/// The H counter: 0 to 182, then 228 to 255 in the 320 mode; 0 to 147, then 233 to 255 in the 256
+/// mode.
+#[tactic(auto, unfolding(crate::specs::Lines::h_counter))]
+fn h_counter(cycle: u64, wide: bool) -> u32
+    ensures value { result ≡ meaning.h_counter cycle wide }
+    ensures byte { result < 256 }
+{
+    let within = (cycle % LINE) as u32;
+    if wide {
+        jumping(183, 228, within * 211 / 3420)
+    } else {
+        jumping(148, 233, within / 20)
+    }
+}
