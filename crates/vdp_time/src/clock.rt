@@ -1,12 +1,10 @@
 ghost use Rattle.std.specs.Prelude.{◌≡◌, ◌+◌, ◌-◌, ◌<◌, ◌≤◌};
 ghost use Rattle.vdp_time.specs.Lines as meaning;
 
-/// Master cycles of a line.
-pub(crate) const LINE: u64 = 3420;
+use md_word::clock::{FRAME, LINE};
+
 /// Lines of a frame.
 const LINES: u64 = 262;
-/// Master cycles of a frame.
-const FRAME: u64 = 896_040;
 /// Lines of the picture; the others lie in the vertical blanking.
 pub(crate) const HEIGHT: u32 = 224;
 /// The cycle in its line from which the horizontal blanking lasts.

@@ -1,8 +1,10 @@
 ghost use Rattle.std.specs.Prelude.{◌≡◌, ◌%◌, ◌^◌, ◌<◌, ◌≤◌, ℕ};
+ghost use Rattle.md_word.specs.Clock as clock;
 ghost use Rattle.vdp_ports.specs.Rules.{HasRules};
 ghost use Rattle.vdp_time.specs.Lines as meaning;
 
-use crate::clock::{HEIGHT, LINE, line_of};
+use crate::clock::{HEIGHT, line_of};
+use md_word::clock::LINE;
 use vdp_ports::VdpState;
 use vdp_ports::register::LINE_INTERVAL;
 
@@ -13,7 +15,7 @@ use vdp_ports::register::LINE_INTERVAL;
 pub fn start_line(state: &mut VdpState, cycle: u64)
     requires { cycle ≤ 2 ^ 50 }
     ensures value { state.new ≡ meaning.line_started cycle state.old }
-    ensures rules { (at : ℕ) → cycle < at → cycle % 3420 ≡ 0 → HasRules at state.old → HasRules at state.new }
+    ensures rules { (at : ℕ) → cycle < at → cycle % clock.line ≡ 0 → HasRules at state.old → HasRules at state.new }
 {
     let line = line_of(cycle);
     count_line(state, line);
