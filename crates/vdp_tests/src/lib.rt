@@ -1,0 +1,9 @@
+//! Tests of the VDP's crates.
+#![tactic(auto)]
+
+#[cfg(test)]
+mod dma;
+#[cfg(test)]
+mod lines;
+#[cfg(test)]
+mod ports;
