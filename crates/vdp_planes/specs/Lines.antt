@@ -1,0 +1,8 @@
+-- The dots beside the picture.
+use Rattle.std.specs.Prelude.{ℕ}
+use Rattle.vdp_planes.specs.declared.view.Dot.{Dot}
+use Rattle.vdp_planes.specs.View.{clear}
+
+-- nothing stands beside the picture
+abbrev pub clear_at : ℕ → Dot
+clear_at x = clear

@@ -1,0 +1,160 @@
+-- What a dot of the picture shows, and the bytes that it prints. Genesis Technical Overview, priority,
+-- shadow and highlight; the bytes of a level are this project's profile.
+use Rattle.std.specs.Prelude.{◌≡◌, ℕ, ◌+◌, ◌-◌, ◌*◌, ◌/◌, ◌%◌, ◌<◌, ◌≤◌, Bool, ◌==◌, ◌||◌, ◌&&◌, not, nat_lt, nat_le, if◌then◌else◌, List, slice_index, slice_index_or}
+use Rattle.vdp_planes.specs.declared.view.Dot.{Dot}
+use Rattle.vdp_planes.specs.declared.view.LineView.{LineView}
+use Rattle.vdp_planes.specs.declared.colours.Rgb.{Rgb}
+use Rattle.vdp_planes.specs.declared.colours.Shade.{Shade}
+use Rattle.vdp_planes.specs.declared.colours.Shade.TheVariants as shades
+use Rattle.vdp_planes.specs.View.{dot_at, has_bit, register}
+use Rattle.vdp_planes.specs.Planes.{width_of}
+
+-- index 0 is transparent
+unfoldable pub is_opaque : Dot → Bool
+is_opaque d = not (d.colour % 16 == 0)
+
+-- opaque and with priority
+unfoldable pub is_front : Dot → Bool
+is_front d = is_opaque d && d.priority
+
+-- the colour in front but for the sprite, in this order: A and B with priority, A and B without, backdrop
+unfoldable pub behind : ℕ → Dot → Dot → ℕ
+behind back a b =
+    if is_front a then a.colour else (
+    if is_front b then b.colour else (
+    if is_opaque a then a.colour else (
+    if is_opaque b then b.colour else back)))
+
+-- whether the sprite is in front, in this order: sprite, A, B with priority; sprite, A, B without
+unfoldable pub sprite_leads : Dot → Dot → Dot → Bool
+sprite_leads a b s = is_opaque s && (s.priority || not (is_front a || is_front b))
+
+-- a colour, and how bright it is shown
+pub record Shown : Type 0 where
+  pub colour : ℕ
+  pub shade : Shade
+
+abbrev pub shown : ℕ → Shade → Shown
+shown colour shade = record { colour = colour; shade = shade }
+
+-- one step brighter
+abbrev pub brighter : Shade → Shade
+brighter shades.Shadow = shades.Normal
+brighter shades.Normal = shades.Highlight
+brighter shades.Highlight = shades.Highlight
+
+-- the shade of planes and backdrop: shadow where neither plane has priority
+unfoldable pub base_shade : Dot → Dot → Shade
+base_shade a b = if a.priority || b.priority then shades.Normal else shades.Shadow
+
+-- what the sprite in front shows over the colour `under`: 62 brightens it, 63 darkens it
+unfoldable pub shaded_sprite : ℕ → Shade → Dot → Shown
+shaded_sprite under base s =
+    if (s.colour == 62) then shown under (brighter base) else (
+    if (s.colour == 63) then shown under shades.Shadow else (
+    if s.priority || (s.colour % 16 == 14) then shown s.colour shades.Normal else shown s.colour base))
+
+-- what a dot shows with shadow and highlight
+unfoldable pub shaded : ℕ → Dot → Dot → Dot → Shown
+shaded back a b s =
+    if sprite_leads a b s then shaded_sprite (behind back a b) (base_shade a b) s else shown (behind back a b) (base_shade a b)
+
+-- what a dot shows without shadow and highlight
+unfoldable pub unshaded : ℕ → Dot → Dot → Dot → Shown
+unshaded back a b s = shown (if sprite_leads a b s then s.colour else behind back a b) shades.Normal
+
+-- the colour behind all
+unfoldable pub backdrop : LineView → ℕ
+backdrop view = register view 7 % 64
+
+-- what a dot of the picture shows
+unfoldable pub mixed : LineView → Dot → Dot → Dot → Shown
+mixed view a b s = if has_bit (register view 12) 8 then shaded (backdrop view) a b s else unshaded (backdrop view) a b s
+
+-- where the picture begins on the screen
+unfoldable pub border_of : LineView → ℕ
+border_of view = if has_bit (register view 12) 1 then 0 else 32
+
+-- whether x of the screen shows the picture: no border, and display on
+unfoldable pub in_picture : LineView → ℕ → Bool
+in_picture view x = has_bit (register view 1) 64 && (nat_le (border_of view) x && nat_lt x (border_of view + width_of view))
+
+-- what a place of the screen shows: the picture, or the backdrop
+unfoldable pub shown_at : LineView → List Dot → List Dot → List Dot → ℕ → Shown
+shown_at view a b s x =
+    let dot = x - border_of view in
+    if in_picture view x then mixed view (dot_at a dot) (dot_at b dot) (dot_at s dot) else shown (backdrop view) shades.Normal
+
+-- a level of 0 to 7 as a byte
+abbrev pub printed : Shade → ℕ → ℕ
+printed shades.Shadow v = 18 * v
+printed shades.Normal v = 36 * v
+printed shades.Highlight v = 126 + 18 * v
+
+-- a colour's bytes: blue in bits 11 to 9, green 7 to 5, red 3 to 1
+unfoldable pub rgb_of : LineView → Shown → Rgb
+rgb_of view s = let word = slice_index view.cram s.colour in record {
+  red = printed s.shade (word / 2 % 8);
+  green = printed s.shade (word / 32 % 8);
+  blue = printed s.shade (word / 512 % 8);
+}
+
+-- the first, second or third byte of a colour
+abbrev pub part : Rgb → ℕ → ℕ
+part c n = if (n == 0) then c.red else (if (n == 1) then c.green else c.blue)
+
+-- byte n of the line's 960
+unfoldable pub line_byte : LineView → List Dot → List Dot → List Dot → ℕ → ℕ
+line_byte view a b s n = part (rgb_of view (shown_at view a b s (n / 3))) (n % 3)
+
+-- the 192 colours that a line can show: 64 in shadow, normal and in highlight
+abbrev pub shade_number : Shade → ℕ
+shade_number shades.Shadow = 0
+shade_number shades.Normal = 1
+shade_number shades.Highlight = 2
+
+-- a colour's number among the 192
+unfoldable pub index_of : Shown → ℕ
+index_of s = 64 * shade_number s.shade + s.colour
+
+-- a shade by its number
+abbrev pub shade_by : ℕ → Shade
+shade_by n = if (n == 0) then shades.Shadow else (if (n == 1) then shades.Normal else shades.Highlight)
+
+-- colour number n of the 192
+unfoldable pub table_colour : LineView → ℕ → Rgb
+table_colour view n = rgb_of view (shown (n % 64) (shade_by (n / 64)))
+
+-- what a table of colours holds before it is filled
+abbrev pub black : Rgb
+black = record { red = 0; green = 0; blue = 0 }
+
+-- the number of the colour that a place of the screen shows
+unfoldable pub index_at : LineView → List Dot → List Dot → List Dot → ℕ → ℕ
+index_at view a b s x = index_of (shown_at view a b s x)
+
+-- where the picture stands on the screen's line
+pub record IsSpan (view : LineView) (from to : ℕ) : Type 0 where
+  pub order : from ≤ to
+  pub within : to ≤ 320
+  pub border : from < to → from ≡ border_of view
+  pub covers : (x : ℕ) → x < 320 → in_picture view x ≡ (nat_le from x && nat_lt x to)
+
+-- the number that a place of the backdrop shows
+abbrev pub back_at : ℕ → ℕ → ℕ
+back_at back x = index_of (shown back shades.Normal)
+
+-- and a place of the picture, which begins at `from`: without shadow and highlight, with it, and by
+-- the mode
+abbrev pub unshaded_at : ℕ → List Dot → List Dot → List Dot → ℕ → ℕ → ℕ
+unshaded_at back a b s from x = index_of (unshaded back (dot_at a (x - from)) (dot_at b (x - from)) (dot_at s (x - from)))
+
+abbrev pub shaded_at : ℕ → List Dot → List Dot → List Dot → ℕ → ℕ → ℕ
+shaded_at back a b s from x = index_of (shaded back (dot_at a (x - from)) (dot_at b (x - from)) (dot_at s (x - from)))
+
+abbrev pub mixed_at : LineView → List Dot → List Dot → List Dot → ℕ → ℕ → ℕ
+mixed_at view a b s from x = index_of (mixed view (dot_at a (x - from)) (dot_at b (x - from)) (dot_at s (x - from)))
+
+-- byte n of the dots of these indices
+abbrev pub printed_byte : List Rgb → List ℕ → ℕ → ℕ
+printed_byte table line n = part (slice_index_or table (slice_index line (n / 3)) black) (n % 3)

@@ -1,0 +1,127 @@
+ghost use Rattle.std.specs.Prelude.{◌≡◌, ℕ, ◌/◌, ◌%◌, ◌*◌, ◌+◌, ◌-◌, ◌<◌, ◌≤◌, ◌^◌, length, slice_index};
+ghost use Rattle.vdp_planes.specs.View.{IsFilled, clear, has_bit, seen};
+ghost use Rattle.vdp_planes.specs.Planes.{pattern_index, pixel_dot, pixel_of, run_dot, turned};
+
+use crate::view::{Dot, Scene};
+
+/// A row or column, from the other side where it is flipped.
+#[inline(always)]
+#[tactic(auto, unfolding(crate::specs::Planes::turned))]
+fn turned(flip: bool, n: u32) -> u32
+    requires { n < 8 }
+    ensures value { result ≡ turned flip n }
+    ensures below { result < 8 }
+{
+    if flip { 7 - n } else { n }
+}
+
+/// A byte's two pixels changed about.
+#[inline(always)]
+fn swapped(byte: u8) -> u8
+    ensures { result ≡ byte % 16 * 16 + byte / 16 }
+{
+    byte % 16 * 16 + byte / 16
+}
+
+/// Four bytes as a number, the first the highest.
+#[inline(always)]
+fn joined(b0: u8, b1: u8, b2: u8, b3: u8) -> u32
+    ensures { result ≡ b0 * 16777216 + b1 * 65536 + b2 * 256 + b3 }
+{
+    u32::from(b0) * 16_777_216 + u32::from(b1) * 65_536 + u32::from(b2) * 256 + u32::from(b3)
+}
+
+/// The eight pixels of a row of a pattern as a number's digits, the left one the highest, or the
+/// lowest where the row is flipped.
+#[inline(always)]
+fn pixels(scene: &Scene, pattern: u32, row: u32, flip: bool) -> u32
+    requires pattern { pattern < 2048 }
+    requires row { row < 8 }
+    ensures { (c : ℕ) → c < 8 → pixel_of result c ≡ pattern_index (seen scene.now) pattern (turned flip c) row }
+{
+    let at = (pattern * 32 + row * 4) as usize;
+    let b0 = scene.vram[at];
+    let b1 = scene.vram[at + 1];
+    let b2 = scene.vram[at + 2];
+    let b3 = scene.vram[at + 3];
+    let forward = joined(b0, b1, b2, b3);
+    let backward = joined(swapped(b3), swapped(b2), swapped(b1), swapped(b0));
+    if flip { backward } else { forward }
+}
+
+/// A digit of these.
+#[inline(always)]
+#[tactic(auto, unfolding(crate::specs::Planes::pixel_of))]
+fn pixel(pixels: u32, column: u32) -> u8
+    requires { column < 8 }
+    ensures value { result ≡ pixel_of pixels column }
+    ensures below { result < 16 }
+{
+    ((pixels >> (28 - 4 * column)) % 16) as u8
+}
+
+/// Draws dots of this name from these pixels, the one in `column` at `from`, up to `to`.
+#[inline(always)]
+#[tactic(auto, using(crate::proofs::Filled::filled_one))]
+fn pixel_run(name: u32, pixels: u32, column: u32, from: u32, to: u32, out: &mut [Dot; 320])
+    requires name { name < 2 ^ 16 }
+    requires order { from ≤ to }
+    requires within { to ≤ 320 }
+    requires cell { column + to ≤ from + 8 }
+    ensures { IsFilled clear from to out.old out.new (pixel_dot name pixels column from) }
+{
+    let palette = (name / 8192 % 4) as u8 * 16;
+    let priority = name / 32768 % 2 == 1;
+    for x in from..to {
+        out[x as usize] = Dot {
+            colour: palette + pixel(pixels, column + (x - from)),
+            priority,
+        };
+    }
+}
+
+/// Draws the dots of a row of the cell of this name, the one in `column` at `from`, up to `to`.
+#[inline(always)]
+pub fn cell_run(
+    scene: &Scene,
+    name: u32,
+    column: u32,
+    row: u32,
+    from: u32,
+    to: u32,
+    out: &mut [Dot; 320],
+)
+    requires name { name < 2 ^ 16 }
+    requires row { row < 8 }
+    requires order { from ≤ to }
+    requires within { to ≤ 320 }
+    requires cell { column + to ≤ from + 8 }
+    ensures { IsFilled clear from to out.old out.new (run_dot (seen scene.now) name column row from) }
+{
+    let line = turned(name / 4096 % 2 == 1, row);
+    let pixels = pixels(scene, name % 2048, line, name / 2048 % 2 == 1);
+    // a whole cell apart: its number of dots is known to the compiler
+    if to == from + 8 {
+        pixel_run(name, pixels, 0, from, from + 8, out);
+    } else {
+        pixel_run(name, pixels, column, from, to, out);
+    }
+}
+
+/// A pixel of a pattern.
+#[inline(always)]
+#[tactic(auto, unfolding(crate::specs::Planes::pattern_index))]
+pub fn pattern_index(scene: &Scene, pattern: u32, column: u32, row: u32) -> u8
+    requires pattern { pattern < 2048 }
+    requires column { column < 8 }
+    requires row { row < 8 }
+    ensures value { result ≡ pattern_index (seen scene.now) pattern column row }
+    ensures below { result < 16 }
+{
+    let byte = scene.vram[(pattern * 32 + row * 4 + column / 2) as usize];
+    if column % 2 == 0 {
+        byte / 16
+    } else {
+        byte % 16
+    }
+}

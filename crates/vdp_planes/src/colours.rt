@@ -1,0 +1,74 @@
+ghost use Rattle.std.specs.Prelude.{◌≡◌, ℕ, ◌+◌, ◌*◌, ◌/◌, ◌%◌, ◌<◌, ◌≤◌, length, slice_index_or};
+ghost use Rattle.vdp_planes.specs.View.{seen};
+ghost use Rattle.vdp_planes.specs.Mixing.{black, printed, rgb_of, shade_number, shown, table_colour};
+
+use crate::view::Scene;
+
+/// How bright a colour is shown.
+#[derive(Clone, Copy)]
+pub enum Shade {
+    Shadow,
+    Normal,
+    Highlight,
+}
+
+/// The three bytes of a dot of the picture.
+#[derive(Clone, Copy)]
+pub struct Rgb {
+    pub red: u8,
+    pub green: u8,
+    pub blue: u8,
+}
+
+/// A level of the colour memory, 0 to 7, as a byte.
+#[inline(always)]
+fn printed(shade: Shade, level: u8) -> u8
+    requires { level < 8 }
+    ensures { result ≡ printed shade level }
+{
+    match shade {
+        Shade::Shadow => 18 * level,
+        Shade::Normal => 36 * level,
+        Shade::Highlight => 126 + 18 * level,
+    }
+}
+
+/// A colour of the colour memory in a shade.
+#[inline(always)]
+#[tactic(auto, unfolding(crate::specs::Mixing::rgb_of))]
+fn rgb_of(scene: &Scene, colour: usize, shade: Shade) -> Rgb
+    requires { colour < 64 }
+    ensures { result ≡ rgb_of (seen scene.now) (shown colour shade) }
+{
+    let word = scene.cram[colour];
+    Rgb {
+        red: printed(shade, (word / 2 % 8) as u8),
+        green: printed(shade, (word / 32 % 8) as u8),
+        blue: printed(shade, (word / 512 % 8) as u8),
+    }
+}
+
+/// The colours that a line can show: the 64 in shadow, normal and highlighted.
+pub fn fill_table(scene: &Scene, table: &mut [Rgb; 192])
+    ensures whole { length table.new ≡ 192 }
+    ensures colours { (n : ℕ) → n < 192 → slice_index_or table.new n black ≡ table_colour (seen scene.now) n }
+{
+    fill_shade(scene, Shade::Shadow, 0, table);
+    fill_shade(scene, Shade::Normal, 64, table);
+    fill_shade(scene, Shade::Highlight, 128, table);
+}
+
+/// Fills the part of the table for a shade, which begins at `from`.
+#[inline(always)]
+fn fill_shade(scene: &Scene, shade: Shade, from: usize, table: &mut [Rgb; 192])
+    requires from { from ≡ 64 * shade_number shade }
+    requires below { from < 129 }
+    requires whole { length table.old ≡ 192 }
+    ensures whole { length table.new ≡ 192 }
+    ensures colours { (n : ℕ) → n < 64 → slice_index_or table.new (from + n) black ≡ rgb_of (seen scene.now) (shown n shade) }
+    ensures before { (n : ℕ) → n < from → slice_index_or table.new n black ≡ slice_index_or table.old n black }
+{
+    for n in 0..64 {
+        table[from + n] = rgb_of(scene, n, shade);
+    }
+}

@@ -1,0 +1,27 @@
+// The numbers of the registers that the picture is drawn by. Source: Genesis Technical Overview, the
+// VDP's registers.
+
+/// Bit 6 the display.
+pub const MODE_2: usize = 1;
+/// Where the names of plane A stand: bits 5 to 3.
+pub const PLANE_A: usize = 2;
+/// Where the names of the window stand: bits 5 to 1.
+pub const WINDOW: usize = 3;
+/// Where the names of plane B stand: bits 2 to 0.
+pub const PLANE_B: usize = 4;
+/// Where the table of sprites stands: bits 6 to 0.
+pub const SPRITES: usize = 5;
+/// The backdrop's colour: bits 5 to 0.
+pub const BACKDROP: usize = 7;
+/// Bit 2 vertical scroll by columns, bits 1 and 0 the horizontal scroll.
+pub const MODE_3: usize = 11;
+/// Bit 0 the 320 mode, bit 3 shadow and highlight.
+pub const MODE_4: usize = 12;
+/// Where the horizontal scrolls stand: bits 5 to 0.
+pub const SCROLLS: usize = 13;
+/// The planes' width in bits 1 and 0, their height in bits 5 and 4.
+pub const PLANE_SIZE: usize = 16;
+/// The window's edge across: bits 4 to 0; bit 7 the side.
+pub const WINDOW_ACROSS: usize = 17;
+/// The window's edge down: bits 4 to 0; bit 7 the side.
+pub const WINDOW_DOWN: usize = 18;

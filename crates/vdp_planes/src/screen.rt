@@ -1,0 +1,181 @@
+ghost use Rattle.std.specs.Prelude.{◌≡◌, ℕ, ◌+◌, ◌-◌, ◌*◌, ◌/◌, ◌%◌, ◌<◌, ◌≤◌, Bool, nat_le, nat_lt, length, slice_index, slice_index_or};
+ghost use Rattle.vdp_planes.specs.View.{AllColours, IsFilled, dot_at, has_bit, register, seen};
+ghost use Rattle.vdp_planes.specs.Planes.{width_of};
+ghost use Rattle.vdp_planes.specs.Mixing.{IsSpan, back_at, backdrop, black, in_picture, index_at, index_of, line_byte, mixed_at, part, printed_byte, shaded_at, table_colour, unshaded_at};
+
+use crate::colours::{Rgb, Shade, fill_table};
+use crate::mix::{index_of, shaded, unshaded};
+use crate::register::{BACKDROP, MODE_2, MODE_4};
+use crate::view::{Dot, LineView, Scene};
+use crate::window::width_of;
+
+/// Mixes the dots of a line of plane A, plane B and the sprites into its 960 bytes: red, green and
+/// blue of 320 dots. The borders of the 256 mode, and all where the display is off, show the
+/// backdrop. Source: Genesis Technical Overview, priority; the bytes of a level are this project's
+/// profile.
+pub fn mix_line(view: &LineView, a: &[Dot; 320], b: &[Dot; 320], s: &[Dot; 320], rgb: &mut [u8])
+    requires a { AllColours a.now }
+    requires b { AllColours b.now }
+    requires s { AllColours s.now }
+    requires room { length rgb.old ≡ 960 }
+    ensures { (n : ℕ) → n < 960 → slice_index rgb.new n ≡ line_byte view.now a.now b.now s.now n }
+{
+    mix_dots(&view.scene(), a, b, s, rgb);
+}
+
+/// `mix_line` from borrowed registers and memories.
+pub fn mix_dots(scene: &Scene, a: &[Dot; 320], b: &[Dot; 320], s: &[Dot; 320], rgb: &mut [u8])
+    requires a { AllColours a.now }
+    requires b { AllColours b.now }
+    requires s { AllColours s.now }
+    requires room { length rgb.old ≡ 960 }
+    ensures { (n : ℕ) → n < 960 → slice_index rgb.new n ≡ line_byte (seen scene.now) a.now b.now s.now n }
+{
+    let mut table = [Rgb {
+        red: 0,
+        green: 0,
+        blue: 0,
+    }; 192];
+    fill_table(scene, &mut table);
+    let mut line = [0; 320];
+    mix_indexes(scene, a, b, s, &mut line);
+    print(&table, &line, rgb);
+}
+
+/// The picture's place on the line; none of it where the display is off.
+#[tactic(auto, unfolding(crate::specs::Mixing::in_picture, crate::specs::Mixing::border_of, crate::specs::Planes::width_of))]
+fn span_of(scene: &Scene) -> (usize, usize)
+    ensures { IsSpan (seen scene.now) result.0 result.1 }
+{
+    if scene.registers[MODE_2] / 64 % 2 == 0 {
+        return (0, 0);
+    }
+    if scene.registers[MODE_4] % 2 == 1 {
+        (0, 320)
+    } else {
+        (32, 288)
+    }
+}
+
+/// The index of what each dot of the line shows.
+fn mix_indexes(scene: &Scene, a: &[Dot; 320], b: &[Dot; 320], s: &[Dot; 320], line: &mut [u8; 320])
+    requires a { AllColours a.now }
+    requires b { AllColours b.now }
+    requires s { AllColours s.now }
+    ensures whole { length line.new ≡ 320 }
+    ensures value { (x : ℕ) → x < 320 → slice_index line.new x ≡ index_at (seen scene.now) a.now b.now s.now x }
+    ensures below { (x : ℕ) → x < 320 → slice_index line.new x < 192 }
+{
+    let back = scene.registers[BACKDROP] % 64;
+    let (from, to) = span_of(scene);
+    fill_back(back, 0, from, line);
+    fill_mixed(scene, a, b, s, from, to, line);
+    fill_back(back, to, 320, line);
+}
+
+/// The dots of the picture, with or without shadow and highlight.
+fn fill_mixed(
+    scene: &Scene,
+    a: &[Dot; 320],
+    b: &[Dot; 320],
+    s: &[Dot; 320],
+    from: usize,
+    to: usize,
+    line: &mut [u8; 320],
+)
+    requires a { AllColours a.now }
+    requires b { AllColours b.now }
+    requires s { AllColours s.now }
+    requires order { from ≤ to }
+    requires within { to ≤ 320 }
+    requires whole { length line.old ≡ 320 }
+    ensures { IsFilled 0 from to line.old line.new (mixed_at (seen scene.now) a.now b.now s.now from) }
+{
+    let back = scene.registers[BACKDROP] % 64;
+    if scene.registers[MODE_4] / 8 % 2 == 1 {
+        fill_shaded(back, a, b, s, from, to, line);
+    } else {
+        fill_unshaded(back, a, b, s, from, to, line);
+    }
+}
+
+/// The backdrop.
+#[tactic(auto, using(crate::proofs::Filled::filled_one))]
+fn fill_back(back: u8, from: usize, to: usize, line: &mut [u8; 320])
+    requires back { back < 64 }
+    requires order { from ≤ to }
+    requires within { to ≤ 320 }
+    requires whole { length line.old ≡ 320 }
+    ensures { IsFilled 0 from to line.old line.new (back_at back) }
+{
+    let index = index_of(back, Shade::Normal);
+    for x in from..to {
+        line[x] = index;
+    }
+}
+
+/// Dots with shadow and highlight.
+#[tactic(auto, using(crate::proofs::Filled::filled_one))]
+fn fill_shaded(
+    back: u8,
+    a: &[Dot; 320],
+    b: &[Dot; 320],
+    s: &[Dot; 320],
+    from: usize,
+    to: usize,
+    line: &mut [u8; 320],
+)
+    requires back { back < 64 }
+    requires a { AllColours a.now }
+    requires b { AllColours b.now }
+    requires s { AllColours s.now }
+    requires order { from ≤ to }
+    requires within { to ≤ 320 }
+    requires whole { length line.old ≡ 320 }
+    ensures { IsFilled 0 from to line.old line.new (shaded_at back a.now b.now s.now from) }
+{
+    for x in from..to {
+        let dot = x - from;
+        line[x] = shaded(back, a[dot], b[dot], s[dot]);
+    }
+}
+
+/// Dots without.
+#[tactic(auto, using(crate::proofs::Filled::filled_one))]
+fn fill_unshaded(
+    back: u8,
+    a: &[Dot; 320],
+    b: &[Dot; 320],
+    s: &[Dot; 320],
+    from: usize,
+    to: usize,
+    line: &mut [u8; 320],
+)
+    requires back { back < 64 }
+    requires a { AllColours a.now }
+    requires b { AllColours b.now }
+    requires s { AllColours s.now }
+    requires order { from ≤ to }
+    requires within { to ≤ 320 }
+    requires whole { length line.old ≡ 320 }
+    ensures { IsFilled 0 from to line.old line.new (unshaded_at back a.now b.now s.now from) }
+{
+    for x in from..to {
+        let dot = x - from;
+        line[x] = unshaded(back, a[dot], b[dot], s[dot]);
+    }
+}
+
+/// Writes the bytes of the colours of these indices.
+fn print(table: &[Rgb; 192], line: &[u8; 320], rgb: &mut [u8])
+    requires indices { (x : ℕ) → x < 320 → slice_index line.now x < 192 }
+    requires room { length rgb.old ≡ 960 }
+    ensures { (n : ℕ) → n < 960 → slice_index rgb.new n ≡ printed_byte table.now line.now n }
+{
+    for x in 0..320 {
+        let colour = table[usize::from(line[x])];
+        rgb[3 * x] = colour.red;
+        rgb[3 * x + 1] = colour.green;
+        rgb[3 * x + 2] = colour.blue;
+    }
+}

@@ -1,0 +1,148 @@
+ghost use Rattle.std.specs.Prelude.{◌≡◌, ◌+◌, ◌-◌, ◌/◌, ◌%◌, ◌*◌, ◌<◌, ◌≤◌, ◌^◌, length, true};
+ghost use Rattle.vdp_planes.specs.View.{IsFilled, clear, has_bit, register, seen};
+ghost use Rattle.vdp_planes.specs.Planes.{down, name_place, plane_number, scroll_place, scrolled_dot};
+ghost use Rattle.vdp_planes.specs.Scrolls.{IsScroll};
+
+use crate::cells::cell_run;
+use crate::fields::{cells, word, wrapped};
+use crate::register::{MODE_3, PLANE_A, PLANE_B, PLANE_SIZE, SCROLLS};
+use crate::view::{Dot, Scene};
+
+/// What stays the same along a line of a plane.
+#[derive(Drop)]
+pub struct Scroll {
+    /// The line.
+    pub y: u32,
+    /// Plane B.
+    pub second: bool,
+    /// The address of the plane's names.
+    pub base: u32,
+    /// What is added to x: 65,536 less the scroll entry.
+    pub shift: u32,
+    /// Two bits for the width.
+    pub across: u32,
+    /// Two bits for the height.
+    pub down: u32,
+    /// The first entry of the vertical scroll.
+    pub number: u32,
+    /// Whether each 16 dots have a vertical scroll of their own.
+    pub by_columns: bool,
+}
+
+/// The line whose scroll entry a line takes.
+#[tactic(auto, unfolding(crate::specs::Planes::scroll_place))]
+fn scroll_place(mode: u32, y: u32) -> u32
+    requires { y < 240 }
+    ensures value { result ≡ scroll_place mode y }
+    ensures below { result < 240 }
+{
+    match mode {
+        2 => y - y % 8,
+        3 => y,
+        _ => 0,
+    }
+}
+
+/// 0 for plane A, 1 for plane B.
+#[tactic(auto, unfolding(crate::specs::Planes::plane_number))]
+fn plane_number(second: bool) -> u32
+    ensures value { result ≡ plane_number second }
+    ensures below { result < 2 }
+{
+    if second { 1 } else { 0 }
+}
+
+/// What stays the same along line `y` of a plane.
+#[tactic(auto, unfolding(crate::specs::Planes::across, crate::specs::Planes::plane_base))]
+pub fn scroll_of(scene: &Scene, y: u32, second: bool) -> Scroll
+    requires { y < 240 }
+    ensures scroll { IsScroll (seen scene.now) result }
+    ensures line { result.y ≡ y }
+    ensures plane { result.second ≡ second }
+{
+    let number = plane_number(second);
+    let place = scroll_place(u32::from(scene.registers[MODE_3]) % 4, y);
+    let entry = word(
+        scene,
+        u32::from(scene.registers[SCROLLS]) % 64 * 1024 + 4 * place + 2 * number,
+    );
+    let base = if second {
+        u32::from(scene.registers[PLANE_B]) % 8 * 8192
+    } else {
+        u32::from(scene.registers[PLANE_A]) / 8 % 8 * 8192
+    };
+    let sides = u32::from(scene.registers[PLANE_SIZE]);
+    Scroll {
+        y,
+        second,
+        base,
+        shift: 65_536 - entry,
+        across: sides % 4,
+        down: sides / 16 % 4,
+        number,
+        by_columns: scene.registers[MODE_3] / 4 % 2 == 1,
+    }
+}
+
+/// The vertical scroll at a place of the line.
+#[inline(always)]
+#[tactic(auto, unfolding(crate::specs::Planes::down, crate::specs::Planes::plane_number))]
+fn down(scene: &Scene, scroll: &Scroll, x: u32) -> u32
+    requires scroll { IsScroll (seen scene.now) scroll.now }
+    requires within { x < 320 }
+    ensures value { result ≡ down (seen scene.now) scroll.now.second x }
+    ensures below { result < 65536 }
+{
+    let column = if scroll.by_columns { 2 * (x / 16) } else { 0 };
+    u32::from(scene.vsram[(scroll.number + column) as usize])
+}
+
+/// The place up to which the vertical scroll is that of `x`, or one behind it, where all is the same.
+#[inline(always)]
+fn column_end(scroll: &Scroll, x: u32, to: u32) -> u32
+    requires order { x < to }
+    requires within { to ≤ 320 }
+    ensures column { scroll.now.by_columns ≡ true → result ≤ x + 16 - x % 16 }
+    ensures further { x < result }
+{
+    if scroll.by_columns {
+        x + 16 - x % 16
+    } else {
+        to
+    }
+}
+
+/// Draws the dots of the plane from `x` on: those of one cell, none of them at `to` or behind it.
+/// The answer is the place behind them.
+#[inline(always)]
+#[tactic(auto, unfolding(crate::specs::Planes::name_place, crate::specs::Planes::point_x, crate::specs::Planes::point_y))]
+fn scrolled_cell(scene: &Scene, scroll: &Scroll, x: u32, to: u32, out: &mut [Dot; 320]) -> u32
+    requires scroll { IsScroll (seen scene.now) scroll.now }
+    requires order { x < to }
+    requires within { to ≤ 320 }
+    ensures drawn { IsFilled clear x result out.old out.new (scrolled_dot (seen scene.now) scroll.now.second scroll.now.y) }
+    ensures further { x < result }
+    ensures most { result ≤ to }
+{
+    let px = wrapped(x + scroll.shift, scroll.across);
+    let py = wrapped(scroll.y + down(scene, scroll, x), scroll.down);
+    let index = (py / 8 * cells(scroll.across) + px / 8) % 4096;
+    let name = word(scene, scroll.base + 2 * index);
+    let next = (x + 8 - px % 8).min(column_end(scroll, x, to)).min(to);
+    cell_run(scene, name, px % 8, py % 8, x, next, out);
+    next
+}
+
+/// Draws the dots of the plane from one place to another.
+pub fn draw_scrolled(scene: &Scene, scroll: &Scroll, from: u32, to: u32, out: &mut [Dot; 320])
+    requires scroll { IsScroll (seen scene.now) scroll.now }
+    requires whole { length out.old ≡ 320 }
+    requires order { from ≤ to }
+    requires within { to ≤ 320 }
+    ensures { IsFilled clear from to out.old out.new (scrolled_dot (seen scene.now) scroll.now.second scroll.now.y) }
+{
+    let mut x = from;
+    while x < to {
+        x = scrolled_cell(scene, scroll, x, to, out);
+    }
+}
