@@ -1,0 +1,51 @@
+-- A line of sprite dots on its way.
+use Rattle.std.specs.Prelude.{◌≡◌, ℕ, ◌<◌, ◌≤◌, Bool, true, false, ◌||◌, ◌&&◌, not, if◌then◌else◌, List, ◌++◌, length}
+use Rattle.vdp_planes.specs.declared.view.Dot.{Dot}
+use Rattle.vdp_planes.specs.declared.view.LineView.{LineView}
+use Rattle.vdp_planes.specs.View.{IsFilled, clear, dot_at}
+use Rattle.vdp_planes.specs.Planes.{width_of}
+use Rattle.vdp_planes.specs.Mixing.{is_opaque}
+use Rattle.vdp_sprites.specs.declared.sprite.Sprite.{Sprite}
+use Rattle.vdp_sprites.specs.Sprites.{Part, any_below, collides, opaque_of, part_dot, parts_from, reaches}
+
+-- a sprite that shows so many pixels
+abbrev pub part_of : Sprite → ℕ → Part
+part_of sprite pixels = record { sprite = sprite; pixels = pixels }
+
+-- a dot drawn where nothing opaque stands
+unfoldable pub over : Dot → Dot → Dot
+over below dot = if is_opaque dot && not (is_opaque below) then dot else below
+
+-- the places that a part reaches are those from `first` up to `last`
+pub record IsReach (part : Part) (width first last : ℕ) : Type 0 where
+  pub order : first ≤ last
+  pub within : last ≤ width
+  pub before : (x : ℕ) → x < first → reaches part x ≡ false
+  pub inside : (x : ℕ) → first ≤ x → x < last → reaches part x ≡ true
+  pub behind : (x : ℕ) → last ≤ x → x < width → reaches part x ≡ false
+
+-- a line's dots after a part was drawn
+abbrev pub over_at : LineView → ℕ → Part → List Dot → ℕ → Dot
+over_at view y part old x = over (dot_at old x) (part_dot view y x part)
+
+-- whether a part meets what stands there
+abbrev pub meets_at : LineView → ℕ → Part → List Dot → ℕ → Bool
+meets_at view y part old x = is_opaque (dot_at old x) && is_opaque (part_dot view y x part)
+
+-- a line after a part was drawn up to a place, and whether it met something so far
+pub record IsOver (view : LineView) (y to : ℕ) (part : Part) (old new : List Dot) (hit after : Bool) : Type 0 where
+  pub dots : IsFilled clear 0 to old new (over_at view y part old)
+  pub meets : after ≡ (hit || any_below to (meets_at view y part old))
+
+-- a line after the parts of a list, and whether two of them met
+pub record IsLine (view : LineView) (y : ℕ) (list : List Part) (line : List Dot) (hit : Bool) : Type 0 where
+  pub whole : length line ≡ 320
+  pub inside : (x : ℕ) → x < width_of view → dot_at line x ≡ dot_at (opaque_of view y list x) 0
+  pub outside : (x : ℕ) → x < 320 → width_of view ≤ x → dot_at line x ≡ clear
+  pub meets : hit ≡ collides view y list
+
+-- what is done and what is left make up the whole
+pub record IsDrawing (view : LineView) (y : ℕ) (all : List Part) (left : ℕ) (before : Bool) (rest : List Sprite) (line : List Dot) (hit : Bool) : Type 0 where
+  pub done : List Part
+  pub whole : all ≡ done ++ parts_from left before rest
+  pub line_done : IsLine view y done line hit

@@ -1,0 +1,173 @@
+ghost use Rattle.std.specs.Prelude.{◌≡◌, ℕ, ◌+◌, ◌-◌, ◌*◌, ◌<◌, ◌≤◌, ◌||◌, ◌&&◌, Bool, true, false, not, ◌==◌, min, length, slice_set, List, []};
+ghost use Rattle.vdp_planes.specs.View.{AllColours, clear, dot_at, seen};
+ghost use Rattle.vdp_planes.specs.Planes.{width_of};
+ghost use Rattle.vdp_planes.specs.Mixing.{is_opaque};
+ghost use Rattle.vdp_sprites.specs.Sprites.{Part, collides, overflow, own_dot, parts, parts_from, sprite_dot};
+ghost use Rattle.vdp_sprites.specs.Drawn.{IsLine, IsOver, IsReach, over, part_of};
+
+use crate::chosen::{Found, choose};
+use crate::parts::{own_dot, too_wide};
+use crate::sprite::Sprite;
+use vdp_planes::{Dot, LineView, Scene, SpriteNote, width_of};
+
+/// Index 0 is transparent.
+#[inline(always)]
+#[tactic(auto, unfolding(vdp_planes::specs::Mixing::is_opaque))]
+fn is_opaque(dot: Dot) -> bool
+    ensures { result ≡ is_opaque dot }
+{
+    dot.colour % 16 != 0
+}
+
+/// A dot drawn where nothing opaque stands yet.
+#[inline(always)]
+#[tactic(auto, unfolding(crate::specs::Drawn::over))]
+fn over(below: Dot, dot: Dot) -> Dot
+    ensures { result ≡ over below dot }
+{
+    if is_opaque(dot) && !is_opaque(below) {
+        dot
+    } else {
+        below
+    }
+}
+
+/// Whether two opaque dots have met.
+#[inline(always)]
+fn meeting(hit: bool, below: Dot, dot: Dot) -> bool
+    ensures { result ≡ (hit || (is_opaque below && is_opaque dot)) }
+{
+    hit || (is_opaque(below) && is_opaque(dot))
+}
+
+/// The places of a line that the pixels of a part reach.
+#[tactic(auto, unfolding(crate::specs::Sprites::reaches))]
+fn span_of(sprite: Sprite, pixels: u32, width: u32) -> (u32, u32)
+    requires width { width ≤ 320 }
+    requires pixels { pixels ≤ 320 }
+    ensures { IsReach (part_of sprite pixels) width result.0 result.1 }
+{
+    let left = u32::from(sprite.x);
+    let last = (left + pixels).saturating_sub(128).min(width);
+    let first = left.saturating_sub(128).min(last);
+    (first, last)
+}
+
+/// Draws the part of a sprite that shows; the answer is `hit`, or true where it met another.
+#[tactic(auto, using(crate::proofs::Parted::over_begun, crate::proofs::Parted::over_more))]
+fn draw_part(
+    scene: &Scene,
+    y: u32,
+    sprite: Sprite,
+    pixels: u32,
+    width: u32,
+    mut hit: bool,
+    out: &mut [Dot; 320],
+) -> bool
+    requires line { y < 240 }
+    requires width { width ≤ 320 }
+    requires pixels { pixels ≤ 320 }
+    requires whole { length out.old ≡ 320 }
+    ensures { IsOver (seen scene.now) y width (part_of sprite pixels) out.old out.new hit result }
+{
+    let (first, last) = span_of(sprite, pixels, width);
+    for x in first..last {
+        let below = out[x as usize];
+        let dot = own_dot(scene, y, sprite, x);
+        out[x as usize] = over(below, dot);
+        hit = meeting(hit, below, dot);
+    }
+    hit
+}
+
+/// Whether a sprite hides itself and all after it.
+#[inline(always)]
+fn hides(seen: bool, sprite: Sprite) -> bool
+    ensures { result ≡ (seen && (sprite.x == 0)) }
+{
+    seen && sprite.x == 0
+}
+
+/// Whether an X other than 0 has been seen.
+#[inline(always)]
+fn seen_with(seen: bool, sprite: Sprite) -> bool
+    ensures { result ≡ (seen || not (sprite.x == 0)) }
+{
+    seen || sprite.x != 0
+}
+
+/// Draws the chosen sprites over a clear line; true: two have met.
+fn draw_parts(scene: &Scene, y: u32, width: u32, found: &Found, out: &mut [Dot; 320]) -> bool
+    requires line { y < 240 }
+    requires width { width ≡ width_of (seen scene.now) }
+    requires most { width ≤ 320 }
+    requires none { IsLine (seen scene.now) y [] out.old false }
+    ensures { IsLine (seen scene.now) y (parts_from width false found.now.items) out.new result }
+{
+    let mut left = width;
+    let mut before = false;
+    let mut hit = false;
+    for sprite in found.as_slice() {
+        if hides(before, *sprite) {
+            return hit;
+        }
+        let pixels = 8 * u32::from(sprite.width);
+        hit = draw_part(scene, y, *sprite, left.min(pixels), width, hit, out);
+        left = left.saturating_sub(pixels);
+        before = seen_with(before, *sprite);
+    }
+    hit
+}
+
+/// Whether one of two is so.
+#[inline(always)]
+fn either(a: bool, b: bool) -> bool
+    ensures { result ≡ (a || b) }
+{
+    a || b
+}
+
+/// Clears the line.
+fn clear_line(out: &mut [Dot; 320])
+    ensures whole { length out.new ≡ 320 }
+    ensures clear { (x : ℕ) → x < 320 → dot_at out.new x ≡ clear }
+{
+    for x in 0..320 {
+        out[x] = Dot {
+            colour: 0,
+            priority: false,
+        };
+    }
+}
+
+/// The dots of the sprites on line `y`, whether the display is on or off, and what they set. In the
+/// 256 mode the dots from 256 on are clear.
+pub fn sprite_line(view: &LineView, y: u32, out: &mut [Dot; 320]) -> SpriteNote
+    requires { y < 240 }
+    ensures dots { (x : ℕ) → x < 320 → dot_at out.new x ≡ sprite_dot view.now y x }
+    ensures below { AllColours out.new }
+    ensures overflow { result.overflow ≡ overflow view.now y }
+    ensures collision { result.collision ≡ collides view.now y (parts view.now y) }
+{
+    draw_sprites(&view.scene(), y, out)
+}
+
+/// `sprite_line` from borrowed registers and memories.
+pub fn draw_sprites(scene: &Scene, y: u32, out: &mut [Dot; 320]) -> SpriteNote
+    requires { y < 240 }
+    ensures dots { (x : ℕ) → x < 320 → dot_at out.new x ≡ sprite_dot (seen scene.now) y x }
+    ensures below { AllColours out.new }
+    ensures overflow { result.overflow ≡ overflow (seen scene.now) y }
+    ensures collision { result.collision ≡ collides (seen scene.now) y (parts (seen scene.now) y) }
+{
+    clear_line(out);
+    let width = width_of(scene);
+    let mut found = Found::new();
+    let further = choose(scene, y, &mut found);
+    let wide = too_wide(width, &found);
+    let collision = draw_parts(scene, y, width, &found, out);
+    SpriteNote {
+        overflow: either(further, wide),
+        collision,
+    }
+}
