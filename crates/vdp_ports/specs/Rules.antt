@@ -1,6 +1,7 @@
 -- What holds of a VDP's values from power-on on, and of every saved one. Each holds at a cycle that
 -- lies above all that has happened.
 use Rattle.std.specs.Prelude.{◌≡◌, ℕ, ◌+◌, ◌%◌, ◌<◌, ◌≤◌, ◌⊎◌, All, bit_and}
+use Rattle.md_word.specs.Clock.{line}
 use Rattle.vdp_ports.specs.Vdp.{Vdp}
 
 -- a fill or copy that was settled below a cycle, or a little before it: its next byte is not far
@@ -12,7 +13,7 @@ pub record IsGoing (at kind byte source address left next : ℕ) : Type 0 where
 
 -- the Z80's interrupt is asked for during line 224: none came yet, or the last began below the cycle
 abbrev pub IsInterval : ℕ → ℕ → ℕ → Type 0
-IsInterval at from to = ((from ≡ 0) × (to ≡ 0)) ⊎ ((from % 3420 ≡ 0) × (from < at) × (to ≡ from + 3420))
+IsInterval at from to = ((from ≡ 0) × (to ≡ 0)) ⊎ ((from % line ≡ 0) × (from < at) × (to ≡ from + line))
 
 -- the code is CD5 to CD0, colours and scrolls have only their bits
 pub record HasRules (at : ℕ) (s : Vdp) : Type 0 where

@@ -102,7 +102,8 @@ impl VdpState {
     /// A register, 0 to 23.
     pub fn register(&self, index: u8) -> u8
         requires { index < 24 }
-        ensures { result ≡ meaning.register self.now index }
+        ensures value { result ≡ meaning.register self.now index }
+        ensures sizes { meaning.IsVdp self.now.registers self.now.vram self.now.cram self.now.vsram }
     {
         self.registers[usize::from(index)]
     }

@@ -80,10 +80,10 @@ fn h_counter(cycle: u64, wide: bool) -> u32
     ensures value { result ≡ meaning.h_counter cycle wide }
     ensures byte { result < 256 }
 {
-    let within = (cycle % LINE) as u32;
+    let within = cycle % LINE;
     if wide {
-        jumping(183, 228, within * 211 / 3420)
+        jumping(183, 228, (within * 211 / LINE) as u32)
     } else {
-        jumping(148, 233, within / 20)
+        jumping(148, 233, (within / 20) as u32)
     }
 }
