@@ -6,4 +6,8 @@ mod dma;
 #[cfg(test)]
 mod lines;
 #[cfg(test)]
+mod planes;
+#[cfg(test)]
 mod ports;
+#[cfg(test)]
+mod sprites;

@@ -1,0 +1,117 @@
+use std::test::Fail;
+use vdp_planes::register::{MODE_2, MODE_4, SPRITES};
+use vdp_planes::{Dot, LineView, SpriteNote, fill_view, mix_line, plane_line};
+use vdp_ports::VdpState;
+use vdp_sprites::sprite_line;
+
+const CLEAR: Dot = Dot {
+    colour: 0,
+    priority: false,
+};
+
+/// Puts sprite `number`, which is `further` cells wider than one, into the table at F000h, on line 0.
+fn put_sprite(vdp: &mut VdpState, number: u8, x: u16, further: u8, link: u8) {
+    let at = 0xf000 + usize::from(number % 128) * 8;
+    let entry = [
+        0,
+        128,
+        further % 4 * 4,
+        link,
+        0,
+        1,
+        (x >> 8) as u8,
+        (x & 0xff) as u8,
+    ];
+    for k in 0..8 {
+        vdp.vram[at + k] = entry[k];
+    }
+}
+
+/// Makes patterns 1 to 4 opaque.
+fn fill_patterns(vdp: &mut VdpState) {
+    for k in 0..128 {
+        vdp.vram[32 + k] = 0x11;
+    }
+}
+
+/// Puts nineteen sprites of 16 dots, each 8 to the right of the one before, one of 32 at 200 and one
+/// more at 280.
+fn prepare(vdp: &mut VdpState) {
+    vdp.registers[MODE_2] = 0x40;
+    vdp.registers[MODE_4] = 0x01;
+    vdp.registers[SPRITES] = 0x78;
+    fill_patterns(vdp);
+    for n in 0..19u8 {
+        put_sprite(vdp, n, 128 + 8 * u16::from(n), 1, n + 1);
+    }
+    put_sprite(vdp, 19, 128 + 200, 3, 20);
+    put_sprite(vdp, 20, 128 + 280, 1, 0);
+}
+
+// The fifth sprite's place, and up to which dots the two stretches of opaque dots go: those from 0 on
+// and those from 200 on.
+const STRETCHES: [(u16, usize, usize); 2] = [(128 + 32, 160, 216), (0, 40, 200)];
+
+#[test]
+fn a_line_has_its_limits(rt: HostRuntime) -> Result<(), Fail> {
+    let alloc = rt.alloc();
+    let mut vdp = VdpState::power_on(alloc)?;
+    prepare(&mut vdp);
+    let mut view = Box::new(
+        alloc,
+        LineView {
+            registers: [0; 24],
+            vram: [0; 65536],
+            cram: [0; 64],
+            vsram: [0; 40],
+        },
+    )?;
+    for (x, first, second) in STRETCHES {
+        put_sprite(&mut vdp, 4, x, 1, 5);
+        fill_view(&mut view, &vdp);
+        let mut dots = [CLEAR; 320];
+        let note = sprite_line(&view, 0, &mut dots);
+        let want = SpriteNote {
+            overflow: true,
+            collision: true,
+        };
+        assert_eq!(rt; note, want);
+        for (place, dot) in dots.iter().enumerate() {
+            let opaque = place < first || place >= 200 && place < second;
+            assert_eq!(rt; dot.colour == 1, opaque, "{place}");
+        }
+    }
+    Ok(())
+}
+
+// With the sprites of before, whose colour is white: the dots of the line.
+#[test]
+fn a_view_is_drawn(rt: HostRuntime) -> Result<(), Fail> {
+    let alloc = rt.alloc();
+    let mut vdp = VdpState::power_on(alloc)?;
+    prepare(&mut vdp);
+    vdp.cram[1] = 0x0eee;
+    let mut view = Box::new(
+        alloc,
+        LineView {
+            registers: [0; 24],
+            vram: [0; 65536],
+            cram: [0; 64],
+            vsram: [0; 40],
+        },
+    )?;
+    fill_view(&mut view, &vdp);
+    let mut a = [CLEAR; 320];
+    let mut b = [CLEAR; 320];
+    let mut dots = [CLEAR; 320];
+    plane_line(&view, 0, false, &mut a);
+    plane_line(&view, 0, true, &mut b);
+    sprite_line(&view, 0, &mut dots);
+    let mut rgb = [1; 960];
+    mix_line(&view, &a, &b, &dots, &mut rgb);
+    assert_eq!(rt;
+        [rgb[479], rgb[480], rgb[600], rgb[647], rgb[648]],
+        [252, 0, 252, 252, 0]
+    );
+    Ok(())
+}
