@@ -6,7 +6,7 @@ ghost use Rattle.vdp_ports.specs.Data.{transferred};
 ghost use Rattle.vdp_dma.specs.Settling as meaning;
 
 use vdp_ports::register::INCREMENT;
-use vdp_ports::{COPY, NO_DMA, VdpState, other_byte};
+use vdp_ports::{COPY, COPY_STEP, FILL_STEP, NO_DMA, VdpState, other_byte};
 
 /// Master cycles from one byte to the next.
 #[tactic(auto, unfolding(crate::specs::Settling::step))]
@@ -15,7 +15,11 @@ fn step(state: &VdpState) -> u64
     ensures least { 0 < result }
     ensures most { result ≤ 34 }
 {
-    if state.dma_kind == COPY { 34 } else { 17 }
+    if state.dma_kind == COPY {
+        COPY_STEP
+    } else {
+        FILL_STEP
+    }
 }
 
 /// The running address before byte k.
@@ -124,6 +128,7 @@ fn make_due(state: &mut VdpState, cycle: u64)
 /// before changes nothing, and where bytes are left, the next one is not due.
 ///
 /// It takes the time of the bytes that it makes, and of one test where there is none.
+#[inline]
 pub fn settle(state: &mut VdpState, cycle: u64)
     requires { cycle ≤ 2 ^ 50 }
     ensures value { state.new ≡ meaning.settled cycle state.old }

@@ -50,6 +50,7 @@ impl VdpState {
 
     /// The interrupt level: 6 where the vertical interrupt is pending and let through, else 4 where
     /// the horizontal one is, else 0.
+    #[inline]
     #[tactic(auto, unfolding(crate::specs::Control::level))]
     pub fn level(&self) -> u8
         ensures value { result ≡ meaning.level self.now }

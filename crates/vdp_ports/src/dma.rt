@@ -12,9 +12,9 @@ pub const FILL: u8 = 1;
 pub const COPY: u8 = 2;
 
 /// Master cycles from one byte of a fill to the next.
-const FILL_STEP: u64 = 17;
+pub const FILL_STEP: u64 = 17;
 /// Master cycles from one byte of a copy to the next.
-const COPY_STEP: u64 = 34;
+pub const COPY_STEP: u64 = 34;
 
 impl VdpState {
     /// The length of what starts, 1 to 65,536: a length of 0 stands for 65,536.

@@ -9,6 +9,6 @@ mod memory;
 pub mod register;
 mod state;
 
-pub use dma::{COPY, FILL, NO_DMA};
+pub use dma::{COPY, COPY_STEP, FILL, FILL_STEP, NO_DMA};
 pub use memory::other_byte;
 pub use state::VdpState;

@@ -100,6 +100,7 @@ impl VdpState {
     }
 
     /// A register, 0 to 23.
+    #[inline]
     pub fn register(&self, index: u8) -> u8
         requires { index < 24 }
         ensures value { result ≡ meaning.register self.now index }

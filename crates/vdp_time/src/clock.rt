@@ -11,6 +11,7 @@ pub(crate) const HEIGHT: u32 = 224;
 const H_BLANK: u64 = 2560;
 
 /// The line, in its frame, of a cycle: 0 to 261.
+#[inline]
 #[tactic(auto, unfolding(crate::specs::Lines::line_of))]
 pub fn line_of(cycle: u64) -> u32
     ensures value { result ≡ meaning.line_of cycle }
@@ -20,6 +21,7 @@ pub fn line_of(cycle: u64) -> u32
 }
 
 /// The frame of a cycle, from 0.
+#[inline]
 #[tactic(auto, unfolding(crate::specs::Lines::frame_of))]
 pub fn frame_of(cycle: u64) -> u64
     ensures { result ≡ meaning.frame_of cycle }
