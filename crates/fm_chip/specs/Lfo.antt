@@ -14,15 +14,16 @@ stepped register lfo =
     if nat_le (slice_index periods (register % 8)) (lfo.count + 1) then record { t = (lfo.t + 1) % 128; count = 0 }
     else record { t = lfo.t; count = lfo.count + 1 })
 
--- tremolo at its whole depth, and at each depth
+-- tremolo at its whole depth
 unfoldable pub triangle : ℕ → ℕ
 triangle t = if nat_lt t 64 then 2 * t else 2 * (127 - t)
 
+-- how much of it is heard at each depth: none, an eighth, a half, all
+abbrev pub eighths : List ℕ
+eighths = 0 ∷ 1 ∷ 4 ∷ 8 ∷ []
+
 unfoldable pub tremolo : ℕ → ℕ → ℕ
-tremolo depth t =
-    if depth == 0 then 0 else (
-    if depth == 1 then triangle t / 8 else (
-    if depth == 2 then triangle t / 2 else triangle t))
+tremolo depth t = triangle t * slice_index eighths depth / 8
 
 -- vibrato's deviation without its sign at q of 32 places, and the factor of a depth
 unfoldable pub swing : ℕ → ℕ

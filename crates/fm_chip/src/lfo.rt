@@ -15,6 +15,9 @@ pub struct Lfo {
 /// The samples from one step to the next.
 const PERIODS: [u8; 8] = [108, 77, 71, 67, 62, 44, 8, 5];
 
+/// How much of tremolo is heard at each depth, in eighths.
+const EIGHTHS: [u8; 4] = [0, 1, 4, 8];
+
 /// What vibrato multiplies by, at each depth.
 const FACTORS: [u8; 8] = [0, 1, 2, 3, 4, 6, 12, 24];
 
@@ -64,6 +67,15 @@ fn triangle(t: u32) -> u32
     if t < 64 { 2 * t } else { 2 * (127 - t) }
 }
 
+/// How much of tremolo is heard at a depth.
+fn eighths(depth: u32) -> u32
+    requires { depth < 4 }
+    ensures value { result ≡ slice_index meaning.eighths depth }
+    ensures most { result ≤ 8 }
+{
+    u32::from(EIGHTHS[depth as usize])
+}
+
 /// What tremolo adds to an attenuation, at a depth.
 #[tactic(auto, unfolding(crate::specs::Lfo::tremolo))]
 pub fn tremolo(depth: u32, t: u32) -> u32
@@ -72,12 +84,7 @@ pub fn tremolo(depth: u32, t: u32) -> u32
     ensures value { result ≡ meaning.tremolo depth t }
     ensures below { result < 127 }
 {
-    match depth {
-        0 => 0,
-        1 => triangle(t) / 8,
-        2 => triangle(t) / 2,
-        _ => triangle(t),
-    }
+    triangle(t) * eighths(depth) / 8
 }
 
 /// Vibrato's deviation without its sign, at a quarter of the place.
