@@ -97,4 +97,4 @@ unfoldable pub channel_value : List ℕ → Moment → ℕ → Channel → ℤ
 channel_value registers m c ch = value registers m.t c (ready registers m c ch)
 
 unfoldable pub channel_after : List ℕ → Moment → ℕ → Channel → Channel
-channel_after registers m c ch = all_advanced (steps_of registers m.t c) (sounded registers m.t c (ready registers m c ch))
+channel_after registers m c ch = all_advanced (steps_of registers (m.t / 4) c) (sounded registers m.t c (ready registers m c ch))

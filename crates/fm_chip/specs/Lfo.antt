@@ -37,8 +37,8 @@ factors = 0 ∷ 1 ∷ 2 ∷ 3 ∷ 4 ∷ 6 ∷ 12 ∷ 24 ∷ []
 
 -- what vibrato changes a frequency by, without its sign
 unfoldable pub share : ℕ → ℕ → ℕ → ℕ
-share fnum depth t = fnum * (swing (t / 4) * slice_index factors depth) / 4096
+share fnum depth q = fnum * (swing q * slice_index factors depth) / 4096
 
 -- what a frequency gains: negative in the second half, rounded towards zero
 unfoldable pub gain : ℕ → ℕ → ℕ → ℤ
-gain fnum depth t = if nat_lt t 64 then pos (share fnum depth t) else neg_ℤ (pos (share fnum depth t))
+gain fnum depth q = if nat_lt q 16 then pos (share fnum depth q) else neg_ℤ (pos (share fnum depth q))

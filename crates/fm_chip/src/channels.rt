@@ -1,4 +1,4 @@
-ghost use Rattle.std.specs.Prelude.{◌≡◌, ◌+◌, ◌*◌, ◌^◌, ◌<◌, ◌≤◌, ◌≤ℤ◌, pos, negsuc, All};
+ghost use Rattle.std.specs.Prelude.{◌/◌, ◌≡◌, ◌+◌, ◌*◌, ◌^◌, ◌<◌, ◌≤◌, ◌≤ℤ◌, pos, negsuc, All};
 ghost use Rattle.fm_chip.specs.Channels as meaning;
 ghost use Rattle.fm_chip.specs.Channels.{IsChannel};
 ghost use Rattle.fm_chip.specs.Steps.{IsSmall, steps_of};
@@ -143,7 +143,7 @@ impl Channel {
         requires channel { IsChannel self.old }
         requires t { moment.now.t < 128 }
         requires number { number < 6 }
-        requires steps { steps.now ≡ steps_of registers.now moment.now.t number }
+        requires steps { steps.now ≡ steps_of registers.now (moment.now.t / 4) number }
         requires small { IsSmall steps.now }
         ensures value { result ≡ meaning.channel_value registers.now moment.now number self.old }
         ensures after { self.new ≡ meaning.channel_after registers.now moment.now number self.old }

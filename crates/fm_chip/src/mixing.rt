@@ -1,4 +1,4 @@
-ghost use Rattle.std.specs.Prelude.{◌≡◌, ◌+◌, ◌*◌, ◌<◌, ◌≤ℤ◌, pos, length, All, slice_set};
+ghost use Rattle.std.specs.Prelude.{◌/◌, ◌≡◌, ◌+◌, ◌*◌, ◌<◌, ◌≤ℤ◌, pos, length, All, slice_set};
 ghost use Rattle.fm_chip.specs.Synth as meaning;
 ghost use Rattle.fm_chip.specs.Channels.{IsChannel, channel_at, channel_value, channel_after};
 ghost use Rattle.fm_chip.specs.Steps.{AreSteps};
@@ -49,7 +49,7 @@ fn sample_one(
     requires channels { All IsChannel channels.old }
     requires six { length channels.old ≡ 6 }
     requires t { moment.now.t < 128 }
-    requires steps { AreSteps registers.now moment.now.t steps.now }
+    requires steps { AreSteps registers.now (moment.now.t / 4) steps.now }
     requires number { number < 6 }
     ensures value { result ≡ channel_value registers.now moment.now number (channel_at channels.old number) }
     ensures after { channels.new ≡ slice_set channels.old number (channel_after registers.now moment.now number (channel_at channels.old number)) }
@@ -69,7 +69,7 @@ pub fn sample_all(
     requires channels { All IsChannel channels.old }
     requires six { length channels.old ≡ 6 }
     requires t { moment.now.t < 128 }
-    requires steps { AreSteps registers.now moment.now.t steps.now }
+    requires steps { AreSteps registers.now (moment.now.t / 4) steps.now }
     ensures left { result.0 ≡ meaning.left_below registers.now moment.now channels.old 6 }
     ensures right { result.1 ≡ meaning.right_below registers.now moment.now channels.old 6 }
     ensures left_range { IsWithin 49152 result.0 }

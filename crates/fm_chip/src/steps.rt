@@ -14,13 +14,13 @@ pub struct Steps {
     pub four: u32,
 }
 
-/// The steps of all channels, kept while no register changes and the oscillator stands still.
+/// The steps of all channels, kept while no register changes and vibrato stands still.
 #[derive(Clone, Copy)]
 pub struct KeptSteps {
     /// Whether they are those of the registers as these stand.
     pub fresh: bool,
-    /// The oscillator's place for which they were made.
-    pub t: u32,
+    /// Vibrato's place for which they were made, 0 to 31.
+    pub place: u32,
     pub channels: [Steps; 6],
 }
 
@@ -38,51 +38,51 @@ impl KeptSteps {
         };
         KeptSteps {
             fresh: false,
-            t: 0,
+            place: 0,
             channels: [none; 6],
         }
     }
 
-    /// Makes the steps where the oscillator stands at `t`, unless they are kept.
-    pub fn renew(&mut self, registers: &Registers, t: u32)
+    /// Makes the steps for a place of vibrato, 0 to 31, unless they are kept.
+    pub fn renew(&mut self, registers: &Registers, place: u32)
         requires fresh { IsFresh registers.now self.old }
-        requires t { t < 128 }
-        ensures steps { AreSteps registers.now t self.new.channels }
+        requires place { place < 32 }
+        ensures steps { AreSteps registers.now place self.new.channels }
         ensures fresh { IsFresh registers.now self.new }
     {
-        if self.fresh && self.t == t {
+        if self.fresh && self.place == place {
             return;
         }
-        make_all(&mut self.channels, registers, t);
-        self.t = t;
+        make_all(&mut self.channels, registers, place);
+        self.place = place;
         self.fresh = true;
     }
 }
 
 /// Makes the steps of all channels.
-fn make_all(channels: &mut [Steps; 6], registers: &Registers, t: u32)
+fn make_all(channels: &mut [Steps; 6], registers: &Registers, place: u32)
     requires six { length channels.old ≡ 6 }
-    requires t { t < 128 }
-    ensures { AreSteps registers.now t channels.new }
+    requires place { place < 32 }
+    ensures { AreSteps registers.now place channels.new }
 {
     for number in 0..6 {
-        channels[number as usize] = steps_of(registers, t, number);
+        channels[number as usize] = steps_of(registers, place, number);
     }
 }
 
 /// The steps of channel `number`.
 #[tactic(auto, unfolding(crate::specs::Steps::steps_of))]
-fn steps_of(registers: &Registers, t: u32, number: u32) -> Steps
-    requires t { t < 128 }
+fn steps_of(registers: &Registers, place: u32, number: u32) -> Steps
+    requires place { place < 32 }
     requires number { number < 6 }
-    ensures value { result ≡ meaning.steps_of registers.now t number }
+    ensures value { result ≡ meaning.steps_of registers.now place number }
     ensures small { IsSmall result }
 {
     let depth = of_channel(registers, number, SIDES_DEPTHS) % 8;
     Steps {
-        one: phase_step(registers, depth, t, number, 0),
-        two: phase_step(registers, depth, t, number, 1),
-        three: phase_step(registers, depth, t, number, 2),
-        four: phase_step(registers, depth, t, number, 3),
+        one: phase_step(registers, depth, place, number, 0),
+        two: phase_step(registers, depth, place, number, 1),
+        three: phase_step(registers, depth, place, number, 2),
+        four: phase_step(registers, depth, place, number, 3),
     }
 }

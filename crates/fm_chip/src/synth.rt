@@ -179,7 +179,7 @@ impl FmSynth {
             counter: self.counter,
             t: self.lfo.t,
         };
-        kept.renew(&self.registers, self.lfo.t);
+        kept.renew(&self.registers, self.lfo.t / 4);
         sample_all(&mut self.channels, &self.registers, &moment, &kept.channels)
     }
 

@@ -5,6 +5,6 @@ use Rattle.fm_chip.proofs.steps.make_all.Given as goal
 abbrev pub invariant-loop-number : goal.invariant-loop-number
 invariant-loop-number l = record {
   six : length l.channels ≡ 6;
-  each : (j : ℕ) → j < l.number → steps_at l.channels j ≡ steps_of l.registers l.t j;
+  each : (j : ℕ) → j < l.number → steps_at l.channels j ≡ steps_of l.registers l.place j;
   small : (j : ℕ) → j < l.number → IsSmall (steps_at l.channels j);
 }
