@@ -5,7 +5,9 @@ use Rattle.fm_chip.specs.declared.operator.Operator.{Operator}
 use Rattle.fm_chip.specs.declared.channels.Channel.{Channel}
 use Rattle.fm_chip.specs.declared.channels.Moment.{Moment}
 use Rattle.fm_chip.specs.Registers.{at, of_channel}
-use Rattle.fm_chip.specs.Operators.{IsOperator, enveloped, attenuation, phase_step, advanced}
+use Rattle.fm_chip.specs.Operators.{IsOperator, enveloped, attenuation, advanced}
+use Rattle.fm_chip.specs.declared.steps.Steps.{Steps}
+use Rattle.fm_chip.specs.Steps.{steps_of}
 use Rattle.fm_chip.specs.Lfo.{tremolo}
 
 -- a channel by its number, 0 to 5
@@ -78,16 +80,14 @@ sounded registers t c ch = record {
 }
 
 -- all four phases step
-unfoldable pub all_advanced : List ℕ → ℕ → ℕ → Channel → Channel
-all_advanced registers t c ch =
-    let depth = of_channel registers c 0xb4 % 8 in
-    record {
-      one = advanced (phase_step registers depth t c 0) ch.one;
-      two = advanced (phase_step registers depth t c 1) ch.two;
-      three = advanced (phase_step registers depth t c 2) ch.three;
-      four = advanced (phase_step registers depth t c 3) ch.four;
-      last = ch.last;
-    }
+unfoldable pub all_advanced : Steps → Channel → Channel
+all_advanced steps ch = record {
+  one = advanced steps.one ch.one;
+  two = advanced steps.two ch.two;
+  three = advanced steps.three ch.three;
+  four = advanced steps.four ch.four;
+  last = ch.last;
+}
 
 -- the channel when it sounds, what is heard of it, and the channel after the sample
 unfoldable pub ready : List ℕ → Moment → ℕ → Channel → Channel
@@ -97,4 +97,4 @@ unfoldable pub channel_value : List ℕ → Moment → ℕ → Channel → ℤ
 channel_value registers m c ch = value registers m.t c (ready registers m c ch)
 
 unfoldable pub channel_after : List ℕ → Moment → ℕ → Channel → Channel
-channel_after registers m c ch = all_advanced registers m.t c (sounded registers m.t c (ready registers m c ch))
+channel_after registers m c ch = all_advanced (steps_of registers (m.t / 4) c) (sounded registers m.t c (ready registers m c ch))

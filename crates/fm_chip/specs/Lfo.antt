@@ -14,15 +14,16 @@ stepped register lfo =
     if nat_le (slice_index periods (register % 8)) (lfo.count + 1) then record { t = (lfo.t + 1) % 128; count = 0 }
     else record { t = lfo.t; count = lfo.count + 1 })
 
--- tremolo at its whole depth, and at each depth
+-- tremolo at its whole depth
 unfoldable pub triangle : ℕ → ℕ
 triangle t = if nat_lt t 64 then 2 * t else 2 * (127 - t)
 
+-- how much of it is heard at each depth: none, an eighth, a half, all
+abbrev pub eighths : List ℕ
+eighths = 0 ∷ 1 ∷ 4 ∷ 8 ∷ []
+
 unfoldable pub tremolo : ℕ → ℕ → ℕ
-tremolo depth t =
-    if depth == 0 then 0 else (
-    if depth == 1 then triangle t / 8 else (
-    if depth == 2 then triangle t / 2 else triangle t))
+tremolo depth t = triangle t * slice_index eighths depth / 8
 
 -- vibrato's deviation without its sign at q of 32 places, and the factor of a depth
 unfoldable pub swing : ℕ → ℕ
@@ -36,8 +37,8 @@ factors = 0 ∷ 1 ∷ 2 ∷ 3 ∷ 4 ∷ 6 ∷ 12 ∷ 24 ∷ []
 
 -- what vibrato changes a frequency by, without its sign
 unfoldable pub share : ℕ → ℕ → ℕ → ℕ
-share fnum depth t = fnum * (swing (t / 4) * slice_index factors depth) / 4096
+share fnum depth q = fnum * (swing q * slice_index factors depth) / 4096
 
 -- what a frequency gains: negative in the second half, rounded towards zero
 unfoldable pub gain : ℕ → ℕ → ℕ → ℤ
-gain fnum depth t = if nat_lt t 64 then pos (share fnum depth t) else neg_ℤ (pos (share fnum depth t))
+gain fnum depth q = if nat_lt q 16 then pos (share fnum depth q) else neg_ℤ (pos (share fnum depth q))

@@ -8,5 +8,6 @@ pub mod Operators
 pub mod Port
 pub mod Registers
 pub mod Stamp
+pub mod Steps
 pub mod Synth
 pub mod Timers

@@ -29,10 +29,10 @@ unfoldable pub attenuation : List ℕ → ℕ → ℕ → ℕ → ℕ → ℕ
 attenuation registers tremolo c n v =
     min 1023 (v + 8 * (of_operator registers c n 0x40 % 128) + (if nat_le 128 (of_operator registers c n 0x60) then tremolo else 0))
 
--- the step of its phase, by its frequency with vibrato, its detune and its multiple
+-- the step of its phase, by its frequency with vibrato at q of its 32 places, its detune and its multiple
 unfoldable pub phase_step : List ℕ → ℕ → ℕ → ℕ → ℕ → ℕ
-phase_step registers depth t c n =
-    step_of (frequency registers c n).fnum (gain (frequency registers c n).fnum depth t) (frequency registers c n).block
+phase_step registers depth q c n =
+    step_of (frequency registers c n).fnum (gain (frequency registers c n).fnum depth q) (frequency registers c n).block
     (of_operator registers c n 0x30 / 16 % 8) (of_operator registers c n 0x30 % 16)
 
 -- the phase a step on

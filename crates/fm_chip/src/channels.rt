@@ -1,12 +1,14 @@
-ghost use Rattle.std.specs.Prelude.{◌≡◌, ◌+◌, ◌*◌, ◌^◌, ◌<◌, ◌≤◌, ◌≤ℤ◌, pos, negsuc, All};
+ghost use Rattle.std.specs.Prelude.{◌/◌, ◌≡◌, ◌+◌, ◌*◌, ◌^◌, ◌<◌, ◌≤◌, ◌≤ℤ◌, pos, negsuc, All};
 ghost use Rattle.fm_chip.specs.Channels as meaning;
 ghost use Rattle.fm_chip.specs.Channels.{IsChannel};
+ghost use Rattle.fm_chip.specs.Steps.{IsSmall, steps_of};
 ghost use Rattle.fm_voice.specs.Channel.{IsLevel, heard};
 
 use crate::converter::chosen;
 use crate::lfo::tremolo;
-use crate::operator::{Operator, phase_step};
+use crate::operator::Operator;
 use crate::registers::{FEEDBACK_ALGORITHM, Registers, SIDES_DEPTHS, of_channel};
+use crate::steps::Steps;
 use fm_voice::channel;
 
 /// A channel: four operators.
@@ -103,20 +105,16 @@ impl Channel {
 
     /// Moves all four phases on.
     #[tactic(auto, unfolding(crate::specs::Channels::all_advanced))]
-    fn advance(&mut self, registers: &Registers, t: u32, number: u32)
+    fn advance(&mut self, steps: &Steps)
         requires channel { IsChannel self.old }
-        requires t { t < 128 }
-        requires number { number < 6 }
-        ensures value { self.new ≡ meaning.all_advanced registers.now t number self.old }
+        requires steps { IsSmall steps.now }
+        ensures value { self.new ≡ meaning.all_advanced steps.now self.old }
         ensures channel { IsChannel self.new }
     {
-        let depth = of_channel(registers, number, SIDES_DEPTHS) % 8;
-        self.one.advance(phase_step(registers, depth, t, number, 0));
-        self.two.advance(phase_step(registers, depth, t, number, 1));
-        self.three
-            .advance(phase_step(registers, depth, t, number, 2));
-        self.four
-            .advance(phase_step(registers, depth, t, number, 3));
+        self.one.advance(steps.one);
+        self.two.advance(steps.two);
+        self.three.advance(steps.three);
+        self.four.advance(steps.four);
     }
 
     /// Makes the envelopes' tick where it is due.
@@ -133,12 +131,20 @@ impl Channel {
     }
 
     /// Makes a sample of channel `number`, 0 to 5: the envelopes tick where that is due, it sounds, and
-    /// its phases advance. Returns its level.
+    /// its phases advance by the steps that are due. Returns its level.
     #[tactic(auto, unfolding(crate::specs::Channels::channel_value, crate::specs::Channels::channel_after, crate::specs::Channels::value))]
-    pub fn sample(&mut self, registers: &Registers, moment: &Moment, number: u32) -> i32
+    pub fn sample(
+        &mut self,
+        registers: &Registers,
+        moment: &Moment,
+        steps: &Steps,
+        number: u32,
+    ) -> i32
         requires channel { IsChannel self.old }
         requires t { moment.now.t < 128 }
         requires number { number < 6 }
+        requires steps { steps.now ≡ steps_of registers.now (moment.now.t / 4) number }
+        requires small { IsSmall steps.now }
         ensures value { result ≡ meaning.channel_value registers.now moment.now number self.old }
         ensures after { self.new ≡ meaning.channel_after registers.now moment.now number self.old }
         ensures level { IsLevel result }
@@ -146,7 +152,7 @@ impl Channel {
     {
         self.make_ready(registers, moment, number);
         let level = self.sound(registers, moment.t, number);
-        self.advance(registers, moment.t, number);
+        self.advance(steps);
         chosen(registers, number, level)
     }
 }

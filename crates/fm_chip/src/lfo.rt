@@ -15,6 +15,9 @@ pub struct Lfo {
 /// The samples from one step to the next.
 const PERIODS: [u8; 8] = [108, 77, 71, 67, 62, 44, 8, 5];
 
+/// How much of tremolo is heard at each depth, in eighths.
+const EIGHTHS: [u8; 4] = [0, 1, 4, 8];
+
 /// What vibrato multiplies by, at each depth.
 const FACTORS: [u8; 8] = [0, 1, 2, 3, 4, 6, 12, 24];
 
@@ -64,6 +67,15 @@ fn triangle(t: u32) -> u32
     if t < 64 { 2 * t } else { 2 * (127 - t) }
 }
 
+/// How much of tremolo is heard at a depth.
+fn eighths(depth: u32) -> u32
+    requires { depth < 4 }
+    ensures value { result ≡ slice_index meaning.eighths depth }
+    ensures most { result ≤ 8 }
+{
+    u32::from(EIGHTHS[depth as usize])
+}
+
 /// What tremolo adds to an attenuation, at a depth.
 #[tactic(auto, unfolding(crate::specs::Lfo::tremolo))]
 pub fn tremolo(depth: u32, t: u32) -> u32
@@ -72,15 +84,10 @@ pub fn tremolo(depth: u32, t: u32) -> u32
     ensures value { result ≡ meaning.tremolo depth t }
     ensures below { result < 127 }
 {
-    match depth {
-        0 => 0,
-        1 => triangle(t) / 8,
-        2 => triangle(t) / 2,
-        _ => triangle(t),
-    }
+    triangle(t) * eighths(depth) / 8
 }
 
-/// Vibrato's deviation without its sign, at a quarter of the place.
+/// Vibrato's deviation without its sign, at one of its 32 places.
 #[tactic(auto, unfolding(crate::specs::Lfo::swing))]
 fn swing(q: u32) -> u32
     requires { q < 32 }
@@ -106,27 +113,28 @@ fn factor(depth: u32) -> u32
 
 /// What vibrato changes a frequency by, without its sign.
 #[tactic(auto, unfolding(crate::specs::Lfo::share))]
-fn share(fnum: u32, depth: u32, t: u32) -> u32
+fn share(fnum: u32, depth: u32, place: u32) -> u32
     requires fnum { fnum < 2048 }
     requires depth { depth < 8 }
-    requires t { t < 128 }
-    ensures value { result ≡ meaning.share fnum depth t }
+    requires place { place < 32 }
+    ensures value { result ≡ meaning.share fnum depth place }
     ensures below { result ≤ fnum }
     ensures most { result ≤ 95 }
 {
-    fnum * (swing(t / 4) * factor(depth)) / 4096
+    fnum * (swing(place) * factor(depth)) / 4096
 }
 
-/// What vibrato adds to a frequency, at a depth.
+/// What vibrato adds to a frequency, at a depth and one of its 32 places: a quarter of the
+/// oscillator's.
 #[tactic(auto, using(std::proofs::lemmas::Int::ints), unfolding(crate::specs::Lfo::gain))]
-pub fn gain(fnum: u32, depth: u32, t: u32) -> i32
+pub fn gain(fnum: u32, depth: u32, place: u32) -> i32
     requires fnum { fnum < 2048 }
     requires depth { depth < 8 }
-    requires t { t < 128 }
-    ensures value { result ≡ meaning.gain fnum depth t }
+    requires place { place < 32 }
+    ensures value { result ≡ meaning.gain fnum depth place }
     ensures sum { pos 0 ≤ℤ (pos fnum +ℤ result) }
     ensures most { result ≤ℤ pos 95 }
 {
-    let share = share(fnum, depth, t) as i32;
-    if t < 64 { share } else { -share }
+    let share = share(fnum, depth, place) as i32;
+    if place < 16 { share } else { -share }
 }

@@ -11,6 +11,7 @@ mod mixing;
 mod operator;
 mod port;
 mod registers;
+mod steps;
 mod synth;
 mod timer;
 mod timers;

@@ -117,21 +117,21 @@ impl Operator {
     }
 }
 
-/// The step of an operator's phase, with vibrato of a depth where the oscillator stands at `t`.
+/// The step of an operator's phase, with vibrato of a depth at one of its 32 places.
 #[tactic(auto, unfolding(crate::specs::Operators::phase_step))]
-pub fn phase_step(registers: &Registers, depth: u32, t: u32, channel: u32, operator: u32) -> u32
+pub fn phase_step(registers: &Registers, depth: u32, place: u32, channel: u32, operator: u32) -> u32
     requires depth { depth < 8 }
-    requires t { t < 128 }
+    requires place { place < 32 }
     requires channel { channel < 6 }
     requires operator { operator < 4 }
-    ensures value { result ≡ meaning.phase_step registers.now depth t channel operator }
+    ensures value { result ≡ meaning.phase_step registers.now depth place channel operator }
     ensures below { result < 2 ^ 21 }
 {
     let frequency = frequency(registers, channel, operator);
     let tune = of_operator(registers, channel, operator, DETUNE_MULTIPLE);
     step_of(
         frequency.fnum,
-        gain(frequency.fnum, depth, t),
+        gain(frequency.fnum, depth, place),
         frequency.block,
         (tune / 16 % 8) as u8,
         (tune % 16) as u8,

@@ -15,6 +15,3 @@ pub use pair::mix;
 pub use port::PsgPort;
 pub use synth::PsgSynth;
 pub use write::{PsgList, PsgWrite};
-
-#[cfg(test)]
-mod tests;

@@ -1,5 +1,5 @@
-use crate::{PsgList, PsgPort, PsgSynth, PsgWrite, mix};
 use md_word::Key;
+use psg_sound::{PsgList, PsgPort, PsgSynth, PsgWrite, mix};
 
 /// A byte that the 68000 writes.
 fn byte(cycle: u64, value: u8) -> PsgWrite {

@@ -1,0 +1,13 @@
+//! Tests of the sound chips: the programmable sound generator and the FM chip.
+#![tactic(auto)]
+
+#[cfg(test)]
+mod envelopes;
+#[cfg(test)]
+mod pairs;
+#[cfg(test)]
+mod ports;
+#[cfg(test)]
+mod psg;
+#[cfg(test)]
+mod voices;
