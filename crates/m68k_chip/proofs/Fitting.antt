@@ -32,16 +32,14 @@ pub fit-more : (cart : List ℕ) (state : State68) (cause : ℕ) (answers : List
 fit-more cart state cause answers request value fit asks fits k h =
     elim (place k (length answers) (let e = length-append answers (value ∷ []) in omega (arith, e, h))) [
       | inl early ↦
-        let f = fit k early in
-        (
-          f.0,
-          subst (λ l. Asks cart state cause l f.0) (sym (take-first answers value k (omega arith))) f.1,
-          subst (FitsValue f.0) (sym (read-first answers value k early)) f.2,
-        )
-      | inr last ↦
-        (
-          request,
-          subst (λ l. Asks cart state cause l request) (sym (ap (λ n. take n (answers ++ value ∷ [])) last ∙ take-first answers value (length answers) (omega arith) ∙ take-all answers)) asks,
-          subst (FitsValue request) (sym (ap (slice_index (answers ++ value ∷ [])) last ∙ read-last answers value)) fits,
-        )
+          let f = fit k early in (
+            f.0,
+            subst (λ l. Asks cart state cause l f.0) (sym (take-first answers value k (omega arith))) f.1,
+            subst (FitsValue f.0) (sym (read-first answers value k early)) f.2,
+          )
+      | inr last ↦ (
+        request,
+        subst (λ l. Asks cart state cause l request) (sym (ap (λ n. take n (answers ++ value ∷ [])) last ∙ take-first answers value (length answers) (omega arith) ∙ take-all answers)) asks,
+        subst (FitsValue request) (sym (ap (slice_index (answers ++ value ∷ [])) last ∙ read-last answers value)) fits,
+      )
     ]

@@ -90,7 +90,8 @@ impl Chip68 {
         requires fits { Fits (request_of self.old.cart self.old.state) answer }
         ensures { self.new ≡ record self.old { state = answered self.old.cart self.old.state answer } }
     {
-        self.sequencer.answer(&answer, &self.cart, &mut self.ram, &mut self.progress);
+        self.sequencer
+            .answer(&answer, &self.cart, &mut self.ram, &mut self.progress);
     }
 
     /// Takes the sample that is the next event, and goes on to the event after it: a pending trace,
@@ -102,7 +103,8 @@ impl Chip68 {
         requires far { self.old.state.next < 2 ^ 50 }
         ensures { self.new ≡ record self.old { state = begun self.old.cart self.old.state pins.level } }
     {
-        self.sequencer.begin(pins.level, &self.cart, &mut self.ram, &mut self.progress);
+        self.sequencer
+            .begin(pins.level, &self.cart, &mut self.ram, &mut self.progress);
     }
 
     /// The address of the instruction that the next event begins, which is a sample with these

@@ -206,25 +206,12 @@ impl Sequencer {
 
     /// Goes on with what is carried out, as far as the answers go.
     #[tactic(auto, unfolding(crate::specs::Events::went_on))]
-    pub fn go_on(
-        &mut self,
-        cause: u8,
-        cart: &Cart,
-        ram: &mut [u8; 65536],
-        progress: &mut Progress,
-    )
+    pub fn go_on(&mut self, cause: u8, cart: &Cart, ram: &mut [u8; 65536], progress: &mut Progress)
         requires { self.old.start < 2 ^ 50 }
         ensures state { state_of self.new ram.new ≡ went_on cart.now (state_of self.old ram.old) cause self.old.answers.items }
         ensures told { IsTold (carried_out cart.now (state_of self.old ram.old) cause self.old.answers.items) self.new.request }
     {
-        match go(
-            &mut self.regs,
-            cart,
-            ram,
-            &self.answers,
-            cause,
-            progress,
-        ) {
+        match go(&mut self.regs, cart, ram, &self.answers, cause, progress) {
             Step::Need(request) => self.ask(cause, request),
             Step::Done(finish) => {
                 store_all(progress.writes.as_slice(), ram);
@@ -266,13 +253,7 @@ impl Sequencer {
 
     /// Goes on from a sample at this interrupt level to the next event.
     #[tactic(auto, unfolding(crate::specs::Events::begun))]
-    pub fn begin(
-        &mut self,
-        level: u8,
-        cart: &Cart,
-        ram: &mut [u8; 65536],
-        progress: &mut Progress,
-    )
+    pub fn begin(&mut self, level: u8, cart: &Cart, ram: &mut [u8; 65536], progress: &mut Progress)
         requires start { self.old.start < 2 ^ 50 }
         requires answers { self.old.answers.items ≡ [] }
         ensures state { state_of self.new ram.new ≡ begun cart.now (state_of self.old ram.old) level }

@@ -8,10 +8,9 @@ mod rows;
 mod sample;
 
 pub use access::memory::word_at;
-pub use access::view::Progress;
-pub use sample::go;
-pub use sample::step::{Finish, Step};
-
 use access::outcome::Outcome;
 use access::stop::Stop;
 use access::view::Around;
+pub use access::view::Progress;
+pub use sample::go;
+pub use sample::step::{Finish, Step};

@@ -1,7 +1,9 @@
-//! Tests of the machine of five chips.
+//! Tests of the machine of five chips, and of the command line over it.
 #![tactic(auto)]
 
 #[cfg(test)]
 mod events;
 #[cfg(test)]
 mod machine;
+#[cfg(test)]
+mod program;

@@ -16,6 +16,3 @@ mod top;
 mod words;
 
 pub use top::{drive, drive_one};
-
-#[cfg(test)]
-mod tests;

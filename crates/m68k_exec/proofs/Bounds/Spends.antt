@@ -104,20 +104,20 @@ pushes_three exception other = three_of (number_of exception) (is_address_error 
 begun_spent : (op : Op) (exception : Exception) (trace : Bool) (found : Regs) (entry : Option Regs) (done : Done) (used : ℕ) → used ≤ 4 → number_of exception ≢ 0 → done.used ≤ used + pushes_of exception → IsSpent op (samples.begun op (number_of exception) trace found entry done).spent
 begun_spent op exception trace found (Some regs) done used few other most =
     let p = pushes_most exception in record {
-  most = omega (arith, p, most, few);
-  own = λ c. absurd (other c);
-  counted = λ c. absurd (other c);
-  address_error = λ c. omega (arith, p, most, few);
-  exception = λ c d. (let q = pushes_three exception d in omega (arith, q, most, few));
-}
+      most = omega (arith, p, most, few);
+      own = λ c. absurd (other c);
+      counted = λ c. absurd (other c);
+      address_error = λ c. omega (arith, p, most, few);
+      exception = λ c d. (let q = pushes_three exception d in omega (arith, q, most, few));
+    }
 begun_spent op exception trace found None done used few other most =
     let p = pushes_most exception in record {
-  most = omega (arith, p, most, few);
-  own = λ c. absurd (cc);
-  counted = λ c. absurd (cc);
-  address_error = λ c. omega (arith, p, most, few);
-  exception = λ c d. absurd (d refl);
-}
+      most = omega (arith, p, most, few);
+      own = λ c. absurd (cc);
+      counted = λ c. absurd (cc);
+      address_error = λ c. omega (arith, p, most, few);
+      exception = λ c d. absurd (d refl);
+    }
 
 op_of : (op : Op) (number : ℕ) (trace : Bool) (found : Regs) (entry : Option Regs) (done : Done) → (samples.begun op number trace found entry done).op ≡ op
 op_of op number trace found (Some regs) done = refl
@@ -157,12 +157,12 @@ finished_spent : (op : Op) (start : ℕ) (found regs : Regs) (memory : Memory) (
 finished_spent op start found regs memory x after is =
     let own = (row op start regs).value memory nothing x after is (omega arith) in
     let most = (row32 op start regs).value memory nothing x after is (omega arith) in record {
-  most = omega (arith, most.0);
-  own = λ c. omega (arith, own.0);
-  counted = λ c. counts op start regs memory nothing x after is;
-  address_error = λ c. absurd (cc);
-  exception = λ c d. absurd (c refl);
-}
+      most = omega (arith, most.0);
+      own = λ c. omega (arith, own.0);
+      counted = λ c. counts op start regs memory nothing x after is;
+      address_error = λ c. absurd (cc);
+      exception = λ c d. absurd (c refl);
+    }
 
 ended_by : (op : Op) (start : ℕ) (found regs : Regs) (memory : Memory) (x : Outcome) (after : Done) → execution.row op start regs memory nothing ≡ Ok (x, after) → Bounded op memory (samples.ended_by op found x memory after)
 unfolding samples.ended_by
@@ -205,7 +205,6 @@ interrupt level op regs memory = acknowledged level op regs memory (actions.aske
 trace : (op : Op) (regs : Regs) (memory : Memory) → Bounded op memory (samples.trace op regs memory)
 unfolding samples.trace
 trace op regs memory = take_exception op (Numbered 9) false regs regs memory nothing (omega arith) (omega arith) (λ z. absurd (cc))
-
 
 pub bounded : (cause : ℕ) (regs : Regs) (memory : Memory) → Bounded (named regs memory) memory (samples.sampled cause regs memory)
 unfolding samples.sampled

@@ -8,10 +8,10 @@ ghost use Rattle.m68k_exec.specs.Rows.Control as control;
 
 use crate::access::operands::{effective, load, pull, push};
 use crate::access::shapes::{end_in, jump_to, refuse};
-use crate::rows::status::{set_ccr, set_sr};
 use crate::access::vector::{
     ILLEGAL_INSTRUCTION, LINE_A, LINE_F, OUT_OF_BOUNDS, OVERFLOW, PRIVILEGE_VIOLATION, TRAP,
 };
+use crate::rows::status::{set_ccr, set_sr};
 use crate::{Around, Outcome, Progress, Stop};
 use md_word::{Flags, Mode, Regs, Size};
 

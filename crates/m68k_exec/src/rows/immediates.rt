@@ -7,8 +7,8 @@ ghost use Rattle.m68k_exec.specs.Access.Clauses.{Ends, done_of, memory_of};
 ghost use Rattle.m68k_exec.specs.Rows.Immediates as immediates;
 
 use crate::access::shapes::{change_operand, refuse, test_operand};
-use crate::rows::status::{set_ccr, set_sr};
 use crate::access::vector::PRIVILEGE_VIOLATION;
+use crate::rows::status::{set_ccr, set_sr};
 use crate::{Around, Outcome, Progress, Stop};
 use m68k_alu::compute;
 use md_word::{Mode, Regs, Size, Task};

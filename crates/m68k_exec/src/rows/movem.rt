@@ -8,8 +8,8 @@ ghost use Rattle.m68k_exec.specs.Access.Outcomes.{told_nothing};
 ghost use Rattle.m68k_exec.specs.Rows.Movem as movem;
 ghost use Rattle.m68k_exec.specs.Rows.Turns as turns;
 
-use crate::access::{read, write};
 use crate::access::operands::effective;
+use crate::access::{read, write};
 use crate::{Around, Outcome, Progress, Stop};
 use md_word::{Mode, Regs, Size, extend};
 

@@ -4,8 +4,8 @@ ghost use Rattle.md_word.specs.Width.{modulus_of};
 ghost use Rattle.m68k_exec.specs.Access.Clauses.{Ends, Meets, done_of, memory_of};
 ghost use Rattle.m68k_exec.specs.Rows.Movep as movep;
 
-use crate::access::{read_byte, write_byte};
 use crate::access::operands::{effective, set_part};
+use crate::access::{read_byte, write_byte};
 use crate::{Around, Outcome, Progress, Stop};
 use md_word::{Mode, Regs, Size};
 

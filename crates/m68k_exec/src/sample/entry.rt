@@ -4,9 +4,9 @@ ghost use Rattle.m68k_except.specs.Frames.{words_in};
 ghost use Rattle.m68k_exec.specs.Access.Clauses.{Meets, NotOdd, Spends, done_of, memory_of};
 ghost use Rattle.m68k_exec.specs.Sample.Entries as entries;
 
+use crate::access::memory::word_at;
 use crate::access::write_word;
 use crate::sample::exception::Exception;
-use crate::access::memory::word_at;
 use crate::{Around, Progress, Stop};
 use m68k_except::{Frame, frame};
 use md_word::Regs;

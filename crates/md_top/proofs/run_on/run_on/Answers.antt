@@ -10,8 +10,7 @@ returns-clause-cause g c =
     let cart : List ℕ = cart_in c.args.course in
     let end : ℕ = c.args.run.now.cycles in
     let at : cycle_of course ≡ end = omega (arith, c.segments.invariant.1, c.segments-test.false, c.at.ensures) in
-    let small = c.requires.end.1 in
-    (
+    let small = c.requires.end.1 in (
       c.segments.invariant.3.counted ∙ ap (λ (n : ℕ). length (entries_to (cart_in course) n)) at ∙ ap (λ (l : List ℕ). length (entries_to l end)) c.segments.invariant.0,
       (rw c.main_chip.ensures at c.halted.ensures)
           ∙ halted-found (cart_in course) course.machine course.accesses c.segments.invariant.3 (omega (arith, at, small))

@@ -1,5 +1,5 @@
-use crate::{drive, drive_one};
 use md_outer::{FreeGate, MemDepot, MemSink};
+use md_top::{drive, drive_one};
 use std::alloc::{AllocError, Global};
 use std::test::Fail;
 
@@ -380,7 +380,10 @@ fn other_cartridges_are_refused(rt: HostRuntime) -> Result<(), Fail> {
         let (status, depot, out) = answer(alloc, words, image)?;
         assert_eq!(rt; status, wanted, "{line}");
         assert_eq!(rt; out.bytes(), line.as_bytes());
-        assert!(rt; depot.file("W").is_none() && depot.file("J").is_none(), "{line}");
+        assert!(rt;
+            depot.file("W").is_none() && depot.file("J").is_none(),
+            "{line}"
+        );
     }
     let (status, _, out) = answer(alloc, "run Y --cycles 5 --sound W", idle(alloc)?)?;
     assert_eq!(rt; status, 3);
