@@ -1,5 +1,5 @@
-//! Tests of the 68000: arithmetic, decoding, effective addresses, times, exceptions
-//! and whole samples.
+//! Tests of the 68000: arithmetic, decoding, effective addresses, times, exceptions, whole samples
+//! and the chip.
 #![tactic(auto)]
 
 #[cfg(test)]
@@ -8,6 +8,8 @@ mod addresses;
 mod arithmetic;
 #[cfg(test)]
 mod case;
+#[cfg(test)]
+mod chip;
 #[cfg(test)]
 mod decoding;
 #[cfg(test)]
