@@ -1,5 +1,5 @@
 #!/usr/bin/env python3
-"""Emulated frames a second, and the peak of memory, of the program that the gate has built.
+"""Emulated frames a second, and the peak of memory, of the program that `rt ci` has built.
 
     bench/frames.py [FRAMES]
 
@@ -50,7 +50,7 @@ def measure(name, image, frames, folder):
 def main():
     frames = int(sys.argv[1]) if len(sys.argv) > 1 else 600
     if not PROGRAM.exists():
-        sys.exit(f"{PROGRAM} is missing: run the gate first")
+        sys.exit(f"{PROGRAM} is missing: run `rt ci` first")
     with tempfile.TemporaryDirectory() as name:
         folder = pathlib.Path(name)
         (folder / "idle.src").write_text(IDLE)
