@@ -7,3 +7,5 @@ mod events;
 mod machine;
 #[cfg(test)]
 mod program;
+#[cfg(test)]
+mod sort;

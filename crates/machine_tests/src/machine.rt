@@ -7,7 +7,7 @@ use std::sync::Arc;
 use std::test::Fail;
 
 /// A cartridge of 512 bytes that is all zero but for its vectors, the mark and this program.
-fn cartridge(alloc: Global, pc: usize, program: &[u8]) -> Result<Arc<Cart>, Fail>
+pub fn cartridge(alloc: Global, pc: usize, program: &[u8]) -> Result<Arc<Cart>, Fail>
     requires { pc + length program.now ≤ 512 }
 {
     let mut image = [0; 512];
@@ -33,7 +33,7 @@ fn beep(alloc: Global) -> Result<Arc<Cart>, Fail> {
 }
 
 /// The machine at power-on.
-fn power_on(alloc: Global, cart: Arc<Cart>) -> Result<Machine, Fail>
+pub fn power_on(alloc: Global, cart: Arc<Cart>) -> Result<Machine, Fail>
     ensures at { IfOk result (λ machine. machine.at ≡ 0) }
     ensures entries { IfOk result (λ machine. machine.entries ≡ []) }
     ensures levels { IfOk result (λ machine. machine.levels ≡ []) }
@@ -43,7 +43,7 @@ fn power_on(alloc: Global, cart: Arc<Cart>) -> Result<Machine, Fail>
 
 /// Brings the machine to a cycle, and gives the bytes of its entries and pairs since it was last
 /// drained.
-fn drained(machine: &mut Machine, alloc: Global, to: u64) -> Result<(Vec<u8>, Vec<u8>), Fail>
+pub fn drained(machine: &mut Machine, alloc: Global, to: u64) -> Result<(Vec<u8>, Vec<u8>), Fail>
     requires later { machine.old.at < to }
     requires near { to ≤ machine.old.at + 896040 }
     requires far { to ≤ 549755813888 }
