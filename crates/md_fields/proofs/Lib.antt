@@ -1,0 +1,4 @@
+pub mod Flags
+pub mod Items
+pub mod Padding
+pub mod Standing
