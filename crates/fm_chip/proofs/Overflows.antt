@@ -1,6 +1,6 @@
 -- All overflows below a cycle at once.
 use Rattle.std.proofs.Common.{◌≡◌, ◌∙◌, refl, sym, ap, ℕ, zero, suc, ◌+◌, ◌-◌, ◌*◌, ◌/◌, ◌%◌, ◌<◌, ◌≤◌, Bool, true, false, ◌||◌, ◌==◌, nat_lt, inl, inr, ◌⊎◌, arith}
-use Rattle.std.proofs.lemmas.Bool.{cases_lt, lt-ltb, le-ltb}
+use Rattle.std.proofs.lemmas.Bool.{cases_lt, lt-ltb, le-ltb, cases_Bool}
 use Rattle.std.proofs.lemmas.Nat.{div-mul-add, div-add-mod'}
 use Rattle.fm_chip.specs.declared.timer.Timer.{Timer}
 use Rattle.fm_chip.specs.declared.timers.Timers.{Timers}
@@ -95,12 +95,8 @@ step_any cycle period enabled t p h =
 due_later : (a b : ℕ) (t : Timer) → a ≤ b → is_due a t ≡ true → is_due b t ≡ true
 due_later a b t h d = grind (arith, h, d)
 
-true_or_not : (b : Bool) → (b ≡ true) ⊎ (b ≡ false)
-true_or_not true = inl refl
-true_or_not false = inr refl
-
 due_or_not : (a : ℕ) (t : Timer) → (is_due a t ≡ true) ⊎ (is_due a t ≡ false)
-due_or_not a t = true_or_not (is_due a t)
+due_or_not a t = cases_Bool (is_due a t)
 
 -- settling at two cycles is settling at the later
 twice_by : (n a b period : ℕ) (enabled : Bool) → 0 < period → a ≤ b → (t : Timer)

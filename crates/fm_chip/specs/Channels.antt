@@ -1,4 +1,5 @@
 -- A channel at a sample: its envelopes' tick, what is heard, and its phases' steps.
+-- Yamaha, YM2608 Application Manual, channels; Sega, Genesis Software Manual, FM registers 2A and 2B.
 use Rattle.std.specs.Prelude.{◌≡◌, ℕ, ◌/◌, ◌%◌, ◌==◌, nat_le, ℤ, pos, ◌-ℤ◌, ◌*ℤ◌, Bool, ◌&&◌, if◌then◌else◌, List, [], ◌∷◌, length, All, false, slice_index_or}
 use Rattle.fm_voice.specs.Channel.{Voice, voice, heard, last_after, IsLevel}
 use Rattle.fm_chip.specs.declared.operator.Operator.{Operator}

@@ -1,4 +1,5 @@
 -- An operator: its envelope's tick, what it sounds at, its phase's step and its key.
+-- Yamaha, YM2608 Application Manual, operators.
 use Rattle.std.specs.Prelude.{ℕ, ◌+◌, ◌*◌, ◌/◌, ◌%◌, ◌^◌, ◌<◌, ◌≤◌, nat_le, min, Bool, ◌&&◌, not, if◌then◌else◌, List}
 use Rattle.fm_env.specs.Envelopes.{Plain, stepping_state, ticked, keyed}
 use Rattle.fm_voice.specs.Phase.{step_of}

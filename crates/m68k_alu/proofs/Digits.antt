@@ -2,14 +2,11 @@
 use Rattle.std.proofs.Common.{◌≡◌, ℕ, ℤ, pos, negsuc, ◌+◌, ◌-◌, ◌*◌, ◌%◌, ◌<◌, ◌≤◌, ◌+ℤ◌, ◌-ℤ◌, Bool, true, false, nat_lt, int_lt, if◌then◌else◌, refl, arith}
 use Rattle.std.proofs.lemmas.Bool.Decides.{nat_tests}
 use Rattle.std.proofs.lemmas.Int.{ints}
+use Rattle.md_word.proofs.Below.{bit_below}
 use Rattle.md_word.specs.Width.{bit, word_of}
 use Rattle.md_word.specs.declared.flags.Flags.{Flags}
 use Rattle.m68k_alu.specs.declared.out.Out.{Out}
 use Rattle.m68k_alu.specs.Decimal.{AddsDecimals, IsDecimal, SubtractsDecimals, decimal, decimal_added, decimal_difference, decimal_subtracted, decimal_value, digit_difference, digit_sum, low_difference, low_sum}
-
-bit_small : (x : Bool) → bit x ≤ 1
-bit_small true = omega arith
-bit_small false = omega arith
 
 -- what a test of two numbers says
 abbrev Below : Bool → ℕ → ℕ → Type 0
@@ -37,7 +34,7 @@ unfolding decimal_added decimal digit_sum low_sum
 adds source target flags out e p q =
     let s : ℕ = target % 16 + source % 16 + bit flags.x in
     let t : ℕ = digit_sum source target flags.x in
-    let both = sum_by target source (bit flags.x) t s (nat_lt 9 s) (nat_lt 0x9f t) (bit_small flags.x) q p refl (below_by 9 s _ refl) refl (below_by 0x9f t _ refl) in
+    let both = sum_by target source (bit flags.x) t s (nat_lt 9 s) (nat_lt 0x9f t) (bit_below flags.x) q p refl (below_by 9 s _ refl) refl (below_by 0x9f t _ refl) in
     rw e (record { digits = both.0; sum = both.1 })
 
 not_below : (s : ℕ) → nat_lt s 0 ≡ false
@@ -75,7 +72,7 @@ unfolding decimal_subtracted decimal decimal_difference digit_difference low_dif
 subtracts source target flags out e p q =
     let s : ℤ = pos (target % 16) -ℤ pos (source % 16) -ℤ pos (bit flags.x) in
     let t : ℤ = digit_difference source target flags.x in
-    let both = difference_by target source (bit flags.x) s (if nat_lt target (source + bit flags.x) then t -ℤ pos 0x60 else t) (nat_lt target (source + bit flags.x)) (bit_small flags.x) q p refl (below_by target (source + bit flags.x) _ refl) refl in
+    let both = difference_by target source (bit flags.x) s (if nat_lt target (source + bit flags.x) then t -ℤ pos 0x60 else t) (nat_lt target (source + bit flags.x)) (bit_below flags.x) q p refl (below_by target (source + bit flags.x) _ refl) refl in
     rw e (record { digits = both.0; difference = both.1 })
 
 pub negates : (target : ℕ) (flags : Flags) (out : Out) → out ≡ decimal_subtracted target 0 flags

@@ -1,32 +1,18 @@
 -- Sums and differences with their condition codes.
 -- M68000 Programmer's Reference Manual, section 3.2: carry and borrow are of the whole numbers,
 -- overflow is of the numbers in two's complement.
-use Rattle.std.specs.Prelude.{ℕ, ℤ, pos, ◌+◌, ◌%◌, ◌+ℤ◌, ◌-ℤ◌, Bool, false, not, ◌&&◌, nat_lt, nat_le, int_lt, int_le}
-use Rattle.md_word.specs.Width.{bit, half_of, modulus_of, signed_of, word_of}
+use Rattle.std.specs.Prelude.{ℕ, pos, ◌+◌, ◌%◌, ◌-ℤ◌, Bool, false, nat_lt, nat_le}
+use Rattle.md_word.specs.Width.{bit, difference_overflows, modulus_of, sum_overflows, word_of}
 use Rattle.md_word.specs.declared.flags.Flags.{Flags}
 use Rattle.md_word.specs.declared.size.Size.{Size}
 use Rattle.m68k_alu.specs.declared.out.Out.{Out}
 use Rattle.m68k_alu.specs.Results.{shown}
 
--- whether a signed number is within the size's range in two's complement
-unfoldable pub fits : Size → ℤ → Bool
-fits size z = int_le (pos 0 -ℤ pos (half_of size)) z && int_lt z (pos (half_of size))
-
--- whether target + source + carry, in two's complement, passes the size's range
-unfoldable pub sum_overflows : Size → ℕ → ℕ → Bool → Bool
-sum_overflows size source target carry =
-    not (fits size (signed_of size target +ℤ signed_of size source +ℤ pos (bit carry)))
-
--- whether target − source − borrow, in two's complement, passes the size's range
-unfoldable pub difference_overflows : Size → ℕ → ℕ → Bool → Bool
-difference_overflows size source target borrow =
-    not (fits size (signed_of size target -ℤ signed_of size source -ℤ pos (bit borrow)))
-
 -- target + source + carry; X and C where the sum passes the size
 unfoldable pub added : Size → ℕ → ℕ → Bool → Out
 added size source target carry =
     let out = nat_le (modulus_of size) (source + target + bit carry) in
-    shown size ((source + target + bit carry) % modulus_of size) out (sum_overflows size source target carry) out
+    shown size ((source + target + bit carry) % modulus_of size) out (sum_overflows size target source carry) out
 
 -- the difference within the size
 unfoldable pub difference : Size → ℕ → ℕ → Bool → ℕ
@@ -36,7 +22,7 @@ difference size source target borrow = word_of (modulus_of size) (pos target -�
 unfoldable pub subtracted : Size → ℕ → ℕ → Bool → Out
 subtracted size source target borrow =
     let below = nat_lt target (source + bit borrow) in
-    shown size (difference size source target borrow) below (difference_overflows size source target borrow) below
+    shown size (difference size source target borrow) below (difference_overflows size target source borrow) below
 
 -- the flags of target − source, but for X; the target stays
 unfoldable pub compared : Size → ℕ → ℕ → Flags → Out

@@ -1,12 +1,11 @@
 -- Division of a long by a word.
 -- M68000 Programmer's Reference Manual, section 4: DIVS, DIVU.
 use Rattle.std.specs.Prelude.{◌≡◌, ℕ, ℤ, pos, negsuc, ◌+◌, ◌*◌, ◌%◌, ◌<◌, ◌+ℤ◌, ◌*ℤ◌, ◌≤ℤ◌, ◌==◌, Bool, true, false, ◌&&◌, nat_le, int_le, int_lt, int_div, int_rem, unsigned_abs, if◌then◌else◌, IsTrue, IsFalse}
-use Rattle.md_word.specs.Width.{signed_of, word_of}
+use Rattle.md_word.specs.Width.{fits, signed_of, word_of}
 use Rattle.md_word.specs.declared.flags.Flags.{Flags}
 use Rattle.md_word.specs.declared.size.Size.TheVariants.{Word, Long}
 use Rattle.m68k_alu.specs.declared.quotient.Quotient.{Quotient}
 use Rattle.m68k_alu.specs.declared.quotient.Quotient.TheVariants.{Overflow, Value, Zero}
-use Rattle.m68k_alu.specs.Arithmetic.{fits}
 
 -- the operands as numbers
 abbrev pub dividend_of : Bool → ℕ → ℤ

@@ -1,11 +1,10 @@
 -- Shifts and rotations.
 -- M68000 Programmer's Reference Manual, section 4: ASL, ASR, LSL, LSR, ROL, ROR, ROXL, ROXR.
 use Rattle.std.specs.Prelude.{◌≡◌, ◌≤◌, ℕ, ℤ, pos, negsuc, ◌+◌, ◌-◌, ◌*◌, ◌/◌, ◌%◌, ◌^◌, ◌*ℤ◌, Bool, false, not, nat_le, ◌==◌, if◌then◌else◌}
-use Rattle.md_word.specs.Width.{bit, half_of, modulus_of, signed_of, width_of, word_of}
+use Rattle.md_word.specs.Width.{bit, fits, half_of, modulus_of, signed_of, width_of, word_of}
 use Rattle.md_word.specs.declared.flags.Flags.{Flags}
 use Rattle.md_word.specs.declared.size.Size.{Size}
 use Rattle.m68k_alu.specs.declared.out.Out.{Out}
-use Rattle.m68k_alu.specs.Arithmetic.{fits}
 use Rattle.m68k_alu.specs.Results.{shown}
 
 -- a signed number halved so many times, each time rounded down

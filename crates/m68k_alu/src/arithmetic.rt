@@ -6,38 +6,6 @@ use crate::Out;
 use crate::results::shown;
 use md_word::{Flags, Size};
 
-/// Whether the sum in two's complement leaves the size's range.
-#[tactic(auto, using(std::proofs::lemmas::Int::ints, std::proofs::lemmas::Bool::Decides::nat_tests), unfolding(crate::specs::Arithmetic::sum_overflows, crate::specs::Arithmetic::fits, md_word::specs::Width::signed_of))]
-fn sum_overflows(size: Size, source: u32, target: u32, carry: bool) -> bool
-    requires source { source < modulus_of size }
-    requires target { target < modulus_of size }
-    ensures { result ≡ arithmetic.sum_overflows size source target carry }
-{
-    let half = u64::from(size.half());
-    let sum = u64::from(source) + u64::from(target) + u64::from(carry);
-    match (source < size.half(), target < size.half()) {
-        (true, true) => sum >= half,
-        (false, false) => sum < size.modulus() + half,
-        _ => false,
-    }
-}
-
-/// Whether the difference in two's complement leaves the size's range.
-#[tactic(auto, using(std::proofs::lemmas::Int::ints, std::proofs::lemmas::Bool::Decides::nat_tests), unfolding(crate::specs::Arithmetic::difference_overflows, crate::specs::Arithmetic::fits, md_word::specs::Width::signed_of))]
-fn difference_overflows(size: Size, source: u32, target: u32, borrow: bool) -> bool
-    requires source { source < modulus_of size }
-    requires target { target < modulus_of size }
-    ensures { result ≡ arithmetic.difference_overflows size source target borrow }
-{
-    let half = u64::from(size.half());
-    let taken = u64::from(source) + u64::from(borrow);
-    match (source < size.half(), target < size.half()) {
-        (true, false) => u64::from(target) < taken + half,
-        (false, true) => u64::from(target) + half >= taken,
-        _ => false,
-    }
-}
-
 /// The target, the source and a carry added.
 #[tactic(auto, using(std::proofs::lemmas::Bool::Decides::nat_tests), unfolding(crate::specs::Arithmetic::added))]
 pub fn added(size: Size, source: u32, target: u32, carry: bool) -> Out
@@ -53,7 +21,7 @@ pub fn added(size: Size, source: u32, target: u32, carry: bool) -> Out
         size,
         value,
         out,
-        sum_overflows(size, source, target, carry),
+        size.sum_overflows(target, source, carry),
         out,
     )
 }
@@ -84,7 +52,7 @@ pub fn subtracted(size: Size, source: u32, target: u32, borrow: bool) -> Out
         size,
         value,
         below,
-        difference_overflows(size, source, target, borrow),
+        size.difference_overflows(target, source, borrow),
         below,
     )
 }

@@ -54,7 +54,7 @@ fn remainder(dividend: i64, divisor: i64) -> i64
 }
 
 /// Whether a quotient has its place in a word.
-#[tactic(auto, using(std::proofs::lemmas::Int::ints, std::proofs::lemmas::Bool::Decides::nat_tests), unfolding(crate::specs::Arithmetic::fits))]
+#[tactic(auto, using(std::proofs::lemmas::Int::ints, std::proofs::lemmas::Bool::Decides::nat_tests), unfolding(md_word::specs::Width::fits))]
 fn fits_word(signed: bool, quotient: i64) -> bool
     ensures { result ≡ division.fits_word signed quotient }
 {

@@ -18,7 +18,7 @@ fn shifted(size: Size, count: u32, value: u32, v: bool, out: bool, flags: Flags)
 }
 
 /// Whether the number in two's complement leaves its range where it is doubled so many times.
-#[tactic(auto, using(std::proofs::lemmas::Int::ints, std::proofs::lemmas::Bool::Decides::nat_tests), unfolding(crate::specs::Shifts::doubling_overflows, crate::specs::Arithmetic::fits, md_word::specs::Width::signed_of))]
+#[tactic(auto, using(std::proofs::lemmas::Int::ints, std::proofs::lemmas::Bool::Decides::nat_tests), unfolding(crate::specs::Shifts::doubling_overflows, md_word::specs::Width::fits, md_word::specs::Width::signed_of))]
 pub fn doubling_overflows(size: Size, count: u32, target: u32) -> bool
     requires count { count < 64 }
     requires target { target < modulus_of size }

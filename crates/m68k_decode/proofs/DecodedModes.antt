@@ -1,5 +1,6 @@
 -- What words decode to has modes of its classes: a law on the definition, for any words.
 use Rattle.std.proofs.Common.{◌≡◌, ℕ, zero, suc, ◌/◌, ◌%◌, ◌<◌, ◌==◌, Bool, true, false, List, [], ◌∷◌, map, cond, refl, arith}
+use Rattle.std.proofs.lemmas.Bool.{and_parts}
 use Rattle.std.specs.Prelude.{◌&&◌, filter, bit_and, if◌then◌else◌}
 use Rattle.std.proofs.lemmas.Bool.Decides.{nat_tests}
 use Rattle.md_word.specs.Fields.{bit_of}
@@ -98,13 +99,9 @@ abbrev FirstPermits : ℕ → List Row → Type 0
 FirstPermits w [] = Unit {0}
 FirstPermits w (row ∷ more) = Permits w row
 
-second : (a b : Bool) → (a && b) ≡ true → b ≡ true
-second true b h = h
-second false b h = absurd (cc)
-
 allowed : (w : ℕ) (l : Line) → matches w l ≡ true → l.allowed w ≡ true
 unfolding matches
-allowed w l h = second (bit_and w l.mask == l.bits) (l.allowed w) h
+allowed w l h = (and_parts (bit_and w l.mask == l.bits) (l.allowed w) h).1
 
 one_more : (b : Bool) (w : ℕ) (l : Line) (rest : List Line) → (b ≡ true → Permits w l.row) → FirstPermits w (map (λ (l : Line). l.row) rest) → FirstPermits w (map (λ (l : Line). l.row) (cond b (l ∷ rest) rest))
 one_more true w l rest h k = h refl

@@ -1,7 +1,7 @@
--- What the bitwise operations leave within a size.
-use Rattle.std.proofs.Common.{ℕ, ◌<◌, bit_and, bit_or, bit_xor}
+-- How large a flag and what the bitwise operations give can be.
+use Rattle.std.proofs.Common.{ℕ, ◌<◌, ◌≤◌, Bool, true, false, bit_and, bit_or, bit_xor, arith}
 use Rattle.std.specs.Int.Bits.{and_lt, or_lt, xor_lt}
-use Rattle.md_word.specs.Width.{modulus_of}
+use Rattle.md_word.specs.Width.{bit, modulus_of}
 use Rattle.md_word.specs.declared.size.Size.{Size}
 use Rattle.md_word.specs.declared.size.Size.TheVariants.{Byte, Word, Long}
 
@@ -19,3 +19,7 @@ pub xor_below : (size : Size) (a b : ℕ) → a < modulus_of size → b < modulu
 xor_below Byte a b h k = xor_lt 8 a b h k
 xor_below Word a b h k = xor_lt 16 a b h k
 xor_below Long a b h k = xor_lt 32 a b h k
+
+pub bit_below : (flag : Bool) → bit flag ≤ 1
+bit_below true = omega arith
+bit_below false = omega arith

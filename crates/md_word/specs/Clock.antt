@@ -2,7 +2,7 @@
 -- Genesis Technical Overview; the batch and the last cycle are this project's profile.
 use Rattle.std.specs.Prelude.{ℕ}
 
--- a clock of the 68000 and of the Z80
+-- a clock of the 68000
 abbrev pub main_clock : ℕ
 main_clock = 7
 
@@ -10,7 +10,7 @@ main_clock = 7
 abbrev pub sub_clock : ℕ
 sub_clock = 15
 
--- a line, and a frame of 262 lines
+-- a line
 abbrev pub line : ℕ
 line = 3420
 
@@ -18,7 +18,7 @@ line = 3420
 abbrev pub frame : ℕ
 frame = 896040
 
--- a sample of the FM chip, a tick of the sound generator, and a batch of 16 samples
+-- a sample of the FM chip
 abbrev pub fm_sample : ℕ
 fm_sample = 1008
 

@@ -4,3 +4,4 @@ pub mod Fields
 pub mod Keys
 pub mod Modes
 pub mod Width
+pub mod Map

@@ -2,6 +2,7 @@
 //! and answers on the bus, operands and registers.
 #![tactic(auto)]
 
+mod area;
 mod bit;
 pub mod clock;
 mod event;
@@ -18,6 +19,7 @@ mod task;
 mod task80;
 mod unspell;
 
+pub use area::{Area, is_shared};
 pub use bit::Bit;
 pub use event::{Entry, Next};
 pub use flags::Flags;

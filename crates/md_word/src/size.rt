@@ -1,6 +1,7 @@
 ghost use Rattle.std.specs.Prelude.{◌≡◌, ◌+◌, ◌%◌, ◌^◌, ◌<◌, ◌≤◌, ◌≤ℤ◌, pos, negsuc};
 ghost use Rattle.md_word.specs.Fields.{merged};
 ghost use Rattle.md_word.specs.Width.{half_of, modulus_of, width_of, signed_of, extended};
+ghost use Rattle.md_word.specs.Width as meaning;
 
 /// The size of an operand of the 68000.
 #[derive(Clone, Copy, PartialEq, Eq, Debug)]
@@ -84,6 +85,40 @@ impl Size {
             i64::from(value) - self.modulus() as i64
         } else {
             i64::from(value)
+        }
+    }
+
+    /// Whether a sum of this size with a carry leaves the range of two's complement.
+    #[inline(always)]
+    #[tactic(auto, using(std::proofs::lemmas::Int::ints, std::proofs::lemmas::Bool::Decides::nat_tests), unfolding(crate::specs::Width::sum_overflows, crate::specs::Width::fits, crate::specs::Width::signed_of))]
+    pub fn sum_overflows(self, a: u32, b: u32, carry: bool) -> bool
+        requires a { a < modulus_of self }
+        requires b { b < modulus_of self }
+        ensures { result ≡ meaning.sum_overflows self a b carry }
+    {
+        let half = u64::from(self.half());
+        let sum = u64::from(a) + u64::from(b) + u64::from(carry);
+        match (a < self.half(), b < self.half()) {
+            (true, true) => sum >= half,
+            (false, false) => sum < self.modulus() + half,
+            _ => false,
+        }
+    }
+
+    /// Whether a difference of this size with a borrow leaves the range of two's complement.
+    #[inline(always)]
+    #[tactic(auto, using(std::proofs::lemmas::Int::ints, std::proofs::lemmas::Bool::Decides::nat_tests), unfolding(crate::specs::Width::difference_overflows, crate::specs::Width::fits, crate::specs::Width::signed_of))]
+    pub fn difference_overflows(self, a: u32, b: u32, borrow: bool) -> bool
+        requires a { a < modulus_of self }
+        requires b { b < modulus_of self }
+        ensures { result ≡ meaning.difference_overflows self a b borrow }
+    {
+        let half = u64::from(self.half());
+        let taken = u64::from(b) + u64::from(borrow);
+        match (a < self.half(), b < self.half()) {
+            (false, true) => u64::from(a) < taken + half,
+            (true, false) => u64::from(a) + half >= taken,
+            _ => false,
         }
     }
 }

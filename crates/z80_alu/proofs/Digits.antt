@@ -2,15 +2,16 @@
 -- upper and of the lower digits alone, and is computed for all of these.
 use Rattle.std.proofs.Common.{◌≡◌, ◌==◌, ℕ, ◌+◌, ◌-◌, ◌*◌, ◌/◌, ◌%◌, ◌<◌, ◌≤◌, pos, ◌-ℤ◌, Bool, true, false, nat_le, nat_lt, map, refl, ap, arith}
 use Rattle.std.specs.Prelude.{◌&&◌}
-use Rattle.std.proofs.lemmas.Bool.{false≢true}
+use Rattle.std.proofs.lemmas.Bool.{and_parts}
 use Rattle.std.proofs.lemmas.Bool.Decides.{nat_tests}
 use Rattle.std.proofs.lemmas.Int.{ints}
+use Rattle.md_word.proofs.Below.{bit_below}
 use Rattle.md_word.proofs.Agree.{range, same_at}
-use Rattle.md_word.specs.Width.{bit, word_of}
+use Rattle.md_word.specs.Width.{bit, difference_overflows, sum_overflows, word_of}
 use Rattle.md_word.specs.declared.size.Size.TheVariants.{Byte}
 use Rattle.z80_alu.specs.declared.flags80.Flags80.{Flags80}
 use Rattle.z80_alu.specs.declared.out80.Out80.{Out80}
-use Rattle.z80_alu.specs.Arithmetic.{added, difference_overflows, subtracted, sum_overflows}
+use Rattle.z80_alu.specs.Arithmetic.{added, subtracted}
 use Rattle.z80_alu.specs.Decimal.{AddsDecimals, IsDecimal, SubtractsDecimals, adjusted, corrected, correction, corrects_upper, decimal_value}
 use Rattle.z80_alu.specs.Flags.{byte_of, flags_of, shown, sign, told}
 use Rattle.z80_alu.specs.Laws.{AddsDigits, SubtractsDigits, then_adjusted}
@@ -38,10 +39,6 @@ sum_at s z pv u v h k =
     let lower : (u * 20 + v) % 20 ≡ v = omega arith in
     rw (upper, lower) at (same_at (λ k. sum_spelt s z pv (k / 20) (k % 20)) (λ k. true) 380 0 (sums_spelt s z pv) (u * 20 + v) (omega arith) (omega arith))
 
-both : (a b : Bool) → (a && b) ≡ true → (a ≡ true) × (b ≡ true)
-both true b e = (refl, e)
-both false b e = absurd (false≢true e)
-
 -- what it means that a result spells a number
 pub record Spells (out : Out80) (n : ℕ) : Type 0 where
   pub digits : IsDecimal out.value
@@ -49,18 +46,14 @@ pub record Spells (out : Out80) (n : ℕ) : Type 0 where
 
 spelt : (out : Out80) (n : ℕ) → spells out n ≡ true → Spells out n
 spelt out n e =
-    let parts = both (nat_lt (out.value / 16) 10 && nat_lt (out.value % 16) 10) (decimal_value out.value + 100 * bit (flags_of out.f).c == n) e in
-    let halves = both (nat_lt (out.value / 16) 10) (nat_lt (out.value % 16) 10) parts.0 in
+    let parts = and_parts (nat_lt (out.value / 16) 10 && nat_lt (out.value % 16) 10) (decimal_value out.value + 100 * bit (flags_of out.f).c == n) e in
+    let halves = and_parts (nat_lt (out.value / 16) 10) (nat_lt (out.value % 16) 10) parts.0 in
     record { digits = record { upper = grind (arith, nat_tests); lower = grind (arith, nat_tests) }; number = grind (arith, nat_tests) }
 
 -- the same of a number that is 16·u + v
 sum_spells : (s z pv : Bool) (whole u v : ℕ) → whole ≡ 16 * u + v → u < 19 → v < 20
     → Spells (adjusted (whole % 0x100) (record { s = s; z = z; h = nat_le 16 v; pv = pv; n = false; c = nat_le 0x100 whole })) (10 * u + v)
 sum_spells s z pv whole u v e h k = rw e (spelt (adjusted ((16 * u + v) % 0x100) (summed s z pv u v)) (10 * u + v) (sum_at s z pv u v h k))
-
-bit-most : (carry : Bool) → bit carry ≤ 1
-bit-most true = omega arith
-bit-most false = omega arith
 
 -- what ADD and ADC leave to DAA
 after_sum : (x y : ℕ) (carry : Bool) → then_adjusted (added x y carry)
@@ -70,7 +63,7 @@ after_sum x y carry = ap (adjusted ((x + y + bit carry) % 0x100)) (flags_of-byte
 
 adds : (x y : ℕ) (carry : Bool) → IsDecimal x → IsDecimal y → AddsDecimals x y carry (then_adjusted (added x y carry))
 adds x y carry dx dy =
-    let one = bit-most carry in
+    let one = bit_below carry in
     let u : ℕ = x / 16 + y / 16 in
     let v : ℕ = x % 16 + y % 16 + bit carry in
     let sum : Spells (then_adjusted (added x y carry)) (10 * u + v) = rw (after_sum x y carry) (sum_spells _ _ _ (x + y + bit carry) u v (omega arith) (omega arith) (omega arith)) in
@@ -107,8 +100,8 @@ pub record SpellsDifference (out : Out80) (n : ℕ) : Type 0 where
 
 difference_told : (out : Out80) (n : ℕ) → (nat_lt (out.value / 16) 10 && nat_lt (out.value % 16) 10 && (decimal_value out.value + 100 == n + 100 * bit (flags_of out.f).c)) ≡ true → SpellsDifference out n
 difference_told out n e =
-    let parts = both (nat_lt (out.value / 16) 10 && nat_lt (out.value % 16) 10) (decimal_value out.value + 100 == n + 100 * bit (flags_of out.f).c) e in
-    let halves = both (nat_lt (out.value / 16) 10) (nat_lt (out.value % 16) 10) parts.0 in
+    let parts = and_parts (nat_lt (out.value / 16) 10 && nat_lt (out.value % 16) 10) (decimal_value out.value + 100 == n + 100 * bit (flags_of out.f).c) e in
+    let halves = and_parts (nat_lt (out.value / 16) 10) (nat_lt (out.value % 16) 10) parts.0 in
     record { digits = record { upper = grind (arith, nat_tests); lower = grind (arith, nat_tests) }; number = grind (arith, nat_tests) }
 
 difference_spells : (s z pv : Bool) (value : ℕ) (half below : Bool) (u v : ℕ) → value ≡ (16 * u + v + 102) % 0x100 → half ≡ nat_lt v 10 → below ≡ nat_lt (16 * u + v) 154 → u < 19 → v < 20
@@ -130,7 +123,7 @@ same_test a b c d e = grind (arith, nat_tests)
 
 subtracts : (x y : ℕ) (borrow : Bool) → IsDecimal x → IsDecimal y → SubtractsDecimals x y borrow (then_adjusted (subtracted x y borrow))
 subtracts x y borrow dx dy =
-    let one = bit-most borrow in
+    let one = bit_below borrow in
     let u : ℕ = x / 16 + 9 - y / 16 in
     let v : ℕ = x % 16 + 10 - (y % 16 + bit borrow) in
     let value : word_of 0x100 (pos x -ℤ pos y -ℤ pos (bit borrow)) ≡ (16 * u + v + 102) % 0x100 = within_byte x y (bit borrow) (16 * u + v) (omega arith) (omega arith) one (omega arith) in

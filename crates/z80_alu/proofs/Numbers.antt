@@ -3,10 +3,11 @@
 use Rattle.std.proofs.Common.{◌≡◌, ℕ, pos, ◌+◌, ◌*◌, ◌%◌, ◌<◌, ◌≤◌, ◌+ℤ◌, ◌-ℤ◌, Bool, true, false, nat_le, nat_lt, refl, ap, arith}
 use Rattle.std.proofs.lemmas.Bool.Decides.{nat_tests}
 use Rattle.std.proofs.lemmas.Int.{ints}
-use Rattle.md_word.specs.Width.{bit, signed_of, word_of}
+use Rattle.md_word.proofs.Below.{bit_below}
+use Rattle.md_word.specs.Width.{bit, difference_overflows, fits, signed_of, sum_overflows, word_of}
 use Rattle.md_word.specs.declared.size.Size.TheVariants.{Byte}
 use Rattle.z80_alu.specs.declared.flags80.Flags80.{Flags80}
-use Rattle.z80_alu.specs.Arithmetic.{added, difference_overflows, fits, subtracted, sum_overflows}
+use Rattle.z80_alu.specs.Arithmetic.{added, subtracted}
 use Rattle.z80_alu.specs.Flags.{flags_of, shown, told}
 use Rattle.z80_alu.specs.Laws.{AddsNumbers, IsDifference, IsSum, SubtractsNumbers}
 use Rattle.z80_alu.proofs.FlagBits.{flags_of-byte}
@@ -33,13 +34,9 @@ value_of_sum : (a b : ℕ) (carry : Bool) → (added a b carry).value ≡ (a + b
 unfolding added shown told
 value_of_sum a b carry = refl
 
-bit-most : (carry : Bool) → bit carry ≤ 1
-bit-most true = omega arith
-bit-most false = omega arith
-
 sum : (a b : ℕ) (carry : Bool) → a < 0x100 → b < 0x100 → IsSum a b carry (added a b carry)
 sum a b carry h k =
-    let one = bit-most carry in
+    let one = bit_below carry in
     record {
       whole = rw (carry_of_sum a b carry, value_of_sum a b carry) (whole_sum (a + b + bit carry) (omega arith));
       signed = λ e. rw (value_of_sum a b carry) (signed_sum a b carry h k (rw (overflow_of_sum a b carry) at e));

@@ -1,23 +1,12 @@
 -- Sums and differences of bytes with their flags.
 -- Zilog UM0080, "8-Bit Arithmetic Group": carry and borrow are of the whole numbers, half carry of
 -- their low digits, overflow of the numbers in two's complement.
-use Rattle.std.specs.Prelude.{ℕ, ℤ, pos, ◌+◌, ◌%◌, ◌+ℤ◌, ◌-ℤ◌, Bool, true, false, not, ◌&&◌, ◌==◌, nat_lt, nat_le, int_lt, int_le}
-use Rattle.md_word.specs.Width.{bit, half_of, signed_of, word_of}
-use Rattle.md_word.specs.declared.size.Size.{Size}
+use Rattle.std.specs.Prelude.{ℕ, pos, ◌+◌, ◌%◌, ◌-ℤ◌, Bool, true, false, ◌==◌, nat_lt, nat_le}
+use Rattle.md_word.specs.Width.{bit, difference_overflows, sum_overflows, word_of}
 use Rattle.md_word.specs.declared.size.Size.TheVariants.{Byte}
 use Rattle.z80_alu.specs.declared.flags80.Flags80.{Flags80}
 use Rattle.z80_alu.specs.declared.out80.Out80.{Out80}
 use Rattle.z80_alu.specs.Flags.{shown}
-
--- whether a signed number is within the size's range in two's complement
-unfoldable pub fits : Size → ℤ → Bool
-fits size z = int_le (pos 0 -ℤ pos (half_of size)) z && int_lt z (pos (half_of size))
-
-unfoldable pub sum_overflows : Size → ℕ → ℕ → Bool → Bool
-sum_overflows size a b carry = not (fits size (signed_of size a +ℤ signed_of size b +ℤ pos (bit carry)))
-
-unfoldable pub difference_overflows : Size → ℕ → ℕ → Bool → Bool
-difference_overflows size a b borrow = not (fits size (signed_of size a -ℤ signed_of size b -ℤ pos (bit borrow)))
 
 -- a + b + carry; H where the low digits' sum passes a digit, C where the sum passes a byte
 unfoldable pub added : ℕ → ℕ → Bool → Out80

@@ -1,10 +1,9 @@
 -- Sums and differences of 16 bits with their flags: H is of the low 12 bits.
 -- Zilog UM0080, "16-Bit Arithmetic Group".
 use Rattle.std.specs.Prelude.{ℕ, pos, ◌+◌, ◌%◌, ◌-ℤ◌, Bool, false, true, ◌==◌, nat_le, nat_lt}
-use Rattle.md_word.specs.Width.{bit, word_of}
+use Rattle.md_word.specs.Width.{bit, difference_overflows, sum_overflows, word_of}
 use Rattle.md_word.specs.declared.size.Size.TheVariants.{Word}
 use Rattle.z80_alu.specs.declared.out16.Out16.{Out16}
-use Rattle.z80_alu.specs.Arithmetic.{difference_overflows, sum_overflows}
 use Rattle.z80_alu.specs.Flags.{byte_of, flags_of}
 
 -- ADD HL,ss: S, Z and P/V as they were

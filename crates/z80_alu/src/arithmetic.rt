@@ -4,7 +4,6 @@ ghost use Rattle.z80_alu.specs.Arithmetic as arithmetic;
 ghost use Rattle.z80_alu.specs.Flags as flags;
 
 use crate::out80::told;
-use crate::overflow::{difference_overflows, sum_overflows};
 use crate::{Flags80, Out80};
 use md_word::Size;
 
@@ -34,7 +33,7 @@ pub fn added(a: u8, b: u8, carry: bool) -> Out80
 {
     let sum = u16::from(a) + u16::from(b) + u16::from(carry);
     let half = (a & 15) + (b & 15) + u8::from(carry) > 15;
-    let overflow = sum_overflows(Size::Byte, u32::from(a), u32::from(b), carry);
+    let overflow = Size::Byte.sum_overflows(u32::from(a), u32::from(b), carry);
     shown((sum & 0xff) as u8, half, overflow, false, sum > 0xff)
 }
 
@@ -53,7 +52,7 @@ pub fn subtracted(a: u8, b: u8, borrow: bool) -> Out80
     ensures { result ≡ arithmetic.subtracted a b borrow }
 {
     let half = a & 15 < (b & 15) + u8::from(borrow);
-    let overflow = difference_overflows(Size::Byte, u32::from(a), u32::from(b), borrow);
+    let overflow = Size::Byte.difference_overflows(u32::from(a), u32::from(b), borrow);
     let below = u16::from(a) < u16::from(b) + u16::from(borrow);
     shown(difference(a, b, borrow), half, overflow, true, below)
 }

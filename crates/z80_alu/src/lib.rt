@@ -8,7 +8,6 @@ pub mod laws;
 mod logic;
 mod out16;
 mod out80;
-mod overflow;
 mod pairs;
 mod shifts;
 mod tasks;

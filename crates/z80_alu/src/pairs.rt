@@ -3,7 +3,6 @@ ghost use Rattle.md_word.specs.Width.{bit, word_of};
 ghost use Rattle.z80_alu.specs.Flags.{flags_of};
 ghost use Rattle.z80_alu.specs.Pairs as pairs;
 
-use crate::overflow::{difference_overflows, sum_overflows};
 use crate::{Flags80, Out16};
 use md_word::Size;
 
@@ -54,7 +53,7 @@ pub fn add_pair_with_carry(left: u16, right: u16, f: u8) -> Out16
     let carry = Flags80::of(f).c;
     let sum = u32::from(left) + u32::from(right) + u32::from(carry);
     let half = (left & 0xfff) + (right & 0xfff) + u16::from(carry) > 0xfff;
-    let overflow = sum_overflows(Size::Word, u32::from(left), u32::from(right), carry);
+    let overflow = Size::Word.sum_overflows(u32::from(left), u32::from(right), carry);
     pair_shown((sum & 0xffff) as u16, half, overflow, false, sum > 0xffff)
 }
 
@@ -75,7 +74,7 @@ pub fn subtract_pair_with_carry(left: u16, right: u16, f: u8) -> Out16
 {
     let borrow = Flags80::of(f).c;
     let half = left & 0xfff < (right & 0xfff) + u16::from(borrow);
-    let overflow = difference_overflows(Size::Word, u32::from(left), u32::from(right), borrow);
+    let overflow = Size::Word.difference_overflows(u32::from(left), u32::from(right), borrow);
     let below = u32::from(left) < u32::from(right) + u32::from(borrow);
     pair_shown(difference(left, right, borrow), half, overflow, true, below)
 }

@@ -9,7 +9,7 @@ use Rattle.z80_decode.specs.declared.op80.Op80.TheVariants as ops
 use Rattle.md_word.proofs.Agree.{range, same_at}
 use Rattle.z80_decode.specs.Fields.{memory_of, place_of, lower, pair_of, stacked_of, condition_of, bit_of}
 use Rattle.z80_decode.specs.Lines.{Line, matching, matches, plain_lines, indexed_lines, bit_lines, indexed_bit_lines, extended_lines}
-use Rattle.std.proofs.lemmas.Bool.{false≢true}
+use Rattle.std.proofs.lemmas.Bool.{and_parts}
 use Rattle.std.proofs.lemmas.Bool.Decides.{nat_tests}
 use Rattle.z80_decode.specs.Instructions.{AtMostOneRow, HasRows, Page, looked_up, Entry, Plain, Bits, Extended, Indexed, IndexedBits, entry, entry_of, prefixed, rows_of, chosen, decoded}
 use Rattle.z80_decode.specs.Nested.{of_bytes, bits, shift, arithmetic, accumulator, block, block_op, relative_jumps, pair_loads, memory_loads, pair_steps, step, number_loads, low_group, loads, returns, jumps, calls, control, by_opcode, low_names_hl, names_hl, indexed, ports, pairs_extended, modes, specials, extended, nested}
@@ -165,14 +165,10 @@ kinds_by_first b0 b1 b2 b3 h k l false false false true ecb edd eed efd = rw (ec
 kinds_by_first b0 b1 b2 b3 h k l false false false false ecb edd eed efd =
     rw (ecb, edd, eed, efd) (same_at (λ w. is_instruction (by_opcode indexes.Hl w b1 b2)) (λ w. true) 256 0 (kinds_plain b1 b2) b0 (omega arith) (omega arith))
 
-both : (a b : Bool) → (a && b) ≡ true → (a ≡ true) × (b ≡ true)
-both true b e = (refl, e)
-both false b e = absurd (false≢true e)
-
 instructed : (d : Decoded80) → is_instruction d ≡ true → IsInstruction d
 instructed d e =
-    let parts = both (is_op d.op && nat_le 1 d.length) (nat_le d.length 4) e in
-    let inner = both (is_op d.op) (nat_le 1 d.length) parts.0 in
+    let parts = and_parts (is_op d.op && nat_le 1 d.length) (nat_le d.length 4) e in
+    let inner = and_parts (is_op d.op) (nat_le 1 d.length) parts.0 in
     record { operands = inner.0; least = grind (arith, nat_tests); most = grind (arith, nat_tests) }
 
 -- what bytes decode to is an instruction
