@@ -1,5 +1,6 @@
 -- What begun files hold, where one is written, emptied or begun.
 use Rattle.std.proofs.Common.{◌≡◌, ◌≢◌, ℕ, ◌<◌, Bool, true, false, get_or, IsSome, is_some, append-nil, List, [], ◌∷◌, ◌++◌, length, Option, Some, None, ◌⊎◌, inl, inr, refl, sym, ap, ◌∙◌, arith, length-set}
+use Rattle.std.proofs.lemmas.Bool.{cases_Bool}
 use Rattle.std.proofs.Math.ListN.{set}
 use Rattle.std.proofs.Math.Seq.{map-set_same}
 use mathlib.Core.Path.{fun_ext}
@@ -24,10 +25,6 @@ slice_get-set_other xs i k y other = elim ((slice_get_cases xs k).1) [
   | inr past ↦ slice_get_past (set xs i y) k (omega (arith, length-set xs i y, past.0)) ∙ sym past.1
 ]
 
-bool_cases : (b : Bool) → (b ≡ true) ⊎ (b ≡ false)
-bool_cases true = inl refl
-bool_cases false = inr refl
-
 option_cases : {X : Type 0} (o : Option X) → (o ≡ None) ⊎ ((x : X) × (o ≡ Some x))
 option_cases None = inl refl
 option_cases (Some x) = inr (x, refl)
@@ -42,7 +39,7 @@ other_number names name other number k at differ found same =
 
 begun_files-set_at : (names bytes : List (List ℕ)) (number : ℕ) (name b other : List ℕ) → AreApart names → length bytes ≡ length names → slice_get names number ≡ Some name
     → begun_files names (set bytes number b) other ≡ with_file (begun_files names bytes) name b other
-begun_files-set_at names bytes number name b other apart same at = elim (bool_cases (bytes_eq name other)) [
+begun_files-set_at names bytes number name b other apart same at = elim (cases_Bool (bytes_eq name other)) [
   | inl equal ↦
       let found : number_of names other ≡ Some number = rw (← bytes_eq-true name other equal) (apart number name at) in
       let within : number < length bytes = omega (arith, slice_get_within names number name at) in
@@ -60,7 +57,7 @@ begun_files-set names bytes number name b apart same at = fun_ext (λ other. beg
 
 begun_files-push_at : (names bytes : List (List ℕ)) (name b other : List ℕ) → number_of names name ≡ None → length bytes ≡ length names
     → begun_files (names ++ name ∷ []) (bytes ++ b ∷ []) other ≡ with_file (begun_files names bytes) name b other
-begun_files-push_at names bytes name b other new same = elim (bool_cases (bytes_eq name other)) [
+begun_files-push_at names bytes name b other new same = elim (cases_Bool (bytes_eq name other)) [
   | inl equal ↦
       let none : number_of names other ≡ None = rw (← bytes_eq-true name other equal) new in
       let found : number_of (names ++ name ∷ []) other ≡ Some (length names) = position-push-None (λ held. bytes_eq held other) names name none ∙ rw equal refl in
@@ -103,7 +100,7 @@ held-bytes names buffers number buffer name apart at is =
     rw (apart number name at) (slice_get-map (λ held. held.bytes.items) buffers number ∙ rw is refl)
 
 with_file-same_at : (files : Files) (name b other : List ℕ) → files name ≡ Some b → with_file files name b other ≡ files other
-with_file-same_at files name b other held = elim (bool_cases (bytes_eq name other)) [
+with_file-same_at files name b other held = elim (cases_Bool (bytes_eq name other)) [
   | inl equal ↦ rw equal (sym held ∙ ap files (bytes_eq-true name other equal))
   | inr differ ↦ rw differ refl
 ]
@@ -113,7 +110,7 @@ pub with_file-same : (files : Files) (name b : List ℕ) → files name ≡ Some
 with_file-same files name b held = fun_ext (λ other. with_file-same_at files name b other held)
 
 over-with_file_at : (front back : Files) (name b other : List ℕ) → over (with_file front name b) back other ≡ with_file (over front back) name b other
-over-with_file_at front back name b other = elim (bool_cases (bytes_eq name other)) [
+over-with_file_at front back name b other = elim (cases_Bool (bytes_eq name other)) [
   | inl equal ↦ rw equal refl
   | inr differ ↦ rw differ refl
 ]

@@ -1,1 +1,2 @@
 pub mod Cartridge
+pub mod Header

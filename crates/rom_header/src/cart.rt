@@ -1,7 +1,9 @@
 ghost use Rattle.std.specs.Prelude.{◌≡◌, ℕ, ◌≤◌, ◌%◌, List, length, ◌⊎◌, Some, IfOk, IfErr, IfSome};
 ghost use Rattle.rom_header.specs.Cartridge.{IsImage, fault_of, has_mark, image};
+ghost use Rattle.rom_header.specs.Header as header;
 
-use std::alloc::Global;
+use crate::header::header_lines;
+use std::alloc::{AllocError, Global};
 use std::marker::Model;
 
 /// The least length of a cartridge's file, in bytes.
@@ -75,5 +77,16 @@ impl Cart {
         ensures image { IsImage self.now }
     {
         self.bytes.as_slice()
+    }
+
+    /// The lines that tell what the header says: `domestic: `, `overseas: `, `serial: ` and `region: `,
+    /// each with its field, then `size: ` with the image's bytes, and `checksum: ` with the word that is
+    /// kept at 18Eh, the sum of the words from 200h to the end modulo 65,536, and `ok` where they are the
+    /// same, else `differs`. A field is shown without the bytes 00h and 20h at its end, and with a dot for
+    /// each byte outside 20h to 7Eh.
+    pub fn info(&self, alloc: Global) -> Result<Vec<u8>, AllocError>
+        ensures { IfOk result (λ text. text.items ≡ header.header_lines self.now) }
+    {
+        header_lines(alloc, self.bytes())
     }
 }

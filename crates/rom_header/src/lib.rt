@@ -2,5 +2,6 @@
 #![tactic(auto)]
 
 mod cart;
+mod header;
 
 pub use cart::{Cart, CartFault, GREATEST, LEAST};

@@ -1,0 +1,7 @@
+//! Tests of the texts of instructions: rows of both manuals.
+#![tactic(auto)]
+
+#[cfg(test)]
+mod m68k;
+#[cfg(test)]
+mod z80;

@@ -1,0 +1,3 @@
+pub mod Lengths68
+pub mod Lengths80
+pub mod Lists68

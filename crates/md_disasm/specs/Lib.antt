@@ -1,0 +1,13 @@
+pub mod Appends
+pub mod Digits
+pub mod Listed68
+pub mod Names68
+pub mod Names80
+pub mod Operands68
+pub mod Operands80
+pub mod Rows68
+pub mod Rows80
+pub mod Shown68
+pub mod Shown80
+pub mod Texts68
+pub mod Texts80
