@@ -1,4 +1,5 @@
 -- The 68000 between two of its events.
+-- M68000 User's Manual, section 6, on its states; the events are this project's profile.
 use Rattle.std.specs.Prelude.{ℕ, ◌+◌, ◌*◌, Bool, true, false, List, [], replicate, Option, None, slice_index}
 use Rattle.md_word.specs.declared.event.Next.{Next}
 use Rattle.md_word.specs.declared.main_bus.Transfer.{Transfer}

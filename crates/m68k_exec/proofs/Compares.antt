@@ -1,15 +1,14 @@
 -- After CMP the conditions are comparisons of the numbers.
-use Rattle.std.proofs.Common.{◌≡◌, ℕ, ℤ, pos, ◌+◌, ◌-◌, ◌%◌, ◌<◌, ◌≤◌, ◌==◌, Bool, true, false, not, nat_lt, nat_le, refl, ap, arith}
-use Rattle.std.specs.Prelude.{◌&&◌, ◌||◌, int_lt, int_le, if◌then◌else◌, ◌-ℤ◌}
+use Rattle.std.proofs.Common.{◌≡◌, ℕ, ◌+◌, ◌-◌, ◌%◌, ◌<◌, ◌==◌, not, nat_lt, nat_le, refl, ap, arith}
+use Rattle.std.specs.Prelude.{int_lt, int_le, ◌-ℤ◌}
 use Rattle.std.proofs.lemmas.Bool.Decides.{nat_tests}
 use Rattle.std.proofs.lemmas.Int.{ints}
-use Rattle.md_word.specs.Width.{half_of, modulus_of, signed_of, word_of}
+use Rattle.md_word.specs.Width.{difference_overflows, fits, half_of, modulus_of, signed_of}
 use Rattle.md_word.specs.declared.flags.Flags.{Flags}
 use Rattle.md_word.specs.declared.size.Size.{Size}
 use Rattle.md_word.specs.declared.size.Size.TheVariants.{Byte, Word, Long}
-use Rattle.m68k_decode.specs.declared.condition.Condition.{Condition}
 use Rattle.m68k_decode.specs.declared.condition.Condition.TheVariants as conditions
-use Rattle.m68k_alu.specs.Arithmetic.{compared, difference, difference_overflows, fits, subtracted}
+use Rattle.m68k_alu.specs.Arithmetic.{compared, difference, subtracted}
 use Rattle.m68k_alu.specs.Results.{shown}
 use Rattle.m68k_exec.specs.Access.Conditions.{holds}
 use Rattle.m68k_exec.specs.Laws.{ConditionsCompare, flags_after}

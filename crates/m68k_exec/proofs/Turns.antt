@@ -1,14 +1,11 @@
 -- A turn of MOVEM's loops, and what is left after it.
-use Rattle.std.proofs.Common.{◌≡◌, ℕ, zero, suc, ◌+◌, ◌-◌, ◌*◌, ◌/◌, ◌%◌, ◌<◌, ◌==◌, Bool, true, false, List, ◌∷◌, if◌then◌else◌, Result, Ok, Err, inl, inr, refl, add-mul, eq-zero-or-pos, lit<, mul-pos, arith}
+use Rattle.std.proofs.Common.{◌≡◌, ℕ, zero, suc, ◌+◌, ◌-◌, ◌*◌, ◌/◌, ◌%◌, ◌<◌, ◌==◌, Bool, true, false, List, ◌∷◌, if◌then◌else◌, Result, Ok, Err, refl, add-mul, arith}
 use Rattle.std.specs.Int.RustNames.{count_ones}
 use Rattle.std.specs.Int.Count.{ones_step}
-use Rattle.std.proofs.lemmas.Nat.{zero_from_ones}
 use Rattle.md_word.specs.Fields.{register_of, with_register}
 use Rattle.md_word.specs.Width.{bit, extended, modulus_of}
 use Rattle.md_word.specs.declared.regs.Regs.{Regs}
 use Rattle.md_word.specs.declared.size.Size.{Size}
-use Rattle.md_word.specs.declared.size.Size.TheVariants.{Byte, Word, Long}
-use Rattle.m68k_decode.specs.Ops.{moves_of}
 use Rattle.m68k_exec.specs.Access.Actions.{Done, go_on, read, write}
 use Rattle.m68k_exec.specs.Access.Memory.{Memory}
 use Rattle.m68k_exec.specs.Rows.Movem.{Loaded, named, next_address, place_at, places, load_each, store_each}

@@ -1,9 +1,8 @@
 -- What holds of each action and each sample, for any registers, memory and answers.
 use Rattle.std.specs.Prelude.{ℕ, ◌≡◌, ◌+◌, ◌-◌, ◌-ℤ◌, ◌%◌, ◌<◌, ◌≤◌, ◌==◌, nat_le, nat_lt, int_le, int_lt, Bool, true, false, not, length, slice_index, Ok, Err}
-use Rattle.md_word.specs.Width.{half_of, modulus_of, signed_of}
+use Rattle.md_word.specs.Width.{fits, half_of, modulus_of, signed_of}
 use Rattle.md_word.specs.declared.flags.Flags.{Flags}
 use Rattle.md_word.specs.declared.task.Task.TheVariants as tasks
-use Rattle.m68k_alu.specs.Arithmetic.{fits}
 use Rattle.m68k_alu.specs.Tasks.{computed}
 use Rattle.m68k_decode.specs.declared.condition.Condition.TheVariants as conditions
 use Rattle.m68k_exec.specs.Access.Conditions.{holds}

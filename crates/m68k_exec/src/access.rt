@@ -14,9 +14,9 @@ pub mod stop;
 pub mod vector;
 pub mod view;
 
-use crate::access::memory::{bus_address, byte_seen, is_shared, put_byte, put_word, word_seen};
+use crate::access::memory::{bus_address, byte_seen, put_byte, put_word, word_seen};
 use crate::{Around, Progress, Stop};
-use md_word::{Request68, Size};
+use md_word::{Request68, Size, is_shared};
 
 /// A shared access: takes the next answer, or stops with the request that waits for it.
 #[tactic(auto, unfolding(crate::specs::Access::Actions::asked))]

@@ -1,5 +1,5 @@
 -- Of an operand that is read and then written only the read can be an address error.
-use Rattle.std.proofs.Common.{◌≡◌, ℕ, ◌+◌, ◌%◌, ◌/◌, ◌^◌, ◌<◌, ◌≤◌, Bool, true, false, Ok, Err, Result, refl, subst, arith}
+use Rattle.std.proofs.Common.{◌≡◌, ℕ, ◌+◌, ◌%◌, ◌/◌, ◌^◌, ◌<◌, ◌≤◌, Bool, true, false, Ok, Err, Result, refl, arith}
 use Rattle.std.specs.Prelude.{if◌then◌else◌, length, nat_lt}
 use Rattle.md_word.specs.declared.main_bus.Request68.{Request68}
 use Rattle.md_word.specs.declared.main_bus.Request68.TheVariants.{Read8}
@@ -16,7 +16,8 @@ use Rattle.m68k_ea.specs.declared.places.Place.{Place}
 use Rattle.m68k_ea.specs.declared.places.Place.TheVariants as places
 use Rattle.m68k_exec.specs.Access.Actions.{Done, asked, asked_byte, go_on, is_odd, read, read_aligned, read_byte, read_long, read_word, told, write, write_aligned, write_byte, write_long, write_word}
 use Rattle.m68k_exec.specs.Access.Clauses.{NotOdd}
-use Rattle.m68k_exec.specs.Access.Memory.{Memory, bus_address, is_shared}
+use Rattle.md_word.specs.Map.{is_shared}
+use Rattle.m68k_exec.specs.Access.Memory.{Memory, bus_address}
 use Rattle.m68k_exec.specs.Access.Operands.{fetch, put, stored}
 use Rattle.m68k_exec.specs.Access.Shapes.{change_operand}
 use Rattle.m68k_exec.specs.declared.access.stop.Stop.{Stop}

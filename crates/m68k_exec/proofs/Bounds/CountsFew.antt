@@ -24,7 +24,8 @@ use Rattle.m68k_exec.specs.Sample.Bounds.{Fits}
 use Rattle.m68k_exec.specs.Access.Actions as actions
 use Rattle.m68k_exec.specs.Access.Actions.{Done, go_on}
 use Rattle.m68k_exec.specs.Sample.Execution as execution
-use Rattle.m68k_exec.specs.Access.Memory.{Memory, bus_address, byte_at, instruction_word, instruction_words, is_ram, is_shared, word_at}
+use Rattle.md_word.specs.Map.{is_shared}
+use Rattle.m68k_exec.specs.Access.Memory.{Memory, bus_address, byte_at, instruction_word, instruction_words, is_ram, word_at}
 use Rattle.m68k_exec.specs.Access.Operands as operands
 use Rattle.m68k_exec.specs.Access.Operands.{Operand}
 use Rattle.m68k_exec.specs.Access.Outcomes.{Outcome}

@@ -1,8 +1,8 @@
 -- What an action asks for, and that its value keeps what its parts keep: laws on the definitions.
-use Rattle.std.proofs.Common.{◌≡◌, ℕ, ◌%◌, ◌^◌, ◌<◌, Bool, true, false, nat_lt, length, Result, Ok, Err, refl, arith}
-use Rattle.std.specs.Prelude.{IsTrue, if◌then◌else◌}
+use Rattle.std.proofs.Common.{◌≡◌, ℕ, ◌%◌, Bool, true, false, nat_lt, length, Result, Ok, Err, refl, arith}
+use Rattle.std.specs.Prelude.{if◌then◌else◌}
 use Rattle.md_word.specs.declared.main_bus.Request68.{Request68}
-use Rattle.md_word.specs.declared.main_bus.Request68.TheVariants.{Ack, Read16, Read8, Write16, Write8, Word as TransferWord}
+use Rattle.md_word.specs.declared.main_bus.Request68.TheVariants.{Read16, Read8, Write16, Write8}
 use Rattle.md_word.specs.declared.mode.Mode.{Mode}
 use Rattle.md_word.specs.declared.regs.Regs.{Regs}
 use Rattle.md_word.specs.declared.size.Size.{Size}
@@ -16,7 +16,8 @@ use Rattle.m68k_exec.proofs.Bounds.SystemByte as sr
 use Rattle.m68k_exec.specs.Sample.Bounds.{IsAccess, IsShared, IsStatus}
 use Rattle.m68k_exec.specs.Access.Actions as actions
 use Rattle.m68k_exec.specs.Access.Actions.{Act, Done, ◌>>=◌, go_on}
-use Rattle.m68k_exec.specs.Access.Memory.{Memory, bus_address, is_shared}
+use Rattle.md_word.specs.Map.{is_shared}
+use Rattle.m68k_exec.specs.Access.Memory.{Memory, bus_address}
 use Rattle.m68k_exec.specs.Access.Operands as operands
 use Rattle.m68k_exec.specs.Access.Operands.{Operand}
 use Rattle.m68k_exec.specs.Access.Outcomes.{Outcome}

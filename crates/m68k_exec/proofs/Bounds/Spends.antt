@@ -8,7 +8,6 @@ use Rattle.md_word.specs.declared.main_bus.Request68.TheVariants.{Ack}
 use Rattle.md_word.specs.declared.regs.Regs.{Regs}
 use Rattle.m68k_decode.specs.Ops.{IsSpent}
 use Rattle.m68k_decode.specs.Fields.{opcode}
-use Rattle.m68k_decode.specs.Instructions.{decoded}
 use Rattle.m68k_decode.specs.declared.decoded.Decoded.{Decoded}
 use Rattle.m68k_decode.specs.declared.op.Op.{Op}
 use Rattle.m68k_except.specs.Frames.{is_address_error}
@@ -23,7 +22,7 @@ use Rattle.m68k_exec.specs.Access.Clauses.{NotOdd}
 use Rattle.m68k_exec.specs.Sample.Entries as entries
 use Rattle.m68k_exec.specs.Sample.Entries.{frame_for, number_of, pushes_of, vector_at}
 use Rattle.m68k_exec.specs.Sample.Execution as execution
-use Rattle.m68k_exec.specs.Access.Memory.{Memory, instruction_words}
+use Rattle.m68k_exec.specs.Access.Memory.{Memory}
 use Rattle.m68k_exec.specs.Access.Outcomes.{Outcome}
 use Rattle.m68k_exec.specs.Sample.Samples as samples
 use Rattle.m68k_exec.specs.Sample.Samples.{named, Ended, begun_by, finished, leaves_trace, nothing}

@@ -1,5 +1,5 @@
 -- The bounds of rows and samples, as the code meets them.
-use Rattle.std.proofs.Common.{◌≡◌, ℕ, ◌+◌, ◌<◌, ◌≤◌, Bool, length, Ok, Err, ap, subst, sym, arith}
+use Rattle.std.proofs.Common.{◌≡◌, ℕ, ◌≤◌, Bool, length, Ok, Err, ap, subst, sym, arith}
 use Rattle.std.specs.Prelude.{◌≢◌}
 use Rattle.md_word.specs.declared.regs.Regs.{Regs}
 use Rattle.m68k_decode.specs.Ops.{IsOp}

@@ -7,6 +7,7 @@ use Rattle.std.proofs.Math.Arith.{bin_ind}
 use Rattle.std.proofs.Math.Nat.{mod-eq_of_lt}
 use Rattle.std.proofs.lemmas.Nat.{and_assoc, and_comm, and_le_r, and_mask, and_shr, or_disjoint, or_shr}
 use Rattle.std.proofs.lemmas.Nat.Bits.{and_high_mask}
+use Rattle.md_word.proofs.Below.{bit_below}
 use Rattle.md_word.specs.Fields.{is_supervisor, with_address, with_flags, with_register}
 use Rattle.md_word.specs.Width.{bit}
 use Rattle.md_word.specs.declared.flags.Flags.{Flags}
@@ -51,10 +52,6 @@ replaced sr f k within h below g =
     subst IsStatus both (or_within 0xa71f _ f top g)
 
 -- the registers
-bit_below : (b : Bool) → bit b ≤ 1
-bit_below true = omega arith
-bit_below false = omega arith
-
 pub flags : (regs : Regs) (f : Flags) → IsStatus regs.sr → IsStatus (with_flags regs f).sr
 unfolding with_flags
 flags regs f h =

@@ -1,5 +1,5 @@
 -- How many answers an action takes at most, and where it waits for one: laws on the definitions.
-use Rattle.std.proofs.Common.{◌≡◌, ℕ, ◌+◌, ◌*◌, ◌<◌, ◌≤◌, ◌∙◌, Bool, true, false, nat_lt, List, length, Result, Ok, Err, refl, ap, sym, arith, slice_index, if◌then◌else◌, ◌%◌, ◌/◌, ◌^◌}
+use Rattle.std.proofs.Common.{◌≡◌, ℕ, ◌+◌, ◌*◌, ◌<◌, ◌≤◌, ◌∙◌, Bool, true, false, nat_lt, length, Result, Ok, Err, refl, ap, sym, arith, if◌then◌else◌, ◌%◌, ◌/◌, ◌^◌}
 use Rattle.std.proofs.lemmas.Bool.Decides.{nat_tests}
 use Rattle.md_word.specs.declared.main_bus.Request68.{Request68}
 use Rattle.md_word.specs.declared.main_bus.Request68.TheVariants.{Read8, Read16, Write8, Write16}
@@ -18,24 +18,18 @@ use Rattle.m68k_exec.specs.declared.access.stop.Stop.{Stop}
 use Rattle.m68k_exec.specs.declared.access.stop.Stop.TheVariants.{Ask, Odd}
 use Rattle.m68k_exec.specs.Access.Actions as actions
 use Rattle.m68k_exec.specs.Access.Actions.{Act, Done, ◌>>=◌, go_on}
-use Rattle.m68k_exec.specs.Access.Memory.{Memory, bus_address, is_shared}
+use Rattle.md_word.specs.Map.{is_shared}
+use Rattle.m68k_exec.specs.Access.Memory.{Memory, bus_address}
 use Rattle.m68k_exec.specs.Access.Operands as operands
 use Rattle.m68k_exec.specs.Access.Operands.{touches}
 use Rattle.m68k_exec.specs.Access.Shapes as shapes
 use Rattle.m68k_decode.specs.Ops.{touches_of}
 use Rattle.m68k_ea.specs.Steps.{stepped}
+use Rattle.m68k_exec.proofs.Taken.{answered, unanswered, used_of, with_byte-used, with_word-used}
 use Rattle.m68k_exec.proofs.Touches.{touched}
-use Rattle.std.specs.Prelude.{◌++◌, ◌∷◌, []}
-use Rattle.m68k_exec.specs.Access.Memory.{is_ram}
 use Rattle.m68k_exec.specs.Rows.Moves as moves
 use Rattle.m68k_exec.specs.Rows.Multiprecision as multiprecision
-use Rattle.m68k_exec.specs.Rows.Movem as movem
 use Rattle.m68k_exec.specs.Rows.Quotients as quotients
-use Rattle.m68k_exec.specs.declared.rows.movem.Order.{Order}
-
-used_of : {A : Type 0} → Result (A × Done) Stop → ℕ
-used_of (Ok x) = x.1.used
-used_of (Err stop) = 0
 
 -- it takes at most so many answers, none that is not there, and waits only for one of them; an
 -- address error comes within as many
@@ -59,17 +53,12 @@ give {A} x = record {
   odd = λ memory before address read used e in_range. absurd (cc);
 }
 
-odd_used : {A : Type 0} → Result (A × Done) Stop → ℕ
-odd_used (Ok x) = 0
-odd_used (Err (Ask request)) = 0
-odd_used (Err (Odd address read used)) = used
-
 pub odd : {A : Type 0} (address : ℕ) (read : Bool) → Takes 0 (actions.odd {A = A} address read)
-unfolding odd_used
+unfolding used_of
 odd {A} address read = record {
   value = λ memory before y after e in_range. absurd (cc);
   asks = λ memory before request e in_range. absurd (cc);
-  odd = λ memory before at reads used e in_range. (let u : before.used ≡ used = ap (odd_used {A = A}) e in (omega (arith, u), omega (arith, u, in_range)));
+  odd = λ memory before at reads used e in_range. (let u : before.used ≡ used = ap (used_of {A = A}) e in (omega (arith, u), omega (arith, u, in_range)));
 }
 
 pub choice : {A : Type 0} (most : ℕ) (test : Bool) (one other : Act A) → Takes most one → Takes most other → Takes most (λ memory done. if test then one memory done else other memory done)
@@ -109,14 +98,6 @@ bind m n act next h k = record {
   asks = λ memory before request e in_range. bind_asks m n act next h k memory before request (act memory before) refl e in_range;
   odd = λ memory before address read used e in_range. bind_odd m n act next h k memory before address read used (act memory before) refl e in_range;
 }
-
-answered : (request : Request68) (memory : Memory) (before : Done) → nat_lt before.used (length memory.answers) ≡ true → actions.asked request memory before ≡ Ok (slice_index memory.answers before.used, record before { used = before.used + 1 })
-unfolding actions.asked
-answered request memory before e = rw e
-
-unanswered : (request : Request68) (memory : Memory) (before : Done) → nat_lt before.used (length memory.answers) ≡ false → actions.asked request memory before ≡ Err (Ask request)
-unfolding actions.asked
-unanswered request memory before e = rw e
 
 asked_value : (request : Request68) (memory : Memory) (before : Done) (x : ℕ) (after : Done) (test : Bool) → nat_lt before.used (length memory.answers) ≡ test → actions.asked request memory before ≡ Ok (x, after) → (after.used ≤ before.used + 1) × (after.used ≤ length memory.answers)
 unfolding used_of
@@ -196,16 +177,6 @@ pub load : (mode : Mode) (size : Size) (pc : ℕ) (regs : Regs) → Takes (touch
 unfolding operands.load
 load mode size pc regs =
     more _ _ _ (let t = touched mode size regs pc in omega (arith, t)) (bind _ 0 (operands.fetch size (place_of mode size regs pc) regs) _ (fetch size (place_of mode size regs pc) regs) (λ value. give _))
-
--- private writes
-with_byte-used : (at value : ℕ) (done : Done) → (actions.with_byte at value done).used ≡ done.used
-unfolding actions.with_byte
-with_byte-used at value done = elim (is_ram at) as (λ b. (if b then record done { writes = done.writes ++ (at, value) ∷ [] } else done).used ≡ done.used) [ true ↦ refl | false ↦ refl ]
-
-with_word-used : (at value : ℕ) (done : Done) → (actions.with_word at value done).used ≡ done.used
-unfolding actions.with_word
-with_word-used at value done =
-    with_byte-used (at + 1) (value % 0x100) (actions.with_byte at (value / 0x100) done) ∙ with_byte-used at (value / 0x100) done
 
 byte_put : (at value : ℕ) → Takes {A = Unit {0}} 1 (λ memory done. Ok (tt, actions.with_byte at value done))
 byte_put at value = more 0 1 _ (omega arith) (private (λ memory done. tt) (actions.with_byte at value) (with_byte-used at value))
@@ -288,11 +259,6 @@ extended operation size source target start regs =
 pub quotient_by : (signed : Bool) (n : ℕ) (mode : Mode) (start : ℕ) (regs : Regs) → Takes (touches_of Word mode) (quotients.quotient_by signed n mode start regs)
 unfolding quotients.quotient_by
 quotient_by signed n mode start regs = more _ _ _ (omega arith) (bind _ 0 _ _ (load mode Word _ regs) (λ source. give _))
-
-store_each : (order : Order) (size : Size) (places : List ℕ) (at : ℕ) (regs : Regs) → Takes (length places * moves_of size) (movem.store_each order size places at regs)
-store_each order size [] at regs = more 0 _ _ (omega arith) (give at)
-store_each order size (place ∷ rest) at regs =
-    more _ _ _ (omega arith) (bind (moves_of size) (length rest * moves_of size) _ _ (write size _ _) (λ written. store_each order size rest _ regs))
 
 pub test_operand : (operation : Task) (size : Size) (number : ℕ) (mode : Mode) (pc : ℕ) (regs : Regs) → Takes (touches_of size mode) (shapes.test_operand operation size number mode pc regs)
 unfolding shapes.test_operand

@@ -1,6 +1,6 @@
 -- Answers beyond those that an action takes change nothing: of the simple actions, and of one after
 -- another. A row of instructions follows by `bind` along its lines.
-use Rattle.std.proofs.Common.{◌≡◌, ℕ, ◌+◌, ◌<◌, ◌≤◌, ◌∙◌, Bool, true, false, nat_lt, List, length, Result, Ok, Err, refl, ap, sym, arith, slice_index, if◌then◌else◌, ◌%◌, ◌/◌, ◌*◌, ◌^◌, ◌++◌, ◌∷◌, []}
+use Rattle.std.proofs.Common.{◌≡◌, ℕ, ◌+◌, ◌<◌, ◌≤◌, ◌∙◌, Bool, true, false, nat_lt, List, length, Result, Ok, Err, refl, ap, sym, arith, slice_index, if◌then◌else◌, ◌%◌, ◌/◌, ◌*◌, ◌^◌}
 use Rattle.std.proofs.lemmas.Bool.Decides.{nat_tests}
 use Rattle.md_word.specs.Fields.{register_of}
 use Rattle.md_word.specs.Width.{modulus_of}
@@ -15,12 +15,14 @@ use Rattle.m68k_ea.specs.Steps.{stepped}
 use Rattle.m68k_ea.specs.declared.places.Place.{Place}
 use Rattle.m68k_ea.specs.declared.places.Place.TheVariants as places
 use Rattle.m68k_exec.specs.declared.access.stop.Stop.{Stop}
-use Rattle.m68k_exec.specs.declared.access.stop.Stop.TheVariants.{Ask, Odd}
+use Rattle.m68k_exec.specs.declared.access.stop.Stop.TheVariants.{Odd}
 use Rattle.m68k_exec.specs.Access.Actions as actions
 use Rattle.m68k_exec.specs.Access.Actions.{Act, Done, ◌>>=◌, go_on}
 use Rattle.m68k_exec.specs.Laws.{ActionsIgnoreLaterAnswers, IgnoresLaterAnswers, SameBelow}
-use Rattle.m68k_exec.specs.Access.Memory.{Memory, bus_address, byte_at, is_ram, is_shared, ram_after, word_at}
+use Rattle.md_word.specs.Map.{is_shared}
+use Rattle.m68k_exec.specs.Access.Memory.{Memory, bus_address, byte_at, ram_after, word_at}
 use Rattle.m68k_exec.specs.Access.Operands as operands
+use Rattle.m68k_exec.proofs.Taken.{answered, unanswered, used_of, with_byte-used, with_word-used}
 
 pub lower : (fewer count : ℕ) (one other : Memory) → fewer ≤ count → SameBelow count one other → SameBelow fewer one other
 lower fewer count one other h same = record {
@@ -29,12 +31,6 @@ lower fewer count one other h same = record {
   enough = omega (arith, same.enough);
   answers = λ k below. same.answers k (omega arith);
 }
-
--- how many answers were taken at the end, or before an address error
-used_of : {A : Type 0} → Result (A × Done) Stop → ℕ
-used_of (Ok x) = x.1.used
-used_of (Err (Ask request)) = 0
-used_of (Err (Odd address read used)) = used
 
 -- what looks at the cartridge and at work RAM, and takes no answer
 pub private : {A : Type 0} (f : List ℕ → List ℕ → Done → A) (g : Done → Done) → ((done : Done) → (g done).used ≡ done.used) → IgnoresLaterAnswers (λ memory done. Ok (f memory.rom memory.ram done, g done))
@@ -108,14 +104,6 @@ bind act next h k = record {
 }
 
 -- a shared access
-answered : (request : Request68) (memory : Memory) (before : Done) → nat_lt before.used (length memory.answers) ≡ true → actions.asked request memory before ≡ Ok (slice_index memory.answers before.used, record before { used = before.used + 1 })
-unfolding actions.asked
-answered request memory before e = rw e
-
-unanswered : (request : Request68) (memory : Memory) (before : Done) → nat_lt before.used (length memory.answers) ≡ false → actions.asked request memory before ≡ Err (Ask request)
-unfolding actions.asked
-unanswered request memory before e = rw e
-
 asked_value : (request : Request68) (one other : Memory) (before : Done) (x : ℕ) (after : Done) (test : Bool) → nat_lt before.used (length one.answers) ≡ test → actions.asked request one before ≡ Ok (x, after) → SameBelow after.used one other → actions.asked request other before ≡ Ok (x, after)
 unfolding used_of
 asked_value request one other before x after true t e same =
@@ -163,15 +151,6 @@ byte_seen at = private (λ rom ram done. byte_at rom (ram_after ram done.writes)
 word_seen : (at : ℕ) → IgnoresLaterAnswers (λ memory done. Ok (actions.word_seen at memory done, done))
 unfolding actions.word_seen
 word_seen at = private (λ rom ram done. word_at rom (ram_after ram done.writes) at) (λ done. done) (λ done. refl)
-
-with_byte-used : (at value : ℕ) (done : Done) → (actions.with_byte at value done).used ≡ done.used
-unfolding actions.with_byte
-with_byte-used at value done = elim (is_ram at) as (λ b. (if b then record done { writes = done.writes ++ (at, value) ∷ [] } else done).used ≡ done.used) [ true ↦ refl | false ↦ refl ]
-
-with_word-used : (at value : ℕ) (done : Done) → (actions.with_word at value done).used ≡ done.used
-unfolding actions.with_word
-with_word-used at value done =
-    with_byte-used (at + 1) (value % 0x100) (actions.with_byte at (value / 0x100) done) ∙ with_byte-used at (value / 0x100) done
 
 byte_put : (at value : ℕ) → IgnoresLaterAnswers {A = Unit {0}} (λ memory done. Ok (tt, actions.with_byte at value done))
 byte_put at value = private (λ rom ram done. tt) (actions.with_byte at value) (with_byte-used at value)

@@ -8,7 +8,8 @@ use Rattle.md_word.specs.declared.size.Size.{Size}
 use Rattle.md_word.specs.declared.size.Size.TheVariants.{Byte, Word, Long}
 use Rattle.m68k_exec.specs.declared.access.stop.Stop.{Stop}
 use Rattle.m68k_exec.specs.declared.access.stop.Stop.TheVariants.{Ask, Odd}
-use Rattle.m68k_exec.specs.Access.Memory.{Memory, bus_address, byte_at, is_ram, is_shared, ram_after, word_at}
+use Rattle.md_word.specs.Map.{is_shared}
+use Rattle.m68k_exec.specs.Access.Memory.{Memory, bus_address, byte_at, is_ram, ram_after, word_at}
 
 -- what an instruction has done: the answers taken, and the bytes written into work RAM, the oldest
 -- first, each with its address on the bus

@@ -1,6 +1,6 @@
 -- What the 68000 sees at its addresses, of which the bus has 24 bits.
 -- Genesis Technical Overview, the memory map of the 68000.
-use Rattle.std.specs.Prelude.{ℕ, ◌+◌, ◌*◌, ◌%◌, ◌^◌, Bool, ◌==◌, ◌&&◌, ◌||◌, nat_lt, nat_le, if◌then◌else◌, List, [], ◌∷◌, length, slice_index, slice_set, fold}
+use Rattle.std.specs.Prelude.{ℕ, ◌+◌, ◌*◌, ◌%◌, ◌^◌, Bool, ◌==◌, nat_lt, nat_le, if◌then◌else◌, List, [], ◌∷◌, length, slice_index, slice_set, fold}
 
 -- what stays as it is while an instruction runs: the cartridge's image, work RAM before it, and the
 -- answers of its shared accesses so far
@@ -12,16 +12,6 @@ pub record Memory : Type 0 where
 -- the address on the bus
 abbrev pub bus_address : ℕ → ℕ
 bus_address address = address % 0x100_0000
-
--- whether an address on the bus is shared with other chips: the Z80's memory, the pads, the Z80's
--- bus request and reset, the VDP and the PSG
-unfoldable pub is_shared : ℕ → Bool
-is_shared at =
-    (nat_le 0xa0_0000 at && nat_le at 0xa0_ffff)
-    || (nat_le 0xa1_0000 at && nat_le at 0xa1_001f)
-    || (nat_le 0xa1_1100 at && nat_le at 0xa1_1101)
-    || (nat_le 0xa1_1200 at && nat_le at 0xa1_1201)
-    || (nat_le 0xc0_0000 at && nat_le at 0xc0_001f)
 
 -- work RAM, of 64 KiB, is repeated from E00000h on
 abbrev pub is_ram : ℕ → Bool

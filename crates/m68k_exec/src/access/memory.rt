@@ -21,21 +21,6 @@ pub fn bus_address(address: u32) -> u32
     address % 0x100_0000
 }
 
-/// Whether an address on the bus is shared with other chips.
-#[tactic(auto, unfolding(crate::specs::Access::Memory::is_shared))]
-pub fn is_shared(at: u32) -> bool
-    ensures { result ≡ memory.is_shared at }
-{
-    matches!(
-        at,
-        0xa0_0000..=0xa0_ffff
-            | 0xa1_0000..=0xa1_001f
-            | 0xa1_1100..=0xa1_1101
-            | 0xa1_1200..=0xa1_1201
-            | 0xc0_0000..=0xc0_001f
-    )
-}
-
 /// A byte outside the shared addresses, before the instruction.
 #[tactic(auto, unfolding(crate::specs::Access::Memory::byte_at))]
 fn byte_at(at: u32, rom: &[u8], ram: &[u8; 65536]) -> u8

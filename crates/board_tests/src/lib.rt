@@ -1,0 +1,5 @@
+//! Tests of what the chips share: registers, pads, the Z80's lines and its memory.
+#![tactic(auto)]
+
+#[cfg(test)]
+mod board;

@@ -1,0 +1,164 @@
+-- Each access leaves a board.
+use Rattle.std.proofs.Common.{ℕ, ◌*◌, ◌/◌, ◌%◌, ◌==◌, ◌<◌, ◌&&◌, Bool, true, false, Option, Some, None, if◌then◌else◌, arith, lit<}
+use Rattle.md_pads.specs.Recording.{Frame, pads_of}
+use Rattle.md_word.specs.Clock.{frame, line}
+use Rattle.md_word.specs.Map.{area_of}
+use Rattle.md_word.specs.declared.area.Area.{Area}
+use Rattle.md_word.specs.declared.area.Area.TheVariants.{Z80Space, InputOutput, BusRequest, Z80Reset, VideoPorts}
+use Rattle.md_word.specs.declared.key.Key.{Key}
+use Rattle.md_word.specs.declared.main_bus.Request68.{Request68}
+use Rattle.md_word.specs.declared.main_bus.Request68.TheVariants.{Read8, Read16, Write8, Write16, Ack, Word}
+use Rattle.psg_sound.specs.PortLaws.{IsPort-held_with, IsPort-left_from, IsPort-nil}
+use Rattle.bus_shared.specs.Accesses.{line_board, main_board, psg_board, sub_access, taken_back, yielded}
+use Rattle.bus_shared.specs.Areas.{byte_written_at, byte_written_in, is_psg, word_written_at, word_written_in}
+use Rattle.bus_shared.specs.Lines.{counted, requested}
+use Rattle.bus_shared.specs.Z80Space.{granted, is_psg80, space_written, store_written, with_psg, z80_address}
+use Rattle.z80_parcel.proofs.Writes.{banked_fits, stored_fits}
+use Rattle.z80_parcel.specs.Parcels.{IsStore, Store}
+use Rattle.z80_parcel.specs.Requests.{Asked, ReadByte, WriteByte, HandOver, TakeBack, Fits}
+use Rattle.std.proofs.Common.{◌∙◌, IfSome}
+use Rattle.bus_shared.specs.Board.{Board, IsBoard, power_on}
+use Rattle.bus_shared.specs.Registers.{register_at, register_written}
+use Rattle.bus_shared.specs.declared.register.Register.{Register}
+use Rattle.bus_shared.specs.declared.register.Register.TheVariants.{Version, Data1, Data2, DataExpansion, Control1, Control2, Unused}
+use Rattle.std.specs.Prelude.{List}
+
+pub power_on-ok : (recording : List Frame) → IsBoard (power_on recording)
+power_on-ok recording = record {
+  port1 = record { value = lit< tt; control = lit< tt };
+  port2 = record { value = lit< tt; control = lit< tt };
+  held = IsPort-nil;
+  store = tt;
+}
+
+register-ok : (board : Board) (register : Register) (value : ℕ) → value < 0x100 → IsBoard board → IsBoard (register_written board register value)
+unfolding register_written
+register-ok board Version value below ok = ok
+register-ok board Data1 value below ok = record { port1 = record { value = below; control = ok.port1.control }; port2 = ok.port2; held = ok.held; store = ok.store }
+register-ok board Data2 value below ok = record { port1 = ok.port1; port2 = record { value = below; control = ok.port2.control }; held = ok.held; store = ok.store }
+register-ok board DataExpansion value below ok = ok
+register-ok board Control1 value below ok = record { port1 = record { value = ok.port1.value; control = below }; port2 = ok.port2; held = ok.held; store = ok.store }
+register-ok board Control2 value below ok = record { port1 = ok.port1; port2 = record { value = ok.port2.value; control = below }; held = ok.held; store = ok.store }
+register-ok board Unused value below ok = ok
+
+psg-ok : (board : Board) (key : Key) (value : ℕ) → key.chip < 2 → IsBoard board → IsBoard (with_psg board key value)
+psg-ok board key value low ok = record { port1 = ok.port1; port2 = ok.port2; held = IsPort-held_with board.held key value low ok.held; store = ok.store }
+
+psg-if : (b : Bool) (board : Board) (key : Key) (value : ℕ) → key.chip < 2 → IsBoard board → IsBoard (if b then with_psg board key value else board)
+psg-if true board key value low ok = psg-ok board key value low ok
+psg-if false board key value low ok = ok
+
+-- a write in the Z80's space
+granted-ok : (request : Bool) (store : Option Store) → IfSome store IsStore → IfSome (granted request store) IsStore
+granted-ok true store ok = ok
+granted-ok false store ok = tt
+
+store-ok : (store : Store) (at value : ℕ) → IsStore store → IsStore (store_written store at value)
+store-ok store at value ok = record { ram = stored_fits store.ram (at, value) ∙ ok.ram; bank = banked_fits store.bank (at, value) ok.bank }
+
+space-by : (b : Bool) (board : Board) (key : Key) (value : ℕ) (store : Store) → key.chip < 2 → IsBoard board → IsStore store
+    → IsBoard (if b then with_psg board key value else record board { store = Some store })
+space-by true board key value store low ok sound = psg-ok board key value low ok
+space-by false board key value store low ok sound = record { port1 = ok.port1; port2 = ok.port2; held = ok.held; store = sound }
+
+space-ok : (store : Option Store) (board : Board) (key : Key) (at value : ℕ) → key.chip < 2 → IsBoard board → IfSome store IsStore → IsBoard (space_written store board key at value)
+space-ok None board key at value low ok sound = ok
+space-ok (Some store) board key at value low ok sound = space-by (is_psg80 at) board key value _ low ok (store-ok store at value sound)
+
+-- a write to a line
+requested-ok : (board : Board) (bit : ℕ) → IsBoard board → IsBoard (requested board bit)
+requested-ok board bit ok = record { port1 = ok.port1; port2 = ok.port2; held = ok.held; store = ok.store }
+
+reset-ok : (b : Bool) (board : Board) → IsBoard board → IsBoard (if b then record board { reset = true; resets = counted board.resets } else record board { reset = false })
+reset-ok true board ok = record { port1 = ok.port1; port2 = ok.port2; held = ok.held; store = ok.store }
+reset-ok false board ok = record { port1 = ok.port1; port2 = ok.port2; held = ok.held; store = ok.store }
+
+even-ok : (b : Bool) (one other : Board) → IsBoard one → IsBoard other → IsBoard (if b then one else other)
+even-ok true one other first second = first
+even-ok false one other first second = second
+
+low-byte : (value : ℕ) → value % 0x100 < 0x100
+low-byte value = omega arith
+
+byte-ok : (area : Option Area) (board : Board) (key : Key) (address value : ℕ) → key.chip < 2 → IsBoard board → IsBoard (byte_written_at area board key address value)
+unfolding byte_written_in
+byte-ok None board key address value low ok = ok
+byte-ok (Some Z80Space) board key address value low ok =
+    space-ok (granted board.request board.store) board key (z80_address address) value low ok (granted-ok board.request board.store ok.store)
+byte-ok (Some InputOutput) board key address value low ok = register-ok board (register_at address) (value % 0x100) (low-byte value) ok
+byte-ok (Some BusRequest) board key address value low ok = even-ok (address % 2 == 0) _ board (requested-ok board (value % 2) ok) ok
+byte-ok (Some Z80Reset) board key address value low ok = even-ok (address % 2 == 0) _ board (reset-ok (value % 2 == 0) board ok) ok
+byte-ok (Some VideoPorts) board key address value low ok = psg-if (is_psg address && (address % 2 == 1)) board key value low ok
+
+word-ok : (area : Option Area) (board : Board) (key : Key) (address value : ℕ) → key.chip < 2 → IsBoard board → IsBoard (word_written_at area board key address value)
+unfolding word_written_in
+word-ok None board key address value low ok = ok
+word-ok (Some Z80Space) board key address value low ok =
+    space-ok (granted board.request board.store) board key (z80_address address) (value / 0x100) low ok (granted-ok board.request board.store ok.store)
+word-ok (Some InputOutput) board key address value low ok = register-ok board (register_at address) (value % 0x100) (low-byte value) ok
+word-ok (Some BusRequest) board key address value low ok = requested-ok board (value / 0x100 % 2) ok
+word-ok (Some Z80Reset) board key address value low ok = reset-ok (value / 0x100 % 2 == 0) board ok
+word-ok (Some VideoPorts) board key address value low ok = psg-if (is_psg address) board key (value % 0x100) low ok
+
+-- an access of the 68000
+pub main-ok : (board : Board) (key : Key) (request : Request68) → key.chip < 2 → IsBoard board → IsBoard (main_board board key request)
+unfolding main_board
+main-ok board key (Read8 address) low ok = ok
+main-ok board key (Read16 address) low ok = ok
+main-ok board key (Write8 address value) low ok = byte-ok (area_of address) board key address value low ok
+main-ok board key (Write16 address value) low ok = word-ok (area_of address) board key address value low ok
+main-ok board key (Ack level) low ok = ok
+main-ok board key (Word value) low ok = ok
+
+pads-ok : (b : Bool) (board : Board) (pads : Frame) → IsBoard board → IsBoard (if b then record board { pads = pads } else board)
+pads-ok true board pads ok = record { port1 = ok.port1; port2 = ok.port2; held = ok.held; store = ok.store }
+pads-ok false board pads ok = ok
+
+-- the start of a line
+pub line-ok : (board : Board) (cycle : ℕ) → IsBoard board → IsBoard (line_board board cycle)
+unfolding line_board
+line-ok board cycle ok = pads-ok (cycle % frame == 224 * line) board (pads_of board.recording (cycle / frame)) ok
+
+-- a batch of the PSG synthesis
+pub psg_board-ok : (board : Board) (cycle : ℕ) → IsBoard board → IsBoard (psg_board board cycle)
+unfolding psg_board
+psg_board-ok board cycle ok = record { port1 = ok.port1; port2 = ok.port2; held = IsPort-left_from cycle board.held ok.held; store = ok.store }
+
+-- what a request hands over
+abbrev pub HandsOver : Asked → Type 0
+HandsOver (HandOver store) = IsStore store
+HandsOver request = Unit {0}
+
+yielded-ok : (request : Bool) (board : Board) (key : Key) (store : Store) → IsBoard board → IsStore store → IsBoard (yielded request board key store).board
+yielded-ok true board key store ok sound = record { port1 = ok.port1; port2 = ok.port2; held = ok.held; store = sound }
+yielded-ok false board key store ok sound = ok
+
+taken-ok : (request : Bool) (store : Option Store) (board : Board) (key : Key) → IsBoard board → IsBoard (taken_back request store board key).board
+taken-ok true store board key ok = ok
+taken-ok false None board key ok = ok
+taken-ok false (Some store) board key ok = record { port1 = ok.port1; port2 = ok.port2; held = ok.held; store = tt }
+
+-- an access of the Z80
+pub sub-ok : (board : Board) (key : Key) (request : Asked) → key.chip < 2 → HandsOver request → IsBoard board → IsBoard (sub_access board key request).board
+unfolding sub_access
+sub-ok board key (ReadByte at) low hands ok = ok
+sub-ok board key (WriteByte at value) low hands ok = psg-if (is_psg80 at) board key value low ok
+sub-ok board key (HandOver store) low hands ok = yielded-ok board.request board key store ok hands
+sub-ok board key TakeBack low hands ok = taken-ok board.request board.store board key ok
+
+yielded-fits : (request : Bool) (board : Board) (key : Key) (store : Store) → IsStore store → Fits (HandOver store) (yielded request board key store).answer
+yielded-fits true board key store sound = tt
+yielded-fits false board key store sound = sound
+
+taken-fits : (request : Bool) (store : Option Store) (board : Board) (key : Key) → IfSome store IsStore → Fits TakeBack (taken_back request store board key).answer
+taken-fits true store board key sound = tt
+taken-fits false None board key sound = tt
+taken-fits false (Some store) board key sound = sound
+
+-- what it is told fits
+pub sub-fits : (board : Board) (key : Key) (request : Asked) → HandsOver request → IsBoard board → Fits request (sub_access board key request).answer
+unfolding sub_access
+sub-fits board key (ReadByte at) hands ok = lit< tt
+sub-fits board key (WriteByte at value) hands ok = tt
+sub-fits board key (HandOver store) hands ok = yielded-fits board.request board key store hands
+sub-fits board key TakeBack hands ok = taken-fits board.request board.store board key ok.store

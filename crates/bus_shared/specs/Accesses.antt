@@ -1,0 +1,149 @@
+-- One access: its answer, its entry in the journal, and the board after it.
+use Rattle.std.specs.Prelude.{ℕ, ◌*◌, ◌/◌, ◌%◌, ◌==◌, true, false, if◌then◌else◌, List, length, None, Bool, Some, Option}
+use Rattle.md_word.specs.Clock.{frame, line}
+use Rattle.md_word.specs.Map.{area_of}
+use Rattle.md_word.specs.declared.event.Entry.{Entry}
+use Rattle.md_word.specs.declared.key.Key.{Key}
+use Rattle.md_word.specs.declared.main_bus.Answer68.{Answer68}
+use Rattle.md_word.specs.declared.pins.Pins80.{Pins80}
+use Rattle.md_word.specs.declared.main_bus.Request68.{Request68}
+use Rattle.md_word.specs.declared.main_bus.Request68.TheVariants.{Read8, Read16, Write8, Write16, Ack, Word}
+use Rattle.md_pads.specs.Recording.{pads_of}
+use Rattle.psg_sound.specs.Port.{left_from, taken_below}
+use Rattle.psg_sound.specs.declared.write.PsgWrite.{PsgWrite}
+use Rattle.bus_shared.specs.Areas.{byte_at, byte_written_at, word_at, word_written_at}
+use Rattle.bus_shared.specs.Board.{Board}
+use Rattle.bus_shared.specs.Entries.{batch_entry, line_entry, main_entry, sub_entry}
+use Rattle.bus_shared.specs.Z80Space.{is_psg80, with_psg}
+use Rattle.z80_parcel.specs.Parcels.{Store}
+use Rattle.z80_parcel.specs.Requests.{Asked, ReadByte, WriteByte, HandOver, TakeBack, Told, Byte, Nothing, Returned, asked, told}
+use Rattle.bus_shared.specs.declared.request.Answer.{Answer}
+use Rattle.bus_shared.specs.declared.request.Answer.TheVariants as answers
+use Rattle.bus_shared.specs.declared.request.Request.{Request}
+use Rattle.bus_shared.specs.declared.request.Request.TheVariants as requests
+
+-- the value that the 68000 is given: 0 where it reads nothing
+unfoldable pub main_value : Board → Request68 → ℕ
+main_value board (Read8 address) = byte_at (area_of address) board address
+main_value board (Read16 address) = word_at (area_of address) board address
+main_value board (Write8 address value) = 0
+main_value board (Write16 address value) = 0
+main_value board (Ack level) = 0
+main_value board (Word value) = 0
+
+-- the cycles until the next word of a transfer: 34, since nothing is drawn
+abbrev pub cost_of : Request68 → ℕ
+cost_of (Word value) = 34
+cost_of request = 0
+
+-- the answer to the 68000; no access starts a transfer
+unfoldable pub main_answer : Board → Request68 → Answer68
+main_answer board request = record { value = main_value board request; transfer = None; cost = cost_of request }
+
+-- its entry
+unfoldable pub main_told : Board → Key → Request68 → Entry
+main_told board key request = main_entry key request (main_value board request)
+
+-- the board after an access of the 68000
+unfoldable pub main_board : Board → Key → Request68 → Board
+main_board board key (Write8 address value) = byte_written_at (area_of address) board key address value
+main_board board key (Write16 address value) = word_written_at (area_of address) board key address value
+main_board board key request = board
+
+-- an access of the Z80: what it is told, its entry, and the board after it
+pub record SubAccess : Type 0 where
+  pub answer : Told
+  pub entry : Entry
+  pub board : Board
+
+-- it hands its RAM over where the bus is still requested
+abbrev pub yielded : Bool → Board → Key → Store → SubAccess
+yielded true board key store = record { answer = Nothing; entry = sub_entry key 8 0 1; board = record board { store = Some store } }
+yielded false board key store = record { answer = Returned store; entry = sub_entry key 8 0 0; board = board }
+
+-- it takes its RAM back where the bus is no longer requested and has it
+abbrev pub taken_back : Bool → Option Store → Board → Key → SubAccess
+taken_back false (Some store) board key = record { answer = Returned store; entry = sub_entry key 9 0 1; board = record board { store = None } }
+taken_back request store board key = record { answer = Nothing; entry = sub_entry key 9 0 0; board = board }
+
+-- the board after the Z80 writes a byte: the PSG takes its own
+abbrev pub sub_written : Board → Key → ℕ → ℕ → Board
+sub_written board key at value = if is_psg80 at then with_psg board key value else board
+
+-- of reads and writes only the PSG's are built
+unfoldable pub sub_access : Board → Key → Asked → SubAccess
+sub_access board key (ReadByte at) = record { answer = Byte 0xff; entry = sub_entry key 6 at 0xff; board = board }
+sub_access board key (WriteByte at value) = record {
+  answer = Nothing;
+  entry = sub_entry key 7 at value;
+  board = sub_written board key at value;
+}
+sub_access board key (HandOver store) = yielded board.request board key store
+sub_access board key TakeBack = taken_back board.request board.store board key
+
+-- at the start of line 224 the pads take the recording's words of the frame
+unfoldable pub line_board : Board → ℕ → Board
+line_board board cycle =
+    if cycle % frame == 224 * line then record board { pads = pads_of board.recording (cycle / frame) } else board
+
+-- a batch of the PSG synthesis takes the writes stamped below it
+unfoldable pub psg_board : Board → ℕ → Board
+psg_board board cycle = record board { held = left_from cycle board.held }
+
+-- an answer, without where its list lies in memory
+pub data Shown : Type 0 where
+  Main : Answer68 → Shown
+  Sub : Told → Shown
+  Line : Shown
+  Fm : Shown
+  Psg : List PsgWrite → Shown
+
+abbrev pub shown : Answer → Shown
+shown (answers.Main answer) = Main answer
+shown (answers.Sub answer) = Sub (told answer)
+shown answers.Line = Line
+shown answers.Fm = Fm
+shown (answers.Psg list) = Psg list.value.items
+
+pub record Carried : Type 0 where
+  pub answer : Shown
+  pub entry : Entry
+  pub board : Board
+
+-- the interrupt level of the 68000: 0, since the VDP is not built
+abbrev pub level_of : Board → ℕ
+level_of board = 0
+
+-- the pins of the Z80: its lines; no interrupt is asked for, since the VDP is not built
+abbrev pub sub_pins : Board → Pins80
+sub_pins board = record { request = board.request; reset = board.reset; resets = board.resets; int_from = 0; int_to = 0 }
+
+-- an access of the chip whose key it is
+unfoldable pub carried : Board → Key → Request → Carried
+carried board key (requests.Main request) = record {
+  answer = Main (main_answer board request);
+  entry = main_told board key request;
+  board = main_board board key request;
+}
+carried board key (requests.Sub request) =
+    let access = sub_access board key (asked request) in
+    record { answer = Sub access.answer; entry = access.entry; board = access.board }
+carried board key requests.Line = record {
+  answer = Line;
+  entry = line_entry key (level_of (line_board board key.cycle));
+  board = line_board board key.cycle;
+}
+carried board key requests.Fm = record { answer = Fm; entry = batch_entry 11 key 0; board = board }
+carried board key (requests.Psg list) = record {
+  answer = Psg (taken_below key.cycle board.held);
+  entry = batch_entry 12 key (length (taken_below key.cycle board.held));
+  board = psg_board board key.cycle;
+}
+
+-- the chip that makes the access
+abbrev pub chip_of : Request → ℕ
+chip_of (requests.Main request) = 0
+chip_of (requests.Sub request) = 1
+chip_of requests.Line = 2
+chip_of requests.Fm = 3
+chip_of (requests.Psg list) = 4

@@ -1,0 +1,55 @@
+-- What the chips share.
+use Rattle.std.specs.Prelude.{◌<◌, List, [], ℕ, Bool, true, false, Option, None, IfSome}
+use Rattle.md_pads.specs.Pad.{Latches}
+use Rattle.md_pads.specs.Recording.{Frame}
+use Rattle.psg_sound.specs.Port.{IsPort}
+use Rattle.psg_sound.specs.declared.write.PsgWrite.{PsgWrite}
+use Rattle.z80_parcel.specs.Parcels.{IsStore, Store}
+
+pub record Board : Type 0 where
+  -- the frames of the recording
+  pub recording : List Frame
+  -- the words of the pads: the buttons that are pressed now
+  pub pads : Frame
+  -- the latches of the ports of pad 1 and pad 2
+  pub port1 : Latches
+  pub port2 : Latches
+  -- the writes that the PSG's port holds
+  pub held : List PsgWrite
+  -- whether the Z80's bus is requested, whether its reset is held, and how often that was written
+  pub request : Bool
+  pub reset : Bool
+  pub resets : ℕ
+  -- the Z80's RAM and bank register, where the bus has them
+  pub store : Option Store
+
+-- the latches of a port are bytes
+pub record IsLatched (port : Latches) : Type 0 where
+  pub value : port.value < 0x100
+  pub control : port.control < 0x100
+
+-- what holds of each board
+pub record IsBoard (board : Board) : Type 0 where
+  pub port1 : IsLatched board.port1
+  pub port2 : IsLatched board.port2
+  pub held : IsPort board.held
+  pub store : IfSome board.store IsStore
+
+-- latches at power-on
+abbrev pub cleared : Latches
+cleared = record { value = 0; control = 0 }
+
+-- the board at power-on: no button is pressed, nothing was written, and the reset is held of a Z80
+-- that has its RAM
+abbrev pub power_on : List Frame → Board
+power_on recording = record {
+  recording = recording;
+  pads = (0, 0);
+  port1 = cleared;
+  port2 = cleared;
+  held = [];
+  request = false;
+  reset = true;
+  resets = 0;
+  store = None;
+}

@@ -1,0 +1,40 @@
+-- The Z80's RAM and chips, as the 68000 sees them while the bus is granted.
+-- Genesis Technical Overview, the Z80's area and its bus request. Of the FM chip nothing is built yet.
+use Rattle.std.specs.Prelude.{ℕ, ◌%◌, ◌==◌, Bool, true, false, if◌then◌else◌, Option, Some, None, slice_index}
+use Rattle.md_word.specs.declared.key.Key.{Key}
+use Rattle.psg_sound.specs.Port.{held_with}
+use Rattle.z80_parcel.specs.Parcels.{Store, banked, is_ram, ram_place, stored}
+use Rattle.bus_shared.specs.Board.{Board}
+
+-- a byte that reaches the PSG is held until the synthesis takes it
+abbrev pub with_psg : Board → Key → ℕ → Board
+with_psg board key value = record board { held = held_with board.held key value }
+
+-- the bus is granted where it is requested and has the Z80's RAM
+abbrev pub granted : Bool → Option Store → Option Store
+granted true store = store
+granted false store = None
+
+-- the Z80's address of one of the 68000's
+abbrev pub z80_address : ℕ → ℕ
+z80_address address = address % 0x1_0000
+
+-- the PSG, as the Z80 addresses it
+abbrev pub is_psg80 : ℕ → Bool
+is_psg80 at = at == 0x7f11
+
+-- a byte that is read: RAM's, else FFh
+abbrev pub space_byte : Option Store → ℕ → ℕ
+space_byte None at = 0xff
+space_byte (Some store) at = if is_ram at then slice_index store.ram (ram_place at) % 0x100 else 0xff
+
+-- RAM and bank register after a byte is written
+abbrev pub store_written : Store → ℕ → ℕ → Store
+store_written store at value = record { ram = stored store.ram (at, value); bank = banked store.bank (at, value) }
+
+-- the board after a byte is written: the PSG takes it, or RAM or the bank register; without the grant
+-- it is lost
+abbrev pub space_written : Option Store → Board → Key → ℕ → ℕ → Board
+space_written None board key at value = board
+space_written (Some store) board key at value =
+    if is_psg80 at then with_psg board key value else record board { store = Some (store_written store at value) }

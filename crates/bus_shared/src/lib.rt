@@ -1,0 +1,14 @@
+//! What the chips share: the pads and their recording, the version register and the PSG's port, with
+//! each shared access and the pins that it leaves.
+#![tactic(auto)]
+
+mod area;
+mod entries;
+pub mod laws;
+mod register;
+mod request;
+mod shared;
+
+pub use register::Register;
+pub use request::{Answer, Request};
+pub use shared::{Shared, carry_out, pins68, pins80};

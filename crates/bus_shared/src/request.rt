@@ -1,0 +1,71 @@
+ghost use Rattle.std.specs.Prelude.{◌≡◌, List, Some, option_map};
+ghost use Rattle.bus_shared.specs.Accesses as accesses;
+ghost use Rattle.bus_shared.specs.Accesses.{shown};
+ghost use Rattle.md_word.specs.declared.main_bus.Answer68.{Answer68 as MainAnswer};
+ghost use Rattle.psg_sound.specs.declared.write.PsgWrite.{PsgWrite as Write};
+ghost use Rattle.z80_parcel.specs.Requests.{Told, told};
+
+use md_word::{Answer68, Answer80, Request68, Request80};
+use psg_sound::PsgList;
+
+/// A shared access of a chip.
+#[derive(Drop)]
+pub enum Request {
+    /// Of the 68000, chip 0.
+    Main(Request68),
+    /// Of the Z80, chip 1.
+    Sub(Request80),
+    /// The start of a line, by the drawing half of the VDP, chip 2.
+    Line,
+    /// A batch of the FM synthesis, chip 3.
+    Fm,
+    /// A batch of the PSG synthesis, chip 4: the list into which the writes for it are moved.
+    Psg(Box<PsgList>),
+}
+
+/// What a shared access answers.
+#[derive(Drop)]
+pub enum Answer {
+    /// To the 68000.
+    Main(Answer68),
+    /// To the Z80.
+    Sub(Answer80),
+    /// To the start of a line.
+    Line,
+    /// To a batch of the FM synthesis.
+    Fm,
+    /// To a batch of the PSG synthesis: the writes for it.
+    Psg(Box<PsgList>),
+}
+
+impl Answer {
+    /// What it answers to the 68000, if it does.
+    pub fn main(self) -> Option<Answer68>
+        ensures { (answer : MainAnswer) → shown self ≡ accesses.Main answer → result ≡ Some answer }
+    {
+        match self {
+            Answer::Main(answer) => Some(answer),
+            Answer::Sub(_) | Answer::Line | Answer::Fm | Answer::Psg(_) => None,
+        }
+    }
+
+    /// What it answers to the Z80, if it does.
+    pub fn sub(self) -> Option<Answer80>
+        ensures { (answer : Told) → shown self ≡ accesses.Sub answer → option_map told result ≡ Some answer }
+    {
+        match self {
+            Answer::Sub(answer) => Some(answer),
+            Answer::Main(_) | Answer::Line | Answer::Fm | Answer::Psg(_) => None,
+        }
+    }
+
+    /// The writes that it hands to the PSG synthesis, if it does.
+    pub fn list(self) -> Option<Box<PsgList>>
+        ensures { (writes : List Write) → shown self ≡ accesses.Psg writes → option_map (λ list. list.value.items) result ≡ Some writes }
+    {
+        match self {
+            Answer::Psg(list) => Some(list),
+            Answer::Main(_) | Answer::Sub(_) | Answer::Line | Answer::Fm => None,
+        }
+    }
+}

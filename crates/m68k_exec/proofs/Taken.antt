@@ -1,0 +1,32 @@
+-- How many answers an action has taken.
+use Rattle.std.proofs.Common.{◌≡◌, ℕ, ◌+◌, ◌∙◌, true, false, nat_lt, ◌++◌, ◌∷◌, [], length, Result, Ok, Err, refl, ◌%◌, ◌/◌, if◌then◌else◌, slice_index}
+use Rattle.md_word.specs.declared.main_bus.Request68.{Request68}
+use Rattle.m68k_exec.specs.Access.Actions as actions
+use Rattle.m68k_exec.specs.Access.Actions.{Done}
+use Rattle.m68k_exec.specs.Access.Memory.{Memory, is_ram}
+use Rattle.m68k_exec.specs.declared.access.stop.Stop.{Stop}
+use Rattle.m68k_exec.specs.declared.access.stop.Stop.TheVariants.{Ask, Odd}
+
+-- how many answers were taken at the end, or before an address error
+unfoldable pub used_of : {A : Type 0} → Result (A × Done) Stop → ℕ
+used_of (Ok x) = x.1.used
+used_of (Err (Ask request)) = 0
+used_of (Err (Odd address read used)) = used
+
+pub answered : (request : Request68) (memory : Memory) (before : Done) → nat_lt before.used (length memory.answers) ≡ true → actions.asked request memory before ≡ Ok (slice_index memory.answers before.used, record before { used = before.used + 1 })
+unfolding actions.asked
+answered request memory before e = rw e
+
+pub unanswered : (request : Request68) (memory : Memory) (before : Done) → nat_lt before.used (length memory.answers) ≡ false → actions.asked request memory before ≡ Err (Ask request)
+unfolding actions.asked
+unanswered request memory before e = rw e
+
+-- private writes take none
+pub with_byte-used : (at value : ℕ) (done : Done) → (actions.with_byte at value done).used ≡ done.used
+unfolding actions.with_byte
+with_byte-used at value done = elim (is_ram at) as (λ b. (if b then record done { writes = done.writes ++ (at, value) ∷ [] } else done).used ≡ done.used) [ true ↦ refl | false ↦ refl ]
+
+pub with_word-used : (at value : ℕ) (done : Done) → (actions.with_word at value done).used ≡ done.used
+unfolding actions.with_word
+with_word-used at value done =
+    with_byte-used (at + 1) (value % 0x100) (actions.with_byte at (value / 0x100) done) ∙ with_byte-used at (value / 0x100) done
