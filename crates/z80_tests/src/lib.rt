@@ -4,6 +4,12 @@
 #[cfg(test)]
 mod alu;
 #[cfg(test)]
+mod case;
+#[cfg(test)]
+mod chip;
+#[cfg(test)]
 mod decode;
 #[cfg(test)]
 mod names;
+#[cfg(test)]
+mod samples;

@@ -1,0 +1,23 @@
+use Rattle.std.proofs.Common.{◌≡◌, ◌∙◌, ℕ, List, ap, sym, subst, Some, replicate}
+use Rattle.std.specs.Arc.{arc_value}
+use Rattle.rom_header.specs.Cartridge.{IsImage}
+use Rattle.z80_chip.specs.Sound.{IsChip80}
+use Rattle.z80_chip.specs.States.{State80, power_on, state_of}
+use Rattle.z80_chip.proofs.Laws.{of, power_on-ok}
+use Rattle.z80_chip.proofs.chip.Chip80.power_on.Goals as goal
+
+made : (c : goal.After-new) → state_of c.power_on.result (Some c.in_ok-parcel.parcel) ≡ power_on
+unfolding power_on
+made c =
+    let first = c.in_ok-parcel.ensures {u = tt} in
+    c.power_on.ensures (Some c.in_ok-parcel.parcel)
+    ∙ ap (λ (l : List ℕ). record power_on { store = Some (record { ram = l; bank = c.in_ok-parcel.parcel.bank }) }) first.ram
+    ∙ ap (λ (n : ℕ). record power_on { store = Some (record { ram = replicate 0x2000 0; bank = n }) }) first.bank
+
+pub invariant_of-result : goal.invariant_of-result
+invariant_of-result c =
+    subst (λ (state : State80). IsChip80 (of (arc_value c.args.cart) state)) (sym (made c))
+    (power_on-ok (arc_value c.args.cart) (subst (λ (image : List ℕ). IsImage image) c.deref.ensures c.bytes.ensures.image))
+
+pub returns : goal.returns
+returns c = ap (λ (state : State80). of (arc_value c.args.cart) state) (made c)

@@ -1,0 +1,4 @@
+pub mod Cases
+pub mod Events
+pub mod Sound
+pub mod States

@@ -1,0 +1,18 @@
+/// What the Z80 does at a sample.
+#[derive(Clone, Copy)]
+pub enum Case {
+    /// The bus is requested: it hands over its RAM.
+    Yield,
+    /// The bus is no longer requested: it takes its RAM back.
+    Take,
+    /// The bus has its RAM: it does nothing.
+    Suspended,
+    /// Its reset is held: it does nothing.
+    InReset,
+    /// The interrupt is taken.
+    Interrupt,
+    /// It is halted, and does nothing.
+    Halted,
+    /// The instruction at the program counter.
+    Instruction,
+}

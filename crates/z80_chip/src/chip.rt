@@ -1,0 +1,111 @@
+ghost use Rattle.std.specs.Prelude.{◌≡◌, ◌^◌, ◌<◌, true, false, IfOk};
+
+use crate::sequencer::Sequencer;
+use crate::stage::Stage;
+use md_word::{Answer80, Key, Next, NoMemory, Parcel, Pins80, Request80};
+use rom_header::Cart;
+use std::alloc::Global;
+use std::marker::Model;
+use std::sync::Arc;
+use z80_exec::Progress80;
+use z80_parcel::first;
+
+/// The Z80, with the cartridge, and with its RAM and bank register where it has them. It stands at
+/// its next event, and what it does without other chips belongs to the event before. Cycles are
+/// master cycles, 15 a clock. Source: Zilog UM0080; the places of events and the bus request are this
+/// project's profile.
+#[derive(Drop)]
+pub struct Chip80 {
+    cart: Arc<Cart>,
+    parcel: Option<Parcel>,
+    sequencer: Sequencer,
+    progress: Progress80,
+}
+
+impl Model for Chip80 {
+    ghost use Rattle.std.specs.Arc.{arc_value};
+    ghost use Rattle.z80_chip.specs.Sound.{Chip80Value, IsChip80};
+    ghost use Rattle.z80_chip.specs.States.{state_of};
+
+    ghost Value = { Chip80Value };
+
+    ghost view = { λ chip. record { cart = arc_value chip.cart; state = state_of chip.sequencer chip.parcel } };
+
+    ghost invariant = { λ chip. IsChip80 (record { cart = arc_value chip.cart; state = state_of chip.sequencer chip.parcel }) };
+}
+
+impl Chip80 {
+    ghost use Rattle.std.specs.Arc.{arc_value};
+    ghost use Rattle.z80_chip.specs.Events.{answered, asked_of, begun, handed};
+    ghost use Rattle.z80_chip.specs.Sound.{IsChip80};
+    ghost use Rattle.z80_parcel.specs.Requests.{Fits, asked, told};
+    ghost use Rattle.z80_chip.specs.States.{next_of, power_on};
+
+    /// The Z80 at power-on: its next event is a sample at cycle 0, and all is 0. It has its RAM. It is
+    /// refused where there is no memory for it.
+    pub fn power_on(alloc: Global, cart: Arc<Cart>) -> Result<Chip80, NoMemory>
+        ensures { IfOk result (λ chip. chip ≡ record { cart = arc_value cart; state = power_on }) }
+    {
+        cart.bytes();
+        let parcel = first(alloc)?;
+        Ok(Chip80 {
+            cart,
+            parcel: Some(parcel),
+            sequencer: Sequencer::power_on(),
+            progress: Progress80::new(),
+        })
+    }
+
+    /// The next event. The Z80 is chip 1.
+    #[tactic(auto, unfolding(crate::specs::States::next_of))]
+    pub fn next(&self) -> Next
+        ensures value { result ≡ next_of self.now.state }
+        ensures sound { IsChip80 self.now }
+    {
+        Next {
+            key: Key {
+                cycle: self.sequencer.next,
+                chip: 1,
+            },
+            sample: matches!(self.sequencer.stage, Stage::Sample),
+        }
+    }
+
+    /// The request of the access that is the next event: a read or a write, to hand its RAM over, or to
+    /// take it back. What a yield hands over the Z80 has no longer.
+    pub fn request(&mut self) -> Request80
+        requires { (next_of self.old.state).sample ≡ false }
+        ensures request { asked result ≡ asked_of self.old.cart self.old.state }
+        ensures chip { self.new ≡ record self.old { state = handed self.old.state } }
+    {
+        self.sequencer
+            .request(&self.cart, &mut self.parcel, &mut self.progress)
+    }
+
+    /// Takes the answer to the access that is the next event, and goes on to the event after it. RAM
+    /// and the bank register are written once all accesses of an instruction are answered, and not
+    /// before. After a yield or a take the Z80 has what the answer gives back.
+    pub fn answer(&mut self, answer: Answer80)
+        requires asking { (next_of self.old.state).sample ≡ false }
+        requires far { self.old.state.next < 2 ^ 50 }
+        requires fits { Fits (asked_of self.old.cart self.old.state) (told answer) }
+        ensures { self.new ≡ record self.old { state = answered self.old.cart self.old.state (told answer) } }
+    {
+        self.sequencer
+            .answer(answer, &self.cart, &mut self.parcel, &mut self.progress);
+    }
+
+    /// Takes the sample that is the next event, and goes on to the event after it. First it looks at the
+    /// reset. Then it hands its RAM over where the bus is requested, takes it back where that is
+    /// over, does nothing where it has no RAM, is in reset or is halted, takes the interrupt, or
+    /// carries out the instruction at the program counter, up to the first shared access if there is
+    /// one.
+    pub fn sample(&mut self, pins: Pins80)
+        requires sampling { (next_of self.old.state).sample ≡ true }
+        requires far { self.old.state.next < 2 ^ 50 }
+        ensures { self.new ≡ record self.old { state = begun self.old.cart self.old.state pins } }
+    {
+        self.sequencer
+            .begin(&pins, &self.cart, &mut self.parcel, &mut self.progress);
+    }
+}

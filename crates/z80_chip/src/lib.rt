@@ -1,0 +1,10 @@
+//! The Z80 as a chip with events: a sample of its pins at the start of an instruction, an access to
+//! what other chips share, or the handing over of its RAM.
+#![tactic(auto)]
+
+mod case;
+mod chip;
+mod sequencer;
+mod stage;
+
+pub use chip::Chip80;

@@ -1,0 +1,5 @@
+pub mod Accesses
+pub mod Cover
+pub mod Rows
+pub mod Samples
+pub mod Steps

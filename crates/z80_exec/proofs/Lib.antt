@@ -1,0 +1,4 @@
+pub mod Bounds
+pub mod Compares
+pub mod Meaning
+pub mod Refresh

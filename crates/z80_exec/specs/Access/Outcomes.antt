@@ -1,0 +1,18 @@
+-- What an instruction comes to.
+use Rattle.std.specs.Prelude.{Bool, true, false}
+use Rattle.z80_exec.specs.declared.regs80.Regs80.{Regs80}
+
+-- the registers after it, and whether it took the longer of two times: a jump, a call or a return was
+-- taken, or a block instruction goes on
+pub record Outcome : Type 0 where
+  pub regs : Regs80
+  pub taken : Bool
+
+abbrev pub outcome_of : Bool → Regs80 → Outcome
+outcome_of taken regs = record { regs = regs; taken = taken }
+
+abbrev pub plain : Regs80 → Outcome
+plain regs = outcome_of false regs
+
+abbrev pub taken : Regs80 → Outcome
+taken regs = outcome_of true regs

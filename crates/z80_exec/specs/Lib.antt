@@ -1,0 +1,4 @@
+pub mod Access
+pub mod Laws
+pub mod Rows
+pub mod Sample

@@ -1,0 +1,92 @@
+ghost use Rattle.std.specs.Prelude.{◌≡◌, ◌+◌, ◌≤◌};
+ghost use Rattle.arrayvec.specs.ArrayVec.{array_vec_len};
+ghost use Rattle.z80_exec.specs.Access.Actions as actions;
+ghost use Rattle.z80_exec.specs.Access.Clauses.{Meets, done_of, memory_of, request_of};
+
+pub mod conditions;
+pub mod memory;
+pub mod operands;
+pub mod view;
+pub mod waiting;
+
+use crate::access::memory::{byte_seen, is_shared_read, is_shared_write, put_byte};
+use crate::regs80::{high, low};
+use crate::{Around, Progress80, Waiting};
+
+/// A shared access: takes the next answer, or gives what waits for it.
+#[tactic(auto, unfolding(crate::specs::Access::Actions::asked))]
+fn ask(waiting: Waiting, around: &Around, progress: &mut Progress80) -> Result<u8, Waiting>
+    ensures value { Meets result (done_of progress.new) (actions.asked (request_of waiting) (memory_of around.now) (done_of progress.old)) }
+    ensures written { array_vec_len progress.new.writes ≤ array_vec_len progress.old.writes }
+{
+    if progress.used < around.answers.len() {
+        let answer = around.answers[progress.used];
+        progress.used += 1;
+        Ok(answer)
+    } else {
+        Err(waiting)
+    }
+}
+
+/// A shared write, whose answer tells nothing.
+#[tactic(auto, unfolding(crate::specs::Access::Actions::told))]
+fn tell(waiting: Waiting, around: &Around, progress: &mut Progress80) -> Result<(), Waiting>
+    ensures value { Meets result (done_of progress.new) (actions.told (request_of waiting) (memory_of around.now) (done_of progress.old)) }
+    ensures written { array_vec_len progress.new.writes ≤ array_vec_len progress.old.writes }
+{
+    ask(waiting, around, progress)?;
+    Ok(())
+}
+
+/// Reads the byte at an address.
+#[tactic(auto, unfolding(crate::specs::Access::Actions::read))]
+pub fn read(at: u16, around: &Around, progress: &mut Progress80) -> Result<u8, Waiting>
+    ensures value { Meets result (done_of progress.new) (actions.read at (memory_of around.now) (done_of progress.old)) }
+    ensures written { array_vec_len progress.new.writes ≤ array_vec_len progress.old.writes }
+{
+    if is_shared_read(at) {
+        ask(Waiting::Read(at), around, progress)
+    } else {
+        Ok(byte_seen(at, around, progress))
+    }
+}
+
+/// Writes the byte at an address.
+#[tactic(auto, unfolding(crate::specs::Access::Actions::write))]
+pub fn write(at: u16, value: u8, around: &Around, progress: &mut Progress80) -> Result<(), Waiting>
+    requires { array_vec_len progress.old.writes + 1 ≤ 4 }
+    ensures value { Meets result (done_of progress.new) (actions.write at value (memory_of around.now) (done_of progress.old)) }
+    ensures written { array_vec_len progress.new.writes ≤ array_vec_len progress.old.writes + 1 }
+{
+    if is_shared_write(at) {
+        return tell(Waiting::Write(at, value), around, progress);
+    }
+    put_byte(at, value, progress);
+    Ok(())
+}
+
+/// Reads the word at an address, its low byte first.
+#[tactic(auto, unfolding(crate::specs::Access::Actions::read_word))]
+pub fn read_word(at: u16, around: &Around, progress: &mut Progress80) -> Result<u16, Waiting>
+    ensures value { Meets result (done_of progress.new) (actions.read_word at (memory_of around.now) (done_of progress.old)) }
+    ensures written { array_vec_len progress.new.writes ≤ array_vec_len progress.old.writes }
+{
+    let low = read(at, around, progress)?;
+    let high = read(at.wrapping_add(1), around, progress)?;
+    Ok(u16::from(high) * 0x100 + u16::from(low))
+}
+
+/// Writes the word at an address, its low byte first.
+#[tactic(auto, unfolding(crate::specs::Access::Actions::write_word))]
+pub fn write_word(
+    at: u16,
+    value: u16,
+    around: &Around,
+    progress: &mut Progress80,
+) -> Result<(), Waiting>
+    requires { array_vec_len progress.old.writes + 2 ≤ 4 }
+    ensures value { Meets result (done_of progress.new) (actions.write_word at value (memory_of around.now) (done_of progress.old)) }
+{
+    write(at, low(value), around, progress)?;
+    write(at.wrapping_add(1), high(value), around, progress)
+}

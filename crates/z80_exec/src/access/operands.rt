@@ -1,0 +1,92 @@
+ghost use Rattle.std.specs.Prelude.{◌≡◌, ◌+◌, ◌≤◌};
+ghost use Rattle.arrayvec.specs.ArrayVec.{array_vec_len};
+ghost use Rattle.z80_exec.specs.Access.Clauses.{Leaves, Meets, Pops, done_of, memory_of};
+ghost use Rattle.z80_exec.specs.Access.Operands as operands;
+
+use crate::access::{read, read_word, write};
+use crate::regs80::{displaced, high, low};
+use crate::{Around, Progress80, Regs80, Waiting};
+use z80_decode::Place8;
+
+/// The address of a place in memory.
+#[tactic(auto, unfolding(crate::specs::Access::Operands::address_of))]
+fn address(place: Place8, regs: &Regs80) -> Option<u16>
+    ensures { result ≡ operands.address_of place regs.now }
+{
+    match place {
+        Place8::AtBc => Some(regs.bc),
+        Place8::AtDe => Some(regs.de),
+        Place8::AtHl => Some(regs.hl),
+        Place8::AtIx(distance) => Some(displaced(regs.ix, distance)),
+        Place8::AtIy(distance) => Some(displaced(regs.iy, distance)),
+        Place8::At(at) => Some(at),
+        _ => None,
+    }
+}
+
+/// Reads an operand: the byte in memory, the register or the number.
+#[tactic(auto, unfolding(crate::specs::Access::Operands::fetch))]
+pub fn fetch(
+    place: Place8,
+    around: &Around,
+    regs: &Regs80,
+    progress: &mut Progress80,
+) -> Result<u8, Waiting>
+    ensures value { Meets result (done_of progress.new) (operands.fetch place regs.now (memory_of around.now) (done_of progress.old)) }
+    ensures written { array_vec_len progress.new.writes ≤ array_vec_len progress.old.writes }
+{
+    match address(place, regs) {
+        Some(at) => read(at, around, progress),
+        None => Ok(regs.byte(place)),
+    }
+}
+
+/// Puts a byte in its place.
+#[tactic(auto, unfolding(crate::specs::Access::Operands::put, crate::specs::Access::Operands::put_memory))]
+pub fn put(
+    place: Place8,
+    value: u8,
+    around: &Around,
+    regs: &mut Regs80,
+    progress: &mut Progress80,
+) -> Result<(), Waiting>
+    requires { array_vec_len progress.old.writes + 1 ≤ 4 }
+    ensures value { Leaves result regs.new (done_of progress.new) (operands.put place value regs.old (memory_of around.now) (done_of progress.old)) }
+{
+    match address(place, regs) {
+        Some(at) => write(at, value, around, progress),
+        None => {
+            regs.set_byte(place, value);
+            Ok(())
+        }
+    }
+}
+
+/// Pushes a word: its high byte below the stack pointer, and its low byte below that.
+#[tactic(auto, unfolding(crate::specs::Access::Operands::push))]
+pub fn push(
+    value: u16,
+    around: &Around,
+    regs: &mut Regs80,
+    progress: &mut Progress80,
+) -> Result<(), Waiting>
+    requires { array_vec_len progress.old.writes + 2 ≤ 4 }
+    ensures value { Leaves result regs.new (done_of progress.new) (operands.push value regs.old (memory_of around.now) (done_of progress.old)) }
+{
+    let above = regs.sp.wrapping_sub(1);
+    let below = above.wrapping_sub(1);
+    write(above, high(value), around, progress)?;
+    write(below, low(value), around, progress)?;
+    regs.sp = below;
+    Ok(())
+}
+
+/// Pops a word: its low byte where the stack pointer points to, and its high byte above that.
+#[tactic(auto, unfolding(crate::specs::Access::Operands::pop))]
+pub fn pop(around: &Around, regs: &mut Regs80, progress: &mut Progress80) -> Result<u16, Waiting>
+    ensures value { Pops result regs.new (done_of progress.new) (operands.pop regs.old (memory_of around.now) (done_of progress.old)) }
+{
+    let value = read_word(regs.sp, around, progress)?;
+    regs.sp = regs.sp.wrapping_add(2);
+    Ok(value)
+}

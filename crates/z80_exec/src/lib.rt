@@ -1,0 +1,16 @@
+//! What the Z80 does at a sample: an instruction or an interrupt, over private memory, the answers of
+//! its shared accesses so far, and the bytes written so far.
+#![tactic(auto)]
+
+mod access;
+pub mod laws;
+mod regs80;
+mod rows;
+mod sample;
+
+use access::view::Around;
+pub use access::view::Progress80;
+use access::waiting::Waiting;
+pub use regs80::Regs80;
+pub use sample::go;
+pub use sample::step::{Finish80, Step80};

@@ -1,0 +1,24 @@
+ghost use Rattle.z80_exec.specs.Access.Clauses.{Ends, done_of, memory_of};
+ghost use Rattle.z80_exec.specs.Rows.Bits as bits;
+
+use crate::access::operands::fetch;
+use crate::{Around, Progress80, Regs80, Waiting};
+use z80_alu::compute;
+use z80_decode::{Bit, Place8, Task80};
+
+/// BIT.
+#[tactic(auto, unfolding(crate::specs::Rows::Bits::test_bit))]
+pub fn test_bit(
+    bit: Bit,
+    place: Place8,
+    around: &Around,
+    regs: &mut Regs80,
+    progress: &mut Progress80,
+) -> Result<bool, Waiting>
+    ensures { Ends result regs.new (done_of progress.new) (bits.test_bit bit place regs.old (memory_of around.now) (done_of progress.old)) }
+{
+    let value = fetch(place, around, regs, progress)?;
+    let out = compute(Task80::Test(bit), regs.a(), value, regs.f());
+    regs.set_f(out.f);
+    Ok(false)
+}

@@ -1,0 +1,57 @@
+-- What the Z80 asks of the bus, and what it is answered, without where a parcel's RAM lies in memory.
+use Rattle.std.specs.Prelude.{ℕ, ◌<◌, Option, Some, None}
+use Rattle.md_word.specs.declared.sub_bus.Answer80.{Answer80}
+use Rattle.md_word.specs.declared.sub_bus.Answer80.TheVariants as answers
+use Rattle.md_word.specs.declared.sub_bus.Request80.{Request80}
+use Rattle.md_word.specs.declared.sub_bus.Request80.TheVariants as requests
+use Rattle.z80_parcel.specs.Parcels.{IsStore, Store, store_of}
+
+pub data Asked : Type 0 where
+  ReadByte : ℕ → Asked
+  WriteByte : ℕ → ℕ → Asked
+  HandOver : Store → Asked
+  TakeBack : Asked
+
+abbrev pub asked : Request80 → Asked
+asked (requests.Read at) = ReadByte at
+asked (requests.Write at value) = WriteByte at value
+asked (requests.Yield parcel) = HandOver (store_of parcel)
+asked requests.Take = TakeBack
+
+pub data Told : Type 0 where
+  Byte : ℕ → Told
+  Nothing : Told
+  Returned : Store → Told
+
+abbrev pub told : Answer80 → Told
+told (answers.Value value) = Byte value
+told answers.Done = Nothing
+told (answers.Back parcel) = Returned (store_of parcel)
+
+-- the value that an answer tells; nothing is told by the answer to a write
+abbrev pub value_in : Told → ℕ
+value_in (Byte value) = value
+value_in Nothing = 0
+value_in (Returned store) = 0
+
+-- what an answer gives back
+abbrev pub store_in : Told → Option Store
+store_in (Byte value) = None
+store_in Nothing = None
+store_in (Returned store) = Some store
+
+-- an answer that the board can give to a request: a byte to a read, nothing to a write, and RAM, if
+-- any, to a yield and a take
+abbrev pub Fits : Asked → Told → Type 0
+Fits (ReadByte at) (Byte value) = value < 0x100
+Fits (ReadByte at) Nothing = ⊥
+Fits (ReadByte at) (Returned store) = ⊥
+Fits (WriteByte at written) (Byte value) = ⊥
+Fits (WriteByte at written) Nothing = Unit {0}
+Fits (WriteByte at written) (Returned store) = ⊥
+Fits (HandOver handed) (Byte value) = ⊥
+Fits (HandOver handed) Nothing = Unit {0}
+Fits (HandOver handed) (Returned store) = IsStore store
+Fits TakeBack (Byte value) = ⊥
+Fits TakeBack Nothing = Unit {0}
+Fits TakeBack (Returned store) = IsStore store

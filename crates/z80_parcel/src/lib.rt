@@ -1,0 +1,7 @@
+//! The Z80's RAM and its bank register, which move between the Z80 and the bus as one parcel.
+#![tactic(auto)]
+
+pub mod laws;
+mod parcel;
+
+pub use parcel::{RAM_END, first, is_bank, known, read, shift, store, store_byte};
