@@ -1,4 +1,4 @@
-use crate::machine::idle;
+use crate::machine::{idle, no_recording};
 use chip_core::Event;
 use md_machine::first_core;
 use md_word::Key;
@@ -29,7 +29,7 @@ fn events_wait_for_lower_bounds(rt: HostRuntime) -> Result<(), Fail> {
         (100, &FIRST, 4),
     ];
     for (t, list, want) in rows {
-        let core = first_core(rt.alloc(), idle(rt.alloc())?, 8);
+        let core = first_core(rt.alloc(), idle(rt.alloc())?, no_recording(rt.alloc())?, 8);
         let mut core = core.map_err(|_| Fail::from("no memory"))?;
         assert!(rt; t <= 100 && list.len() <= 5);
         assert_eq!(rt; core.run_events(t, list), want);
@@ -39,7 +39,7 @@ fn events_wait_for_lower_bounds(rt: HostRuntime) -> Result<(), Fail> {
 
 #[test]
 fn four_events_leave_their_bounds(rt: HostRuntime) -> Result<(), Fail> {
-    let core = first_core(rt.alloc(), idle(rt.alloc())?, 8);
+    let core = first_core(rt.alloc(), idle(rt.alloc())?, no_recording(rt.alloc())?, 8);
     let mut core = core.map_err(|_| Fail::from("no memory"))?;
     assert_eq!(rt; core.run_events(1, &FIRST[..4]), 4);
     assert_eq!(rt; core.some_enabled(1), None);

@@ -6,6 +6,12 @@ mod events;
 #[cfg(test)]
 mod machine;
 #[cfg(test)]
+mod pads;
+#[cfg(test)]
 mod program;
 #[cfg(test)]
 mod sort;
+#[cfg(test)]
+mod words;
+#[cfg(test)]
+mod z80;

@@ -1,6 +1,7 @@
 ghost use Rattle.std.specs.Prelude.{◌≡◌, ◌+◌, ◌≤◌, ◌<◌, [], length, IfOk};
 
 use md_machine::Machine;
+use md_pads::Recording;
 use rom_header::Cart;
 use std::alloc::Global;
 use std::sync::Arc;
@@ -32,13 +33,19 @@ fn beep(alloc: Global) -> Result<Arc<Cart>, Fail> {
     cartridge(alloc, 0x1c0, &program)
 }
 
-/// The machine at power-on.
+/// A recording of no frames.
+pub fn no_recording(alloc: Global) -> Result<Arc<Recording>, Fail> {
+    Ok(Arc::new(alloc, Recording::empty(alloc))?)
+}
+
+/// The machine at power-on, with no button pressed.
 pub fn power_on(alloc: Global, cart: Arc<Cart>) -> Result<Machine, Fail>
     ensures at { IfOk result (λ machine. machine.at ≡ 0) }
     ensures entries { IfOk result (λ machine. machine.entries ≡ []) }
     ensures levels { IfOk result (λ machine. machine.levels ≡ []) }
 {
-    Machine::power_on(alloc, cart).map_err(|_| Fail::from("no memory"))
+    let recording = no_recording(alloc)?;
+    Machine::power_on(alloc, cart, recording).map_err(|_| Fail::from("no memory"))
 }
 
 /// Brings the machine to a cycle, and gives the bytes of its entries and pairs since it was last
@@ -160,10 +167,10 @@ const ACCESSES: [u8; 46] = [
 ];
 
 // Chip, kind, address and value of the records of the 68000, and of the batch of the PSG, which tells
-// how many writes it took. Reads answer all ones. The PSG hears a byte at an odd address and the low
-// byte of a word.
+// how many writes it took. The data of a pad with no button is 7Fh, and the VDP, which is not built,
+// answers all ones. The PSG hears a byte at an odd address and the low byte of a word.
 const ACCESS_RECORDS: &[u8; 56] = b"\
-\x00\x00\0\xa1\x00\x03\x00\xff\
+\x00\x00\0\xa1\x00\x03\x00\x7f\
 \x00\x01\0\xc0\x00\x04\xff\xff\
 \x00\x02\0\xc0\x00\x11\x00\x9f\
 \x00\x02\0\xc0\x00\x12\x00\xaa\

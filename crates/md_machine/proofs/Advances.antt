@@ -1,11 +1,16 @@
--- The answer that the 68000 keeps fits its request.
-use Rattle.std.proofs.Common.{◌≡◌, Some, None, IfSome, refl, sym, ap, subst}
+-- The answer that a processor keeps fits its request.
+use Rattle.std.proofs.Common.{◌≡◌, IfSome, sym, ap, subst, ℕ, ◌<◌, ◌^◌, false, refl, ◌∙◌}
+use Rattle.z80_chip.specs.Events.{asked_of, handed}
+use Rattle.z80_chip.specs.States.{State80, next_of as sub_next_of}
+use Rattle.md_word.specs.declared.event.Next.{Next}
+use Rattle.z80_parcel.specs.Requests as told80
 use Rattle.m68k_chip.specs.Events.{request_of}
 use Rattle.m68k_chip.specs.Sound.{Fits}
-use Rattle.md_machine.specs.Laws.{answer-fits}
-use Rattle.md_machine.specs.Parts.{BoardValue}
-use Rattle.md_machine.specs.Refinement.{main_of}
-use Rattle.md_machine.specs.Rules.{main_perform, perform}
+use Rattle.md_machine.specs.Laws.{answer-fits, told-fits}
+use Rattle.bus_shared.specs.Board.{Board, IsBoard}
+use Rattle.md_machine.specs.Refinement.{main_of, sub_of}
+use Rattle.md_machine.specs.Rules.{perform, IsChip, next}
+use Rattle.md_machine.specs.Parts.{SubValue}
 use Rattle.md_machine.specs.declared.chips.Chip.{Chip}
 use Rattle.md_machine.specs.declared.chips.Chip.TheVariants.{Main, Sub, Line, Fm, Psg}
 use Rattle.md_machine.specs.declared.main_chip.MainChip.{MainChip}
@@ -13,9 +18,40 @@ use Rattle.md_machine.specs.declared.main_chip.MainChip.{MainChip}
 abbrev AnswerFits : MainChip → Type 0
 AnswerFits c = IfSome c.answer (Fits (request_of c.chip.cart c.chip.state))
 
-pub performed-fits : (before : Chip) (s : BoardValue) (c : MainChip) → Main c ≡ (perform before s).chip → IfSome c.answer (Fits (request_of c.chip.cart c.chip.state))
-performed-fits (Main b) s c is = subst AnswerFits (sym (ap main_of is)) (answer-fits (request_of b.chip.cart b.chip.state))
-performed-fits (Sub b) s c is = cc
-performed-fits (Line b) s c is = cc
-performed-fits (Fm b) s c is = cc
-performed-fits (Psg b) s c is = cc
+pub performed-fits : (before : Chip) (s : Board) → IsBoard s → (c : MainChip) → Main c ≡ (perform before s).chip → IfSome c.answer (Fits (request_of c.chip.cart c.chip.state))
+performed-fits (Main b) s ok c is = subst AnswerFits (sym (ap main_of is)) (answer-fits s (request_of b.chip.cart b.chip.state) ok)
+performed-fits (Sub b) s ok c is = cc
+performed-fits (Line b) s ok c is = cc
+performed-fits (Fm b) s ok c is = cc
+performed-fits (Psg b) s ok c is = cc
+
+abbrev ToldFits : SubValue → Type 0
+ToldFits c = IfSome c.answer (told80.Fits (asked_of c.chip.cart c.chip.state))
+
+pub performed-told : (before : Chip) (s : Board) → IsChip before → IsBoard s → (c : SubValue) → Sub c ≡ (perform before s).chip → IfSome c.answer (told80.Fits (asked_of c.chip.cart c.chip.state))
+performed-told (Main b) s sound ok c is = cc
+performed-told (Sub b) s sound ok c is = subst ToldFits (sym (ap sub_of is)) (told-fits b s sound ok)
+performed-told (Line b) s sound ok c is = cc
+performed-told (Fm b) s sound ok c is = cc
+performed-told (Psg b) s sound ok c is = cc
+
+-- a Z80 that handed something over stands at the same access
+handed-same : (state : State80) → (sub_next_of (handed state) ≡ sub_next_of state) × ((handed state).next ≡ (sub_next_of state).key.cycle)
+unfolding sub_next_of handed
+handed-same state = (refl, refl)
+
+pub performed-kind : (before : Chip) (s : Board) (c : SubValue) → Sub c ≡ (perform before s).chip → (next before).sample ≡ false → (sub_next_of c.chip.state).sample ≡ false
+performed-kind (Main b) s c is kind = cc
+performed-kind (Sub b) s c is kind =
+    subst (λ (v : SubValue). (sub_next_of v.chip.state).sample ≡ false) (sym (ap sub_of is)) (ap (λ (n : Next). n.sample) (handed-same b.chip.state).0 ∙ kind)
+performed-kind (Line b) s c is kind = cc
+performed-kind (Fm b) s c is kind = cc
+performed-kind (Psg b) s c is kind = cc
+
+pub performed-cycle : (before : Chip) (s : Board) (c : SubValue) → Sub c ≡ (perform before s).chip → (next before).key.cycle < 2 ^ 50 → c.chip.state.next < 2 ^ 50
+performed-cycle (Main b) s c is below = cc
+performed-cycle (Sub b) s c is below =
+    subst (λ (v : SubValue). v.chip.state.next < 2 ^ 50) (sym (ap sub_of is)) (subst (λ (n : ℕ). n < 2 ^ 50) (sym (handed-same b.chip.state).1) below)
+performed-cycle (Line b) s c is below = cc
+performed-cycle (Fm b) s c is below = cc
+performed-cycle (Psg b) s c is below = cc

@@ -5,6 +5,7 @@ use Rattle.md_word.specs.declared.key.Key.{Key}
 use Rattle.chip_core.specs.Machines.{least_below}
 use Rattle.chip_core.proofs.Keys.{least-is, rank}
 use Rattle.m68k_chip.specs.States.{next_of}
+use Rattle.z80_chip.specs.States.{next_of as sub_next_of}
 use Rattle.md_machine.specs.Console.{Console, key_in, mover}
 use Rattle.md_machine.proofs.Moves.{five-each}
 
@@ -28,7 +29,7 @@ least-next key i =
 
 -- each of the five keys has its chip's number
 small : (m : Console) (i : ℕ) → i < 5 → (key_in m i).chip < 8
-unfolding key_in next_of
+unfolding key_in next_of sub_next_of
 small m = five-each (λ i. (key_in m i).chip < 8) (lit< tt) (lit< tt) (lit< tt) (lit< tt) (lit< tt)
 
 -- no event of the five stands before that of the chip that moves

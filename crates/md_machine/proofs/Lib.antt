@@ -6,6 +6,7 @@ pub mod Kept
 pub mod LeastKeys
 pub mod Lifts
 pub mod Moves
+pub mod Pads
 pub mod Samples
 pub mod Segments
 pub mod Silent

@@ -1,31 +1,34 @@
 -- A move of the five chips is the record's move.
-use Rattle.std.proofs.Common.{◌≡◌, ℕ, zero, suc, ◌/◌, ◌%◌, ◌^◌, ◌<◌, Bool, true, false, cond, List, [], ◌∷◌, length, refl, sym, ap, ◌∙◌, arith, lit<}
+use Rattle.std.proofs.Common.{◌≡◌, ℕ, zero, suc, ◌<◌, Bool, true, false, cond, List, [], ◌∷◌, length, refl, sym, ap, ◌∙◌, arith, lit<}
 use Rattle.md_word.specs.declared.event.Entry.{Entry}
 use Rattle.md_word.specs.declared.key.Key.{Key}
 use Rattle.chip_core.specs.Machines.{IsSound, Machine, entries, is_sample, key_of, move, put}
 use Rattle.m68k_chip.specs.Events.{request_of}
 use Rattle.m68k_chip.specs.States.{next_of}
 use Rattle.psg_sound.specs.Port.{taken_below}
-use Rattle.md_machine.specs.Bus.{entry_of}
-use Rattle.md_machine.specs.Stubs as stubs
-use Rattle.md_machine.specs.Console.{key_in, main_moved, moved, psg_moved, told}
-use Rattle.md_machine.specs.Parts.{BoardValue, IsBoard, PsgValue}
-use Rattle.md_machine.specs.Refinement.{console, cycle_of, main_of, psg_of}
-use Rattle.md_machine.specs.Rules.{IsChip, advance, five, next, no_pins, perform, sample}
+use Rattle.bus_shared.specs.Accesses.{level_of, line_board, main_told, sub_access}
+use Rattle.bus_shared.specs.Entries.{batch_entry, line_entry}
+use Rattle.md_machine.specs.Console.{key_in, main_moved, moved, sub_moved, psg_moved, told}
+use Rattle.bus_shared.specs.Board.{Board, IsBoard}
+use Rattle.md_machine.specs.Parts.{PsgValue, SubValue}
+use Rattle.md_machine.specs.Refinement.{console, cycle_of, main_of, psg_of, sub_of}
+use Rattle.md_machine.specs.Rules.{IsChip, advance, five, next, perform, sample}
 use Rattle.md_machine.specs.declared.main_chip.MainChip.{MainChip}
 use Rattle.md_machine.specs.declared.stubs.FmStub.{FmStub}
 use Rattle.md_machine.specs.declared.stubs.LineStub.{LineStub}
-use Rattle.md_machine.specs.declared.stubs.SubStub.{SubStub}
+use Rattle.z80_chip.specs.Events.{asked_of}
+use Rattle.z80_chip.specs.States.{next_of as sub_next_of}
+use Rattle.md_machine.specs.Pins.{pins_of}
 use Rattle.md_machine.specs.declared.chips.Chip.{Chip}
 use Rattle.md_machine.specs.declared.chips.Chip.TheVariants.{Main, Sub, Line, Fm, Psg}
 
 -- the machine after a sample of chip i, and after an access
-pub move-sample : (m : Machine Chip BoardValue) (i : ℕ) → is_sample five m i ≡ true
-    → move five m i ≡ record { shared = m.shared; chip = put m.chip i (sample (m.chip i) no_pins) }
+pub move-sample : (m : Machine Chip Board) (i : ℕ) → is_sample five m i ≡ true
+    → move five m i ≡ record { shared = m.shared; chip = put m.chip i (sample (m.chip i) (pins_of m.shared i)) }
 unfolding move
 move-sample m i is = rw is refl
 
-pub move-access : (m : Machine Chip BoardValue) (i : ℕ) → is_sample five m i ≡ false
+pub move-access : (m : Machine Chip Board) (i : ℕ) → is_sample five m i ≡ false
     → move five m i ≡ record { shared = (perform (m.chip i) m.shared).shared; chip = put m.chip i (advance (perform (m.chip i) m.shared).chip) }
 unfolding move
 move-access m i is = rw is refl
@@ -34,9 +37,13 @@ move-access m i is = rw is refl
 clash : {A : Type 0} (a b : ℕ) → (a ≡ b → ⊥) → a ≡ b → A
 clash a b differ same = absurd (differ same)
 
+sub_one : (c : SubValue) → (next (Sub c)).key.chip ≡ 1
+unfolding sub_next_of
+sub_one c = refl
+
 kind0 : (c : Chip) → (next c).key.chip ≡ 0 → (v : MainChip) × (c ≡ Main v)
 kind0 (Main c) is = (c, refl)
-kind0 (Sub c) is = absurd (omega arith)
+kind0 (Sub c) is = absurd (omega (arith, sub_one c))
 kind0 (Line c) is = absurd (omega arith)
 kind0 (Fm c) is = absurd (omega arith)
 kind0 (Psg c) is = absurd (omega arith)
@@ -45,7 +52,7 @@ main_zero : (c : MainChip) → (next (Main c)).key.chip ≡ 0
 unfolding next_of
 main_zero c = refl
 
-kind1 : (c : Chip) → (next c).key.chip ≡ 1 → (v : SubStub) × (c ≡ Sub v)
+kind1 : (c : Chip) → (next c).key.chip ≡ 1 → (v : SubValue) × (c ≡ Sub v)
 kind1 (Main c) is = absurd (omega (arith, main_zero c))
 kind1 (Sub c) is = (c, refl)
 kind1 (Line c) is = absurd (omega arith)
@@ -54,45 +61,47 @@ kind1 (Psg c) is = absurd (omega arith)
 
 kind2 : (c : Chip) → (next c).key.chip ≡ 2 → (v : LineStub) × (c ≡ Line v)
 kind2 (Main c) is = absurd (omega (arith, main_zero c))
-kind2 (Sub c) is = absurd (omega arith)
+kind2 (Sub c) is = absurd (omega (arith, sub_one c))
 kind2 (Line c) is = (c, refl)
 kind2 (Fm c) is = absurd (omega arith)
 kind2 (Psg c) is = absurd (omega arith)
 
 kind3 : (c : Chip) → (next c).key.chip ≡ 3 → (v : FmStub) × (c ≡ Fm v)
 kind3 (Main c) is = absurd (omega (arith, main_zero c))
-kind3 (Sub c) is = absurd (omega arith)
+kind3 (Sub c) is = absurd (omega (arith, sub_one c))
 kind3 (Line c) is = absurd (omega arith)
 kind3 (Fm c) is = (c, refl)
 kind3 (Psg c) is = absurd (omega arith)
 
 pub kind4 : (c : Chip) → (next c).key.chip ≡ 4 → (v : PsgValue) × (c ≡ Psg v)
 kind4 (Main c) is = absurd (omega (arith, main_zero c))
-kind4 (Sub c) is = absurd (omega arith)
+kind4 (Sub c) is = absurd (omega (arith, sub_one c))
 kind4 (Line c) is = absurd (omega arith)
 kind4 (Fm c) is = absurd (omega arith)
 kind4 (Psg c) is = (c, refl)
 
 -- the moves, chip by chip
-main_move : (b : Bool) (m : Machine Chip BoardValue) (v : MainChip) → (next_of v.chip.state).sample ≡ b → m.chip 0 ≡ Main v
+main_move : (b : Bool) (m : Machine Chip Board) (v : MainChip) → (next_of v.chip.state).sample ≡ b → m.chip 0 ≡ Main v
     → console (move five m 0) ≡ moved (console m) 0
 unfolding console moved main_moved put
 main_move true m v kind is = rw (move-sample m 0 (ap (λ (c : Chip). (next c).sample) is ∙ kind)) (rw is (rw kind refl))
 main_move false m v kind is = rw (move-access m 0 (ap (λ (c : Chip). (next c).sample) is ∙ kind)) (rw is (rw kind refl))
 
-sub_move : (m : Machine Chip BoardValue) (v : SubStub) → m.chip 1 ≡ Sub v → console (move five m 1) ≡ moved (console m) 1
-unfolding console moved put
-sub_move m v is = rw (move-sample m 1 (ap (λ (c : Chip). (next c).sample) is)) (rw is refl)
+sub_move : (b : Bool) (m : Machine Chip Board) (v : SubValue) → (sub_next_of v.chip.state).sample ≡ b → m.chip 1 ≡ Sub v
+    → console (move five m 1) ≡ moved (console m) 1
+unfolding console moved sub_moved put
+sub_move true m v kind is = rw (move-sample m 1 (ap (λ (c : Chip). (next c).sample) is ∙ kind)) (rw is (rw kind refl))
+sub_move false m v kind is = rw (move-access m 1 (ap (λ (c : Chip). (next c).sample) is ∙ kind)) (rw is (rw kind refl))
 
-line_move : (m : Machine Chip BoardValue) (v : LineStub) → m.chip 2 ≡ Line v → console (move five m 2) ≡ moved (console m) 2
+line_move : (m : Machine Chip Board) (v : LineStub) → m.chip 2 ≡ Line v → console (move five m 2) ≡ moved (console m) 2
 unfolding console moved put
 line_move m v is = rw (move-access m 2 (ap (λ (c : Chip). (next c).sample) is)) (rw is refl)
 
-fm_move : (m : Machine Chip BoardValue) (v : FmStub) → m.chip 3 ≡ Fm v → console (move five m 3) ≡ moved (console m) 3
+fm_move : (m : Machine Chip Board) (v : FmStub) → m.chip 3 ≡ Fm v → console (move five m 3) ≡ moved (console m) 3
 unfolding console moved put
 fm_move m v is = rw (move-access m 3 (ap (λ (c : Chip). (next c).sample) is)) (rw is refl)
 
-psg_move : (m : Machine Chip BoardValue) (v : PsgValue) → m.chip 4 ≡ Psg v → console (move five m 4) ≡ moved (console m) 4
+psg_move : (m : Machine Chip Board) (v : PsgValue) → m.chip 4 ≡ Psg v → console (move five m 4) ≡ moved (console m) 4
 unfolding console moved psg_moved put
 psg_move m v is = rw (move-access m 4 (ap (λ (c : Chip). (next c).sample) is)) (rw is refl)
 
@@ -105,7 +114,7 @@ five-each P p0 p1 p2 p3 p4 (suc (suc (suc zero))) below = p3
 five-each P p0 p1 p2 p3 p4 (suc (suc (suc (suc zero)))) below = p4
 five-each P p0 p1 p2 p3 p4 (suc (suc (suc (suc (suc n))))) below = absurd (omega arith)
 
-pub move-same : (m : Machine Chip BoardValue) → IsSound five IsChip IsBoard m → (i : ℕ) → i < 5 → console (move five m i) ≡ moved (console m) i
+pub move-same : (m : Machine Chip Board) → IsSound five IsChip IsBoard m → (i : ℕ) → i < 5 → console (move five m i) ≡ moved (console m) i
 move-same m sound =
     let k0 = kind0 (m.chip 0) (sound.number 0 (lit< tt)) in
     let k1 = kind1 (m.chip 1) (sound.number 1 (lit< tt)) in
@@ -113,14 +122,14 @@ move-same m sound =
     let k3 = kind3 (m.chip 3) (sound.number 3 (lit< tt)) in
     let k4 = kind4 (m.chip 4) (sound.number 4 (lit< tt)) in
     five-each (λ i. console (move five m i) ≡ moved (console m) i)
-    (main_move (next_of k0.0.chip.state).sample m k0.0 refl k0.1) (sub_move m k1.0 k1.1) (line_move m k2.0 k2.1) (fm_move m k3.0 k3.1) (psg_move m k4.0 k4.1)
+    (main_move (next_of k0.0.chip.state).sample m k0.0 refl k0.1) (sub_move (sub_next_of k1.0.chip.state).sample m k1.0 refl k1.1) (line_move m k2.0 k2.1) (fm_move m k3.0 k3.1) (psg_move m k4.0 k4.1)
 
 -- two readings of a chip that agree on a kind of chip agree on one of that kind
 pub at-kind : {B : Type 0} (f g : Chip → B) (c k : Chip) → c ≡ k → f k ≡ g k → f c ≡ g c
 at-kind f g c k is same = ap f is ∙ same ∙ sym (ap g is)
 
 -- the keys
-pub key-same : (m : Machine Chip BoardValue) → IsSound five IsChip IsBoard m → (i : ℕ) → i < 5 → key_of five m i ≡ key_in (console m) i
+pub key-same : (m : Machine Chip Board) → IsSound five IsChip IsBoard m → (i : ℕ) → i < 5 → key_of five m i ≡ key_in (console m) i
 unfolding console key_in
 key-same m sound =
     let k0 = kind0 (m.chip 0) (sound.number 0 (lit< tt)) in
@@ -131,13 +140,13 @@ key-same m sound =
     let read : Chip → Key = λ c. (next c).key in
     five-each (λ i. key_of five m i ≡ key_in (console m) i)
     (at-kind read (λ c. (next_of (main_of c).chip.state).key) (m.chip 0) (Main k0.0) k0.1 refl)
-    (at-kind read (λ c. record { cycle = cycle_of c; chip = 1 }) (m.chip 1) (Sub k1.0) k1.1 refl)
+    (at-kind read (λ c. (sub_next_of (sub_of c).chip.state).key) (m.chip 1) (Sub k1.0) k1.1 refl)
     (at-kind read (λ c. record { cycle = cycle_of c; chip = 2 }) (m.chip 2) (Line k2.0) k2.1 refl)
     (at-kind read (λ c. record { cycle = cycle_of c; chip = 3 }) (m.chip 3) (Fm k3.0) k3.1 refl)
     (at-kind read (λ c. record { cycle = (psg_of c).cycle; chip = 4 }) (m.chip 4) (Psg k4.0) k4.1 refl)
 
 -- the entries
-pub told-same : (m : Machine Chip BoardValue) → IsSound five IsChip IsBoard m → (i : ℕ) → i < 5 → entries five m i ≡ told (console m) i
+pub told-same : (m : Machine Chip Board) → IsSound five IsChip IsBoard m → (i : ℕ) → i < 5 → entries five m i ≡ told (console m) i
 unfolding console told entries
 told-same m sound =
     let k0 = kind0 (m.chip 0) (sound.number 0 (lit< tt)) in
@@ -148,16 +157,13 @@ told-same m sound =
     let read : Chip → List Entry = λ c. cond (next c).sample [] ((perform c m.shared).entry ∷ []) in
     five-each (λ i. entries five m i ≡ told (console m) i)
     (at-kind read
-    (λ c. let s = (main_of c).chip.state in cond (next_of s).sample [] (entry_of (next_of s).key (request_of (main_of c).chip.cart s) ∷ []))
+    (λ c. let s = (main_of c).chip.state in cond (next_of s).sample [] (main_told m.shared (next_of s).key (request_of (main_of c).chip.cart s) ∷ []))
     (m.chip 0) (Main k0.0) k0.1 refl)
-    (at-kind read (λ c. []) (m.chip 1) (Sub k1.0) k1.1 refl)
-    (at-kind read (λ c. stubs.line_entry (cycle_of c) ∷ []) (m.chip 2) (Line k2.0) k2.1 refl)
-    (at-kind read (λ c. stubs.fm_entry (cycle_of c) ∷ []) (m.chip 3) (Fm k3.0) k3.1 refl)
     (at-kind read
-    (λ c. record {
-      key = record { cycle = (psg_of c).cycle; chip = 4 };
-      kind = 12;
-      address = (psg_of c).cycle / 16128 % 2 ^ 32;
-      value = length (taken_below (psg_of c).cycle m.shared.held);
-    } ∷ [])
+    (λ c. let s = (sub_of c).chip.state in cond (sub_next_of s).sample [] ((sub_access m.shared (sub_next_of s).key (asked_of (sub_of c).chip.cart s)).entry ∷ []))
+    (m.chip 1) (Sub k1.0) k1.1 refl)
+    (at-kind read (λ c. line_entry (record { cycle = cycle_of c; chip = 2 }) (level_of (line_board m.shared (cycle_of c))) ∷ []) (m.chip 2) (Line k2.0) k2.1 refl)
+    (at-kind read (λ c. batch_entry 11 (record { cycle = cycle_of c; chip = 3 }) 0 ∷ []) (m.chip 3) (Fm k3.0) k3.1 refl)
+    (at-kind read
+    (λ c. batch_entry 12 (record { cycle = (psg_of c).cycle; chip = 4 }) (length (taken_below (psg_of c).cycle m.shared.held)) ∷ [])
     (m.chip 4) (Psg k4.0) k4.1 refl)

@@ -11,7 +11,8 @@ use Rattle.psg_sound.specs.Port.{taken_below}
 use Rattle.psg_sound.specs.SynthLaws.{length-samples}
 use Rattle.md_machine.specs.Console.{Console, first_of, heard, levels, mover, ran}
 use Rattle.md_machine.specs.Machines.{kept_in}
-use Rattle.md_machine.specs.Parts.{BoardValue, IsBoard, PsgValue}
+use Rattle.bus_shared.specs.Board.{Board, IsBoard}
+use Rattle.md_machine.specs.Parts.{PsgValue}
 use Rattle.md_machine.specs.Refinement.{console, psg_of}
 use Rattle.md_machine.specs.Rules.{IsChip, advance, five, kept, next, perform}
 use Rattle.md_machine.specs.declared.chips.Chip.{Chip}
@@ -27,13 +28,13 @@ kept-all : (old batch : List ℤ) → length old ≤ 880 → kept old batch ≡ 
 kept-all old batch room = ap (λ (b : Bool). cond b (old ++ batch) old) (is_room (length old) 880 room)
 
 -- a move of another chip leaves the PSG
-other_by : (b : Bool) (m : Machine Chip BoardValue) (i : ℕ) → is_sample five m i ≡ b → (4 == i) ≡ false → (move five m i).chip 4 ≡ m.chip 4
+other_by : (b : Bool) (m : Machine Chip Board) (i : ℕ) → is_sample five m i ≡ b → (4 == i) ≡ false → (move five m i).chip 4 ≡ m.chip 4
 unfolding put
-other_by true m i kind other = ap (λ (z : Machine Chip BoardValue). z.chip 4) (move-sample m i kind) ∙ rw other refl
-other_by false m i kind other = ap (λ (z : Machine Chip BoardValue). z.chip 4) (move-access m i kind) ∙ rw other refl
+other_by true m i kind other = ap (λ (z : Machine Chip Board). z.chip 4) (move-sample m i kind) ∙ rw other refl
+other_by false m i kind other = ap (λ (z : Machine Chip Board). z.chip 4) (move-access m i kind) ∙ rw other refl
 
 -- a move of the PSG adds the levels of its batch
-psg-kept : (m : Machine Chip BoardValue) (v : PsgValue) → m.chip 4 ≡ Psg v → length (kept_in m) ≤ 880 → kept_in (move five m 4) ≡ kept_in m ++ heard (console m) 4
+psg-kept : (m : Machine Chip Board) (v : PsgValue) → m.chip 4 ≡ Psg v → length (kept_in m) ≤ 880 → kept_in (move five m 4) ≡ kept_in m ++ heard (console m) 4
 unfolding console heard put
 psg-kept m v is room =
     let batch : List ℤ = samples (first_of v.cycle) v.synth (taken_below v.cycle m.shared.held) in
@@ -44,7 +45,7 @@ psg-kept m v is room =
     (m.chip 4) (Psg v) is (kept-all v.samples batch room')
 
 -- a move keeps what it makes
-move-kept : (m : Machine Chip BoardValue) → IsSound five IsChip IsBoard m → (i : ℕ) → i < 5 → (i ≡ 4 → length (kept_in m) ≤ 880) → kept_in (move five m i) ≡ kept_in m ++ heard (console m) i
+move-kept : (m : Machine Chip Board) → IsSound five IsChip IsBoard m → (i : ℕ) → i < 5 → (i ≡ 4 → length (kept_in m) ≤ 880) → kept_in (move five m i) ≡ kept_in m ++ heard (console m) i
 unfolding heard
 move-kept m sound =
     let k4 = kind4 (m.chip 4) (sound.number 4 (lit< tt)) in
@@ -61,7 +62,7 @@ move-kept m sound =
 heard-long : (z : Console) (i : ℕ) → i < 5 → length (heard z i) ≡ 16 * cond (i == 4) 1 0
 unfolding heard
 heard-long z =
-    five-each (λ i. length (heard z i) ≡ 16 * cond (i == 4) 1 0) refl refl refl refl (length-samples (first_of z.psg_cycle) z.psg (taken_below z.psg_cycle z.held))
+    five-each (λ i. length (heard z i) ≡ 16 * cond (i == 4) 1 0) refl refl refl refl (length-samples (first_of z.psg_cycle) z.psg (taken_below z.psg_cycle z.shared.held))
 
 fewer : (a b : ℕ) → a + b ≤ 56 → a ≤ 56
 fewer a b few = omega arith
@@ -76,11 +77,11 @@ sum_long : (a b count more : ℕ) → a ≡ 16 * count → b ≡ 16 * more → a
 sum_long a b count more first second = omega arith
 
 -- one move more
-pub record KeepsMore (z : Machine Chip BoardValue) (i : ℕ) (old : List ℤ) (count : ℕ) : Type 0 where
+pub record KeepsMore (z : Machine Chip Board) (i : ℕ) (old : List ℤ) (count : ℕ) : Type 0 where
   pub levels_are : kept_in (move five z i) ≡ old ++ heard (console z) i
   pub long : length (kept_in (move five z i)) ≡ 16 * (count + cond (i == 4) 1 0)
 
-keeps-more : (z : Machine Chip BoardValue) (i : ℕ) (old : List ℤ) (count : ℕ) → IsSound five IsChip IsBoard z → i < 5
+keeps-more : (z : Machine Chip Board) (i : ℕ) (old : List ℤ) (count : ℕ) → IsSound five IsChip IsBoard z → i < 5
     → kept_in z ≡ old → length (kept_in z) ≡ 16 * count → count + cond (i == 4) 1 0 ≤ 56 → KeepsMore z i old count
 keeps-more z i old count sound below is long few =
     let moved : kept_in (move five z i) ≡ kept_in z ++ heard (console z) i =
@@ -91,11 +92,11 @@ keeps-more z i old count sound below is long few =
     }
 
 -- from a machine that keeps none, as many batches as there is room for are kept
-pub record KeepsAll (m : Machine Chip BoardValue) (n : ℕ) : Type 0 where
+pub record KeepsAll (m : Machine Chip Board) (n : ℕ) : Type 0 where
   pub levels_are : kept_in (run five m n) ≡ levels (console m) n
   pub long : length (kept_in (run five m n)) ≡ 16 * made five m 4 n
 
-pub levels-kept : (m : Machine Chip BoardValue) (n : ℕ) → SoundTo m n → Movers → kept_in m ≡ [] → made five m 4 n ≤ 56 → KeepsAll m n
+pub levels-kept : (m : Machine Chip Board) (n : ℕ) → SoundTo m n → Movers → kept_in m ≡ [] → made five m 4 n ≤ 56 → KeepsAll m n
 unfolding run levels made
 levels-kept m zero sound movers none few = record { levels_are = none; long = ap length none }
 levels-kept m (suc n) sound movers none few =

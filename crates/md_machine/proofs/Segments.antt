@@ -9,7 +9,7 @@ use Rattle.chip_core.specs.Machines.{AllBelow, IsSound, Machine, key_of, made, r
 use Rattle.md_machine.specs.Console as consoles
 use Rattle.md_machine.specs.Console.{Console, key_in, levels, mover, ran}
 use Rattle.md_machine.specs.Machines.{kept_in}
-use Rattle.md_machine.specs.Parts.{BoardValue, IsBoard}
+use Rattle.bus_shared.specs.Board.{Board, IsBoard}
 use Rattle.md_machine.specs.Refinement.{console, psg_of, record_of}
 use Rattle.md_machine.specs.Rules.{IsChip, five}
 use Rattle.md_machine.specs.declared.chips.Chip.{Chip}
@@ -27,13 +27,13 @@ left_by : (b : Bool) (key to : ℕ) → to ≤ key + 896040 → cond b ((to - ke
 left_by true key to near = omega arith
 left_by false key to near = omega arith
 
-pub batches-few : (m : Machine Chip BoardValue) (from to : ℕ) → to ≤ from + 896040 → machines.IsQuiet five m from → moves_left five to m 4 ≤ 56
+pub batches-few : (m : Machine Chip Board) (from to : ℕ) → to ≤ from + 896040 → machines.IsQuiet five m from → moves_left five to m 4 ≤ 56
 batches-few m from to near quiet =
     let late : from ≤ (key_of five m 4).cycle = quiet 4 (lit< tt) in
     left_by (nat_lt (key_of five m 4).cycle to) (key_of five m 4).cycle to (omega arith)
 
 -- two machines with the same shared state and the same five chips have the same record
-pub console-alike : (w z : Machine Chip BoardValue) → w.shared ≡ z.shared → ((i : ℕ) → i < 5 → w.chip i ≡ z.chip i) → console w ≡ console z
+pub console-alike : (w z : Machine Chip Board) → w.shared ≡ z.shared → ((i : ℕ) → i < 5 → w.chip i ≡ z.chip i) → console w ≡ console z
 unfolding console
 console-alike w z shared chips =
     ap (λ (c : Chip). record_of c (w.chip 1) (w.chip 2) (w.chip 3) (w.chip 4) w.shared) (chips 0 (lit< tt))
@@ -41,10 +41,10 @@ console-alike w z shared chips =
     ∙ ap (λ (c : Chip). record_of (z.chip 0) (z.chip 1) c (w.chip 3) (w.chip 4) w.shared) (chips 2 (lit< tt))
     ∙ ap (λ (c : Chip). record_of (z.chip 0) (z.chip 1) (z.chip 2) c (w.chip 4) w.shared) (chips 3 (lit< tt))
     ∙ ap (λ (c : Chip). record_of (z.chip 0) (z.chip 1) (z.chip 2) (z.chip 3) c w.shared) (chips 4 (lit< tt))
-    ∙ ap (λ (b : BoardValue). record_of (z.chip 0) (z.chip 1) (z.chip 2) (z.chip 3) (z.chip 4) b) shared
+    ∙ ap (λ (b : Board). record_of (z.chip 0) (z.chip 1) (z.chip 2) (z.chip 3) (z.chip 4) b) shared
 
 -- the key of a stage's move is the record's
-move_key-same : (m : Machine Chip BoardValue) (k : ℕ) → SoundTo m (suc k) → Movers
+move_key-same : (m : Machine Chip Board) (k : ℕ) → SoundTo m (suc k) → Movers
     → machines.move_key five m k ≡ key_in (ran (console m) k) (mover (ran (console m) k))
 move_key-same m k sound movers =
     let stage : IsSound five IsChip IsBoard (run five m k) = sound k (omega arith) in
@@ -54,7 +54,7 @@ move_key-same m k sound movers =
 
 -- a run of the five chips, from a machine that keeps no levels, is the record's, with its entries
 -- and levels
-pub segment-run : (m w : Machine Chip BoardValue) (to : ℕ) (entered : List Entry) → machines.IsRunTo five m to w entered
+pub segment-run : (m w : Machine Chip Board) (to : ℕ) (entered : List Entry) → machines.IsRunTo five m to w entered
     → ((n : ℕ) → AllBelow five m to n → IsSound five IsChip IsBoard (run five m n)) → Movers → IsSound five IsChip IsBoard w
     → ((n : ℕ) → AllBelow five m to n → made five m 4 n ≤ 56) → kept_in m ≡ []
     → consoles.IsRunTo (console m) to (console w) entered (kept_in w)
@@ -75,7 +75,7 @@ pub at_most : {a b limit : ℕ} → a ≤ b → b ≤ limit → a ≤ limit
 at_most first second = omega arith
 
 -- the entries of a segment
-pub few_entries : (m : Machine Chip BoardValue) (from to : ℕ) {w : Machine Chip BoardValue} {entered : List Entry} (runs : machines.IsRunTo five m to w entered)
+pub few_entries : (m : Machine Chip Board) (from to : ℕ) {w : Machine Chip Board} {entered : List Entry} (runs : machines.IsRunTo five m to w entered)
     → length (machines.journal five m runs.moves) ≤ all_moves_left five to m → all_moves_left five to m ≤ moves_within five (to - from) → to ≤ from + 896040
     → length entered ≤ 52500
 few_entries m from to runs within all near = omega (arith, ap length runs.journal, within-few (to - from) (omega arith))
@@ -84,7 +84,7 @@ few_entries m from to runs within all near = omega (arith, ap length runs.journa
 below_or_is : (k n : ℕ) → k < suc n → (k < n) ⊎ (k ≡ n)
 below_or_is k n below = grind arith
 
-pub below-lift : (m : Machine Chip BoardValue) (to n : ℕ) → ((k : ℕ) → AllBelow five m to k → IsSound five IsChip IsBoard (run five m k)) → Movers
+pub below-lift : (m : Machine Chip Board) (to n : ℕ) → ((k : ℕ) → AllBelow five m to k → IsSound five IsChip IsBoard (run five m k)) → Movers
     → consoles.AllBelow (console m) to n → AllBelow five m to n
 below-lift m to zero sound movers below = record { each = λ k within. absurd (omega arith) }
 below-lift m to (suc n) sound movers below =
@@ -102,12 +102,12 @@ below-lift m to (suc n) sound movers below =
 one-of : (i : ℕ) → i < 5 → cond (i == 0) 1 0 + cond (i == 1) 1 0 + cond (i == 2) 1 0 + cond (i == 3) 1 0 + cond (i == 4) 1 0 ≡ 1
 one-of = five-each (λ i. cond (i == 0) 1 0 + cond (i == 1) 1 0 + cond (i == 2) 1 0 + cond (i == 3) 1 0 + cond (i == 4) 1 0 ≡ 1) refl refl refl refl refl
 
-each-made : (m : Machine Chip BoardValue) (n : ℕ) → Movers → made five m 0 n + made five m 1 n + made five m 2 n + made five m 3 n + made five m 4 n ≡ n
+each-made : (m : Machine Chip Board) (n : ℕ) → Movers → made five m 0 n + made five m 1 n + made five m 2 n + made five m 3 n + made five m 4 n ≡ n
 unfolding made
 each-made m zero movers = refl
 each-made m (suc n) movers = omega (arith, each-made m n movers, one-of (machines.mover five (run five m n)) (movers (run five m n)))
 
-pub moves-few : (m : Machine Chip BoardValue) (from to n : ℕ) → Movers → ((i : ℕ) → i < 5 → made five m i n ≤ moves_left five to m i)
+pub moves-few : (m : Machine Chip Board) (from to n : ℕ) → Movers → ((i : ℕ) → i < 5 → made five m i n ≤ moves_left five to m i)
     → all_moves_left five to m ≤ moves_within five (to - from) → n ≤ to + 5
 unfolding total
 moves-few m from to n movers few all =

@@ -7,7 +7,7 @@ use Rattle.chip_core.specs.Machines.{Machine, put}
 use Rattle.md_machine.specs.Console.{Console}
 use Rattle.md_machine.specs.Drained.{silent}
 use Rattle.md_machine.specs.Machines.{machine_at}
-use Rattle.md_machine.specs.Parts.{BoardValue}
+use Rattle.bus_shared.specs.Board.{Board}
 use Rattle.md_machine.specs.Refinement.{console, record_of, psg_of}
 use Rattle.md_machine.specs.Rules.{five}
 use Rattle.md_machine.specs.declared.chips.Chip.{Chip}
@@ -15,7 +15,7 @@ use Rattle.md_machine.specs.declared.chips.Chip.TheVariants.{Main, Sub, Line, Fm
 use Rattle.md_machine.proofs.Moves.{five-each}
 use Rattle.md_machine.proofs.Segments.{console-alike}
 
-silent-record : (c0 c1 c2 c3 c : Chip) (b : BoardValue) → record_of c0 c1 c2 c3 (silent c) b ≡ record_of c0 c1 c2 c3 c b
+silent-record : (c0 c1 c2 c3 c : Chip) (b : Board) → record_of c0 c1 c2 c3 (silent c) b ≡ record_of c0 c1 c2 c3 c b
 silent-record c0 c1 c2 c3 (Main c) b = refl
 silent-record c0 c1 c2 c3 (Sub c) b = refl
 silent-record c0 c1 c2 c3 (Line c) b = refl
@@ -29,13 +29,13 @@ silent-levels (Line c) = refl
 silent-levels (Fm c) = refl
 silent-levels (Psg c) = refl
 
-pub drained : (at : ℕ) (v : CoreValue Chip BoardValue) (x : Chip) → length v.chips ≡ 5 → x ≡ silent (chip_in five v.chips 4)
+pub drained : (at : ℕ) (v : CoreValue Chip Board) (x : Chip) → length v.chips ≡ 5 → x ≡ silent (chip_in five v.chips 4)
     → machine_at at (record v { chips = slice_set v.chips 4 x }) ≡ record (machine_at at v) { levels = [] }
 unfolding console put
 drained at v x long is =
     let last : chip_in five (slice_set v.chips 4 x) 4 ≡ x = get_or-set_same v.chips 4 x five.blank (omega (arith, long)) in
-    let old : Machine Chip BoardValue = machine_of five v in
-    let new : Machine Chip BoardValue = record { shared = v.shared; chip = put old.chip 4 x } in
+    let old : Machine Chip Board = machine_of five v in
+    let new : Machine Chip Board = record { shared = v.shared; chip = put old.chip 4 x } in
     let alike : console (machine_of five (record v { chips = slice_set v.chips 4 x })) ≡ console new =
     console-alike (machine_of five (record v { chips = slice_set v.chips 4 x })) new refl
     (five-each (λ i. chip_in five (slice_set v.chips 4 x) i ≡ new.chip i)

@@ -8,12 +8,17 @@ use Rattle.rom_header.specs.Cartridge.{IsImage}
 use Rattle.chip_core.specs.Cores.{IsCore, machine_of, no_key}
 use Rattle.m68k_chip.specs.States as states
 use Rattle.m68k_chip.specs.States.{next_of}
+use Rattle.z80_chip.proofs.Laws as laws80
+use Rattle.z80_chip.specs.States as states80
+use Rattle.z80_chip.specs.States.{next_of as sub_next_of}
 use Rattle.m68k_chip.proofs.Laws.{power_on-ok}
 use Rattle.md_machine.specs.Console.{power_on}
 use Rattle.md_machine.specs.First.{first_bounds, first_chips}
 use Rattle.md_machine.specs.Machines.{IsMachine, core_in, machine_at}
-use Rattle.md_machine.specs.Parts.{BoardValue, IsBoard}
-use Rattle.psg_sound.specs.PortLaws.{IsPort-nil}
+use Rattle.bus_shared.specs.Board.{Board, IsBoard}
+use Rattle.bus_shared.proofs.Keeps as keeps
+use Rattle.bus_shared.specs.Board as boards
+use Rattle.md_pads.specs.Recording.{Frame}
 use Rattle.psg_sound.specs.SynthLaws.{IsSynth-at_power_on}
 use Rattle.md_machine.specs.Refinement.{console}
 use Rattle.md_machine.specs.Rules.{IsChip, five, next}
@@ -21,9 +26,9 @@ use Rattle.md_machine.specs.declared.chips.Chip.{Chip}
 use Rattle.chip_core.specs.Machines as machines
 use Rattle.md_machine.proofs.Moves.{five-each}
 
-pub first-core : (cart : List ℕ) (room : ℕ) → IsImage cart → IsCore five IsChip IsBoard (core_in (Some (record { held = [] })) (first_chips cart) first_bounds [] room)
-unfolding next_of states.power_on
-first-core cart room image = record {
+pub first-core : (cart : List ℕ) (recording : List Frame) (room : ℕ) → IsImage cart → IsCore five IsChip IsBoard (core_in (Some (boards.power_on recording)) (first_chips cart) first_bounds [] room)
+unfolding next_of states.power_on sub_next_of states80.power_on
+first-core cart recording room image = record {
   shape = record {
     chip_count = refl;
     bound_count = refl;
@@ -31,41 +36,41 @@ first-core cart room image = record {
     bound_number = five-each (λ i. (slice_index_or first_bounds i no_key).chip ≡ i) refl refl refl refl refl;
     under = five-each (λ i. key_lt (next (slice_index_or (first_chips cart) i five.blank)).key (slice_index_or first_bounds i no_key) ≡ false) refl refl refl refl refl;
   };
-  shared = IsPort-nil;
-  chip = five-each (λ i. IsChip (slice_index_or (first_chips cart) i five.blank)) (power_on-ok cart image) tt tt tt
+  shared = keeps.power_on-ok recording;
+  chip = five-each (λ i. IsChip (slice_index_or (first_chips cart) i five.blank)) (power_on-ok cart image) (laws80.power_on-ok cart image) tt tt
       (record { synth = IsSynth-at_power_on; taken = lit≤ tt; samples = lit≤ tt });
 }
 
-pub first-console : (cart : List ℕ) (room : ℕ) → console (machine_of five (core_in (Some (record { held = [] })) (first_chips cart) first_bounds [] room)) ≡ power_on cart
+pub first-console : (cart : List ℕ) (recording : List Frame) (room : ℕ) → console (machine_of five (core_in (Some (boards.power_on recording)) (first_chips cart) first_bounds [] room)) ≡ power_on cart recording
 unfolding console
-first-console cart room = refl
+first-console cart recording room = refl
 
 -- no event of the first core stands below cycle 0
-pub first-quiet : (cart : List ℕ) (room : ℕ) → machines.IsQuiet five (machine_of five (core_in (Some (record { held = [] })) (first_chips cart) first_bounds [] room)) 0
-first-quiet cart room i below = omega arith
+pub first-quiet : (cart : List ℕ) (recording : List Frame) (room : ℕ) → machines.IsQuiet five (machine_of five (core_in (Some (boards.power_on recording)) (first_chips cart) first_bounds [] room)) 0
+first-quiet cart recording room i below = omega arith
 
 -- the machine of these parts
-pub first-machine : (cart : List ℕ) (board : BoardValue) (chips : List Chip) (bounds : List Key) (entries : List Entry) (room : ℕ)
-    → board ≡ record { held = [] } → chips ≡ first_chips cart → bounds ≡ first_bounds → entries ≡ [] → 52500 ≤ room → IsImage cart
+pub first-machine : (cart : List ℕ) (recording : List Frame) (board : Board) (chips : List Chip) (bounds : List Key) (entries : List Entry) (room : ℕ)
+    → board ≡ boards.power_on recording → chips ≡ first_chips cart → bounds ≡ first_bounds → entries ≡ [] → 52500 ≤ room → IsImage cart
     → IsMachine 0 (Some board) (core_in (Some board) chips bounds entries room)
-first-machine cart board chips bounds entries room b c k e ample image =
+first-machine cart recording board chips bounds entries room b c k e ample image =
     subst (λ z. IsMachine 0 (Some z) (core_in (Some z) chips bounds entries room)) (sym b)
-    (subst (λ z. IsMachine 0 (Some (record { held = [] })) (core_in (Some (record { held = [] })) z bounds entries room)) (sym c)
-    (subst (λ z. IsMachine 0 (Some (record { held = [] })) (core_in (Some (record { held = [] })) (first_chips cart) z entries room)) (sym k)
-    (subst (λ z. IsMachine 0 (Some (record { held = [] })) (core_in (Some (record { held = [] })) (first_chips cart) first_bounds z room)) (sym e)
+    (subst (λ z. IsMachine 0 (Some (boards.power_on recording)) (core_in (Some (boards.power_on recording)) z bounds entries room)) (sym c)
+    (subst (λ z. IsMachine 0 (Some (boards.power_on recording)) (core_in (Some (boards.power_on recording)) (first_chips cart) z entries room)) (sym k)
+    (subst (λ z. IsMachine 0 (Some (boards.power_on recording)) (core_in (Some (boards.power_on recording)) (first_chips cart) first_bounds z room)) (sym e)
     (record {
       has_board = refl;
-      sound = first-core cart room image;
+      sound = first-core cart recording room image;
       room = ample;
-      quiet = first-quiet cart room;
+      quiet = first-quiet cart recording room;
     }))))
 
-pub first-value : (cart : List ℕ) (board : BoardValue) (chips : List Chip) (bounds : List Key) (entries : List Entry) (room : ℕ)
-    → board ≡ record { held = [] } → chips ≡ first_chips cart → bounds ≡ first_bounds → entries ≡ []
-    → machine_at 0 (core_in (Some board) chips bounds entries room) ≡ record { at = 0; console = power_on cart; entries = []; levels = [] }
-first-value cart board chips bounds entries room b c k e =
+pub first-value : (cart : List ℕ) (recording : List Frame) (board : Board) (chips : List Chip) (bounds : List Key) (entries : List Entry) (room : ℕ)
+    → board ≡ boards.power_on recording → chips ≡ first_chips cart → bounds ≡ first_bounds → entries ≡ []
+    → machine_at 0 (core_in (Some board) chips bounds entries room) ≡ record { at = 0; console = power_on cart recording; entries = []; levels = [] }
+first-value cart recording board chips bounds entries room b c k e =
     ap (λ z. machine_at 0 (core_in (Some z) chips bounds entries room)) b
-    ∙ ap (λ z. machine_at 0 (core_in (Some (record { held = [] })) z bounds entries room)) c
-    ∙ ap (λ z. machine_at 0 (core_in (Some (record { held = [] })) (first_chips cart) z entries room)) k
-    ∙ ap (λ z. machine_at 0 (core_in (Some (record { held = [] })) (first_chips cart) first_bounds z room)) e
-    ∙ ap (λ z. record { at = 0; console = z; entries = []; levels = [] }) (first-console cart room)
+    ∙ ap (λ z. machine_at 0 (core_in (Some (boards.power_on recording)) z bounds entries room)) c
+    ∙ ap (λ z. machine_at 0 (core_in (Some (boards.power_on recording)) (first_chips cart) z entries room)) k
+    ∙ ap (λ z. machine_at 0 (core_in (Some (boards.power_on recording)) (first_chips cart) first_bounds z room)) e
+    ∙ ap (λ z. record { at = 0; console = z; entries = []; levels = [] }) (first-console cart recording room)

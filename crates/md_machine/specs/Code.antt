@@ -1,5 +1,5 @@
 -- Chips and board as lists of numbers, and back.
-use Rattle.std.specs.Prelude.{◌≡◌, ℕ, ◌⊎◌, Bool, true, false, refl}
+use Rattle.std.specs.Prelude.{◌≡◌, ℕ, ◌⊎◌, Bool, true, false, refl, Option, Some, None}
 use Rattle.std.proofs.Common.{inl, inr}
 use Rattle.md_word.specs.Coding.{Way, number, flag, integer, both, either, many, maybe, by_way}
 use Rattle.md_word.specs.declared.main_bus.Answer68.{Answer68}
@@ -8,13 +8,24 @@ use Rattle.md_word.specs.declared.regs.Regs.{Regs}
 use Rattle.m68k_chip.specs.States.{State68}
 use Rattle.m68k_chip.specs.declared.stage.Stage.{Stage}
 use Rattle.m68k_chip.specs.declared.stage.Stage.TheVariants.{Sample, Access, Word}
+use Rattle.z80_chip.specs.States.{State80}
+use Rattle.z80_chip.specs.declared.stage.Stage.{Stage as Stage80}
+use Rattle.z80_chip.specs.declared.stage.Stage.TheVariants as stages80
+use Rattle.z80_decode.specs.declared.interrupt_mode.InterruptMode.{InterruptMode}
+use Rattle.z80_decode.specs.declared.interrupt_mode.InterruptMode.TheVariants.{Mode0, Mode1, Mode2}
+use Rattle.z80_exec.specs.declared.regs80.Regs80.{Regs80}
+use Rattle.z80_parcel.specs.Parcels.{Store}
+use Rattle.z80_parcel.specs.Requests.{Told, Byte, Nothing, Returned}
 use Rattle.psg_sound.specs.Synth.{Synth}
 use Rattle.psg_sound.specs.declared.divider.Divider.{Divider}
 use Rattle.psg_sound.specs.declared.noise.Noise.{Noise}
 use Rattle.psg_sound.specs.declared.tone.Tone.{Tone}
 use Rattle.psg_sound.specs.declared.write.PsgWrite.{PsgWrite}
 use Rattle.chip_core.specs.Codes.{key_way}
-use Rattle.md_machine.specs.Parts.{BoardValue, PsgValue}
+use Rattle.bus_shared.specs.Board.{Board}
+use Rattle.md_pads.specs.Pad.{Latches}
+use Rattle.md_pads.specs.Recording.{Frame}
+use Rattle.md_machine.specs.Parts.{PsgValue, SubValue}
 use Rattle.md_machine.specs.declared.main_chip.MainChip.{MainChip}
 use Rattle.md_machine.specs.declared.chips.Chip.{Chip}
 use Rattle.md_machine.specs.declared.chips.Chip.TheVariants.{Main, Sub, Line, Fm, Psg}
@@ -53,6 +64,51 @@ stage_same Word = refl
 -- the way of a stage
 abbrev pub stage_way : Way Stage
 stage_way = by_way (both flag flag) (λ s. (is_access s, is_word s)) (λ p. stage_of p.0 p.1) stage_same
+
+-- a stage of the Z80 by two flags: whether an access is next, and whether RAM moves
+abbrev pub stage80_of : Bool → Bool → Stage80
+stage80_of false false = stages80.Sample
+stage80_of false true = stages80.Take
+stage80_of true false = stages80.Access
+stage80_of true true = stages80.Yield
+
+abbrev pub stage80_flags : Stage80 → Bool × Bool
+stage80_flags stages80.Sample = (false, false)
+stage80_flags stages80.Access = (true, false)
+stage80_flags stages80.Yield = (true, true)
+stage80_flags stages80.Take = (false, true)
+
+-- the two flags tell the stage
+pub stage80_same : (stage : Stage80) → stage80_of (stage80_flags stage).0 (stage80_flags stage).1 ≡ stage
+stage80_same stages80.Sample = refl
+stage80_same stages80.Access = refl
+stage80_same stages80.Yield = refl
+stage80_same stages80.Take = refl
+
+-- the way of a stage of the Z80
+abbrev pub stage80_way : Way Stage80
+stage80_way = by_way (both flag flag) stage80_flags (λ p. stage80_of p.0 p.1) stage80_same
+
+-- an interrupt mode by two flags
+abbrev pub mode_of : Bool → Bool → InterruptMode
+mode_of false second = Mode0
+mode_of true false = Mode1
+mode_of true true = Mode2
+
+abbrev pub mode_flags : InterruptMode → Bool × Bool
+mode_flags Mode0 = (false, false)
+mode_flags Mode1 = (true, false)
+mode_flags Mode2 = (true, true)
+
+-- the two flags tell the mode
+pub mode_same : (mode : InterruptMode) → mode_of (mode_flags mode).0 (mode_flags mode).1 ≡ mode
+mode_same Mode0 = refl
+mode_same Mode1 = refl
+mode_same Mode2 = refl
+
+-- the way of an interrupt mode
+abbrev pub mode_way : Way InterruptMode
+mode_way = by_way (both flag flag) mode_flags (λ p. mode_of p.0 p.1) mode_same
 
 -- the way of a transfer
 abbrev pub transfer_way : Way Transfer
@@ -127,14 +183,93 @@ psg_way =
     (λ c. ((c.synth, c.cycle), (c.taken, c.samples)))
     (λ p. record { synth = p.0.0; cycle = p.0.1; taken = p.1.0; samples = p.1.1 }) (λ c. refl)
 
+-- the way of the Z80's registers
+abbrev pub regs80_way : Way Regs80
+regs80_way =
+    by_way (both (both (both (both number number) (both number number)) (both (both number number) (both number number))) (both (both (both number number) (both number number)) (both (both number number) (both flag (both flag mode_way)))))
+    (λ r. ((((r.af, r.bc), (r.de, r.hl)), ((r.af2, r.bc2), (r.de2, r.hl2))), (((r.ix, r.iy), (r.sp, r.pc)), ((r.i, r.r), (r.iff1, (r.iff2, r.mode))))))
+    (λ p. record {
+      af = p.0.0.0.0;
+      bc = p.0.0.0.1;
+      de = p.0.0.1.0;
+      hl = p.0.0.1.1;
+      af2 = p.0.1.0.0;
+      bc2 = p.0.1.0.1;
+      de2 = p.0.1.1.0;
+      hl2 = p.0.1.1.1;
+      ix = p.1.0.0.0;
+      iy = p.1.0.0.1;
+      sp = p.1.0.1.0;
+      pc = p.1.0.1.1;
+      i = p.1.1.0.0;
+      r = p.1.1.0.1;
+      iff1 = p.1.1.1.0;
+      iff2 = p.1.1.1.1.0;
+      mode = p.1.1.1.1.1;
+    })
+    (λ r. refl)
+
+-- the way of RAM and bank register
+abbrev pub store_way : Way Store
+store_way = by_way (both (many number) number) (λ s. (s.ram, s.bank)) (λ p. record { ram = p.0; bank = p.1 }) (λ s. refl)
+
+-- the way of the Z80's state
+abbrev pub state80_way : Way State80
+state80_way =
+    by_way (both (both (both number stage80_way) (both number regs80_way)) (both (both (both flag flag) (both number number)) (both (many number) (maybe store_way))))
+    (λ s. (((s.next, s.stage), (s.start, s.regs)), (((s.halted, s.after_ei), (s.resets, s.cause)), (s.answers, s.store))))
+    (λ p. record {
+      next = p.0.0.0;
+      stage = p.0.0.1;
+      start = p.0.1.0;
+      regs = p.0.1.1;
+      halted = p.1.0.0.0;
+      after_ei = p.1.0.0.1;
+      resets = p.1.0.1.0;
+      cause = p.1.0.1.1;
+      answers = p.1.1.0;
+      store = p.1.1.1;
+    })
+    (λ s. refl)
+
+-- what the Z80 is told as a sum
+abbrev pub told_sum : Told → ℕ ⊎ (Option Store)
+told_sum (Byte value) = inl value
+told_sum Nothing = inr None
+told_sum (Returned store) = inr (Some store)
+
+abbrev pub told_back : Option Store → Told
+told_back None = Nothing
+told_back (Some store) = Returned store
+
+abbrev pub told_of : ℕ ⊎ (Option Store) → Told
+told_of (inl value) = Byte value
+told_of (inr store) = told_back store
+
+-- what the Z80 is told by its sum
+pub told_same : (t : Told) → told_of (told_sum t) ≡ t
+told_same (Byte value) = refl
+told_same Nothing = refl
+told_same (Returned store) = refl
+
+-- the way of what the Z80 is told
+abbrev pub told_way : Way Told
+told_way = by_way (either number (maybe store_way)) told_sum told_of told_same
+
+-- the way of the Z80 with its cartridge and the answer that it keeps
+abbrev pub sub_way : Way SubValue
+sub_way =
+    by_way (both (both (many number) state80_way) (maybe told_way)) (λ c. ((c.chip.cart, c.chip.state), c.answer))
+    (λ p. record { chip = record { cart = p.0.0; state = p.0.1 }; answer = p.1 }) (λ c. refl)
+
 -- the kinds of chips as a sum
 abbrev pub Sum : Type 0
-Sum = MainChip ⊎ (ℕ ⊎ (ℕ ⊎ (ℕ ⊎ PsgValue)))
+Sum = MainChip ⊎ (SubValue ⊎ (ℕ ⊎ (ℕ ⊎ PsgValue)))
 
 -- the sum of a chip
 abbrev pub sum_of : Chip → Sum
 sum_of (Main c) = inl c
-sum_of (Sub c) = inr (inl c.cycle)
+sum_of (Sub c) = inr (inl c)
 sum_of (Line c) = inr (inr (inl c.cycle))
 sum_of (Fm c) = inr (inr (inr (inl c.cycle)))
 sum_of (Psg c) = inr (inr (inr (inr c)))
@@ -150,8 +285,8 @@ middle_of (inl cycle) = Line (record { cycle = cycle })
 middle_of (inr c) = late_of c
 
 -- the chip of a sum, from the Z80 on
-abbrev pub early_of : ℕ ⊎ (ℕ ⊎ (ℕ ⊎ PsgValue)) → Chip
-early_of (inl cycle) = Sub (record { cycle = cycle })
+abbrev pub early_of : SubValue ⊎ (ℕ ⊎ (ℕ ⊎ PsgValue)) → Chip
+early_of (inl c) = Sub c
 early_of (inr c) = middle_of c
 
 -- the chip of a sum
@@ -169,8 +304,30 @@ chip_same (Psg c) = refl
 
 -- the way of a chip
 abbrev pub chip_way : Way Chip
-chip_way = by_way (either main_way (either number (either number (either number psg_way)))) sum_of chip_of chip_same
+chip_way = by_way (either main_way (either sub_way (either number (either number psg_way)))) sum_of chip_of chip_same
+
+-- the way of the two words of the pads
+abbrev pub frame_way : Way Frame
+frame_way = both number number
+
+-- the way of the latches of a pad's port
+abbrev pub latches_way : Way Latches
+latches_way = by_way (both number number) (λ l. (l.value, l.control)) (λ p. record { value = p.0; control = p.1 }) (λ l. refl)
 
 -- the way of the board
-abbrev pub board_way : Way BoardValue
-board_way = by_way (many write_way) (λ b. b.held) (λ l. record { held = l }) (λ b. refl)
+abbrev pub board_way : Way Board
+board_way =
+    by_way (both (both (both (many frame_way) frame_way) (both latches_way latches_way)) (both (both (many write_way) flag) (both (both flag number) (maybe store_way))))
+    (λ b. (((b.recording, b.pads), (b.port1, b.port2)), ((b.held, b.request), ((b.reset, b.resets), b.store))))
+    (λ p. record {
+      recording = p.0.0.0;
+      pads = p.0.0.1;
+      port1 = p.0.1.0;
+      port2 = p.0.1.1;
+      held = p.1.0.0;
+      request = p.1.0.1;
+      reset = p.1.1.0.0;
+      resets = p.1.1.0.1;
+      store = p.1.1.1;
+    })
+    (λ b. refl)

@@ -1,44 +1,52 @@
 -- The machine as one record, with each memory once, and what a move of each chip changes.
-use Rattle.std.specs.Prelude.{◌≡◌, ℕ, zero, suc, ℤ, ◌+◌, ◌-◌, ◌*◌, ◌/◌, ◌%◌, ◌^◌, ◌<◌, ◌≤◌, ◌==◌, cond, List, [], ◌∷◌, ◌++◌, length}
+use Rattle.std.specs.Prelude.{◌≡◌, ℕ, zero, suc, ℤ, ◌+◌, ◌-◌, ◌*◌, ◌/◌, ◌<◌, ◌≤◌, ◌==◌, cond, List, [], ◌∷◌, ◌++◌, length}
 use Rattle.md_word.specs.declared.event.Entry.{Entry}
 use Rattle.md_word.specs.declared.key.Key.{Key}
 use Rattle.chip_core.specs.Machines.{least_below}
 use Rattle.m68k_chip.specs.Events.{answered, begun, request_of}
 use Rattle.m68k_chip.specs.States.{State68, next_of}
 use Rattle.m68k_chip.specs.States as states
+use Rattle.z80_chip.specs.Events as events80
+use Rattle.z80_chip.specs.Events.{asked_of, handed}
+use Rattle.z80_chip.specs.States as states80
+use Rattle.z80_chip.specs.Sound.{Chip80Value}
+use Rattle.z80_chip.specs.States.{next_of as sub_next_of}
 use Rattle.psg_sound.specs.Batches.{after_batch, samples}
-use Rattle.psg_sound.specs.Port.{left_from, taken_below}
+use Rattle.psg_sound.specs.Port.{taken_below}
 use Rattle.psg_sound.specs.Synth.{Synth, at_power_on}
-use Rattle.psg_sound.specs.declared.write.PsgWrite.{PsgWrite}
-use Rattle.md_machine.specs.Bus.{answer_of, entry_of, held_after}
-use Rattle.md_machine.specs.Stubs as stubs
+use Rattle.bus_shared.specs.Accesses.{SubAccess, level_of, line_board, main_answer, main_board, main_told, psg_board, sub_access, sub_pins}
+use Rattle.bus_shared.specs.Board.{Board}
+use Rattle.bus_shared.specs.Board as boards
+use Rattle.bus_shared.specs.Entries.{batch_entry, line_entry}
+use Rattle.md_pads.specs.Recording.{Frame}
 
--- the machine: the cartridge, the 68000, the cycles of the other chips, and the sound generator
+-- the machine: the cartridge, the two processors, the cycles of the other chips, the sound generator,
+-- and what they share
 pub record Console : Type 0 where
   -- the cartridge's image
   pub cart : List ℕ
   pub main : State68
-  -- the cycles of the next events of the Z80, the lines, the FM batches and the PSG batches
-  pub sub : ℕ
+  -- the Z80, with the cartridge that its window shows
+  pub sub : Chip80Value
+  -- the cycles of the next events of the lines, the FM batches and the PSG batches
   pub line : ℕ
   pub fm : ℕ
   pub psg_cycle : ℕ
   pub psg : Synth
-  -- the writes that the PSG's port holds
-  pub held : List PsgWrite
+  pub shared : Board
 
 -- at power-on the 68000, the Z80 and the lines have their first event at 0, and the batches at
 -- 16128
-abbrev pub power_on : List ℕ → Console
-power_on cart = record {
+abbrev pub power_on : List ℕ → List Frame → Console
+power_on cart recording = record {
   cart = cart;
   main = states.power_on cart;
-  sub = 0;
+  sub = record { cart = cart; state = states80.power_on };
   line = 0;
   fm = 16128;
   psg_cycle = 16128;
   psg = at_power_on;
-  held = [];
+  shared = boards.power_on recording;
 }
 
 -- the number of the first sample of the batch at a cycle
@@ -49,7 +57,7 @@ first_of cycle = 16 * (cycle / 16128 - 1)
 unfoldable pub key_in : Console → ℕ → Key
 key_in m i =
     cond (i == 0) (next_of m.main).key
-    (cond (i == 1) (record { cycle = m.sub; chip = 1 })
+    (cond (i == 1) (sub_next_of m.sub.state).key
     (cond (i == 2) (record { cycle = m.line; chip = 2 })
     (cond (i == 3) (record { cycle = m.fm; chip = 3 }) (record { cycle = m.psg_cycle; chip = 4 }))))
 
@@ -59,43 +67,52 @@ main_moved m =
     cond (next_of m.main).sample
     (record m { main = begun m.cart m.main 0 })
     (record m {
-      main = answered m.cart m.main (answer_of (request_of m.cart m.main));
-      held = held_after m.held (next_of m.main).key (request_of m.cart m.main);
+      main = answered m.cart m.main (main_answer m.shared (request_of m.cart m.main));
+      shared = main_board m.shared (next_of m.main).key (request_of m.cart m.main);
+    })
+
+-- what an access of the Z80 comes to on the board
+abbrev pub sub_accessed : Console → SubAccess
+sub_accessed m = sub_access m.shared (sub_next_of m.sub.state).key (asked_of m.sub.cart m.sub.state)
+
+-- the Z80: a sample looks at its pins, and an access goes on with what it is told
+unfoldable pub sub_moved : Console → Console
+sub_moved m =
+    cond (sub_next_of m.sub.state).sample
+    (record m { sub = record m.sub { state = events80.begun m.sub.cart m.sub.state (sub_pins m.shared) } })
+    (record m {
+      sub = record m.sub { state = events80.answered m.sub.cart (handed m.sub.state) (sub_accessed m).answer };
+      shared = (sub_accessed m).board;
     })
 
 -- the PSG takes the writes below its cycle and makes a batch of 16 samples
 unfoldable pub psg_moved : Console → Console
 psg_moved m = record m {
-  psg = after_batch (first_of m.psg_cycle) m.psg (taken_below m.psg_cycle m.held);
+  psg = after_batch (first_of m.psg_cycle) m.psg (taken_below m.psg_cycle m.shared.held);
   psg_cycle = m.psg_cycle + 16128;
-  held = left_from m.psg_cycle m.held;
+  shared = psg_board m.shared m.psg_cycle;
 }
 
 -- the machine after the event of chip i, and after the private work up to its next event
 unfoldable pub moved : Console → ℕ → Console
 moved m i =
     cond (i == 0) (main_moved m)
-    (cond (i == 1) (record m { sub = m.sub + 45 })
-    (cond (i == 2) (record m { line = m.line + 3420 })
+    (cond (i == 1) (sub_moved m)
+    (cond (i == 2) (record m { line = m.line + 3420; shared = line_board m.shared m.line })
     (cond (i == 3) (record m { fm = m.fm + 16128 }) (psg_moved m))))
 
 -- the entry that it gives, if it is an access
 unfoldable pub told : Console → ℕ → List Entry
 told m i =
-    cond (i == 0) (cond (next_of m.main).sample [] (entry_of (next_of m.main).key (request_of m.cart m.main) ∷ []))
-    (cond (i == 1) []
-    (cond (i == 2) (stubs.line_entry m.line ∷ [])
-    (cond (i == 3) (stubs.fm_entry m.fm ∷ [])
-    (record {
-      key = record { cycle = m.psg_cycle; chip = 4 };
-      kind = 12;
-      address = m.psg_cycle / 16128 % 2 ^ 32;
-      value = length (taken_below m.psg_cycle m.held);
-    } ∷ []))))
+    cond (i == 0) (cond (next_of m.main).sample [] (main_told m.shared (next_of m.main).key (request_of m.cart m.main) ∷ []))
+    (cond (i == 1) (cond (sub_next_of m.sub.state).sample [] ((sub_accessed m).entry ∷ []))
+    (cond (i == 2) (line_entry (record { cycle = m.line; chip = 2 }) (level_of (line_board m.shared m.line)) ∷ [])
+    (cond (i == 3) (batch_entry 11 (record { cycle = m.fm; chip = 3 }) 0 ∷ [])
+    (batch_entry 12 (record { cycle = m.psg_cycle; chip = 4 }) (length (taken_below m.psg_cycle m.shared.held)) ∷ []))))
 
 -- the levels that it makes
 unfoldable pub heard : Console → ℕ → List ℤ
-heard m i = cond (i == 4) (samples (first_of m.psg_cycle) m.psg (taken_below m.psg_cycle m.held)) []
+heard m i = cond (i == 4) (samples (first_of m.psg_cycle) m.psg (taken_below m.psg_cycle m.shared.held)) []
 
 -- the chip of least key
 unfoldable pub mover : Console → ℕ

@@ -1,23 +1,46 @@
 -- What the scheduler asks of the five chips.
-use Rattle.std.specs.Prelude.{◌≡◌, ℕ, ◌^◌, ◌<◌, ◌≤◌, nat_le, Bool, true, false, ◌==◌, refl, List, ◌++◌, length, ℤ, Option, Some, None, cond}
-use Rattle.std.proofs.Common.{inl, arith, sym, length-append, lit<, lit≤}
+use Rattle.std.specs.Prelude.{◌≡◌, ℕ, ◌^◌, ◌<◌, ◌≤◌, nat_le, Bool, true, false, ◌==◌, refl, List, ◌++◌, length, ℤ, cond, ◌+◌, ◌||◌, Option, Some, None}
+use Rattle.std.proofs.Common.{inl, arith, sym, length-append, lit<, lit≤, ap, ◌∙◌, subst, Result, Ok, Err, IfSome, IsTrue}
 use Rattle.std.proofs.lemmas.Bool.Decides.{nat_tests}
 use Rattle.chip_core.specs.Chips.{Follows, IsDue, Lawful}
 use Rattle.md_word.specs.declared.key.Key.{Key}
 use Rattle.md_word.specs.declared.main_bus.Request68.{Request68}
 use Rattle.md_word.specs.declared.main_bus.Request68.TheVariants.{Read8, Read16, Write8, Write16, Ack, Word}
 use Rattle.m68k_chip.specs.Events.{request_of}
-use Rattle.m68k_chip.specs.Sound.{Fits, FitsValue, IsCost}
+use Rattle.m68k_chip.specs.Sound.{Fits}
 use Rattle.m68k_chip.specs.States.{State68, next_of}
 use Rattle.psg_sound.specs.Batches.{samples}
-use Rattle.psg_sound.specs.Port.{IsPort, taken_below}
-use Rattle.psg_sound.specs.declared.write.PsgWrite.{PsgWrite}
-use Rattle.md_machine.specs.Bus.{answer_of, entry_of, held_after, held_by, psg_byte}
+use Rattle.psg_sound.specs.Port.{taken_below}
+use Rattle.bus_shared.specs.Accesses.{main_answer, main_told, main_value, sub_access, taken_back, yielded, psg_board}
+use Rattle.bus_shared.specs.Entries.{main_entry}
+use Rattle.bus_shared.proofs.Keeps.{line-ok, main-ok, psg_board-ok}
+use Rattle.bus_shared.proofs.Keeps as keeps
+use Rattle.bus_shared.proofs.Keeps.{HandsOver}
+use Rattle.bus_shared.proofs.Touches.{sub_leaves}
+use Rattle.md_word.specs.declared.sub_bus.Request80.{Request80}
+use Rattle.md_word.specs.declared.sub_bus.Request80.TheVariants as requests80
+use Rattle.z80_chip.proofs.Laws as laws80
+use Rattle.z80_chip.specs.Events.{asked_at, asked_in, asked_of, carried_out, handed, handing, kept_at}
+use Rattle.z80_chip.specs.States.{State80, next_of as sub_next_of}
+use Rattle.z80_chip.specs.declared.stage.Stage.{Stage}
+use Rattle.z80_chip.specs.declared.stage.Stage.TheVariants as stages80
+use Rattle.z80_exec.proofs.Bounds.Samples as bounds80
+use Rattle.z80_exec.specs.Sample.Bounds.{IsAccess}
+use Rattle.z80_exec.specs.Sample.Samples.{Ended}
+use Rattle.z80_parcel.specs.Parcels.{IsStore, Store}
+use Rattle.z80_parcel.specs.Requests as fits80
+use Rattle.z80_parcel.specs.Requests.{Asked, ReadByte, WriteByte, HandOver, TakeBack, Told, Byte, Nothing, Returned}
+use Rattle.md_machine.specs.Pins.{level_in, pins_by, pins_of, sub_in}
+use Rattle.md_machine.specs.declared.pins.Pins.TheVariants as pins
+use Rattle.md_machine.specs.declared.main_chip.MainChip.{MainChip}
+use Rattle.bus_shared.proofs.Values.{byte-below, word-below}
+use Rattle.md_word.specs.Map.{area_of}
 use Rattle.m68k_chip.proofs.Laws.{answered-later, answered-ok, begun-later, begun-ok}
-use Rattle.psg_sound.specs.PortLaws.{IsPort-held_with, IsPort-left_from, taken_below-few}
+use Rattle.psg_sound.specs.PortLaws.{taken_below-few}
 use Rattle.psg_sound.specs.SynthLaws.{IsSynth-after_batch, length-samples}
-use Rattle.md_machine.specs.Parts.{BoardValue, IsBoard, IsPsg, PsgValue}
-use Rattle.md_machine.specs.Rules.{IsChip, advance, first_of, five, gap, kept, next, perform, psg_advance, psg_perform, sample, no_pins}
+use Rattle.bus_shared.specs.Board.{Board, IsBoard}
+use Rattle.md_machine.specs.Parts.{IsPsg, PsgValue, IsSub, SubValue}
+use Rattle.md_machine.specs.Rules.{IsChip, advance, first_of, five, gap, kept, next, perform, psg_advance, psg_perform, sample, sub_advance, sub_perform, writes}
 use Rattle.md_machine.specs.declared.chips.Chip.{Chip}
 use Rattle.md_machine.specs.declared.chips.Chip.TheVariants.{Main, Sub, Line, Fm, Psg}
 
@@ -26,28 +49,120 @@ clash : true ≡ false → ⊥
 clash same = cc
 
 -- what the board answers fits
-pub answer-fits : (request : Request68) → Fits request (answer_of request)
-unfolding answer_of
-answer-fits (Read8 at) = record { value = lit< tt; transfer = tt; cost = tt }
-answer-fits (Read16 at) = record { value = lit< tt; transfer = tt; cost = tt }
-answer-fits (Write8 at value) = record { value = refl; transfer = tt; cost = tt }
-answer-fits (Write16 at value) = record { value = refl; transfer = tt; cost = tt }
-answer-fits (Ack level) = record { value = refl; transfer = tt; cost = tt }
-answer-fits (Word value) = record { value = refl; transfer = tt; cost = inl refl }
+pub answer-fits : (board : Board) (request : Request68) → IsBoard board → Fits request (main_answer board request)
+unfolding main_answer main_value
+answer-fits board (Read8 at) ok = record { value = byte-below (area_of at) board at ok; transfer = tt; cost = tt }
+answer-fits board (Read16 at) ok = record { value = word-below (area_of at) board at ok; transfer = tt; cost = tt }
+answer-fits board (Write8 at value) ok = record { value = refl; transfer = tt; cost = tt }
+answer-fits board (Write16 at value) ok = record { value = refl; transfer = tt; cost = tt }
+answer-fits board (Ack level) ok = record { value = refl; transfer = tt; cost = tt }
+answer-fits board (Word value) ok = record { value = refl; transfer = tt; cost = inl refl }
+
+-- what the Z80 hands over is sound
+handing-sound : (store : Option Store) → IfSome store IsStore → HandsOver (handing store)
+handing-sound None ok = tt
+handing-sound (Some store) ok = ok
+
+asked-hands : (r : Result Ended Request80) → ((request : Request80) → r ≡ Err request → IsAccess request) → HandsOver (asked_in r)
+asked-hands (Ok ended) is = tt
+asked-hands (Err (requests80.Read at)) is = tt
+asked-hands (Err (requests80.Write at value)) is = tt
+asked-hands (Err (requests80.Yield parcel)) is = absurd (is (requests80.Yield parcel) refl)
+asked-hands (Err requests80.Take) is = tt
+
+hands-at : (stage : Stage) (cart : List ℕ) (state : State80) → IfSome state.store IsStore → HandsOver (asked_at stage cart state)
+hands-at stages80.Sample cart state ok = tt
+hands-at stages80.Access cart state ok = asked-hands (carried_out cart state state.cause) (bounds80.asks state.cause state.regs _)
+hands-at stages80.Yield cart state ok = handing-sound state.store ok
+hands-at stages80.Take cart state ok = tt
+
+pub hands-over : (c : SubValue) → IsSub c → HandsOver (asked_of c.chip.cart c.chip.state)
+unfolding asked_of
+hands-over c ok = hands-at c.chip.state.stage c.chip.cart c.chip.state ok.store
+
+-- what fits what it asked for fits once that is handed over
+handed-fits : (store : Option Store) (told : Told) → fits80.Fits (handing store) told → fits80.Fits TakeBack told
+handed-fits None told fits = fits
+handed-fits (Some store) (Byte value) fits = fits
+handed-fits (Some store) Nothing fits = tt
+handed-fits (Some store) (Returned back) fits = fits
+
+fits-at : (stage : Stage) (cart : List ℕ) (state : State80) (told : Told) → fits80.Fits (asked_at stage cart state) told → fits80.Fits (asked_at stage cart (record state { store = kept_at stage state.store })) told
+fits-at stages80.Sample cart state told fits = fits
+fits-at stages80.Access cart state told fits = fits
+fits-at stages80.Yield cart state told fits = handed-fits state.store told fits
+fits-at stages80.Take cart state told fits = fits
+
+pub told-fits : (c : SubValue) (s : Board) → IsSub c → IsBoard s
+    → fits80.Fits (asked_of c.chip.cart (handed c.chip.state)) (sub_access s (sub_next_of c.chip.state).key (asked_of c.chip.cart c.chip.state)).answer
+unfolding asked_of handed
+told-fits c s ok board =
+    fits-at c.chip.state.stage c.chip.cart c.chip.state _ (keeps.sub-fits s (sub_next_of c.chip.state).key (asked_at c.chip.state.stage c.chip.cart c.chip.state) (hands-at c.chip.state.stage c.chip.cart c.chip.state ok.store) board)
+
+handed-kind : (state : State80) → (sub_next_of state).sample ≡ false → (sub_next_of (handed state)).sample ≡ false
+unfolding sub_next_of handed
+handed-kind state kind = kind
+
+sub-low : (state : State80) → (sub_next_of state).key.chip < 2
+unfolding sub_next_of
+sub-low state = lit< tt
+
+-- an access of the Z80
+sub-ok : (c : SubValue) (s : Board) → IsSub c → IsBoard s → (sub_next_of c.chip.state).sample ≡ false → IsSub (sub_advance (sub_perform c s).chip)
+sub-ok c s ok board kind =
+    laws80.answered-ok (laws80.of c.chip.cart (handed c.chip.state)) _ (laws80.handed-ok c.chip ok) (handed-kind c.chip.state kind) (told-fits c s ok board)
+
+handed-next : (state : State80) → (handed state).next ≡ state.next
+unfolding handed
+handed-next state = refl
+
+sub-later : (c : SubValue) (s : Board) → IsSub c → (sub_next_of c.chip.state).sample ≡ false → c.chip.state.next + 45 ≤ (sub_advance (sub_perform c s).chip).chip.state.next
+sub-later c s ok kind =
+    subst (λ (n : ℕ). n + 45 ≤ (sub_advance (sub_perform c s).chip).chip.state.next) (handed-next c.chip.state)
+    (laws80.answered-later (laws80.of c.chip.cart (handed c.chip.state)) _ (laws80.handed-ok c.chip ok) (handed-kind c.chip.state kind))
+
+-- the levels of the pins are known
+level-known : (b : Bool) (s : Board) → IsTrue (level_in (pins_by b s) == 0 || level_in (pins_by b s) == 4 || level_in (pins_by b s) == 6)
+level-known true s = refl
+level-known false s = refl
+
+-- the entry of the Z80's access has its key
+yielded-key : (b : Bool) (s : Board) (key : Key) (store : Store) → (yielded b s key store).entry.key ≡ key
+yielded-key true s key store = refl
+yielded-key false s key store = refl
+
+taken-key : (b : Bool) (store : Option Store) (s : Board) (key : Key) → (taken_back b store s key).entry.key ≡ key
+taken-key true store s key = refl
+taken-key false None s key = refl
+taken-key false (Some store) s key = refl
+
+sub-key : (s : Board) (key : Key) (request : Asked) → (sub_access s key request).entry.key ≡ key
+unfolding sub_access
+sub-key s key (ReadByte at) = refl
+sub-key s key (WriteByte at value) = refl
+sub-key s key (HandOver store) = yielded-key s.request s key store
+sub-key s key TakeBack = taken-key s.request s.store s key
+
+-- pins go by the lines alone
+pins-same : (b : Bool) (old new : Board) → new.request ≡ old.request → new.reset ≡ old.reset → new.resets ≡ old.resets → pins_by b new ≡ pins_by b old
+pins-same true old new a b c = ap (λ (r : Bool). pins.Sub (record { request = r; reset = new.reset; resets = new.resets; int_from = 0; int_to = 0 })) a
+    ∙ ap (λ (r : Bool). pins.Sub (record { request = old.request; reset = r; resets = new.resets; int_from = 0; int_to = 0 })) b
+    ∙ ap (λ (n : ℕ). pins.Sub (record { request = old.request; reset = old.reset; resets = n; int_from = 0; int_to = 0 })) c
+pins-same false old new a b c = refl
 
 -- an access leads to a next event a gap later
-access-next : (c : Chip) (s : BoardValue) (i : ℕ) → IsDue five IsChip IsBoard c s i false → Follows gap (next c).key (next (advance (perform c s).chip)).key
-unfolding next_of
-access-next (Main c) s i d = record { number = refl; later = answered-later c.chip _ d.chip d.kind (answer-fits (request_of c.chip.cart c.chip.state)) }
-access-next (Sub c) s i d = absurd (clash d.kind)
+access-next : (c : Chip) (s : Board) (i : ℕ) → IsDue five IsChip IsBoard c s i false → Follows gap (next c).key (next (advance (perform c s).chip)).key
+unfolding next_of sub_next_of
+access-next (Main c) s i d = record { number = refl; later = answered-later c.chip _ d.chip d.kind (answer-fits s (request_of c.chip.cart c.chip.state) d.shared) }
+access-next (Sub c) s i d = record { number = refl; later = sub-later c s d.chip d.kind }
 access-next (Line c) s i d = record { number = refl; later = omega arith }
 access-next (Fm c) s i d = record { number = refl; later = omega arith }
 access-next (Psg c) s i d = record { number = refl; later = omega arith }
 
-sample-next : (c : Chip) (s : BoardValue) (i : ℕ) → IsDue five IsChip IsBoard c s i true → Follows gap (next c).key (next (sample c no_pins)).key
-unfolding next_of
-sample-next (Main c) s i d = record { number = refl; later = begun-later c.chip 0 d.chip d.kind }
-sample-next (Sub c) s i d = record { number = refl; later = omega arith }
+sample-next : (c : Chip) (s : Board) (i : ℕ) → IsDue five IsChip IsBoard c s i true → Follows gap (next c).key (next (sample c (pins_of s i))).key
+unfolding next_of sub_next_of
+sample-next (Main c) s i d = record { number = refl; later = begun-later c.chip (level_in (pins_of s i)) d.chip d.kind }
+sample-next (Sub c) s i d = record { number = refl; later = laws80.begun-later c.chip (sub_in (pins_of s i)) d.chip d.kind }
 sample-next (Line c) s i d = absurd (clash (sym d.kind))
 sample-next (Fm c) s i d = absurd (clash (sym d.kind))
 sample-next (Psg c) s i d = absurd (clash (sym d.kind))
@@ -62,51 +177,51 @@ le_from n limit is = grind (arith, nat_tests)
 kept-few : (old batch : List ℤ) → length batch ≡ 16 → length old ≤ 896 → length (kept old batch) ≤ 896
 kept-few old batch sixteen few = kept_by (nat_le (length old) 880) old batch (le_from (length old) 880) sixteen few
 
-psg-ok : (c : PsgValue) (s : BoardValue) → IsPsg c → IsBoard s → IsPsg (psg_advance (psg_perform c s).chip)
+psg-ok : (c : PsgValue) (s : Board) → IsPsg c → IsBoard s → IsPsg (psg_advance (psg_perform c s).chip)
 psg-ok c s ok board = record {
   synth = IsSynth-after_batch (first_of c.cycle) c.synth (taken_below c.cycle s.held) ok.synth;
-  taken = taken_below-few c.cycle s.held board;
+  taken = taken_below-few c.cycle s.held board.held;
   samples = kept-few c.samples (samples (first_of c.cycle) c.synth (taken_below c.cycle s.held)) (length-samples (first_of c.cycle) c.synth (taken_below c.cycle s.held)) ok.samples;
 }
 
-access-chip : (c : Chip) (s : BoardValue) (i : ℕ) → IsDue five IsChip IsBoard c s i false → IsChip (advance (perform c s).chip)
-access-chip (Main c) s i d = answered-ok c.chip _ d.chip d.kind (answer-fits (request_of c.chip.cart c.chip.state))
-access-chip (Sub c) s i d = tt
+access-chip : (c : Chip) (s : Board) (i : ℕ) → IsDue five IsChip IsBoard c s i false → IsChip (advance (perform c s).chip)
+access-chip (Main c) s i d = answered-ok c.chip _ d.chip d.kind (answer-fits s (request_of c.chip.cart c.chip.state) d.shared)
+access-chip (Sub c) s i d = sub-ok c s d.chip d.shared d.kind
 access-chip (Line c) s i d = tt
 access-chip (Fm c) s i d = tt
 access-chip (Psg c) s i d = psg-ok c s d.chip d.shared
 
-sample-chip : (c : Chip) (s : BoardValue) (i : ℕ) → IsDue five IsChip IsBoard c s i true → IsChip (sample c no_pins)
-sample-chip (Main c) s i d = begun-ok c.chip 0 refl d.chip d.kind
-sample-chip (Sub c) s i d = tt
+sample-chip : (c : Chip) (s : Board) (i : ℕ) → IsDue five IsChip IsBoard c s i true → IsChip (sample c (pins_of s i))
+sample-chip (Main c) s i d = begun-ok c.chip (level_in (pins_of s i)) (level-known (i == 1) s) d.chip d.kind
+sample-chip (Sub c) s i d = laws80.begun-ok c.chip (sub_in (pins_of s i)) d.chip d.kind
 sample-chip (Line c) s i d = tt
 sample-chip (Fm c) s i d = tt
 sample-chip (Psg c) s i d = d.chip
-
--- an access of a processor leaves a port
-held_by-ok : (held : List PsgWrite) (key : Key) (byte : Option ℕ) → IsPort held → key.chip < 2 → IsPort (held_by held key byte)
-held_by-ok held key None ok low = ok
-held_by-ok held key (Some value) ok low = IsPort-held_with held key value low ok
-
-held-ok : (held : List PsgWrite) (key : Key) (request : Request68) → IsPort held → key.chip < 2 → IsPort (held_after held key request)
-unfolding held_after
-held-ok held key request ok low = held_by-ok held key (psg_byte request) ok low
 
 main-low : (state : State68) → (next_of state).key.chip < 2
 unfolding next_of
 main-low state = lit< tt
 
-access-shared : (c : Chip) (s : BoardValue) (i : ℕ) → IsDue five IsChip IsBoard c s i false → IsBoard (perform c s).shared
-access-shared (Main c) s i d = held-ok s.held (next_of c.chip.state).key _ d.shared (main-low c.chip.state)
-access-shared (Sub c) s i d = d.shared
-access-shared (Line c) s i d = d.shared
+access-shared : (c : Chip) (s : Board) (i : ℕ) → IsDue five IsChip IsBoard c s i false → IsBoard (perform c s).shared
+access-shared (Main c) s i d = main-ok s (next_of c.chip.state).key _ (main-low c.chip.state) d.shared
+access-shared (Sub c) s i d = keeps.sub-ok s (sub_next_of c.chip.state).key _ (sub-low c.chip.state) (hands-over c d.chip) d.shared
+access-shared (Line c) s i d = line-ok s c.cycle d.shared
 access-shared (Fm c) s i d = d.shared
-access-shared (Psg c) s i d = IsPort-left_from c.cycle s.held d.shared
+access-shared (Psg c) s i d = psg_board-ok s c.cycle d.shared
 
-access-entry : (c : Chip) (s : BoardValue) (i : ℕ) → IsDue five IsChip IsBoard c s i false → (perform c s).entry.key ≡ (next c).key
-unfolding entry_of
-access-entry (Main c) s i d = refl
-access-entry (Sub c) s i d = refl
+-- the entry of an access has its key
+entry-key : (key : Key) (request : Request68) (given : ℕ) → (main_entry key request given).key ≡ key
+entry-key key (Read8 at) given = refl
+entry-key key (Read16 at) given = refl
+entry-key key (Write8 at value) given = refl
+entry-key key (Write16 at value) given = refl
+entry-key key (Ack level) given = refl
+entry-key key (Word value) given = refl
+
+access-entry : (c : Chip) (s : Board) (i : ℕ) → IsDue five IsChip IsBoard c s i false → (perform c s).entry.key ≡ (next c).key
+unfolding main_told
+access-entry (Main c) s i d = entry-key (next_of c.chip.state).key (request_of c.chip.cart c.chip.state) _
+access-entry (Sub c) s i d = sub-key s (sub_next_of c.chip.state).key (asked_of c.chip.cart c.chip.state)
 access-entry (Line c) s i d = refl
 access-entry (Fm c) s i d = refl
 access-entry (Psg c) s i d = refl
@@ -117,6 +232,21 @@ gap_from true b1 b2 = (lit≤ tt, lit≤ tt)
 gap_from false true b2 = (lit≤ tt, lit≤ tt)
 gap_from false false true = (lit≤ tt, lit≤ tt)
 gap_from false false false = (lit≤ tt, lit≤ tt)
+
+main-number : (c : MainChip) (i : ℕ) → (next (Main c)).key.chip ≡ i → 0 ≡ i
+unfolding next_of
+main-number c i is = is
+
+-- pins change only by those that write them
+leaves-pins : (c : Chip) (s : Board) (i j : ℕ) → IsDue five IsChip IsBoard c s i false → writes i j ≡ false → pins_of (perform c s).shared j ≡ pins_of s j
+unfolding psg_board
+leaves-pins (Main c) s i j d other = absurd (clash (subst (λ (n : ℕ). writes n j ≡ false) (sym (main-number c i d.number)) other))
+leaves-pins (Sub c) s i j d other =
+    let same = sub_leaves s (sub_next_of c.chip.state).key (asked_of c.chip.cart c.chip.state) in
+    pins-same (j == 1) s _ same.request same.reset same.resets
+leaves-pins (Line c) s i j d other = absurd (clash (subst (λ (n : ℕ). writes n j ≡ false) (sym d.number) other))
+leaves-pins (Fm c) s i j d other = refl
+leaves-pins (Psg c) s i j d other = pins-same (j == 1) s _ refl refl refl
 
 -- the laws
 pub lawful : Lawful five IsChip IsBoard
@@ -131,5 +261,5 @@ lawful = record {
   sample_chip = sample-chip;
   sample_next = sample-next;
   entry = access-entry;
-  leaves = λ c s i j due other. refl;
+  leaves = leaves-pins;
 }

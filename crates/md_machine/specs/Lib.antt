@@ -1,4 +1,3 @@
-pub mod Bus
 pub mod Code
 pub mod Console
 pub mod Drained
@@ -7,7 +6,9 @@ pub mod Laws
 pub mod Machines
 pub mod Movers
 pub mod Outputs
+pub mod Pads
 pub mod Parts
+pub mod Pins
 pub mod Refinement
 pub mod Rules
 pub mod ShownParts

@@ -6,7 +6,7 @@ use Rattle.chip_core.specs.Cores.{CoreValue, IsCore, machine_of}
 use Rattle.chip_core.specs.Machines as machines
 use Rattle.chip_core.specs.Machines.{Machine}
 use Rattle.md_machine.specs.Console.{Console}
-use Rattle.md_machine.specs.Parts.{BoardValue, IsBoard}
+use Rattle.bus_shared.specs.Board.{Board, IsBoard, power_on}
 use Rattle.md_machine.specs.Refinement.{console, psg_of}
 use Rattle.md_machine.specs.Rules.{IsChip, five}
 use Rattle.md_machine.specs.declared.chips.Chip.{Chip}
@@ -20,9 +20,9 @@ pub record MachineValue : Type 0 where
   pub levels : List ℤ
 
 -- the core of these parts
-abbrev pub core_in : Option BoardValue → List Chip → List Key → List Entry → ℕ → CoreValue Chip BoardValue
+abbrev pub core_in : Option Board → List Chip → List Key → List Entry → ℕ → CoreValue Chip Board
 core_in board chips bounds entries room = record {
-  shared = unwrap_or board (record { held = [] });
+  shared = unwrap_or board (power_on []);
   chips = chips;
   bounds = bounds;
   journal = entries;
@@ -30,11 +30,11 @@ core_in board chips bounds entries room = record {
 }
 
 -- the levels that a machine of five chips keeps
-abbrev pub kept_in : Machine Chip BoardValue → List ℤ
+abbrev pub kept_in : Machine Chip Board → List ℤ
 kept_in m = (psg_of (m.chip 4)).samples
 
 -- the machine of a core that was brought to a cycle
-abbrev pub machine_at : ℕ → CoreValue Chip BoardValue → MachineValue
+abbrev pub machine_at : ℕ → CoreValue Chip Board → MachineValue
 machine_at at core = record {
   at = at;
   console = console (machine_of five core);
@@ -43,7 +43,7 @@ machine_at at core = record {
 }
 
 -- what holds of each machine: room for the entries of a segment, and no event below its cycle
-pub record IsMachine (at : ℕ) (board : Option BoardValue) (core : CoreValue Chip BoardValue) : Type 0 where
+pub record IsMachine (at : ℕ) (board : Option Board) (core : CoreValue Chip Board) : Type 0 where
   pub has_board : IsSome board
   pub sound : IsCore five IsChip IsBoard core
   pub room : 52500 ≤ core.room

@@ -1,14 +1,24 @@
 -- The parts of the machine as contracts see them.
-use Rattle.std.specs.Prelude.{ℕ, ℤ, ◌≤◌, List, length}
+use Rattle.std.specs.Prelude.{ℕ, ℤ, ◌≤◌, List, length, Option}
 use Rattle.m68k_chip.specs.Sound.{IsChip68}
+use Rattle.z80_chip.specs.Sound.{Chip80Value, IsChip80}
+use Rattle.z80_parcel.specs.Requests.{Told}
 use Rattle.md_machine.specs.declared.main_chip.MainChip.{MainChip}
-use Rattle.psg_sound.specs.Port.{IsPort}
 use Rattle.psg_sound.specs.Synth.{Synth, IsSynth}
 use Rattle.psg_sound.specs.declared.write.PsgWrite.{PsgWrite}
 
 -- what holds of the 68000
 abbrev pub IsMain : MainChip → Type 0
 IsMain c = IsChip68 c.chip
+
+-- the Z80, and what it was told between the two halves of an access
+pub record SubValue : Type 0 where
+  pub chip : Chip80Value
+  pub answer : Option Told
+
+-- what holds of the Z80
+abbrev pub IsSub : SubValue → Type 0
+IsSub c = IsChip80 c.chip
 
 -- the PSG's synthesis, the cycle of its next batch, the writes that it took for it, and its samples
 pub record PsgValue : Type 0 where
@@ -22,11 +32,3 @@ pub record IsPsg (c : PsgValue) : Type 0 where
   pub synth : IsSynth c.synth
   pub taken : length c.taken ≤ 1024
   pub samples : length c.samples ≤ 896
-
--- what the chips share: the writes that the PSG's port holds
-pub record BoardValue : Type 0 where
-  pub held : List PsgWrite
-
--- what holds of the board: its port is one
-abbrev pub IsBoard : BoardValue → Type 0
-IsBoard b = IsPort b.held

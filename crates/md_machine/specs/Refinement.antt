@@ -2,9 +2,11 @@
 use Rattle.std.specs.Prelude.{ℕ, [], None}
 use Rattle.chip_core.specs.Machines.{Machine}
 use Rattle.m68k_chip.specs.States as states
+use Rattle.z80_chip.specs.States as states80
 use Rattle.psg_sound.specs.Synth.{at_power_on}
 use Rattle.md_machine.specs.Console.{Console}
-use Rattle.md_machine.specs.Parts.{BoardValue, PsgValue}
+use Rattle.bus_shared.specs.Board.{Board}
+use Rattle.md_machine.specs.Parts.{PsgValue, SubValue}
 use Rattle.md_machine.specs.declared.main_chip.MainChip.{MainChip}
 use Rattle.md_machine.specs.declared.chips.Chip.{Chip}
 use Rattle.md_machine.specs.declared.chips.Chip.TheVariants.{Main, Sub, Line, Fm, Psg}
@@ -14,6 +16,11 @@ abbrev pub main_of : Chip → MainChip
 main_of (Main c) = c
 main_of _ = record { chip = record { cart = []; state = states.power_on [] }; answer = None }
 
+-- the Z80 of a chip; where it is another, any
+abbrev pub sub_of : Chip → SubValue
+sub_of (Sub c) = c
+sub_of _ = record { chip = record { cart = []; state = states80.power_on }; answer = None }
+
 -- the PSG of a chip; where it is another, any
 abbrev pub psg_of : Chip → PsgValue
 psg_of (Psg c) = c
@@ -21,25 +28,24 @@ psg_of _ = record { synth = at_power_on; cycle = 0; taken = []; samples = [] }
 
 -- the cycle of a chip that is not built yet
 abbrev pub cycle_of : Chip → ℕ
-cycle_of (Sub c) = c.cycle
 cycle_of (Line c) = c.cycle
 cycle_of (Fm c) = c.cycle
 cycle_of _ = 0
 
--- the record of five chips and a board: the answer that the 68000 keeps, the writes that the PSG
+-- the record of five chips and a board: the answers that the processors keep, the writes that the PSG
 -- took and the samples that it keeps are left out
-abbrev pub record_of : Chip → Chip → Chip → Chip → Chip → BoardValue → Console
+abbrev pub record_of : Chip → Chip → Chip → Chip → Chip → Board → Console
 record_of c0 c1 c2 c3 c4 b = record {
   cart = (main_of c0).chip.cart;
   main = (main_of c0).chip.state;
-  sub = cycle_of c1;
+  sub = (sub_of c1).chip;
   line = cycle_of c2;
   fm = cycle_of c3;
   psg_cycle = (psg_of c4).cycle;
   psg = (psg_of c4).synth;
-  held = b.held;
+  shared = b;
 }
 
 -- the record of a machine
-unfoldable pub console : Machine Chip BoardValue → Console
+unfoldable pub console : Machine Chip Board → Console
 console m = record_of (m.chip 0) (m.chip 1) (m.chip 2) (m.chip 3) (m.chip 4) m.shared

@@ -1,17 +1,26 @@
 -- What each chip of the set does, put into the scheduler's form.
-use Rattle.std.specs.Prelude.{ℕ, ℤ, ◌+◌, ◌-◌, ◌*◌, ◌/◌, ◌%◌, ◌^◌, ◌==◌, nat_le, Bool, false, ◌||◌, if◌then◌else◌, refl, List, ◌++◌, length, Option, Some, None}
+use Rattle.std.specs.Prelude.{ℕ, ℤ, ◌+◌, ◌-◌, ◌*◌, ◌/◌, ◌==◌, nat_le, Bool, false, ◌||◌, if◌then◌else◌, List, ◌++◌, length, Option, Some, None}
 use Rattle.md_word.specs.declared.event.Next.{Next}
 use Rattle.md_word.specs.declared.main_bus.Answer68.{Answer68}
-use Rattle.md_word.specs.declared.pins.Pins68.{Pins68}
+use Rattle.md_word.specs.declared.pins.Pins80.{Pins80}
 use Rattle.chip_core.specs.Chips.{Accessed, Rules}
 use Rattle.m68k_chip.specs.Events.{answered, begun, request_of}
 use Rattle.m68k_chip.specs.States.{next_of}
+use Rattle.z80_chip.specs.Events as events80
+use Rattle.z80_chip.specs.Events.{asked_of, handed}
+use Rattle.z80_chip.specs.States.{next_of as sub_next_of}
+use Rattle.z80_parcel.specs.Requests.{Told, Nothing}
+use Rattle.md_machine.specs.Pins.{level_in, pins_of, sub_in}
+use Rattle.md_machine.specs.declared.pins.Pins.{Pins}
 use Rattle.psg_sound.specs.Batches.{after_batch, samples}
-use Rattle.psg_sound.specs.Port.{left_from, taken_below}
-use Rattle.md_machine.specs.Bus.{answer_of, entry_of, held_after}
-use Rattle.md_machine.specs.Parts.{BoardValue, IsMain, IsPsg, PsgValue}
+use Rattle.psg_sound.specs.Port.{taken_below}
+use Rattle.bus_shared.specs.Accesses.{level_of, line_board, main_answer, main_board, main_told, psg_board, sub_access}
+use Rattle.bus_shared.specs.Entries.{batch_entry, line_entry}
+use Rattle.bus_shared.specs.Board.{Board}
+use Rattle.md_machine.specs.Parts.{IsMain, IsPsg, IsSub, PsgValue, SubValue}
 use Rattle.md_machine.specs.Stubs as stubs
 use Rattle.md_machine.specs.declared.main_chip.MainChip.{MainChip}
+use Rattle.md_machine.specs.declared.stubs.LineStub.{LineStub}
 use Rattle.md_machine.specs.declared.chips.Chip.{Chip}
 use Rattle.md_machine.specs.declared.chips.Chip.TheVariants.{Main, Sub, Line, Fm, Psg}
 
@@ -29,15 +38,44 @@ abbrev pub main_sample : MainChip → ℕ → MainChip
 main_sample c level = record c { chip = record c.chip { state = begun c.chip.cart c.chip.state level } }
 
 -- the board answers the 68000's access
-abbrev pub main_perform : MainChip → BoardValue → Accessed MainChip BoardValue
+abbrev pub main_perform : MainChip → Board → Accessed MainChip Board
 main_perform c b =
     let request = request_of c.chip.cart c.chip.state in
     let key = (next_of c.chip.state).key in
     record {
-      chip = record c { answer = Some (answer_of request) };
-      shared = record { held = held_after b.held key request };
-      entry = entry_of key request;
+      chip = record c { answer = Some (main_answer b request) };
+      shared = main_board b key request;
+      entry = main_told b key request;
     }
+
+-- what the Z80 was told; where nothing is kept, nothing
+abbrev pub told_in : Option Told → Told
+told_in None = Nothing
+told_in (Some answer) = answer
+
+-- the board answers the Z80's access, which hands over what it asks with
+abbrev pub sub_perform : SubValue → Board → Accessed SubValue Board
+sub_perform c b =
+    let key = (sub_next_of c.chip.state).key in
+    let access = sub_access b key (asked_of c.chip.cart c.chip.state) in
+    record {
+      chip = record { chip = record c.chip { state = handed c.chip.state }; answer = Some access.answer };
+      shared = access.board;
+      entry = access.entry;
+    }
+
+-- the private work takes the answer
+abbrev pub sub_advance : SubValue → SubValue
+sub_advance c = record { chip = record c.chip { state = events80.answered c.chip.cart c.chip.state (told_in c.answer) }; answer = None }
+
+-- the Z80 goes on from a sample
+abbrev pub sub_sample : SubValue → Pins80 → SubValue
+sub_sample c pins = record c { chip = record c.chip { state = events80.begun c.chip.cart c.chip.state pins } }
+
+-- the start of a line
+abbrev pub line_perform : LineStub → Board → Accessed LineStub Board
+line_perform c b =
+    record { chip = c; shared = line_board b c.cycle; entry = line_entry (stubs.line_next c.cycle).key (level_of (line_board b c.cycle)) }
 
 -- a batch of the PSG is an access
 abbrev pub psg_next : ℕ → Next
@@ -52,12 +90,12 @@ abbrev pub kept : List ℤ → List ℤ → List ℤ
 kept old batch = if nat_le (length old) 880 then old ++ batch else old
 
 -- it takes the writes below its cycle, and tells how many
-abbrev pub psg_perform : PsgValue → BoardValue → Accessed PsgValue BoardValue
+abbrev pub psg_perform : PsgValue → Board → Accessed PsgValue Board
 psg_perform c b =
     record {
       chip = record c { taken = taken_below c.cycle b.held };
-      shared = record { held = left_from c.cycle b.held };
-      entry = record { key = (psg_next c.cycle).key; kind = 12; address = c.cycle / 16128 % 2 ^ 32; value = length (taken_below c.cycle b.held) };
+      shared = psg_board b c.cycle;
+      entry = batch_entry 12 (psg_next c.cycle).key (length (taken_below c.cycle b.held));
     }
 
 -- it makes its batch, and keeps the samples
@@ -73,39 +111,35 @@ psg_advance c =
 -- the five chips
 abbrev pub next : Chip → Next
 next (Main c) = next_of c.chip.state
-next (Sub c) = stubs.sub_next c.cycle
+next (Sub c) = sub_next_of c.chip.state
 next (Line c) = stubs.line_next c.cycle
 next (Fm c) = stubs.fm_next c.cycle
 next (Psg c) = psg_next c.cycle
 
 -- what an access of one kind of chip leaves
-abbrev pub of_kind : {A : Type 0} → (A → Chip) → Accessed A BoardValue → Accessed Chip BoardValue
+abbrev pub of_kind : {A : Type 0} → (A → Chip) → Accessed A Board → Accessed Chip Board
 of_kind kind a = record { chip = kind a.chip; shared = a.shared; entry = a.entry }
 
 -- the part of each chip's access that needs the board
-abbrev pub perform : Chip → BoardValue → Accessed Chip BoardValue
+abbrev pub perform : Chip → Board → Accessed Chip Board
 perform (Main c) b = of_kind Main (main_perform c b)
-perform (Sub c) b = record { chip = Sub c; shared = b; entry = stubs.sub_entry c.cycle }
-perform (Line c) b = record { chip = Line c; shared = b; entry = stubs.line_entry c.cycle }
-perform (Fm c) b = record { chip = Fm c; shared = b; entry = stubs.fm_entry c.cycle }
+perform (Sub c) b = of_kind Sub (sub_perform c b)
+perform (Line c) b = of_kind Line (line_perform c b)
+perform (Fm c) b = record { chip = Fm c; shared = b; entry = batch_entry 11 (stubs.fm_next c.cycle).key 0 }
 perform (Psg c) b = of_kind Psg (psg_perform c b)
 
 -- each chip's private work after an access
 abbrev pub advance : Chip → Chip
 advance (Main c) = Main (main_advance c)
-advance (Sub c) = Sub c
+advance (Sub c) = Sub (sub_advance c)
 advance (Line c) = Line (record { cycle = c.cycle + 3420 })
 advance (Fm c) = Fm (record { cycle = c.cycle + 16128 })
 advance (Psg c) = Psg (psg_advance c)
 
--- no interrupt is asked for on the board that is built
-abbrev pub no_pins : Pins68
-no_pins = record { level = 0; known = refl }
-
 -- each chip's sample
-abbrev pub sample : Chip → Pins68 → Chip
-sample (Main c) pins = Main (main_sample c pins.level)
-sample (Sub c) pins = Sub (record { cycle = c.cycle + 45 })
+abbrev pub sample : Chip → Pins → Chip
+sample (Main c) pins = Main (main_sample c (level_in pins))
+sample (Sub c) pins = Sub (sub_sample c (sub_in pins))
 sample (Line c) pins = Line c
 sample (Fm c) pins = Fm c
 sample (Psg c) pins = Psg c
@@ -119,23 +153,23 @@ abbrev pub gap : ℕ → ℕ
 gap i = if i == 0 then 28 else (if i == 1 then 45 else (if i == 2 then 3420 else 16128))
 
 -- the set
-abbrev pub five : Rules Chip BoardValue Pins68
+abbrev pub five : Rules Chip Board Pins
 five = record {
   count = 5;
   next = next;
   perform = perform;
   advance = advance;
-  pins = λ board chip. no_pins;
+  pins = pins_of;
   sample = sample;
   writes = writes;
   gap = gap;
-  blank = Sub (record { cycle = 0 });
+  blank = Line (record { cycle = 0 });
 }
 
 -- the chips and the board that the code can have
 abbrev pub IsChip : Chip → Type 0
 IsChip (Main c) = IsMain c
-IsChip (Sub c) = Unit {0}
+IsChip (Sub c) = IsSub c
 IsChip (Line c) = Unit {0}
 IsChip (Fm c) = Unit {0}
 IsChip (Psg c) = IsPsg c

@@ -1,6 +1,7 @@
 use crate::main_chip::MainChip;
 use crate::psg_chip::PsgChip;
-use crate::stubs::{FmStub, LineStub, SubStub};
+use crate::stubs::{FmStub, LineStub};
+use crate::sub_chip::SubChip;
 
 /// A chip of the machine.
 #[derive(Drop)]
@@ -8,7 +9,7 @@ pub enum Chip {
     /// The 68000, chip 0.
     Main(MainChip),
     /// The Z80, chip 1.
-    Sub(SubStub),
+    Sub(SubChip),
     /// The drawing half of the VDP, chip 2.
     Line(LineStub),
     /// The FM synthesis, chip 3.

@@ -1,26 +1,34 @@
 ghost use Rattle.std.specs.Prelude.{◌≡◌, [], IfOk};
 ghost use Rattle.std.specs.Arc.{arc_value};
 ghost use Rattle.rom_header.specs.Cartridge.{IsImage};
+ghost use Rattle.bus_shared.specs.Board.{power_on};
 ghost use Rattle.md_machine.specs.First as first;
 
-use crate::board::Board;
 use crate::chips::Chip;
 use crate::main_chip::MainChip;
 use crate::psg_chip::PsgChip;
 use crate::set::MdChips;
-use crate::stubs::{FmStub, LineStub, SubStub};
+use crate::stubs::{FmStub, LineStub};
+use crate::sub_chip::SubChip;
+use bus_shared::Shared;
 use chip_core::Core;
 use m68k_chip::Chip68;
+use md_pads::Recording;
 use md_word::{Key, NoMemory};
 use rom_header::Cart;
 use std::alloc::Global;
 use std::sync::Arc;
+use z80_chip::Chip80;
 
 /// The five chips at power-on.
 pub(crate) fn first_chips(alloc: Global, cart: Arc<Cart>) -> Result<Vec<Chip>, NoMemory>
     ensures { IfOk result (λ chips. (chips.items ≡ first.first_chips (arc_value cart)) × IsImage (arc_value cart)) }
 {
     cart.bytes();
+    let sub = SubChip {
+        chip: Chip80::power_on(alloc, cart.clone()?)?,
+        answer: None,
+    };
     let main = MainChip {
         chip: Chip68::power_on(alloc, cart)?,
         answer: None,
@@ -28,7 +36,7 @@ pub(crate) fn first_chips(alloc: Global, cart: Arc<Cart>) -> Result<Vec<Chip>, N
     let psg = PsgChip::power_on(alloc)?;
     let chips = [
         Chip::Main(main),
-        Chip::Sub(SubStub { cycle: 0 }),
+        Chip::Sub(sub),
         Chip::Line(LineStub { cycle: 0 }),
         Chip::Fm(FmStub { cycle: 16_128 }),
         Chip::Psg(psg),
@@ -56,20 +64,25 @@ pub(crate) fn first_bounds(alloc: Global) -> Result<Vec<Key>, NoMemory>
     Ok(Vec::from_array(alloc, bounds)?)
 }
 
-/// The core of the five chips at power-on with this cartridge: each bound is its chip's key, and the
-/// journal has room for so many entries.
-pub fn first_core(alloc: Global, cart: Arc<Cart>, room: usize) -> Result<Core<MdChips>, NoMemory>
+/// The core of the five chips at power-on with this cartridge and this recording of the pads: each
+/// bound is its chip's key, and the journal has room for so many entries.
+pub fn first_core(
+    alloc: Global,
+    cart: Arc<Cart>,
+    recording: Arc<Recording>,
+    room: usize,
+) -> Result<Core<MdChips>, NoMemory>
     ensures { IfOk result (λ core. core ≡ record {
-      shared = record { held = [] };
+      shared = power_on (arc_value recording);
       chips = first.first_chips (arc_value cart);
       bounds = first.first_bounds;
       journal = [];
       room = room;
     }) }
 {
-    let board = Board::power_on(alloc)?;
+    let shared = Shared::power_on(alloc, recording)?;
     let chips = first_chips(alloc, cart)?;
     let bounds = first_bounds(alloc)?;
     let journal = Vec::with_capacity(alloc, room)?;
-    Ok(Core::make(board, chips, bounds, journal))
+    Ok(Core::make(shared, chips, bounds, journal))
 }

@@ -3,7 +3,9 @@
 ghost use Rattle.std.specs.Prelude.{◌≡◌, ℕ, ℤ, ◌+◌, ◌-◌, ◌*◌, ◌/◌, ◌^◌, ◌≤◌, ◌++◌, List, length};
 ghost use Rattle.md_word.specs.declared.event.Entry.{Entry};
 ghost use Rattle.chip_core.specs.Limits.{events_within};
-ghost use Rattle.md_machine.specs.Console.{AllBelow, Console, IsRunTo, power_on};
+ghost use Rattle.md_pads.specs.Recording.{Frame};
+ghost use Rattle.md_machine.specs.Console.{AllBelow, Console, IsRunTo, power_on, ran};
+ghost use Rattle.md_machine.specs.Pads.{ShowsPads};
 ghost use Rattle.md_machine.specs.Rules.{five};
 
 use crate::set::MdChips;
@@ -21,13 +23,13 @@ pub fn joined()
 /// From power-on a run to a cycle makes 16 levels for each multiple of 16,128 cycles, from the first
 /// on, that lies below it.
 pub fn levels_counted()
-    ensures { (cart : List ℕ) (z : Console) (end : ℕ) (entries : List Entry) (sound : List ℤ) → 1 ≤ end
-        → IsRunTo (power_on cart) end z entries sound → length sound ≡ 16 * ((end - 1) / 16128) }
+    ensures { (cart : List ℕ) (recording : List Frame) (z : Console) (end : ℕ) (entries : List Entry) (sound : List ℤ) → 1 ≤ end
+        → IsRunTo (power_on cart recording) end z entries sound → length sound ≡ 16 * ((end - 1) / 16128) }
 {}
 
 /// From power-on there are never more events below a cycle than cycles and chips.
 pub fn few_events(cart: &Cart)
-    ensures { (end n : ℕ) → end ≤ 2 ^ 50 → AllBelow (power_on cart.now) end n → n ≤ end + 5 }
+    ensures { (recording : List Frame) (end n : ℕ) → end ≤ 2 ^ 50 → AllBelow (power_on cart.now recording) end n → n ≤ end + 5 }
 {
     cart.bytes();
     laws::stages::<MdChips>();
@@ -37,4 +39,10 @@ pub fn few_events(cart: &Cart)
 /// How many events a list of enabled events of the five chips has at most, over so many cycles.
 pub fn few_in_list()
     ensures { (span : ℕ) → events_within five span ≤ 2 * (span / 28 + span / 45 + span / 3420 + 2 * (span / 16128) + 10) }
+{}
+
+/// From power-on, after any number of events, the pads show no button before line 224 of the first
+/// frame has begun, and from then on the recording's words of the frame whose line 224 began last.
+pub fn pads_are_recorded()
+    ensures { (cart : List ℕ) (recording : List Frame) (moves : ℕ) → ShowsPads recording (ran (power_on cart recording) moves) }
 {}

@@ -1,8 +1,6 @@
 //! The machine of five chips.
 #![tactic(auto)]
 
-mod access;
-mod board;
 mod chips;
 mod drains;
 mod first;
@@ -12,10 +10,13 @@ mod machine;
 mod main_chip;
 mod main_events;
 mod parts;
+mod pins;
 mod psg_chip;
 mod set;
 mod stubs;
+mod sub_chip;
 
 pub use first::first_core;
 pub use machine::Machine;
+pub use pins::Pins;
 pub use set::MdChips;

@@ -5,15 +5,16 @@ ghost use Rattle.md_machine.specs.Outputs.{journal_bytes, sound_bytes};
 ghost use Rattle.md_machine.specs.Refinement.{main_of};
 ghost use Rattle.md_machine.specs.Rules.{next};
 
-use crate::board::Board;
 use crate::chips::Chip;
 use crate::drains::{drain_chip, put_entries};
 use crate::first::{first_bounds, first_chips};
 use crate::least::least_key;
 use crate::parts::{Parts, run_parts};
 use crate::set::MdChips;
+use bus_shared::Shared;
 use chip_core::laws;
 use m68k_chip::Chip68;
+use md_pads::Recording;
 use md_word::{Entry, Key, NoMemory};
 use rom_header::Cart;
 use std::alloc::Global;
@@ -28,7 +29,7 @@ const MOST_ENTRIES: usize = 52_500;
 #[derive(Drop)]
 pub struct Machine {
     at: u64,
-    board: Option<Board>,
+    shared: Option<Shared>,
     chips: Vec<Chip>,
     bounds: Vec<Key>,
     journal: Vec<Entry>,
@@ -40,23 +41,27 @@ impl Model for Machine {
 
     ghost Value = { MachineValue };
 
-    ghost view = { λ m. machine_at m.at (core_in m.board m.chips.items m.bounds.items m.journal.items (vec_capacity m.journal)) };
+    ghost view = { λ m. machine_at m.at (core_in m.shared m.chips.items m.bounds.items m.journal.items (vec_capacity m.journal)) };
 
-    ghost invariant = { λ m. IsMachine m.at m.board (core_in m.board m.chips.items m.bounds.items m.journal.items (vec_capacity m.journal)) };
+    ghost invariant = { λ m. IsMachine m.at m.shared (core_in m.shared m.chips.items m.bounds.items m.journal.items (vec_capacity m.journal)) };
 }
 
 impl Machine {
-    /// The machine at power-on with this cartridge. All memory that it ever needs is taken here.
-    pub fn power_on(alloc: Global, cart: Arc<Cart>) -> Result<Machine, NoMemory>
-        ensures { IfOk result (λ machine. machine ≡ record { at = 0; console = power_on (arc_value cart); entries = []; levels = [] }) }
+    /// The machine at power-on with this cartridge and this recording of the pads. All memory that it ever needs is taken here.
+    pub fn power_on(
+        alloc: Global,
+        cart: Arc<Cart>,
+        recording: Arc<Recording>,
+    ) -> Result<Machine, NoMemory>
+        ensures { IfOk result (λ machine. machine ≡ record { at = 0; console = power_on (arc_value cart) (arc_value recording); entries = []; levels = [] }) }
     {
-        let board = Board::power_on(alloc)?;
+        let shared = Shared::power_on(alloc, recording)?;
         let chips = first_chips(alloc, cart)?;
         let bounds = first_bounds(alloc)?;
         let journal = Vec::with_capacity(alloc, MOST_ENTRIES)?;
         Ok(Machine {
             at: 0,
-            board: Some(board),
+            shared: Some(shared),
             chips,
             bounds,
             journal,
@@ -90,21 +95,21 @@ impl Machine {
         ensures entries { length self.new.entries ≤ 52500 }
         ensures levels { length self.new.levels ≤ 896 }
     {
-        if let Some(board) = self.board.take() {
+        if let Some(shared) = self.shared.take() {
             let alloc = *self.chips.allocator();
             let parts = Parts {
-                board,
+                shared,
                 chips: mem::replace(&mut self.chips, Vec::new(alloc)),
                 bounds: mem::replace(&mut self.bounds, Vec::new(alloc)),
                 journal: mem::replace(&mut self.journal, Vec::new(alloc)),
             };
             let Parts {
-                board,
+                shared,
                 chips,
                 bounds,
                 journal,
             } = run_parts(parts, self.at, to);
-            self.board = Some(board);
+            self.shared = Some(shared);
             self.chips = chips;
             self.bounds = bounds;
             self.journal = journal;
@@ -145,7 +150,7 @@ impl Machine {
 }
 
 /// The 68000 of the chip whose number is 0.
-#[tactic(auto, unfolding(m68k_chip::specs::States::next_of))]
+#[tactic(auto, unfolding(m68k_chip::specs::States::next_of, z80_chip::specs::States::next_of))]
 fn main_in(chip: &Chip) -> &Chip68
     requires { (next chip.now).key.chip ≡ 0 }
     ensures { result.now ≡ (main_of chip.now).chip }

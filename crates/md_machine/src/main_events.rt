@@ -2,12 +2,13 @@ ghost use Rattle.std.specs.Prelude.{◌≡◌, ◌^◌, ◌<◌, true, false, If
 ghost use Rattle.m68k_chip.specs.Events.{request_of};
 ghost use Rattle.m68k_chip.specs.Sound.{Fits};
 ghost use Rattle.m68k_chip.specs.States.{next_of};
-ghost use Rattle.md_machine.specs.Parts.{BoardValue, IsMain};
+ghost use Rattle.bus_shared.specs.Board.{Board};
+ghost use Rattle.md_machine.specs.Parts.{IsMain};
 ghost use Rattle.md_machine.specs.Rules as rules;
 
-use crate::board::Board;
 use crate::main_chip::MainChip;
-use md_word::{Answer68, Entry, Next, Pins68};
+use bus_shared::{Request, Shared, carry_out};
+use md_word::{Entry, Next, Pins68};
 
 impl MainChip {
     pub(crate) fn next(&self) -> Next
@@ -18,16 +19,17 @@ impl MainChip {
     }
 
     /// The part of an access that needs the board: the answer is kept.
-    #[tactic(auto, unfolding(m68k_chip::specs::States::next_of))]
-    pub(crate) fn perform(&mut self, board: &mut Board) -> Entry
+    #[tactic(auto, unfolding(m68k_chip::specs::States::next_of, bus_shared::specs::Accesses::carried))]
+    pub(crate) fn perform(&mut self, shared: &mut Shared) -> Entry
         requires access { (next_of self.old.chip.state).sample ≡ false }
-        ensures chip { self.new ≡ (rules.main_perform self.old board.old).chip }
-        ensures board { board.new ≡ (rules.main_perform self.old board.old).shared }
-        ensures entry { result ≡ (rules.main_perform self.old board.old).entry }
+        ensures chip { self.new ≡ (rules.main_perform self.old shared.old).chip }
+        ensures shared { shared.new ≡ (rules.main_perform self.old shared.old).shared }
+        ensures entry { result ≡ (rules.main_perform self.old shared.old).entry }
     {
         let key = self.chip.next().key;
-        let (answer, entry) = board.carry_out(key, self.chip.request());
-        self.answer = Some(answer);
+        let request = Request::Main(self.chip.request());
+        let (answer, entry) = carry_out(shared, key, request);
+        self.answer = answer.main();
         entry
     }
 
@@ -44,11 +46,11 @@ impl MainChip {
         }
     }
 
-    pub(crate) fn sample(&mut self, pins: &Pins68)
+    pub(crate) fn sample(&mut self, pins: Pins68)
         requires sample { (next_of self.old.chip.state).sample ≡ true }
         requires cycle { self.old.chip.state.next < 2 ^ 50 }
-        ensures { self.new ≡ rules.main_sample self.old pins.now.level }
+        ensures { self.new ≡ rules.main_sample self.old pins.level }
     {
-        self.chip.sample(*pins);
+        self.chip.sample(pins);
     }
 }

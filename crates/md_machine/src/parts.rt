@@ -3,20 +3,20 @@ ghost use Rattle.chip_core.specs.Cores.{IsCore, machine_of};
 ghost use Rattle.chip_core.specs.Machines as machines;
 ghost use Rattle.md_machine.specs.Console.{IsRunTo};
 ghost use Rattle.md_machine.specs.Machines.{kept_in};
-ghost use Rattle.md_machine.specs.Parts.{IsBoard};
+ghost use Rattle.bus_shared.specs.Board.{IsBoard};
 ghost use Rattle.md_machine.specs.Refinement.{console};
 ghost use Rattle.md_machine.specs.Rules.{IsChip, five};
 ghost use Rattle.md_machine.specs.ShownParts.{core_of};
 
-use crate::board::Board;
 use crate::chips::Chip;
 use crate::set::MdChips;
+use bus_shared::Shared;
 use chip_core::{Core, laws};
 use md_word::{Entry, Key};
 
 /// What the machine is made of while it runs.
 pub(crate) struct Parts {
-    pub board: Board,
+    pub shared: Shared,
     pub chips: Vec<Chip>,
     pub bounds: Vec<Key>,
     pub journal: Vec<Entry>,
@@ -39,16 +39,16 @@ pub(crate) fn run_parts(parts: Parts, from: u64, to: u64) -> Parts
     ensures entries { length result.journal.items ≤ 52500 }
 {
     let Parts {
-        board,
+        shared,
         chips,
         bounds,
         journal,
     } = parts;
-    let mut core = Core::<MdChips>::make(board, chips, bounds, journal);
+    let mut core = Core::<MdChips>::make(shared, chips, bounds, journal);
     run_core(&mut core, from, to);
-    let (board, chips, bounds, journal) = core.into_parts();
+    let (shared, chips, bounds, journal) = core.into_parts();
     Parts {
-        board,
+        shared,
         chips,
         bounds,
         journal,

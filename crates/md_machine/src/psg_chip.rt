@@ -2,9 +2,9 @@ ghost use Rattle.std.specs.Prelude.{◌≡◌, ◌^◌, ◌<◌, IfOk, [], ◌+�
 ghost use Rattle.psg_sound.specs.Synth.{at_power_on};
 ghost use Rattle.md_machine.specs.Rules as rules;
 
-use crate::board::Board;
 use crate::stubs::next_at;
 use arrayvec::ArrayVec;
+use bus_shared::{Request, Shared, carry_out};
 use md_word::{Entry, Next, NoMemory};
 use psg_sound::{PsgList, PsgSynth};
 use std::alloc::Global;
@@ -22,22 +22,23 @@ pub(crate) const MOST_SAMPLES: usize = 896;
 pub struct PsgChip {
     synth: PsgSynth,
     cycle: u64,
-    taken: Box<PsgList>,
+    taken: Option<Box<PsgList>>,
     samples: Box<ArrayVec<i32, MOST_SAMPLES>>,
 }
 
 impl Model for PsgChip {
     ghost use Rattle.md_machine.specs.Parts.{PsgValue, IsPsg};
+    ghost use Rattle.std.specs.Prelude.{IsSome, unwrap_or, option_map, []};
 
     ghost Value = { PsgValue };
 
-    ghost view = { λ c. record { synth = c.synth; cycle = c.cycle; taken = c.taken.value.items; samples = c.samples.value.items } };
+    ghost view = { λ c. record { synth = c.synth; cycle = c.cycle; taken = unwrap_or (option_map (λ b. b.value.items) c.taken) []; samples = c.samples.value.items } };
 
-    ghost invariant = { λ c. IsPsg (record { synth = c.synth; cycle = c.cycle; taken = c.taken.value.items; samples = c.samples.value.items }) };
+    ghost invariant = { λ c. IsSome c.taken × IsPsg (record { synth = c.synth; cycle = c.cycle; taken = unwrap_or (option_map (λ b. b.value.items) c.taken) []; samples = c.samples.value.items }) };
 }
 
 impl PsgChip {
-    ghost use Rattle.md_machine.specs.Parts.{IsPsg, BoardValue};
+    ghost use Rattle.md_machine.specs.Parts.{IsPsg};
 
     /// The synthesis at power-on: silent, and its first batch at 16,128.
     pub(crate) fn power_on(alloc: Global) -> Result<PsgChip, NoMemory>
@@ -46,7 +47,7 @@ impl PsgChip {
         Ok(PsgChip {
             synth: PsgSynth::power_on(),
             cycle: BATCH,
-            taken: Box::new(alloc, PsgList::new())?,
+            taken: Some(Box::new(alloc, PsgList::new())?),
             samples: Box::new(alloc, ArrayVec::new())?,
         })
     }
@@ -59,18 +60,21 @@ impl PsgChip {
     }
 
     /// Takes the writes for the batch that is due.
-    pub(crate) fn perform(&mut self, board: &mut Board) -> Entry
+    #[tactic(auto, unfolding(bus_shared::specs::Accesses::carried))]
+    pub(crate) fn perform(&mut self, shared: &mut Shared) -> Entry
         requires { self.old.cycle < 2 ^ 50 }
-        ensures chip { self.new ≡ (rules.psg_perform self.old board.old).chip }
-        ensures board { board.new ≡ (rules.psg_perform self.old board.old).shared }
-        ensures entry { result ≡ (rules.psg_perform self.old board.old).entry }
+        ensures chip { self.new ≡ (rules.psg_perform self.old shared.old).chip }
+        ensures shared { shared.new ≡ (rules.psg_perform self.old shared.old).shared }
+        ensures entry { result ≡ (rules.psg_perform self.old shared.old).entry }
     {
-        board.take(self.cycle, &mut self.taken);
-        Entry {
-            key: self.next().key,
-            kind: 12,
-            address: (self.cycle / BATCH % 0x1_0000_0000) as u32,
-            value: self.taken.len() as u16,
+        shared.known();
+        let key = self.next().key;
+        if let Some(list) = self.taken.take() {
+            let (answer, entry) = carry_out(shared, key, Request::Psg(list));
+            self.taken = answer.list();
+            entry
+        } else {
+            unreachable!()
         }
     }
 
@@ -81,7 +85,9 @@ impl PsgChip {
     {
         let first = 16 * (self.cycle / BATCH).saturating_sub(1);
         let mut batch = [0; 16];
-        self.synth.batch(first, &self.taken, &mut batch);
+        if let Some(list) = &self.taken {
+            self.synth.batch(first, list, &mut batch);
+        }
         keep(&batch, &mut self.samples);
         self.cycle += BATCH;
     }

@@ -1,12 +1,14 @@
 ghost use Rattle.std.specs.Prelude.{◌≡◌};
-ghost use Rattle.md_machine.specs.Parts.{IsBoard};
+ghost use Rattle.bus_shared.specs.Board.{IsBoard};
+ghost use Rattle.md_machine.specs.Pins.{no_interrupt};
 ghost use Rattle.md_machine.specs.Rules as rules;
 ghost use Rattle.md_machine.specs.Code.{board_way, chip_way};
 ghost use Rattle.md_machine.specs.Laws.{lawful};
 ghost use Rattle.chip_core.specs.Codes.{code_of, core_of, coded};
 
-use crate::board::Board;
 use crate::chips::Chip;
+use crate::pins::Pins;
+use bus_shared::{Shared, pins68, pins80};
 use chip_core::ChipSet;
 use md_word::{Entry, Next, Pins68};
 
@@ -16,9 +18,9 @@ pub struct MdChips;
 impl ChipSet for MdChips {
     type Chip = Chip;
 
-    type Shared = Board;
+    type Shared = Shared;
 
-    type Pins = Pins68;
+    type Pins = Pins;
 
     ghost rules = { rules.five };
 
@@ -44,37 +46,41 @@ impl ChipSet for MdChips {
         }
     }
 
-    fn perform(chip: &mut Chip, board: &mut Board) -> Entry {
+    fn perform(chip: &mut Chip, shared: &mut Shared) -> Entry {
         match chip {
-            Chip::Main(main) => main.perform(board),
-            Chip::Sub(sub) => sub.perform(),
-            Chip::Line(line) => line.perform(),
-            Chip::Fm(fm) => fm.perform(),
-            Chip::Psg(psg) => psg.perform(board),
+            Chip::Main(main) => main.perform(shared),
+            Chip::Sub(sub) => sub.perform(shared),
+            Chip::Line(line) => line.perform(shared),
+            Chip::Fm(fm) => fm.perform(shared),
+            Chip::Psg(psg) => psg.perform(shared),
         }
     }
 
-    #[tactic(auto, unfolding(m68k_chip::specs::States::next_of))]
+    #[tactic(auto, unfolding(m68k_chip::specs::States::next_of, z80_chip::specs::States::next_of))]
     fn advance(chip: &mut Chip) {
         match chip {
             Chip::Main(main) => main.advance(),
-            Chip::Sub(_) => {}
+            Chip::Sub(sub) => sub.advance(),
             Chip::Line(line) => line.advance(),
             Chip::Fm(fm) => fm.advance(),
             Chip::Psg(psg) => psg.advance(),
         }
     }
 
-    fn pins(board: &Board, _chip: u8) -> Pins68 {
-        board.known();
-        Pins68 { level: 0 }
+    fn pins(shared: &Shared, chip: u8) -> Pins {
+        shared.known();
+        if chip == 1 {
+            Pins::Sub(pins80(shared))
+        } else {
+            Pins::Main(main_pins(shared))
+        }
     }
 
-    #[tactic(auto, unfolding(m68k_chip::specs::States::next_of))]
-    fn sample(chip: &mut Chip, pins: &Pins68) {
+    #[tactic(auto, unfolding(m68k_chip::specs::States::next_of, z80_chip::specs::States::next_of))]
+    fn sample(chip: &mut Chip, pins: &Pins) {
         match chip {
-            Chip::Main(main) => main.sample(pins),
-            Chip::Sub(sub) => sub.sample(),
+            Chip::Main(main) => main.sample(pins.main()),
+            Chip::Sub(sub) => sub.sample(pins.sub()),
             Chip::Line(_) | Chip::Fm(_) | Chip::Psg(_) => {}
         }
     }
@@ -95,4 +101,11 @@ impl ChipSet for MdChips {
     ghost coded = { coded board_way chip_way rules.five rules.IsChip IsBoard };
 
     ghost lawful = { lawful };
+}
+
+/// The pins of the 68000.
+fn main_pins(shared: &Shared) -> Pins68
+    ensures { result ≡ no_interrupt }
+{
+    pins68(shared)
 }

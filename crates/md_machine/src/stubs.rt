@@ -1,15 +1,11 @@
 // The chips that are not built yet: each has its events and does nothing else.
 ghost use Rattle.std.specs.Prelude.{◌≡◌, ◌+◌, ◌*◌, ◌<◌, ◌^◌};
+ghost use Rattle.bus_shared.specs.Entries.{batch_entry};
+ghost use Rattle.md_machine.specs.Rules as rules;
 ghost use Rattle.md_machine.specs.Stubs as stubs;
 
+use bus_shared::{Request, Shared, carry_out};
 use md_word::{Entry, Key, Next};
-
-/// The Z80, which samples its pins every 45 cycles.
-#[derive(Drop)]
-pub struct SubStub {
-    /// The cycle of its next event.
-    pub cycle: u64,
-}
 
 /// The drawing half of the VDP, which has an access at each line.
 #[derive(Drop)]
@@ -25,33 +21,6 @@ pub struct FmStub {
     pub cycle: u64,
 }
 
-impl SubStub {
-    pub(crate) fn next(&self) -> Next
-        ensures { result ≡ stubs.sub_next self.now.cycle }
-    {
-        next_at(self.cycle, 1, true)
-    }
-
-    /// The Z80 makes no access yet: this entry is never asked for.
-    pub(crate) fn perform(&self) -> Entry
-        ensures { result ≡ stubs.sub_entry self.now.cycle }
-    {
-        Entry {
-            key: self.next().key,
-            kind: 6,
-            address: 0,
-            value: 0,
-        }
-    }
-
-    pub(crate) fn sample(&mut self)
-        requires { self.old.cycle < 2 ^ 50 }
-        ensures { self.new ≡ record { cycle = self.old.cycle + 45 } }
-    {
-        self.cycle += 45;
-    }
-}
-
 impl LineStub {
     pub(crate) fn next(&self) -> Next
         ensures { result ≡ stubs.line_next self.now.cycle }
@@ -59,16 +28,15 @@ impl LineStub {
         next_at(self.cycle, 2, false)
     }
 
-    /// The entry of the line that is due.
-    pub(crate) fn perform(&self) -> Entry
-        ensures { result ≡ stubs.line_entry self.now.cycle }
+    /// Starts the line that is due.
+    #[tactic(auto, unfolding(bus_shared::specs::Accesses::carried))]
+    pub(crate) fn perform(&mut self, shared: &mut Shared) -> Entry
+        ensures chip { self.new ≡ (rules.line_perform self.old shared.old).chip }
+        ensures shared { shared.new ≡ (rules.line_perform self.old shared.old).shared }
+        ensures entry { result ≡ (rules.line_perform self.old shared.old).entry }
     {
-        Entry {
-            key: self.next().key,
-            kind: 10,
-            address: (self.cycle / 3_420 % 262) as u32,
-            value: 0,
-        }
+        let (_, entry) = carry_out(shared, self.next().key, Request::Line);
+        entry
     }
 
     pub(crate) fn advance(&mut self)
@@ -86,16 +54,14 @@ impl FmStub {
         next_at(self.cycle, 3, false)
     }
 
-    /// The entry of the batch that is due: no write was taken.
-    pub(crate) fn perform(&self) -> Entry
-        ensures { result ≡ stubs.fm_entry self.now.cycle }
+    /// Makes the batch that is due: no write is taken.
+    #[tactic(auto, unfolding(bus_shared::specs::Accesses::carried))]
+    pub(crate) fn perform(&self, shared: &mut Shared) -> Entry
+        ensures shared { shared.new ≡ shared.old }
+        ensures entry { result ≡ batch_entry 11 (stubs.fm_next self.now.cycle).key 0 }
     {
-        Entry {
-            key: self.next().key,
-            kind: 11,
-            address: (self.cycle / 16_128 % 0x1_0000_0000) as u32,
-            value: 0,
-        }
+        let (_, entry) = carry_out(shared, self.next().key, Request::Fm);
+        entry
     }
 
     pub(crate) fn advance(&mut self)

@@ -1,7 +1,7 @@
 //! The emulator's program: the command line over the real files and standard output.
 #![tactic(auto)]
 
-use md_outer::{FileDepot, FreeGate, OutSink};
+use md_outer::{FileDepot, FreeGate, OutSink, Sink};
 use md_top::drive;
 use std::process::ExitCode;
 use std::rt::Env;
@@ -9,13 +9,17 @@ use std::{env, io};
 
 fn main(rt: HostRuntime) -> ExitCode {
     let alloc = rt.alloc();
-    // Words that cannot be read are none, which is a wrong usage.
+    let mut out = OutSink::new(rt);
     let words = match words(&rt) {
         Ok(words) => words,
+        Err(error) if error.kind() == io::ErrorKind::OutOfMemory => {
+            let _ = out.put(b"refused: memory\n");
+            return ExitCode::from(10);
+        }
+        // A word that is no text is a wrong usage, as no words are.
         Err(_) => Vec::new(alloc),
     };
     let mut depot = FileDepot::new(rt, alloc);
-    let mut out = OutSink::new(rt);
     ExitCode::from(drive(&rt, alloc, &words, &mut depot, &mut out, &FreeGate))
 }
 

@@ -1,12 +1,12 @@
 -- How a run ends: what the outputs hold on the way, and why it stops.
-use Rattle.std.proofs.Common.{◌≡◌, ℕ, ◌*◌, ◌/◌, ◌%◌, ◌^◌, ◌≤◌, List, [], ◌++◌, Result, Ok, Err, Option, Some, None, refl, sym, subst, ◌∙◌, arith}
+use Rattle.std.proofs.Common.{◌≡◌, ℕ, ◌^◌, ◌≤◌, List, [], ◌++◌, Result, Ok, Err, Option, Some, None, refl, sym, subst, ◌∙◌, arith}
 use Rattle.std.specs.Prelude.{IfErr, IsSome, OnOk, OnErr}
 use Rattle.md_outer.specs.Outside.{DepotState, Files, GoesOn, IsPrefix}
 use Rattle.md_machine.specs.Outputs.{journal_bytes, sound_bytes}
 use Rattle.md_top.specs.Endings.{HoldsUntil, RunCause, RunLeaves}
 use Rattle.md_top.specs.Outputs.{Adds, AddsParts, AreBegun, Holds, IsBegun, IsUnwritten, IsWriteFault, LeavesParts}
 use Rattle.md_top.specs.Runs.{FewEvents, entries_to, journal_of, levels_to, sound_of, sound_until}
-use Rattle.md_top.specs.Words.{Run}
+use Rattle.md_words.specs.Words.{Run}
 use Rattle.md_top.specs.declared.ending.Ending.{Ending}
 use Rattle.md_top.specs.declared.ending.Ending.TheVariants.{Done, SoundFault, JournalFault, Memory}
 use Rattle.md_top.specs.declared.outputs.Outputs.{Outputs}

@@ -2,7 +2,6 @@ pub mod Carts
 pub mod Ends
 pub mod Least
 pub mod LeastRuns
-pub mod Numbers
 pub mod Puts
 pub mod Rows
 pub mod Segments

@@ -1,6 +1,7 @@
 -- Texts that are put one behind the other.
-use Rattle.std.proofs.Common.{ℕ, ◌≤◌, List, [], ◌++◌, Result, Ok, Err, ◌⊎◌, inl, inr, ap, ◌∙◌, sym, append-nil, append_assoc, arith}
-use Rattle.md_top.specs.Answers.{PutsAll, PutsPart}
+use Rattle.std.proofs.Common.{◌≡◌, ℕ, ◌≤◌, List, [], ◌++◌, Result, Ok, Err, ◌⊎◌, inl, inr, ap, ◌∙◌, sym, append-nil, append_assoc, arith}
+use Rattle.std.specs.Prelude.{OnErr, OnOk}
+use Rattle.md_top.specs.Answers.{PutsAll, PutsOutput, PutsPart}
 use Rattle.md_outer.specs.Outside.{IsPrefix, PutsText, Rose, SinkState}
 
 prefix_more : (front first second : List ℕ) → IsPrefix front second → IsPrefix (first ++ front) (first ++ second)
@@ -51,3 +52,9 @@ pub put_or_part : {E : Type 0} (told : Type 0) (text : List ℕ) (old new : Sink
     → PutsAll told text old new ⊎ PutsPart told text old new
 put_or_part told text old new (Ok done) puts = inl (record { later = puts.later; bytes = puts.whole })
 put_or_part told text old new (Err fault) puts = inr (record { rose = puts.failed; bytes = puts.part })
+
+-- the status of a command that ended well
+pub puts_output : {E : Type 0} (told : Type 0) (text : List ℕ) (old new : SinkState) (put : Result (Unit {0}) E) (status : ℕ) → PutsText told text old new put
+    → OnOk put (status ≡ 0) → OnErr put (status ≡ 13) → PutsOutput told text old new status
+puts_output told text old new (Ok done) status puts zero thirteen = inl (zero, record { later = puts.later; bytes = puts.whole })
+puts_output told text old new (Err fault) status puts zero thirteen = inr (thirteen, record { rose = puts.failed; bytes = puts.part })

@@ -6,7 +6,7 @@ use Rattle.std.proofs.lemmas.Slice.Eq.{bytes_eq-Decides}
 use mathlib.Core.Path.{fun_ext}
 use Rattle.md_outer.specs.Outside.{Files, IsPrefix, bytes_of, with_file}
 use Rattle.md_top.specs.Outputs.{Adds, AddsParts, Holds, IsPartOf, LeavesParts, with_part}
-use Rattle.md_top.specs.Words.{Run, differ}
+use Rattle.md_words.specs.Words.{Run, differ}
 
 -- FILES
 

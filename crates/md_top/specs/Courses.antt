@@ -1,8 +1,8 @@
 -- A run on its way, at the end of a segment.
 use Rattle.std.specs.Prelude.{◌≡◌, ℕ, List, [], length}
-use Rattle.md_machine.specs.Console.{IsRunTo, power_on}
+use Rattle.md_machine.specs.Console.{IsRunTo}
 use Rattle.md_machine.specs.Machines.{MachineValue}
-use Rattle.md_top.specs.Runs.{FewEvents, entries_to, levels_to}
+use Rattle.md_top.specs.Runs.{FewEvents, entries_to, levels_to, started}
 use Rattle.md_top.specs.declared.course.Course.{Course}
 
 -- the cartridge of a run, and the cycle to which it came
@@ -16,7 +16,7 @@ cycle_of course = course.machine.at
 -- a machine came from power-on to its cycle with so many accesses, and its records were drained
 pub record CameTo (cart : List ℕ) (machine : MachineValue) (accesses : ℕ) : Type 0 where
   pub few : FewEvents cart
-  pub run : IsRunTo (power_on cart) machine.at machine.console (entries_to cart machine.at) (levels_to cart machine.at)
+  pub run : IsRunTo (started cart) machine.at machine.console (entries_to cart machine.at) (levels_to cart machine.at)
   pub entries : machine.entries ≡ []
   pub levels : machine.levels ≡ []
   pub counted : accesses ≡ length (entries_to cart machine.at)

@@ -5,5 +5,3 @@ pub mod Least
 pub mod Limits
 pub mod Outputs
 pub mod Runs
-pub mod ShownRun
-pub mod Words

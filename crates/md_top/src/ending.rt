@@ -1,8 +1,10 @@
-use rom_header::CartFault;
+use crate::text::Text;
 
 /// What a command line comes to.
-#[derive(Clone, Copy)]
+#[derive(Drop)]
 pub(crate) enum Ending {
+    /// The lines of a cartridge's header.
+    Shown(Text),
     /// The run ended well, with so many accesses. Where the 68000 is halted, the start of what
     /// halted it.
     Done(u64, Option<u64>),
@@ -14,7 +16,10 @@ pub(crate) enum Ending {
     ReadFault,
     /// The cartridge's file is longer than its limit.
     TooLong,
-    CartRefused(CartFault),
+    /// The cartridge's file is too short.
+    Short,
+    /// The cartridge's file bears no mark.
+    NoMark,
     /// The run's end is not above the cycle at which it begins.
     Behind,
     /// The sound file could not be written.

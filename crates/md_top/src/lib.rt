@@ -10,9 +10,8 @@ mod perform;
 mod put;
 mod report;
 mod run_on;
-mod run_words;
 mod segment;
+mod text;
 mod top;
-mod words;
 
 pub use top::{drive, drive_one};

@@ -1,36 +1,50 @@
-ghost use Rattle.std.specs.Prelude.{◌≡◌, ◌⊎◌, ◌++◌, [], Some, codes, decimal, unwrap_or};
+ghost use Rattle.std.specs.Prelude.{◌≡◌, ◌⊎◌, ◌++◌, [], Some, OnOk, OnErr, codes, decimal, unwrap_or};
 ghost use Rattle.std.specs.Option.{option_copied};
 ghost use Rattle.md_outer.specs.Outside.{PutsText};
-ghost use Rattle.md_top.specs.Answers.{PutsAll, PutsPart, Reports};
-ghost use Rattle.md_top.specs.Endings.{counts_of, fault_text, halted_line, lines_of};
-ghost use Rattle.md_top.specs.ShownRun.{shown_run};
+ghost use Rattle.md_top.specs.Answers.{PutsAll, PutsOutput, PutsPart, Reports};
+ghost use Rattle.md_top.specs.Endings.{counts_of, halted_line, lines_of};
+ghost use Rattle.md_words.specs.Shown.{shown_command};
 
 use crate::ending::Ending;
 use crate::put::{put_seven, put_three};
 use crate::run_on::count_pairs;
-use crate::run_words::RunWords;
 use itoa::Buffer;
 use md_outer::{Failed, Sink};
-use rom_header::CartFault;
+use md_words::CommandWords;
 
-/// Puts what a run comes to, and answers its status.
-pub(crate) fn report<S: Sink>(run: &RunWords<'_>, ending: Ending, out: &mut S) -> u8
-    ensures { Reports S.told (Some (shown_run run.now)) ending (S.state out.old) (S.state out.new) result }
+/// Puts what a command comes to, and answers its status.
+pub(crate) fn report<S: Sink>(command: &CommandWords<'_>, ending: Ending, out: &mut S) -> u8
+    ensures { Reports S.told (Some (shown_command command.now)) ending (S.state out.old) (S.state out.new) result }
 {
     match ending {
-        Ending::Done(accesses, halted) => match put_lines(out, run, accesses, halted) {
-            Ok(()) => 0,
-            Err(Failed) => 13,
-        },
+        Ending::Shown(lines) => status_of(out.put(lines.bytes())),
+        Ending::Done(accesses, halted) => status_of(put_lines(
+            out,
+            command.end(),
+            accesses,
+            halted,
+        )),
         Ending::Usage => refuse(out, 2, "refused: usage\n", "", ""),
-        Ending::TooFar => refuse_cycle(out, 11, run.cycles, " is too far\n"),
-        Ending::ReadFault => refuse(out, 3, "fault: reading ", run.rom, "\n"),
-        Ending::TooLong => refuse(out, 14, "refused: ", run.rom, " is too long\n"),
-        Ending::CartRefused(fault) => refuse(out, 5, "refused: cartridge: ", text_of(fault), "\n"),
-        Ending::Behind => refuse_cycle(out, 9, run.cycles, " is not above 0\n"),
-        Ending::SoundFault => refuse_output(out, run.sound),
-        Ending::JournalFault => refuse_output(out, run.journal),
+        Ending::TooFar => refuse_cycle(out, 11, command.end(), " is too far\n"),
+        Ending::ReadFault => refuse(out, 3, "fault: reading ", command.rom(), "\n"),
+        Ending::TooLong => refuse(out, 14, "refused: ", command.rom(), " is too long\n"),
+        Ending::Short => refuse(out, 5, "refused: cartridge: short\n", "", ""),
+        Ending::NoMark => refuse(out, 5, "refused: cartridge: no mark\n", "", ""),
+        Ending::Behind => refuse_cycle(out, 9, command.end(), " is not above 0\n"),
+        Ending::SoundFault => refuse_output(out, command.sound()),
+        Ending::JournalFault => refuse_output(out, command.journal()),
         Ending::Memory => refuse(out, 10, "refused: memory\n", "", ""),
+    }
+}
+
+/// The status of a command that ended well and whose output was put, or could not be.
+fn status_of(put: Result<(), Failed>) -> u8
+    ensures ok { OnOk put (result ≡ 0) }
+    ensures err { OnErr put (result ≡ 13) }
+{
+    match put {
+        Ok(()) => 0,
+        Err(Failed) => 13,
     }
 }
 
@@ -43,17 +57,6 @@ pub(crate) fn refuse<S: Sink>(out: &mut S, status: u8, first: &str, second: &str
 {
     let _ = put_three(out, first, second.as_bytes(), third);
     status
-}
-
-fn text_of(fault: CartFault) -> &'static str
-    ensures { result.now ≡ fault_text fault }
-{
-    match fault {
-        CartFault::Short => "short",
-        CartFault::Long => "long",
-        CartFault::NoMark => "no mark",
-        CartFault::NoMemory => "no memory",
-    }
 }
 
 /// Refuses the cycle of a run's end.
@@ -81,13 +84,13 @@ fn refuse_output<S: Sink>(out: &mut S, name: Option<&str>) -> u8
 /// Puts the lines of a run that ends well.
 fn put_lines<S: Sink>(
     out: &mut S,
-    run: &RunWords<'_>,
+    end: u64,
     accesses: u64,
     halted: Option<u64>,
 ) -> Result<(), Failed>
-    ensures { PutsText S.told (lines_of (shown_run run.now) accesses halted) (S.state out.old) (S.state out.new) result }
+    ensures { PutsText S.told (lines_of end accesses halted) (S.state out.old) (S.state out.new) result }
 {
-    match put_counts(out, run, accesses) {
+    match put_counts(out, end, accesses) {
         Ok(()) => put_halted(out, halted),
         Err(failed) => Err(failed),
     }
@@ -111,14 +114,14 @@ fn put_since<S: Sink>(out: &mut S, since: u64) -> Result<(), Failed>
 }
 
 /// Puts how far a run went, and how much it made.
-fn put_counts<S: Sink>(out: &mut S, run: &RunWords<'_>, accesses: u64) -> Result<(), Failed>
-    ensures { PutsText S.told (counts_of (shown_run run.now) accesses) (S.state out.old) (S.state out.new) result }
+fn put_counts<S: Sink>(out: &mut S, end: u64, accesses: u64) -> Result<(), Failed>
+    ensures { PutsText S.told (counts_of end accesses) (S.state out.old) (S.state out.new) result }
 {
     let mut cycles = Buffer::new();
     let mut pairs = Buffer::new();
     let mut entries = Buffer::new();
-    let cycles = cycles.format(run.cycles).as_bytes();
-    let pairs = pairs.format(count_pairs(run.cycles)).as_bytes();
+    let cycles = cycles.format(end).as_bytes();
+    let pairs = pairs.format(count_pairs(end)).as_bytes();
     let entries = entries.format(accesses).as_bytes();
     put_seven(
         out,

@@ -6,16 +6,16 @@ ghost use Rattle.md_top.specs.Limits.{IsEnd, last_cycle, segment_cycles};
 ghost use Rattle.md_top.specs.Limits as limits;
 ghost use Rattle.md_top.specs.Outputs.{AreBegun, Holds, IsWriteFault, LeavesParts};
 ghost use Rattle.md_top.specs.Runs.{journal_of, sound_of};
-ghost use Rattle.md_top.specs.ShownRun.{shown_run};
+ghost use Rattle.md_words.specs.Shown.{shown_run};
 
 use crate::course::Course;
 use crate::ending::Ending;
 use crate::output::{append_records, append_sound, begin_all};
 use crate::outputs::Outputs;
-use crate::run_words::RunWords;
 use crate::segment::advance;
 use md_files::wav_head;
 use md_outer::Depot;
+use md_words::RunWords;
 use std::alloc::Global;
 
 /// The most cycles of a segment.

@@ -7,6 +7,7 @@ ghost use Rattle.md_top.specs.Runs.{FewEvents, entries_to, levels_to};
 
 use crate::course::Course;
 use md_machine::{Machine, laws};
+use md_pads::Recording;
 use md_word::NoMemory;
 use rom_header::Cart;
 use std::alloc::Global;
@@ -25,7 +26,8 @@ pub(crate) fn power_on(alloc: Global, cart: Arc<Cart>) -> Result<Course, NoMemor
     ensures underway { IfOk result IsUnderway }
 {
     laws::few_events(&cart);
-    let machine = Machine::power_on(alloc, cart)?;
+    let recording = Arc::new(alloc, Recording::empty(alloc))?;
+    let machine = Machine::power_on(alloc, cart, recording)?;
     let pairs = Vec::with_capacity(alloc, MOST_PAIRS)?;
     let records = Vec::with_capacity(alloc, MOST_RECORDS)?;
     Ok(Course {

@@ -1,11 +1,11 @@
 ghost use Rattle.std.specs.Prelude.{◌≡◌, None, Some, map, string_bytes};
 ghost use Rattle.md_top.specs.Answers.{Answers, Causes};
-ghost use Rattle.md_top.specs.Words.{run_of};
+ghost use Rattle.md_words.specs.Words.{command_of};
 
 use crate::perform::perform;
 use crate::report::{refuse, report};
-use crate::words::read_words;
 use md_outer::{Depot, Gate, Sink};
+use md_words::read_words;
 use std::alloc::Global;
 use std::sync::Wait;
 use std::thread::Threads;
@@ -13,28 +13,30 @@ use std::thread::Threads;
 /// Does what the words of the command line ask for, and answers the status that the program ends
 /// with.
 ///
-/// The words are those behind the program's name: `run ROM --cycles N`, then `--sound W` and
-/// `--journal J` where they are wanted, runs the cartridge ROM from power-on for N master cycles, 1
-/// to 549,755,813,888, and writes its sound into W and the journal of its accesses into J. Files are
-/// fetched from the depot and written to it, a segment of at most 896,040 cycles after the other;
-/// the lines are put into `out`. It waits for nobody.
+/// The words are those behind the program's name. `info ROM` puts the lines of the header of the
+/// cartridge ROM. `run ROM --cycles N`, with `--sound W` and `--journal J` where they are wanted, runs
+/// the cartridge ROM from power-on for N master cycles, 1 to 549,755,813,888, and writes its sound
+/// into W and the journal of its accesses into J. Files are fetched from the depot and written to it,
+/// a segment of at most 896,040 cycles after the other; the lines are put into `out`. It waits for
+/// nobody.
 pub fn drive_one<D: Depot, S: Sink>(
     alloc: Global,
     words: &Vec<String>,
     depot: &mut D,
     out: &mut S,
 ) -> u8
-    ensures answer { Answers D.told S.told (run_of (map string_bytes words.now.items))
+    ensures answer { Answers D.told S.told (command_of (map string_bytes words.now.items))
         (D.state depot.old) (D.state depot.new) (S.state out.old) (S.state out.new) result }
-    ensures causes { Causes D.told (run_of (map string_bytes words.now.items))
+    ensures causes { Causes D.told (command_of (map string_bytes words.now.items))
         (D.state depot.old) (D.state depot.new) (S.state out.old) (S.state out.new) result }
 {
-    match read_words(words.as_slice()) {
-        None => refuse(out, 2, "refused: usage\n", "", ""),
-        Some(run) => {
-            let ending = perform(alloc, &run, depot);
-            report(&run, ending, out)
+    match read_words(alloc, words.as_slice()) {
+        Ok(Some(command)) => {
+            let ending = perform(alloc, &command, depot);
+            report(&command, ending, out)
         }
+        Ok(None) => refuse(out, 2, "refused: usage\n", "", ""),
+        Err(_) => refuse(out, 10, "refused: memory\n", "", ""),
     }
 }
 
@@ -47,9 +49,9 @@ pub fn drive<D: Depot, S: Sink, G: Gate, Rt: Threads + Wait + Sync>(
     out: &mut S,
     _gate: &G,
 ) -> u8
-    ensures answer { Answers D.told S.told (run_of (map string_bytes words.now.items))
+    ensures answer { Answers D.told S.told (command_of (map string_bytes words.now.items))
         (D.state depot.old) (D.state depot.new) (S.state out.old) (S.state out.new) result }
-    ensures causes { Causes D.told (run_of (map string_bytes words.now.items))
+    ensures causes { Causes D.told (command_of (map string_bytes words.now.items))
         (D.state depot.old) (D.state depot.new) (S.state out.old) (S.state out.new) result }
 {
     drive_one(alloc, words, depot, out)

@@ -1,4 +1,4 @@
-use Rattle.std.proofs.Common.{◌≡◌, ℕ, List, sym, subst}
+use Rattle.std.proofs.Common.{◌≡◌, ℕ, List, [], sym, subst}
 use Rattle.std.specs.Arc.{arc_value}
 use Rattle.md_word.specs.declared.key.Key.{Key}
 use Rattle.rom_header.specs.Cartridge.{IsImage}
@@ -11,7 +11,7 @@ use Rattle.md_machine.proofs.first.first_core.Goals as goal
 
 shaped : (cart : List ℕ) (chips : List Chip) (bounds : List Key) → chips ≡ first_chips cart → bounds ≡ first_bounds → IsImage cart → IsShaped five chips bounds
 shaped cart chips bounds c k image =
-    subst (λ z. IsShaped five z bounds) (sym c) (subst (λ z. IsShaped five (first_chips cart) z) (sym k) (first-core cart 0 image).shape)
+    subst (λ z. IsShaped five z bounds) (sym c) (subst (λ z. IsShaped five (first_chips cart) z) (sym k) (first-core cart [] 0 image).shape)
 
 pub make-requires-after_bounds : goal.make-requires-after_bounds
 make-requires-after_bounds c κs =

@@ -1,7 +1,7 @@
 use Rattle.std.proofs.Common.{◌-◌, length, ap, arith, lit<}
 use Rattle.chip_core.specs.Cores.{machine_of}
 use Rattle.chip_core.specs.Machines.{IsRunTo, IsSound, Machine}
-use Rattle.md_machine.specs.Parts.{BoardValue, IsBoard}
+use Rattle.bus_shared.specs.Board.{Board, IsBoard}
 use Rattle.md_machine.specs.Rules.{IsChip, five}
 use Rattle.md_machine.specs.declared.chips.Chip.{Chip}
 use Rattle.md_machine.proofs.Segments.{at_most, batches-few, few_entries, segment-run, within-few}
@@ -13,7 +13,7 @@ room-requires-clause-room c = λ l.
 
 pub returns-clause-run : goal.returns-clause-run
 returns-clause-run c =
-    let first : Machine Chip BoardValue = machine_of five c.args.core.now in
+    let first : Machine Chip Board = machine_of five c.args.core.now in
     let sound : IsSound five IsChip IsBoard first = c.stages.ensures.core c.args.core.now c.requires.core in
     segment-run first (machine_of five c.run_least.new.core) c.args.to c.run_least.new.core.journal (c.run_least.ensures.first c.requires.entries)
     (λ n below. c.stages.ensures.sound first c.args.to n (omega arith) sound below) c.stages.ensures.mover
@@ -23,7 +23,7 @@ returns-clause-run c =
 
 pub returns-clause-entries : goal.returns-clause-entries
 returns-clause-entries c =
-    let first : Machine Chip BoardValue = machine_of five c.args.core.now in
+    let first : Machine Chip Board = machine_of five c.args.core.now in
     let sound : IsSound five IsChip IsBoard first = c.stages.ensures.core c.args.core.now c.requires.core in
     let runs : IsRunTo five first c.args.to (machine_of five c.run_least.new.core) c.run_least.new.core.journal = c.run_least.ensures.first c.requires.entries in
     few_entries first c.args.from c.args.to runs (c.limits.ensures.entered first c.args.to runs.moves (omega arith) sound runs.below)

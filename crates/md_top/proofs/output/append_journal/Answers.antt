@@ -1,4 +1,4 @@
-use Rattle.md_top.specs.ShownRun.{shown_run}
+use Rattle.md_words.specs.Shown.{shown_run}
 use Rattle.md_top.proofs.Writes.{adds-journal, adds-no_journal, parts-journal}
 use Rattle.md_top.proofs.output.append_journal.Goals as goal
 

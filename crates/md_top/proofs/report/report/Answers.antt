@@ -1,4 +1,13 @@
 use Rattle.md_top.proofs.report.report.Goals as goal
 
-pub returns-in-CartRefused : goal.returns-in-CartRefused
-returns-in-CartRefused g c = rw c.in-CartRefused.is (c.refuse-in-CartRefused.ensures.status, rw c.text_of.ensures at c.refuse-in-CartRefused.ensures.put)
+pub returns-in-ReadFault : goal.returns-in-ReadFault
+returns-in-ReadFault g c = rw c.in-ReadFault.is (c.refuse-in-ReadFault.ensures.status, rw c.rom.ensures at c.refuse-in-ReadFault.ensures.put)
+
+pub returns-in-TooLong : goal.returns-in-TooLong
+returns-in-TooLong g c = rw c.in-TooLong.is (c.refuse-in-TooLong.ensures.status, rw c.rom-in-TooLong.ensures at c.refuse-in-TooLong.ensures.put)
+
+pub returns-in-Short : goal.returns-in-Short
+returns-in-Short g c = rw c.in-Short.is (c.refuse-in-Short.ensures.status, c.refuse-in-Short.ensures.put)
+
+pub returns-in-NoMark : goal.returns-in-NoMark
+returns-in-NoMark g c = rw c.in-NoMark.is (c.refuse-in-NoMark.ensures.status, c.refuse-in-NoMark.ensures.put)

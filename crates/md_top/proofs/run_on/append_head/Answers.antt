@@ -2,7 +2,7 @@ use Rattle.std.proofs.Common.{◌≡◌, List, [], ℕ, ◌++◌, ap, ◌∙◌,
 use Rattle.md_files.specs.Wav.{wav_head}
 use Rattle.md_top.specs.Courses.{cart_in}
 use Rattle.md_top.specs.Runs.{sound_until}
-use Rattle.md_top.specs.ShownRun.{shown_run}
+use Rattle.md_words.specs.Shown.{shown_run}
 use Rattle.md_top.proofs.Ends.{head-held, head-parts, on-err, on-ok}
 use Rattle.md_top.proofs.Segments.{head-first}
 use Rattle.md_top.proofs.run_on.append_head.Goals as goal

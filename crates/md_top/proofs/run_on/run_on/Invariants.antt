@@ -4,7 +4,7 @@ use Rattle.md_top.specs.Courses.{IsUnderway, cart_in, cycle_of}
 use Rattle.md_top.specs.Endings.{HoldsUntil}
 use Rattle.md_top.specs.Limits.{segment_cycles}
 use Rattle.md_top.specs.Outputs.{AreBegun}
-use Rattle.md_top.specs.ShownRun.{shown_run}
+use Rattle.md_words.specs.Shown.{shown_run}
 use Rattle.md_top.proofs.run_on.run_on.Given as goal
 
 -- the run stands at the end of a segment, and the outputs hold what it made

@@ -1,7 +1,7 @@
 use Rattle.std.proofs.Common.{ℕ, sym, subst, arith}
 use Rattle.md_top.specs.Courses.{cart_in, cycle_of}
 use Rattle.md_top.specs.Endings.{HoldsUntil}
-use Rattle.md_top.specs.ShownRun.{shown_run}
+use Rattle.md_words.specs.Shown.{shown_run}
 use Rattle.md_top.proofs.Ends.{both-err, fault-leaves, on-ok, segment-held, segment-parts}
 use Rattle.md_top.proofs.run_on.run_segment.Goals as goal
 

@@ -1,5 +1,5 @@
 use Rattle.md_top.specs.Courses.{cart_in}
-use Rattle.md_top.specs.ShownRun.{shown_run}
+use Rattle.md_words.specs.Shown.{shown_run}
 use Rattle.md_top.proofs.Ends.{unwritten-leaves}
 use Rattle.md_top.proofs.run_on.write_all.Goals as goal
 

@@ -5,7 +5,7 @@ use Rattle.chip_core.specs.Machines as machines
 use Rattle.chip_core.specs.Machines.{IsSound, Machine, least_below}
 use Rattle.md_machine.specs.Console.{key_in, mover}
 use Rattle.md_machine.specs.Machines.{MachineValue, core_in}
-use Rattle.md_machine.specs.Parts.{BoardValue, IsBoard}
+use Rattle.bus_shared.specs.Board.{Board, IsBoard}
 use Rattle.md_machine.specs.Refinement.{console}
 use Rattle.md_machine.specs.Rules.{IsChip, five}
 use Rattle.md_machine.specs.declared.chips.Chip.{Chip}
@@ -17,8 +17,8 @@ pub returns : goal.returns
 unfolding machines.mover
 returns c =
     let m = c.self.inside in
-    let first : Machine Chip BoardValue = cores.machine_of five (core_in m.board m.chips.items m.bounds.items m.journal.items (vec_capacity m.journal)) in
-    let sound : IsSound five IsChip IsBoard first = c.stages.ensures.core (core_in m.board m.chips.items m.bounds.items m.journal.items (vec_capacity m.journal)) c.self.invariant.sound in
+    let first : Machine Chip Board = cores.machine_of five (core_in m.shared m.chips.items m.bounds.items m.journal.items (vec_capacity m.journal)) in
+    let sound : IsSound five IsChip IsBoard first = c.stages.ensures.core (core_in m.shared m.chips.items m.bounds.items m.journal.items (vec_capacity m.journal)) c.self.invariant.sound in
     ap (λ (k : Key). k.cycle) c.least_key.ensures
     ∙ ap (λ (chips : List Chip). (cores.key_in five chips (least_below (cores.key_in five chips) 5)).cycle) c.as_slice.ensures.value
     ∙ ap (λ (k : Key). k.cycle) (key-same first sound (machines.mover five first) (c.stages.ensures.mover first))

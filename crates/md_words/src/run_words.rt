@@ -1,10 +1,10 @@
 ghost use Rattle.std.specs.Prelude.{◌≡◌, true};
 ghost use Rattle.std.specs.Option.{option_copied};
-ghost use Rattle.md_top.specs.Words.{differ};
+ghost use Rattle.md_words.specs.Words.{differ};
 
 /// What the words of a run ask for.
 #[derive(Clone, Copy)]
-pub(crate) struct RunWords<'a> {
+pub struct RunWords<'a> {
     /// The cartridge's name.
     pub rom: &'a str,
     /// The cycle of the run's end.

@@ -1,0 +1,62 @@
+use crate::machine::{cartridge, drained};
+use md_machine::Machine;
+use md_pads::Recording;
+use std::sync::Arc;
+use std::test::Fail;
+
+/// examples/pads, whose branches are relative: a tone while B is held on pad 1.
+const PADS: [u8; 64] = [
+    0x41, 0xf9, 0x00, 0xc0, 0x00, 0x11, 0x43, 0xf9, 0x00, 0xa1, 0x00, 0x03, 0x13, 0xfc, 0x00, 0x40,
+    0x00, 0xa1, 0x00, 0x09, 0x12, 0xbc, 0x00, 0x40, 0x10, 0xbc, 0x00, 0x8e, 0x10, 0xbc, 0x00, 0x0f,
+    0x10, 0xbc, 0x00, 0x9f, 0x72, 0x10, 0x10, 0x11, 0x02, 0x00, 0x00, 0x10, 0xb2, 0x00, 0x67, 0xf6,
+    0x12, 0x00, 0x66, 0x06, 0x10, 0xbc, 0x00, 0x90, 0x60, 0xec, 0x10, 0xbc, 0x00, 0x9f, 0x60, 0xe6,
+];
+
+/// One frame, in which B is pressed on pad 1.
+const B: &[u8; 16] = b"MDREC001\0\0\0\x01\0\x10\0\0";
+
+// By the clocks of the M68000 User's Manual, section 8, a turn of the waiting loop takes 30 clocks,
+// and the first begins at 672. B is pressed from the line at 766,080 on and let go by that at
+// 1,662,120: the turns that see it begin at 766,122 and at 1,662,206, and the writes of the volume
+// stand 308 and 322 cycles later.
+const PRESSED: &[u8; 16] = b"\0\0\0\0\0\x0b\xb1\xde\x00\x02\0\xc0\0\x11\0\x90";
+
+const LET_GO: &[u8; 16] = b"\0\0\0\0\0\x19\x5e\x40\x00\x02\0\xc0\0\x11\0\x9f";
+
+/// How many records of writes to the sound generator stand among these, and the last of them.
+fn volumes(entries: &[u8]) -> (usize, [u8; 16]) {
+    let mut count = 0;
+    let mut last = [0; 16];
+    for record in entries.chunks_exact(16) {
+        if record[8..14] == [0, 2, 0, 0xc0, 0, 0x11] {
+            count += 1;
+            last.copy_from_slice(record);
+        }
+    }
+    (count, last)
+}
+
+// A pair of samples stands at each 1,008 cycles, and hears the writes below its cycle: pairs 761 to
+// 1,649 sound, and no other.
+#[test]
+fn a_tone_while_a_button_is_held(rt: HostRuntime) -> Result<(), Fail> {
+    let alloc = rt.alloc();
+    let recording = Arc::new(alloc, Recording::read(alloc, B)?)?;
+    let cart = cartridge(alloc, 0x1c0, &PADS)?;
+    let machine = Machine::power_on(alloc, cart, recording);
+    let mut machine = machine.map_err(|_| Fail::from("no memory"))?;
+    let (entries, mut pairs) = drained(&mut machine, alloc, 896_040)?;
+    assert!(rt; volumes(&entries) == (4, *PRESSED));
+    let (entries, later) = drained(&mut machine, alloc, 1_792_080)?;
+    assert!(rt; volumes(&entries) == (1, *LET_GO));
+    pairs.extend_from_slice(&later)?;
+    assert_eq!(rt; pairs.len(), 4 * 1_776);
+    let mut sounding = [usize::MAX, 0];
+    for (number, pair) in pairs.chunks_exact(4).enumerate() {
+        if pair != [0u8; 4].as_slice() {
+            sounding = [sounding[0].min(number), sounding[1].max(number)];
+        }
+    }
+    assert!(rt; sounding == [761, 1_649]);
+    Ok(())
+}

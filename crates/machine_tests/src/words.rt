@@ -1,0 +1,141 @@
+use md_words::{CommandWords, read_words};
+use std::alloc::{AllocError, Global};
+use std::test::Fail;
+
+/// The words of a text, which single spaces part.
+fn words_of(alloc: Global, text: &str) -> Result<Vec<String>, AllocError> {
+    let mut words = Vec::new(alloc);
+    for word in text.split(' ') {
+        words.push(String::from_str(alloc, word)?)?;
+    }
+    Ok(words)
+}
+
+/// What a name reads as, and a hyphen for none.
+fn name_of(name: Option<&str>) -> &str {
+    name.unwrap_or("-")
+}
+
+/// What was read: the cartridge; the count, and the names of the sound file and of the journal.
+type Read = (&'static str, Option<(u64, &'static str, &'static str)>);
+
+/// Whether the words were read so; none: they were refused.
+fn is_read_so(read: Option<CommandWords<'_>>, want: Option<Read>) -> bool {
+    match (read, want) {
+        (None, None) => true,
+        (Some(CommandWords::Info(rom)), Some((name, None))) => rom == name,
+        (Some(CommandWords::Run(run)), Some((name, Some((cycles, sound, journal))))) => {
+            run.rom == name
+                && run.cycles == cycles
+                && name_of(run.sound) == sound
+                && name_of(run.journal) == journal
+        }
+        _ => false,
+    }
+}
+
+// Worked out by the rules: options in any order among the other words, each at most once, as two
+// words or with `=`; behind `--` no options; names that are not empty, begin with no hyphen and are
+// pairwise different; numbers of 1 to 20 digits below 2^64.
+const READ: [(&str, Read); 17] = [
+    ("info Z", ("Z", None)),
+    ("info -- Z", ("Z", None)),
+    ("info info", ("info", None)),
+    ("run Z --cycles 5", ("Z", Some((5, "-", "-")))),
+    ("run --cycles 5 Z", ("Z", Some((5, "-", "-")))),
+    ("run Z --cycles=5", ("Z", Some((5, "-", "-")))),
+    ("run --cycles 5 -- Z", ("Z", Some((5, "-", "-")))),
+    ("run Z --cycles 5 --", ("Z", Some((5, "-", "-")))),
+    ("run run --cycles 5", ("run", Some((5, "-", "-")))),
+    ("run 5 --cycles 6", ("5", Some((6, "-", "-")))),
+    (
+        "run Z --cycles 5 --sound W --journal J",
+        ("Z", Some((5, "W", "J"))),
+    ),
+    (
+        "run --sound W Z --journal J --cycles 5",
+        ("Z", Some((5, "W", "J"))),
+    ),
+    (
+        "run --journal=J --sound=W --cycles=5 Z",
+        ("Z", Some((5, "W", "J"))),
+    ),
+    ("run Z --cycles 5 --sound W=V", ("Z", Some((5, "W=V", "-")))),
+    (
+        "run Z --cycles 5 --journal=J=-K",
+        ("Z", Some((5, "-", "J=-K"))),
+    ),
+    (
+        "run Z --cycles 00000000000000000005",
+        ("Z", Some((5, "-", "-"))),
+    ),
+    (
+        "run Z --cycles 18446744073709551615",
+        ("Z", Some((18_446_744_073_709_551_615, "-", "-"))),
+    ),
+];
+
+const REFUSED: [&str; 44] = [
+    "",
+    "walk Z",
+    "RUN Z --cycles 5",
+    "--cycles 5 run Z",
+    "help run",
+    "info",
+    "info ",
+    "info -Z",
+    "info -- -Z",
+    "info Z W",
+    "info Z --cycles 5",
+    "info --rom Z",
+    "info --help",
+    "run",
+    "run Z",
+    "run --cycles 5",
+    "run Z Y --cycles 5",
+    "run Z --cycles",
+    "run Z --cycles=",
+    "run Z --cycles ",
+    "run Z --cycles +5",
+    "run Z --cycles 5x",
+    "run Z --cycles -5",
+    "run Z --cycles 000000000000000000005",
+    "run Z --cycles 18446744073709551616",
+    "run Z --cycles 5 --cycles 5",
+    "run Z --cycles=5 --cycles=6",
+    "run Z --cycles 5 --sound A --sound B",
+    "run Z --cycles 9 --sound A --journal A",
+    "run Z --cycles 9 --sound Z",
+    "run Z --cycles 9 --journal=Z",
+    "run - --cycles 5",
+    "run  --cycles 5",
+    "run Z --cycles 5 --sound -",
+    "run Z --cycles 5 --sound=-W",
+    "run Z --cycles 5 --sound=",
+    "run Z --cycles 5 --sound ",
+    "run Z --cycles 5 --sound --journal J",
+    "run Z --cycles 5 -- --sound W",
+    "run Z --cycle 5",
+    "run Z --cycles 5 --sou=W",
+    "run Z -c 5",
+    "run Z --cycles 5 --help",
+    "run Z --cycles 5 --version",
+];
+
+#[test]
+fn words_are_read(rt: HostRuntime) -> Result<(), Fail> {
+    let alloc = rt.alloc();
+    for (text, want) in READ {
+        let words = words_of(alloc, text)?;
+        let read = read_words(alloc, words.as_slice())?;
+        assert!(rt; is_read_so(read, Some(want)), "{text}");
+    }
+    for text in REFUSED {
+        let words = words_of(alloc, text)?;
+        let read = read_words(alloc, words.as_slice())?;
+        assert!(rt; is_read_so(read, None), "{text}");
+    }
+    let none = Vec::new(alloc);
+    assert!(rt; is_read_so(read_words(alloc, none.as_slice())?, None));
+    Ok(())
+}

@@ -1,0 +1,26 @@
+use Rattle.std.proofs.Common.{◌≡◌, ◌≤◌, List, [], length, Option, Some, None, IsSome, ap, sym, refl, subst}
+use Rattle.std.specs.Prelude.{option_map, unwrap_or}
+use Rattle.bus_shared.specs.Accesses.{carried}
+use Rattle.psg_sound.specs.Port.{taken_below}
+use Rattle.psg_sound.specs.PortLaws.{taken_below-few}
+use Rattle.psg_sound.specs.declared.write.PsgWrite.{PsgWrite}
+use Rattle.md_machine.proofs.psg_chip.PsgChip.perform.Goals as goal
+
+some_by : {A B : Type 0} (f : A → B) (o : Option A) (b : B) → option_map f o ≡ Some b → IsSome o
+some_by f None b e = cc
+some_by f (Some a) b e = refl
+
+pub invariant_of-self : goal.invariant_of-self
+unfolding carried
+invariant_of-self c =
+    let writes : List PsgWrite = taken_below c.next.result.key.cycle c.args.shared.now.held in
+    let list = c.list.ensures writes c.carry_out-answer.ensures.answer in (
+      some_by _ c.list.result writes list,
+      record {
+        synth = c.self.invariant.1.synth;
+        taken =
+            subst (λ (l : List PsgWrite). length l ≤ 1024) (sym (ap (λ (o : Option (List PsgWrite)). unwrap_or o []) list))
+            (taken_below-few c.next.result.key.cycle c.args.shared.now.held c.known.ensures.held);
+        samples = c.self.invariant.1.samples;
+      },
+    )

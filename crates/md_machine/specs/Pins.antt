@@ -1,0 +1,33 @@
+-- The input pins of a chip.
+use Rattle.std.specs.Prelude.{ℕ, ◌==◌, Bool, true, false, refl}
+use Rattle.md_word.specs.declared.pins.Pins68.{Pins68}
+use Rattle.md_word.specs.declared.pins.Pins80.{Pins80}
+use Rattle.bus_shared.specs.Accesses.{sub_pins}
+use Rattle.bus_shared.specs.Board.{Board}
+use Rattle.md_machine.specs.declared.pins.Pins.{Pins}
+use Rattle.md_machine.specs.declared.pins.Pins.TheVariants.{Main, Sub}
+
+-- no interrupt is asked for on the board that is built
+abbrev pub no_interrupt : Pins68
+no_interrupt = record { level = 0; known = refl }
+
+-- no pin is set
+abbrev pub no_pins : Pins80
+no_pins = record { request = false; reset = false; resets = 0; int_from = 0; int_to = 0 }
+
+-- the 68000's level, and the Z80's pins
+abbrev pub level_in : Pins → ℕ
+level_in (Main pins) = pins.level
+level_in (Sub pins) = 0
+
+abbrev pub sub_in : Pins → Pins80
+sub_in (Main pins) = no_pins
+sub_in (Sub pins) = pins
+
+-- the pins of a chip, by its number
+abbrev pub pins_by : Bool → Board → Pins
+pins_by true board = Sub (sub_pins board)
+pins_by false board = Main no_interrupt
+
+abbrev pub pins_of : Board → ℕ → Pins
+pins_of board chip = pins_by (chip == 1) board

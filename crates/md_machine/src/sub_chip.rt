@@ -1,0 +1,74 @@
+ghost use Rattle.std.specs.Prelude.{◌≡◌, ◌^◌, ◌<◌, false, true, IfSome, IsSome};
+ghost use Rattle.z80_chip.specs.Events.{asked_of};
+ghost use Rattle.z80_chip.specs.States.{next_of};
+ghost use Rattle.z80_parcel.specs.Requests.{Fits};
+ghost use Rattle.md_machine.specs.Rules as rules;
+
+use bus_shared::{Request, Shared, carry_out};
+use md_word::{Answer80, Entry, Next, Pins80};
+use std::marker::Model;
+use z80_chip::Chip80;
+
+/// The Z80, with the answer that it keeps between the two halves of an access.
+#[derive(Drop)]
+pub struct SubChip {
+    pub(crate) chip: Chip80,
+    pub(crate) answer: Option<Answer80>,
+}
+
+impl Model for SubChip {
+    ghost use Rattle.std.specs.Prelude.{option_map};
+    ghost use Rattle.z80_parcel.specs.Requests.{told};
+    ghost use Rattle.md_machine.specs.Parts.{SubValue};
+
+    ghost Value = { SubValue };
+
+    ghost view = { λ c. record { chip = c.chip; answer = option_map told c.answer } };
+}
+
+impl SubChip {
+    ghost use Rattle.md_machine.specs.Parts.{IsSub};
+
+    pub(crate) fn next(&self) -> Next
+        ensures value { result ≡ next_of self.now.chip.state }
+        ensures sub { IsSub self.now }
+    {
+        self.chip.next()
+    }
+
+    /// The part of an access that needs the board: the answer is kept.
+    #[tactic(auto, unfolding(z80_chip::specs::States::next_of, bus_shared::specs::Accesses::carried))]
+    pub(crate) fn perform(&mut self, shared: &mut Shared) -> Entry
+        requires access { (next_of self.old.chip.state).sample ≡ false }
+        ensures chip { self.new ≡ (rules.sub_perform self.old shared.old).chip }
+        ensures shared { shared.new ≡ (rules.sub_perform self.old shared.old).shared }
+        ensures entry { result ≡ (rules.sub_perform self.old shared.old).entry }
+    {
+        let key = self.chip.next().key;
+        let request = Request::Sub(self.chip.request());
+        let (answer, entry) = carry_out(shared, key, request);
+        self.answer = answer.sub();
+        entry
+    }
+
+    /// The private work after an access.
+    pub(crate) fn advance(&mut self)
+        requires access { (next_of self.old.chip.state).sample ≡ false }
+        requires cycle { self.old.chip.state.next < 2 ^ 50 }
+        requires answer { IsSome self.old.answer }
+        requires fits { IfSome self.old.answer (Fits (asked_of self.old.chip.cart self.old.chip.state)) }
+        ensures { self.new ≡ rules.sub_advance self.old }
+    {
+        if let Some(answer) = self.answer.take() {
+            self.chip.answer(answer);
+        }
+    }
+
+    pub(crate) fn sample(&mut self, pins: Pins80)
+        requires sample { (next_of self.old.chip.state).sample ≡ true }
+        requires cycle { self.old.chip.state.next < 2 ^ 50 }
+        ensures { self.new ≡ rules.sub_sample self.old pins }
+    {
+        self.chip.sample(pins);
+    }
+}

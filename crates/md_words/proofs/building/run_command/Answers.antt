@@ -1,0 +1,16 @@
+use Rattle.std.proofs.Common.{◌∙◌, ap, codes}
+use Rattle.clap.specs.Simple.{App, with_rule}
+use Rattle.clap.specs.Walk.{Rule}
+use Rattle.md_words.specs.Parse.{option, positional, required, run_app}
+use Rattle.md_words.proofs.building.run_command.Goals as goal
+
+after : Rule → App → App
+after rule app = with_rule app rule
+
+pub returns : goal.returns
+unfolding run_app after
+returns c =
+    let rom_is = c.in_ok-rom.ensures ∙ ap (after (required (positional (codes "rom")))) c.bare.ensures in
+    let cycles_is = c.in_ok-cycles.ensures ∙ ap (after (required (option (codes "cycles")))) rom_is in
+    let sound_is = c.in_ok-sound.ensures ∙ ap (after (option (codes "sound"))) cycles_is in
+    c.in_ok-journal.ensures ∙ ap (after (option (codes "journal"))) sound_is

@@ -1,0 +1,4 @@
+pub mod Given
+pub mod Parse
+pub mod Shown
+pub mod Words

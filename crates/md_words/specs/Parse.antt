@@ -1,0 +1,35 @@
+-- The commands that `clap` reads: what stands behind the command's own word. This project's profile.
+use Rattle.std.specs.Prelude.{◌∷◌, [], List, Option, Some, None, true, fold, codes, if◌then◌else◌}
+use Rattle.clap.specs.Walk.{Row, Rule, Text, is_empty}
+use Rattle.clap.specs.Simple.{App, matches_of, new_app, new_rule, with_rule}
+use Rattle.clap.specs.Faults.{fault_of}
+
+-- what a simple command makes of the words: the rows that it finds, or none where it refuses them
+abbrev pub parse_of : App → List Text → Option (List Row)
+parse_of app words = if is_empty (fault_of app words) then Some (matches_of app words) else None
+
+-- an option, `--name value` or `--name=value`
+abbrev pub option : Text → Rule
+option name = record (new_rule name) { long = Some name }
+
+-- a positional word
+abbrev pub positional : Text → Rule
+positional name = new_rule name
+
+-- an argument that has to be there
+abbrev pub required : Rule → Rule
+required rule = record rule { required = true }
+
+-- a command with no argument yet: it reads no program's name, and has no help
+abbrev pub bare : Text → App
+bare name = record (new_app name) { top = record (new_app name).top { no_binary_name = true; disable_help_flag = true } }
+
+-- `info ROM`
+unfoldable pub info_app : App
+info_app = fold with_rule (bare (codes "info")) (required (positional (codes "rom")) ∷ [])
+
+-- `run ROM --cycles N`, with `--sound W` and `--journal J` if wanted
+unfoldable pub run_app : App
+run_app =
+    fold with_rule (bare (codes "run"))
+    (required (positional (codes "rom")) ∷ required (option (codes "cycles")) ∷ option (codes "sound") ∷ option (codes "journal") ∷ [])

@@ -1,0 +1,17 @@
+-- What the reader of the words found, as the definition's command.
+use Rattle.std.specs.Option.{option_copied}
+use Rattle.md_words.specs.Words as words
+use Rattle.md_words.specs.Words.{Command, Run, RunCart}
+use Rattle.md_words.specs.declared.command_words.CommandWords.{CommandWords}
+use Rattle.md_words.specs.declared.command_words.CommandWords.TheVariants as read
+use Rattle.md_words.specs.declared.run_words.RunWords.{RunWords}
+
+-- the run that words were read as
+abbrev pub shown_run : RunWords → Run
+shown_run run =
+    record { rom = run.rom.now; cycles = run.cycles; sound = option_copied run.sound; journal = option_copied run.journal }
+
+-- the command that words were read as
+abbrev pub shown_command : CommandWords → Command
+shown_command (read.Info rom) = words.Info rom.now
+shown_command (read.Run run) = RunCart (shown_run run)

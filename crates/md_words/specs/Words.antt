@@ -1,0 +1,110 @@
+-- What the words of the command line ask for. This project's profile.
+use Rattle.std.specs.Prelude.{ℕ, ◌^◌, ◌==◌, nat_lt, nat_le, Bool, true, false, ◌&&◌, not, if◌then◌else◌, List, [], ◌∷◌, length, codes, Option, Some, None, option_and_then}
+use Rattle.std.specs.Char.{is_ascii_digit}
+use Rattle.std.specs.List.{list_all}
+use Rattle.std.specs.Option.{option_map}
+use Rattle.std.specs.Str.{bytes_eq}
+use Rattle.std.specs.Str.Parse.{digits_value}
+use Rattle.clap.specs.Walk.{Row, Text, first_of}
+use Rattle.md_words.specs.Parse.{info_app, parse_of, run_app}
+
+-- a run of a cartridge from power-on: the cartridge's name, the cycle of its end, and the names of
+-- the sound file and of the journal, each if it is asked for
+pub record Run : Type 0 where
+  pub rom : List ℕ
+  pub cycles : ℕ
+  pub sound : Option (List ℕ)
+  pub journal : Option (List ℕ)
+
+-- what a command line asks for: the lines of a cartridge's header, by the cartridge's name, or a run
+pub data Command : Type 0 where
+  Info : List ℕ → Command
+  RunCart : Run → Command
+
+-- the name of the cartridge
+abbrev pub rom_of : Command → List ℕ
+rom_of (Info rom) = rom
+rom_of (RunCart run) = run.rom
+
+-- the run, if one is asked for
+abbrev pub run_in : Command → Option Run
+run_in (Info rom) = None
+run_in (RunCart run) = Some run
+
+-- the cycle of the run's end; 0 where none is asked for
+abbrev pub end_of : Command → ℕ
+end_of (Info rom) = 0
+end_of (RunCart run) = run.cycles
+
+-- the name of the sound file, if one is asked for
+abbrev pub sound_name : Command → Option (List ℕ)
+sound_name (Info rom) = None
+sound_name (RunCart run) = run.sound
+
+-- the name of the journal, if one is asked for
+abbrev pub journal_name : Command → Option (List ℕ)
+journal_name (Info rom) = None
+journal_name (RunCart run) = run.journal
+
+-- a word that can be a name: it is not empty and does not begin with a hyphen
+abbrev pub is_name : List ℕ → Bool
+is_name [] = false
+is_name (first ∷ rest) = not (first == 45)
+
+-- 1 to 20 decimal digits
+abbrev pub is_digits : List ℕ → Bool
+is_digits word = nat_le 1 (length word) && nat_le (length word) 20 && list_all is_ascii_digit word
+
+-- a number of the command line: its value is below 2^64
+abbrev pub number_of : List ℕ → Option ℕ
+number_of word = if is_digits word && nat_lt (digits_value 10 word) (2 ^ 64) then Some (digits_value 10 word) else None
+
+-- the value of an option can be a name
+abbrev pub is_output : Option (List ℕ) → Bool
+is_output None = true
+is_output (Some name) = is_name name
+
+-- two names are not the same
+abbrev pub differ : Option (List ℕ) → Option (List ℕ) → Bool
+differ (Some first) (Some second) = not (bytes_eq first second)
+differ first second = true
+
+-- the names are names, and pairwise different
+abbrev pub are_names : List ℕ → Option (List ℕ) → Option (List ℕ) → Bool
+are_names rom sound journal =
+    is_name rom && is_output sound && is_output journal && differ (Some rom) sound && differ (Some rom) journal && differ sound journal
+
+-- `info` has the name of a cartridge
+abbrev pub info_from : Option Text → Option Text
+info_from (Some rom) = if is_name rom then Some rom else None
+info_from None = None
+
+abbrev pub info_of : List Text → Option Text
+info_of words = option_and_then (λ rows. info_from (first_of (codes "rom") rows)) (parse_of info_app words)
+
+-- the run of these names and this count
+abbrev pub run_from : Text → Text → Option Text → Option Text → Option Run
+run_from rom count sound journal =
+    if are_names rom sound journal
+    then option_map (λ n. record { rom = rom; cycles = n; sound = sound; journal = journal }) (number_of count)
+    else None
+
+-- `run` has the name of a cartridge and `--cycles N`, with `--sound W` and `--journal J` if wanted
+abbrev pub run_given : Option Text → Option Text → Option Text → Option Text → Option Run
+run_given (Some rom) (Some count) sound journal = run_from rom count sound journal
+run_given rom count sound journal = None
+
+abbrev pub run_with : List Row → Option Run
+run_with rows =
+    run_given (first_of (codes "rom") rows) (first_of (codes "cycles") rows) (first_of (codes "sound") rows) (first_of (codes "journal") rows)
+
+abbrev pub run_of : List Text → Option Run
+run_of words = option_and_then run_with (parse_of run_app words)
+
+-- the first word chooses the command
+abbrev pub command_of : List Text → Option Command
+command_of [] = None
+command_of (command ∷ words) =
+    if bytes_eq command (codes "info") then option_map Info (info_of words)
+    else if bytes_eq command (codes "run") then option_map RunCart (run_of words)
+    else None

@@ -1,0 +1,70 @@
+ghost use Rattle.std.specs.Prelude.{◌≡◌, IfOk};
+ghost use Rattle.clap.specs.Simple.{app_of, with_rule};
+ghost use Rattle.md_words.specs.Parse as meaning;
+
+use clap::{Arg, Command};
+use std::alloc::{AllocError, Global};
+
+/// The command `info ROM`, behind its word.
+#[tactic(auto, unfolding(crate::specs::Parse::info_app))]
+pub(crate) fn info_command<'a>(alloc: Global) -> Result<Command<'a>, AllocError>
+    ensures { IfOk result (λ command. app_of command ≡ meaning.info_app) }
+{
+    with_wanted_word(bare(alloc, "info"), alloc, "rom")
+}
+
+/// The command `run ROM --cycles N --sound W --journal J`, behind its word.
+pub(crate) fn run_command<'a>(alloc: Global) -> Result<Command<'a>, AllocError>
+    ensures { IfOk result (λ command. app_of command ≡ meaning.run_app) }
+{
+    let rom = with_wanted_word(bare(alloc, "run"), alloc, "rom")?;
+    let cycles = with_wanted_option(rom, alloc, "cycles")?;
+    let sound = with_option(cycles, alloc, "sound")?;
+    let journal = with_option(sound, alloc, "journal")?;
+    Ok(journal)
+}
+
+/// A command with no argument yet, which reads no program's name and has no help.
+fn bare<'a>(alloc: Global, name: &'a str) -> Command<'a>
+    ensures { app_of result ≡ meaning.bare name.entry.now }
+{
+    Command::new(alloc, name)
+        .no_binary_name(true)
+        .disable_help_flag(true)
+}
+
+/// Adds a positional word that has to be there.
+fn with_wanted_word<'a>(
+    command: Command<'a>,
+    alloc: Global,
+    name: &'a str,
+) -> Result<Command<'a>, AllocError>
+    ensures { IfOk result (λ c. app_of c ≡ with_rule (app_of command.entry) (meaning.required (meaning.positional name.entry.now))) }
+{
+    let arg = Arg::new(alloc, name).required(true);
+    command.arg(arg)
+}
+
+/// Adds an option that has to be there.
+fn with_wanted_option<'a>(
+    command: Command<'a>,
+    alloc: Global,
+    name: &'a str,
+) -> Result<Command<'a>, AllocError>
+    ensures { IfOk result (λ c. app_of c ≡ with_rule (app_of command.entry) (meaning.required (meaning.option name.entry.now))) }
+{
+    let arg = Arg::new(alloc, name).long(name).required(true);
+    command.arg(arg)
+}
+
+/// Adds an option.
+fn with_option<'a>(
+    command: Command<'a>,
+    alloc: Global,
+    name: &'a str,
+) -> Result<Command<'a>, AllocError>
+    ensures { IfOk result (λ c. app_of c ≡ with_rule (app_of command.entry) (meaning.option name.entry.now)) }
+{
+    let arg = Arg::new(alloc, name).long(name);
+    command.arg(arg)
+}

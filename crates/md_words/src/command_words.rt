@@ -1,0 +1,57 @@
+ghost use Rattle.std.specs.Prelude.{◌≡◌};
+ghost use Rattle.std.specs.Option.{option_copied};
+ghost use Rattle.md_words.specs.Shown.{shown_command};
+ghost use Rattle.md_words.specs.Words.{end_of, journal_name, rom_of, sound_name};
+
+use crate::run_words::RunWords;
+
+/// What the words of the command line ask for.
+#[derive(Clone, Copy)]
+pub enum CommandWords<'a> {
+    /// The lines of the header of the cartridge of this name.
+    Info(&'a str),
+    /// A run.
+    Run(RunWords<'a>),
+}
+
+impl<'a> CommandWords<'a> {
+    /// The cartridge's name.
+    pub fn rom(&self) -> &'a str
+        ensures { result.now ≡ rom_of (shown_command self.now) }
+    {
+        match self {
+            CommandWords::Info(rom) => rom,
+            CommandWords::Run(run) => run.rom,
+        }
+    }
+
+    /// The cycle of the run's end, and 0 where none is asked for.
+    pub fn end(&self) -> u64
+        ensures { result ≡ end_of (shown_command self.now) }
+    {
+        match self {
+            CommandWords::Info(_) => 0,
+            CommandWords::Run(run) => run.cycles,
+        }
+    }
+
+    /// The sound file's name, if one is asked for.
+    pub fn sound(&self) -> Option<&'a str>
+        ensures { option_copied result ≡ sound_name (shown_command self.now) }
+    {
+        match self {
+            CommandWords::Info(_) => None,
+            CommandWords::Run(run) => run.sound,
+        }
+    }
+
+    /// The journal's name, if one is asked for.
+    pub fn journal(&self) -> Option<&'a str>
+        ensures { option_copied result ≡ journal_name (shown_command self.now) }
+    {
+        match self {
+            CommandWords::Info(_) => None,
+            CommandWords::Run(run) => run.journal,
+        }
+    }
+}

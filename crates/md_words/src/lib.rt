@@ -1,0 +1,15 @@
+//! What the words of the command line ask for.
+#![tactic(auto)]
+
+mod building;
+mod command_words;
+pub mod laws;
+mod names;
+mod numbers;
+mod parse;
+mod reading;
+mod run_words;
+
+pub use command_words::CommandWords;
+pub use reading::read_words;
+pub use run_words::RunWords;

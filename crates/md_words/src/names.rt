@@ -1,0 +1,45 @@
+ghost use Rattle.std.specs.Prelude.{◌≡◌};
+ghost use Rattle.std.specs.Option.{option_copied};
+ghost use Rattle.md_words.specs.Words as meaning;
+
+/// Whether the names can be names, and are pairwise different.
+pub(crate) fn are_names(rom: &str, sound: Option<&str>, journal: Option<&str>) -> bool
+    ensures { result ≡ meaning.are_names rom.now (option_copied sound.entry) (option_copied journal.entry) }
+{
+    is_name(rom)
+        && is_output(sound)
+        && is_output(journal)
+        && differ(Some(rom), sound)
+        && differ(Some(rom), journal)
+        && differ(sound, journal)
+}
+
+/// Whether the value of an option can be a name.
+fn is_output(name: Option<&str>) -> bool
+    ensures { result ≡ meaning.is_output (option_copied name.entry) }
+{
+    match name {
+        Some(name) => is_name(name),
+        None => true,
+    }
+}
+
+/// Whether two names are not the same.
+fn differ(first: Option<&str>, second: Option<&str>) -> bool
+    ensures { result ≡ meaning.differ (option_copied first.entry) (option_copied second.entry) }
+{
+    match (first, second) {
+        (Some(first), Some(second)) => first != second,
+        _ => true,
+    }
+}
+
+/// Whether a word can be a name: it is not empty and does not begin with a hyphen.
+pub(crate) fn is_name(word: &str) -> bool
+    ensures { result ≡ meaning.is_name word.now }
+{
+    match word.as_bytes() {
+        [] => false,
+        [first, ..] => *first != b'-',
+    }
+}
