@@ -56,12 +56,14 @@ value_of name arguments = option_map (λ argument. argument.1) (find (λ argumen
 abbrev pub run_by : List Argument → Option Run
 run_by arguments =
     if are_single arguments
-    then run_given (value_of [] arguments) (value_of (codes "cycles") arguments) (value_of (codes "sound") arguments) (value_of (codes "journal") arguments)
+    then
+    run_given (value_of [] arguments) (value_of (codes "cycles") arguments) (value_of (codes "in") arguments) (value_of (codes "sound") arguments)
+    (value_of (codes "journal") arguments)
     else None
 
 -- the run that words ask for
 abbrev pub given_run : List Text → Option Run
-given_run words = option_and_then run_by (given (codes "cycles" ∷ codes "sound" ∷ codes "journal" ∷ []) false None words)
+given_run words = option_and_then run_by (given (codes "cycles" ∷ codes "in" ∷ codes "sound" ∷ codes "journal" ∷ []) false None words)
 
 -- LISTS OF WORDS
 
@@ -69,7 +71,7 @@ given_run words = option_and_then run_by (given (codes "cycles" ∷ codes "sound
 -- word that ends the options, hyphens, no letter, and the front of an option's name
 abbrev pub sample_words : List Text
 sample_words =
-    codes "W" ∷ codes "5" ∷ codes "--cycles" ∷ codes "--cycles=5" ∷ codes "--sound" ∷ codes "--sound=W" ∷ codes "--sound=" ∷ codes "--"
+    codes "W" ∷ codes "5" ∷ codes "--cycles" ∷ codes "--cycles=5" ∷ codes "--sound" ∷ codes "--in=W" ∷ codes "--sound=" ∷ codes "--"
     ∷ codes "-" ∷ codes "-x" ∷ [] ∷ codes "--cycle=5" ∷ []
 
 -- all lists of so many of them

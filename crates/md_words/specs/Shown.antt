@@ -9,7 +9,13 @@ use Rattle.md_words.specs.declared.run_words.RunWords.{RunWords}
 -- the run that words were read as
 abbrev pub shown_run : RunWords → Run
 shown_run run =
-    record { rom = run.rom.now; cycles = run.cycles; sound = option_copied run.sound; journal = option_copied run.journal }
+    record {
+      rom = run.rom.now;
+      cycles = run.cycles;
+      recording = option_copied run.recording;
+      sound = option_copied run.sound;
+      journal = option_copied run.journal;
+    }
 
 -- the command that words were read as
 abbrev pub shown_command : CommandWords → Command

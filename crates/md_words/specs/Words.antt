@@ -8,11 +8,12 @@ use Rattle.std.specs.Str.Parse.{digits_value}
 use Rattle.clap.specs.Walk.{Row, Text, first_of}
 use Rattle.md_words.specs.Parse.{info_app, parse_of, run_app}
 
--- a run of a cartridge from power-on: the cartridge's name, the cycle of its end, and the names of
--- the sound file and of the journal, each if it is asked for
+-- a run of a cartridge from power-on: the cartridge's name, the cycle of its end, the name of the
+-- recording, if one is given, and those of the sound file and of the journal, each if it is asked for
 pub record Run : Type 0 where
   pub rom : List ℕ
   pub cycles : ℕ
+  pub recording : Option (List ℕ)
   pub sound : Option (List ℕ)
   pub journal : Option (List ℕ)
 
@@ -35,6 +36,11 @@ run_in (RunCart run) = Some run
 abbrev pub end_of : Command → ℕ
 end_of (Info rom) = 0
 end_of (RunCart run) = run.cycles
+
+-- the name of the recording, if one is given
+abbrev pub recording_name : Command → Option (List ℕ)
+recording_name (Info rom) = None
+recording_name (RunCart run) = run.recording
 
 -- the name of the sound file, if one is asked for
 abbrev pub sound_name : Command → Option (List ℕ)
@@ -60,9 +66,9 @@ abbrev pub number_of : List ℕ → Option ℕ
 number_of word = if is_digits word && nat_lt (digits_value 10 word) (2 ^ 64) then Some (digits_value 10 word) else None
 
 -- the value of an option can be a name
-abbrev pub is_output : Option (List ℕ) → Bool
-is_output None = true
-is_output (Some name) = is_name name
+abbrev pub is_optional_name : Option (List ℕ) → Bool
+is_optional_name None = true
+is_optional_name (Some name) = is_name name
 
 -- two names are not the same
 abbrev pub differ : Option (List ℕ) → Option (List ℕ) → Bool
@@ -70,9 +76,11 @@ differ (Some first) (Some second) = not (bytes_eq first second)
 differ first second = true
 
 -- the names are names, and pairwise different
-abbrev pub are_names : List ℕ → Option (List ℕ) → Option (List ℕ) → Bool
-are_names rom sound journal =
-    is_name rom && is_output sound && is_output journal && differ (Some rom) sound && differ (Some rom) journal && differ sound journal
+abbrev pub are_names : List ℕ → Option (List ℕ) → Option (List ℕ) → Option (List ℕ) → Bool
+are_names rom recording sound journal =
+    is_name rom && is_optional_name recording && is_optional_name sound && is_optional_name journal
+    && differ (Some rom) recording && differ (Some rom) sound && differ (Some rom) journal
+    && differ recording sound && differ recording journal && differ sound journal
 
 -- `info` has the name of a cartridge
 abbrev pub info_from : Option Text → Option Text
@@ -83,20 +91,22 @@ abbrev pub info_of : List Text → Option Text
 info_of words = option_and_then (λ rows. info_from (first_of (codes "rom") rows)) (parse_of info_app words)
 
 -- the run of these names and this count
-abbrev pub run_from : Text → Text → Option Text → Option Text → Option Run
-run_from rom count sound journal =
-    if are_names rom sound journal
-    then option_map (λ n. record { rom = rom; cycles = n; sound = sound; journal = journal }) (number_of count)
+abbrev pub run_from : Text → Text → Option Text → Option Text → Option Text → Option Run
+run_from rom count recording sound journal =
+    if are_names rom recording sound journal
+    then option_map (λ n. record { rom = rom; cycles = n; recording = recording; sound = sound; journal = journal }) (number_of count)
     else None
 
--- `run` has the name of a cartridge and `--cycles N`, with `--sound W` and `--journal J` if wanted
-abbrev pub run_given : Option Text → Option Text → Option Text → Option Text → Option Run
-run_given (Some rom) (Some count) sound journal = run_from rom count sound journal
-run_given rom count sound journal = None
+-- `run` has the name of a cartridge and `--cycles N`, with `--in P`, `--sound W` and `--journal J` if
+-- wanted
+abbrev pub run_given : Option Text → Option Text → Option Text → Option Text → Option Text → Option Run
+run_given (Some rom) (Some count) recording sound journal = run_from rom count recording sound journal
+run_given rom count recording sound journal = None
 
 abbrev pub run_with : List Row → Option Run
 run_with rows =
-    run_given (first_of (codes "rom") rows) (first_of (codes "cycles") rows) (first_of (codes "sound") rows) (first_of (codes "journal") rows)
+    run_given (first_of (codes "rom") rows) (first_of (codes "cycles") rows) (first_of (codes "in") rows) (first_of (codes "sound") rows)
+    (first_of (codes "journal") rows)
 
 abbrev pub run_of : List Text → Option Run
 run_of words = option_and_then run_with (parse_of run_app words)

@@ -1,7 +1,7 @@
 ghost use Rattle.std.specs.Prelude.{◌≡◌};
 ghost use Rattle.std.specs.Option.{option_copied};
 ghost use Rattle.md_words.specs.Shown.{shown_command};
-ghost use Rattle.md_words.specs.Words.{end_of, journal_name, rom_of, sound_name};
+ghost use Rattle.md_words.specs.Words.{end_of, journal_name, recording_name, rom_of, sound_name};
 
 use crate::run_words::RunWords;
 
@@ -32,6 +32,16 @@ impl<'a> CommandWords<'a> {
         match self {
             CommandWords::Info(_) => 0,
             CommandWords::Run(run) => run.cycles,
+        }
+    }
+
+    /// The recording's name, if one is given.
+    pub fn recording(&self) -> Option<&'a str>
+        ensures { option_copied result ≡ recording_name (shown_command self.now) }
+    {
+        match self {
+            CommandWords::Info(_) => None,
+            CommandWords::Run(run) => run.recording,
         }
     }
 

@@ -3,20 +3,29 @@ ghost use Rattle.std.specs.Option.{option_copied};
 ghost use Rattle.md_words.specs.Words as meaning;
 
 /// Whether the names can be names, and are pairwise different.
-pub(crate) fn are_names(rom: &str, sound: Option<&str>, journal: Option<&str>) -> bool
-    ensures { result ≡ meaning.are_names rom.now (option_copied sound.entry) (option_copied journal.entry) }
+pub(crate) fn are_names(
+    rom: &str,
+    recording: Option<&str>,
+    sound: Option<&str>,
+    journal: Option<&str>,
+) -> bool
+    ensures { result ≡ meaning.are_names rom.now (option_copied recording.entry) (option_copied sound.entry) (option_copied journal.entry) }
 {
     is_name(rom)
-        && is_output(sound)
-        && is_output(journal)
+        && is_optional_name(recording)
+        && is_optional_name(sound)
+        && is_optional_name(journal)
+        && differ(Some(rom), recording)
         && differ(Some(rom), sound)
         && differ(Some(rom), journal)
+        && differ(recording, sound)
+        && differ(recording, journal)
         && differ(sound, journal)
 }
 
 /// Whether the value of an option can be a name.
-fn is_output(name: Option<&str>) -> bool
-    ensures { result ≡ meaning.is_output (option_copied name.entry) }
+fn is_optional_name(name: Option<&str>) -> bool
+    ensures { result ≡ meaning.is_optional_name (option_copied name.entry) }
 {
     match name {
         Some(name) => is_name(name),

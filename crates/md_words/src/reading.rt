@@ -17,10 +17,10 @@ use std::alloc::{AllocError, Global};
 /// Reads the words of the command line, those behind the program's name; none: they ask for nothing
 /// that there is.
 ///
-/// They are `info ROM`, or `run ROM --cycles N` with `--sound W` and `--journal J` where they are
-/// wanted. Options stand in any order among the other words, each at most once, as two words or as
-/// `--name=value`; `--` ends the options. Names are not empty, do not begin with a hyphen, and are
-/// pairwise different. N is 1 to 20 decimal digits with a value below 2^64.
+/// They are `info ROM`, or `run ROM --cycles N` with `--in P`, `--sound W` and `--journal J` where
+/// they are wanted. Options stand in any order among the other words, each at most once, as two words
+/// or as `--name=value`; `--` ends the options. Names are not empty, do not begin with a hyphen, and
+/// are pairwise different. N is 1 to 20 decimal digits with a value below 2^64.
 pub fn read_words<'a>(
     alloc: Global,
     words: &'a [String],
@@ -88,6 +88,7 @@ fn run_chosen<'a>(matches: &ArgMatches<'a>) -> Option<RunWords<'a>>
     run_given(
         value(matches, "rom"),
         value(matches, "cycles"),
+        value(matches, "in"),
         value(matches, "sound"),
         value(matches, "journal"),
     )
@@ -104,14 +105,15 @@ fn value<'a>(matches: &ArgMatches<'a>, name: &str) -> Option<&'a str>
 fn run_given<'a>(
     rom: Option<&'a str>,
     count: Option<&'a str>,
+    recording: Option<&'a str>,
     sound: Option<&'a str>,
     journal: Option<&'a str>,
 ) -> Option<RunWords<'a>>
     ensures { option_map shown_run result ≡ meaning.run_given (option_copied rom.entry) (option_copied count.entry)
-        (option_copied sound.entry) (option_copied journal.entry) }
+        (option_copied recording.entry) (option_copied sound.entry) (option_copied journal.entry) }
 {
     match (rom, count) {
-        (Some(rom), Some(count)) => run_from(rom, count, sound, journal),
+        (Some(rom), Some(count)) => run_from(rom, count, recording, sound, journal),
         _ => None,
     }
 }
@@ -120,18 +122,21 @@ fn run_given<'a>(
 fn run_from<'a>(
     rom: &'a str,
     count: &str,
+    recording: Option<&'a str>,
     sound: Option<&'a str>,
     journal: Option<&'a str>,
 ) -> Option<RunWords<'a>>
-    ensures { option_map shown_run result ≡ meaning.run_from rom.now count.now (option_copied sound.entry) (option_copied journal.entry) }
+    ensures { option_map shown_run result ≡ meaning.run_from rom.now count.now (option_copied recording.entry)
+        (option_copied sound.entry) (option_copied journal.entry) }
 {
-    if !are_names(rom, sound, journal) {
+    if !are_names(rom, recording, sound, journal) {
         return None;
     }
     match read_number(count) {
         Some(cycles) => Some(RunWords {
             rom,
             cycles,
+            recording,
             sound,
             journal,
         }),

@@ -9,6 +9,8 @@ pub struct RunWords<'a> {
     pub rom: &'a str,
     /// The cycle of the run's end.
     pub cycles: u64,
+    /// The recording's name, if one is given.
+    pub recording: Option<&'a str>,
     /// The sound file's name, if one is asked for.
     pub sound: Option<&'a str>,
     /// The journal's name, if one is asked for.

@@ -12,5 +12,6 @@ unfolding run_app after
 returns c =
     let rom_is = c.in_ok-rom.ensures ∙ ap (after (required (positional (codes "rom")))) c.bare.ensures in
     let cycles_is = c.in_ok-cycles.ensures ∙ ap (after (required (option (codes "cycles")))) rom_is in
-    let sound_is = c.in_ok-sound.ensures ∙ ap (after (option (codes "sound"))) cycles_is in
+    let recording_is = c.in_ok-recording.ensures ∙ ap (after (option (codes "in"))) cycles_is in
+    let sound_is = c.in_ok-sound.ensures ∙ ap (after (option (codes "sound"))) recording_is in
     c.in_ok-journal.ensures ∙ ap (after (option (codes "journal"))) sound_is
