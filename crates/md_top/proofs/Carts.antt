@@ -5,8 +5,8 @@ use Rattle.rom_header.specs.Cartridge.{fault_of}
 use Rattle.rom_header.specs.declared.cart.CartFault.{CartFault}
 use Rattle.rom_header.specs.declared.cart.CartFault.TheVariants.{Short, Long, NoMark, NoMemory}
 use Rattle.md_outer.specs.Outside.{DepotState}
-use Rattle.md_top.specs.Endings.{CartCause, cart_limit, refusal_of}
-use Rattle.md_top.proofs.Rows.{long_is_long}
+use Rattle.md_top.specs.Inputs.{CartCause, cart_limit, refusal_of}
+use Rattle.md_top.proofs.Right.{long_is_long}
 
 -- the file holds bytes that are within the limit and no cartridge
 held : (file : Option (List ℕ)) (bytes : List ℕ) (fault : CartFault) → file ≡ Some bytes → length bytes ≤ cart_limit → fault_of bytes ≡ Some fault

@@ -9,6 +9,7 @@ use Rattle.md_top.specs.Runs.{FewEvents, entries_to, journal_of, levels_to, soun
 use Rattle.md_words.specs.Words.{Run}
 use Rattle.md_top.specs.declared.ending.Ending.{Ending}
 use Rattle.md_top.specs.declared.ending.Ending.TheVariants.{Done, SoundFault, JournalFault, Memory}
+use Rattle.md_top.specs.declared.inputs.Inputs.{Inputs}
 use Rattle.md_top.specs.declared.outputs.Outputs.{Outputs}
 use Rattle.md_top.proofs.Puts.{rose_later}
 use Rattle.md_top.proofs.Segments.{journal-first, journal-grows, sound-grows, sound-next}
@@ -30,82 +31,82 @@ both-err (Err e) f p q = f e p q
 
 -- WHAT THE OUTPUTS HOLD
 
-pub head-held : (run : Run) (cart : List ℕ) (first files : Files) (head : List ℕ) → FewEvents cart → head ≡ sound_until cart run.cycles 0
-    → Holds run first files head [] → HoldsUntil cart run first files 0
-head-held run cart first files head few is holds =
-    subst (λ (l : List ℕ). Holds run first files (sound_until cart run.cycles 0) l) (sym (journal-first cart few))
+pub head-held : (run : Run) (inputs : Inputs) (first files : Files) (head : List ℕ) → FewEvents inputs → head ≡ sound_until inputs run.cycles 0
+    → Holds run first files head [] → HoldsUntil inputs run first files 0
+head-held run inputs first files head few is holds =
+    subst (λ (l : List ℕ). Holds run first files (sound_until inputs run.cycles 0) l) (sym (journal-first inputs few))
     (subst (λ (l : List ℕ). Holds run first files l []) is holds)
 
 empty-first : (l : List ℕ) → IsPrefix [] l
 empty-first l = (l, refl)
 
-pub head-parts : (run : Run) (cart : List ℕ) (first files : Files) (head : List ℕ) → FewEvents cart → run.cycles ≤ 2 ^ 50 → head ≡ sound_until cart run.cycles 0
-    → LeavesParts run first files head [] → LeavesParts run first files (sound_of cart run.cycles) (journal_of cart run.cycles)
-head-parts run cart first files head few small is leaves =
-    parts-longer run first files head [] (sound_of cart run.cycles) (journal_of cart run.cycles) leaves
-    (subst (λ (l : List ℕ). IsPrefix l (sound_of cart run.cycles)) (sym is) (sound-grows cart run.cycles 0 run.cycles few small (omega arith)))
-    (empty-first (journal_of cart run.cycles))
+pub head-parts : (run : Run) (inputs : Inputs) (first files : Files) (head : List ℕ) → FewEvents inputs → run.cycles ≤ 2 ^ 50 → head ≡ sound_until inputs run.cycles 0
+    → LeavesParts run first files head [] → LeavesParts run first files (sound_of inputs run.cycles) (journal_of inputs run.cycles)
+head-parts run inputs first files head few small is leaves =
+    parts-longer run first files head [] (sound_of inputs run.cycles) (journal_of inputs run.cycles) leaves
+    (subst (λ (l : List ℕ). IsPrefix l (sound_of inputs run.cycles)) (sym is) (sound-grows inputs run.cycles 0 run.cycles few small (omega arith)))
+    (empty-first (journal_of inputs run.cycles))
 
 -- the journal behind a segment
-journal-next : (cart : List ℕ) (at to : ℕ) (records : List ℕ) → journal_bytes (entries_to cart to) ≡ journal_bytes (entries_to cart at) ++ records
-    → journal_of cart at ++ records ≡ journal_of cart to
+journal-next : (inputs : Inputs) (at to : ℕ) (records : List ℕ) → journal_bytes (entries_to inputs to) ≡ journal_bytes (entries_to inputs at) ++ records
+    → journal_of inputs at ++ records ≡ journal_of inputs to
 unfolding journal_of
-journal-next cart at to records is = sym is
+journal-next inputs at to records is = sym is
 
-pub segment-held : (run : Run) (cart : List ℕ) (first old new : Files) (at to : ℕ) (pairs records : List ℕ)
-    → sound_bytes (levels_to cart to) ≡ sound_bytes (levels_to cart at) ++ pairs → journal_bytes (entries_to cart to) ≡ journal_bytes (entries_to cart at) ++ records
-    → Adds run old new pairs records → HoldsUntil cart run first old at → HoldsUntil cart run first new to
-segment-held run cart first old new at to pairs records more_sound more_journal adds holds =
-    subst (λ (l : List ℕ). Holds run first new l (journal_of cart to)) (sound-next cart run.cycles at to pairs more_sound)
-    (subst (λ (l : List ℕ). Holds run first new (sound_until cart run.cycles at ++ pairs) l) (journal-next cart at to records more_journal)
-    (adds first (sound_until cart run.cycles at) (journal_of cart at) holds))
+pub segment-held : (run : Run) (inputs : Inputs) (first old new : Files) (at to : ℕ) (pairs records : List ℕ)
+    → sound_bytes (levels_to inputs to) ≡ sound_bytes (levels_to inputs at) ++ pairs → journal_bytes (entries_to inputs to) ≡ journal_bytes (entries_to inputs at) ++ records
+    → Adds run old new pairs records → HoldsUntil inputs run first old at → HoldsUntil inputs run first new to
+segment-held run inputs first old new at to pairs records more_sound more_journal adds holds =
+    subst (λ (l : List ℕ). Holds run first new l (journal_of inputs to)) (sound-next inputs run.cycles at to pairs more_sound)
+    (subst (λ (l : List ℕ). Holds run first new (sound_until inputs run.cycles at ++ pairs) l) (journal-next inputs at to records more_journal)
+    (adds first (sound_until inputs run.cycles at) (journal_of inputs at) holds))
 
-pub segment-parts : (run : Run) (cart : List ℕ) (first old new : Files) (at to : ℕ) (pairs records : List ℕ) → FewEvents cart → to ≤ run.cycles → run.cycles ≤ 2 ^ 50
-    → sound_bytes (levels_to cart to) ≡ sound_bytes (levels_to cart at) ++ pairs → journal_bytes (entries_to cart to) ≡ journal_bytes (entries_to cart at) ++ records
-    → AddsParts run old new pairs records → HoldsUntil cart run first old at → LeavesParts run first new (sound_of cart run.cycles) (journal_of cart run.cycles)
-segment-parts run cart first old new at to pairs records few within small more_sound more_journal adds holds =
-    parts-longer run first new (sound_until cart run.cycles at ++ pairs) (journal_of cart at ++ records) (sound_of cart run.cycles) (journal_of cart run.cycles)
-    (adds first (sound_until cart run.cycles at) (journal_of cart at) holds)
-    (subst (λ (l : List ℕ). IsPrefix l (sound_of cart run.cycles)) (sym (sound-next cart run.cycles at to pairs more_sound))
-    (sound-grows cart run.cycles to run.cycles few small within))
-    (subst (λ (l : List ℕ). IsPrefix l (journal_of cart run.cycles)) (sym (journal-next cart at to records more_journal))
-    (journal-grows cart to run.cycles few small within))
+pub segment-parts : (run : Run) (inputs : Inputs) (first old new : Files) (at to : ℕ) (pairs records : List ℕ) → FewEvents inputs → to ≤ run.cycles → run.cycles ≤ 2 ^ 50
+    → sound_bytes (levels_to inputs to) ≡ sound_bytes (levels_to inputs at) ++ pairs → journal_bytes (entries_to inputs to) ≡ journal_bytes (entries_to inputs at) ++ records
+    → AddsParts run old new pairs records → HoldsUntil inputs run first old at → LeavesParts run first new (sound_of inputs run.cycles) (journal_of inputs run.cycles)
+segment-parts run inputs first old new at to pairs records few within small more_sound more_journal adds holds =
+    parts-longer run first new (sound_until inputs run.cycles at ++ pairs) (journal_of inputs at ++ records) (sound_of inputs run.cycles) (journal_of inputs run.cycles)
+    (adds first (sound_until inputs run.cycles at) (journal_of inputs at) holds)
+    (subst (λ (l : List ℕ). IsPrefix l (sound_of inputs run.cycles)) (sym (sound-next inputs run.cycles at to pairs more_sound))
+    (sound-grows inputs run.cycles to run.cycles few small within))
+    (subst (λ (l : List ℕ). IsPrefix l (journal_of inputs run.cycles)) (sym (journal-next inputs at to records more_journal))
+    (journal-grows inputs to run.cycles few small within))
 
 -- WHY IT STOPS
 
-pub fault-cause : (cart : List ℕ) (run : Run) (old new : DepotState) (ending : Ending) → IsWriteFault run old new ending → RunCause cart run old new ending
-fault-cause cart run old new SoundFault fault = fault
-fault-cause cart run old new JournalFault fault = fault
-fault-cause cart run old new _ fault = absurd fault
+pub fault-cause : (inputs : Inputs) (run : Run) (old new : DepotState) (ending : Ending) → IsWriteFault run old new ending → RunCause inputs run old new ending
+fault-cause inputs run old new SoundFault fault = fault
+fault-cause inputs run old new JournalFault fault = fault
+fault-cause inputs run old new _ fault = absurd fault
 
-pub unwritten-cause : (cart : List ℕ) (run : Run) (old new : DepotState) (ending : Ending) → IsUnwritten run old new ending → RunCause cart run old new ending
-unwritten-cause cart run old new SoundFault fault = fault
-unwritten-cause cart run old new JournalFault fault = fault
-unwritten-cause cart run old new Memory fault = tt
-unwritten-cause cart run old new _ fault = absurd fault
+pub unwritten-cause : (inputs : Inputs) (run : Run) (old new : DepotState) (ending : Ending) → IsUnwritten run old new ending → RunCause inputs run old new ending
+unwritten-cause inputs run old new SoundFault fault = fault
+unwritten-cause inputs run old new JournalFault fault = fault
+unwritten-cause inputs run old new Memory fault = tt
+unwritten-cause inputs run old new _ fault = absurd fault
 
 -- a cause from later on is one from before
-pub cause-before : (cart : List ℕ) (run : Run) (old mid new : DepotState) (ending : Ending) → GoesOn old mid → RunCause cart run mid new ending → RunCause cart run old new ending
-cause-before cart run old mid new (Done accesses halted) on cause = cause
-cause-before cart run old mid new Memory on cause = tt
-cause-before cart run old mid new SoundFault on cause = (cause.0, rose_later old.write_faults mid.write_faults new.write_faults on.writes cause.1)
-cause-before cart run old mid new JournalFault on cause = (cause.0, rose_later old.write_faults mid.write_faults new.write_faults on.writes cause.1)
-cause-before cart run old mid new _ on cause = absurd cause
+pub cause-before : (inputs : Inputs) (run : Run) (old mid new : DepotState) (ending : Ending) → GoesOn old mid → RunCause inputs run mid new ending → RunCause inputs run old new ending
+cause-before inputs run old mid new (Done accesses halted) on cause = cause
+cause-before inputs run old mid new Memory on cause = tt
+cause-before inputs run old mid new SoundFault on cause = (cause.0, rose_later old.write_faults mid.write_faults new.write_faults on.writes cause.1)
+cause-before inputs run old mid new JournalFault on cause = (cause.0, rose_later old.write_faults mid.write_faults new.write_faults on.writes cause.1)
+cause-before inputs run old mid new _ on cause = absurd cause
 
-pub fault-leaves : (cart : List ℕ) (run : Run) (first files : Files) (old new : DepotState) (ending : Ending) → IsWriteFault run old new ending
-    → LeavesParts run first files (sound_of cart run.cycles) (journal_of cart run.cycles) → RunLeaves cart run first files ending
-fault-leaves cart run first files old new SoundFault fault leaves = leaves
-fault-leaves cart run first files old new JournalFault fault leaves = leaves
-fault-leaves cart run first files old new _ fault leaves = absurd fault
+pub fault-leaves : (inputs : Inputs) (run : Run) (first files : Files) (old new : DepotState) (ending : Ending) → IsWriteFault run old new ending
+    → LeavesParts run first files (sound_of inputs run.cycles) (journal_of inputs run.cycles) → RunLeaves inputs run first files ending
+fault-leaves inputs run first files old new SoundFault fault leaves = leaves
+fault-leaves inputs run first files old new JournalFault fault leaves = leaves
+fault-leaves inputs run first files old new _ fault leaves = absurd fault
 
-pub unwritten-leaves : (cart : List ℕ) (run : Run) (first files : Files) (old new : DepotState) (ending : Ending) → IsUnwritten run old new ending
-    → LeavesParts run first files [] [] → RunLeaves cart run first files ending
-unwritten-leaves cart run first files old new SoundFault fault leaves =
-    parts-longer run first files [] [] (sound_of cart run.cycles) (journal_of cart run.cycles) leaves (empty-first (sound_of cart run.cycles)) (empty-first (journal_of cart run.cycles))
-unwritten-leaves cart run first files old new JournalFault fault leaves =
-    parts-longer run first files [] [] (sound_of cart run.cycles) (journal_of cart run.cycles) leaves (empty-first (sound_of cart run.cycles)) (empty-first (journal_of cart run.cycles))
-unwritten-leaves cart run first files old new Memory fault leaves = leaves
-unwritten-leaves cart run first files old new _ fault leaves = absurd fault
+pub unwritten-leaves : (inputs : Inputs) (run : Run) (first files : Files) (old new : DepotState) (ending : Ending) → IsUnwritten run old new ending
+    → LeavesParts run first files [] [] → RunLeaves inputs run first files ending
+unwritten-leaves inputs run first files old new SoundFault fault leaves =
+    parts-longer run first files [] [] (sound_of inputs run.cycles) (journal_of inputs run.cycles) leaves (empty-first (sound_of inputs run.cycles)) (empty-first (journal_of inputs run.cycles))
+unwritten-leaves inputs run first files old new JournalFault fault leaves =
+    parts-longer run first files [] [] (sound_of inputs run.cycles) (journal_of inputs run.cycles) leaves (empty-first (sound_of inputs run.cycles)) (empty-first (journal_of inputs run.cycles))
+unwritten-leaves inputs run first files old new Memory fault leaves = leaves
+unwritten-leaves inputs run first files old new _ fault leaves = absurd fault
 
 -- NUMBERS OF BEGUN OUTPUTS
 

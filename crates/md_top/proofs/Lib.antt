@@ -1,8 +1,10 @@
 pub mod Carts
 pub mod Ends
+pub mod Fetched
 pub mod Least
 pub mod LeastRuns
 pub mod Puts
+pub mod Right
 pub mod Rows
 pub mod Segments
 pub mod Writes

@@ -1,91 +1,21 @@
 -- The answers one by one, from the answer as a whole.
-use Rattle.std.proofs.Common.{◌≡◌, ◌≢◌, ◌⊎◌, inl, inr, ℕ, ◌<◌, ◌≤◌, ◌==◌, Bool, true, false, cond, List, [], length, Option, Some, None, refl, sym, ap, ◌∙◌, arith}
-use Rattle.std.specs.Prelude.{IsSomeAnd, codes, nat_lt}
+use Rattle.std.proofs.Common.{◌≡◌, ◌≢◌, ◌⊎◌, inl, inr, ℕ, ◌<◌, ◌≤◌, Bool, true, false, List, [], length, Option, Some, None, refl, sym, ap, ◌∙◌, arith}
+use Rattle.std.specs.Prelude.{IsSomeAnd, codes, unwrap_or}
 use Rattle.std.specs.Str.{bytes_eq}
 use Rattle.std.proofs.lemmas.Slice.Eq.{bytes_eq-Decides}
-use Rattle.std.proofs.lemmas.Bool.Decides.{nat_tests}
-use Rattle.rom_header.specs.Cartridge.{fault_of, has_mark}
 use Rattle.rom_header.specs.Header.{header_lines}
-use Rattle.rom_header.specs.declared.cart.CartFault.{CartFault}
-use Rattle.rom_header.specs.declared.cart.CartFault.TheVariants as fault
-use Rattle.md_outer.specs.Outside.{DepotState, Files, Rose, SinkState, with_file}
+use Rattle.md_outer.specs.Outside.{DepotState, Files, Rose, SinkState, bytes_of, with_file}
+use Rattle.md_pads.specs.Recording.{GoesWrongAt, IsSpelled}
 use Rattle.md_top.specs.Answers.{Causes, PutsAll, PutsOutput, PutsPart, Reports}
-use Rattle.md_top.specs.Limits.{IsEnd, last_cycle}
-use Rattle.md_top.specs.Runs.{entries_to, halted_in, journal_of, sound_of}
-use Rattle.md_top.specs.Endings.{CartCause, HasCause, InfoEnds, IsAccepted, LeavesFiles, RunEnds, RunLeaves, cart_ending, cart_limit, cart_of, file_ending, right_ending, run_ending, status_of, text_of}
+use Rattle.md_top.specs.Inputs.{IsAccepted, IsJudged, IsMissing, Recorded, RecordingCause, Verdict, cart_of, recording_limit}
+use Rattle.md_top.specs.Limits.{last_cycle}
+use Rattle.md_top.specs.Runs.{journal_of, sound_of}
+use Rattle.md_top.specs.Endings.{HasCause, InfoEnds, LeavesFiles, RunEnds, RunFiles, accepted_ending, file_ending, right_ending, run_ending, status_of, text_of}
 use Rattle.md_top.specs.Outputs.{LeavesParts, with_part, written}
 use Rattle.md_words.specs.Words.{Command, Info, Run, RunCart}
 use Rattle.md_top.specs.declared.ending.Ending.{Ending}
-use Rattle.md_top.specs.declared.ending.Ending.TheVariants.{Shown, Done, Usage, TooFar, ReadFault, TooLong, Short, NoMark, Behind, SoundFault, JournalFault, Memory}
-
--- THE RIGHT ENDING
-
-not_below : (limit n : ℕ) → n ≤ limit → nat_lt limit n ≡ false
-not_below limit n within = grind (arith, nat_tests)
-
-is_below : (limit n : ℕ) → limit < n → nat_lt limit n ≡ true
-is_below limit n above = grind (arith, nat_tests)
-
-is_some_cycle : (n : ℕ) → 1 ≤ n → (n == 0) ≡ false
-is_some_cycle n some = grind (arith, nat_tests)
-
--- a file within the limit is not refused as too long
-not_long : (short mark : Bool) → cond short (Some fault.Short) (cond false (Some fault.Long) (cond mark None (Some fault.NoMark))) ≡ Some fault.Long → ⊥
-not_long true mark same = cc
-not_long false true same = cc
-not_long false false same = cc
-
-pub long_is_long : (bytes : List ℕ) → length bytes ≤ cart_limit → fault_of bytes ≡ Some fault.Long → ⊥
-long_is_long bytes within why =
-    not_long (nat_lt (length bytes) 512) (has_mark bytes)
-    (rw (not_below 4194304 (length bytes) within) at why)
-
--- behind each kind of file
-right_accepted : (file : Option (List ℕ)) (rest : Ending) → IsAccepted file → file_ending file rest ≡ rest
-right_accepted None rest accepted = absurd accepted
-right_accepted (Some bytes) rest (within, ok) =
-    ap (λ (long : Bool). cond long TooLong (cart_ending (fault_of bytes) rest)) (not_below cart_limit (length bytes) within)
-    ∙ ap (λ (fault : Option CartFault). cart_ending fault rest) ok
-
-right_long : (file : Option (List ℕ)) (rest : Ending) → IsSomeAnd file (λ bytes. cart_limit < length bytes) → file_ending file rest ≡ TooLong
-right_long None rest long = absurd long
-right_long (Some bytes) rest long = ap (λ (too_long : Bool). cond too_long TooLong (cart_ending (fault_of bytes) rest)) (is_below cart_limit (length bytes) long)
-
-right_refused : (file : Option (List ℕ)) (rest : Ending) (why : CartFault)
-    → IsSomeAnd file (λ bytes. (length bytes ≤ cart_limit) × (fault_of bytes ≡ Some why)) → file_ending file rest ≡ cart_ending (Some why) rest
-right_refused None rest why refused = absurd refused
-right_refused (Some bytes) rest why (within, is) =
-    ap (λ (long : Bool). cond long TooLong (cart_ending (fault_of bytes) rest)) (not_below cart_limit (length bytes) within)
-    ∙ ap (λ (refused : Option CartFault). cart_ending refused rest) is
-
-right_missing : (file : Option (List ℕ)) (rest : Ending) → file ≡ None → file_ending file rest ≡ ReadFault
-right_missing file rest missing = ap (λ (file : Option (List ℕ)). file_ending file rest) missing
-
--- of a run
-right_far : (run : Run) (files : Files) → last_cycle < run.cycles → right_ending (Some (RunCart run)) files ≡ TooFar
-right_far run files far =
-    ap (λ (b : Bool). cond b TooFar (file_ending (files run.rom) (run_ending (cart_of run.rom files) run.cycles))) (is_below last_cycle run.cycles far)
-
-right_near : (run : Run) (files : Files) → run.cycles ≤ last_cycle
-    → right_ending (Some (RunCart run)) files ≡ file_ending (files run.rom) (run_ending (cart_of run.rom files) run.cycles)
-right_near run files near =
-    ap (λ (b : Bool). cond b TooFar (file_ending (files run.rom) (run_ending (cart_of run.rom files) run.cycles))) (not_below last_cycle run.cycles near)
-
-right_run : (run : Run) (files : Files) → run.cycles ≤ last_cycle → IsAccepted (files run.rom)
-    → right_ending (Some (RunCart run)) files ≡ run_ending (cart_of run.rom files) run.cycles
-right_run run files near accepted =
-    right_near run files near ∙ right_accepted (files run.rom) (run_ending (cart_of run.rom files) run.cycles) accepted
-
-right_behind : (run : Run) (files : Files) → run.cycles ≡ 0 → IsAccepted (files run.rom) → right_ending (Some (RunCart run)) files ≡ Behind
-right_behind run files zero accepted =
-    right_run run files (omega (arith, zero)) accepted
-    ∙ ap (λ (n : ℕ). cond (n == 0) Behind (Done (length (entries_to (cart_of run.rom files) n)) (halted_in (cart_of run.rom files) n))) zero
-
-right_done : (run : Run) (files : Files) → IsEnd run.cycles → IsAccepted (files run.rom)
-    → right_ending (Some (RunCart run)) files ≡ Done (length (entries_to (cart_of run.rom files) run.cycles)) (halted_in (cart_of run.rom files) run.cycles)
-right_done run files end accepted =
-    right_run run files end.1 accepted
-    ∙ ap (λ (b : Bool). cond b Behind (Done (length (entries_to (cart_of run.rom files) run.cycles)) (halted_in (cart_of run.rom files) run.cycles))) (is_some_cycle run.cycles end.0)
+use Rattle.md_top.specs.declared.ending.Ending.TheVariants.{Shown, Done, Usage, TooFar, ReadFault, RecordingFault, RecordingTooLong, RecordingWrong, Behind, SoundFault, JournalFault, Memory}
+use Rattle.md_top.proofs.Right.{cart_right, judged, recording_right, right_accepted, right_behind, right_behind_cart, right_done, right_far, right_near}
 
 -- WHAT A STATUS TELLS
 
@@ -99,16 +29,7 @@ reported : (sink : Type 0) (command : Option Command) (ending : Ending) (out out
     → (status ≡ status_of ending) ⊎ ((status ≡ 13) × Rose out.faults out'.faults)
 reported sink command (Shown lines) out out' status reports = put_output sink (text_of command (Shown lines)) out out' status reports
 reported sink command (Done accesses halted) out out' status reports = put_output sink (text_of command (Done accesses halted)) out out' status reports
-reported sink command Usage out out' status reports = inl reports.0
-reported sink command TooFar out out' status reports = inl reports.0
-reported sink command ReadFault out out' status reports = inl reports.0
-reported sink command TooLong out out' status reports = inl reports.0
-reported sink command Short out out' status reports = inl reports.0
-reported sink command NoMark out out' status reports = inl reports.0
-reported sink command Behind out out' status reports = inl reports.0
-reported sink command SoundFault out out' status reports = inl reports.0
-reported sink command JournalFault out out' status reports = inl reports.0
-reported sink command Memory out out' status reports = inl reports.0
+reported sink command _ out out' status reports = inl reports.0
 
 -- a status other than 13 is the ending's
 of_ending : (status of n : ℕ) {P : Type 0} → (status ≡ of) ⊎ ((status ≡ 13) × P) → status ≡ n → (n ≡ 13 → ⊥) → of ≡ n
@@ -117,216 +38,136 @@ of_ending status of n (inr (out, rose)) is other = absurd (other (sym is ∙ out
 
 -- why a command may end with each status
 info_usage : (told : Type 0) (rom : List ℕ) (old new : DepotState) (ending : Ending) → InfoEnds told rom old new ending → status_of ending ≡ 2 → ⊥
-info_usage told rom old new (Shown lines) cause is = absurd (omega (arith, is))
-info_usage told rom old new (Done accesses halted) cause is = absurd (omega (arith, is))
 info_usage told rom old new Usage cause is = absurd cause
-info_usage told rom old new TooFar cause is = absurd (omega (arith, is))
-info_usage told rom old new ReadFault cause is = absurd (omega (arith, is))
-info_usage told rom old new TooLong cause is = absurd (omega (arith, is))
-info_usage told rom old new Short cause is = absurd (omega (arith, is))
-info_usage told rom old new NoMark cause is = absurd (omega (arith, is))
-info_usage told rom old new Behind cause is = absurd (omega (arith, is))
-info_usage told rom old new SoundFault cause is = absurd (omega (arith, is))
-info_usage told rom old new JournalFault cause is = absurd (omega (arith, is))
-info_usage told rom old new Memory cause is = absurd (omega (arith, is))
+info_usage told rom old new _ cause is = absurd (omega (arith, is))
 
 run_usage : (told : Type 0) (run : Run) (old new : DepotState) (ending : Ending) → RunEnds told run old new ending → status_of ending ≡ 2 → ⊥
-run_usage told run old new (Shown lines) cause is = absurd (omega (arith, is))
-run_usage told run old new (Done accesses halted) cause is = absurd (omega (arith, is))
 run_usage told run old new Usage cause is = absurd cause.1
-run_usage told run old new TooFar cause is = absurd (omega (arith, is))
-run_usage told run old new ReadFault cause is = absurd (omega (arith, is))
-run_usage told run old new TooLong cause is = absurd (omega (arith, is))
-run_usage told run old new Short cause is = absurd (omega (arith, is))
-run_usage told run old new NoMark cause is = absurd (omega (arith, is))
-run_usage told run old new Behind cause is = absurd (omega (arith, is))
-run_usage told run old new SoundFault cause is = absurd (omega (arith, is))
-run_usage told run old new JournalFault cause is = absurd (omega (arith, is))
-run_usage told run old new Memory cause is = absurd (omega (arith, is))
+run_usage told run old new _ cause is = absurd (omega (arith, is))
 
 info_far : (told : Type 0) (rom : List ℕ) (old new : DepotState) (ending : Ending) → InfoEnds told rom old new ending → status_of ending ≡ 11 → ⊥
-info_far told rom old new (Shown lines) cause is = absurd (omega (arith, is))
-info_far told rom old new (Done accesses halted) cause is = absurd (omega (arith, is))
-info_far told rom old new Usage cause is = absurd (omega (arith, is))
 info_far told rom old new TooFar cause is = absurd cause
-info_far told rom old new ReadFault cause is = absurd (omega (arith, is))
-info_far told rom old new TooLong cause is = absurd (omega (arith, is))
-info_far told rom old new Short cause is = absurd (omega (arith, is))
-info_far told rom old new NoMark cause is = absurd (omega (arith, is))
-info_far told rom old new Behind cause is = absurd (omega (arith, is))
-info_far told rom old new SoundFault cause is = absurd (omega (arith, is))
-info_far told rom old new JournalFault cause is = absurd (omega (arith, is))
-info_far told rom old new Memory cause is = absurd (omega (arith, is))
+info_far told rom old new _ cause is = absurd (omega (arith, is))
 
 run_far : (told : Type 0) (run : Run) (old new : DepotState) (ending : Ending) → RunEnds told run old new ending → status_of ending ≡ 11 → last_cycle < run.cycles
-run_far told run old new (Shown lines) cause is = absurd (omega (arith, is))
-run_far told run old new (Done accesses halted) cause is = absurd (omega (arith, is))
-run_far told run old new Usage cause is = absurd (omega (arith, is))
 run_far told run old new TooFar cause is = cause
-run_far told run old new ReadFault cause is = absurd (omega (arith, is))
-run_far told run old new TooLong cause is = absurd (omega (arith, is))
-run_far told run old new Short cause is = absurd (omega (arith, is))
-run_far told run old new NoMark cause is = absurd (omega (arith, is))
-run_far told run old new Behind cause is = absurd (omega (arith, is))
-run_far told run old new SoundFault cause is = absurd (omega (arith, is))
-run_far told run old new JournalFault cause is = absurd (omega (arith, is))
-run_far told run old new Memory cause is = absurd (omega (arith, is))
+run_far told run old new _ cause is = absurd (omega (arith, is))
 
-info_read_fault : (told : Type 0) (rom : List ℕ) (old new : DepotState) (ending : Ending) → InfoEnds told rom old new ending → status_of ending ≡ 3 → Rose old.read_faults new.read_faults ⊎ (told × (old.files rom ≡ None))
-info_read_fault told rom old new (Shown lines) cause is = absurd (omega (arith, is))
-info_read_fault told rom old new (Done accesses halted) cause is = absurd (omega (arith, is))
-info_read_fault told rom old new Usage cause is = absurd (omega (arith, is))
-info_read_fault told rom old new TooFar cause is = absurd (omega (arith, is))
-info_read_fault told rom old new ReadFault cause is = cause
-info_read_fault told rom old new TooLong cause is = absurd (omega (arith, is))
-info_read_fault told rom old new Short cause is = absurd (omega (arith, is))
-info_read_fault told rom old new NoMark cause is = absurd (omega (arith, is))
-info_read_fault told rom old new Behind cause is = absurd (omega (arith, is))
-info_read_fault told rom old new SoundFault cause is = absurd (omega (arith, is))
-info_read_fault told rom old new JournalFault cause is = absurd (omega (arith, is))
-info_read_fault told rom old new Memory cause is = absurd (omega (arith, is))
+-- a file that is missing is an input's
+missing_cart : (told : Type 0) (command : Command) (files : Files) {P Q : Type 0} → (Q → IsMissing command files) → P ⊎ (told × Q) → P ⊎ (told × IsMissing command files)
+missing_cart told command files which (inl rose) = inl rose
+missing_cart told command files which (inr (t, none)) = inr (t, which none)
 
-run_read_fault : (told : Type 0) (run : Run) (old new : DepotState) (ending : Ending) → RunEnds told run old new ending → status_of ending ≡ 3 → Rose old.read_faults new.read_faults ⊎ (told × (old.files run.rom ≡ None))
-run_read_fault told run old new (Shown lines) cause is = absurd (omega (arith, is))
-run_read_fault told run old new (Done accesses halted) cause is = absurd (omega (arith, is))
-run_read_fault told run old new Usage cause is = absurd (omega (arith, is))
-run_read_fault told run old new TooFar cause is = absurd (omega (arith, is))
-run_read_fault told run old new ReadFault cause is = cause.1
-run_read_fault told run old new TooLong cause is = absurd (omega (arith, is))
-run_read_fault told run old new Short cause is = absurd (omega (arith, is))
-run_read_fault told run old new NoMark cause is = absurd (omega (arith, is))
-run_read_fault told run old new Behind cause is = absurd (omega (arith, is))
-run_read_fault told run old new SoundFault cause is = absurd (omega (arith, is))
-run_read_fault told run old new JournalFault cause is = absurd (omega (arith, is))
-run_read_fault told run old new Memory cause is = absurd (omega (arith, is))
+missing_recording : (told : Type 0) (name : Option (List ℕ)) (old new : DepotState) → RecordingCause told name old new RecordingFault
+    → Rose old.read_faults new.read_faults ⊎ (told × IsSomeAnd name (λ name. old.files name ≡ None))
+missing_recording told None old new cause = absurd cause
+missing_recording told (Some name) old new cause = cause
+
+info_read_fault : (told : Type 0) (rom : List ℕ) (old new : DepotState) (ending : Ending) → InfoEnds told rom old new ending → status_of ending ≡ 3
+    → Rose old.read_faults new.read_faults ⊎ (told × IsMissing (Info rom) old.files)
+info_read_fault told rom old new ReadFault cause is = missing_cart told (Info rom) old.files inl cause
+info_read_fault told rom old new RecordingFault cause is = absurd cause
+info_read_fault told rom old new _ cause is = absurd (omega (arith, is))
+
+run_read_fault : (told : Type 0) (run : Run) (old new : DepotState) (ending : Ending) → RunEnds told run old new ending → status_of ending ≡ 3
+    → Rose old.read_faults new.read_faults ⊎ (told × IsMissing (RunCart run) old.files)
+run_read_fault told run old new ReadFault cause is = missing_cart told (RunCart run) old.files inl cause.1
+run_read_fault told run old new RecordingFault cause is =
+    missing_cart told (RunCart run) old.files inr (missing_recording told run.recording old new cause.1.1)
+run_read_fault told run old new _ cause is = absurd (omega (arith, is))
+
+info_wrong : (told : Type 0) (rom : List ℕ) (old new : DepotState) (ending : Ending) → InfoEnds told rom old new ending → status_of ending ≡ 6 → ⊥
+info_wrong told rom old new (RecordingWrong place) cause is = absurd cause
+info_wrong told rom old new _ cause is = absurd (omega (arith, is))
+
+-- a file that goes wrong spells no recording
+not_spelled : (file : Option (List ℕ)) (place : ℕ) → IsSomeAnd file (λ bytes. (length bytes ≤ recording_limit) × GoesWrongAt bytes place) → ¬ IsSpelled (unwrap_or file [])
+not_spelled None place wrong = absurd wrong
+not_spelled (Some bytes) place wrong = wrong.1.none
+
+wrong_recording : (told : Type 0) (name : Option (List ℕ)) (old new : DepotState) (place : ℕ) → RecordingCause told name old new (RecordingWrong place)
+    → IsSomeAnd name (λ name. told → ¬ IsSpelled (bytes_of old.files name))
+wrong_recording told None old new place cause = absurd cause
+wrong_recording told (Some name) old new place cause = λ t. not_spelled (old.files name) place (cause t)
+
+run_wrong : (told : Type 0) (run : Run) (old new : DepotState) (ending : Ending) → RunEnds told run old new ending → status_of ending ≡ 6
+    → IsSomeAnd run.recording (λ name. told → ¬ IsSpelled (bytes_of old.files name))
+run_wrong told run old new (RecordingWrong place) cause is = wrong_recording told run.recording old new place cause.1.1
+run_wrong told run old new _ cause is = absurd (omega (arith, is))
 
 info_behind : (told : Type 0) (rom : List ℕ) (old new : DepotState) (ending : Ending) → InfoEnds told rom old new ending → status_of ending ≡ 9 → ⊥
-info_behind told rom old new (Shown lines) cause is = absurd (omega (arith, is))
-info_behind told rom old new (Done accesses halted) cause is = absurd (omega (arith, is))
-info_behind told rom old new Usage cause is = absurd (omega (arith, is))
-info_behind told rom old new TooFar cause is = absurd (omega (arith, is))
-info_behind told rom old new ReadFault cause is = absurd (omega (arith, is))
-info_behind told rom old new TooLong cause is = absurd (omega (arith, is))
-info_behind told rom old new Short cause is = absurd (omega (arith, is))
-info_behind told rom old new NoMark cause is = absurd (omega (arith, is))
 info_behind told rom old new Behind cause is = absurd cause
-info_behind told rom old new SoundFault cause is = absurd (omega (arith, is))
-info_behind told rom old new JournalFault cause is = absurd (omega (arith, is))
-info_behind told rom old new Memory cause is = absurd (omega (arith, is))
+info_behind told rom old new _ cause is = absurd (omega (arith, is))
 
 run_behind : (told : Type 0) (run : Run) (old new : DepotState) (ending : Ending) → RunEnds told run old new ending → status_of ending ≡ 9 → run.cycles ≡ 0
-run_behind told run old new (Shown lines) cause is = absurd (omega (arith, is))
-run_behind told run old new (Done accesses halted) cause is = absurd (omega (arith, is))
-run_behind told run old new Usage cause is = absurd (omega (arith, is))
-run_behind told run old new TooFar cause is = absurd (omega (arith, is))
-run_behind told run old new ReadFault cause is = absurd (omega (arith, is))
-run_behind told run old new TooLong cause is = absurd (omega (arith, is))
-run_behind told run old new Short cause is = absurd (omega (arith, is))
-run_behind told run old new NoMark cause is = absurd (omega (arith, is))
 run_behind told run old new Behind cause is = cause.0
-run_behind told run old new SoundFault cause is = absurd (omega (arith, is))
-run_behind told run old new JournalFault cause is = absurd (omega (arith, is))
-run_behind told run old new Memory cause is = absurd (omega (arith, is))
+run_behind told run old new _ cause is = absurd (omega (arith, is))
 
 info_write_fault : (told : Type 0) (rom : List ℕ) (old new : DepotState) (ending : Ending) → InfoEnds told rom old new ending → status_of ending ≡ 4 → Rose old.write_faults new.write_faults
-info_write_fault told rom old new (Shown lines) cause is = absurd (omega (arith, is))
-info_write_fault told rom old new (Done accesses halted) cause is = absurd (omega (arith, is))
-info_write_fault told rom old new Usage cause is = absurd (omega (arith, is))
-info_write_fault told rom old new TooFar cause is = absurd (omega (arith, is))
-info_write_fault told rom old new ReadFault cause is = absurd (omega (arith, is))
-info_write_fault told rom old new TooLong cause is = absurd (omega (arith, is))
-info_write_fault told rom old new Short cause is = absurd (omega (arith, is))
-info_write_fault told rom old new NoMark cause is = absurd (omega (arith, is))
-info_write_fault told rom old new Behind cause is = absurd (omega (arith, is))
 info_write_fault told rom old new SoundFault cause is = absurd cause
 info_write_fault told rom old new JournalFault cause is = absurd cause
-info_write_fault told rom old new Memory cause is = absurd (omega (arith, is))
+info_write_fault told rom old new _ cause is = absurd (omega (arith, is))
 
 run_write_fault : (told : Type 0) (run : Run) (old new : DepotState) (ending : Ending) → RunEnds told run old new ending → status_of ending ≡ 4 → Rose old.write_faults new.write_faults
-run_write_fault told run old new (Shown lines) cause is = absurd (omega (arith, is))
-run_write_fault told run old new (Done accesses halted) cause is = absurd (omega (arith, is))
-run_write_fault told run old new Usage cause is = absurd (omega (arith, is))
-run_write_fault told run old new TooFar cause is = absurd (omega (arith, is))
-run_write_fault told run old new ReadFault cause is = absurd (omega (arith, is))
-run_write_fault told run old new TooLong cause is = absurd (omega (arith, is))
-run_write_fault told run old new Short cause is = absurd (omega (arith, is))
-run_write_fault told run old new NoMark cause is = absurd (omega (arith, is))
-run_write_fault told run old new Behind cause is = absurd (omega (arith, is))
 run_write_fault told run old new SoundFault cause is = cause.2.1
 run_write_fault told run old new JournalFault cause is = cause.2.1
-run_write_fault told run old new Memory cause is = absurd (omega (arith, is))
+run_write_fault told run old new _ cause is = absurd (omega (arith, is))
 
 -- where the end is too far no other ending comes
 far_only : (told sink : Type 0) (run : Run) (old new : DepotState) (out out' : SinkState) (status : ℕ) (ending : Ending)
     → RunEnds told run old new ending → Reports sink (Some (RunCart run)) ending out out' status → last_cycle < run.cycles → (status ≡ 11) ⊎ (status ≡ 10)
 far_only told sink run old new out out' status (Shown lines) cause reports far = absurd cause.1
 far_only told sink run old new out out' status (Done accesses halted) cause reports far = absurd (omega (arith, cause.0.1))
-far_only told sink run old new out out' status Usage cause reports far = absurd cause.1
 far_only told sink run old new out out' status TooFar cause reports far = inl reports.0
-far_only told sink run old new out out' status ReadFault cause reports far = absurd (omega (arith, cause.0))
-far_only told sink run old new out out' status TooLong cause reports far = absurd (omega (arith, cause.0))
-far_only told sink run old new out out' status Short cause reports far = absurd (omega (arith, cause.0))
-far_only told sink run old new out out' status NoMark cause reports far = absurd (omega (arith, cause.0))
-far_only told sink run old new out out' status Behind cause reports far = absurd (omega (arith, cause.0))
 far_only told sink run old new out out' status SoundFault cause reports far = absurd (omega (arith, cause.0.1))
 far_only told sink run old new out out' status JournalFault cause reports far = absurd (omega (arith, cause.0.1))
 far_only told sink run old new out out' status Memory cause reports far = inr reports.0
+far_only told sink run old new out out' status _ cause reports far = absurd (omega (arith, cause.0))
 
--- without a fault the ending is the right one, or memory is wanting
-cart_right : (told : Type 0) (rom : List ℕ) (old new : DepotState) (rest ending : Ending) → CartCause told rom old new ending
-    → ¬ Rose old.read_faults new.read_faults → told → (status_of ending ≡ status_of (file_ending (old.files rom) rest)) ⊎ (status_of ending ≡ 10)
-cart_right told rom old new rest ReadFault (inl rose) clean t = absurd (clean rose)
-cart_right told rom old new rest ReadFault (inr missing) clean t = inl (sym (ap status_of (right_missing (old.files rom) rest missing.1)))
-cart_right told rom old new rest TooLong cause clean t = inl (sym (ap status_of (right_long (old.files rom) rest (cause t))))
-cart_right told rom old new rest Short cause clean t = inl (sym (ap status_of (right_refused (old.files rom) rest fault.Short (cause t))))
-cart_right told rom old new rest NoMark cause clean t = inl (sym (ap status_of (right_refused (old.files rom) rest fault.NoMark (cause t))))
-cart_right told rom old new rest Memory cause clean t = inr refl
-cart_right told rom old new rest _ cause clean t = absurd cause
+-- WITHOUT A FAULT
 
-info_right : (told : Type 0) (rom : List ℕ) (old new : DepotState) (ending : Ending) → InfoEnds told rom old new ending
-    → ¬ Rose old.read_faults new.read_faults → told → (status_of ending ≡ status_of (right_ending (Some (Info rom)) old.files)) ⊎ (status_of ending ≡ 10)
-info_right told rom old new (Shown lines) cause clean t =
+-- the ending is the right one, or memory is wanting
+info_right : (told : Type 0) (rom : List ℕ) (old new : DepotState) (verdict : Verdict) (ending : Ending) → InfoEnds told rom old new ending
+    → ¬ Rose old.read_faults new.read_faults → told → (status_of ending ≡ status_of (right_ending (Some (Info rom)) old.files verdict)) ⊎ (status_of ending ≡ 10)
+info_right told rom old new verdict (Shown lines) cause clean t =
     inl (sym (ap status_of (right_accepted (old.files rom) (Shown (header_lines (cart_of rom old.files))) (cause t).0)))
-info_right told rom old new (Done accesses halted) cause clean t = cart_right told rom old new (Shown (header_lines (cart_of rom old.files))) (Done accesses halted) cause clean t
-info_right told rom old new Usage cause clean t = cart_right told rom old new (Shown (header_lines (cart_of rom old.files))) Usage cause clean t
-info_right told rom old new TooFar cause clean t = cart_right told rom old new (Shown (header_lines (cart_of rom old.files))) TooFar cause clean t
-info_right told rom old new ReadFault cause clean t = cart_right told rom old new (Shown (header_lines (cart_of rom old.files))) ReadFault cause clean t
-info_right told rom old new TooLong cause clean t = cart_right told rom old new (Shown (header_lines (cart_of rom old.files))) TooLong cause clean t
-info_right told rom old new Short cause clean t = cart_right told rom old new (Shown (header_lines (cart_of rom old.files))) Short cause clean t
-info_right told rom old new NoMark cause clean t = cart_right told rom old new (Shown (header_lines (cart_of rom old.files))) NoMark cause clean t
-info_right told rom old new Behind cause clean t = cart_right told rom old new (Shown (header_lines (cart_of rom old.files))) Behind cause clean t
-info_right told rom old new SoundFault cause clean t = cart_right told rom old new (Shown (header_lines (cart_of rom old.files))) SoundFault cause clean t
-info_right told rom old new JournalFault cause clean t = cart_right told rom old new (Shown (header_lines (cart_of rom old.files))) JournalFault cause clean t
-info_right told rom old new Memory cause clean t = cart_right told rom old new (Shown (header_lines (cart_of rom old.files))) Memory cause clean t
+info_right told rom old new verdict other cause clean t = cart_right told rom old new (Shown (header_lines (cart_of rom old.files))) other cause clean t
 
-run_near : (run : Run) (files : Files) (ending : Ending) → run.cycles ≤ last_cycle
-    → (status_of ending ≡ status_of (file_ending (files run.rom) (run_ending (cart_of run.rom files) run.cycles))) ⊎ (status_of ending ≡ 10)
-    → (status_of ending ≡ status_of (right_ending (Some (RunCart run)) files)) ⊎ (status_of ending ≡ 10)
-run_near run files ending near (inl is) = inl (is ∙ sym (ap status_of (right_near run files near)))
-run_near run files ending near (inr memory) = inr memory
+-- behind the cartridge's file
+run_near : (run : Run) (files : Files) (verdict : Verdict) (ending : Ending) → run.cycles ≤ last_cycle
+    → (status_of ending ≡ status_of (file_ending (files run.rom) (accepted_ending run files verdict))) ⊎ (status_of ending ≡ 10)
+    → (status_of ending ≡ status_of (right_ending (Some (RunCart run)) files verdict)) ⊎ (status_of ending ≡ 10)
+run_near run files verdict ending near (inl is) = inl (is ∙ sym (ap status_of (right_near run files verdict near)))
+run_near run files verdict ending near (inr memory) = inr memory
 
-run_right : (told : Type 0) (run : Run) (old new : DepotState) (ending : Ending) → RunEnds told run old new ending
-    → ¬ Rose old.read_faults new.read_faults → ¬ Rose old.write_faults new.write_faults → told
-    → (status_of ending ≡ status_of (right_ending (Some (RunCart run)) old.files)) ⊎ (status_of ending ≡ 10)
-run_right told run old new (Done accesses halted) (end, cause) reads writes t =
-    let c = cause t in inl (sym (ap status_of (right_done run old.files end c.0)))
-run_right told run old new TooFar cause reads writes t = inl (sym (ap status_of (right_far run old.files cause)))
-run_right told run old new Behind (zero, cause) reads writes t = inl (sym (ap status_of (right_behind run old.files zero (cause t))))
-run_right told run old new SoundFault cause reads writes t = absurd (writes cause.2.1)
-run_right told run old new JournalFault cause reads writes t = absurd (writes cause.2.1)
-run_right told run old new (Shown lines) cause reads writes t =
-    run_near run old.files (Shown lines) cause.0 (cart_right told run.rom old new (run_ending (cart_of run.rom old.files) run.cycles) (Shown lines) cause.1 reads t)
-run_right told run old new Usage cause reads writes t =
-    run_near run old.files Usage cause.0 (cart_right told run.rom old new (run_ending (cart_of run.rom old.files) run.cycles) Usage cause.1 reads t)
-run_right told run old new ReadFault cause reads writes t =
-    run_near run old.files ReadFault cause.0 (cart_right told run.rom old new (run_ending (cart_of run.rom old.files) run.cycles) ReadFault cause.1 reads t)
-run_right told run old new TooLong cause reads writes t =
-    run_near run old.files TooLong cause.0 (cart_right told run.rom old new (run_ending (cart_of run.rom old.files) run.cycles) TooLong cause.1 reads t)
-run_right told run old new Short cause reads writes t =
-    run_near run old.files Short cause.0 (cart_right told run.rom old new (run_ending (cart_of run.rom old.files) run.cycles) Short cause.1 reads t)
-run_right told run old new NoMark cause reads writes t =
-    run_near run old.files NoMark cause.0 (cart_right told run.rom old new (run_ending (cart_of run.rom old.files) run.cycles) NoMark cause.1 reads t)
-run_right told run old new Memory cause reads writes t = inr refl
+-- behind the recording's file
+run_recorded : (told : Type 0) (run : Run) (old new : DepotState) (verdict : Verdict) (ending : Ending) → run.cycles ≤ last_cycle → IsAccepted (old.files run.rom)
+    → RecordingCause told run.recording old new ending → IsJudged run.recording old.files verdict → ¬ Rose old.read_faults new.read_faults → told
+    → (status_of ending ≡ status_of (right_ending (Some (RunCart run)) old.files verdict)) ⊎ (status_of ending ≡ 10)
+run_recorded told run old new verdict ending near accepted cause is clean t =
+    same (recording_right told run.recording old new verdict (λ recording. run_ending (record { cart = cart_of run.rom old.files; recording = recording }) run.cycles) ending cause is clean t)
+  where
+    same : (status_of ending ≡ status_of (accepted_ending run old.files verdict)) ⊎ (status_of ending ≡ 10)
+        → (status_of ending ≡ status_of (right_ending (Some (RunCart run)) old.files verdict)) ⊎ (status_of ending ≡ 10)
+    same (inl right) = inl (right ∙ sym (ap status_of (right_behind_cart run old.files verdict near accepted)))
+    same (inr memory) = inr memory
+
+run_right : (told : Type 0) (run : Run) (old new : DepotState) (verdict : Verdict) (ending : Ending) → RunEnds told run old new ending
+    → IsJudged run.recording old.files verdict → ¬ Rose old.read_faults new.read_faults → ¬ Rose old.write_faults new.write_faults → told
+    → (status_of ending ≡ status_of (right_ending (Some (RunCart run)) old.files verdict)) ⊎ (status_of ending ≡ 10)
+run_right told run old new verdict (Done accesses halted) (end, cause) is reads writes t =
+    let found = cause t in inl (sym (right_done run old.files verdict end (found.0, found.1) is))
+run_right told run old new verdict TooFar cause is reads writes t = inl (sym (ap status_of (right_far run old.files verdict cause)))
+run_right told run old new verdict Behind (zero, cause) is reads writes t = inl (sym (right_behind run old.files verdict zero (cause t) is))
+run_right told run old new verdict SoundFault cause is reads writes t = absurd (writes cause.2.1)
+run_right told run old new verdict JournalFault cause is reads writes t = absurd (writes cause.2.1)
+run_right told run old new verdict RecordingFault (near, (accepted, cause)) is reads writes t = run_recorded told run old new verdict RecordingFault near (accepted t) cause is reads t
+run_right told run old new verdict RecordingTooLong (near, (accepted, cause)) is reads writes t = run_recorded told run old new verdict RecordingTooLong near (accepted t) cause is reads t
+run_right told run old new verdict (RecordingWrong place) (near, (accepted, cause)) is reads writes t =
+    run_recorded told run old new verdict (RecordingWrong place) near (accepted t) cause is reads t
+run_right told run old new verdict Memory cause is reads writes t = inr refl
+run_right told run old new verdict other cause is reads writes t =
+    run_near run old.files verdict other cause.0 (cart_right told run.rom old new (accepted_ending run old.files verdict) other cause.1 reads t)
 
 -- the status without a fault
 exact_is : (status of right : ℕ) {P : Type 0} → (status ≡ of) ⊎ ((status ≡ 13) × P) → ¬ P → (of ≡ right) ⊎ (of ≡ 10) → (status ≡ right) ⊎ (status ≡ 10)
@@ -344,18 +185,8 @@ out_fault status of (inl same) other is = absurd (other (sym same ∙ is))
 out_fault status of (inr (out, rose)) other is = rose
 
 not_out : (ending : Ending) → status_of ending ≡ 13 → ⊥
-not_out (Shown lines) is = omega (arith, is)
-not_out (Done accesses halted) is = omega (arith, is)
 not_out Usage is = omega (arith, is)
-not_out TooFar is = omega (arith, is)
-not_out ReadFault is = omega (arith, is)
-not_out TooLong is = omega (arith, is)
-not_out Short is = omega (arith, is)
-not_out NoMark is = omega (arith, is)
-not_out Behind is = omega (arith, is)
-not_out SoundFault is = omega (arith, is)
-not_out JournalFault is = omega (arith, is)
-not_out Memory is = omega (arith, is)
+not_out _ is = omega (arith, is)
 
 -- FILES OF OTHER NAMES
 
@@ -384,17 +215,17 @@ parts_other : (run : Run) (old new : Files) (sound journal : List ℕ) → Leave
 parts_other run old new sound journal leaves name no_sound no_journal =
     ap (λ (files : Files). files name) leaves.files ∙ written_other run old leaves.sound leaves.journal name no_sound no_journal
 
-leaves_other : (cart : List ℕ) (run : Run) (old new : Files) (ending : Ending) → RunLeaves cart run old new ending
+leaves_other : (run : Run) (old new : Files) (ending : Ending) → RunFiles run old new ending
     → (name : List ℕ) → run.sound ≢ Some name → run.journal ≢ Some name → new name ≡ old name
-leaves_other cart run old new (Done accesses halted) leaves name no_sound no_journal =
+leaves_other run old new (Done accesses halted) (inputs, are, leaves) name no_sound no_journal =
     ap (λ (files : Files). files name) leaves
-    ∙ written_other run old (Some (sound_of cart run.cycles)) (Some (journal_of cart run.cycles)) name no_sound no_journal
-leaves_other cart run old new SoundFault leaves name no_sound no_journal =
-    parts_other run old new (sound_of cart run.cycles) (journal_of cart run.cycles) leaves name no_sound no_journal
-leaves_other cart run old new JournalFault leaves name no_sound no_journal =
-    parts_other run old new (sound_of cart run.cycles) (journal_of cart run.cycles) leaves name no_sound no_journal
-leaves_other cart run old new Memory leaves name no_sound no_journal = parts_other run old new [] [] leaves name no_sound no_journal
-leaves_other cart run old new _ leaves name no_sound no_journal = ap (λ (files : Files). files name) leaves
+    ∙ written_other run old (Some (sound_of inputs run.cycles)) (Some (journal_of inputs run.cycles)) name no_sound no_journal
+leaves_other run old new SoundFault (inputs, are, leaves) name no_sound no_journal =
+    parts_other run old new (sound_of inputs run.cycles) (journal_of inputs run.cycles) leaves name no_sound no_journal
+leaves_other run old new JournalFault (inputs, are, leaves) name no_sound no_journal =
+    parts_other run old new (sound_of inputs run.cycles) (journal_of inputs run.cycles) leaves name no_sound no_journal
+leaves_other run old new Memory leaves name no_sound no_journal = parts_other run old new [] [] leaves name no_sound no_journal
+leaves_other run old new _ leaves name no_sound no_journal = ap (λ (files : Files). files name) leaves
 
 -- ALL OF THEM
 
@@ -409,10 +240,11 @@ none_causes told old out out' status (inl two) = record {
   too_far = λ is. absurd (omega (arith, two, is));
   far_refused = λ far. absurd far;
   read_fault = λ is. absurd (omega (arith, two, is));
+  wrong = λ is. absurd (omega (arith, two, is));
   behind = λ is. absurd (omega (arith, two, is));
   write_fault = λ is. absurd (omega (arith, two, is));
   out_fault = λ is. absurd (omega (arith, two, is));
-  exact = λ clean t. inl two;
+  exact = λ clean t verdict is. inl two;
   complete = λ clean t ready. absurd ready;
   others = λ t. tt;
 }
@@ -422,10 +254,11 @@ none_causes told old out out' status (inr ten) = record {
   too_far = λ is. absurd (omega (arith, ten, is));
   far_refused = λ far. absurd far;
   read_fault = λ is. absurd (omega (arith, ten, is));
+  wrong = λ is. absurd (omega (arith, ten, is));
   behind = λ is. absurd (omega (arith, ten, is));
   write_fault = λ is. absurd (omega (arith, ten, is));
   out_fault = λ is. absurd (omega (arith, ten, is));
-  exact = λ clean t. inr ten;
+  exact = λ clean t verdict is. inr ten;
   complete = λ clean t ready. absurd ready;
   others = λ t. tt;
 }
@@ -441,14 +274,17 @@ causes_of told sink (Info rom) old new out out' status ending cause leaves repor
       too_far = λ eleven. absurd (info_far told rom old new ending cause (of_ending status (status_of ending) 11 by eleven (λ is. omega (arith, is))));
       far_refused = λ far. absurd far;
       read_fault = λ three. info_read_fault told rom old new ending cause (of_ending status (status_of ending) 3 by three (λ is. omega (arith, is)));
+      wrong = λ six. absurd (info_wrong told rom old new ending cause (of_ending status (status_of ending) 6 by six (λ is. omega (arith, is))));
       behind = λ nine. info_behind told rom old new ending cause (of_ending status (status_of ending) 9 by nine (λ is. omega (arith, is)));
       write_fault = λ four. info_write_fault told rom old new ending cause (of_ending status (status_of ending) 4 by four (λ is. omega (arith, is)));
       out_fault = λ thirteen. out_fault status (status_of ending) by (not_out ending) thirteen;
-      exact = λ clean t.
-          exact_is status (status_of ending) (status_of (right_ending (Some (Info rom)) old.files)) by clean.puts (info_right told rom old new ending cause clean.reads t);
+      exact = λ clean t verdict is.
+          exact_is status (status_of ending) (status_of (right_ending (Some (Info rom)) old.files verdict)) by clean.puts
+          (info_right told rom old new verdict ending cause clean.reads t);
       complete = λ clean t ready.
-          ready_ends status (status_of (right_ending (Some (Info rom)) old.files))
-          (exact_is status (status_of ending) (status_of (right_ending (Some (Info rom)) old.files)) by clean.puts (info_right told rom old new ending cause clean.reads t))
+          ready_ends status (status_of (right_ending (Some (Info rom)) old.files (Recorded [])))
+          (exact_is status (status_of ending) (status_of (right_ending (Some (Info rom)) old.files (Recorded []))) by clean.puts
+          (info_right told rom old new (Recorded []) ending cause clean.reads t))
           (ap status_of (right_accepted (old.files rom) (Shown (header_lines (cart_of rom old.files))) ready));
       others = λ t name no_sound no_journal. ap (λ (files : Files). files name) (leaves t);
     }
@@ -460,18 +296,21 @@ causes_of told sink (RunCart run) old new out out' status ending cause leaves re
       too_far = λ eleven. run_far told run old new ending cause (of_ending status (status_of ending) 11 by eleven (λ is. omega (arith, is)));
       far_refused = λ far. far_only told sink run old new out out' status ending cause reports far;
       read_fault = λ three. run_read_fault told run old new ending cause (of_ending status (status_of ending) 3 by three (λ is. omega (arith, is)));
+      wrong = λ six. run_wrong told run old new ending cause (of_ending status (status_of ending) 6 by six (λ is. omega (arith, is)));
       behind = λ nine. run_behind told run old new ending cause (of_ending status (status_of ending) 9 by nine (λ is. omega (arith, is)));
       write_fault = λ four. run_write_fault told run old new ending cause (of_ending status (status_of ending) 4 by four (λ is. omega (arith, is)));
       out_fault = λ thirteen. out_fault status (status_of ending) by (not_out ending) thirteen;
-      exact = λ clean t.
-          exact_is status (status_of ending) (status_of (right_ending (Some (RunCart run)) old.files)) by clean.puts
-          (run_right told run old new ending cause clean.reads clean.writes t);
+      exact = λ clean t verdict is.
+          exact_is status (status_of ending) (status_of (right_ending (Some (RunCart run)) old.files verdict)) by clean.puts
+          (run_right told run old new verdict ending cause is clean.reads clean.writes t);
       complete = λ clean t ready.
-          ready_ends status (status_of (right_ending (Some (RunCart run)) old.files))
-          (exact_is status (status_of ending) (status_of (right_ending (Some (RunCart run)) old.files)) by clean.puts
-          (run_right told run old new ending cause clean.reads clean.writes t))
-          (ap status_of (right_done run old.files ready.0 ready.1));
-      others = λ t. leaves_other (cart_of run.rom old.files) run old.files new.files ending (leaves t);
+          let verdict = Recorded ready.1.0.recording in
+          let is = judged run.recording old.files ready.1.0.recording ready.1.1.recording in
+          ready_ends status (status_of (right_ending (Some (RunCart run)) old.files verdict))
+          (exact_is status (status_of ending) (status_of (right_ending (Some (RunCart run)) old.files verdict)) by clean.puts
+          (run_right told run old new verdict ending cause is clean.reads clean.writes t))
+          (right_done run old.files verdict ready.0 ready.1 is);
+      others = λ t. leaves_other run old.files new.files ending (leaves t);
     }
 
 -- where memory was wanting for the words

@@ -1,8 +1,10 @@
 -- What a call of the program answers.
 use Rattle.std.specs.Prelude.{◌≡◌, ◌≢◌, ◌⊎◌, ℕ, ◌<◌, ◌≤◌, List, ◌++◌, Option, Some, None, IsSomeAnd, IfSome, option_and_then}
-use Rattle.md_outer.specs.Outside.{DepotState, IsPrefix, Rose, SinkState}
+use Rattle.md_outer.specs.Outside.{DepotState, IsPrefix, Rose, SinkState, bytes_of}
+use Rattle.md_pads.specs.Recording.{IsSpelled}
+use Rattle.md_top.specs.Inputs.{IsJudged, IsMissing, Verdict}
 use Rattle.md_top.specs.Limits.{last_cycle}
-use Rattle.md_words.specs.Words.{Command, journal_name, rom_of, run_in, sound_name}
+use Rattle.md_words.specs.Words.{Command, journal_name, recording_name, run_in, sound_name}
 use Rattle.md_top.specs.Endings.{HasCause, IsReady, LeavesFiles, right_ending, status_of, text_of}
 use Rattle.md_top.specs.declared.ending.Ending.{Ending}
 use Rattle.md_top.specs.declared.ending.Ending.TheVariants.{Done, Shown}
@@ -47,12 +49,14 @@ pub record Causes (depot_told : Type 0) (command : Option Command) (old new : De
   pub refused : command ≡ None → (status ≡ 2) ⊎ (status ≡ 10)
   pub too_far : status ≡ 11 → IsSomeAnd (option_and_then run_in command) (λ run. last_cycle < run.cycles)
   pub far_refused : IsSomeAnd (option_and_then run_in command) (λ run. last_cycle < run.cycles) → (status ≡ 11) ⊎ (status ≡ 10)
-  pub read_fault : status ≡ 3 → Rose old.read_faults new.read_faults ⊎ (depot_told × IsSomeAnd command (λ asked. old.files (rom_of asked) ≡ None))
+  pub read_fault : status ≡ 3 → Rose old.read_faults new.read_faults ⊎ (depot_told × IsSomeAnd command (λ asked. IsMissing asked old.files))
+  pub wrong : status ≡ 6 → IsSomeAnd (option_and_then recording_name command) (λ name. depot_told → ¬ IsSpelled (bytes_of old.files name))
   pub behind : status ≡ 9 → IsSomeAnd (option_and_then run_in command) (λ run. run.cycles ≡ 0)
   pub write_fault : status ≡ 4 → Rose old.write_faults new.write_faults
   pub out_fault : status ≡ 13 → Rose out.faults out'.faults
   -- each refusal comes exactly where it should, in this order; want of memory may come between
-  pub exact : NoFaults old new out out' → depot_told → (status ≡ status_of (right_ending command old.files)) ⊎ (status ≡ 10)
+  pub exact : NoFaults old new out out' → depot_told → (verdict : Verdict) → IsJudged (option_and_then recording_name command) old.files verdict
+      → (status ≡ status_of (right_ending command old.files verdict)) ⊎ (status ≡ 10)
   -- where nothing is wrong the command ends well, or memory is wanting
   pub complete : NoFaults old new out out' → depot_told → IsSomeAnd command (λ asked. IsReady asked old.files) → (status ≡ 0) ⊎ (status ≡ 10)
   -- no file but the outputs changes

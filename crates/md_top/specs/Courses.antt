@@ -1,26 +1,31 @@
 -- A run on its way, at the end of a segment.
-use Rattle.std.specs.Prelude.{◌≡◌, ℕ, List, [], length}
-use Rattle.md_machine.specs.Console.{IsRunTo}
+use Rattle.std.specs.Prelude.{◌≡◌, ℕ, [], length}
+use Rattle.md_machine.specs.Console.{Console, IsRunTo}
 use Rattle.md_machine.specs.Machines.{MachineValue}
 use Rattle.md_top.specs.Runs.{FewEvents, entries_to, levels_to, started}
 use Rattle.md_top.specs.declared.course.Course.{Course}
+use Rattle.md_top.specs.declared.inputs.Inputs.{Inputs}
 
--- the cartridge of a run, and the cycle to which it came
-abbrev pub cart_in : Course → List ℕ
-cart_in course = course.machine.console.cart
+-- the cartridge and the recording of a machine
+abbrev pub inputs_of : Console → Inputs
+inputs_of machine = record { cart = machine.cart; recording = machine.shared.recording }
+
+-- the inputs of a run
+abbrev pub inputs_in : Course → Inputs
+inputs_in course = inputs_of course.machine.console
 
 -- the cycle to which it came
 abbrev pub cycle_of : Course → ℕ
 cycle_of course = course.machine.at
 
 -- a machine came from power-on to its cycle with so many accesses, and its records were drained
-pub record CameTo (cart : List ℕ) (machine : MachineValue) (accesses : ℕ) : Type 0 where
-  pub few : FewEvents cart
-  pub run : IsRunTo (started cart) machine.at machine.console (entries_to cart machine.at) (levels_to cart machine.at)
+pub record CameTo (inputs : Inputs) (machine : MachineValue) (accesses : ℕ) : Type 0 where
+  pub few : FewEvents inputs
+  pub run : IsRunTo (started inputs) machine.at machine.console (entries_to inputs machine.at) (levels_to inputs machine.at)
   pub entries : machine.entries ≡ []
   pub levels : machine.levels ≡ []
-  pub counted : accesses ≡ length (entries_to cart machine.at)
+  pub counted : accesses ≡ length (entries_to inputs machine.at)
 
 -- a run came from power-on to where it is
 abbrev pub IsUnderway : Course → Type 0
-IsUnderway course = CameTo (cart_in course) course.machine course.accesses
+IsUnderway course = CameTo (inputs_in course) course.machine course.accesses

@@ -1,17 +1,19 @@
 -- What a command line can come to: its status, what is put, why it comes, and what the files hold
 -- then.
-use Rattle.std.specs.Prelude.{◌≡◌, ◌⊎◌, ℕ, ◌-◌, ◌*◌, ◌/◌, ◌<◌, ◌≤◌, ◌==◌, nat_lt, if◌then◌else◌, List, [], ◌++◌, length, codes, decimal, Option, Some, None, IsSomeAnd, unwrap_or}
-use Rattle.rom_header.specs.Cartridge.{fault_of, image}
+use Rattle.std.specs.Prelude.{◌≡◌, ℕ, ◌-◌, ◌*◌, ◌/◌, ◌<◌, ◌≤◌, ◌==◌, nat_lt, if◌then◌else◌, List, [], ◌++◌, length, codes, decimal, Option, Some, None, unwrap_or}
+use Rattle.rom_header.specs.Cartridge.{fault_of}
 use Rattle.rom_header.specs.Header.{header_lines}
 use Rattle.rom_header.specs.declared.cart.CartFault.{CartFault}
-use Rattle.rom_header.specs.declared.cart.CartFault.TheVariants as fault
-use Rattle.md_outer.specs.Outside.{DepotState, Files, Rose, bytes_of}
+use Rattle.md_outer.specs.Outside.{DepotState, Files}
+use Rattle.md_pads.specs.Recording.{Frame}
+use Rattle.md_top.specs.Inputs.{AreInputs, CartCause, HaveInputs, InputCause, IsAccepted, Recorded, Verdict, WrongAt, cart_limit, cart_of, recording_limit, refusal_of}
 use Rattle.md_top.specs.Limits.{IsEnd, last_cycle}
 use Rattle.md_top.specs.Runs.{entries_to, halted_in, journal_of, sound_of, sound_until}
 use Rattle.md_top.specs.Outputs.{Holds, IsUnwritten, LeavesParts}
-use Rattle.md_words.specs.Words.{Command, Info, Run, RunCart, end_of, journal_name, rom_of, sound_name}
+use Rattle.md_words.specs.Words.{Command, Info, Run, RunCart, end_of, journal_name, recording_name, rom_of, sound_name}
 use Rattle.md_top.specs.declared.ending.Ending.{Ending}
-use Rattle.md_top.specs.declared.ending.Ending.TheVariants.{Shown, Done, Usage, TooFar, ReadFault, TooLong, Short, NoMark, Behind, SoundFault, JournalFault, Memory}
+use Rattle.md_top.specs.declared.ending.Ending.TheVariants.{Shown, Done, Usage, TooFar, ReadFault, TooLong, Short, NoMark, RecordingFault, RecordingTooLong, RecordingWrong, Behind, SoundFault, JournalFault, Memory}
+use Rattle.md_top.specs.declared.inputs.Inputs.{Inputs}
 
 -- the status that the program ends with
 abbrev pub status_of : Ending → ℕ
@@ -19,14 +21,17 @@ status_of (Shown lines) = 0
 status_of (Done accesses halted) = 0
 status_of Usage = 2
 status_of ReadFault = 3
+status_of RecordingFault = 3
 status_of SoundFault = 4
 status_of JournalFault = 4
 status_of Short = 5
 status_of NoMark = 5
+status_of (RecordingWrong place) = 6
 status_of Behind = 9
 status_of Memory = 10
 status_of TooFar = 11
 status_of TooLong = 14
+status_of RecordingTooLong = 14
 
 -- the pairs of a run: 16 for each multiple of 16128 from 16128 on that lies below its end
 abbrev pub pairs_of : ℕ → ℕ
@@ -57,52 +62,27 @@ text_of (Some command) ReadFault = codes "fault: reading " ++ rom_of command ++ 
 text_of (Some command) TooLong = codes "refused: " ++ rom_of command ++ codes " is too long\n"
 text_of (Some command) Short = codes "refused: cartridge: short\n"
 text_of (Some command) NoMark = codes "refused: cartridge: no mark\n"
+text_of (Some command) RecordingFault = codes "fault: reading " ++ unwrap_or (recording_name command) [] ++ codes "\n"
+text_of (Some command) RecordingTooLong = codes "refused: " ++ unwrap_or (recording_name command) [] ++ codes " is too long\n"
+text_of (Some command) (RecordingWrong place) = codes "refused: recording at " ++ decimal place ++ codes "\n"
 text_of (Some command) Behind = codes "refused: cycle " ++ decimal (end_of command) ++ codes " is not above 0\n"
 text_of (Some command) SoundFault = codes "fault: writing " ++ unwrap_or (sound_name command) [] ++ codes "\n"
 text_of (Some command) JournalFault = codes "fault: writing " ++ unwrap_or (journal_name command) [] ++ codes "\n"
 text_of command Memory = codes "refused: memory\n"
 text_of command ending = codes "refused: usage\n"
 
--- what a command comes to whose cartridge is not accepted
-abbrev pub refusal_of : CartFault → Ending
-refusal_of fault.Short = Short
-refusal_of fault.Long = TooLong
-refusal_of fault.NoMark = NoMark
-refusal_of fault.NoMemory = Memory
-
--- the greatest length of a cartridge's file
-abbrev pub cart_limit : ℕ
-cart_limit = 4194304
-
--- the cartridge is held, within its limit and accepted
-abbrev pub IsAccepted : Option (List ℕ) → Type 0
-IsAccepted file = IsSomeAnd file (λ bytes. (length bytes ≤ cart_limit) × (fault_of bytes ≡ None))
-
--- the image of the cartridge of this name
-abbrev pub cart_of : List ℕ → Files → List ℕ
-cart_of rom files = image (bytes_of files rom)
-
--- the cartridge is accepted, and a run's end lies within the limits
+-- the inputs are there, and a run's end lies within the limits
 abbrev pub IsReady : Command → Files → Type 0
 IsReady (Info rom) files = IsAccepted (files rom)
-IsReady (RunCart run) files = IsEnd run.cycles × IsAccepted (files run.rom)
+IsReady (RunCart run) files = IsEnd run.cycles × HaveInputs run files
 
--- why the run of a cartridge ends, once it has begun
-abbrev pub RunCause : List ℕ → Run → DepotState → DepotState → Ending → Type 0
-RunCause cart run old new (Done accesses halted) = (accesses ≡ length (entries_to cart run.cycles)) × (halted ≡ halted_in cart run.cycles)
-RunCause cart run old new ending = IsUnwritten run old new ending
+-- why the run of these inputs ends, once it has begun
+abbrev pub RunCause : Inputs → Run → DepotState → DepotState → Ending → Type 0
+RunCause inputs run old new (Done accesses halted) = (accesses ≡ length (entries_to inputs run.cycles)) × (halted ≡ halted_in inputs run.cycles)
+RunCause inputs run old new ending = IsUnwritten run old new ending
 
 -- Why each may come. What a file holds is spoken of where the depot tells it. Each cause says that
 -- the earlier ones do not stand.
-
--- why the cartridge of this name is not there
-abbrev pub CartCause : Type 0 → List ℕ → DepotState → DepotState → Ending → Type 0
-CartCause told rom old new ReadFault = Rose old.read_faults new.read_faults ⊎ (told × (old.files rom ≡ None))
-CartCause told rom old new TooLong = told → IsSomeAnd (old.files rom) (λ bytes. cart_limit < length bytes)
-CartCause told rom old new Short = told → IsSomeAnd (old.files rom) (λ bytes. (length bytes ≤ cart_limit) × (fault_of bytes ≡ Some fault.Short))
-CartCause told rom old new NoMark = told → IsSomeAnd (old.files rom) (λ bytes. (length bytes ≤ cart_limit) × (fault_of bytes ≡ Some fault.NoMark))
-CartCause told rom old new Memory = Unit {0}
-CartCause told rom old new ending = ⊥
 
 -- why the lines of a header are put, or not
 abbrev pub InfoEnds : Type 0 → List ℕ → DepotState → DepotState → Ending → Type 0
@@ -113,12 +93,12 @@ InfoEnds told rom old new ending = CartCause told rom old new ending
 abbrev pub RunEnds : Type 0 → Run → DepotState → DepotState → Ending → Type 0
 RunEnds told run old new Memory = Unit {0}
 RunEnds told run old new TooFar = last_cycle < run.cycles
-RunEnds told run old new Behind = (run.cycles ≡ 0) × (told → IsAccepted (old.files run.rom))
+RunEnds told run old new Behind = (run.cycles ≡ 0) × (told → HaveInputs run old.files)
 RunEnds told run old new (Done accesses halted) =
-    IsEnd run.cycles × (told → IsAccepted (old.files run.rom) × RunCause (cart_of run.rom old.files) run old new (Done accesses halted))
-RunEnds told run old new SoundFault = IsEnd run.cycles × (told → IsAccepted (old.files run.rom)) × IsUnwritten run old new SoundFault
-RunEnds told run old new JournalFault = IsEnd run.cycles × (told → IsAccepted (old.files run.rom)) × IsUnwritten run old new JournalFault
-RunEnds told run old new ending = (run.cycles ≤ last_cycle) × CartCause told run.rom old new ending
+    IsEnd run.cycles × (told → (inputs : Inputs) × AreInputs run old.files inputs × RunCause inputs run old new (Done accesses halted))
+RunEnds told run old new SoundFault = IsEnd run.cycles × (told → HaveInputs run old.files) × IsUnwritten run old new SoundFault
+RunEnds told run old new JournalFault = IsEnd run.cycles × (told → HaveInputs run old.files) × IsUnwritten run old new JournalFault
+RunEnds told run old new ending = (run.cycles ≤ last_cycle) × InputCause told run old new ending
 
 abbrev pub HasCause : Type 0 → Option Command → DepotState → DepotState → Ending → Type 0
 HasCause told None old new Usage = Unit {0}
@@ -127,23 +107,35 @@ HasCause told None old new ending = ⊥
 HasCause told (Some (Info rom)) old new ending = InfoEnds told rom old new ending
 HasCause told (Some (RunCart run)) old new ending = RunEnds told run old new ending
 
--- the outputs hold what a run of a cartridge made below a cycle
-abbrev pub HoldsUntil : List ℕ → Run → Files → Files → ℕ → Type 0
-HoldsUntil cart run old new at = Holds run old new (sound_until cart run.cycles at) (journal_of cart at)
+-- the outputs hold what the run of these inputs made below a cycle
+abbrev pub HoldsUntil : Inputs → Run → Files → Files → ℕ → Type 0
+HoldsUntil inputs run old new at = Holds run old new (sound_until inputs run.cycles at) (journal_of inputs at)
 
--- what the files hold once the run of a cartridge has ended
-abbrev pub RunLeaves : List ℕ → Run → Files → Files → Ending → Type 0
-RunLeaves cart run old new (Done accesses halted) = HoldsUntil cart run old new run.cycles
-RunLeaves cart run old new SoundFault = LeavesParts run old new (sound_of cart run.cycles) (journal_of cart run.cycles)
-RunLeaves cart run old new JournalFault = LeavesParts run old new (sound_of cart run.cycles) (journal_of cart run.cycles)
-RunLeaves cart run old new Memory = LeavesParts run old new [] []
-RunLeaves cart run old new ending = new ≡ old
+-- what the files hold once the run of these inputs has ended
+abbrev pub RunLeaves : Inputs → Run → Files → Files → Ending → Type 0
+RunLeaves inputs run old new (Done accesses halted) = HoldsUntil inputs run old new run.cycles
+RunLeaves inputs run old new SoundFault = LeavesParts run old new (sound_of inputs run.cycles) (journal_of inputs run.cycles)
+RunLeaves inputs run old new JournalFault = LeavesParts run old new (sound_of inputs run.cycles) (journal_of inputs run.cycles)
+RunLeaves inputs run old new Memory = LeavesParts run old new [] []
+RunLeaves inputs run old new ending = new ≡ old
+
+-- what the files hold once a run has ended that found its inputs in them
+abbrev pub InputsLeave : Run → Files → Files → Ending → Type 0
+InputsLeave run old new ending = (inputs : Inputs) × AreInputs run old inputs × RunLeaves inputs run old new ending
+
+-- what the files hold once a run has ended, or was refused
+abbrev pub RunFiles : Run → Files → Files → Ending → Type 0
+RunFiles run old new (Done accesses halted) = InputsLeave run old new (Done accesses halted)
+RunFiles run old new SoundFault = InputsLeave run old new SoundFault
+RunFiles run old new JournalFault = InputsLeave run old new JournalFault
+RunFiles run old new Memory = LeavesParts run old new [] []
+RunFiles run old new ending = new ≡ old
 
 -- what the files hold then
 abbrev pub LeavesFiles : Option Command → Files → Files → Ending → Type 0
 LeavesFiles None old new ending = new ≡ old
 LeavesFiles (Some (Info rom)) old new ending = new ≡ old
-LeavesFiles (Some (RunCart run)) old new ending = RunLeaves (cart_of run.rom old) run old new ending
+LeavesFiles (Some (RunCart run)) old new ending = RunFiles run old new ending
 
 -- The ending where neither a fault nor want of memory comes between: the refusals in their order.
 
@@ -157,13 +149,33 @@ abbrev pub file_ending : Option (List ℕ) → Ending → Ending
 file_ending None accepted = ReadFault
 file_ending (Some bytes) accepted = if nat_lt cart_limit (length bytes) then TooLong else cart_ending (fault_of bytes) accepted
 
--- behind an accepted cartridge that is to run
-abbrev pub run_ending : List ℕ → ℕ → Ending
-run_ending cart end = if end == 0 then Behind else Done (length (entries_to cart end)) (halted_in cart end)
+-- behind the bytes of the recording's file; `ready` is the ending behind what they spell
+abbrev pub verdict_ending : Verdict → (List Frame → Ending) → Ending
+verdict_ending (WrongAt place) ready = RecordingWrong place
+verdict_ending (Recorded recording) ready = ready recording
 
--- what a command line comes to, with these files
-abbrev pub right_ending : Option Command → Files → Ending
-right_ending None files = Usage
-right_ending (Some (Info rom)) files = file_ending (files rom) (Shown (header_lines (cart_of rom files)))
-right_ending (Some (RunCart run)) files =
-    if nat_lt last_cycle run.cycles then TooFar else file_ending (files run.rom) (run_ending (cart_of run.rom files) run.cycles)
+-- behind the recording's file
+abbrev pub recording_ending : Option (List ℕ) → Verdict → (List Frame → Ending) → Ending
+recording_ending None verdict ready = RecordingFault
+recording_ending (Some bytes) verdict ready = if nat_lt recording_limit (length bytes) then RecordingTooLong else verdict_ending verdict ready
+
+-- behind an accepted cartridge, with the recording of this name, if one is named
+abbrev pub recorded_ending : Option (List ℕ) → Files → Verdict → (List Frame → Ending) → Ending
+recorded_ending None files verdict ready = ready []
+recorded_ending (Some name) files verdict ready = recording_ending (files name) verdict ready
+
+-- behind the inputs of a run
+abbrev pub run_ending : Inputs → ℕ → Ending
+run_ending inputs end = if end == 0 then Behind else Done (length (entries_to inputs end)) (halted_in inputs end)
+
+-- behind the accepted cartridge of a run
+abbrev pub accepted_ending : Run → Files → Verdict → Ending
+accepted_ending run files verdict =
+    recorded_ending run.recording files verdict (λ recording. run_ending (record { cart = cart_of run.rom files; recording = recording }) run.cycles)
+
+-- what a command line comes to, with these files and this verdict on the recording that it names
+abbrev pub right_ending : Option Command → Files → Verdict → Ending
+right_ending None files verdict = Usage
+right_ending (Some (Info rom)) files verdict = file_ending (files rom) (Shown (header_lines (cart_of rom files)))
+right_ending (Some (RunCart run)) files verdict =
+    if nat_lt last_cycle run.cycles then TooFar else file_ending (files run.rom) (accepted_ending run files verdict)

@@ -20,6 +20,12 @@ pub(crate) enum Ending {
     Short,
     /// The cartridge's file bears no mark.
     NoMark,
+    /// The recording's file could not be read.
+    RecordingFault,
+    /// The recording's file is longer than its limit.
+    RecordingTooLong,
+    /// The recording's file spells no recording, and goes wrong at this byte.
+    RecordingWrong(u64),
     /// The run's end is not above the cycle at which it begins.
     Behind,
     /// The sound file could not be written.

@@ -3,11 +3,13 @@
 
 mod course;
 mod ending;
+mod inputs;
 pub mod laws;
 mod output;
 mod outputs;
 mod perform;
 mod put;
+mod reading;
 mod report;
 mod run_on;
 mod segment;

@@ -30,9 +30,18 @@ pub(crate) fn report<S: Sink>(command: &CommandWords<'_>, ending: Ending, out: &
         Ending::TooLong => refuse(out, 14, "refused: ", command.rom(), " is too long\n"),
         Ending::Short => refuse(out, 5, "refused: cartridge: short\n", "", ""),
         Ending::NoMark => refuse(out, 5, "refused: cartridge: no mark\n", "", ""),
+        Ending::RecordingFault => refuse_file(out, 3, "fault: reading ", command.recording(), "\n"),
+        Ending::RecordingTooLong => refuse_file(
+            out,
+            14,
+            "refused: ",
+            command.recording(),
+            " is too long\n",
+        ),
+        Ending::RecordingWrong(place) => refuse_place(out, place),
         Ending::Behind => refuse_cycle(out, 9, command.end(), " is not above 0\n"),
-        Ending::SoundFault => refuse_output(out, command.sound()),
-        Ending::JournalFault => refuse_output(out, command.journal()),
+        Ending::SoundFault => refuse_file(out, 4, "fault: writing ", command.sound(), "\n"),
+        Ending::JournalFault => refuse_file(out, 4, "fault: writing ", command.journal(), "\n"),
         Ending::Memory => refuse(out, 10, "refused: memory\n", "", ""),
     }
 }
@@ -69,15 +78,31 @@ fn refuse_cycle<S: Sink>(out: &mut S, status: u8, cycle: u64, why: &str) -> u8
     refuse(out, status, "refused: cycle ", digits.format(cycle), why)
 }
 
-/// Refuses an output that could not be written.
-fn refuse_output<S: Sink>(out: &mut S, name: Option<&str>) -> u8
-    ensures status { result ≡ 4 }
-    ensures put { let line = codes "fault: writing " ++ unwrap_or (option_copied name.entry) [] ++ codes "\n" in
+/// Refuses a recording that goes wrong at this byte.
+fn refuse_place<S: Sink>(out: &mut S, place: u64) -> u8
+    ensures status { result ≡ 6 }
+    ensures put { let line = codes "refused: recording at " ++ decimal place ++ codes "\n" in
+        PutsAll S.told line (S.state out.old) (S.state out.new) ⊎ PutsPart S.told line (S.state out.old) (S.state out.new) }
+{
+    let mut digits = Buffer::new();
+    refuse(out, 6, "refused: recording at ", digits.format(place), "\n")
+}
+
+/// Refuses the file of an option, by its name.
+fn refuse_file<S: Sink>(
+    out: &mut S,
+    status: u8,
+    before: &str,
+    name: Option<&str>,
+    behind: &str,
+) -> u8
+    ensures status { result ≡ status }
+    ensures put { let line = before.now ++ unwrap_or (option_copied name.entry) [] ++ behind.now in
         PutsAll S.told line (S.state out.old) (S.state out.new) ⊎ PutsPart S.told line (S.state out.old) (S.state out.new) }
 {
     match name {
-        Some(name) => refuse(out, 4, "fault: writing ", name, "\n"),
-        None => refuse(out, 4, "fault: writing ", "", "\n"),
+        Some(name) => refuse(out, status, before, name, behind),
+        None => refuse(out, status, before, "", behind),
     }
 }
 

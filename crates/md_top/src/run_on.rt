@@ -1,6 +1,6 @@
 ghost use Rattle.std.specs.Prelude.{◌≡◌, ◌≤◌, ◌<◌, ◌%◌, [], OnOk, OnErr, IfErr};
 ghost use Rattle.md_outer.specs.Outside.{Files, GoesOn};
-ghost use Rattle.md_top.specs.Courses.{IsUnderway, cart_in, cycle_of};
+ghost use Rattle.md_top.specs.Courses.{IsUnderway, inputs_in, cycle_of};
 ghost use Rattle.md_top.specs.Endings.{HoldsUntil, RunCause, RunLeaves, pairs_of};
 ghost use Rattle.md_top.specs.Limits.{IsEnd, last_cycle, segment_cycles};
 ghost use Rattle.md_top.specs.Limits as limits;
@@ -31,8 +31,8 @@ pub(crate) fn write_all<D: Depot>(
     requires end { IsEnd run.now.cycles }
     requires start { cycle_of course ≡ 0 }
     requires underway { IsUnderway course }
-    ensures cause { RunCause (cart_in course) (shown_run run.now) (D.state depot.old) (D.state depot.new) result }
-    ensures files { D.told → RunLeaves (cart_in course) (shown_run run.now) (D.state depot.old).files (D.state depot.new).files result }
+    ensures cause { RunCause (inputs_in course) (shown_run run.now) (D.state depot.old) (D.state depot.new) result }
+    ensures files { D.told → RunLeaves (inputs_in course) (shown_run run.now) (D.state depot.old).files (D.state depot.new).files result }
 {
     let mut course = course;
     let outputs = match begin_all(alloc, run, depot) {
@@ -66,11 +66,11 @@ fn append_head<D: Depot>(
     ensures machine { course.new.machine ≡ course.old.machine }
     ensures accesses { course.new.accesses ≡ course.old.accesses }
     ensures files { OnOk result (D.told → (first : Files) → Holds (shown_run run.now) first (D.state depot.old).files [] []
-        → HoldsUntil (cart_in course.old) (shown_run run.now) first (D.state depot.new).files 0) }
+        → HoldsUntil (inputs_in course.old) (shown_run run.now) first (D.state depot.new).files 0) }
     ensures err { IfErr result (IsWriteFault (shown_run run.now) (D.state depot.old) (D.state depot.new)) }
     ensures err_files { OnErr result (D.told → (first : Files) → Holds (shown_run run.now) first (D.state depot.old).files [] []
         → LeavesParts (shown_run run.now) first (D.state depot.new).files
-        (sound_of (cart_in course.old) run.now.cycles) (journal_of (cart_in course.old) run.now.cycles)) }
+        (sound_of (inputs_in course.old) run.now.cycles) (journal_of (inputs_in course.old) run.now.cycles)) }
     ensures goes_on { GoesOn (D.state depot.old) (D.state depot.new) }
 {
     course.pairs.clear();
@@ -98,16 +98,16 @@ fn run_segment<D: Depot>(
     requires whole { cycle_of course.old % segment_cycles ≡ 0 }
     requires underway { IsUnderway course.old }
     requires begun { AreBegun (shown_run run.now) (D.state depot.old).begun outputs.now }
-    ensures cart { cart_in course.new ≡ cart_in course.old }
+    ensures inputs { inputs_in course.new ≡ inputs_in course.old }
     ensures cycle { OnOk result (cycle_of course.new ≡ limits.segment_end (cycle_of course.old) run.now.cycles) }
     ensures underway { OnOk result (IsUnderway course.new) }
     ensures files { OnOk result (D.told → (first : Files)
-        → HoldsUntil (cart_in course.old) (shown_run run.now) first (D.state depot.old).files (cycle_of course.old)
-        → HoldsUntil (cart_in course.old) (shown_run run.now) first (D.state depot.new).files (cycle_of course.new)) }
+        → HoldsUntil (inputs_in course.old) (shown_run run.now) first (D.state depot.old).files (cycle_of course.old)
+        → HoldsUntil (inputs_in course.old) (shown_run run.now) first (D.state depot.new).files (cycle_of course.new)) }
     ensures err { IfErr result (IsWriteFault (shown_run run.now) (D.state depot.old) (D.state depot.new)) }
     ensures err_files { IfErr result (λ ending. D.told → (first : Files)
-        → HoldsUntil (cart_in course.old) (shown_run run.now) first (D.state depot.old).files (cycle_of course.old)
-        → RunLeaves (cart_in course.old) (shown_run run.now) first (D.state depot.new).files ending) }
+        → HoldsUntil (inputs_in course.old) (shown_run run.now) first (D.state depot.old).files (cycle_of course.old)
+        → RunLeaves (inputs_in course.old) (shown_run run.now) first (D.state depot.new).files ending) }
     ensures goes_on { GoesOn (D.state depot.old) (D.state depot.new) }
 {
     let end = segment_end(course.machine.at(), run.cycles);
@@ -127,10 +127,10 @@ fn run_on<D: Depot>(run: &RunWords<'_>, outputs: &Outputs, depot: &mut D, course
     requires start { cycle_of course ≡ 0 }
     requires underway { IsUnderway course }
     requires begun { AreBegun (shown_run run.now) (D.state depot.old).begun outputs.now }
-    ensures cause { RunCause (cart_in course) (shown_run run.now) (D.state depot.old) (D.state depot.new) result }
+    ensures cause { RunCause (inputs_in course) (shown_run run.now) (D.state depot.old) (D.state depot.new) result }
     ensures files { D.told → (first : Files)
-        → HoldsUntil (cart_in course) (shown_run run.now) first (D.state depot.old).files 0
-        → RunLeaves (cart_in course) (shown_run run.now) first (D.state depot.new).files result }
+        → HoldsUntil (inputs_in course) (shown_run run.now) first (D.state depot.old).files 0
+        → RunLeaves (inputs_in course) (shown_run run.now) first (D.state depot.new).files result }
 {
     let mut course = course;
     'segments: while course.machine.at() < run.cycles {

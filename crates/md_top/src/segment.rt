@@ -1,15 +1,13 @@
 ghost use Rattle.std.specs.Prelude.{◌≡◌, ◌+◌, ◌<◌, ◌≤◌, ◌++◌, [], length, IfOk, IfSome, None, Some};
-ghost use Rattle.std.specs.Arc.{arc_value};
 ghost use Rattle.md_machine.specs.Outputs.{journal_bytes, sound_bytes};
-ghost use Rattle.md_top.specs.Courses.{IsUnderway, cart_in, cycle_of};
+ghost use Rattle.md_top.specs.Courses.{IsUnderway, inputs_in, cycle_of};
 ghost use Rattle.md_top.specs.Limits.{last_cycle, segment_cycles};
 ghost use Rattle.md_top.specs.Runs.{FewEvents, entries_to, levels_to};
 
 use crate::course::Course;
+use crate::inputs::Inputs;
 use md_machine::{Machine, laws};
-use md_pads::Recording;
 use md_word::NoMemory;
-use rom_header::Cart;
 use std::alloc::Global;
 use std::sync::Arc;
 
@@ -19,14 +17,15 @@ const MOST_PAIRS: usize = 4 * 896;
 /// The bytes of a segment's records at most.
 const MOST_RECORDS: usize = 16 * 52_500;
 
-/// The run of a cartridge at power-on. All memory that it ever needs is taken here.
-pub(crate) fn power_on(alloc: Global, cart: Arc<Cart>) -> Result<Course, NoMemory>
-    ensures cart { IfOk result (λ course. cart_in course ≡ arc_value cart) }
+/// The run of these inputs at power-on. All memory that it ever needs is taken here.
+pub(crate) fn power_on(alloc: Global, inputs: Inputs) -> Result<Course, NoMemory>
+    ensures inputs { IfOk result (λ course. inputs_in course ≡ inputs) }
     ensures start { IfOk result (λ course. cycle_of course ≡ 0) }
     ensures underway { IfOk result IsUnderway }
 {
-    laws::few_events(&cart);
-    let recording = Arc::new(alloc, Recording::empty(alloc))?;
+    laws::few_events(&inputs.cart);
+    let cart = Arc::new(alloc, inputs.cart)?;
+    let recording = Arc::new(alloc, inputs.recording)?;
     let machine = Machine::power_on(alloc, cart, recording)?;
     let pairs = Vec::with_capacity(alloc, MOST_PAIRS)?;
     let records = Vec::with_capacity(alloc, MOST_RECORDS)?;
@@ -45,13 +44,13 @@ pub(crate) fn advance(course: &mut Course, to: u64)
     requires later { cycle_of course.old < to }
     requires near { to ≤ cycle_of course.old + segment_cycles }
     requires far { to ≤ last_cycle }
-    ensures cart { cart_in course.new ≡ cart_in course.old }
+    ensures inputs { inputs_in course.new ≡ inputs_in course.old }
     ensures cycle { cycle_of course.new ≡ to }
     ensures underway { IsUnderway course.new }
-    ensures pairs { sound_bytes (levels_to (cart_in course.old) to)
-        ≡ sound_bytes (levels_to (cart_in course.old) (cycle_of course.old)) ++ course.new.pairs.items }
-    ensures records { journal_bytes (entries_to (cart_in course.old) to)
-        ≡ journal_bytes (entries_to (cart_in course.old) (cycle_of course.old)) ++ course.new.records.items }
+    ensures pairs { sound_bytes (levels_to (inputs_in course.old) to)
+        ≡ sound_bytes (levels_to (inputs_in course.old) (cycle_of course.old)) ++ course.new.pairs.items }
+    ensures records { journal_bytes (entries_to (inputs_in course.old) to)
+        ≡ journal_bytes (entries_to (inputs_in course.old) (cycle_of course.old)) ++ course.new.records.items }
 {
     course.machine.alone(to);
     course.pairs.clear();

@@ -11,3 +11,11 @@ returns-in-Short g c = rw c.in-Short.is (c.refuse-in-Short.ensures.status, c.ref
 
 pub returns-in-NoMark : goal.returns-in-NoMark
 returns-in-NoMark g c = rw c.in-NoMark.is (c.refuse-in-NoMark.ensures.status, c.refuse-in-NoMark.ensures.put)
+
+pub returns-in-RecordingFault : goal.returns-in-RecordingFault
+returns-in-RecordingFault g c = rw c.in-RecordingFault.is (c.refuse_file.ensures.status, rw c.recording.ensures at c.refuse_file.ensures.put)
+
+pub returns-in-RecordingTooLong : goal.returns-in-RecordingTooLong
+returns-in-RecordingTooLong g c =
+    rw c.in-RecordingTooLong.is
+    (c.refuse_file-in-RecordingTooLong.ensures.status, rw c.recording-in-RecordingTooLong.ensures at c.refuse_file-in-RecordingTooLong.ensures.put)

@@ -1,15 +1,15 @@
 use Rattle.std.proofs.Common.{◌≡◌, ℕ, ◌+◌, ◌/◌, ◌≤◌, List, [], ◌++◌, length, length-append, sym, ap, ◌∙◌, arith}
 use Rattle.md_machine.specs.Machines.{MachineValue}
 use Rattle.md_machine.specs.Outputs.{journal_bytes, sound_bytes}
-use Rattle.md_top.specs.Courses.{cart_in, cycle_of}
+use Rattle.md_top.specs.Courses.{cycle_of, inputs_in, inputs_of}
 use Rattle.md_top.specs.Runs.{entries_to, levels_to}
 use Rattle.md_top.proofs.Segments.{Segment, came-to, few-entries, journal_bytes-append, segment, sound_bytes-append}
 use Rattle.md_top.proofs.segment.advance.Goals as goal
 
 pub overflow_add-course : goal.overflow_add-course
 overflow_add-course c =
-    let few : length (entries_to (cart_in c.args.course.now) (cycle_of c.args.course.now)) ≤ cycle_of c.args.course.now + 5 =
-    few-entries (cart_in c.args.course.now) (cycle_of c.args.course.now) c.args.course.now.machine.console c.requires.underway.few
+    let few : length (entries_to (inputs_in c.args.course.now) (cycle_of c.args.course.now)) ≤ cycle_of c.args.course.now + 5 =
+    few-entries (inputs_in c.args.course.now) (cycle_of c.args.course.now) c.args.course.now.machine.console c.requires.underway.few
     (omega (arith, c.requires.later, c.requires.far)) c.requires.underway.run in
     omega (
       arith,
@@ -24,26 +24,26 @@ overflow_add-course c =
       c.alone.ensures.entries,
     )
 
-pub returns-clause-cart : goal.returns-clause-cart
-returns-clause-cart c =
-    let made : Segment (cart_in c.args.course.now) (cycle_of c.args.course.now) c.args.to c.alone.new.self =
-    segment (cart_in c.args.course.now) (cycle_of c.args.course.now) c.args.to c.args.course.now.machine.console c.alone.new.self c.requires.underway.few
+pub returns-clause-inputs : goal.returns-clause-inputs
+returns-clause-inputs c =
+    let made : Segment (inputs_in c.args.course.now) (cycle_of c.args.course.now) c.args.to c.alone.new.self =
+    segment (inputs_in c.args.course.now) (cycle_of c.args.course.now) c.args.to c.args.course.now.machine.console c.alone.new.self c.requires.underway.few
     (omega (arith, c.requires.far)) (omega (arith, c.requires.later)) c.requires.underway.run c.alone.ensures.run in
-    ap (λ (m : MachineValue). m.console.cart) (c.drain_entries.ensures.machine ∙ ap (λ (m : MachineValue). record m { entries = [] }) c.drain_pairs.ensures.machine)
-    ∙ made.same_cart
+    ap (λ (m : MachineValue). inputs_of m.console) (c.drain_entries.ensures.machine ∙ ap (λ (m : MachineValue). record m { entries = [] }) c.drain_pairs.ensures.machine)
+    ∙ made.same_inputs
 
 pub returns-clause-underway : goal.returns-clause-underway
 returns-clause-underway c =
-    let made : Segment (cart_in c.args.course.now) (cycle_of c.args.course.now) c.args.to c.alone.new.self =
-    segment (cart_in c.args.course.now) (cycle_of c.args.course.now) c.args.to c.args.course.now.machine.console c.alone.new.self c.requires.underway.few
+    let made : Segment (inputs_in c.args.course.now) (cycle_of c.args.course.now) c.args.to c.alone.new.self =
+    segment (inputs_in c.args.course.now) (cycle_of c.args.course.now) c.args.to c.args.course.now.machine.console c.alone.new.self c.requires.underway.few
     (omega (arith, c.requires.far)) (omega (arith, c.requires.later)) c.requires.underway.run c.alone.ensures.run in
     let after : c.drain_entries.new.self ≡ record { at = c.args.to; console = c.alone.new.self.console; entries = []; levels = [] } =
     c.drain_entries.ensures.machine ∙ ap (λ (m : MachineValue). record m { entries = [] }) c.drain_pairs.ensures.machine
     ∙ ap (λ (at : ℕ). record { at = at; console = c.alone.new.self.console; entries = []; levels = [] }) c.alone.ensures.at in
-    let more : length (entries_to (cart_in c.args.course.now) c.args.to)
-    ≡ length (entries_to (cart_in c.args.course.now) (cycle_of c.args.course.now)) + length c.alone.new.self.entries =
-    ap length made.entries ∙ length-append (entries_to (cart_in c.args.course.now) (cycle_of c.args.course.now)) c.alone.new.self.entries in
-    came-to (cart_in c.args.course.now) (cycle_of c.args.course.now) c.args.to (c.args.course.now.accesses + c.len.result / 16) c.alone.new.self c.drain_entries.new.self
+    let more : length (entries_to (inputs_in c.args.course.now) c.args.to)
+    ≡ length (entries_to (inputs_in c.args.course.now) (cycle_of c.args.course.now)) + length c.alone.new.self.entries =
+    ap length made.entries ∙ length-append (entries_to (inputs_in c.args.course.now) (cycle_of c.args.course.now)) c.alone.new.self.entries in
+    came-to (inputs_in c.args.course.now) (cycle_of c.args.course.now) c.args.to (c.args.course.now.accesses + c.len.result / 16) c.alone.new.self c.drain_entries.new.self
     c.requires.underway.few made after
     (omega (
       arith,
@@ -57,21 +57,21 @@ returns-clause-underway c =
 
 pub returns-clause-pairs : goal.returns-clause-pairs
 returns-clause-pairs c =
-    let made : Segment (cart_in c.args.course.now) (cycle_of c.args.course.now) c.args.to c.alone.new.self =
-    segment (cart_in c.args.course.now) (cycle_of c.args.course.now) c.args.to c.args.course.now.machine.console c.alone.new.self c.requires.underway.few
+    let made : Segment (inputs_in c.args.course.now) (cycle_of c.args.course.now) c.args.to c.alone.new.self =
+    segment (inputs_in c.args.course.now) (cycle_of c.args.course.now) c.args.to c.args.course.now.machine.console c.alone.new.self c.requires.underway.few
     (omega (arith, c.requires.far)) (omega (arith, c.requires.later)) c.requires.underway.run c.alone.ensures.run in
     let piece : c.drain_pairs.new.into.items ≡ sound_bytes c.alone.new.self.levels =
     c.drain_pairs.ensures.bytes ∙ ap (λ (l : List ℕ). l ++ sound_bytes c.alone.new.self.levels) c.clear.ensures.items in
-    ap sound_bytes made.levels ∙ sound_bytes-append (levels_to (cart_in c.args.course.now) (cycle_of c.args.course.now)) c.alone.new.self.levels
-    ∙ ap (λ (l : List ℕ). sound_bytes (levels_to (cart_in c.args.course.now) (cycle_of c.args.course.now)) ++ l) (sym piece)
+    ap sound_bytes made.levels ∙ sound_bytes-append (levels_to (inputs_in c.args.course.now) (cycle_of c.args.course.now)) c.alone.new.self.levels
+    ∙ ap (λ (l : List ℕ). sound_bytes (levels_to (inputs_in c.args.course.now) (cycle_of c.args.course.now)) ++ l) (sym piece)
 
 pub returns-clause-records : goal.returns-clause-records
 returns-clause-records c =
-    let made : Segment (cart_in c.args.course.now) (cycle_of c.args.course.now) c.args.to c.alone.new.self =
-    segment (cart_in c.args.course.now) (cycle_of c.args.course.now) c.args.to c.args.course.now.machine.console c.alone.new.self c.requires.underway.few
+    let made : Segment (inputs_in c.args.course.now) (cycle_of c.args.course.now) c.args.to c.alone.new.self =
+    segment (inputs_in c.args.course.now) (cycle_of c.args.course.now) c.args.to c.args.course.now.machine.console c.alone.new.self c.requires.underway.few
     (omega (arith, c.requires.far)) (omega (arith, c.requires.later)) c.requires.underway.run c.alone.ensures.run in
     let piece : c.drain_entries.new.into.items ≡ journal_bytes c.alone.new.self.entries =
     c.drain_entries.ensures.bytes ∙ ap (λ (l : List ℕ). l ++ journal_bytes c.drain_pairs.new.self.entries) c.clear-2.ensures.items
     ∙ ap (λ (m : MachineValue). journal_bytes m.entries) c.drain_pairs.ensures.machine in
-    ap journal_bytes made.entries ∙ journal_bytes-append (entries_to (cart_in c.args.course.now) (cycle_of c.args.course.now)) c.alone.new.self.entries
-    ∙ ap (λ (l : List ℕ). journal_bytes (entries_to (cart_in c.args.course.now) (cycle_of c.args.course.now)) ++ l) (sym piece)
+    ap journal_bytes made.entries ∙ journal_bytes-append (entries_to (inputs_in c.args.course.now) (cycle_of c.args.course.now)) c.alone.new.self.entries
+    ∙ ap (λ (l : List ℕ). journal_bytes (entries_to (inputs_in c.args.course.now) (cycle_of c.args.course.now)) ++ l) (sym piece)

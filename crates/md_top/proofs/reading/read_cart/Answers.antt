@@ -1,5 +1,5 @@
 use Rattle.md_top.proofs.Carts.{refusal_cause}
-use Rattle.md_top.proofs.perform.read_cart.Goals as goal
+use Rattle.md_top.proofs.reading.read_cart.Goals as goal
 
 pub returns-in-Err-clause-err : goal.returns-in-Err-clause-err
 returns-in-Err-clause-err g c =

@@ -1,0 +1,102 @@
+-- What the input files of a run hold, and why they are not read.
+use Rattle.std.specs.Prelude.{◌≡◌, ◌⊎◌, ℕ, ◌<◌, ◌≤◌, List, [], length, Option, Some, None, IsSomeAnd}
+use Rattle.rom_header.specs.Cartridge.{fault_of, image}
+use Rattle.rom_header.specs.declared.cart.CartFault.{CartFault}
+use Rattle.rom_header.specs.declared.cart.CartFault.TheVariants as fault
+use Rattle.md_outer.specs.Outside.{DepotState, Files, Rose, bytes_of}
+use Rattle.md_pads.specs.Recording.{Frame, GoesWrongAt, Spells}
+use Rattle.md_words.specs.Words.{Command, Run, recording_name, rom_of}
+use Rattle.md_top.specs.declared.ending.Ending.{Ending}
+use Rattle.md_top.specs.declared.ending.Ending.TheVariants.{ReadFault, TooLong, Short, NoMark, RecordingFault, RecordingTooLong, RecordingWrong, Memory}
+use Rattle.md_top.specs.declared.inputs.Inputs.{Inputs}
+
+-- Why each ending may come. What a file holds is spoken of where the depot tells it. Each cause says
+-- that the earlier ones do not stand.
+
+-- THE CARTRIDGE
+
+-- the greatest length of a cartridge's file
+abbrev pub cart_limit : ℕ
+cart_limit = 4194304
+
+-- the cartridge is held, within its limit and accepted
+abbrev pub IsAccepted : Option (List ℕ) → Type 0
+IsAccepted file = IsSomeAnd file (λ bytes. (length bytes ≤ cart_limit) × (fault_of bytes ≡ None))
+
+-- the image of the cartridge of this name
+abbrev pub cart_of : List ℕ → Files → List ℕ
+cart_of rom files = image (bytes_of files rom)
+
+-- what a command comes to whose cartridge is not accepted
+abbrev pub refusal_of : CartFault → Ending
+refusal_of fault.Short = Short
+refusal_of fault.Long = TooLong
+refusal_of fault.NoMark = NoMark
+refusal_of fault.NoMemory = Memory
+
+-- why the cartridge of this name is not there
+abbrev pub CartCause : Type 0 → List ℕ → DepotState → DepotState → Ending → Type 0
+CartCause told rom old new ReadFault = Rose old.read_faults new.read_faults ⊎ (told × (old.files rom ≡ None))
+CartCause told rom old new TooLong = told → IsSomeAnd (old.files rom) (λ bytes. cart_limit < length bytes)
+CartCause told rom old new Short = told → IsSomeAnd (old.files rom) (λ bytes. (length bytes ≤ cart_limit) × (fault_of bytes ≡ Some fault.Short))
+CartCause told rom old new NoMark = told → IsSomeAnd (old.files rom) (λ bytes. (length bytes ≤ cart_limit) × (fault_of bytes ≡ Some fault.NoMark))
+CartCause told rom old new Memory = Unit {0}
+CartCause told rom old new ending = ⊥
+
+-- THE RECORDING
+
+-- the greatest length of a recording's file
+abbrev pub recording_limit : ℕ
+recording_limit = 4194316
+
+-- the recording of a run: it has no frames where none is named, and else those that its file spells
+abbrev pub Records : Option (List ℕ) → Files → List Frame → Type 0
+Records None files recording = recording ≡ []
+Records (Some name) files recording = IsSomeAnd (files name) (λ bytes. (length bytes ≤ recording_limit) × Spells bytes recording)
+
+-- why the recording of this name is not there
+abbrev pub RecordingCause : Type 0 → Option (List ℕ) → DepotState → DepotState → Ending → Type 0
+RecordingCause told (Some name) old new RecordingFault = Rose old.read_faults new.read_faults ⊎ (told × (old.files name ≡ None))
+RecordingCause told (Some name) old new RecordingTooLong = told → IsSomeAnd (old.files name) (λ bytes. recording_limit < length bytes)
+RecordingCause told (Some name) old new (RecordingWrong place) = told → IsSomeAnd (old.files name) (λ bytes. (length bytes ≤ recording_limit) × GoesWrongAt bytes place)
+RecordingCause told (Some name) old new Memory = Unit {0}
+RecordingCause told name old new ending = ⊥
+
+-- what the bytes of a recording's file are found to be: the spelling of these frames, or wrong from a
+-- place on
+pub data Verdict : Type 0 where
+  Recorded : List Frame → Verdict
+  WrongAt : ℕ → Verdict
+
+-- the bytes are so
+abbrev pub IsVerdict : List ℕ → Verdict → Type 0
+IsVerdict bytes (Recorded recording) = Spells bytes recording
+IsVerdict bytes (WrongAt place) = GoesWrongAt bytes place
+
+-- the bytes of the recording of this name are so, if one is named
+abbrev pub IsJudged : Option (List ℕ) → Files → Verdict → Type 0
+IsJudged None files verdict = Unit {0}
+IsJudged (Some name) files verdict = IsVerdict (bytes_of files name) verdict
+
+-- BOTH
+
+-- the inputs of a run are those that its files hold
+pub record AreInputs (run : Run) (files : Files) (inputs : Inputs) : Type 0 where
+  pub accepted : IsAccepted (files run.rom)
+  pub cart : inputs.cart ≡ cart_of run.rom files
+  pub recording : Records run.recording files inputs.recording
+
+-- the files hold the inputs of a run
+abbrev pub HaveInputs : Run → Files → Type 0
+HaveInputs run files = (inputs : Inputs) × AreInputs run files inputs
+
+-- why the inputs of a run are not there
+abbrev pub InputCause : Type 0 → Run → DepotState → DepotState → Ending → Type 0
+InputCause told run old new RecordingFault = (told → IsAccepted (old.files run.rom)) × RecordingCause told run.recording old new RecordingFault
+InputCause told run old new RecordingTooLong = (told → IsAccepted (old.files run.rom)) × RecordingCause told run.recording old new RecordingTooLong
+InputCause told run old new (RecordingWrong place) = (told → IsAccepted (old.files run.rom)) × RecordingCause told run.recording old new (RecordingWrong place)
+InputCause told run old new ending = CartCause told run.rom old new ending
+
+-- an input of the command is not held
+abbrev pub IsMissing : Command → Files → Type 0
+IsMissing command files = (files (rom_of command) ≡ None) ⊎ IsSomeAnd (recording_name command) (λ name. files name ≡ None)

@@ -1,0 +1,10 @@
+use md_pads::Recording;
+use rom_header::Cart;
+
+/// What a run is given.
+#[derive(Drop)]
+pub(crate) struct Inputs {
+    pub cart: Cart,
+    /// What is pressed on the pads. It has no frames where no recording is named.
+    pub recording: Recording,
+}
