@@ -1,17 +1,19 @@
-ghost use Rattle.std.specs.Prelude.{◌≡◌, ◌==◌, cond, [], ◌∷◌, IfOk};
+ghost use Rattle.std.specs.Prelude.{◌≡◌, ◌==◌, cond, nat_lt, true, false, [], ◌∷◌, IfOk};
 
 use chip_core::{ChipSet, Core};
 use md_word::{Entry, Key, Next};
 use std::alloc::{AllocError, Global};
 
-// Five chips at the gaps of a Mega Drive: two of them sample, and three make accesses, of which one
-// changes the pins.
+// Five chips at the gaps of a Mega Drive. At power-on two of them sample, and three make accesses,
+// of which one changes the pins.
 pub struct Five;
 
 #[derive(Clone, Copy, PartialEq)]
 pub struct Chip {
     pub number: u8,
     pub cycle: u64,
+    // whether its events are samples
+    pub sample: bool,
     // the pins that it last saw
     pub seen: u64,
 }
@@ -36,7 +38,7 @@ impl ChipSet for Five {
     ghost use Rattle.std.specs.Prelude.{◌≡◌, ℕ, ◌+◌, ◌<◌, ◌≤◌, ◌==◌, ◌||◌, cond, nat_lt, true, false, refl};
     ghost use Rattle.std.proofs.Common.{arith, ap, ◌∙◌};
     ghost use Rattle.std.proofs.lemmas.Bool.Decides.{nat_tests};
-    ghost use Rattle.md_word.specs.Coding.{number, by_way, both};
+    ghost use Rattle.md_word.specs.Coding.{number, flag, by_way, both};
     ghost use Rattle.chip_core.specs.Codes.{code_of, core_of, coded as coded_by};
 
     type Chip = Chip;
@@ -47,7 +49,7 @@ impl ChipSet for Five {
 
     ghost rules = { record {
       count = 5;
-      next = λ c. record { key = record { cycle = c.cycle; chip = c.number }; sample = nat_lt c.number 2 };
+      next = λ c. record { key = record { cycle = c.cycle; chip = c.number }; sample = c.sample };
       perform = λ c s. record {
         chip = c;
         shared = record { line = cond (c.number == 2) c.cycle s.line };
@@ -68,7 +70,7 @@ impl ChipSet for Five {
       };
       writes = λ i j. i == 2;
       gap = λ i. cond (i == 0) 28 (cond (i == 1) 45 (cond (i == 2) 3420 16128));
-      blank = record { number = 0; cycle = 0; seen = 0 };
+      blank = record { number = 0; cycle = 0; sample = true; seen = 0 };
     } };
 
     ghost chip_ok = { λ c. Unit {0} };
@@ -76,12 +78,12 @@ impl ChipSet for Five {
     ghost shared_ok = { λ s. Unit {0} };
 
     ghost code_of = { code_of (by_way number (λ s. s.line) (λ n. record { line = n }) (λ s. refl))
-        (by_way (both number (both number number)) (λ c. (c.number, (c.cycle, c.seen)))
-        (λ p. record { number = p.0; cycle = p.1.0; seen = p.1.1 }) (λ c. refl)) };
+        (by_way (both number (both number (both flag number))) (λ c. (c.number, (c.cycle, (c.sample, c.seen))))
+        (λ p. record { number = p.0; cycle = p.1.0; sample = p.1.1.0; seen = p.1.1.1 }) (λ c. refl)) };
 
     ghost core_of = { core_of (by_way number (λ s. s.line) (λ n. record { line = n }) (λ s. refl))
-        (by_way (both number (both number number)) (λ c. (c.number, (c.cycle, c.seen)))
-        (λ p. record { number = p.0; cycle = p.1.0; seen = p.1.1 }) (λ c. refl)) };
+        (by_way (both number (both number (both flag number))) (λ c. (c.number, (c.cycle, (c.sample, c.seen))))
+        (λ p. record { number = p.0; cycle = p.1.0; sample = p.1.1.0; seen = p.1.1.1 }) (λ c. refl)) };
 
     ghost coded = { coded_by _ _ _ _ _ };
 
@@ -109,7 +111,7 @@ impl ChipSet for Five {
                 cycle: chip.cycle,
                 chip: chip.number,
             },
-            sample: chip.number < 2,
+            sample: chip.sample,
         }
     }
 
@@ -176,9 +178,9 @@ impl ChipSet for Five {
 pub fn power_on(alloc: Global, room: usize) -> Result<Core<Five>, AllocError>
     ensures { IfOk result (λ core. core ≡ record {
       shared = record { line = 0 };
-      chips = record { number = 0; cycle = 0; seen = 7 } ∷ record { number = 1; cycle = 0; seen = 7 }
-          ∷ record { number = 2; cycle = 0; seen = 7 } ∷ record { number = 3; cycle = 16128; seen = 7 }
-          ∷ record { number = 4; cycle = 16128; seen = 7 } ∷ [];
+      chips = record { number = 0; cycle = 0; sample = true; seen = 7 } ∷ record { number = 1; cycle = 0; sample = true; seen = 7 }
+          ∷ record { number = 2; cycle = 0; sample = false; seen = 7 } ∷ record { number = 3; cycle = 16128; sample = false; seen = 7 }
+          ∷ record { number = 4; cycle = 16128; sample = false; seen = 7 } ∷ [];
       bounds = record { cycle = 0; chip = 0 } ∷ record { cycle = 0; chip = 1 } ∷ record { cycle = 0; chip = 2 }
           ∷ record { cycle = 16128; chip = 3 } ∷ record { cycle = 16128; chip = 4 } ∷ [];
       journal = [];
@@ -197,12 +199,51 @@ pub fn power_on(alloc: Global, room: usize) -> Result<Core<Five>, AllocError>
     Ok(Core::make(Board { line: 0 }, chips, bounds, journal))
 }
 
+// The first chip at an access of cycle 70 that it has not announced, and the second at a sample of a
+// cycle that the caller names, which it has.
+pub fn at_access(alloc: Global, second: u64, room: usize) -> Result<Core<Five>, AllocError>
+    ensures { IfOk result (λ core. core ≡ record {
+      shared = record { line = 0 };
+      chips = record { number = 0; cycle = 70; sample = false; seen = 7 } ∷ record { number = 1; cycle = second; sample = true; seen = 7 }
+          ∷ record { number = 2; cycle = 3420; sample = false; seen = 7 } ∷ record { number = 3; cycle = 16128; sample = false; seen = 7 }
+          ∷ record { number = 4; cycle = 16128; sample = false; seen = 7 } ∷ [];
+      bounds = record { cycle = 28; chip = 0 } ∷ record { cycle = second; chip = 1 } ∷ record { cycle = 3420; chip = 2 }
+          ∷ record { cycle = 16128; chip = 3 } ∷ record { cycle = 16128; chip = 4 } ∷ [];
+      journal = [];
+      room = room;
+    }) }
+{
+    let access = Chip {
+        number: 0,
+        cycle: 70,
+        sample: false,
+        seen: 7,
+    };
+    let chips = vec![in alloc;
+        access,
+        at(1, second),
+        at(2, 3420),
+        at(3, 16128),
+        at(4, 16128),
+    ]?;
+    let bounds = vec![in alloc;
+        key(0, 28),
+        key(1, second),
+        key(2, 3420),
+        key(3, 16128),
+        key(4, 16128),
+    ]?;
+    let journal = Vec::with_capacity(alloc, room)?;
+    Ok(Core::make(Board { line: 0 }, chips, bounds, journal))
+}
+
 pub fn at(number: u8, cycle: u64) -> Chip
-    ensures { result ≡ record { number = number; cycle = cycle; seen = 7 } }
+    ensures { result ≡ record { number = number; cycle = cycle; sample = nat_lt number 2; seen = 7 } }
 {
     Chip {
         number,
         cycle,
+        sample: number < 2,
         seen: 7,
     }
 }

@@ -1,7 +1,15 @@
-//! Tests of the core of chips, at five small chips.
+//! Tests of the core of chips, and of the bus lock and the workers, at five small chips and at two.
 #![tactic(auto)]
 
 #[cfg(test)]
 mod five;
 #[cfg(test)]
+mod locks;
+#[cfg(test)]
+mod meeting;
+#[cfg(test)]
+mod pair;
+#[cfg(test)]
 mod runs;
+#[cfg(test)]
+mod workers;

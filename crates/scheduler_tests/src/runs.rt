@@ -108,6 +108,7 @@ fn seen(number: u8, cycle: u64) -> Chip {
     Chip {
         number,
         cycle,
+        sample: number < 2,
         seen: 0,
     }
 }
@@ -122,7 +123,10 @@ fn entry(key: Key) -> Entry {
 }
 
 // The machine that looks for the least key and moves that chip, in plain words.
-fn moved_by_least_key(alloc: Global, t: u64) -> Result<(Board, Vec<Chip>, Vec<Entry>), AllocError> {
+pub fn moved_by_least_key(
+    alloc: Global,
+    t: u64,
+) -> Result<(Board, Vec<Chip>, Vec<Entry>), AllocError> {
     let mut board = Board { line: 0 };
     let mut chips = vec![in alloc; at(0, 0), at(1, 0), at(2, 0), at(3, 16128), at(4, 16128)]?;
     let mut journal = Vec::new(alloc);

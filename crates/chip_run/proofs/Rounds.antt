@@ -1,0 +1,192 @@
+-- What rounds leave of the held chips.
+use Rattle.std.proofs.Common.{◌≡◌, ◌≢◌, ℕ, ◌+◌, ◌<◌, ◌≤◌, true, false, refl, sym, ◌∙◌, ap, subst, arith, [], ◌∷◌, ◌⊎◌, inl, inr, Option, Some, None, IfSome, IsSome, length, slice_set, slice_index_or, get_or-set_same, get_or-set_other}
+use Rattle.std.proofs.lemmas.Bool.{false≢true}
+use Rattle.std.proofs.lemmas.List.{get_or_past, map-set, set-get_or, set-set, set_past}
+use Rattle.std.proofs.Math.Seq.{map-set_same}
+use Rattle.std.proofs.Math.ListN.{get_or-map}
+use Rattle.chip_core.proofs.Keys.{lt_or}
+use Rattle.std.proofs.lemmas.Option.{none-some, same_Some}
+use Rattle.std.specs.Option.{option_map}
+use Rattle.chip_core.specs.Chips.{Rules}
+use Rattle.chip_core.specs.Equations.{by_test, same_or}
+use Rattle.chip_run.specs.Held.{HeldValue}
+use Rattle.chip_run.specs.Locked.{LockedValue}
+use Rattle.chip_run.specs.Parts.{PartsValue}
+use Rattle.chip_run.specs.Places.{AllFree, IsFree, Places, place}
+use Rattle.chip_run.proofs.Places.{place-in}
+use Rattle.chip_run.specs.Rounds.{IsEnded, IsEndedAt, IsSeenTurn, Keeps, Made, bare, bares, is_there, occupied, settled_held}
+use Rattle.chip_run.specs.Sections.{IsSection, IsTurn, Moves}
+use Rattle.chip_run.specs.declared.held.Due.TheVariants.{Nothing}
+use Rattle.chip_run.specs.declared.turn.Turn.{Turn}
+use Rattle.chip_run.specs.declared.turn.Turn.TheVariants.{Moved, Blocked, Finished}
+
+module _ {Chip Pins : Type 0} where
+  -- a place with no chip is none that has one
+  pub free-at : (hs : Places Chip Pins) (i : ℕ) → AllFree hs → IsSome (place hs i) → IsFree hs i
+  free-at hs i free some = go (place hs i) refl some
+    where
+      go : (o : Option (HeldValue Chip Pins)) → place hs i ≡ o → IsSome o → IsFree hs i
+      go None e s = absurd (false≢true s)
+      go (Some h) e s = record { held = h; there = e; free = free i h e }
+
+  -- the same of each place, where the code has the fields
+  pub at-free : (hs0 hs : Places Chip Pins) → hs0 ≡ hs → AllFree hs → (i : ℕ) → IfSome (place hs0 i) (λ h. h.due ≡ Nothing)
+  at-free hs0 hs e free i = go (place hs0 i) refl
+    where
+      go : (o : Option (HeldValue Chip Pins)) → place hs0 i ≡ o → IfSome o (λ h. h.due ≡ Nothing)
+      go None q = tt
+      go (Some h) q = free i h (ap (λ xs. place xs i) (sym e) ∙ q)
+
+  pub at-some : (hs0 hs : Places Chip Pins) → hs0 ≡ hs → (i : ℕ) → IsSome (place hs i) → IsSome (place hs0 i)
+  at-some hs0 hs e i some = subst (λ xs. IsSome (place xs i)) (sym e) some
+
+  -- a section that did not move the chip leaves all
+  pub stays : (hs : Places Chip Pins) (i : ℕ) (before after : HeldValue Chip Pins) → place hs i ≡ Some before → after ≡ before → slice_set hs i (Some after) ≡ hs
+  stays hs i before after there e = ap (λ (h : HeldValue Chip Pins). slice_set hs i (Some h)) e ∙ ap (slice_set hs i) (sym there) ∙ set-get_or hs i None
+
+  place-bares : (hs : Places Chip Pins) (i : ℕ) → place (bares hs) i ≡ option_map bare (place hs i)
+  place-bares hs i = get_or-map (option_map bare) hs i None
+
+  -- passes change nothing of what is due
+  pub free-same : (hs hs2 : Places Chip Pins) → bares hs2 ≡ bares hs → AllFree hs → AllFree hs2
+  free-same hs hs2 same free i h there =
+      go (place hs i) refl (sym (place-bares hs i) ∙ ap (λ xs. place xs i) (sym same) ∙ place-bares hs2 i ∙ ap (option_map bare) there)
+    where
+      go : (o : Option (HeldValue Chip Pins)) → place hs i ≡ o → option_map bare o ≡ Some (bare h) → h.due ≡ Nothing
+      go None e b = absurd (none-some (bare h) b)
+      go (Some k) e b = sym (ap (λ (x : HeldValue Chip Pins). x.due) (same_Some (bare k) (bare h) b)) ∙ free i k e
+
+  occupied-bares : (hs : Places Chip Pins) → occupied (bares hs) ≡ occupied hs
+  occupied-bares [] = refl
+  occupied-bares (None ∷ hs) = ap (λ bs. false ∷ bs) (occupied-bares hs)
+  occupied-bares (Some h ∷ hs) = ap (λ bs. true ∷ bs) (occupied-bares hs)
+
+  occupied-made : (k : ℕ) (hs hs2 : Places Chip Pins) → Made k hs hs2 → occupied hs2 ≡ occupied hs
+  occupied-made k hs hs2 m = ap occupied m.now ∙ map-set_same is_there hs k (Some m.after) None (ap is_there (sym m.there))
+
+  occupied-at : (hs : Places Chip Pins) (i : ℕ) → slice_index_or (occupied hs) i false ≡ is_there (place hs i)
+  occupied-at hs i = get_or-map is_there hs i None
+
+  there-some : (o : Option (HeldValue Chip Pins)) → is_there o ≡ true → IsSome o
+  there-some None e = absurd (false≢true e)
+  there-some (Some h) e = refl
+
+  some-there : (o : Option (HeldValue Chip Pins)) → IsSome o → is_there o ≡ true
+  some-there None e = absurd (false≢true e)
+  some-there (Some h) e = refl
+
+  pub keeps-some : (hs hs2 : Places Chip Pins) → Keeps hs hs2 → (i : ℕ) → IsSome (place hs i) → IsSome (place hs2 i)
+  keeps-some hs hs2 keep i some =
+      there-some (place hs2 i) (sym (occupied-at hs2 i) ∙ ap (λ bs. slice_index_or bs i false) keep.same ∙ occupied-at hs i ∙ some-there (place hs i) some)
+
+  pub keeps-itself : (hs : Places Chip Pins) → AllFree hs → Keeps hs hs
+  keeps-itself hs free = record { same = refl; free = free }
+
+  pub keeps-twice : (hs hs2 hs3 : Places Chip Pins) → Keeps hs hs2 → Keeps hs2 hs3 → Keeps hs hs3
+  keeps-twice hs hs2 hs3 a b = record { same = b.same ∙ a.same; free = b.free }
+
+  free-some : (hs : Places Chip Pins) (i : ℕ) → IsFree hs i → IsSome (place hs i)
+  free-some hs i f = subst (λ (o : Option (HeldValue Chip Pins)). IsSome o) (sym f.there) refl
+
+  pub keeps-free : (hs hs2 : Places Chip Pins) → Keeps hs hs2 → (i : ℕ) → IsFree hs i → IsFree hs2 i
+  keeps-free hs hs2 keep i f = free-at hs2 i keep.free (keeps-some hs hs2 keep i (free-some hs i f))
+
+  -- what is taken out is one place alone
+
+  pub taken-free : (hs one : Places Chip Pins) (w : ℕ) → AllFree hs → place one w ≡ place hs w → ((i : ℕ) → i ≢ w → place one i ≡ None) → AllFree one
+  taken-free hs one w free taken alone i h there = go (same_or i w)
+    where
+      go : (i ≡ w) ⊎ (i ≢ w) → h.due ≡ Nothing
+      go (inl same) = free w h (sym taken ∙ ap (place one) (sym same) ∙ there)
+      go (inr ne) = absurd (none-some h (sym (alone i ne) ∙ there))
+
+  pub taken-held : (hs one : Places Chip Pins) (w : ℕ) → AllFree hs → IsSome (place hs w) → place one w ≡ place hs w → ((i : ℕ) → i ≢ w → place one i ≡ None) → IsFree one w
+  taken-held hs one w free some taken alone = free-at one w (taken-free hs one w free taken alone) (subst (λ (o : Option (HeldValue Chip Pins)). IsSome o) (sym taken) some)
+
+  -- the rest, with a place written
+  pub set-free : (hs hs2 : Places Chip Pins) (w : ℕ) (o : Option (HeldValue Chip Pins)) → AllFree hs → IfSome o (λ h. h.due ≡ Nothing) → hs2 ≡ slice_set hs w o → AllFree hs2
+  set-free hs hs2 w o free ok is i h there = go (same_or i w) (lt_or w (length hs))
+    where
+      found : place (slice_set hs w o) i ≡ Some h
+      found = ap (λ xs. place xs i) (sym is) ∙ there
+
+      go : (i ≡ w) ⊎ (i ≢ w) → (w < length hs) ⊎ (length hs ≤ w) → h.due ≡ Nothing
+      go (inl same) (inl less) = subst (λ (x : Option (HeldValue Chip Pins)). IfSome x (λ k. k.due ≡ Nothing)) (sym (get_or-set_same hs w o None less) ∙ ap (place (slice_set hs w o)) (sym same) ∙ found) ok
+      go (inl same) (inr past) = free i h (ap (λ xs. place xs i) (sym (set_past hs w o past)) ∙ found)
+      go (inr ne) q = free i h (sym (get_or-set_other hs w i o None ne) ∙ found)
+
+  pub rest-some : (hs hs2 : Places Chip Pins) (w : ℕ) (o : Option (HeldValue Chip Pins)) → hs2 ≡ slice_set hs w o → (i : ℕ) → i ≢ w → IsSome (place hs i) → IsSome (place hs2 i)
+  rest-some hs hs2 w o is i ne some = subst (λ (x : Option (HeldValue Chip Pins)). IsSome x) (sym (get_or-set_other hs w i o None ne) ∙ ap (λ xs. place xs i) (sym is)) some
+
+  -- taken out, the rest kept, and put back
+  pub put-keeps : (hs hs1 hs2 hs3 one : Places Chip Pins) (w : ℕ) → IsSome (place hs w) → hs1 ≡ slice_set hs w None → Keeps hs1 hs2 → IsFree one w → hs3 ≡ slice_set hs2 w (place one w) → Keeps hs hs3
+  put-keeps hs hs1 hs2 hs3 one w some left keep f back =
+      let put : hs3 ≡ slice_set hs2 w (Some f.held) = back ∙ ap (slice_set hs2 w) f.there in
+      record {
+        same = ap occupied put ∙ map-set is_there hs2 w (Some f.held) ∙ ap (λ bs. slice_set bs w true) (keep.same ∙ ap occupied left ∙ map-set is_there hs w None)
+            ∙ set-set (occupied hs) w false true ∙ sym (map-set is_there hs w (Some f.held)) ∙ map-set_same is_there hs w (Some f.held) None (sym (some-there (place hs w) some));
+        free = set-free hs2 hs3 w (Some f.held) keep.free f.free put;
+      }
+
+module _ {Chip Shared Pins : Type 0} (rules : Rules Chip Shared Pins) where
+  pub round-keeps-moved : (k : ℕ) (hs hs2 : Places Chip Pins) → Made k (bares hs) (bares hs2) → AllFree hs2 → Keeps hs hs2
+  round-keeps-moved k hs hs2 m free = record { same = sym (occupied-bares hs2) ∙ occupied-made k (bares hs) (bares hs2) m ∙ occupied-bares hs; free = free }
+
+  pub round-keeps-ended : (hs hs2 : Places Chip Pins) → bares hs2 ≡ bares hs → AllFree hs2 → Keeps hs hs2
+  round-keeps-ended hs hs2 same free = record { same = sym (occupied-bares hs2) ∙ ap occupied same ∙ occupied-bares hs; free = free }
+
+  -- the held chips once the one that moved has done its private work
+  moved-settled : (k : ℕ) (hs1 hs2 hs3 : Places Chip Pins) (m : Made k hs1 hs2) → hs3 ≡ slice_set hs2 k (option_map (settled_held rules) (place hs2 k)) → hs3 ≡ slice_set hs1 k (Some (settled_held rules m.after))
+  moved-settled k hs1 hs2 hs3 m e =
+      let at : place hs2 k ≡ Some m.after = ap (λ xs. place xs k) m.now ∙ get_or-set_same hs1 k (Some m.after) None (place-in hs1 k m.before m.there) in
+      e ∙ ap (λ (o : Option (HeldValue Chip Pins)). slice_set hs2 k (option_map (settled_held rules) o)) at
+      ∙ ap (λ xs. slice_set xs k (Some (settled_held rules m.after))) m.now ∙ set-set hs1 k (Some m.after) (Some (settled_held rules m.after))
+
+  pub round-made : (k : ℕ) (hs0 hs1 hs2 hs3 : Places Chip Pins) → bares hs1 ≡ bares hs0 → Made k hs1 hs2 → hs3 ≡ slice_set hs2 k (option_map (settled_held rules) (place hs2 k)) → Made k (bares hs0) (bares hs3)
+  round-made k hs0 hs1 hs2 hs3 same m e = record {
+    before = bare m.before;
+    after = bare (settled_held rules m.after);
+    there = ap (λ xs. place xs k) (sym same) ∙ place-bares hs1 k ∙ ap (option_map bare) m.there;
+    more = m.more;
+    now = ap bares (moved-settled k hs1 hs2 hs3 m e) ∙ map-set (option_map bare) hs1 k (Some (settled_held rules m.after)) ∙ ap (λ xs. slice_set xs k (Some (bare (settled_held rules m.after)))) same;
+  }
+
+  pub round-free : (k : ℕ) (hs1 hs2 hs3 : Places Chip Pins) → AllFree hs1 → Made k hs1 hs2 → hs3 ≡ slice_set hs2 k (option_map (settled_held rules) (place hs2 k)) → AllFree hs3
+  round-free k hs1 hs2 hs3 free m e i h there = go (same_or i k)
+    where
+      go : (i ≡ k) ⊎ (i ≢ k) → h.due ≡ Nothing
+      go (inl same) =
+          sym (ap (λ (x : HeldValue Chip Pins). x.due) (same_Some (settled_held rules m.after) h
+          (sym (get_or-set_same hs1 k (Some (settled_held rules m.after)) None (place-in hs1 k m.before m.there))
+          ∙ ap (λ xs. place xs k) (sym (moved-settled k hs1 hs2 hs3 m e)) ∙ ap (place hs3) (sym same) ∙ there)))
+      go (inr ne) = free i h (sym (get_or-set_other hs1 k i (Some (settled_held rules m.after)) None ne) ∙ ap (λ xs. place xs i) (sym (moved-settled k hs1 hs2 hs3 m e)) ∙ there)
+
+  pub at-ended : (t : ℕ) (hs0 hs : Places Chip Pins) → hs0 ≡ hs → (i : ℕ) → IsEndedAt rules t hs i → IsEndedAt rules t hs0 i
+  at-ended t hs0 hs e i late = subst (λ xs. IsEndedAt rules t xs i) (sym e) late
+
+  -- all are finished where those below the count of the places are
+  pub ended-all : (t n : ℕ) (hs : Places Chip Pins) → length hs ≤ n → ((i : ℕ) → i < n → IsEndedAt rules t hs i) → IsEnded rules t hs
+  ended-all t n hs len each i = go (lt_or i n)
+    where
+      go : (i < n) ⊎ (n ≤ i) → IsEndedAt rules t hs i
+      go (inl less) = each i less
+      go (inr past) = subst (λ (o : Option (HeldValue Chip Pins)). IfSome o (λ h. t ≤ (rules.next h.chip).key.cycle)) (sym (get_or_past hs i None (omega arith))) tt
+
+  one-more : (i : ℕ) (p : PartsValue Shared) (h : HeldValue Chip Pins) (q : PartsValue Shared) (k : HeldValue Chip Pins) → Moves rules i p h q k → k.amount ≡ h.amount + 1
+  one-more i p h q k m =
+      by_test (rules.next h.chip).sample
+      (λ e. ap (λ (x : HeldValue Chip Pins). x.amount) ((m.sample e).1))
+      (λ e. ap (λ (x : HeldValue Chip Pins). x.amount) ((m.access e).1))
+
+  seen-by : (t i : ℕ) (l : LockedValue Shared) (hs : Places Chip Pins) (answer : Turn) (l2 : LockedValue Shared) (hs2 : Places Chip Pins) → l.parts.end ≡ t
+      → (before after : HeldValue Chip Pins) → place hs i ≡ Some before → IsTurn rules i l.parts before answer l2.parts after → hs2 ≡ slice_set hs i (Some after) → IsSeenTurn rules t i hs answer hs2
+  seen-by t i l hs Moved l2 hs2 end before after there is now = record { before = before; after = after; there = there; more = one-more i l.parts before l2.parts after is; now = now }
+  seen-by t i l hs (Blocked other bound) l2 hs2 end before after there is now = now ∙ stays hs i before after there is.1.held
+  seen-by t i l hs Finished l2 hs2 end before after there is now = (
+    now ∙ stays hs i before after there is.1.held,
+    subst (λ (o : Option (HeldValue Chip Pins)). IfSome o (λ h. t ≤ (rules.next h.chip).key.cycle)) (sym there) (let late = is.0 in omega (arith, end)),
+  )
+
+  pub seen-turn : (t i : ℕ) (l : LockedValue Shared) (hs : Places Chip Pins) (answer : Turn) (l2 : LockedValue Shared) (hs2 : Places Chip Pins) → l.parts.end ≡ t
+      → IsSection rules i l hs answer l2 hs2 → IsSeenTurn rules t i hs answer hs2
+  seen-turn t i l hs answer l2 hs2 end is = seen-by t i l hs answer l2 hs2 end is.before is.after is.there is.turn is.helds

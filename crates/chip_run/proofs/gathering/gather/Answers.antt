@@ -1,0 +1,82 @@
+use Rattle.std.proofs.Common.{sym, subst, arith, [], ◌∷◌, vec_capacity}
+use Rattle.chip_core.specs.Chips.{Lawful}
+use Rattle.chip_run.specs.Locked.{IsLocked}
+use Rattle.chip_run.specs.Parts.{PartsValue}
+use Rattle.chip_run.proofs.Gathers.{gathered-first, gathered-room, gathered-run, gathered-shape}
+use Rattle.chip_run.proofs.Rounds.{at-ended, at-free, at-some}
+use Rattle.chip_run.proofs.gathering.gather.Given.{Over}
+use Rattle.chip_run.proofs.gathering.gather.Goals as goal
+
+lawful : (g : Over) → Lawful g.C.ChipSet.rules g.C.ChipSet.chip_ok g.C.ChipSet.shared_ok
+lawful g = (g.met.C.ChipSet g.world.𝓛 g.world.𝓜 g.world.𝓡 ((λ s x. x), (λ x. x), (λ x. x), (λ x. x))).lawful
+
+pub put_chip-requires-clause-free : goal.put_chip-requires-clause-free
+put_chip-requires-clause-free g c κs within = at-free (c.helds.inside.place0 ∷ c.helds.inside.place1 ∷ c.helds.inside.place2 ∷ c.helds.inside.place3 ∷ c.helds.inside.place4 ∷ []) c.args.helds c.helds.view_is c.requires.free 0
+
+pub put_chip-requires-clause-ended : goal.put_chip-requires-clause-ended
+put_chip-requires-clause-ended g c κs within = at-ended g.C.ChipSet.rules g.N.Named.end (c.helds.inside.place0 ∷ c.helds.inside.place1 ∷ c.helds.inside.place2 ∷ c.helds.inside.place3 ∷ c.helds.inside.place4 ∷ []) c.args.helds c.helds.view_is 0 (c.requires.ended 0)
+
+pub put_chip-requires-clause-there : goal.put_chip-requires-clause-there
+put_chip-requires-clause-there g c κs within = λ low. at-some (c.helds.inside.place0 ∷ c.helds.inside.place1 ∷ c.helds.inside.place2 ∷ c.helds.inside.place3 ∷ c.helds.inside.place4 ∷ []) c.args.helds c.helds.view_is 0 (c.requires.held 0 low)
+
+pub put_chip-requires-2-clause-free : goal.put_chip-requires-2-clause-free
+put_chip-requires-2-clause-free g c κs within = at-free (c.helds.inside.place0 ∷ c.helds.inside.place1 ∷ c.helds.inside.place2 ∷ c.helds.inside.place3 ∷ c.helds.inside.place4 ∷ []) c.args.helds c.helds.view_is c.requires.free 1
+
+pub put_chip-requires-2-clause-ended : goal.put_chip-requires-2-clause-ended
+put_chip-requires-2-clause-ended g c κs within = at-ended g.C.ChipSet.rules g.N.Named.end (c.helds.inside.place0 ∷ c.helds.inside.place1 ∷ c.helds.inside.place2 ∷ c.helds.inside.place3 ∷ c.helds.inside.place4 ∷ []) c.args.helds c.helds.view_is 1 (c.requires.ended 1)
+
+pub put_chip-requires-2-clause-there : goal.put_chip-requires-2-clause-there
+put_chip-requires-2-clause-there g c κs within = λ low. at-some (c.helds.inside.place0 ∷ c.helds.inside.place1 ∷ c.helds.inside.place2 ∷ c.helds.inside.place3 ∷ c.helds.inside.place4 ∷ []) c.args.helds c.helds.view_is 1 (c.requires.held 1 low)
+
+pub put_chip-requires-2-clause-room : goal.put_chip-requires-2-clause-room
+put_chip-requires-2-clause-room g c κs within = λ low.
+    gathered-room g.C.ChipSet.rules g.C.ChipSet.chip_ok g.C.ChipSet.shared_ok (lawful g) c.parts.invariant.0.machine g.N.Named.end 1 (vec_capacity c.put_chip.new.chips) c.put_chip.new.chips.items (c.put_chip.ensures.gathered c.parts.invariant.0.machine (λ h. c.parts.invariant.0.stands.path 0 h) (gathered-first g.C.ChipSet.rules g.C.ChipSet.chip_ok g.C.ChipSet.shared_ok (lawful g) c.parts.invariant.0.machine g.N.Named.end c.parts.inside.emptied.items c.parts.invariant.1))
+    (let enough = c.parts.invariant.2 in let e1 = c.put_chip.ensures.capacity in omega arith) low
+
+pub put_chip-requires-3-clause-free : goal.put_chip-requires-3-clause-free
+put_chip-requires-3-clause-free g c κs within = at-free (c.helds.inside.place0 ∷ c.helds.inside.place1 ∷ c.helds.inside.place2 ∷ c.helds.inside.place3 ∷ c.helds.inside.place4 ∷ []) c.args.helds c.helds.view_is c.requires.free 2
+
+pub put_chip-requires-3-clause-ended : goal.put_chip-requires-3-clause-ended
+put_chip-requires-3-clause-ended g c κs within = at-ended g.C.ChipSet.rules g.N.Named.end (c.helds.inside.place0 ∷ c.helds.inside.place1 ∷ c.helds.inside.place2 ∷ c.helds.inside.place3 ∷ c.helds.inside.place4 ∷ []) c.args.helds c.helds.view_is 2 (c.requires.ended 2)
+
+pub put_chip-requires-3-clause-there : goal.put_chip-requires-3-clause-there
+put_chip-requires-3-clause-there g c κs within = λ low. at-some (c.helds.inside.place0 ∷ c.helds.inside.place1 ∷ c.helds.inside.place2 ∷ c.helds.inside.place3 ∷ c.helds.inside.place4 ∷ []) c.args.helds c.helds.view_is 2 (c.requires.held 2 low)
+
+pub put_chip-requires-3-clause-room : goal.put_chip-requires-3-clause-room
+put_chip-requires-3-clause-room g c κs within = λ low.
+    gathered-room g.C.ChipSet.rules g.C.ChipSet.chip_ok g.C.ChipSet.shared_ok (lawful g) c.parts.invariant.0.machine g.N.Named.end 2 (vec_capacity c.put_chip-2.new.chips) c.put_chip-2.new.chips.items (c.put_chip-2.ensures.gathered c.parts.invariant.0.machine (λ h. c.parts.invariant.0.stands.path 1 h) (c.put_chip.ensures.gathered c.parts.invariant.0.machine (λ h. c.parts.invariant.0.stands.path 0 h) (gathered-first g.C.ChipSet.rules g.C.ChipSet.chip_ok g.C.ChipSet.shared_ok (lawful g) c.parts.invariant.0.machine g.N.Named.end c.parts.inside.emptied.items c.parts.invariant.1)))
+    (let enough = c.parts.invariant.2 in let e1 = c.put_chip.ensures.capacity in let e2 = c.put_chip-2.ensures.capacity in omega arith) low
+
+pub put_chip-requires-4-clause-free : goal.put_chip-requires-4-clause-free
+put_chip-requires-4-clause-free g c κs within = at-free (c.helds.inside.place0 ∷ c.helds.inside.place1 ∷ c.helds.inside.place2 ∷ c.helds.inside.place3 ∷ c.helds.inside.place4 ∷ []) c.args.helds c.helds.view_is c.requires.free 3
+
+pub put_chip-requires-4-clause-ended : goal.put_chip-requires-4-clause-ended
+put_chip-requires-4-clause-ended g c κs within = at-ended g.C.ChipSet.rules g.N.Named.end (c.helds.inside.place0 ∷ c.helds.inside.place1 ∷ c.helds.inside.place2 ∷ c.helds.inside.place3 ∷ c.helds.inside.place4 ∷ []) c.args.helds c.helds.view_is 3 (c.requires.ended 3)
+
+pub put_chip-requires-4-clause-there : goal.put_chip-requires-4-clause-there
+put_chip-requires-4-clause-there g c κs within = λ low. at-some (c.helds.inside.place0 ∷ c.helds.inside.place1 ∷ c.helds.inside.place2 ∷ c.helds.inside.place3 ∷ c.helds.inside.place4 ∷ []) c.args.helds c.helds.view_is 3 (c.requires.held 3 low)
+
+pub put_chip-requires-4-clause-room : goal.put_chip-requires-4-clause-room
+put_chip-requires-4-clause-room g c κs within = λ low.
+    gathered-room g.C.ChipSet.rules g.C.ChipSet.chip_ok g.C.ChipSet.shared_ok (lawful g) c.parts.invariant.0.machine g.N.Named.end 3 (vec_capacity c.put_chip-3.new.chips) c.put_chip-3.new.chips.items (c.put_chip-3.ensures.gathered c.parts.invariant.0.machine (λ h. c.parts.invariant.0.stands.path 2 h) (c.put_chip-2.ensures.gathered c.parts.invariant.0.machine (λ h. c.parts.invariant.0.stands.path 1 h) (c.put_chip.ensures.gathered c.parts.invariant.0.machine (λ h. c.parts.invariant.0.stands.path 0 h) (gathered-first g.C.ChipSet.rules g.C.ChipSet.chip_ok g.C.ChipSet.shared_ok (lawful g) c.parts.invariant.0.machine g.N.Named.end c.parts.inside.emptied.items c.parts.invariant.1))))
+    (let enough = c.parts.invariant.2 in let e1 = c.put_chip.ensures.capacity in let e2 = c.put_chip-2.ensures.capacity in let e3 = c.put_chip-3.ensures.capacity in omega arith) low
+
+pub put_chip-requires-5-clause-free : goal.put_chip-requires-5-clause-free
+put_chip-requires-5-clause-free g c κs within = at-free (c.helds.inside.place0 ∷ c.helds.inside.place1 ∷ c.helds.inside.place2 ∷ c.helds.inside.place3 ∷ c.helds.inside.place4 ∷ []) c.args.helds c.helds.view_is c.requires.free 4
+
+pub put_chip-requires-5-clause-ended : goal.put_chip-requires-5-clause-ended
+put_chip-requires-5-clause-ended g c κs within = at-ended g.C.ChipSet.rules g.N.Named.end (c.helds.inside.place0 ∷ c.helds.inside.place1 ∷ c.helds.inside.place2 ∷ c.helds.inside.place3 ∷ c.helds.inside.place4 ∷ []) c.args.helds c.helds.view_is 4 (c.requires.ended 4)
+
+pub put_chip-requires-5-clause-there : goal.put_chip-requires-5-clause-there
+put_chip-requires-5-clause-there g c κs within = λ low. at-some (c.helds.inside.place0 ∷ c.helds.inside.place1 ∷ c.helds.inside.place2 ∷ c.helds.inside.place3 ∷ c.helds.inside.place4 ∷ []) c.args.helds c.helds.view_is 4 (c.requires.held 4 low)
+
+pub put_chip-requires-5-clause-room : goal.put_chip-requires-5-clause-room
+put_chip-requires-5-clause-room g c κs within = λ low.
+    gathered-room g.C.ChipSet.rules g.C.ChipSet.chip_ok g.C.ChipSet.shared_ok (lawful g) c.parts.invariant.0.machine g.N.Named.end 4 (vec_capacity c.put_chip-4.new.chips) c.put_chip-4.new.chips.items (c.put_chip-4.ensures.gathered c.parts.invariant.0.machine (λ h. c.parts.invariant.0.stands.path 3 h) (c.put_chip-3.ensures.gathered c.parts.invariant.0.machine (λ h. c.parts.invariant.0.stands.path 2 h) (c.put_chip-2.ensures.gathered c.parts.invariant.0.machine (λ h. c.parts.invariant.0.stands.path 1 h) (c.put_chip.ensures.gathered c.parts.invariant.0.machine (λ h. c.parts.invariant.0.stands.path 0 h) (gathered-first g.C.ChipSet.rules g.C.ChipSet.chip_ok g.C.ChipSet.shared_ok (lawful g) c.parts.invariant.0.machine g.N.Named.end c.parts.inside.emptied.items c.parts.invariant.1)))))
+    (let enough = c.parts.invariant.2 in let e1 = c.put_chip.ensures.capacity in let e2 = c.put_chip-2.ensures.capacity in let e3 = c.put_chip-3.ensures.capacity in let e4 = c.put_chip-4.ensures.capacity in omega arith) low
+
+pub make-requires-after_bounds : goal.make-requires-after_bounds
+make-requires-after_bounds g c κs within = gathered-shape g.C.ChipSet.rules g.C.ChipSet.chip_ok g.C.ChipSet.shared_ok (lawful g) (g.C.ChipSet.core_of g.N.Named.base) g.N.Named.end (record { end = c.parts-2.inside.end; shared = c.parts-2.inside.shared; bounds = c.parts-2.inside.bounds.items; journal = c.parts-2.inside.journal.items; room = vec_capacity c.parts-2.inside.journal }) (c.parts.inside.book0.total ∷ c.parts.inside.book1.total ∷ c.parts.inside.book2.total ∷ c.parts.inside.book3.total ∷ c.parts.inside.book4.total ∷ []) (subst (λ (p : PartsValue g.row.C-Shared.Denot). IsLocked g.C.ChipSet.rules g.C.ChipSet.chip_ok g.C.ChipSet.shared_ok (g.C.ChipSet.core_of g.N.Named.base) g.N.Named.end p (c.parts.inside.book0.total ∷ c.parts.inside.book1.total ∷ c.parts.inside.book2.total ∷ c.parts.inside.book3.total ∷ c.parts.inside.book4.total ∷ [])) (sym c.parts-2.view_is) c.parts.invariant.0) c.put_chip-5.new.chips.items (c.put_chip-5.ensures.gathered (subst (λ (p : PartsValue g.row.C-Shared.Denot). IsLocked g.C.ChipSet.rules g.C.ChipSet.chip_ok g.C.ChipSet.shared_ok (g.C.ChipSet.core_of g.N.Named.base) g.N.Named.end p (c.parts.inside.book0.total ∷ c.parts.inside.book1.total ∷ c.parts.inside.book2.total ∷ c.parts.inside.book3.total ∷ c.parts.inside.book4.total ∷ [])) (sym c.parts-2.view_is) c.parts.invariant.0).machine (λ h. (subst (λ (p : PartsValue g.row.C-Shared.Denot). IsLocked g.C.ChipSet.rules g.C.ChipSet.chip_ok g.C.ChipSet.shared_ok (g.C.ChipSet.core_of g.N.Named.base) g.N.Named.end p (c.parts.inside.book0.total ∷ c.parts.inside.book1.total ∷ c.parts.inside.book2.total ∷ c.parts.inside.book3.total ∷ c.parts.inside.book4.total ∷ [])) (sym c.parts-2.view_is) c.parts.invariant.0).stands.path 4 h) (c.put_chip-4.ensures.gathered (subst (λ (p : PartsValue g.row.C-Shared.Denot). IsLocked g.C.ChipSet.rules g.C.ChipSet.chip_ok g.C.ChipSet.shared_ok (g.C.ChipSet.core_of g.N.Named.base) g.N.Named.end p (c.parts.inside.book0.total ∷ c.parts.inside.book1.total ∷ c.parts.inside.book2.total ∷ c.parts.inside.book3.total ∷ c.parts.inside.book4.total ∷ [])) (sym c.parts-2.view_is) c.parts.invariant.0).machine (λ h. (subst (λ (p : PartsValue g.row.C-Shared.Denot). IsLocked g.C.ChipSet.rules g.C.ChipSet.chip_ok g.C.ChipSet.shared_ok (g.C.ChipSet.core_of g.N.Named.base) g.N.Named.end p (c.parts.inside.book0.total ∷ c.parts.inside.book1.total ∷ c.parts.inside.book2.total ∷ c.parts.inside.book3.total ∷ c.parts.inside.book4.total ∷ [])) (sym c.parts-2.view_is) c.parts.invariant.0).stands.path 3 h) (c.put_chip-3.ensures.gathered (subst (λ (p : PartsValue g.row.C-Shared.Denot). IsLocked g.C.ChipSet.rules g.C.ChipSet.chip_ok g.C.ChipSet.shared_ok (g.C.ChipSet.core_of g.N.Named.base) g.N.Named.end p (c.parts.inside.book0.total ∷ c.parts.inside.book1.total ∷ c.parts.inside.book2.total ∷ c.parts.inside.book3.total ∷ c.parts.inside.book4.total ∷ [])) (sym c.parts-2.view_is) c.parts.invariant.0).machine (λ h. (subst (λ (p : PartsValue g.row.C-Shared.Denot). IsLocked g.C.ChipSet.rules g.C.ChipSet.chip_ok g.C.ChipSet.shared_ok (g.C.ChipSet.core_of g.N.Named.base) g.N.Named.end p (c.parts.inside.book0.total ∷ c.parts.inside.book1.total ∷ c.parts.inside.book2.total ∷ c.parts.inside.book3.total ∷ c.parts.inside.book4.total ∷ [])) (sym c.parts-2.view_is) c.parts.invariant.0).stands.path 2 h) (c.put_chip-2.ensures.gathered (subst (λ (p : PartsValue g.row.C-Shared.Denot). IsLocked g.C.ChipSet.rules g.C.ChipSet.chip_ok g.C.ChipSet.shared_ok (g.C.ChipSet.core_of g.N.Named.base) g.N.Named.end p (c.parts.inside.book0.total ∷ c.parts.inside.book1.total ∷ c.parts.inside.book2.total ∷ c.parts.inside.book3.total ∷ c.parts.inside.book4.total ∷ [])) (sym c.parts-2.view_is) c.parts.invariant.0).machine (λ h. (subst (λ (p : PartsValue g.row.C-Shared.Denot). IsLocked g.C.ChipSet.rules g.C.ChipSet.chip_ok g.C.ChipSet.shared_ok (g.C.ChipSet.core_of g.N.Named.base) g.N.Named.end p (c.parts.inside.book0.total ∷ c.parts.inside.book1.total ∷ c.parts.inside.book2.total ∷ c.parts.inside.book3.total ∷ c.parts.inside.book4.total ∷ [])) (sym c.parts-2.view_is) c.parts.invariant.0).stands.path 1 h) (c.put_chip.ensures.gathered (subst (λ (p : PartsValue g.row.C-Shared.Denot). IsLocked g.C.ChipSet.rules g.C.ChipSet.chip_ok g.C.ChipSet.shared_ok (g.C.ChipSet.core_of g.N.Named.base) g.N.Named.end p (c.parts.inside.book0.total ∷ c.parts.inside.book1.total ∷ c.parts.inside.book2.total ∷ c.parts.inside.book3.total ∷ c.parts.inside.book4.total ∷ [])) (sym c.parts-2.view_is) c.parts.invariant.0).machine (λ h. (subst (λ (p : PartsValue g.row.C-Shared.Denot). IsLocked g.C.ChipSet.rules g.C.ChipSet.chip_ok g.C.ChipSet.shared_ok (g.C.ChipSet.core_of g.N.Named.base) g.N.Named.end p (c.parts.inside.book0.total ∷ c.parts.inside.book1.total ∷ c.parts.inside.book2.total ∷ c.parts.inside.book3.total ∷ c.parts.inside.book4.total ∷ [])) (sym c.parts-2.view_is) c.parts.invariant.0).stands.path 0 h) (gathered-first g.C.ChipSet.rules g.C.ChipSet.chip_ok g.C.ChipSet.shared_ok (lawful g) (subst (λ (p : PartsValue g.row.C-Shared.Denot). IsLocked g.C.ChipSet.rules g.C.ChipSet.chip_ok g.C.ChipSet.shared_ok (g.C.ChipSet.core_of g.N.Named.base) g.N.Named.end p (c.parts.inside.book0.total ∷ c.parts.inside.book1.total ∷ c.parts.inside.book2.total ∷ c.parts.inside.book3.total ∷ c.parts.inside.book4.total ∷ [])) (sym c.parts-2.view_is) c.parts.invariant.0).machine g.N.Named.end c.parts.inside.emptied.items c.parts.invariant.1))))))
+
+pub returns : goal.returns
+returns g c = gathered-run g.C.ChipSet.rules g.C.ChipSet.chip_ok g.C.ChipSet.shared_ok (lawful g) (g.C.ChipSet.core_of g.N.Named.base) g.N.Named.end (record { end = c.parts-2.inside.end; shared = c.parts-2.inside.shared; bounds = c.parts-2.inside.bounds.items; journal = c.parts-2.inside.journal.items; room = vec_capacity c.parts-2.inside.journal }) (c.parts.inside.book0.total ∷ c.parts.inside.book1.total ∷ c.parts.inside.book2.total ∷ c.parts.inside.book3.total ∷ c.parts.inside.book4.total ∷ []) (subst (λ (p : PartsValue g.row.C-Shared.Denot). IsLocked g.C.ChipSet.rules g.C.ChipSet.chip_ok g.C.ChipSet.shared_ok (g.C.ChipSet.core_of g.N.Named.base) g.N.Named.end p (c.parts.inside.book0.total ∷ c.parts.inside.book1.total ∷ c.parts.inside.book2.total ∷ c.parts.inside.book3.total ∷ c.parts.inside.book4.total ∷ [])) (sym c.parts-2.view_is) c.parts.invariant.0) c.put_chip-5.new.chips.items (c.put_chip-5.ensures.gathered (subst (λ (p : PartsValue g.row.C-Shared.Denot). IsLocked g.C.ChipSet.rules g.C.ChipSet.chip_ok g.C.ChipSet.shared_ok (g.C.ChipSet.core_of g.N.Named.base) g.N.Named.end p (c.parts.inside.book0.total ∷ c.parts.inside.book1.total ∷ c.parts.inside.book2.total ∷ c.parts.inside.book3.total ∷ c.parts.inside.book4.total ∷ [])) (sym c.parts-2.view_is) c.parts.invariant.0).machine (λ h. (subst (λ (p : PartsValue g.row.C-Shared.Denot). IsLocked g.C.ChipSet.rules g.C.ChipSet.chip_ok g.C.ChipSet.shared_ok (g.C.ChipSet.core_of g.N.Named.base) g.N.Named.end p (c.parts.inside.book0.total ∷ c.parts.inside.book1.total ∷ c.parts.inside.book2.total ∷ c.parts.inside.book3.total ∷ c.parts.inside.book4.total ∷ [])) (sym c.parts-2.view_is) c.parts.invariant.0).stands.path 4 h) (c.put_chip-4.ensures.gathered (subst (λ (p : PartsValue g.row.C-Shared.Denot). IsLocked g.C.ChipSet.rules g.C.ChipSet.chip_ok g.C.ChipSet.shared_ok (g.C.ChipSet.core_of g.N.Named.base) g.N.Named.end p (c.parts.inside.book0.total ∷ c.parts.inside.book1.total ∷ c.parts.inside.book2.total ∷ c.parts.inside.book3.total ∷ c.parts.inside.book4.total ∷ [])) (sym c.parts-2.view_is) c.parts.invariant.0).machine (λ h. (subst (λ (p : PartsValue g.row.C-Shared.Denot). IsLocked g.C.ChipSet.rules g.C.ChipSet.chip_ok g.C.ChipSet.shared_ok (g.C.ChipSet.core_of g.N.Named.base) g.N.Named.end p (c.parts.inside.book0.total ∷ c.parts.inside.book1.total ∷ c.parts.inside.book2.total ∷ c.parts.inside.book3.total ∷ c.parts.inside.book4.total ∷ [])) (sym c.parts-2.view_is) c.parts.invariant.0).stands.path 3 h) (c.put_chip-3.ensures.gathered (subst (λ (p : PartsValue g.row.C-Shared.Denot). IsLocked g.C.ChipSet.rules g.C.ChipSet.chip_ok g.C.ChipSet.shared_ok (g.C.ChipSet.core_of g.N.Named.base) g.N.Named.end p (c.parts.inside.book0.total ∷ c.parts.inside.book1.total ∷ c.parts.inside.book2.total ∷ c.parts.inside.book3.total ∷ c.parts.inside.book4.total ∷ [])) (sym c.parts-2.view_is) c.parts.invariant.0).machine (λ h. (subst (λ (p : PartsValue g.row.C-Shared.Denot). IsLocked g.C.ChipSet.rules g.C.ChipSet.chip_ok g.C.ChipSet.shared_ok (g.C.ChipSet.core_of g.N.Named.base) g.N.Named.end p (c.parts.inside.book0.total ∷ c.parts.inside.book1.total ∷ c.parts.inside.book2.total ∷ c.parts.inside.book3.total ∷ c.parts.inside.book4.total ∷ [])) (sym c.parts-2.view_is) c.parts.invariant.0).stands.path 2 h) (c.put_chip-2.ensures.gathered (subst (λ (p : PartsValue g.row.C-Shared.Denot). IsLocked g.C.ChipSet.rules g.C.ChipSet.chip_ok g.C.ChipSet.shared_ok (g.C.ChipSet.core_of g.N.Named.base) g.N.Named.end p (c.parts.inside.book0.total ∷ c.parts.inside.book1.total ∷ c.parts.inside.book2.total ∷ c.parts.inside.book3.total ∷ c.parts.inside.book4.total ∷ [])) (sym c.parts-2.view_is) c.parts.invariant.0).machine (λ h. (subst (λ (p : PartsValue g.row.C-Shared.Denot). IsLocked g.C.ChipSet.rules g.C.ChipSet.chip_ok g.C.ChipSet.shared_ok (g.C.ChipSet.core_of g.N.Named.base) g.N.Named.end p (c.parts.inside.book0.total ∷ c.parts.inside.book1.total ∷ c.parts.inside.book2.total ∷ c.parts.inside.book3.total ∷ c.parts.inside.book4.total ∷ [])) (sym c.parts-2.view_is) c.parts.invariant.0).stands.path 1 h) (c.put_chip.ensures.gathered (subst (λ (p : PartsValue g.row.C-Shared.Denot). IsLocked g.C.ChipSet.rules g.C.ChipSet.chip_ok g.C.ChipSet.shared_ok (g.C.ChipSet.core_of g.N.Named.base) g.N.Named.end p (c.parts.inside.book0.total ∷ c.parts.inside.book1.total ∷ c.parts.inside.book2.total ∷ c.parts.inside.book3.total ∷ c.parts.inside.book4.total ∷ [])) (sym c.parts-2.view_is) c.parts.invariant.0).machine (λ h. (subst (λ (p : PartsValue g.row.C-Shared.Denot). IsLocked g.C.ChipSet.rules g.C.ChipSet.chip_ok g.C.ChipSet.shared_ok (g.C.ChipSet.core_of g.N.Named.base) g.N.Named.end p (c.parts.inside.book0.total ∷ c.parts.inside.book1.total ∷ c.parts.inside.book2.total ∷ c.parts.inside.book3.total ∷ c.parts.inside.book4.total ∷ [])) (sym c.parts-2.view_is) c.parts.invariant.0).stands.path 0 h) (gathered-first g.C.ChipSet.rules g.C.ChipSet.chip_ok g.C.ChipSet.shared_ok (lawful g) (subst (λ (p : PartsValue g.row.C-Shared.Denot). IsLocked g.C.ChipSet.rules g.C.ChipSet.chip_ok g.C.ChipSet.shared_ok (g.C.ChipSet.core_of g.N.Named.base) g.N.Named.end p (c.parts.inside.book0.total ∷ c.parts.inside.book1.total ∷ c.parts.inside.book2.total ∷ c.parts.inside.book3.total ∷ c.parts.inside.book4.total ∷ [])) (sym c.parts-2.view_is) c.parts.invariant.0).machine g.N.Named.end c.parts.inside.emptied.items c.parts.invariant.1)))))) c.make.result c.make.ensures

@@ -1,0 +1,10 @@
+pub mod CoreSteps
+pub mod Gathering
+pub mod Held
+pub mod Locked
+pub mod Making
+pub mod Parts
+pub mod Places
+pub mod Rounds
+pub mod Sections
+pub mod Steps

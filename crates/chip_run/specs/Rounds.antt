@@ -1,0 +1,72 @@
+-- What a round does with the chips that a worker holds.
+use Rattle.std.specs.Prelude.{◌≡◌, Bool, true, false, ℕ, ◌+◌, ◌≤◌, Option, Some, None, IfSome, List, map, slice_set}
+use Rattle.std.specs.Option.{option_map}
+use Rattle.chip_core.specs.Chips.{Rules}
+use Rattle.chip_run.specs.Held.{HeldValue, settled}
+use Rattle.chip_run.specs.Places.{AllFree, Places, place}
+use Rattle.chip_run.specs.declared.round.Round.{Round}
+use Rattle.chip_run.specs.declared.round.Round.TheVariants as Rounds
+use Rattle.chip_run.specs.declared.held.Due.TheVariants.{Nothing}
+use Rattle.chip_run.specs.declared.turn.Turn.{Turn}
+use Rattle.chip_run.specs.declared.turn.Turn.TheVariants as Turns
+use Rattle.chip_run.specs.declared.sweep.Swept.{Swept}
+use Rattle.chip_run.specs.declared.sweep.Swept.TheVariants as Sweeps
+
+module _ {Chip Pins : Type 0} where
+  -- a held chip but for the passes made for it
+  abbrev pub bare : HeldValue Chip Pins → HeldValue Chip Pins
+  bare h = record h { passes = 0 }
+
+  abbrev pub bares : Places Chip Pins → Places Chip Pins
+  bares hs = map (option_map bare) hs
+
+  abbrev pub is_there : Option (HeldValue Chip Pins) → Bool
+  is_there None = false
+  is_there (Some h) = true
+
+  -- in which places a chip is held
+  abbrev pub occupied : Places Chip Pins → List Bool
+  occupied hs = map is_there hs
+
+  -- the same chips are held, and of none work is due
+  pub record Keeps (hs hs2 : Places Chip Pins) : Type 0 where
+    pub same : occupied hs2 ≡ occupied hs
+    pub free : AllFree hs2
+
+  -- the chip of this number made one more move, and the others are as they were
+  pub record Made (i : ℕ) (hs hs2 : Places Chip Pins) : Type 0 where
+    pub before : HeldValue Chip Pins
+    pub after : HeldValue Chip Pins
+    pub there : place hs i ≡ Some before
+    pub more : after.amount ≡ before.amount + 1
+    pub now : hs2 ≡ slice_set hs i (Some after)
+
+module _ {Chip Shared Pins : Type 0} (rules : Rules Chip Shared Pins) where
+  -- the held chip once the due work is done
+  abbrev pub settled_held : HeldValue Chip Pins → HeldValue Chip Pins
+  settled_held h = record h { chip = settled rules h.due h.chip; due = Nothing }
+
+  -- the next event of the chip held there, if one is, does not lie below the end
+  abbrev pub IsEndedAt : ℕ → Places Chip Pins → ℕ → Type 0
+  IsEndedAt t hs i = IfSome (place hs i) (λ h. t ≤ (rules.next h.chip).key.cycle)
+
+  -- the same of all held chips
+  abbrev pub IsEnded : ℕ → Places Chip Pins → Type 0
+  IsEnded t hs = (i : ℕ) → IsEndedAt t hs i
+
+  -- what a section leaves of the held chips
+  abbrev pub IsSeenTurn : ℕ → ℕ → Places Chip Pins → Turn → Places Chip Pins → Type 0
+  IsSeenTurn t i hs Turns.Moved hs2 = Made i hs hs2
+  IsSeenTurn t i hs (Turns.Blocked other bound) hs2 = hs2 ≡ hs
+  IsSeenTurn t i hs Turns.Finished hs2 = (hs2 ≡ hs) × IsEndedAt t hs i
+
+  -- what a sweep over them leaves
+  abbrev pub IsSwept : ℕ → Places Chip Pins → Swept → Places Chip Pins → Type 0
+  IsSwept t hs (Sweeps.Moved k) hs2 = Made k hs hs2
+  IsSwept t hs (Sweeps.Blocked other) hs2 = hs2 ≡ hs
+  IsSwept t hs Sweeps.Finished hs2 = (hs2 ≡ hs) × IsEnded t hs
+
+  -- what the rounds up to an answer leave, but for the passes
+  abbrev pub IsRound : ℕ → Places Chip Pins → Round → Places Chip Pins → Type 0
+  IsRound t hs (Rounds.Moved k) hs2 = Made k (bares hs) (bares hs2)
+  IsRound t hs Rounds.Finished hs2 = (bares hs2 ≡ bares hs) × IsEnded t hs2

@@ -1,0 +1,131 @@
+ghost use Rattle.std.specs.Prelude.{◌≡◌};
+ghost use Rattle.chip_run.specs.Places.{AllFree, AreOnPaths};
+ghost use Rattle.chip_run.specs.Rounds.{IsEnded, IsRound, IsSwept, Keeps};
+
+use crate::sweep::{Swept, look};
+use crate::{Helds, Locked, Named, Round};
+use chip_core::ChipSet;
+use md_outer::Gate;
+use std::sync::ledger::Ledger;
+use std::sync::{Condvar, Mutex, Wait};
+
+/// The bus lock of a run: what the chips share behind one lock, and where workers wait for it to
+/// change.
+#[derive(Drop)]
+pub struct Bus<C: ChipSet, N: Named, L0: Ledger, L1: Ledger, L2: Ledger, L3: Ledger, L4: Ledger> {
+    lock: Mutex<Locked<C, N, L0, L1, L2, L3, L4>>,
+    moved: Condvar,
+    end: u64,
+    ghost ends: { end ≡ N.end },
+}
+
+impl<C: ChipSet, N: Named, L0: Ledger, L1: Ledger, L2: Ledger, L3: Ledger, L4: Ledger> Bus<
+    C,
+    N,
+    L0,
+    L1,
+    L2,
+    L3,
+    L4,
+> {
+    /// The bus with this value behind its lock.
+    pub(crate) fn over(locked: Locked<C, N, L0, L1, L2, L3, L4>, end: u64) -> Self
+        requires { end ≡ N.end }
+    {
+        Bus {
+            lock: Mutex::new(locked),
+            moved: Condvar::new(),
+            end,
+        }
+    }
+
+    /// One look at the held chips under one lock. It ends with a wait where none of them can move
+    /// and the least of those that are not finished waits for a chip of another worker.
+    ///
+    /// The bounds are read and the wait begins under the same lock, and each change of a bound is
+    /// told to all who wait: so no change is missed.
+    fn round<R: Wait>(&self, rt: &R, helds: &mut Helds<C, N, L0, L1, L2, L3, L4>) -> Swept
+        requires free { AllFree helds.old }
+        requires whole { (L0.parts ≡ 1) × (L1.parts ≡ 1) × (L2.parts ≡ 1) × (L3.parts ≡ 1) × (L4.parts ≡ 1) }
+        ensures { IsSwept C.rules N.end helds.old result helds.new }
+    {
+        let mut guard = self.lock.lock(rt);
+        let mut changed = false;
+        let swept = look(&mut *guard, helds, &mut changed);
+        if changed {
+            self.moved.notify_all();
+        }
+        if let Swept::Blocked { other } = swept {
+            if !helds.has(other) {
+                let _guard = self.moved.wait(rt, guard);
+            }
+        }
+        swept
+    }
+
+    /// Takes turns until one of the held chips has made its event and its private work, or all are
+    /// finished.
+    ///
+    /// It goes by rounds, each with one look under the lock. Before each it passes the gate for
+    /// each held chip that is not finished.
+    pub fn wait_turn<R: Wait, G: Gate>(
+        &self,
+        rt: &R,
+        helds: &mut Helds<C, N, L0, L1, L2, L3, L4>,
+        gate: &G,
+    ) -> Round
+        requires free { AllFree helds.old }
+        requires whole { (L0.parts ≡ 1) × (L1.parts ≡ 1) × (L2.parts ≡ 1) × (L3.parts ≡ 1) × (L4.parts ≡ 1) }
+        ensures round { IsRound C.rules N.end helds.old result helds.new }
+        ensures free { AllFree helds.new }
+        ensures paths { AreOnPaths C.rules (C.core_of N.base) N.end helds.new }
+    {
+        for _ in rt.forever() {
+            helds.pass_all(self.end, gate);
+            match self.round(rt, helds) {
+                Swept::Moved(chip) => {
+                    helds.settle(chip);
+                    helds.known();
+                    return Round::Moved(chip);
+                }
+                Swept::Blocked { other: _ } => {}
+                Swept::Finished => {
+                    helds.known();
+                    return Round::Finished;
+                }
+            }
+        }
+        unreachable!()
+    }
+
+    /// Takes turns until all held chips are finished.
+    pub(crate) fn serve<R: Wait, G: Gate>(
+        &self,
+        rt: &R,
+        helds: &mut Helds<C, N, L0, L1, L2, L3, L4>,
+        gate: &G,
+    )
+        requires free { AllFree helds.old }
+        requires whole { (L0.parts ≡ 1) × (L1.parts ≡ 1) × (L2.parts ≡ 1) × (L3.parts ≡ 1) × (L4.parts ≡ 1) }
+        ensures keeps { Keeps helds.old helds.new }
+        ensures ended { IsEnded C.rules N.end helds.new }
+    {
+        for _ in rt.forever() {
+            match self.wait_turn(rt, helds, gate) {
+                Round::Moved(_) => {}
+                Round::Finished => return,
+            }
+        }
+        unreachable!()
+    }
+
+    /// What the lock held.
+    pub(crate) fn into_locked(self) -> Locked<C, N, L0, L1, L2, L3, L4> {
+        let Bus {
+            lock,
+            moved: _,
+            end: _,
+        } = self;
+        lock.into_inner()
+    }
+}

@@ -1,0 +1,95 @@
+ghost use Rattle.std.specs.Prelude.{◌≡◌, ℕ, ◌+◌, ◌<◌, ◌≤◌, IfSome, IsSome, Option, vec_capacity, length};
+ghost use Rattle.chip_core.specs.Cores.{machine_of};
+ghost use Rattle.chip_core.specs.Machines.{IsRunTo, Machine, OnPath};
+ghost use Rattle.chip_run.specs.Gathering.{Gathered};
+ghost use Rattle.chip_run.specs.Places.{AllFree, HasNumber, place};
+ghost use Rattle.chip_run.specs.Rounds.{IsEnded, IsEndedAt};
+
+use crate::{Bus, Due, Held, Helds, Locked, Named, Parts};
+use chip_core::{ChipSet, Core};
+use std::sync::ledger::{Book, Ledger};
+
+/// Puts the chip of this number behind those of lower numbers.
+fn put_chip<C: ChipSet, N: Named, L: Ledger>(
+    chips: &mut Vec<C::Chip>,
+    book: &mut Book<L>,
+    held: Option<Held<C, N, L>>,
+    number: u8,
+)
+    requires number { HasNumber number held }
+    requires free { IfSome held (λ h. h.due ≡ Due.Nothing) }
+    requires ended { IfSome held (λ h. N.end ≤ (C.rules.next h.chip).key.cycle) }
+    requires there { number < C.rules.count → IsSome held }
+    requires room { number < C.rules.count → length chips.old.items < vec_capacity chips.old }
+    requires whole { L.parts ≡ 1 }
+    ensures gathered { (m : Machine C.Chip C.Shared)
+        → (number < C.rules.count → OnPath C.rules (machine_of C.rules (C.core_of N.base)) N.end number book.old.total (m.chip number))
+        → Gathered C.rules m N.end number chips.old.items → Gathered C.rules m N.end (number + 1) chips.new.items }
+    ensures capacity { vec_capacity chips.new ≡ vec_capacity chips.old }
+{
+    match held {
+        Some(held) => {
+            let Held {
+                number: _,
+                chip,
+                due: _,
+                share,
+                passes: _,
+                run: _,
+            } = held;
+            let mut share = share;
+            book.audit(&mut share);
+            chips.push_reserved(chip);
+        }
+        None => {}
+    }
+}
+
+/// The core after the run, from all its chips once they are finished: all events below the run's
+/// end and no other have been made, and the journal has their accesses.
+pub fn gather<C: ChipSet, N: Named, L0: Ledger, L1: Ledger, L2: Ledger, L3: Ledger, L4: Ledger>(
+    bus: Bus<C, N, L0, L1, L2, L3, L4>,
+    helds: Helds<C, N, L0, L1, L2, L3, L4>,
+) -> Core<C>
+    requires held { (i : ℕ) → i < C.rules.count → IsSome (place helds i) }
+    requires free { AllFree helds }
+    requires ended { IsEnded C.rules N.end helds }
+    requires whole { (L0.parts ≡ 1) × (L1.parts ≡ 1) × (L2.parts ≡ 1) × (L3.parts ≡ 1) × (L4.parts ≡ 1) }
+    ensures { IsRunTo C.rules (machine_of C.rules (C.core_of N.base)) N.end (machine_of C.rules result) result.journal }
+{
+    let Locked {
+        parts,
+        emptied,
+        book0,
+        book1,
+        book2,
+        book3,
+        book4,
+        run: _,
+    } = bus.into_locked();
+    let Parts {
+        end: _,
+        shared,
+        bounds,
+        journal,
+    } = parts;
+    let Helds {
+        place0,
+        place1,
+        place2,
+        place3,
+        place4,
+    } = helds;
+    let mut chips = emptied;
+    let mut book0 = book0;
+    let mut book1 = book1;
+    let mut book2 = book2;
+    let mut book3 = book3;
+    let mut book4 = book4;
+    put_chip(&mut chips, &mut book0, place0, 0);
+    put_chip(&mut chips, &mut book1, place1, 1);
+    put_chip(&mut chips, &mut book2, place2, 2);
+    put_chip(&mut chips, &mut book3, place3, 3);
+    put_chip(&mut chips, &mut book4, place4, 4);
+    Core::make(shared, chips, bounds, journal)
+}

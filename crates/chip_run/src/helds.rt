@@ -1,0 +1,210 @@
+ghost use Rattle.std.specs.Option.{option_map};
+ghost use Rattle.std.specs.Prelude.{◌≡◌, ◌≢◌, ℕ, ◌↔◌, IsTrue, IsSome, IfSome, List, [], ◌∷◌, Option, None, length, slice_set};
+ghost use Rattle.chip_run.specs.Held.{HeldValue, IsHeld};
+ghost use Rattle.chip_run.specs.Places.{AreOnPaths, HasNumber, place};
+ghost use Rattle.chip_run.specs.Rounds.{bare, bares, settled_held};
+
+use crate::{Held, Named};
+use chip_core::ChipSet;
+use md_outer::Gate;
+use md_word::Key;
+use std::marker::Model;
+use std::mem::swap;
+use std::sync::ledger::Ledger;
+
+/// The chips of one run that one worker holds, at most one per number.
+///
+/// A chip whose work is done stands where as many moves of its own as its share counts lead in the
+/// base's run.
+#[derive(Drop)]
+pub struct Helds<C: ChipSet, N: Named, L0: Ledger, L1: Ledger, L2: Ledger, L3: Ledger, L4: Ledger> {
+    pub(crate) place0: Option<Held<C, N, L0>>,
+    pub(crate) place1: Option<Held<C, N, L1>>,
+    pub(crate) place2: Option<Held<C, N, L2>>,
+    pub(crate) place3: Option<Held<C, N, L3>>,
+    pub(crate) place4: Option<Held<C, N, L4>>,
+}
+
+impl<C: ChipSet, N: Named, L0: Ledger, L1: Ledger, L2: Ledger, L3: Ledger, L4: Ledger> Model
+    for Helds<C, N, L0, L1, L2, L3, L4> {
+    ghost Value = { List (Option (HeldValue C.Chip C.Pins)) };
+
+    ghost view = { λ h. h.place0 ∷ h.place1 ∷ h.place2 ∷ h.place3 ∷ h.place4 ∷ [] };
+
+    ghost invariant = { λ h. HasNumber 0 h.place0 × HasNumber 1 h.place1 × HasNumber 2 h.place2 × HasNumber 3 h.place3 × HasNumber 4 h.place4 };
+}
+
+impl<C: ChipSet, N: Named, L0: Ledger, L1: Ledger, L2: Ledger, L3: Ledger, L4: Ledger> Helds<
+    C,
+    N,
+    L0,
+    L1,
+    L2,
+    L3,
+    L4,
+> {
+    /// No chip.
+    pub(crate) fn none() -> Self
+        ensures { result ≡ None ∷ None ∷ None ∷ None ∷ None ∷ [] }
+    {
+        Helds {
+            place0: None,
+            place1: None,
+            place2: None,
+            place3: None,
+            place4: None,
+        }
+    }
+
+    /// How many places there are.
+    pub(crate) fn places(&self) -> u8
+        ensures value { result ≡ 5 }
+        ensures length { length self.now ≡ result }
+    {
+        let _first = &self.place0;
+        5
+    }
+
+    /// Whether the chip of this number is held.
+    pub fn has(&self, chip: u8) -> bool
+        ensures { IsTrue result ↔ IsSome (place self.now chip) }
+    {
+        match chip {
+            0 => self.place0.is_some(),
+            1 => self.place1.is_some(),
+            2 => self.place2.is_some(),
+            3 => self.place3.is_some(),
+            4 => self.place4.is_some(),
+            _ => false,
+        }
+    }
+
+    /// Swaps the places of this number.
+    fn swap_places(&mut self, other: &mut Self, chip: u8)
+        ensures here { self.new ≡ slice_set self.old chip (place other.old chip) }
+        ensures there { other.new ≡ slice_set other.old chip (place self.old chip) }
+    {
+        match chip {
+            0 => swap(&mut self.place0, &mut other.place0),
+            1 => swap(&mut self.place1, &mut other.place1),
+            2 => swap(&mut self.place2, &mut other.place2),
+            3 => swap(&mut self.place3, &mut other.place3),
+            4 => swap(&mut self.place4, &mut other.place4),
+            _ => {}
+        }
+    }
+
+    /// Takes out the chip of this number, to be held alone.
+    pub(crate) fn take_out(&mut self, chip: u8) -> Self
+        ensures left { self.new ≡ slice_set self.old chip None }
+        ensures taken { place result chip ≡ place self.old chip }
+        ensures alone { (i : ℕ) → i ≢ chip → place result i ≡ None }
+    {
+        let _places = self.places();
+        let mut one = Helds::none();
+        self.swap_places(&mut one, chip);
+        one
+    }
+
+    /// Puts back the chip of this number.
+    pub(crate) fn put_back(&mut self, chip: u8, one: Self)
+        ensures { self.new ≡ slice_set self.old chip (place one chip) }
+    {
+        let mut one = one;
+        self.swap_places(&mut one, chip);
+    }
+
+    /// Tells where the held chips are.
+    pub(crate) fn known(&self)
+        ensures { AreOnPaths C.rules (C.core_of N.base) N.end self.now }
+    {
+        know_place(&self.place0);
+        know_place(&self.place1);
+        know_place(&self.place2);
+        know_place(&self.place3);
+        know_place(&self.place4);
+    }
+
+    /// The key of the next event of the chip of this number, if it is held.
+    pub(crate) fn key(&self, chip: u8) -> Option<Key>
+        ensures { IsSome result ↔ IsSome (place self.now chip) }
+    {
+        match chip {
+            0 => key_of(&self.place0),
+            1 => key_of(&self.place1),
+            2 => key_of(&self.place2),
+            3 => key_of(&self.place3),
+            4 => key_of(&self.place4),
+            _ => None,
+        }
+    }
+
+    /// Does the private work that is due for the chip of this number.
+    pub(crate) fn settle(&mut self, chip: u8)
+        ensures { self.new ≡ slice_set self.old chip (option_map (settled_held C.rules) (place self.old chip)) }
+    {
+        match chip {
+            0 => settle_place(&mut self.place0),
+            1 => settle_place(&mut self.place1),
+            2 => settle_place(&mut self.place2),
+            3 => settle_place(&mut self.place3),
+            4 => settle_place(&mut self.place4),
+            _ => {}
+        }
+    }
+
+    /// Passes the gate for each held chip that is not finished.
+    pub(crate) fn pass_all<G: Gate>(&mut self, end: u64, gate: &G)
+        ensures { bares self.new ≡ bares self.old }
+    {
+        pass_place(&mut self.place0, end, gate);
+        pass_place(&mut self.place1, end, gate);
+        pass_place(&mut self.place2, end, gate);
+        pass_place(&mut self.place3, end, gate);
+        pass_place(&mut self.place4, end, gate);
+    }
+}
+
+fn know_place<C: ChipSet, N: Named, L: Ledger>(held: &Option<Held<C, N, L>>)
+    ensures { IfSome held.now (λ h. IsHeld C.rules C.chip_ok C.shared_ok (C.core_of N.base) N.end h) }
+{
+    match held {
+        Some(held) => {
+            let _number = &held.number;
+        }
+        None => {}
+    }
+}
+
+fn key_of<C: ChipSet, N: Named, L: Ledger>(held: &Option<Held<C, N, L>>) -> Option<Key>
+    ensures { IsSome result ↔ IsSome held.now }
+{
+    match held {
+        Some(held) => Some(C::next(&held.chip).key),
+        None => None,
+    }
+}
+
+fn settle_place<C: ChipSet, N: Named, L: Ledger>(held: &mut Option<Held<C, N, L>>)
+    ensures settled { held.new ≡ option_map (settled_held C.rules) held.old }
+    ensures number { (n : ℕ) → HasNumber n held.old → HasNumber n held.new }
+{
+    match held {
+        Some(held) => held.settle(),
+        None => {}
+    }
+}
+
+fn pass_place<C: ChipSet, N: Named, L: Ledger, G: Gate>(
+    held: &mut Option<Held<C, N, L>>,
+    end: u64,
+    gate: &G,
+)
+    ensures same { option_map bare held.new ≡ option_map bare held.old }
+    ensures number { (n : ℕ) → HasNumber n held.old → HasNumber n held.new }
+{
+    match held {
+        Some(held) => held.pass(end, gate),
+        None => {}
+    }
+}

@@ -1,0 +1,40 @@
+//! The bus lock and the workers: the chips of one run are moved by several threads, each chip by
+//! the thread that holds it, with all that they share behind one lock.
+//!
+//! Whatever threads there are and however they take turns, the core that comes back is the one that
+//! a single thread would have made (`run_core`): a chip makes its event only where the core of
+//! chip_core lets it (`laws::section`), so what lies behind the lock always stands for the run's
+//! base (`laws::standing`). That a thread gets on, or that several run at once, is promised
+//! nowhere.
+#![tactic(auto)]
+
+mod blanks;
+mod bus;
+mod gathering;
+mod held;
+mod helds;
+pub mod laws;
+mod locked;
+mod making;
+mod named;
+mod parts;
+mod round;
+mod running;
+mod sections;
+mod step;
+mod sweep;
+mod turn;
+mod workers;
+
+pub use blanks::Blanks;
+pub use bus::Bus;
+pub use gathering::gather;
+pub use held::{Due, Held};
+pub use helds::Helds;
+pub use locked::Locked;
+pub use named::Named;
+pub use parts::Parts;
+pub use round::Round;
+pub use running::run_core;
+pub use turn::Turn;
+pub use workers::work;

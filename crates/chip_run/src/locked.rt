@@ -1,0 +1,70 @@
+ghost use Rattle.std.specs.Prelude.{◌≡◌, ◌≤◌, [], ◌∷◌, slice_get, vec_capacity};
+ghost use Rattle.chip_run.specs.Locked.{IsLocked, LockedValue};
+
+use crate::{Named, Parts};
+use chip_core::ChipSet;
+use md_word::Key;
+use std::marker::{Model, PhantomData};
+use std::sync::ledger::{Book, Ledger};
+
+/// The value behind the bus lock: what the chips share, and a book for each chip of the moves that
+/// it made.
+#[derive(Drop)]
+pub struct Locked<
+    C: ChipSet,
+    N: Named,
+    L0: Ledger,
+    L1: Ledger,
+    L2: Ledger,
+    L3: Ledger,
+    L4: Ledger,
+> {
+    pub(crate) parts: Parts<C>,
+    // The list that the chips were taken from, with room for all of them.
+    pub(crate) emptied: Vec<C::Chip>,
+    pub(crate) book0: Book<L0>,
+    pub(crate) book1: Book<L1>,
+    pub(crate) book2: Book<L2>,
+    pub(crate) book3: Book<L3>,
+    pub(crate) book4: Book<L4>,
+    pub(crate) run: PhantomData<N>,
+}
+
+impl<C: ChipSet, N: Named, L0: Ledger, L1: Ledger, L2: Ledger, L3: Ledger, L4: Ledger> Model
+    for Locked<C, N, L0, L1, L2, L3, L4> {
+    ghost Value = { LockedValue C.Shared };
+
+    ghost view = { λ l. record {
+      parts = l.parts;
+      counts = l.book0.total ∷ l.book1.total ∷ l.book2.total ∷ l.book3.total ∷ l.book4.total ∷ [];
+    } };
+
+    ghost invariant = { λ l. IsLocked C.rules C.chip_ok C.shared_ok (C.core_of N.base) N.end l.parts
+        (l.book0.total ∷ l.book1.total ∷ l.book2.total ∷ l.book3.total ∷ l.book4.total ∷ [])
+        × (l.emptied.items ≡ []) × (C.rules.count ≤ vec_capacity l.emptied) };
+}
+
+impl<C: ChipSet, N: Named, L0: Ledger, L1: Ledger, L2: Ledger, L3: Ledger, L4: Ledger> Locked<
+    C,
+    N,
+    L0,
+    L1,
+    L2,
+    L3,
+    L4,
+> {
+    /// The cycle that the run goes to.
+    pub(crate) fn end(&self) -> u64
+        ensures value { result ≡ self.now.parts.end }
+        ensures end { self.now.parts.end ≡ N.end }
+    {
+        self.parts.end
+    }
+
+    /// The bound of the chip of this number, if there is such a chip.
+    pub fn bound(&self, chip: u8) -> Option<Key>
+        ensures { result ≡ slice_get self.now.parts.bounds chip }
+    {
+        self.parts.bounds.get(chip as usize).copied()
+    }
+}

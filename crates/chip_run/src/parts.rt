@@ -1,0 +1,80 @@
+ghost use Rattle.std.specs.Prelude.{◌≡◌, ℕ, ◌+◌, ◌^◌, ◌<◌, ◌≤◌, ◌↔◌, IsTrue, Option, MatchOption, true, false, length, vec_capacity, ◌≢◌};
+ghost use Rattle.md_word.specs.Keys.{key_lt};
+ghost use Rattle.chip_core.specs.Cores.{bound_in, no_key};
+ghost use Rattle.chip_run.specs.Parts.{PartsValue};
+ghost use Rattle.chip_run.specs.Steps.{FindsOther, HasPlaceFor, IsFirst, IsStep};
+
+use crate::step::Step;
+use chip_core::ChipSet;
+use md_word::{Entry, Key};
+use std::marker::Model;
+
+/// What the chips of a run share, with their bounds, the journal of their accesses, and the cycle
+/// that the run goes to.
+#[derive(Drop)]
+pub struct Parts<C: ChipSet> {
+    pub(crate) end: u64,
+    pub(crate) shared: C::Shared,
+    pub(crate) bounds: Vec<Key>,
+    pub(crate) journal: Vec<Entry>,
+}
+
+impl<C: ChipSet> Model for Parts<C> {
+    ghost Value = { PartsValue C.Shared };
+
+    ghost view = { λ p. record {
+      end = p.end;
+      shared = p.shared;
+      bounds = p.bounds.items;
+      journal = p.journal.items;
+      room = vec_capacity p.journal;
+    } };
+}
+
+/// The first number whose bound the key is not below.
+fn find_other(key: &Key, bounds: &[Key], number: u8) -> Option<u8>
+    requires few { length bounds.now ≤ 5 }
+    ensures { MatchOption result (IsFirst key.now bounds.now number) (λ other. FindsOther key.now bounds.now number other) }
+{
+    for (i, bound) in bounds.iter().enumerate() {
+        if i != number as usize && !key.is_below(bound) {
+            return Some(i as u8);
+        }
+    }
+    None
+}
+
+impl<C: ChipSet> Parts<C> {
+    /// Announces the chip, and then makes the locked part of its access or reads the pins of its
+    /// sample, where that is its turn.
+    pub(crate) fn step(&mut self, chip: &mut C::Chip, number: u8) -> Step<C::Pins>
+        requires bounds { length self.old.bounds ≡ C.rules.count }
+        requires number { number < C.rules.count }
+        requires time { self.old.end ≤ 2 ^ 50 }
+        requires place { HasPlaceFor C.rules self.old number chip.old }
+        ensures { IsStep C.rules self.old number chip.old result self.new chip.new }
+    {
+        let next = C::next(chip);
+        let i = number as usize;
+        self.bounds[i] = next.key;
+        if next.key.cycle >= self.end {
+            return Step::Finished;
+        }
+        if let Some(other) = find_other(&next.key, &self.bounds, number) {
+            return Step::Blocked {
+                other,
+                bound: self.bounds[other as usize],
+            };
+        }
+        self.bounds[i] = Key {
+            cycle: next.key.cycle + C::gap(number),
+            chip: number,
+        };
+        if next.sample {
+            return Step::Sampled(C::pins(&self.shared, number));
+        }
+        let entry = C::perform(chip, &mut self.shared);
+        self.journal.push_reserved(entry);
+        Step::Performed
+    }
+}

@@ -1,0 +1,97 @@
+ghost use Rattle.std.specs.Prelude.{◌≡◌, ℕ, ◌<◌, List, length, slice_index_or, slice_set};
+ghost use Rattle.chip_run.specs.Locked.{IsLocked};
+ghost use Rattle.chip_run.specs.Places.{IsFree};
+ghost use Rattle.chip_run.specs.Sections.{IsFound, IsLockedAt, IsSection, IsTurn};
+
+use crate::step::Step;
+use crate::{Due, Held, Helds, Locked, Named, Parts, Turn};
+use chip_core::ChipSet;
+use std::sync::ledger::{Book, Ledger};
+
+/// A section on a held chip: the locked part of its turn, which its ledger books.
+pub(crate) fn step_held<C: ChipSet, N: Named, L: Ledger>(
+    parts: &mut Parts<C>,
+    book: &mut Book<L>,
+    held: &mut Held<C, N, L>,
+    number: u8,
+) -> Turn
+    requires number { held.old.number ≡ number }
+    requires free { held.old.due ≡ Due.Nothing }
+    requires whole { L.parts ≡ 1 }
+    requires locked { IsLockedAt C.rules C.chip_ok C.shared_ok (C.core_of N.base) N.end parts.old number book.old.total }
+    ensures locked { (counts : List ℕ) → number < length counts → slice_index_or counts number 0 ≡ book.old.total
+        → IsLocked C.rules C.chip_ok C.shared_ok (C.core_of N.base) N.end parts.old counts
+        → IsLocked C.rules C.chip_ok C.shared_ok (C.core_of N.base) N.end parts.new (slice_set counts number book.new.total) }
+    ensures total { book.new.total ≡ held.new.amount }
+    ensures found { IsFound C.rules number parts.old held.old book.old.total }
+    ensures turn { IsTurn C.rules number parts.old held.old result parts.new held.new }
+{
+    book.audit(&mut held.share);
+    match parts.step(&mut held.chip, number) {
+        Step::Performed => {
+            book.add(&mut held.share, 1);
+            held.due = Due::Advance;
+            return Turn::Moved;
+        }
+        Step::Sampled(pins) => {
+            book.add(&mut held.share, 1);
+            held.due = Due::Sample(pins);
+            return Turn::Moved;
+        }
+        Step::Blocked { other, bound } => return Turn::Blocked { other, bound },
+        Step::Finished => return Turn::Finished,
+    }
+}
+
+/// The work of one section under the lock, on a held chip of which no work is due.
+pub(crate) fn section_on<
+    C: ChipSet,
+    N: Named,
+    L0: Ledger,
+    L1: Ledger,
+    L2: Ledger,
+    L3: Ledger,
+    L4: Ledger,
+>(
+    locked: &mut Locked<C, N, L0, L1, L2, L3, L4>,
+    helds: &mut Helds<C, N, L0, L1, L2, L3, L4>,
+    chip: u8,
+) -> Turn
+    requires held { IsFree helds.old chip }
+    requires whole { (L0.parts ≡ 1) × (L1.parts ≡ 1) × (L2.parts ≡ 1) × (L3.parts ≡ 1) × (L4.parts ≡ 1) }
+    ensures { IsSection C.rules chip locked.old helds.old result locked.new helds.new }
+{
+    match chip {
+        0 => {
+            let Some(held) = &mut helds.place0 else {
+                unreachable!()
+            };
+            step_held(&mut locked.parts, &mut locked.book0, held, 0)
+        }
+        1 => {
+            let Some(held) = &mut helds.place1 else {
+                unreachable!()
+            };
+            step_held(&mut locked.parts, &mut locked.book1, held, 1)
+        }
+        2 => {
+            let Some(held) = &mut helds.place2 else {
+                unreachable!()
+            };
+            step_held(&mut locked.parts, &mut locked.book2, held, 2)
+        }
+        3 => {
+            let Some(held) = &mut helds.place3 else {
+                unreachable!()
+            };
+            step_held(&mut locked.parts, &mut locked.book3, held, 3)
+        }
+        4 => {
+            let Some(held) = &mut helds.place4 else {
+                unreachable!()
+            };
+            step_held(&mut locked.parts, &mut locked.book4, held, 4)
+        }
+        _ => unreachable!(),
+    }
+}

@@ -1,0 +1,113 @@
+ghost use Rattle.std.specs.Prelude.{◌≡◌, ℕ, IsSome};
+ghost use Rattle.chip_run.specs.Places.{AllFree, IsFree};
+ghost use Rattle.chip_run.specs.Rounds.{IsSeenTurn, IsSwept};
+
+use crate::sections::section_on;
+use crate::{Helds, Locked, Named, Turn};
+use chip_core::ChipSet;
+use md_word::Key;
+use std::sync::ledger::Ledger;
+
+/// The answer of a sweep.
+#[derive(Clone, Copy)]
+pub(crate) enum Swept {
+    /// The chip of this number made its event, but for its private work.
+    Moved(u8),
+    /// None did, and of those that are not finished the one of least key waits for this chip.
+    Blocked { other: u8 },
+    /// All are finished.
+    Finished,
+}
+
+/// A blocked chip's key, and the chip that it waits for.
+#[derive(Clone, Copy)]
+struct Waiting {
+    key: Key,
+    other: u8,
+}
+
+fn lesser(found: Option<Waiting>, next: Waiting) -> Waiting {
+    match found {
+        Some(first) => if next.key.is_below(&first.key) {
+            next
+        } else {
+            first
+        },
+        None => next,
+    }
+}
+
+/// A section, of which the held chips alone are seen.
+fn turn_of<C: ChipSet, N: Named, L0: Ledger, L1: Ledger, L2: Ledger, L3: Ledger, L4: Ledger>(
+    locked: &mut Locked<C, N, L0, L1, L2, L3, L4>,
+    helds: &mut Helds<C, N, L0, L1, L2, L3, L4>,
+    chip: u8,
+) -> Turn
+    requires held { IsFree helds.old chip }
+    requires whole { (L0.parts ≡ 1) × (L1.parts ≡ 1) × (L2.parts ≡ 1) × (L3.parts ≡ 1) × (L4.parts ≡ 1) }
+    ensures { IsSeenTurn C.rules N.end chip helds.old result helds.new }
+{
+    let _end = locked.end();
+    section_on(locked, helds, chip)
+}
+
+/// Takes sections on all held chips, in the order of their numbers, until one moves.
+///
+/// `changed` becomes true where a bound changed.
+fn sweep<C: ChipSet, N: Named, L0: Ledger, L1: Ledger, L2: Ledger, L3: Ledger, L4: Ledger>(
+    locked: &mut Locked<C, N, L0, L1, L2, L3, L4>,
+    helds: &mut Helds<C, N, L0, L1, L2, L3, L4>,
+    changed: &mut bool,
+) -> Swept
+    requires free { AllFree helds.old }
+    requires whole { (L0.parts ≡ 1) × (L1.parts ≡ 1) × (L2.parts ≡ 1) × (L3.parts ≡ 1) × (L4.parts ≡ 1) }
+    ensures { IsSwept C.rules N.end helds.old result helds.new }
+{
+    let mut waiting = None;
+    for chip in 0..helds.places() {
+        if let Some(key) = helds.key(chip) {
+            let before = locked.bound(chip);
+            let turn = turn_of(locked, helds, chip);
+            if locked.bound(chip) != before {
+                *changed = true;
+            }
+            match turn {
+                Turn::Moved => return Swept::Moved(chip),
+                Turn::Blocked { other, bound: _ } => waiting = Some(lesser(
+                    waiting,
+                    Waiting { key, other },
+                )),
+                Turn::Finished => {}
+            }
+        }
+    }
+    match waiting {
+        Some(least) => return Swept::Blocked { other: least.other },
+        None => return Swept::Finished,
+    }
+}
+
+/// A sweep, and where no chip moved once more, since every chip has then announced its event.
+pub(crate) fn look<
+    C: ChipSet,
+    N: Named,
+    L0: Ledger,
+    L1: Ledger,
+    L2: Ledger,
+    L3: Ledger,
+    L4: Ledger,
+>(
+    locked: &mut Locked<C, N, L0, L1, L2, L3, L4>,
+    helds: &mut Helds<C, N, L0, L1, L2, L3, L4>,
+    changed: &mut bool,
+) -> Swept
+    requires free { AllFree helds.old }
+    requires whole { (L0.parts ≡ 1) × (L1.parts ≡ 1) × (L2.parts ≡ 1) × (L3.parts ≡ 1) × (L4.parts ≡ 1) }
+    ensures { IsSwept C.rules N.end helds.old result helds.new }
+{
+    match sweep(locked, helds, changed) {
+        Swept::Moved(chip) => return Swept::Moved(chip),
+        Swept::Blocked { other: _ } => return sweep(locked, helds, changed),
+        Swept::Finished => return sweep(locked, helds, changed),
+    }
+}

@@ -1,0 +1,150 @@
+ghost use Rattle.std.specs.Prelude.{◌≡◌, ◌^◌, ◌≤◌, []};
+ghost use Rattle.chip_core.specs.Cores.{machine_of};
+ghost use Rattle.chip_core.specs.Limits.{all_moves_left};
+
+use crate::five::{at_access, key, power_on};
+use chip_core::{ChipSet, Core, Event};
+use chip_run::{Blanks, Bus, Locked, Named, Round, Turn, laws};
+use md_outer::FreeGate;
+use md_word::Key;
+use std::marker::{Brand, PhantomData};
+use std::sync::Wait;
+use std::sync::ledger::{Blank, Ledger};
+use std::test::Fail;
+
+// What the first section of a run on chip 0 answers, and the bound that it leaves.
+fn first_section<C: ChipSet, N: Named, L0: Ledger, L1: Ledger, L2: Ledger, L3: Ledger, L4: Ledger>(
+    core: Core<C>,
+    t: u64,
+    blanks: Blanks<L0, L1, L2, L3, L4>,
+) -> Option<(Turn, Option<Key>)>
+    requires base { C.core_of N.base ≡ record core { room = 0 } }
+    requires end { N.end ≡ t }
+    requires time { t ≤ 2 ^ 50 }
+    requires empty { core.journal ≡ [] }
+    requires room { all_moves_left C.rules t (machine_of C.rules core) ≤ core.room }
+    requires names { (blanks.l0.name ≡ L0.name) × (blanks.l1.name ≡ L1.name) × (blanks.l2.name ≡ L2.name) × (blanks.l3.name ≡ L3.name) × (blanks.l4.name ≡ L4.name) }
+    requires parts { (blanks.l0.parts ≡ L0.parts) × (blanks.l1.parts ≡ L1.parts) × (blanks.l2.parts ≡ L2.parts) × (blanks.l3.parts ≡ L3.parts) × (blanks.l4.parts ≡ L4.parts) }
+    requires whole { (L0.parts ≡ 1) × (L1.parts ≡ 1) × (L2.parts ≡ 1) × (L3.parts ≡ 1) × (L4.parts ≡ 1) }
+{
+    let (locked, all) = Locked::<C, N, L0, L1, L2, L3, L4>::make(core, t, blanks);
+    let mut locked = locked;
+    let mut helds = all;
+    if helds.has(0) {
+        let turn = laws::section(&mut locked, &mut helds, 0);
+        laws::standing(&locked);
+        return Some((turn, locked.bound(0)));
+    }
+    None
+}
+
+// How many moves each chip makes in a run on one thread, if it ends within 1,000 answers.
+fn moves_alone<
+    C: ChipSet,
+    N: Named,
+    L0: Ledger,
+    L1: Ledger,
+    L2: Ledger,
+    L3: Ledger,
+    L4: Ledger,
+    R: Wait,
+>(rt: &R, core: Core<C>, t: u64, blanks: Blanks<L0, L1, L2, L3, L4>) -> Option<[u32; 5]>
+    requires base { C.core_of N.base ≡ record core { room = 0 } }
+    requires end { N.end ≡ t }
+    requires time { t ≤ 2 ^ 50 }
+    requires empty { core.journal ≡ [] }
+    requires room { all_moves_left C.rules t (machine_of C.rules core) ≤ core.room }
+    requires names { (blanks.l0.name ≡ L0.name) × (blanks.l1.name ≡ L1.name) × (blanks.l2.name ≡ L2.name) × (blanks.l3.name ≡ L3.name) × (blanks.l4.name ≡ L4.name) }
+    requires parts { (blanks.l0.parts ≡ L0.parts) × (blanks.l1.parts ≡ L1.parts) × (blanks.l2.parts ≡ L2.parts) × (blanks.l3.parts ≡ L3.parts) × (blanks.l4.parts ≡ L4.parts) }
+    requires whole { (L0.parts ≡ 1) × (L1.parts ≡ 1) × (L2.parts ≡ 1) × (L3.parts ≡ 1) × (L4.parts ≡ 1) }
+{
+    let (bus, all) = Bus::<C, N, L0, L1, L2, L3, L4>::make(core, t, blanks);
+    let mut helds = all;
+    let mut moves = [0u32; 5];
+    for _answer in 0..1000 {
+        match bus.wait_turn(rt, &mut helds, &FreeGate) {
+            Round::Moved(chip) => {
+                if let Some(count) = moves.get_mut(usize::from(chip)) {
+                    *count = count.wrapping_add(1);
+                }
+            }
+            Round::Finished => return Some(moves),
+        }
+    }
+    None
+}
+
+fn blanks() -> Blanks<Brand, Brand, Brand, Brand, Brand>
+    ensures { (result.l0.parts ≡ 1) × (result.l1.parts ≡ 1) × (result.l2.parts ≡ 1) × (result.l3.parts ≡ 1) × (result.l4.parts ≡ 1) }
+{
+    Blanks {
+        l0: Blank::new(1),
+        l1: Blank::new(1),
+        l2: Blank::new(1),
+        l3: Blank::new(1),
+        l4: Blank::new(1),
+        names: PhantomData,
+    }
+}
+
+fn first_turn<C: ChipSet>(core: Core<C>, t: u64) -> Option<(Turn, Option<Key>)>
+    requires time { t ≤ 2 ^ 50 }
+    requires empty { core.journal ≡ [] }
+    requires room { all_moves_left C.rules t (machine_of C.rules core) ≤ core.room }
+{
+    let _known = core.enabled(t, Event::Announce(0));
+    let blanks = blanks();
+    first_section::<C, Brand, Brand, Brand, Brand, Brand, Brand>(core, t, blanks)
+}
+
+fn moves_to<C: ChipSet, R: Wait>(rt: &R, core: Core<C>, t: u64) -> Option<[u32; 5]>
+    requires time { t ≤ 2 ^ 50 }
+    requires empty { core.journal ≡ [] }
+    requires room { all_moves_left C.rules t (machine_of C.rules core) ≤ core.room }
+{
+    let _known = core.enabled(t, Event::Announce(0));
+    let blanks = blanks();
+    moves_alone::<C, Brand, Brand, Brand, Brand, Brand, Brand, R>(rt, core, t, blanks)
+}
+
+// The second chip's bound (45, 1) is below the first chip's key (70, 0), which it announces.
+#[test]
+fn an_access_waits_for_the_bound_of_another_chip(rt: HostRuntime) -> Result<(), Fail> {
+    let core = at_access(rt.alloc(), 45, 4)?;
+    let blocked = Turn::Blocked {
+        other: 1,
+        bound: key(1, 45),
+    };
+    assert_eq!(rt; first_turn(core, 100), Some((blocked, Some(key(0, 70)))));
+    Ok(())
+}
+
+// The bound (70, 1) is above the key (70, 0); the access leaves a bound one gap of 28 cycles on.
+#[test]
+fn an_access_below_all_bounds_is_made(rt: HostRuntime) -> Result<(), Fail> {
+    let core = at_access(rt.alloc(), 70, 4)?;
+    assert_eq!(rt;
+        first_turn(core, 100),
+        Some((Turn::Moved, Some(key(0, 98))))
+    );
+    Ok(())
+}
+
+#[test]
+fn an_access_at_the_end_is_not_made(rt: HostRuntime) -> Result<(), Fail> {
+    let core = at_access(rt.alloc(), 90, 4)?;
+    assert_eq!(rt;
+        first_turn(core, 70),
+        Some((Turn::Finished, Some(key(0, 70))))
+    );
+    Ok(())
+}
+
+// Below cycle 1,000 the five have an event each 70, 45, 3,420, 16,128 and 16,128 cycles, the last
+// two from 16,128 on.
+#[test]
+fn a_run_of_all_chips_ends_on_one_thread(rt: HostRuntime) -> Result<(), Fail> {
+    let core = power_on(rt.alloc(), 100)?;
+    assert_eq!(rt; moves_to(&rt, core, 1000), Some([15, 23, 1, 0, 0]));
+    Ok(())
+}

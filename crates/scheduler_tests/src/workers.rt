@@ -1,0 +1,51 @@
+use crate::five::power_on;
+use crate::meeting::Meeting;
+use crate::pair;
+use crate::runs::moved_by_least_key;
+use chip_run::run_core;
+use md_outer::FreeGate;
+use std::sync::Arc;
+use std::test::Fail;
+
+#[test]
+fn every_number_of_workers_gives_the_run_of_the_least_key(rt: HostRuntime) -> Result<(), Fail> {
+    let (plain_board, plain_chips, plain_journal) = moved_by_least_key(rt.alloc(), 40000)?;
+    for workers in 1..6u32 {
+        let core = power_on(rt.alloc(), 5000)?;
+        let (board, chips, _bounds, journal) = run_core(
+            &rt, core, 40000, workers, &FreeGate,
+        ).into_parts();
+        assert_eq!(rt; board.line, plain_board.line);
+        assert!(rt; chips.as_slice() == plain_chips.as_slice());
+        assert!(rt; journal.as_slice() == plain_journal.as_slice());
+    }
+    Ok(())
+}
+
+// In each of two runs the first two chips wait for one another at the gate: workers that were run
+// one after the other would never meet there.
+#[test]
+fn several_workers_meet_at_the_gate(rt: HostRuntime) -> Result<(), Fail> {
+    for workers in 2..6u32 {
+        let gate = Meeting::new();
+        for _segment in 0..2 {
+            let core = power_on(rt.alloc(), 5000)?;
+            let _core = run_core(&rt, core, 1000, workers, &gate);
+        }
+        assert!(rt; gate.met(2), "with {workers} workers");
+    }
+    Ok(())
+}
+
+// The first private work of each chip waits for the other's: with it under the lock, or with a bound
+// that rises only after it, they would never meet.
+#[test]
+fn private_work_of_two_workers_overlaps(rt: HostRuntime) -> Result<(), Fail> {
+    for sample in [false, true] {
+        let meeting = Arc::new(rt.alloc(), Meeting::new())?;
+        let core = pair::power_on(rt.alloc(), sample, &meeting, 2)?;
+        let _core = run_core(&rt, core, 1, 2, &FreeGate);
+        assert!(rt; meeting.met(1), "samples: {sample}");
+    }
+    Ok(())
+}
