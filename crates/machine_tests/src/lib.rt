@@ -1,4 +1,4 @@
-//! Tests of the machine of five chips, and of the command line over it.
+//! Tests of the machine of five chips.
 #![tactic(auto)]
 
 #[cfg(test)]
@@ -8,10 +8,6 @@ mod machine;
 #[cfg(test)]
 mod pads;
 #[cfg(test)]
-mod program;
-#[cfg(test)]
 mod sort;
-#[cfg(test)]
-mod words;
 #[cfg(test)]
 mod z80;

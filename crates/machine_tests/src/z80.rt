@@ -41,9 +41,9 @@ fn processors(alloc: Global, entries: &[u8]) -> Result<Vec<u8>, Fail> {
     Ok(found)
 }
 
-/// A record up to its value: cycle, chip, kind and address.
-fn place(record: &[u8]) -> &[u8] {
-    record.get(..14).unwrap_or(record)
+/// The bytes from one place to below another, where there are so many.
+fn part(bytes: &[u8], from: usize, to: usize) -> &[u8] {
+    bytes.get(from..to).unwrap_or(&[])
 }
 
 /// MOVE.W #0100h,D0; LEA A11100h,A0; fourteen times NOP; BRA to the next; MOVE.W D0,(A0); twice MOVE.W
@@ -73,10 +73,11 @@ fn the_bus_is_granted_and_thirty_two_words_are_written(rt: HostRuntime) -> Resul
     let (entries, _pairs) = drained(&mut machine, alloc, 16_128)?;
     let found = processors(alloc, &entries)?;
     assert_eq!(rt; found.len(), 16 * (4 + 32));
-    assert!(rt; &found[..64] == records(alloc, &GRANT)?.as_slice());
-    assert!(rt; place(&found[64..80]) == place(&records(alloc, &[(882, 0, 3, 0xa0_0000, 0)])?));
+    assert!(rt; part(&found, 0, 64) == records(alloc, &GRANT)?.as_slice());
+    let first = records(alloc, &[(882, 0, 3, 0xa0_0000, 0)])?;
+    assert!(rt; part(&found, 64, 78) == part(&first, 0, 14));
     let last = records(alloc, &[(1_750, 0, 3, 0xa0_003e, 0)])?;
-    assert!(rt; place(&found[16 * 35..]) == place(&last));
+    assert!(rt; part(&found, 560, 574) == part(&last, 0, 14));
     Ok(())
 }
 
@@ -117,12 +118,12 @@ fn the_z80_plays_a_tone(rt: HostRuntime) -> Result<(), Fail> {
     let (entries, pairs) = drained(&mut machine, alloc, 16_129)?;
     let found = processors(alloc, &entries)?;
     assert_eq!(rt; found.len(), 16 * (3 + 11 + 6));
-    assert!(rt; &found[..48] == records(alloc, &COPY)?.as_slice());
+    assert!(rt; part(&found, 0, 48) == records(alloc, &COPY)?.as_slice());
     let first = records(alloc, &[(504, 0, 2, 0xa0_0000, 0x21)])?;
-    assert!(rt; &found[48..64] == first.as_slice());
-    assert!(rt; &found[16 * 14..] == records(alloc, &PLAY)?.as_slice());
+    assert!(rt; part(&found, 48, 64) == first.as_slice());
+    assert!(rt; part(&found, 224, 320) == records(alloc, &PLAY)?.as_slice());
     assert_eq!(rt; pairs.len(), 64);
-    assert!(rt; &pairs[..12] == [0u8; 12].as_slice());
-    assert!(rt; &pairs[12..16] != [0u8; 4].as_slice());
+    assert!(rt; part(&pairs, 0, 12) == [0u8; 12].as_slice());
+    assert!(rt; part(&pairs, 12, 16) != [0u8; 4].as_slice());
     Ok(())
 }
