@@ -1,7 +1,7 @@
 -- Each access leaves a board.
 use Rattle.std.proofs.Common.{ℕ, ◌*◌, ◌/◌, ◌%◌, ◌==◌, ◌<◌, ◌≤◌, ◌+◌, ◌&&◌, Bool, true, false, Option, Some, None, if◌then◌else◌, arith, lit<, lit≤, not}
 use Rattle.std.proofs.lemmas.List.Elements.{All-filter, All-nil}
-use Rattle.fm_chip.specs.Port.{Port, first_write, held_with, left_from, reset, reset_write, second_write, written}
+use Rattle.fm_chip.specs.Port.{Port, first_write, held_with, left_from, reset, reset_write, second_write, taken_below, written}
 use Rattle.fm_chip.specs.Stamp.{stamp_of}
 use Rattle.fm_chip.specs.Timers.{both_settled, shown, status, timed}
 use Rattle.fm_chip.specs.Timers as fm_timers
@@ -31,7 +31,7 @@ use Rattle.bus_shared.specs.Fm.{fm_board, fm_read, is_fm, with_fm, with_fm_reset
 use Rattle.bus_shared.specs.Registers.{register_at, register_written}
 use Rattle.bus_shared.specs.declared.register.Register.{Register}
 use Rattle.bus_shared.specs.declared.register.Register.TheVariants.{Version, Data1, Data2, DataExpansion, Control1, Control2, Unused}
-use Rattle.std.specs.Prelude.{List}
+use Rattle.std.specs.Prelude.{List, length}
 
 pub power_on-ok : (recording : List Frame) → IsBoard (power_on recording)
 power_on-ok recording = record {
@@ -87,6 +87,10 @@ few-left cycle writes few = record {
   most = length-filter-most (λ w. not (is_below stamp_of cycle w)) 1024 writes few.most;
   chips = All-filter (λ w. not (is_below stamp_of cycle w)) (λ w. w.key.chip < 2) writes few.chips;
 }
+
+-- the writes that a batch takes are few
+pub fm_taken-few : (cycle : ℕ) (writes : List FmWrite) → IsFewFm writes → length (taken_below cycle writes) ≤ 1024
+fm_taken-few cycle writes few = length-filter-most (is_below stamp_of cycle) 1024 writes few.most
 
 fm-ok : (board : Board) (key : Key) (at value : ℕ) → key.chip < 2 → IsBoard board → IsBoard (with_fm board key at value)
 fm-ok board key at value low ok =
