@@ -4,6 +4,7 @@ ghost use Rattle.std.specs.Prelude.{◌≡◌};
 ghost use Rattle.bus_shared.specs.Accesses.{chip_of};
 
 use bus_shared::{Answer, Request, Shared, carry_out, pins80};
+use fm_chip::FmList;
 use md_pads::Recording;
 use md_word::{Answer80, Entry, Key, Request68, Request80};
 use psg_sound::PsgList;
@@ -19,21 +20,32 @@ const UP: &[u8; 16] = b"MDREC001\0\0\0\x01\0\x01\0\0";
 const BOTH: &[u8; 16] = b"MDREC001\0\0\0\x01\0\x01\0\x90";
 
 /// A board with this recording.
-fn board(alloc: Global, bytes: &[u8]) -> Result<Shared, Fail> {
+pub fn board(alloc: Global, bytes: &[u8]) -> Result<Shared, Fail> {
     let recording = Arc::new(alloc, Recording::read(alloc, bytes)?)?;
     Shared::power_on(alloc, recording).map_err(|_| Fail::from("no memory"))
 }
 
+/// The key of a chip's event.
+pub fn key_of(cycle: u32, chip: u8) -> Key
+    ensures cycle { result.cycle ≡ cycle }
+    ensures chip { result.chip ≡ chip }
+{
+    Key {
+        cycle: u64::from(cycle),
+        chip,
+    }
+}
+
 /// Carries out an access of the 68000 at a cycle: the value that it answers, and its entry.
-fn main(shared: &mut Shared, cycle: u64, request: Request68) -> (u16, Entry) {
-    let key = Key { cycle, chip: 0 };
+pub fn main(shared: &mut Shared, cycle: u32, request: Request68) -> (u16, Entry) {
+    let key = key_of(cycle, 0);
     let (answer, entry) = carry_out(shared, key, Request::Main(request));
     (answer.main().map_or(0, |answer| answer.value), entry)
 }
 
 /// Starts the line of a cycle: its number in the frame, and the level, as the entry tells them.
-fn line(shared: &mut Shared, cycle: u64) -> (u8, u32, u16) {
-    let (_, entry) = carry_out(shared, Key { cycle, chip: 2 }, Request::Line);
+fn line(shared: &mut Shared, cycle: u32) -> (u8, u32, u16) {
+    let (_, entry) = carry_out(shared, key_of(cycle, 2), Request::Line);
     (entry.kind, entry.address, entry.value)
 }
 
@@ -55,7 +67,11 @@ fn a_recorded_button_is_seen_from_line_224_on(rt: HostRuntime) -> Result<(), Fai
     ];
     for (cycle, number, want) in rows {
         assert_eq!(rt; line(&mut shared, cycle), (10, number, 0));
-        let (value, _) = main(&mut shared, cycle + 1, Request68::Read8(0xa1_0003));
+        let (value, _) = main(
+            &mut shared,
+            cycle.wrapping_add(1),
+            Request68::Read8(0xa1_0003),
+        );
         assert_eq!(rt; value, want);
     }
     Ok(())
@@ -166,8 +182,8 @@ fn writes_to_the_psg(rt: HostRuntime) -> Result<(), Fail> {
         (32_256, [(16_128, 0x78)].as_slice()),
     ] {
         let list = Request::Psg(Box::new(rt.alloc(), PsgList::new())?);
-        let (answer, entry) = carry_out(&mut shared, Key { cycle, chip: 4 }, list);
-        assert_eq!(rt; (entry.kind, entry.address), (12, (cycle / 16_128) as u32));
+        let (answer, entry) = carry_out(&mut shared, key_of(cycle, 4), list);
+        assert_eq!(rt; (entry.kind, entry.address), (12, cycle / 16_128));
         assert_eq!(rt; usize::from(entry.value), want.len());
         assert!(rt; taken(rt.alloc(), answer)?.as_slice() == want);
     }
@@ -202,22 +218,28 @@ fn entries(rt: HostRuntime) -> Result<(), Fail> {
         let (_, entry) = main(&mut shared, 28, request);
         assert_eq!(rt; (entry.kind, entry.address, entry.value), want);
     }
-    let (_, entry) = carry_out(
-        &mut shared,
-        Key {
-            cycle: 48_384,
-            chip: 3,
-        },
-        Request::Fm,
-    );
+    let list = Request::Fm(Box::new(rt.alloc(), FmList::new())?);
+    let (_, entry) = carry_out(&mut shared, key_of(48_384, 3), list);
     assert_eq!(rt; (entry.kind, entry.address, entry.value), (11, 3, 0));
     Ok(())
 }
 
 /// Carries out an access of the Z80 at a cycle: what it answers, and its entry.
-fn sub(shared: &mut Shared, cycle: u64, request: Request80) -> (Option<Answer80>, Entry) {
-    let (answer, entry) = carry_out(shared, Key { cycle, chip: 1 }, Request::Sub(request));
+pub fn sub(shared: &mut Shared, cycle: u32, request: Request80) -> (Option<Answer80>, Entry) {
+    let (answer, entry) = carry_out(shared, key_of(cycle, 1), Request::Sub(request));
     (answer.sub(), entry)
+}
+
+/// The 68000 requests the Z80's bus at a cycle, and the Z80 hands over its RAM 36 cycles later.
+pub fn grant(shared: &mut Shared, alloc: Global, cycle: u32) -> Result<(), Fail> {
+    main(shared, cycle, Request68::Write16(0xa1_1100, 0x100));
+    let parcel = first(alloc).map_err(|_| Fail::from("no memory"))?;
+    let (_, entry) = sub(shared, cycle.wrapping_add(36), Request80::Yield(parcel));
+    if (entry.kind, entry.address, entry.value) == (8, 0, 1) {
+        Ok(())
+    } else {
+        Err(Fail::from("the RAM was given back"))
+    }
 }
 
 // Without the grant a read gives FFh, and a write is lost. With it the 68000 reads what it wrote into
@@ -228,11 +250,7 @@ fn the_ram_of_the_z80_behind_the_grant(rt: HostRuntime) -> Result<(), Fail> {
     let mut shared = board(rt.alloc(), b"MDREC001\0\0\0\0")?;
     main(&mut shared, 28, Request68::Write8(0xa0_0000, 0x55));
     assert_eq!(rt; main(&mut shared, 56, Request68::Read8(0xa0_0000)).0, 0xff);
-    main(&mut shared, 84, Request68::Write16(0xa1_1100, 0x100));
-    let parcel = first(rt.alloc()).map_err(|_| Fail::from("no memory"))?;
-    let (answer, entry) = sub(&mut shared, 120, Request80::Yield(parcel));
-    assert!(rt; matches!(answer, Some(Answer80::Done)));
-    assert_eq!(rt; (entry.kind, entry.address, entry.value), (8, 0, 1));
+    grant(&mut shared, rt.alloc(), 84)?;
     let rows = [
         (Request68::Write8(0xa0_0000, 0x12), 0xa0_0000, 0x12),
         (Request68::Write8(0xa0_2001, 0x34), 0xa0_0001, 0x34),

@@ -1,5 +1,14 @@
 -- Each access leaves a board.
-use Rattle.std.proofs.Common.{ℕ, ◌*◌, ◌/◌, ◌%◌, ◌==◌, ◌<◌, ◌&&◌, Bool, true, false, Option, Some, None, if◌then◌else◌, arith, lit<}
+use Rattle.std.proofs.Common.{ℕ, ◌*◌, ◌/◌, ◌%◌, ◌==◌, ◌<◌, ◌≤◌, ◌+◌, ◌&&◌, Bool, true, false, Option, Some, None, if◌then◌else◌, arith, lit<, lit≤, not}
+use Rattle.std.proofs.lemmas.List.Elements.{All-filter, All-nil}
+use Rattle.fm_chip.specs.Port.{Port, first_write, held_with, left_from, reset, reset_write, second_write, taken_below, written}
+use Rattle.fm_chip.specs.Stamp.{stamp_of}
+use Rattle.fm_chip.specs.Timers.{both_settled, shown, status, timed}
+use Rattle.fm_chip.specs.Timers as fm_timers
+use Rattle.fm_chip.specs.declared.timers.Timers.{Timers}
+use Rattle.fm_chip.specs.declared.write.FmWrite.{FmWrite}
+use Rattle.stamped_writes.proofs.Helds.{All-held_with, length-filter-most, length-held_with}
+use Rattle.stamped_writes.specs.Order.{is_below}
 use Rattle.md_pads.specs.Recording.{Frame, pads_of}
 use Rattle.md_word.specs.Clock.{frame, line}
 use Rattle.md_word.specs.Map.{area_of}
@@ -10,39 +19,86 @@ use Rattle.md_word.specs.declared.main_bus.Request68.{Request68}
 use Rattle.md_word.specs.declared.main_bus.Request68.TheVariants.{Read8, Read16, Write8, Write16, Ack, Word}
 use Rattle.psg_sound.specs.PortLaws.{IsPort-held_with, IsPort-left_from, IsPort-nil}
 use Rattle.bus_shared.specs.Accesses.{line_board, main_board, psg_board, sub_access, taken_back, yielded}
-use Rattle.bus_shared.specs.Areas.{byte_written_at, byte_written_in, is_psg, word_written_at, word_written_in}
+use Rattle.bus_shared.specs.Areas.{byte_written_at, byte_written_in, is_psg, read_at, word_written_at, word_written_in}
 use Rattle.bus_shared.specs.Lines.{counted, requested}
-use Rattle.bus_shared.specs.Z80Space.{granted, is_psg80, space_written, store_written, with_psg, z80_address}
+use Rattle.bus_shared.specs.Z80Space.{granted, is_psg80, space_read, space_written, store_written, with_psg, z80_address}
 use Rattle.z80_parcel.proofs.Writes.{banked_fits, stored_fits}
 use Rattle.z80_parcel.specs.Parcels.{IsStore, Store}
 use Rattle.z80_parcel.specs.Requests.{Asked, ReadByte, WriteByte, HandOver, TakeBack, Fits}
 use Rattle.std.proofs.Common.{◌∙◌, IfSome}
-use Rattle.bus_shared.specs.Board.{Board, IsBoard, power_on}
+use Rattle.bus_shared.specs.Board.{Board, IsBoard, IsFewFm, power_on}
+use Rattle.bus_shared.specs.Fm.{fm_board, fm_read, is_fm, with_fm, with_fm_reset}
 use Rattle.bus_shared.specs.Registers.{register_at, register_written}
 use Rattle.bus_shared.specs.declared.register.Register.{Register}
 use Rattle.bus_shared.specs.declared.register.Register.TheVariants.{Version, Data1, Data2, DataExpansion, Control1, Control2, Unused}
-use Rattle.std.specs.Prelude.{List}
+use Rattle.std.specs.Prelude.{List, length}
 
 pub power_on-ok : (recording : List Frame) → IsBoard (power_on recording)
 power_on-ok recording = record {
   port1 = record { value = lit< tt; control = lit< tt };
   port2 = record { value = lit< tt; control = lit< tt };
   held = IsPort-nil;
+  fm = record { most = lit≤ tt; chips = All-nil (λ (w : FmWrite). w.key.chip < 2) };
   store = tt;
 }
 
 register-ok : (board : Board) (register : Register) (value : ℕ) → value < 0x100 → IsBoard board → IsBoard (register_written board register value)
 unfolding register_written
 register-ok board Version value below ok = ok
-register-ok board Data1 value below ok = record { port1 = record { value = below; control = ok.port1.control }; port2 = ok.port2; held = ok.held; store = ok.store }
-register-ok board Data2 value below ok = record { port1 = ok.port1; port2 = record { value = below; control = ok.port2.control }; held = ok.held; store = ok.store }
+register-ok board Data1 value below ok = record { port1 = record { value = below; control = ok.port1.control }; port2 = ok.port2; held = ok.held; fm = ok.fm; store = ok.store }
+register-ok board Data2 value below ok = record { port1 = ok.port1; port2 = record { value = below; control = ok.port2.control }; held = ok.held; fm = ok.fm; store = ok.store }
 register-ok board DataExpansion value below ok = ok
-register-ok board Control1 value below ok = record { port1 = record { value = ok.port1.value; control = below }; port2 = ok.port2; held = ok.held; store = ok.store }
-register-ok board Control2 value below ok = record { port1 = ok.port1; port2 = record { value = ok.port2.value; control = below }; held = ok.held; store = ok.store }
+register-ok board Control1 value below ok = record { port1 = record { value = ok.port1.value; control = below }; port2 = ok.port2; held = ok.held; fm = ok.fm; store = ok.store }
+register-ok board Control2 value below ok = record { port1 = ok.port1; port2 = record { value = ok.port2.value; control = below }; held = ok.held; fm = ok.fm; store = ok.store }
 register-ok board Unused value below ok = ok
 
 psg-ok : (board : Board) (key : Key) (value : ℕ) → key.chip < 2 → IsBoard board → IsBoard (with_psg board key value)
-psg-ok board key value low ok = record { port1 = ok.port1; port2 = ok.port2; held = IsPort-held_with board.held key value low ok.held; store = ok.store }
+psg-ok board key value low ok = record { port1 = ok.port1; port2 = ok.port2; held = IsPort-held_with board.held key value low ok.held; fm = ok.fm; store = ok.store }
+
+-- the FM chip's port, where writes come and go
+few-held : (writes : List FmWrite) (w : FmWrite) → w.key.chip < 2 → IsFewFm writes → IsFewFm (held_with writes w)
+few-held writes w low few = record {
+  most = length-held_with writes w few.most;
+  chips = All-held_with (λ v. v.key.chip < 2) writes w few.chips low;
+}
+
+few-by : (a b c : Bool) (key : Key) (value : ℕ) (p : Port) → key.chip < 2 → IsFewFm p.writes
+    → IsFewFm (if a then record p { first = value } else (
+    if b then record p { second = value } else (
+    if c then record p {
+      timers = timed key.cycle p.first value p.timers;
+      writes = held_with p.writes (first_write key p.first value);
+    } else record p { writes = held_with p.writes (second_write key p.second value) }))).writes
+few-by true b c key value p low few = few
+few-by false true c key value p low few = few
+few-by false false true key value p low few = few-held p.writes (first_write key p.first value) low few
+few-by false false false key value p low few = few-held p.writes (second_write key p.second value) low few
+
+few-written : (key : Key) (address value : ℕ) (p : Port) → key.chip < 2 → IsFewFm p.writes → IsFewFm (written key address value p).writes
+unfolding written
+few-written key address value p low few = few-by (address == 0) (address == 2) (address == 1) key value p low few
+
+few-reset : (key : Key) (p : Port) → key.chip < 2 → IsFewFm p.writes → IsFewFm (reset key p).writes
+unfolding reset
+few-reset key p low few = few-held p.writes (reset_write key) low few
+
+few-left : (cycle : ℕ) (writes : List FmWrite) → IsFewFm writes → IsFewFm (left_from cycle writes)
+few-left cycle writes few = record {
+  most = length-filter-most (λ w. not (is_below stamp_of cycle w)) 1024 writes few.most;
+  chips = All-filter (λ w. not (is_below stamp_of cycle w)) (λ w. w.key.chip < 2) writes few.chips;
+}
+
+-- the writes that a batch takes are few
+pub fm_taken-few : (cycle : ℕ) (writes : List FmWrite) → IsFewFm writes → length (taken_below cycle writes) ≤ 1024
+fm_taken-few cycle writes few = length-filter-most (is_below stamp_of cycle) 1024 writes few.most
+
+fm-ok : (board : Board) (key : Key) (at value : ℕ) → key.chip < 2 → IsBoard board → IsBoard (with_fm board key at value)
+fm-ok board key at value low ok =
+    record { port1 = ok.port1; port2 = ok.port2; held = ok.held; fm = few-written key (at % 4) value board.fm low ok.fm; store = ok.store }
+
+fm_read-if : (b : Bool) (board : Board) (cycle : ℕ) → IsBoard board → IsBoard (if b then fm_read board cycle else board)
+fm_read-if true board cycle ok = record { port1 = ok.port1; port2 = ok.port2; held = ok.held; fm = ok.fm; store = ok.store }
+fm_read-if false board cycle ok = ok
 
 psg-if : (b : Bool) (board : Board) (key : Key) (value : ℕ) → key.chip < 2 → IsBoard board → IsBoard (if b then with_psg board key value else board)
 psg-if true board key value low ok = psg-ok board key value low ok
@@ -56,22 +112,37 @@ granted-ok false store ok = tt
 store-ok : (store : Store) (at value : ℕ) → IsStore store → IsStore (store_written store at value)
 store-ok store at value ok = record { ram = stored_fits store.ram (at, value) ∙ ok.ram; bank = banked_fits store.bank (at, value) ok.bank }
 
-space-by : (b : Bool) (board : Board) (key : Key) (value : ℕ) (store : Store) → key.chip < 2 → IsBoard board → IsStore store
-    → IsBoard (if b then with_psg board key value else record board { store = Some store })
-space-by true board key value store low ok sound = psg-ok board key value low ok
-space-by false board key value store low ok sound = record { port1 = ok.port1; port2 = ok.port2; held = ok.held; store = sound }
+space-by : (b c : Bool) (board : Board) (key : Key) (at value : ℕ) (store : Store) → key.chip < 2 → IsBoard board → IsStore store
+    → IsBoard (if b then with_psg board key value else (if c then with_fm board key at value else record board { store = Some store }))
+space-by true c board key at value store low ok sound = psg-ok board key value low ok
+space-by false true board key at value store low ok sound = fm-ok board key at value low ok
+space-by false false board key at value store low ok sound = record { port1 = ok.port1; port2 = ok.port2; held = ok.held; fm = ok.fm; store = sound }
 
 space-ok : (store : Option Store) (board : Board) (key : Key) (at value : ℕ) → key.chip < 2 → IsBoard board → IfSome store IsStore → IsBoard (space_written store board key at value)
 space-ok None board key at value low ok sound = ok
-space-ok (Some store) board key at value low ok sound = space-by (is_psg80 at) board key value _ low ok (store-ok store at value sound)
+space-ok (Some store) board key at value low ok sound = space-by (is_psg80 at) (is_fm at) board key at value _ low ok (store-ok store at value sound)
+
+-- a read in it
+space_read-ok : (store : Option Store) (board : Board) (cycle at : ℕ) → IsBoard board → IsBoard (space_read store board cycle at)
+space_read-ok None board cycle at ok = ok
+space_read-ok (Some store) board cycle at ok = fm_read-if (is_fm at) board cycle ok
+
+read-ok : (area : Option Area) (board : Board) (cycle address : ℕ) → IsBoard board → IsBoard (read_at area board cycle address)
+read-ok None board cycle address ok = ok
+read-ok (Some Z80Space) board cycle address ok = space_read-ok (granted board.request board.store) board cycle (z80_address address) ok
+read-ok (Some InputOutput) board cycle address ok = ok
+read-ok (Some BusRequest) board cycle address ok = ok
+read-ok (Some Z80Reset) board cycle address ok = ok
+read-ok (Some VideoPorts) board cycle address ok = ok
 
 -- a write to a line
 requested-ok : (board : Board) (bit : ℕ) → IsBoard board → IsBoard (requested board bit)
-requested-ok board bit ok = record { port1 = ok.port1; port2 = ok.port2; held = ok.held; store = ok.store }
+requested-ok board bit ok = record { port1 = ok.port1; port2 = ok.port2; held = ok.held; fm = ok.fm; store = ok.store }
 
-reset-ok : (b : Bool) (board : Board) → IsBoard board → IsBoard (if b then record board { reset = true; resets = counted board.resets } else record board { reset = false })
-reset-ok true board ok = record { port1 = ok.port1; port2 = ok.port2; held = ok.held; store = ok.store }
-reset-ok false board ok = record { port1 = ok.port1; port2 = ok.port2; held = ok.held; store = ok.store }
+reset-ok : (b : Bool) (board : Board) (key : Key) → key.chip < 2 → IsBoard board
+    → IsBoard (if b then record (with_fm_reset board key) { reset = true; resets = counted board.resets } else record board { reset = false })
+reset-ok true board key low ok = record { port1 = ok.port1; port2 = ok.port2; held = ok.held; fm = few-reset key board.fm low ok.fm; store = ok.store }
+reset-ok false board key low ok = record { port1 = ok.port1; port2 = ok.port2; held = ok.held; fm = ok.fm; store = ok.store }
 
 even-ok : (b : Bool) (one other : Board) → IsBoard one → IsBoard other → IsBoard (if b then one else other)
 even-ok true one other first second = first
@@ -87,7 +158,7 @@ byte-ok (Some Z80Space) board key address value low ok =
     space-ok (granted board.request board.store) board key (z80_address address) value low ok (granted-ok board.request board.store ok.store)
 byte-ok (Some InputOutput) board key address value low ok = register-ok board (register_at address) (value % 0x100) (low-byte value) ok
 byte-ok (Some BusRequest) board key address value low ok = even-ok (address % 2 == 0) _ board (requested-ok board (value % 2) ok) ok
-byte-ok (Some Z80Reset) board key address value low ok = even-ok (address % 2 == 0) _ board (reset-ok (value % 2 == 0) board ok) ok
+byte-ok (Some Z80Reset) board key address value low ok = even-ok (address % 2 == 0) _ board (reset-ok (value % 2 == 0) board key low ok) ok
 byte-ok (Some VideoPorts) board key address value low ok = psg-if (is_psg address && (address % 2 == 1)) board key value low ok
 
 word-ok : (area : Option Area) (board : Board) (key : Key) (address value : ℕ) → key.chip < 2 → IsBoard board → IsBoard (word_written_at area board key address value)
@@ -97,21 +168,21 @@ word-ok (Some Z80Space) board key address value low ok =
     space-ok (granted board.request board.store) board key (z80_address address) (value / 0x100) low ok (granted-ok board.request board.store ok.store)
 word-ok (Some InputOutput) board key address value low ok = register-ok board (register_at address) (value % 0x100) (low-byte value) ok
 word-ok (Some BusRequest) board key address value low ok = requested-ok board (value / 0x100 % 2) ok
-word-ok (Some Z80Reset) board key address value low ok = reset-ok (value / 0x100 % 2 == 0) board ok
+word-ok (Some Z80Reset) board key address value low ok = reset-ok (value / 0x100 % 2 == 0) board key low ok
 word-ok (Some VideoPorts) board key address value low ok = psg-if (is_psg address) board key (value % 0x100) low ok
 
 -- an access of the 68000
 pub main-ok : (board : Board) (key : Key) (request : Request68) → key.chip < 2 → IsBoard board → IsBoard (main_board board key request)
 unfolding main_board
-main-ok board key (Read8 address) low ok = ok
-main-ok board key (Read16 address) low ok = ok
+main-ok board key (Read8 address) low ok = read-ok (area_of address) board key.cycle address ok
+main-ok board key (Read16 address) low ok = read-ok (area_of address) board key.cycle address ok
 main-ok board key (Write8 address value) low ok = byte-ok (area_of address) board key address value low ok
 main-ok board key (Write16 address value) low ok = word-ok (area_of address) board key address value low ok
 main-ok board key (Ack level) low ok = ok
 main-ok board key (Word value) low ok = ok
 
 pads-ok : (b : Bool) (board : Board) (pads : Frame) → IsBoard board → IsBoard (if b then record board { pads = pads } else board)
-pads-ok true board pads ok = record { port1 = ok.port1; port2 = ok.port2; held = ok.held; store = ok.store }
+pads-ok true board pads ok = record { port1 = ok.port1; port2 = ok.port2; held = ok.held; fm = ok.fm; store = ok.store }
 pads-ok false board pads ok = ok
 
 -- the start of a line
@@ -122,7 +193,12 @@ line-ok board cycle ok = pads-ok (cycle % frame == 224 * line) board (pads_of bo
 -- a batch of the PSG synthesis
 pub psg_board-ok : (board : Board) (cycle : ℕ) → IsBoard board → IsBoard (psg_board board cycle)
 unfolding psg_board
-psg_board-ok board cycle ok = record { port1 = ok.port1; port2 = ok.port2; held = IsPort-left_from cycle board.held ok.held; store = ok.store }
+psg_board-ok board cycle ok = record { port1 = ok.port1; port2 = ok.port2; held = IsPort-left_from cycle board.held ok.held; fm = ok.fm; store = ok.store }
+
+-- a batch of the FM synthesis
+pub fm_board-ok : (board : Board) (cycle : ℕ) → IsBoard board → IsBoard (fm_board board cycle)
+unfolding fm_board
+fm_board-ok board cycle ok = record { port1 = ok.port1; port2 = ok.port2; held = ok.held; fm = few-left cycle board.fm.writes ok.fm; store = ok.store }
 
 -- what a request hands over
 abbrev pub HandsOver : Asked → Type 0
@@ -130,19 +206,25 @@ HandsOver (HandOver store) = IsStore store
 HandsOver request = Unit {0}
 
 yielded-ok : (request : Bool) (board : Board) (key : Key) (store : Store) → IsBoard board → IsStore store → IsBoard (yielded request board key store).board
-yielded-ok true board key store ok sound = record { port1 = ok.port1; port2 = ok.port2; held = ok.held; store = sound }
+yielded-ok true board key store ok sound = record { port1 = ok.port1; port2 = ok.port2; held = ok.held; fm = ok.fm; store = sound }
 yielded-ok false board key store ok sound = ok
 
 taken-ok : (request : Bool) (store : Option Store) (board : Board) (key : Key) → IsBoard board → IsBoard (taken_back request store board key).board
 taken-ok true store board key ok = ok
 taken-ok false None board key ok = ok
-taken-ok false (Some store) board key ok = record { port1 = ok.port1; port2 = ok.port2; held = ok.held; store = tt }
+taken-ok false (Some store) board key ok = record { port1 = ok.port1; port2 = ok.port2; held = ok.held; fm = ok.fm; store = tt }
+
+sub_written-ok : (b c : Bool) (board : Board) (key : Key) (at value : ℕ) → key.chip < 2 → IsBoard board
+    → IsBoard (if b then with_psg board key value else (if c then with_fm board key at value else board))
+sub_written-ok true c board key at value low ok = psg-ok board key value low ok
+sub_written-ok false true board key at value low ok = fm-ok board key at value low ok
+sub_written-ok false false board key at value low ok = ok
 
 -- an access of the Z80
 pub sub-ok : (board : Board) (key : Key) (request : Asked) → key.chip < 2 → HandsOver request → IsBoard board → IsBoard (sub_access board key request).board
 unfolding sub_access
-sub-ok board key (ReadByte at) low hands ok = ok
-sub-ok board key (WriteByte at value) low hands ok = psg-if (is_psg80 at) board key value low ok
+sub-ok board key (ReadByte at) low hands ok = fm_read-if (is_fm at) board key.cycle ok
+sub-ok board key (WriteByte at value) low hands ok = sub_written-ok (is_psg80 at) (is_fm at) board key at value low ok
 sub-ok board key (HandOver store) low hands ok = yielded-ok board.request board key store ok hands
 sub-ok board key TakeBack low hands ok = taken-ok board.request board.store board key ok
 
@@ -155,10 +237,21 @@ taken-fits true store board key sound = tt
 taken-fits false None board key sound = tt
 taken-fits false (Some store) board key sound = sound
 
+-- what the FM chip's status or nothing gives is a byte
+flag : (b : Bool) → fm_timers.bit b ≤ 1
+flag true = omega arith
+flag false = omega arith
+
+pub status-below : (b : Bool) (timers : Timers) (cycle : ℕ) → (if b then status cycle timers else 0xff) < 0x100
+unfolding status
+status-below true timers cycle =
+    omega (arith, flag (shown cycle (timers.control / 4 % 2 == 1) timers.a), flag (shown cycle (timers.control / 8 % 2 == 1) timers.b))
+status-below false timers cycle = lit< tt
+
 -- what it is told fits
 pub sub-fits : (board : Board) (key : Key) (request : Asked) → HandsOver request → IsBoard board → Fits request (sub_access board key request).answer
 unfolding sub_access
-sub-fits board key (ReadByte at) hands ok = lit< tt
+sub-fits board key (ReadByte at) hands ok = status-below (is_fm at) (both_settled key.cycle board.fm.timers) key.cycle
 sub-fits board key (WriteByte at value) hands ok = tt
 sub-fits board key (HandOver store) hands ok = yielded-fits board.request board key store hands
 sub-fits board key TakeBack hands ok = taken-fits board.request board.store board key ok.store

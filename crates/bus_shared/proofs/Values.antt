@@ -8,7 +8,10 @@ use Rattle.bus_shared.specs.Areas.{byte_at, byte_in, word_at, word_in}
 use Rattle.bus_shared.specs.Board.{Board, IsBoard}
 use Rattle.bus_shared.specs.Lines.{request_bit}
 use Rattle.bus_shared.specs.Registers.{register_at, register_read}
+use Rattle.bus_shared.specs.Fm.{is_fm}
 use Rattle.bus_shared.specs.Z80Space.{granted, space_byte, z80_address}
+use Rattle.fm_chip.specs.Timers.{both_settled}
+use Rattle.bus_shared.proofs.Keeps.{status-below}
 use Rattle.z80_parcel.specs.Parcels.{Store, is_ram, ram_place}
 use Rattle.std.specs.Prelude.{is_some, slice_index, ◌==◌, ◌%◌}
 use Rattle.bus_shared.specs.declared.register.Register.{Register}
@@ -40,13 +43,14 @@ register-below board Control2 ok = ok.port2.control
 register-below board Unused ok = lit< tt
 
 -- a byte of the Z80's space
-space-by : (b : Bool) (n : ℕ) → (if b then n % 0x100 else 0xff) < 0x100
-space-by true n = omega arith
-space-by false n = lit< tt
+space-by : (b : Bool) (n m : ℕ) → m < 0x100 → (if b then n % 0x100 else m) < 0x100
+space-by true n m below = omega arith
+space-by false n m below = below
 
-space-below : (store : Option Store) (at : ℕ) → space_byte store at < 0x100
-space-below None at = lit< tt
-space-below (Some store) at = space-by (is_ram at) (slice_index store.ram (ram_place at))
+space-below : (store : Option Store) (board : Board) (cycle at : ℕ) → space_byte store board cycle at < 0x100
+space-below None board cycle at = lit< tt
+space-below (Some store) board cycle at =
+    space-by (is_ram at) (slice_index store.ram (ram_place at)) _ (status-below (is_fm at) (both_settled cycle board.fm.timers) cycle)
 
 bit-below : (b : Bool) → (if b then 0 else 1) ≤ 1
 bit-below true = omega arith
@@ -57,21 +61,21 @@ even-below true bit h = omega (arith, h)
 even-below false bit h = lit< tt
 
 -- a byte is below 100h
-pub byte-below : (area : Option Area) (board : Board) (address : ℕ) → IsBoard board → byte_at area board address < 0x100
+pub byte-below : (area : Option Area) (board : Board) (cycle address : ℕ) → IsBoard board → byte_at area board cycle address < 0x100
 unfolding byte_in
-byte-below None board address ok = lit< tt
-byte-below (Some Z80Space) board address ok = space-below (granted board.request board.store) (z80_address address)
-byte-below (Some InputOutput) board address ok = register-below board (register_at address) ok
-byte-below (Some BusRequest) board address ok = even-below (address % 2 == 0) (request_bit board) (bit-below (is_some (granted board.request board.store)))
-byte-below (Some Z80Reset) board address ok = lit< tt
-byte-below (Some VideoPorts) board address ok = lit< tt
+byte-below None board cycle address ok = lit< tt
+byte-below (Some Z80Space) board cycle address ok = space-below (granted board.request board.store) board cycle (z80_address address)
+byte-below (Some InputOutput) board cycle address ok = register-below board (register_at address) ok
+byte-below (Some BusRequest) board cycle address ok = even-below (address % 2 == 0) (request_bit board) (bit-below (is_some (granted board.request board.store)))
+byte-below (Some Z80Reset) board cycle address ok = lit< tt
+byte-below (Some VideoPorts) board cycle address ok = lit< tt
 
 -- a word is below 10000h
-pub word-below : (area : Option Area) (board : Board) (address : ℕ) → IsBoard board → word_at area board address < 0x1_0000
+pub word-below : (area : Option Area) (board : Board) (cycle address : ℕ) → IsBoard board → word_at area board cycle address < 0x1_0000
 unfolding word_in
-word-below None board address ok = lit< tt
-word-below (Some Z80Space) board address ok = omega (arith, space-below (granted board.request board.store) (z80_address address))
-word-below (Some InputOutput) board address ok = omega (arith, register-below board (register_at address) ok)
-word-below (Some BusRequest) board address ok = omega (arith, bit-below (is_some (granted board.request board.store)))
-word-below (Some Z80Reset) board address ok = lit< tt
-word-below (Some VideoPorts) board address ok = lit< tt
+word-below None board cycle address ok = lit< tt
+word-below (Some Z80Space) board cycle address ok = omega (arith, space-below (granted board.request board.store) board cycle (z80_address address))
+word-below (Some InputOutput) board cycle address ok = omega (arith, register-below board (register_at address) ok)
+word-below (Some BusRequest) board cycle address ok = omega (arith, bit-below (is_some (granted board.request board.store)))
+word-below (Some Z80Reset) board cycle address ok = lit< tt
+word-below (Some VideoPorts) board cycle address ok = lit< tt

@@ -9,11 +9,14 @@ use Rattle.md_word.specs.declared.pins.Pins80.{Pins80}
 use Rattle.md_word.specs.declared.main_bus.Request68.{Request68}
 use Rattle.md_word.specs.declared.main_bus.Request68.TheVariants.{Read8, Read16, Write8, Write16, Ack, Word}
 use Rattle.md_pads.specs.Recording.{pads_of}
+use Rattle.fm_chip.specs.Port as fm_ports
+use Rattle.fm_chip.specs.declared.write.FmWrite.{FmWrite}
 use Rattle.psg_sound.specs.Port.{left_from, taken_below}
 use Rattle.psg_sound.specs.declared.write.PsgWrite.{PsgWrite}
-use Rattle.bus_shared.specs.Areas.{byte_at, byte_written_at, word_at, word_written_at}
+use Rattle.bus_shared.specs.Areas.{byte_at, byte_written_at, read_at, word_at, word_written_at}
 use Rattle.bus_shared.specs.Board.{Board}
 use Rattle.bus_shared.specs.Entries.{batch_entry, line_entry, main_entry, sub_entry}
+use Rattle.bus_shared.specs.Fm.{chip_byte, chip_read, fm_board, is_fm, with_fm}
 use Rattle.bus_shared.specs.Z80Space.{is_psg80, with_psg}
 use Rattle.z80_parcel.specs.Parcels.{Store}
 use Rattle.z80_parcel.specs.Requests.{Asked, ReadByte, WriteByte, HandOver, TakeBack, Told, Byte, Nothing, Returned, asked, told}
@@ -23,13 +26,13 @@ use Rattle.bus_shared.specs.declared.request.Request.{Request}
 use Rattle.bus_shared.specs.declared.request.Request.TheVariants as requests
 
 -- the value that the 68000 is given: 0 where it reads nothing
-unfoldable pub main_value : Board → Request68 → ℕ
-main_value board (Read8 address) = byte_at (area_of address) board address
-main_value board (Read16 address) = word_at (area_of address) board address
-main_value board (Write8 address value) = 0
-main_value board (Write16 address value) = 0
-main_value board (Ack level) = 0
-main_value board (Word value) = 0
+unfoldable pub main_value : Board → Key → Request68 → ℕ
+main_value board key (Read8 address) = byte_at (area_of address) board key.cycle address
+main_value board key (Read16 address) = word_at (area_of address) board key.cycle address
+main_value board key (Write8 address value) = 0
+main_value board key (Write16 address value) = 0
+main_value board key (Ack level) = 0
+main_value board key (Word value) = 0
 
 -- the cycles until the next word of a transfer: 34, since nothing is drawn
 abbrev pub cost_of : Request68 → ℕ
@@ -37,15 +40,17 @@ cost_of (Word value) = 34
 cost_of request = 0
 
 -- the answer to the 68000; no access starts a transfer
-unfoldable pub main_answer : Board → Request68 → Answer68
-main_answer board request = record { value = main_value board request; transfer = None; cost = cost_of request }
+unfoldable pub main_answer : Board → Key → Request68 → Answer68
+main_answer board key request = record { value = main_value board key request; transfer = None; cost = cost_of request }
 
 -- its entry
 unfoldable pub main_told : Board → Key → Request68 → Entry
-main_told board key request = main_entry key request (main_value board request)
+main_told board key request = main_entry key request (main_value board key request)
 
 -- the board after an access of the 68000
 unfoldable pub main_board : Board → Key → Request68 → Board
+main_board board key (Read8 address) = read_at (area_of address) board key.cycle address
+main_board board key (Read16 address) = read_at (area_of address) board key.cycle address
 main_board board key (Write8 address value) = byte_written_at (area_of address) board key address value
 main_board board key (Write16 address value) = word_written_at (area_of address) board key address value
 main_board board key request = board
@@ -66,13 +71,18 @@ abbrev pub taken_back : Bool → Option Store → Board → Key → SubAccess
 taken_back false (Some store) board key = record { answer = Returned store; entry = sub_entry key 9 0 1; board = record board { store = None } }
 taken_back request store board key = record { answer = Nothing; entry = sub_entry key 9 0 0; board = board }
 
--- the board after the Z80 writes a byte: the PSG takes its own
+-- the board after the Z80 writes a byte: the PSG and the FM chip take their own
 abbrev pub sub_written : Board → Key → ℕ → ℕ → Board
-sub_written board key at value = if is_psg80 at then with_psg board key value else board
+sub_written board key at value =
+    if is_psg80 at then with_psg board key value else (if is_fm at then with_fm board key at value else board)
 
--- of reads and writes only the PSG's are built
+-- an access of the Z80
 unfoldable pub sub_access : Board → Key → Asked → SubAccess
-sub_access board key (ReadByte at) = record { answer = Byte 0xff; entry = sub_entry key 6 at 0xff; board = board }
+sub_access board key (ReadByte at) = record {
+  answer = Byte (chip_byte board key.cycle at);
+  entry = sub_entry key 6 at (chip_byte board key.cycle at);
+  board = chip_read board key.cycle at;
+}
 sub_access board key (WriteByte at value) = record {
   answer = Nothing;
   entry = sub_entry key 7 at value;
@@ -95,14 +105,14 @@ pub data Shown : Type 0 where
   Main : Answer68 → Shown
   Sub : Told → Shown
   Line : Shown
-  Fm : Shown
+  Fm : List FmWrite → Shown
   Psg : List PsgWrite → Shown
 
 abbrev pub shown : Answer → Shown
 shown (answers.Main answer) = Main answer
 shown (answers.Sub answer) = Sub (told answer)
 shown answers.Line = Line
-shown answers.Fm = Fm
+shown (answers.Fm list) = Fm list.value.items
 shown (answers.Psg list) = Psg list.value.items
 
 pub record Carried : Type 0 where
@@ -121,7 +131,7 @@ sub_pins board = record { request = board.request; reset = board.reset; resets =
 -- an access of the chip whose key it is
 unfoldable pub carried : Board → Key → Request → Carried
 carried board key (requests.Main request) = record {
-  answer = Main (main_answer board request);
+  answer = Main (main_answer board key request);
   entry = main_told board key request;
   board = main_board board key request;
 }
@@ -133,7 +143,11 @@ carried board key requests.Line = record {
   entry = line_entry key (level_of (line_board board key.cycle));
   board = line_board board key.cycle;
 }
-carried board key requests.Fm = record { answer = Fm; entry = batch_entry 11 key 0; board = board }
+carried board key (requests.Fm list) = record {
+  answer = Fm (fm_ports.taken_below key.cycle board.fm.writes);
+  entry = batch_entry 11 key (length (fm_ports.taken_below key.cycle board.fm.writes));
+  board = fm_board board key.cycle;
+}
 carried board key (requests.Psg list) = record {
   answer = Psg (taken_below key.cycle board.held);
   entry = batch_entry 12 key (length (taken_below key.cycle board.held));
@@ -145,5 +159,5 @@ abbrev pub chip_of : Request → ℕ
 chip_of (requests.Main request) = 0
 chip_of (requests.Sub request) = 1
 chip_of requests.Line = 2
-chip_of requests.Fm = 3
+chip_of (requests.Fm list) = 3
 chip_of (requests.Psg list) = 4

@@ -1,5 +1,7 @@
 -- What the chips share.
-use Rattle.std.specs.Prelude.{◌<◌, List, [], ℕ, Bool, true, false, Option, None, IfSome}
+use Rattle.std.specs.Prelude.{◌<◌, ◌≤◌, List, [], length, All, ℕ, Bool, true, false, Option, None, IfSome}
+use Rattle.fm_chip.specs.Port as fm_ports
+use Rattle.fm_chip.specs.declared.write.FmWrite.{FmWrite}
 use Rattle.md_pads.specs.Pad.{Latches}
 use Rattle.md_pads.specs.Recording.{Frame}
 use Rattle.psg_sound.specs.Port.{IsPort}
@@ -16,6 +18,8 @@ pub record Board : Type 0 where
   pub port2 : Latches
   -- the writes that the PSG's port holds
   pub held : List PsgWrite
+  -- the FM chip's port: its latches, its timers, and the writes that it holds
+  pub fm : fm_ports.Port
   -- whether the Z80's bus is requested, whether its reset is held, and how often that was written
   pub request : Bool
   pub reset : Bool
@@ -28,11 +32,17 @@ pub record IsLatched (port : Latches) : Type 0 where
   pub value : port.value < 0x100
   pub control : port.control < 0x100
 
+-- the FM chip's port holds few writes, all by the processors
+pub record IsFewFm (writes : List FmWrite) : Type 0 where
+  pub most : length writes ≤ 1024
+  pub chips : All (λ w. w.key.chip < 2) writes
+
 -- what holds of each board
 pub record IsBoard (board : Board) : Type 0 where
   pub port1 : IsLatched board.port1
   pub port2 : IsLatched board.port2
   pub held : IsPort board.held
+  pub fm : IsFewFm board.fm.writes
   pub store : IfSome board.store IsStore
 
 -- latches at power-on
@@ -48,6 +58,7 @@ power_on recording = record {
   port1 = cleared;
   port2 = cleared;
   held = [];
+  fm = fm_ports.at_power_on;
   request = false;
   reset = true;
   resets = 0;

@@ -2,6 +2,7 @@ pub mod Accesses
 pub mod Areas
 pub mod Board
 pub mod Entries
+pub mod Fm
 pub mod Laws
 pub mod Lines
 pub mod Registers

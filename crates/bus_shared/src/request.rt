@@ -2,9 +2,11 @@ ghost use Rattle.std.specs.Prelude.{◌≡◌, List, Some, option_map};
 ghost use Rattle.bus_shared.specs.Accesses as accesses;
 ghost use Rattle.bus_shared.specs.Accesses.{shown};
 ghost use Rattle.md_word.specs.declared.main_bus.Answer68.{Answer68 as MainAnswer};
+ghost use Rattle.fm_chip.specs.declared.write.FmWrite.{FmWrite as WriteFm};
 ghost use Rattle.psg_sound.specs.declared.write.PsgWrite.{PsgWrite as Write};
 ghost use Rattle.z80_parcel.specs.Requests.{Told, told};
 
+use fm_chip::FmList;
 use md_word::{Answer68, Answer80, Request68, Request80};
 use psg_sound::PsgList;
 
@@ -17,8 +19,8 @@ pub enum Request {
     Sub(Request80),
     /// The start of a line, by the drawing half of the VDP, chip 2.
     Line,
-    /// A batch of the FM synthesis, chip 3.
-    Fm,
+    /// A batch of the FM synthesis, chip 3: the list into which the writes for it are moved.
+    Fm(Box<FmList>),
     /// A batch of the PSG synthesis, chip 4: the list into which the writes for it are moved.
     Psg(Box<PsgList>),
 }
@@ -32,8 +34,8 @@ pub enum Answer {
     Sub(Answer80),
     /// To the start of a line.
     Line,
-    /// To a batch of the FM synthesis.
-    Fm,
+    /// To a batch of the FM synthesis: the writes for it.
+    Fm(Box<FmList>),
     /// To a batch of the PSG synthesis: the writes for it.
     Psg(Box<PsgList>),
 }
@@ -45,7 +47,7 @@ impl Answer {
     {
         match self {
             Answer::Main(answer) => Some(answer),
-            Answer::Sub(_) | Answer::Line | Answer::Fm | Answer::Psg(_) => None,
+            Answer::Sub(_) | Answer::Line | Answer::Fm(_) | Answer::Psg(_) => None,
         }
     }
 
@@ -55,7 +57,17 @@ impl Answer {
     {
         match self {
             Answer::Sub(answer) => Some(answer),
-            Answer::Main(_) | Answer::Line | Answer::Fm | Answer::Psg(_) => None,
+            Answer::Main(_) | Answer::Line | Answer::Fm(_) | Answer::Psg(_) => None,
+        }
+    }
+
+    /// The writes that it hands to the FM synthesis, if it does.
+    pub fn fm_list(self) -> Option<Box<FmList>>
+        ensures { (writes : List WriteFm) → shown self ≡ accesses.Fm writes → option_map (λ list. list.value.items) result ≡ Some writes }
+    {
+        match self {
+            Answer::Fm(list) => Some(list),
+            Answer::Main(_) | Answer::Sub(_) | Answer::Line | Answer::Psg(_) => None,
         }
     }
 
@@ -65,7 +77,7 @@ impl Answer {
     {
         match self {
             Answer::Psg(list) => Some(list),
-            Answer::Main(_) | Answer::Sub(_) | Answer::Line | Answer::Fm => None,
+            Answer::Main(_) | Answer::Sub(_) | Answer::Line | Answer::Fm(_) => None,
         }
     }
 }

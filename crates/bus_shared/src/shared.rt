@@ -1,21 +1,24 @@
 ghost use Rattle.std.specs.Prelude.{◌≡◌, ◌^◌, ◌<◌, ◌≤◌, IfOk};
 ghost use Rattle.std.specs.Arc.{arc_value};
 ghost use Rattle.md_word.specs.Map.{area_of};
+ghost use Rattle.fm_chip.specs.Port as fm_ports;
 ghost use Rattle.psg_sound.specs.Port.{taken_below};
 ghost use Rattle.bus_shared.specs.Accesses.{carried, chip_of, shown};
 ghost use Rattle.bus_shared.specs.Accesses as accesses;
 ghost use Rattle.bus_shared.specs.Areas as areas;
 ghost use Rattle.bus_shared.specs.Board as boards;
+ghost use Rattle.bus_shared.specs.Fm as fm;
 ghost use Rattle.bus_shared.specs.Lines as lines;
 ghost use Rattle.bus_shared.specs.Registers as registers;
 ghost use Rattle.bus_shared.specs.Z80Space as space;
 ghost use Rattle.z80_parcel.specs.Parcels.{store_of};
 ghost use Rattle.z80_parcel.specs.Requests.{asked, told};
 
-use crate::area::is_psg;
+use crate::area::{is_fm, is_psg};
 use crate::entries::{fm_entry, line_entry, main_entry, psg_entry, sub_entry};
 use crate::register::Register;
 use crate::request::{Answer, Request};
+use fm_chip::{FmList, FmPort};
 use md_pads::{PadPort, Recording};
 use md_word::clock::{FRAME, LINE};
 use md_word::{
@@ -48,8 +51,7 @@ const PADS_LINE: u64 = 224;
 /// The master cycles of a transferred word while nothing is drawn.
 const UNDRAWN_COST: u16 = 34;
 
-/// What the chips share. The FM chip and the VDP are not built yet: reads of them give all ones, and
-/// writes have no effect.
+/// What the chips share. The VDP is not built yet: reads of it give all ones, and writes have no effect.
 #[derive(Drop)]
 pub struct Shared {
     recording: Arc<Recording>,
@@ -57,6 +59,7 @@ pub struct Shared {
     port1: PadPort,
     port2: PadPort,
     psg: Box<PsgPort>,
+    fm: Box<FmPort>,
     request: bool,
     reset: bool,
     resets: u64,
@@ -71,9 +74,9 @@ impl Model for Shared {
 
     ghost Value = { Board };
 
-    ghost view = { λ s. record { recording = arc_value s.recording; pads = s.pads; port1 = s.port1; port2 = s.port2; held = s.psg.value; request = s.request; reset = s.reset; resets = s.resets; store = option_map store_of s.parcel } };
+    ghost view = { λ s. record { recording = arc_value s.recording; pads = s.pads; port1 = s.port1; port2 = s.port2; held = s.psg.value; fm = s.fm.value; request = s.request; reset = s.reset; resets = s.resets; store = option_map store_of s.parcel } };
 
-    ghost invariant = { λ s. IsBoard (record { recording = arc_value s.recording; pads = s.pads; port1 = s.port1; port2 = s.port2; held = s.psg.value; request = s.request; reset = s.reset; resets = s.resets; store = option_map store_of s.parcel }) };
+    ghost invariant = { λ s. IsBoard (record { recording = arc_value s.recording; pads = s.pads; port1 = s.port1; port2 = s.port2; held = s.psg.value; fm = s.fm.value; request = s.request; reset = s.reset; resets = s.resets; store = option_map store_of s.parcel }) };
 }
 
 impl Shared {
@@ -90,6 +93,7 @@ impl Shared {
             port1: PadPort::power_on(),
             port2: PadPort::power_on(),
             psg: Box::new(alloc, PsgPort::power_on())?,
+            fm: Box::new(alloc, FmPort::power_on())?,
             request: false,
             reset: true,
             resets: 0,
@@ -102,6 +106,7 @@ impl Shared {
         ensures { IsBoard self.now }
     {
         let _psg = &self.psg;
+        let _fm = &self.fm;
     }
 
     #[tactic(auto, unfolding(crate::specs::Registers::register_read))]
@@ -133,12 +138,33 @@ impl Shared {
     }
 
     /// What the 68000 reads in the Z80's space.
-    fn read_space(&self, at: u16) -> u8
-        ensures { result ≡ space.space_byte (space.granted self.now.request self.now.store) at }
+    fn read_space(&mut self, cycle: u64, at: u16) -> u8
+        requires { cycle ≤ 2 ^ 50 }
+        ensures value { result ≡ space.space_byte (space.granted self.old.request self.old.store) self.old cycle at }
+        ensures board { self.new ≡ space.space_read (space.granted self.old.request self.old.store) self.old cycle at }
     {
         match &self.parcel {
-            Some(parcel) if self.request && at < RAM_END => read(at, parcel),
+            Some(parcel) if self.request => {
+                if at < RAM_END {
+                    read(at, parcel)
+                } else {
+                    self.read_chip(cycle, at)
+                }
+            }
             _ => OPEN_BYTE,
+        }
+    }
+
+    /// What a read beside the Z80's RAM gives: the FM chip's status, or all ones.
+    fn read_chip(&mut self, cycle: u64, at: u16) -> u8
+        requires { cycle ≤ 2 ^ 50 }
+        ensures value { result ≡ fm.chip_byte self.old cycle at }
+        ensures board { self.new ≡ fm.chip_read self.old cycle at }
+    {
+        if is_fm(at) {
+            self.fm.status(cycle)
+        } else {
+            OPEN_BYTE
         }
     }
 
@@ -152,11 +178,13 @@ impl Shared {
     }
 
     #[tactic(auto, unfolding(crate::specs::Areas::byte_in))]
-    fn read_byte(&self, address: u32) -> u8
-        ensures { result ≡ areas.byte_at (area_of address) self.now address }
+    fn read_byte(&mut self, cycle: u64, address: u32) -> u8
+        requires { cycle ≤ 2 ^ 50 }
+        ensures value { result ≡ areas.byte_at (area_of address) self.old cycle address }
+        ensures board { self.new ≡ areas.read_at (area_of address) self.old cycle address }
     {
         match Area::of(address) {
-            Some(Area::Z80Space) => self.read_space((address % 0x1_0000) as u16),
+            Some(Area::Z80Space) => self.read_space(cycle, (address % 0x1_0000) as u16),
             Some(Area::InputOutput) => self.read_register(Register::at(address)),
             Some(Area::BusRequest) if address % 2 == 0 => self.request_bit(),
             Some(Area::BusRequest | Area::Z80Reset) => 0,
@@ -165,12 +193,14 @@ impl Shared {
     }
 
     #[tactic(auto, unfolding(crate::specs::Areas::word_in))]
-    fn read_word(&self, address: u32) -> u16
-        ensures { result ≡ areas.word_at (area_of address) self.now address }
+    fn read_word(&mut self, cycle: u64, address: u32) -> u16
+        requires { cycle ≤ 2 ^ 50 }
+        ensures value { result ≡ areas.word_at (area_of address) self.old cycle address }
+        ensures board { self.new ≡ areas.read_at (area_of address) self.old cycle address }
     {
         match Area::of(address) {
             Some(Area::Z80Space) => {
-                u16::from(self.read_space((address % 0x1_0000) as u16)) * 0x101
+                u16::from(self.read_space(cycle, (address % 0x1_0000) as u16)) * 0x101
             }
             Some(Area::InputOutput) => {
                 u16::from(self.read_register(Register::at(address))) * 0x101
@@ -188,15 +218,26 @@ impl Shared {
         self.psg.write(key, value);
     }
 
+    fn write_fm(&mut self, key: Key, at: u16, value: u8)
+        requires chip { key.chip < 2 }
+        requires cycle { key.cycle ≤ 2 ^ 50 }
+        ensures { self.new ≡ fm.with_fm self.old key at value }
+    {
+        self.fm.write(key, (at % 4) as u8, value);
+    }
+
     /// Writes a byte in the Z80's space.
     fn write_space(&mut self, key: Key, at: u16, value: u8)
-        requires { key.chip < 2 }
+        requires chip { key.chip < 2 }
+        requires cycle { key.cycle ≤ 2 ^ 50 }
         ensures { self.new ≡ space.space_written (space.granted self.old.request self.old.store) self.old key at value }
     {
         match &mut self.parcel {
             Some(parcel) if self.request => {
                 if at == PSG80 {
-                    self.psg.write(key, value);
+                    self.write_psg(key, value);
+                } else if is_fm(at) {
+                    self.write_fm(key, at, value);
                 } else {
                     store_byte(at, value, parcel);
                 }
@@ -212,13 +253,15 @@ impl Shared {
         self.request = bit == 1;
     }
 
-    /// Holds the Z80's reset, which is counted, or releases it.
-    fn write_reset(&mut self, bit: u8)
-        ensures { self.new ≡ lines.reset_written self.old bit }
+    /// Holds the Z80's reset, which is counted and resets the FM chip, or releases it.
+    fn write_reset(&mut self, key: Key, bit: u8)
+        requires { key.chip ≡ 0 }
+        ensures { self.new ≡ lines.reset_written self.old key bit }
     {
         if bit == 0 {
             self.reset = true;
             self.resets = self.resets.saturating_add(1);
+            self.fm.reset(key);
         } else {
             self.reset = false;
         }
@@ -226,14 +269,15 @@ impl Shared {
 
     #[tactic(auto, unfolding(crate::specs::Areas::byte_written_in))]
     fn write_byte(&mut self, key: Key, address: u32, value: u8)
-        requires { key.chip < 2 }
+        requires chip { key.chip ≡ 0 }
+        requires cycle { key.cycle ≤ 2 ^ 50 }
         ensures { self.new ≡ areas.byte_written_at (area_of address) self.old key address value }
     {
         match Area::of(address) {
             Some(Area::Z80Space) => self.write_space(key, (address % 0x1_0000) as u16, value),
             Some(Area::InputOutput) => self.write_register(Register::at(address), value),
             Some(Area::BusRequest) if address % 2 == 0 => self.write_request(value % 2),
-            Some(Area::Z80Reset) if address % 2 == 0 => self.write_reset(value % 2),
+            Some(Area::Z80Reset) if address % 2 == 0 => self.write_reset(key, value % 2),
             Some(Area::VideoPorts) if is_psg(address) && address % 2 == 1 => {
                 self.write_psg(key, value)
             }
@@ -243,7 +287,8 @@ impl Shared {
 
     #[tactic(auto, unfolding(crate::specs::Areas::word_written_in))]
     fn write_word(&mut self, key: Key, address: u32, value: u16)
-        requires { key.chip < 2 }
+        requires chip { key.chip ≡ 0 }
+        requires cycle { key.cycle ≤ 2 ^ 50 }
         ensures { self.new ≡ areas.word_written_at (area_of address) self.old key address value }
     {
         let high = (value / 0x100) as u8;
@@ -252,51 +297,49 @@ impl Shared {
             Some(Area::Z80Space) => self.write_space(key, (address % 0x1_0000) as u16, high),
             Some(Area::InputOutput) => self.write_register(Register::at(address), low),
             Some(Area::BusRequest) => self.write_request(high % 2),
-            Some(Area::Z80Reset) => self.write_reset(high % 2),
+            Some(Area::Z80Reset) => self.write_reset(key, high % 2),
             Some(Area::VideoPorts) if is_psg(address) => self.write_psg(key, low),
             _ => {}
         }
     }
 
-    /// The value that an access gives the 68000.
-    #[tactic(auto, unfolding(crate::specs::Accesses::main_value))]
-    fn main_value(&self, request: Request68) -> u16
-        ensures { result ≡ accesses.main_value self.now request }
+    /// The value that an access gives the 68000, and what it changes.
+    #[tactic(auto, unfolding(crate::specs::Accesses::main_value, crate::specs::Accesses::main_board))]
+    fn main_value(&mut self, key: Key, request: Request68) -> u16
+        requires chip { key.chip ≡ 0 }
+        requires cycle { key.cycle ≤ 2 ^ 50 }
+        ensures value { result ≡ accesses.main_value self.old key request }
+        ensures board { self.new ≡ accesses.main_board self.old key request }
     {
         match request {
-            Request68::Read8(address) => u16::from(self.read_byte(address)),
-            Request68::Read16(address) => self.read_word(address),
-            _ => 0,
-        }
-    }
-
-    /// What an access of the 68000 changes.
-    #[tactic(auto, unfolding(crate::specs::Accesses::main_board))]
-    fn main_change(&mut self, key: Key, request: Request68)
-        requires { key.chip < 2 }
-        ensures { self.new ≡ accesses.main_board self.old key request }
-    {
-        match request {
-            Request68::Write8(address, value) => self.write_byte(key, address, value),
-            Request68::Write16(address, value) => self.write_word(key, address, value),
-            _ => {}
+            Request68::Read8(address) => u16::from(self.read_byte(key.cycle, address)),
+            Request68::Read16(address) => self.read_word(key.cycle, address),
+            Request68::Write8(address, value) => {
+                self.write_byte(key, address, value);
+                0
+            }
+            Request68::Write16(address, value) => {
+                self.write_word(key, address, value);
+                0
+            }
+            Request68::Ack(_) | Request68::Word(_) => 0,
         }
     }
 
     /// Carries out an access of the 68000.
     #[tactic(auto, unfolding(crate::specs::Accesses::main_answer, crate::specs::Accesses::main_told))]
     fn main(&mut self, key: Key, request: Request68) -> (Answer68, Entry)
-        requires { key.chip < 2 }
-        ensures answer { result.0 ≡ accesses.main_answer self.old request }
+        requires chip { key.chip ≡ 0 }
+        requires cycle { key.cycle ≤ 2 ^ 50 }
+        ensures answer { result.0 ≡ accesses.main_answer self.old key request }
         ensures entry { result.1 ≡ accesses.main_told self.old key request }
         ensures board { self.new ≡ accesses.main_board self.old key request }
     {
-        let value = self.main_value(request);
+        let value = self.main_value(key, request);
         let cost = match request {
             Request68::Word(_) => UNDRAWN_COST,
             _ => 0,
         };
-        self.main_change(key, request);
         let answer = Answer68 {
             value,
             transfer: None,
@@ -335,28 +378,32 @@ impl Shared {
         }
     }
 
-    /// Carries out a byte that the Z80 writes: the PSG takes its own.
+    /// Carries out a byte that the Z80 writes: the PSG and the FM chip take their own.
     fn sub_write(&mut self, key: Key, at: u16, value: u8)
-        requires { key.chip < 2 }
+        requires chip { key.chip < 2 }
+        requires cycle { key.cycle ≤ 2 ^ 50 }
         ensures { self.new ≡ accesses.sub_written self.old key at value }
     {
         if at == PSG80 {
             self.write_psg(key, value);
+        } else if is_fm(at) {
+            self.write_fm(key, at, value);
         }
     }
 
     /// Carries out an access of the Z80.
     #[tactic(auto, unfolding(crate::specs::Accesses::sub_access))]
     fn sub(&mut self, key: Key, request: Request80) -> (Answer80, Entry)
-        requires { key.chip < 2 }
+        requires chip { key.chip < 2 }
+        requires cycle { key.cycle ≤ 2 ^ 50 }
         ensures answer { told result.0 ≡ (accesses.sub_access self.old key (asked request)).answer }
         ensures entry { result.1 ≡ (accesses.sub_access self.old key (asked request)).entry }
         ensures board { self.new ≡ (accesses.sub_access self.old key (asked request)).board }
     {
         match request {
             Request80::Read(at) => {
-                self.known();
-                (Answer80::Value(OPEN_BYTE), sub_entry(key, 6, at, OPEN_BYTE))
+                let value = self.read_chip(key.cycle, at);
+                (Answer80::Value(value), sub_entry(key, 6, at, value))
             }
             Request80::Write(at, value) => {
                 self.sub_write(key, at, value);
@@ -377,6 +424,15 @@ impl Shared {
         }
     }
 
+    /// Moves the writes of the FM chip that are stamped below a cycle into `into`.
+    #[tactic(auto, unfolding(crate::specs::Fm::fm_board))]
+    fn take_fm(&mut self, cycle: u64, into: &mut FmList)
+        ensures taken { into.new.items ≡ fm_ports.taken_below cycle self.old.fm.writes }
+        ensures board { self.new ≡ fm.fm_board self.old cycle }
+    {
+        self.fm.take(cycle, into);
+    }
+
     /// Moves the writes of the PSG that are stamped below a cycle into `into`.
     #[tactic(auto, unfolding(crate::specs::Accesses::psg_board))]
     fn take(&mut self, cycle: u64, into: &mut PsgList)
@@ -387,10 +443,12 @@ impl Shared {
     }
 }
 
-/// Carries out one access of the chip whose key it is: its answer, and its entry in the journal.
+/// Carries out one access of the chip whose key it is, at a cycle of at most 2^50: its answer, and its
+/// entry in the journal.
 #[tactic(auto, unfolding(crate::specs::Accesses::carried))]
 pub fn carry_out(shared: &mut Shared, key: Key, request: Request) -> (Answer, Entry)
-    requires { key.chip ≡ chip_of request }
+    requires chip { key.chip ≡ chip_of request }
+    requires cycle { key.cycle ≤ 2 ^ 50 }
     ensures answer { shown result.0 ≡ (carried shared.old key request).answer }
     ensures entry { result.1 ≡ (carried shared.old key request).entry }
     ensures board { shared.new ≡ (carried shared.old key request).board }
@@ -408,7 +466,11 @@ pub fn carry_out(shared: &mut Shared, key: Key, request: Request) -> (Answer, En
             shared.line(key.cycle);
             (Answer::Line, line_entry(key, pins68(shared).level))
         }
-        Request::Fm => (Answer::Fm, fm_entry(key, 0)),
+        Request::Fm(mut list) => {
+            shared.take_fm(key.cycle, &mut list);
+            let taken = list.len() as u16;
+            (Answer::Fm(list), fm_entry(key, taken))
+        }
         Request::Psg(mut list) => {
             shared.take(key.cycle, &mut list);
             let taken = list.len() as u16;

@@ -6,6 +6,7 @@ use Rattle.md_word.specs.declared.event.Next.{Next}
 use Rattle.z80_parcel.specs.Requests as told80
 use Rattle.m68k_chip.specs.Events.{request_of}
 use Rattle.m68k_chip.specs.Sound.{Fits}
+use Rattle.m68k_chip.specs.States.{next_of as main_next_of}
 use Rattle.md_machine.specs.Laws.{answer-fits, told-fits}
 use Rattle.bus_shared.specs.Board.{Board, IsBoard}
 use Rattle.md_machine.specs.Refinement.{main_of, sub_of}
@@ -19,7 +20,7 @@ abbrev AnswerFits : MainChip → Type 0
 AnswerFits c = IfSome c.answer (Fits (request_of c.chip.cart c.chip.state))
 
 pub performed-fits : (before : Chip) (s : Board) → IsBoard s → (c : MainChip) → Main c ≡ (perform before s).chip → IfSome c.answer (Fits (request_of c.chip.cart c.chip.state))
-performed-fits (Main b) s ok c is = subst AnswerFits (sym (ap main_of is)) (answer-fits s (request_of b.chip.cart b.chip.state) ok)
+performed-fits (Main b) s ok c is = subst AnswerFits (sym (ap main_of is)) (answer-fits s (main_next_of b.chip.state).key (request_of b.chip.cart b.chip.state) ok)
 performed-fits (Sub b) s ok c is = cc
 performed-fits (Line b) s ok c is = cc
 performed-fits (Fm b) s ok c is = cc

@@ -1,77 +1,141 @@
--- How many levels and entries a run makes, and what it keeps of the 68000.
-use Rattle.std.proofs.Common.{◌≡◌, ℕ, zero, suc, ◌+◌, ◌-◌, ◌*◌, ◌/◌, ◌<◌, ◌≤◌, cond, Bool, true, false, List, [], ◌∷◌, length, length-append, refl, sym, ap, ◌∙◌, subst, arith}
+-- How many samples and entries a run makes.
+use Rattle.std.proofs.Common.{◌≡◌, ℕ, zero, suc, ◌+◌, ◌-◌, ◌*◌, ◌/◌, ◌<◌, ◌≤◌, cond, Bool, true, false, List, [], ◌∷◌, length, length-append, refl, sym, ap, ◌∙◌, subst, arith, lit<, ◌++◌}
 use Rattle.std.specs.Prelude.{ℤ}
 use Rattle.md_word.specs.declared.event.Entry.{Entry}
 use Rattle.m68k_chip.specs.Events.{request_of}
 use Rattle.m68k_chip.specs.States.{next_of}
 use Rattle.z80_chip.specs.States.{next_of as sub_next_of}
 use Rattle.md_pads.specs.Recording.{Frame}
-use Rattle.psg_sound.specs.Port.{taken_below}
-use Rattle.psg_sound.specs.SynthLaws.{length-samples}
 use Rattle.bus_shared.specs.Accesses.{main_told}
-use Rattle.md_machine.specs.Console.{AllBelow, Console, IsRunTo, first_of, heard, journal, key_in, levels, main_moved, moved, sub_accessed, sub_moved, mover, power_on, psg_moved, ran, told}
+use Rattle.md_machine.specs.Console.{AllBelow, Console, IsQuiet, IsRunTo, fm_moved, heard, journal, key_in, main_moved, moved, sub_accessed, sub_moved, mover, power_on, psg_moved, ran, sounded, told}
+use Rattle.md_machine.specs.Samples.{Samples, joined, no_samples}
 use Rattle.md_machine.specs.Movers.{mover-lt}
 use Rattle.md_machine.proofs.Moves.{five-each}
+use Rattle.md_machine.proofs.Samples.{levels-long, sides-long}
 
--- what a move of a chip does to the batches of the PSG
-data Batch (z : Console) (i : ℕ) : Type 0 where
-  made : (key_in z i).cycle ≡ z.psg_cycle → (moved z i).psg_cycle ≡ z.psg_cycle + 16128 → length (heard z i) ≡ 16 → Batch z i
-  none : (moved z i).psg_cycle ≡ z.psg_cycle → heard z i ≡ [] → Batch z i
+-- a sound chip's samples among those of both, the cycle of its next batch, and what a move does to them
+data Batch {A : Type 0} (of : Samples → List A) (next : Console → ℕ) (z : Console) (i : ℕ) : Type 0 where
+  made : (key_in z i).cycle ≡ next z → next (moved z i) ≡ next z + 16128 → length (of (heard z i)) ≡ 16 → Batch of next z i
+  none : next (moved z i) ≡ next z → of (heard z i) ≡ [] → Batch of next z i
+
+record Beat (A : Type 0) : Type 0 where
+  of : Samples → List A
+  nothing : of no_samples ≡ []
+  more : (first second : Samples) → of (joined first second) ≡ of first ++ of second
+  next : Console → ℕ
+  first : (cart : List ℕ) (recording : List Frame) → next (power_on cart recording) ≡ 16128
+  batch : (z : Console) (i : ℕ) → i < 5 → Batch of next z i
+  late : (z : Console) (end : ℕ) → IsQuiet end z → end ≤ next z
+
+fm-leaves : (b : Bool) (x y : Console) (c : ℕ) → x.fm_cycle ≡ c → y.fm_cycle ≡ c → (cond b x y).fm_cycle ≡ c
+fm-leaves true x y c first second = first
+fm-leaves false x y c first second = second
 
 main-leaves : (b : Bool) (x y : Console) (c : ℕ) → x.psg_cycle ≡ c → y.psg_cycle ≡ c → (cond b x y).psg_cycle ≡ c
 main-leaves true x y c first second = first
 main-leaves false x y c first second = second
 
-batch : (z : Console) (i : ℕ) → i < 5 → Batch z i
-unfolding key_in moved heard main_moved sub_moved psg_moved
-batch z =
-    five-each (λ i. Batch z i)
+fm-batch : (z : Console) (i : ℕ) → i < 5 → Batch (λ s. s.sides) (λ m. m.fm_cycle) z i
+unfolding key_in moved heard main_moved sub_moved fm_moved psg_moved
+fm-batch z =
+    five-each (λ i. Batch (λ s. s.sides) (λ m. m.fm_cycle) z i)
+    (none (fm-leaves (next_of z.main).sample _ _ z.fm_cycle refl refl) refl)
+    (none (fm-leaves (sub_next_of z.sub.state).sample _ _ z.fm_cycle refl refl) refl)
+    (none refl refl) (made refl refl (sides-long z 3 (lit< tt))) (none refl refl)
+
+psg-batch : (z : Console) (i : ℕ) → i < 5 → Batch (λ s. s.levels) (λ m. m.psg_cycle) z i
+unfolding key_in moved heard main_moved sub_moved fm_moved psg_moved
+psg-batch z =
+    five-each (λ i. Batch (λ s. s.levels) (λ m. m.psg_cycle) z i)
     (none (main-leaves (next_of z.main).sample _ _ z.psg_cycle refl refl) refl)
     (none (main-leaves (sub_next_of z.sub.state).sample _ _ z.psg_cycle refl refl) refl)
-    (none refl refl) (none refl refl)
-    (made refl refl (length-samples (first_of z.psg_cycle) z.psg (taken_below z.psg_cycle z.shared.held)))
+    (none refl refl) (none refl refl) (made refl refl (levels-long z 4 (lit< tt)))
+
+fm-late : (z : Console) (end : ℕ) → IsQuiet end z → end ≤ z.fm_cycle
+unfolding key_in
+fm-late z end quiet = quiet 3 (lit< tt)
+
+psg-late : (z : Console) (end : ℕ) → IsQuiet end z → end ≤ z.psg_cycle
+unfolding key_in
+psg-late z end quiet = quiet 4 (lit< tt)
+
+fm_beat : Beat (ℤ × ℤ)
+fm_beat = record {
+  of = λ s. s.sides;
+  nothing = refl;
+  more = λ first second. refl;
+  next = λ m. m.fm_cycle;
+  first = λ cart recording. refl;
+  batch = fm-batch;
+  late = fm-late;
+}
+
+psg_beat : Beat ℤ
+psg_beat = record {
+  of = λ s. s.levels;
+  nothing = refl;
+  more = λ first second. refl;
+  next = λ m. m.psg_cycle;
+  first = λ cart recording. refl;
+  batch = psg-batch;
+  late = psg-late;
+}
 
 -- the batches of the first n moves
-record Batches (cart : List ℕ) (recording : List Frame) (end n : ℕ) : Type 0 where
+record Batches {A : Type 0} (p : Beat A) (cart : List ℕ) (recording : List Frame) (end n : ℕ) : Type 0 where
   batches : ℕ
-  next : (ran (power_on cart recording) n).psg_cycle ≡ 16128 * (batches + 1)
-  count : length (levels (power_on cart recording) n) ≡ 16 * batches
+  next : p.next (ran (power_on cart recording) n) ≡ 16128 * (batches + 1)
+  count : length (p.of (sounded (power_on cart recording) n)) ≡ 16 * batches
   last : 16128 * batches < end
 
-batch-more : (cart : List ℕ) (recording : List Frame) (end n : ℕ) → Batches cart recording end n → (key_in (ran (power_on cart recording) n) (mover (ran (power_on cart recording) n))).cycle < end
-    → Batch (ran (power_on cart recording) n) (mover (ran (power_on cart recording) n)) → Batches cart recording end (suc n)
-unfolding ran levels
-batch-more cart recording end n before below (made at next sixteen) = record {
+-- the samples of one move more
+longer : {A : Type 0} (p : Beat A) (first second : Samples) → length (p.of (joined first second)) ≡ length (p.of first) + length (p.of second)
+longer p first second = ap length (p.more first second) ∙ length-append (p.of first) (p.of second)
+
+batch-more : {A : Type 0} (p : Beat A) (cart : List ℕ) (recording : List Frame) (end n : ℕ) → Batches p cart recording end n
+    → (key_in (ran (power_on cart recording) n) (mover (ran (power_on cart recording) n))).cycle < end
+    → Batch p.of p.next (ran (power_on cart recording) n) (mover (ran (power_on cart recording) n)) → Batches p cart recording end (suc n)
+unfolding ran sounded
+batch-more p cart recording end n before below (made at next sixteen) = record {
   batches = before.batches + 1;
   next = omega (arith, next, before.next);
-  count = omega (arith, length-append (levels (power_on cart recording) n) (heard (ran (power_on cart recording) n) (mover (ran (power_on cart recording) n))), before.count, sixteen);
+  count = omega (arith, longer p (sounded (power_on cart recording) n) (heard (ran (power_on cart recording) n) (mover (ran (power_on cart recording) n))), before.count, sixteen);
   last = omega (arith, at, before.next, below);
 }
-batch-more cart recording end n before below (none next silent) = record {
+batch-more p cart recording end n before below (none next silent) = record {
   batches = before.batches;
   next = next ∙ before.next;
   count =
-      length-append (levels (power_on cart recording) n) (heard (ran (power_on cart recording) n) (mover (ran (power_on cart recording) n)))
-      ∙ ap (λ (l : List ℤ). length (levels (power_on cart recording) n) + length l) silent ∙ omega (arith, before.count);
+      longer p (sounded (power_on cart recording) n) (heard (ran (power_on cart recording) n) (mover (ran (power_on cart recording) n)))
+      ∙ ap (λ l. length (p.of (sounded (power_on cart recording) n)) + length l) silent ∙ omega (arith, before.count);
   last = before.last;
 }
 
-batches-to : (cart : List ℕ) (recording : List Frame) (end n : ℕ) → 1 ≤ end → AllBelow (power_on cart recording) end n → Batches cart recording end n
-unfolding ran levels
-batches-to cart recording end zero some below = record { batches = 0; next = refl; count = refl; last = omega (arith, some) }
-batches-to cart recording end (suc n) some below =
-    batch-more cart recording end n (batches-to cart recording end n some (λ k earlier. below k (omega arith))) (below n (omega arith))
-    (batch (ran (power_on cart recording) n) (mover (ran (power_on cart recording) n)) (mover-lt (ran (power_on cart recording) n)))
+batches-to : {A : Type 0} (p : Beat A) (cart : List ℕ) (recording : List Frame) (end n : ℕ) → 1 ≤ end → AllBelow (power_on cart recording) end n → Batches p cart recording end n
+unfolding ran sounded
+batches-to p cart recording end zero some below = record { batches = 0; next = p.first cart recording; count = ap length p.nothing; last = omega (arith, some) }
+batches-to p cart recording end (suc n) some below =
+    batch-more p cart recording end n (batches-to p cart recording end n some (λ k earlier. below k (omega arith))) (below n (omega arith))
+    (p.batch (ran (power_on cart recording) n) (mover (ran (power_on cart recording) n)) (mover-lt (ran (power_on cart recording) n)))
 
-pub levels-counted : (cart : List ℕ) (recording : List Frame) (z : Console) (end : ℕ) (entries : List Entry) (sound : List ℤ) → 1 ≤ end
-    → IsRunTo (power_on cart recording) end z entries sound → length sound ≡ 16 * ((end - 1) / 16128)
-unfolding key_in
-levels-counted cart recording z end entries sound some run =
-    let counted : Batches cart recording end run.moves = batches-to cart recording end run.moves some run.below in
-    let late : end ≤ z.psg_cycle = run.quiet 4 (omega arith) in
-    let at : z.psg_cycle ≡ 16128 * (counted.batches + 1) = ap (λ (m : Console). m.psg_cycle) run.console ∙ counted.next in
-    let first : (end - 1) / 16128 ≡ counted.batches = omega (arith, late, at, counted.last, some) in
-    ap length run.heard_to ∙ counted.count ∙ ap (λ k. 16 * k) (omega (arith, first))
+counted : {A : Type 0} (p : Beat A) (cart : List ℕ) (recording : List Frame) (z : Console) (end : ℕ) (entries : List Entry) (sound : Samples) → 1 ≤ end
+    → IsRunTo (power_on cart recording) end z entries sound → length (p.of sound) ≡ 16 * ((end - 1) / 16128)
+counted p cart recording z end entries sound some run =
+    let made : Batches p cart recording end run.moves = batches-to p cart recording end run.moves some run.below in
+    let late : end ≤ p.next z = p.late z end run.quiet in
+    let at : p.next z ≡ 16128 * (made.batches + 1) = ap p.next run.console ∙ made.next in
+    let first : (end - 1) / 16128 ≡ made.batches = omega (arith, late, at, made.last, some) in
+    ap (λ (s : Samples). length (p.of s)) run.heard_to ∙ made.count ∙ ap (λ k. 16 * k) (omega (arith, first))
+
+pub sides-counted : (cart : List ℕ) (recording : List Frame) (z : Console) (end : ℕ) (entries : List Entry) (sound : Samples) → 1 ≤ end
+    → IsRunTo (power_on cart recording) end z entries sound → length sound.sides ≡ 16 * ((end - 1) / 16128)
+unfolding fm_beat
+sides-counted = counted fm_beat
+
+pub levels-counted : (cart : List ℕ) (recording : List Frame) (z : Console) (end : ℕ) (entries : List Entry) (sound : Samples) → 1 ≤ end
+    → IsRunTo (power_on cart recording) end z entries sound → length sound.levels ≡ 16 * ((end - 1) / 16128)
+unfolding psg_beat
+levels-counted = counted psg_beat
 
 -- a move gives one entry at most
 told-by : (b : Bool) (e : Entry) → length (cond b [] (e ∷ [])) ≤ 1
@@ -89,5 +153,5 @@ journal-few m zero = omega arith
 journal-few m (suc n) =
     omega (arith, length-append (journal m n) (told (ran m n) (mover (ran m n))), journal-few m n, told-few (ran m n) (mover (ran m n)) (mover-lt (ran m n)))
 
-pub entries-few : (m z : Console) (end : ℕ) (entries : List Entry) (sound : List ℤ) (run : IsRunTo m end z entries sound) → length entries ≤ run.moves
+pub entries-few : (m z : Console) (end : ℕ) (entries : List Entry) (sound : Samples) (run : IsRunTo m end z entries sound) → length entries ≤ run.moves
 entries-few m z end entries sound run = subst (λ (l : List Entry). length l ≤ run.moves) (sym run.entered) (journal-few m run.moves)

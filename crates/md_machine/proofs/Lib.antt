@@ -1,6 +1,7 @@
 pub mod Advances
 pub mod Appended
 pub mod Counts
+pub mod Handed
 pub mod Joined
 pub mod Kept
 pub mod LeastKeys

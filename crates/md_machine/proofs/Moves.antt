@@ -6,15 +6,15 @@ use Rattle.chip_core.specs.Machines.{IsSound, Machine, entries, is_sample, key_o
 use Rattle.m68k_chip.specs.Events.{request_of}
 use Rattle.m68k_chip.specs.States.{next_of}
 use Rattle.psg_sound.specs.Port.{taken_below}
+use Rattle.fm_chip.specs.Port as fm_ports
 use Rattle.bus_shared.specs.Accesses.{level_of, line_board, main_told, sub_access}
 use Rattle.bus_shared.specs.Entries.{batch_entry, line_entry}
-use Rattle.md_machine.specs.Console.{key_in, main_moved, moved, sub_moved, psg_moved, told}
+use Rattle.md_machine.specs.Console.{fm_moved, key_in, main_moved, moved, sub_moved, psg_moved, told}
 use Rattle.bus_shared.specs.Board.{Board, IsBoard}
-use Rattle.md_machine.specs.Parts.{PsgValue, SubValue}
-use Rattle.md_machine.specs.Refinement.{console, cycle_of, main_of, psg_of, sub_of}
+use Rattle.md_machine.specs.Parts.{FmValue, PsgValue, SubValue}
+use Rattle.md_machine.specs.Refinement.{console, cycle_of, fm_of, main_of, psg_of, sub_of}
 use Rattle.md_machine.specs.Rules.{IsChip, advance, five, next, perform, sample}
 use Rattle.md_machine.specs.declared.main_chip.MainChip.{MainChip}
-use Rattle.md_machine.specs.declared.stubs.FmStub.{FmStub}
 use Rattle.md_machine.specs.declared.stubs.LineStub.{LineStub}
 use Rattle.z80_chip.specs.Events.{asked_of}
 use Rattle.z80_chip.specs.States.{next_of as sub_next_of}
@@ -66,7 +66,7 @@ kind2 (Line c) is = (c, refl)
 kind2 (Fm c) is = absurd (omega arith)
 kind2 (Psg c) is = absurd (omega arith)
 
-kind3 : (c : Chip) → (next c).key.chip ≡ 3 → (v : FmStub) × (c ≡ Fm v)
+pub kind3 : (c : Chip) → (next c).key.chip ≡ 3 → (v : FmValue) × (c ≡ Fm v)
 kind3 (Main c) is = absurd (omega (arith, main_zero c))
 kind3 (Sub c) is = absurd (omega (arith, sub_one c))
 kind3 (Line c) is = absurd (omega arith)
@@ -97,8 +97,8 @@ line_move : (m : Machine Chip Board) (v : LineStub) → m.chip 2 ≡ Line v → 
 unfolding console moved put
 line_move m v is = rw (move-access m 2 (ap (λ (c : Chip). (next c).sample) is)) (rw is refl)
 
-fm_move : (m : Machine Chip Board) (v : FmStub) → m.chip 3 ≡ Fm v → console (move five m 3) ≡ moved (console m) 3
-unfolding console moved put
+fm_move : (m : Machine Chip Board) (v : FmValue) → m.chip 3 ≡ Fm v → console (move five m 3) ≡ moved (console m) 3
+unfolding console moved fm_moved put
 fm_move m v is = rw (move-access m 3 (ap (λ (c : Chip). (next c).sample) is)) (rw is refl)
 
 psg_move : (m : Machine Chip Board) (v : PsgValue) → m.chip 4 ≡ Psg v → console (move five m 4) ≡ moved (console m) 4
@@ -142,7 +142,7 @@ key-same m sound =
     (at-kind read (λ c. (next_of (main_of c).chip.state).key) (m.chip 0) (Main k0.0) k0.1 refl)
     (at-kind read (λ c. (sub_next_of (sub_of c).chip.state).key) (m.chip 1) (Sub k1.0) k1.1 refl)
     (at-kind read (λ c. record { cycle = cycle_of c; chip = 2 }) (m.chip 2) (Line k2.0) k2.1 refl)
-    (at-kind read (λ c. record { cycle = cycle_of c; chip = 3 }) (m.chip 3) (Fm k3.0) k3.1 refl)
+    (at-kind read (λ c. record { cycle = (fm_of c).cycle; chip = 3 }) (m.chip 3) (Fm k3.0) k3.1 refl)
     (at-kind read (λ c. record { cycle = (psg_of c).cycle; chip = 4 }) (m.chip 4) (Psg k4.0) k4.1 refl)
 
 -- the entries
@@ -163,7 +163,9 @@ told-same m sound =
     (λ c. let s = (sub_of c).chip.state in cond (sub_next_of s).sample [] ((sub_access m.shared (sub_next_of s).key (asked_of (sub_of c).chip.cart s)).entry ∷ []))
     (m.chip 1) (Sub k1.0) k1.1 refl)
     (at-kind read (λ c. line_entry (record { cycle = cycle_of c; chip = 2 }) (level_of (line_board m.shared (cycle_of c))) ∷ []) (m.chip 2) (Line k2.0) k2.1 refl)
-    (at-kind read (λ c. batch_entry 11 (record { cycle = cycle_of c; chip = 3 }) 0 ∷ []) (m.chip 3) (Fm k3.0) k3.1 refl)
+    (at-kind read
+    (λ c. batch_entry 11 (record { cycle = (fm_of c).cycle; chip = 3 }) (length (fm_ports.taken_below (fm_of c).cycle m.shared.fm.writes)) ∷ [])
+    (m.chip 3) (Fm k3.0) k3.1 refl)
     (at-kind read
     (λ c. batch_entry 12 (record { cycle = (psg_of c).cycle; chip = 4 }) (length (taken_below (psg_of c).cycle m.shared.held)) ∷ [])
     (m.chip 4) (Psg k4.0) k4.1 refl)

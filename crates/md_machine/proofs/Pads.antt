@@ -9,9 +9,10 @@ use Rattle.m68k_chip.specs.States.{next_of}
 use Rattle.z80_chip.specs.Events.{asked_of}
 use Rattle.z80_chip.specs.States.{next_of as sub_next_of}
 use Rattle.bus_shared.proofs.Touches.{batch_leaves, main_leaves, sub_leaves}
+use Rattle.bus_shared.specs.Fm.{fm_board}
 use Rattle.bus_shared.specs.Accesses.{line_board}
 use Rattle.bus_shared.specs.Board.{Board}
-use Rattle.md_machine.specs.Console.{Console, main_moved, moved, mover, power_on, psg_moved, ran, sub_moved}
+use Rattle.md_machine.specs.Console.{Console, fm_moved, main_moved, moved, mover, power_on, psg_moved, ran, sub_moved}
 use Rattle.md_machine.specs.Movers.{mover-lt}
 use Rattle.md_machine.specs.Pads.{ShowsPads, lines_begun, pads_shown}
 use Rattle.md_machine.proofs.Moves.{five-each}
@@ -47,6 +48,10 @@ sub_leaves_pads z =
     let leaves = sub_leaves z.shared (sub_next_of z.sub.state).key (asked_of z.sub.cart z.sub.state) in
     one_of (sub_next_of z.sub.state).sample z _ _ (record { line_is = refl; recording_is = refl; pads_are = refl })
     (record { line_is = refl; recording_is = leaves.recording; pads_are = leaves.pads })
+
+fm_leaves_pads : (z : Console) → Leaves z (fm_moved z)
+unfolding fm_moved fm_board
+fm_leaves_pads z = record { line_is = refl; recording_is = refl; pads_are = refl }
 
 psg_leaves_pads : (z : Console) → Leaves z (psg_moved z)
 unfolding psg_moved
@@ -125,7 +130,7 @@ moved_shows recording z shows =
     (left recording z (main_moved z) (main_leaves_pads z) shows)
     (left recording z (sub_moved z) (sub_leaves_pads z) shows)
     (line_shows recording z shows)
-    (left recording z _ (record { line_is = refl; recording_is = refl; pads_are = refl }) shows)
+    (left recording z (fm_moved z) (fm_leaves_pads z) shows)
     (left recording z (psg_moved z) (psg_leaves_pads z) shows)
 
 pub pads-recorded : (cart : List ℕ) (recording : List Frame) (n : ℕ) → ShowsPads recording (ran (power_on cart recording) n)

@@ -1,4 +1,4 @@
--- The samples that the PSG keeps are the levels of the record's run, as long as there is room.
+-- The samples that a sound chip keeps are those of the record's run, as long as there is room.
 use Rattle.std.proofs.Common.{◌≡◌, ℕ, zero, suc, ◌+◌, ◌*◌, ◌<◌, ◌≤◌, ◌==◌, cond, Bool, true, false, List, [], ◌++◌, length, refl, sym, ap, ◌∙◌, arith, subst, lit<}
 use Rattle.std.specs.Prelude.{ℤ, nat_le}
 use Rattle.std.proofs.lemmas.Bool.Decides.{nat_tests}
@@ -6,110 +6,167 @@ use Rattle.std.proofs.Common.{length-append}
 use Rattle.std.proofs.lemmas.List.{append-nil}
 use Rattle.chip_core.specs.Machines as machines
 use Rattle.chip_core.specs.Machines.{IsSound, Machine, is_sample, made, move, put, run}
+use Rattle.fm_chip.specs.Batches as fm_batches
+use Rattle.fm_chip.specs.Port as fm_ports
 use Rattle.psg_sound.specs.Batches.{samples}
 use Rattle.psg_sound.specs.Port.{taken_below}
 use Rattle.psg_sound.specs.SynthLaws.{length-samples}
-use Rattle.md_machine.specs.Console.{Console, first_of, heard, levels, mover, ran}
+use Rattle.md_machine.specs.Console.{Console, first_of, fm_taken, heard, mover, ran, sounded}
+use Rattle.md_machine.specs.Laws.{sixteen-fm}
 use Rattle.md_machine.specs.Machines.{kept_in}
+use Rattle.md_machine.specs.Samples.{Samples, joined, no_samples}
 use Rattle.bus_shared.specs.Board.{Board, IsBoard}
-use Rattle.md_machine.specs.Parts.{PsgValue}
-use Rattle.md_machine.specs.Refinement.{console, psg_of}
+use Rattle.md_machine.specs.Parts.{FmValue, PsgValue}
+use Rattle.md_machine.specs.Refinement.{console, fm_of, psg_of}
 use Rattle.md_machine.specs.Rules.{IsChip, advance, five, kept, next, perform}
 use Rattle.md_machine.specs.declared.chips.Chip.{Chip}
-use Rattle.md_machine.specs.declared.chips.Chip.TheVariants.{Psg}
-use Rattle.md_machine.proofs.Moves.{at-kind, five-each, kind4, move-access, move-sample}
+use Rattle.md_machine.specs.declared.chips.Chip.TheVariants.{Fm, Psg}
+use Rattle.md_machine.proofs.Moves.{at-kind, five-each, kind3, kind4, move-access, move-sample}
 use Rattle.md_machine.proofs.Lifts.{Movers, SoundTo, mover-same, ran-same}
+
+-- the samples of one sound chip among those of both: its number, and how a move adds to what it keeps
+pub record Part (A : Type 0) : Type 0 where
+  pub of : Samples → List A
+  pub none : of no_samples ≡ []
+  pub more : (first second : Samples) → of (joined first second) ≡ of first ++ of second
+  pub number : ℕ
+  pub grows : (m : Machine Chip Board) → IsSound five IsChip IsBoard m → (i : ℕ) → i < 5 → (i ≡ number → length (of (kept_in m)) ≤ 880) → of (kept_in (move five m i)) ≡ of (kept_in m) ++ of (heard (console m) i)
+  pub long : (z : Console) (i : ℕ) → i < 5 → length (of (heard z i)) ≡ 16 * cond (i == number) 1 0
 
 is_room : (n limit : ℕ) → n ≤ limit → nat_le n limit ≡ true
 is_room n limit within = grind (arith, nat_tests)
 
 -- with room a batch goes behind what is kept
-kept-all : (old batch : List ℤ) → length old ≤ 880 → kept old batch ≡ old ++ batch
+kept-all : {A : Type 0} (old batch : List A) → length old ≤ 880 → kept old batch ≡ old ++ batch
 kept-all old batch room = ap (λ (b : Bool). cond b (old ++ batch) old) (is_room (length old) 880 room)
 
--- a move of another chip leaves the PSG
-other_by : (b : Bool) (m : Machine Chip Board) (i : ℕ) → is_sample five m i ≡ b → (4 == i) ≡ false → (move five m i).chip 4 ≡ m.chip 4
+-- a move of another chip leaves chip j
+other_by : (b : Bool) (m : Machine Chip Board) (i j : ℕ) → is_sample five m i ≡ b → (j == i) ≡ false → (move five m i).chip j ≡ m.chip j
 unfolding put
-other_by true m i kind other = ap (λ (z : Machine Chip Board). z.chip 4) (move-sample m i kind) ∙ rw other refl
-other_by false m i kind other = ap (λ (z : Machine Chip Board). z.chip 4) (move-access m i kind) ∙ rw other refl
+other_by true m i j kind other = ap (λ (z : Machine Chip Board). z.chip j) (move-sample m i kind) ∙ rw other refl
+other_by false m i j kind other = ap (λ (z : Machine Chip Board). z.chip j) (move-access m i kind) ∙ rw other refl
+
+-- a move of the FM synthesis adds the sums of its batch
+fm-kept : (m : Machine Chip Board) (v : FmValue) → m.chip 3 ≡ Fm v → length (kept_in m).sides ≤ 880 → (kept_in (move five m 3)).sides ≡ (kept_in m).sides ++ (heard (console m) 3).sides
+unfolding console heard put
+fm-kept m v is room =
+    let batch : List (ℤ × ℤ) = fm_batches.samples (first_of v.cycle) v.synth (fm_ports.taken_below v.cycle m.shared.fm.writes) in
+    let room' : length v.samples ≤ 880 = subst (λ (c : Chip). length (fm_of c).samples ≤ 880) is room in
+    ap (λ (z : Machine Chip Board). (kept_in z).sides) (move-access m 3 (ap (λ (c : Chip). (next c).sample) is))
+    ∙ at-kind (λ c. (fm_of (advance (perform c m.shared).chip)).samples)
+    (λ c. (fm_of c).samples ++ fm_batches.samples (first_of (fm_of c).cycle) (fm_of c).synth (fm_ports.taken_below (fm_of c).cycle m.shared.fm.writes))
+    (m.chip 3) (Fm v) is (kept-all v.samples batch room')
 
 -- a move of the PSG adds the levels of its batch
-psg-kept : (m : Machine Chip Board) (v : PsgValue) → m.chip 4 ≡ Psg v → length (kept_in m) ≤ 880 → kept_in (move five m 4) ≡ kept_in m ++ heard (console m) 4
+psg-kept : (m : Machine Chip Board) (v : PsgValue) → m.chip 4 ≡ Psg v → length (kept_in m).levels ≤ 880 → (kept_in (move five m 4)).levels ≡ (kept_in m).levels ++ (heard (console m) 4).levels
 unfolding console heard put
 psg-kept m v is room =
     let batch : List ℤ = samples (first_of v.cycle) v.synth (taken_below v.cycle m.shared.held) in
     let room' : length v.samples ≤ 880 = subst (λ (c : Chip). length (psg_of c).samples ≤ 880) is room in
-    ap kept_in (move-access m 4 (ap (λ (c : Chip). (next c).sample) is))
+    ap (λ (z : Machine Chip Board). (kept_in z).levels) (move-access m 4 (ap (λ (c : Chip). (next c).sample) is))
     ∙ at-kind (λ c. (psg_of (advance (perform c m.shared).chip)).samples)
     (λ c. (psg_of c).samples ++ samples (first_of (psg_of c).cycle) (psg_of c).synth (taken_below (psg_of c).cycle m.shared.held))
     (m.chip 4) (Psg v) is (kept-all v.samples batch room')
 
--- a move keeps what it makes
-move-kept : (m : Machine Chip Board) → IsSound five IsChip IsBoard m → (i : ℕ) → i < 5 → (i ≡ 4 → length (kept_in m) ≤ 880) → kept_in (move five m i) ≡ kept_in m ++ heard (console m) i
+-- a move keeps the sums that it makes, and the levels
+pub sides-grow : (m : Machine Chip Board) → IsSound five IsChip IsBoard m → (i : ℕ) → i < 5 → (i ≡ 3 → length (kept_in m).sides ≤ 880) → (kept_in (move five m i)).sides ≡ (kept_in m).sides ++ (heard (console m) i).sides
 unfolding heard
-move-kept m sound =
+sides-grow m sound =
+    let k3 = kind3 (m.chip 3) (sound.number 3 (lit< tt)) in
+    let other : (i : ℕ) → (3 == i) ≡ false → (kept_in (move five m i)).sides ≡ (kept_in m).sides =
+    λ i away. ap (λ (c : Chip). (fm_of c).samples) (other_by (is_sample five m i) m i 3 refl away) in
+    five-each (λ i. (i ≡ 3 → length (kept_in m).sides ≤ 880) → (kept_in (move five m i)).sides ≡ (kept_in m).sides ++ (heard (console m) i).sides)
+    (λ room. other 0 refl ∙ sym (append-nil (kept_in m).sides))
+    (λ room. other 1 refl ∙ sym (append-nil (kept_in m).sides))
+    (λ room. other 2 refl ∙ sym (append-nil (kept_in m).sides))
+    (λ room. fm-kept m k3.0 k3.1 (room refl))
+    (λ room. other 4 refl ∙ sym (append-nil (kept_in m).sides))
+
+pub levels-grow : (m : Machine Chip Board) → IsSound five IsChip IsBoard m → (i : ℕ) → i < 5 → (i ≡ 4 → length (kept_in m).levels ≤ 880) → (kept_in (move five m i)).levels ≡ (kept_in m).levels ++ (heard (console m) i).levels
+unfolding heard
+levels-grow m sound =
     let k4 = kind4 (m.chip 4) (sound.number 4 (lit< tt)) in
-    let other : (i : ℕ) → (4 == i) ≡ false → kept_in (move five m i) ≡ kept_in m =
-    λ i away. ap (λ (c : Chip). (psg_of c).samples) (other_by (is_sample five m i) m i refl away) in
-    five-each (λ i. (i ≡ 4 → length (kept_in m) ≤ 880) → kept_in (move five m i) ≡ kept_in m ++ heard (console m) i)
-    (λ room. other 0 refl ∙ sym (append-nil (kept_in m)))
-    (λ room. other 1 refl ∙ sym (append-nil (kept_in m)))
-    (λ room. other 2 refl ∙ sym (append-nil (kept_in m)))
-    (λ room. other 3 refl ∙ sym (append-nil (kept_in m)))
+    let other : (i : ℕ) → (4 == i) ≡ false → (kept_in (move five m i)).levels ≡ (kept_in m).levels =
+    λ i away. ap (λ (c : Chip). (psg_of c).samples) (other_by (is_sample five m i) m i 4 refl away) in
+    five-each (λ i. (i ≡ 4 → length (kept_in m).levels ≤ 880) → (kept_in (move five m i)).levels ≡ (kept_in m).levels ++ (heard (console m) i).levels)
+    (λ room. other 0 refl ∙ sym (append-nil (kept_in m).levels))
+    (λ room. other 1 refl ∙ sym (append-nil (kept_in m).levels))
+    (λ room. other 2 refl ∙ sym (append-nil (kept_in m).levels))
+    (λ room. other 3 refl ∙ sym (append-nil (kept_in m).levels))
     (λ room. psg-kept m k4.0 k4.1 (room refl))
 
--- how many levels a move makes
-heard-long : (z : Console) (i : ℕ) → i < 5 → length (heard z i) ≡ 16 * cond (i == 4) 1 0
+-- how many samples a move makes
+sixteen-of : (z : Console) → length (fm_batches.samples (first_of z.fm_cycle) z.fm (fm_taken z)) ≡ 16
+sixteen-of z = sixteen-fm (record { synth = z.fm; cycle = z.fm_cycle; taken = fm_taken z; samples = [] })
+
+pub sides-long : (z : Console) (i : ℕ) → i < 5 → length (heard z i).sides ≡ 16 * cond (i == 3) 1 0
 unfolding heard
-heard-long z =
-    five-each (λ i. length (heard z i) ≡ 16 * cond (i == 4) 1 0) refl refl refl refl (length-samples (first_of z.psg_cycle) z.psg (taken_below z.psg_cycle z.shared.held))
+sides-long z = five-each (λ i. length (heard z i).sides ≡ 16 * cond (i == 3) 1 0) refl refl refl (sixteen-of z) refl
+
+pub levels-long : (z : Console) (i : ℕ) → i < 5 → length (heard z i).levels ≡ 16 * cond (i == 4) 1 0
+unfolding heard
+levels-long z =
+    five-each (λ i. length (heard z i).levels ≡ 16 * cond (i == 4) 1 0) refl refl refl refl (length-samples (first_of z.psg_cycle) z.psg (taken_below z.psg_cycle z.shared.held))
+
+-- the two sound chips
+unfoldable pub fm_part : Part (ℤ × ℤ)
+fm_part = record { of = λ s. s.sides; none = refl; more = λ first second. refl; number = 3; grows = sides-grow; long = sides-long }
+
+unfoldable pub psg_part : Part ℤ
+psg_part = record { of = λ s. s.levels; none = refl; more = λ first second. refl; number = 4; grows = levels-grow; long = levels-long }
 
 fewer : (a b : ℕ) → a + b ≤ 56 → a ≤ 56
 fewer a b few = omega arith
 
 -- a batch more has room
-has_room : (i count : ℕ) → count + cond (i == 4) 1 0 ≤ 56 → i ≡ 4 → 16 * count ≤ 880
-has_room i count few is =
-    let more : count + 1 ≤ 56 = subst (λ (j : ℕ). count + cond (j == 4) 1 0 ≤ 56) is few in
+has_room : (number i count : ℕ) → count + cond (i == number) 1 0 ≤ 56 → (number == number) ≡ true → i ≡ number → 16 * count ≤ 880
+has_room number i count few own is =
+    let more : count + cond (number == number) 1 0 ≤ 56 = subst (λ (j : ℕ). count + cond (j == number) 1 0 ≤ 56) is few in
+    let one : count + 1 ≤ 56 = subst (λ (b : Bool). count + cond b 1 0 ≤ 56) own more in
     omega arith
 
 sum_long : (a b count more : ℕ) → a ≡ 16 * count → b ≡ 16 * more → a + b ≡ 16 * (count + more)
 sum_long a b count more first second = omega arith
 
--- one move more
-pub record KeepsMore (z : Machine Chip Board) (i : ℕ) (old : List ℤ) (count : ℕ) : Type 0 where
-  pub levels_are : kept_in (move five z i) ≡ old ++ heard (console z) i
-  pub long : length (kept_in (move five z i)) ≡ 16 * (count + cond (i == 4) 1 0)
+own : (n : ℕ) → (n == n) ≡ true
+own n = grind (arith, nat_tests)
 
-keeps-more : (z : Machine Chip Board) (i : ℕ) (old : List ℤ) (count : ℕ) → IsSound five IsChip IsBoard z → i < 5
-    → kept_in z ≡ old → length (kept_in z) ≡ 16 * count → count + cond (i == 4) 1 0 ≤ 56 → KeepsMore z i old count
-keeps-more z i old count sound below is long few =
-    let moved : kept_in (move five z i) ≡ kept_in z ++ heard (console z) i =
-    move-kept z sound i below (λ four. subst (λ (n : ℕ). n ≤ 880) (sym long) (has_room i count few four)) in
+-- one move more
+pub record KeepsMore {A : Type 0} (p : Part A) (z : Machine Chip Board) (i : ℕ) (old : List A) (count : ℕ) : Type 0 where
+  pub samples_are : p.of (kept_in (move five z i)) ≡ old ++ p.of (heard (console z) i)
+  pub long : length (p.of (kept_in (move five z i))) ≡ 16 * (count + cond (i == p.number) 1 0)
+
+keeps-more : {A : Type 0} (p : Part A) (z : Machine Chip Board) (i : ℕ) (old : List A) (count : ℕ) → IsSound five IsChip IsBoard z → i < 5
+    → p.of (kept_in z) ≡ old → length (p.of (kept_in z)) ≡ 16 * count → count + cond (i == p.number) 1 0 ≤ 56 → KeepsMore p z i old count
+keeps-more p z i old count sound below is long few =
+    let moved : p.of (kept_in (move five z i)) ≡ p.of (kept_in z) ++ p.of (heard (console z) i) =
+    p.grows z sound i below (λ same. subst (λ (n : ℕ). n ≤ 880) (sym long) (has_room p.number i count few (own p.number) same)) in
     record {
-      levels_are = moved ∙ ap (λ (l : List ℤ). l ++ heard (console z) i) is;
-      long = ap length moved ∙ length-append (kept_in z) (heard (console z) i) ∙ sum_long (length (kept_in z)) (length (heard (console z) i)) count (cond (i == 4) 1 0) long (heard-long (console z) i below);
+      samples_are = moved ∙ ap (λ l. l ++ p.of (heard (console z) i)) is;
+      long = ap length moved ∙ length-append (p.of (kept_in z)) (p.of (heard (console z) i)) ∙ sum_long (length (p.of (kept_in z))) (length (p.of (heard (console z) i))) count (cond (i == p.number) 1 0) long (p.long (console z) i below);
     }
 
 -- from a machine that keeps none, as many batches as there is room for are kept
-pub record KeepsAll (m : Machine Chip Board) (n : ℕ) : Type 0 where
-  pub levels_are : kept_in (run five m n) ≡ levels (console m) n
-  pub long : length (kept_in (run five m n)) ≡ 16 * made five m 4 n
+pub record KeepsAll {A : Type 0} (p : Part A) (m : Machine Chip Board) (n : ℕ) : Type 0 where
+  pub samples_are : p.of (kept_in (run five m n)) ≡ p.of (sounded (console m) n)
+  pub long : length (p.of (kept_in (run five m n))) ≡ 16 * made five m p.number n
 
-pub levels-kept : (m : Machine Chip Board) (n : ℕ) → SoundTo m n → Movers → kept_in m ≡ [] → made five m 4 n ≤ 56 → KeepsAll m n
-unfolding run levels made
-levels-kept m zero sound movers none few = record { levels_are = none; long = ap length none }
-levels-kept m (suc n) sound movers none few =
+pub samples-kept : {A : Type 0} (p : Part A) (m : Machine Chip Board) (n : ℕ) → SoundTo m n → Movers → p.of (kept_in m) ≡ [] → made five m p.number n ≤ 56 → KeepsAll p m n
+unfolding run sounded made
+samples-kept p m zero sound movers none few = record { samples_are = none ∙ sym p.none; long = ap length none }
+samples-kept p m (suc n) sound movers none few =
     let stage : IsSound five IsChip IsBoard (run five m n) = sound n (omega arith) in
     let sound' : SoundTo m n = λ k below. sound k (omega arith) in
     let i : ℕ = machines.mover five (run five m n) in
-    let rest : KeepsAll m n = levels-kept m n sound' movers none (fewer (made five m 4 n) (cond (i == 4) 1 0) few) in
-    let more : KeepsMore (run five m n) i (levels (console m) n) (made five m 4 n) =
-    keeps-more (run five m n) i (levels (console m) n) (made five m 4 n) stage (movers (run five m n)) rest.levels_are rest.long few in
+    let rest : KeepsAll p m n = samples-kept p m n sound' movers none (fewer (made five m p.number n) (cond (i == p.number) 1 0) few) in
+    let more : KeepsMore p (run five m n) i (p.of (sounded (console m) n)) (made five m p.number n) =
+    keeps-more p (run five m n) i (p.of (sounded (console m) n)) (made five m p.number n) stage (movers (run five m n)) rest.samples_are rest.long few in
     let same : heard (console (run five m n)) i ≡ heard (ran (console m) n) (mover (ran (console m) n)) =
     ap (λ (j : ℕ). heard (console (run five m n)) j) (mover-same (run five m n) stage)
     ∙ ap (λ (z : Console). heard z (mover z)) (ran-same m n sound' movers) in
     record {
-      levels_are = more.levels_are ∙ ap (λ (l : List ℤ). levels (console m) n ++ l) same;
+      samples_are =
+          more.samples_are ∙ ap (λ (s : Samples). p.of (sounded (console m) n) ++ p.of s) same
+          ∙ sym (p.more (sounded (console m) n) (heard (ran (console m) n) (mover (ran (console m) n))));
       long = more.long;
     }

@@ -25,7 +25,8 @@ use Rattle.chip_core.specs.Codes.{key_way}
 use Rattle.bus_shared.specs.Board.{Board}
 use Rattle.md_pads.specs.Pad.{Latches}
 use Rattle.md_pads.specs.Recording.{Frame}
-use Rattle.md_machine.specs.Parts.{PsgValue, SubValue}
+use Rattle.md_machine.specs.FmCode.{fm_way, port_way}
+use Rattle.md_machine.specs.Parts.{FmValue, PsgValue, SubValue}
 use Rattle.md_machine.specs.declared.main_chip.MainChip.{MainChip}
 use Rattle.md_machine.specs.declared.chips.Chip.{Chip}
 use Rattle.md_machine.specs.declared.chips.Chip.TheVariants.{Main, Sub, Line, Fm, Psg}
@@ -264,28 +265,28 @@ sub_way =
 
 -- the kinds of chips as a sum
 abbrev pub Sum : Type 0
-Sum = MainChip ⊎ (SubValue ⊎ (ℕ ⊎ (ℕ ⊎ PsgValue)))
+Sum = MainChip ⊎ (SubValue ⊎ (ℕ ⊎ (FmValue ⊎ PsgValue)))
 
 -- the sum of a chip
 abbrev pub sum_of : Chip → Sum
 sum_of (Main c) = inl c
 sum_of (Sub c) = inr (inl c)
 sum_of (Line c) = inr (inr (inl c.cycle))
-sum_of (Fm c) = inr (inr (inr (inl c.cycle)))
+sum_of (Fm c) = inr (inr (inr (inl c)))
 sum_of (Psg c) = inr (inr (inr (inr c)))
 
 -- the chip of a sum, from FM on
-abbrev pub late_of : ℕ ⊎ PsgValue → Chip
-late_of (inl cycle) = Fm (record { cycle = cycle })
+abbrev pub late_of : FmValue ⊎ PsgValue → Chip
+late_of (inl c) = Fm c
 late_of (inr c) = Psg c
 
 -- the chip of a sum, from the lines on
-abbrev pub middle_of : ℕ ⊎ (ℕ ⊎ PsgValue) → Chip
+abbrev pub middle_of : ℕ ⊎ (FmValue ⊎ PsgValue) → Chip
 middle_of (inl cycle) = Line (record { cycle = cycle })
 middle_of (inr c) = late_of c
 
 -- the chip of a sum, from the Z80 on
-abbrev pub early_of : SubValue ⊎ (ℕ ⊎ (ℕ ⊎ PsgValue)) → Chip
+abbrev pub early_of : SubValue ⊎ (ℕ ⊎ (FmValue ⊎ PsgValue)) → Chip
 early_of (inl c) = Sub c
 early_of (inr c) = middle_of c
 
@@ -304,7 +305,7 @@ chip_same (Psg c) = refl
 
 -- the way of a chip
 abbrev pub chip_way : Way Chip
-chip_way = by_way (either main_way (either sub_way (either number (either number psg_way)))) sum_of chip_of chip_same
+chip_way = by_way (either main_way (either sub_way (either number (either fm_way psg_way)))) sum_of chip_of chip_same
 
 -- the way of the two words of the pads
 abbrev pub frame_way : Way Frame
@@ -317,14 +318,15 @@ latches_way = by_way (both number number) (λ l. (l.value, l.control)) (λ p. re
 -- the way of the board
 abbrev pub board_way : Way Board
 board_way =
-    by_way (both (both (both (many frame_way) frame_way) (both latches_way latches_way)) (both (both (many write_way) flag) (both (both flag number) (maybe store_way))))
-    (λ b. (((b.recording, b.pads), (b.port1, b.port2)), ((b.held, b.request), ((b.reset, b.resets), b.store))))
+    by_way (both (both (both (many frame_way) frame_way) (both latches_way latches_way)) (both (both (both (many write_way) port_way) flag) (both (both flag number) (maybe store_way))))
+    (λ b. (((b.recording, b.pads), (b.port1, b.port2)), (((b.held, b.fm), b.request), ((b.reset, b.resets), b.store))))
     (λ p. record {
       recording = p.0.0.0;
       pads = p.0.0.1;
       port1 = p.0.1.0;
       port2 = p.0.1.1;
-      held = p.1.0.0;
+      held = p.1.0.0.0;
+      fm = p.1.0.0.1;
       request = p.1.0.1;
       reset = p.1.1.0.0;
       resets = p.1.1.0.1;

@@ -1,5 +1,5 @@
 -- The machine as one record, with each memory once, and what a move of each chip changes.
-use Rattle.std.specs.Prelude.{◌≡◌, ℕ, zero, suc, ℤ, ◌+◌, ◌-◌, ◌*◌, ◌/◌, ◌<◌, ◌≤◌, ◌==◌, cond, List, [], ◌∷◌, ◌++◌, length}
+use Rattle.std.specs.Prelude.{◌≡◌, ℕ, zero, suc, ◌+◌, ◌-◌, ◌*◌, ◌/◌, ◌<◌, ◌≤◌, ◌==◌, cond, List, [], ◌∷◌, ◌++◌, length}
 use Rattle.md_word.specs.declared.event.Entry.{Entry}
 use Rattle.md_word.specs.declared.key.Key.{Key}
 use Rattle.chip_core.specs.Machines.{least_below}
@@ -11,17 +11,23 @@ use Rattle.z80_chip.specs.Events.{asked_of, handed}
 use Rattle.z80_chip.specs.States as states80
 use Rattle.z80_chip.specs.Sound.{Chip80Value}
 use Rattle.z80_chip.specs.States.{next_of as sub_next_of}
+use Rattle.fm_chip.specs.Batches as fm_batches
+use Rattle.fm_chip.specs.Port as fm_ports
+use Rattle.fm_chip.specs.Synth as fm_synths
+use Rattle.fm_chip.specs.declared.write.FmWrite.{FmWrite}
 use Rattle.psg_sound.specs.Batches.{after_batch, samples}
 use Rattle.psg_sound.specs.Port.{taken_below}
 use Rattle.psg_sound.specs.Synth.{Synth, at_power_on}
+use Rattle.bus_shared.specs.Fm.{fm_board}
 use Rattle.bus_shared.specs.Accesses.{SubAccess, level_of, line_board, main_answer, main_board, main_told, psg_board, sub_access, sub_pins}
 use Rattle.bus_shared.specs.Board.{Board}
 use Rattle.bus_shared.specs.Board as boards
 use Rattle.bus_shared.specs.Entries.{batch_entry, line_entry}
 use Rattle.md_pads.specs.Recording.{Frame}
+use Rattle.md_machine.specs.Samples.{Samples, joined, no_samples}
 
--- the machine: the cartridge, the two processors, the cycles of the other chips, the sound generator,
--- and what they share
+-- the machine: the cartridge, the two processors, the cycles of the other chips, the FM synthesis and
+-- the sound generator, and what they share
 pub record Console : Type 0 where
   -- the cartridge's image
   pub cart : List ℕ
@@ -30,8 +36,9 @@ pub record Console : Type 0 where
   pub sub : Chip80Value
   -- the cycles of the next events of the lines, the FM batches and the PSG batches
   pub line : ℕ
-  pub fm : ℕ
+  pub fm_cycle : ℕ
   pub psg_cycle : ℕ
+  pub fm : fm_synths.Synth
   pub psg : Synth
   pub shared : Board
 
@@ -43,8 +50,9 @@ power_on cart recording = record {
   main = states.power_on cart;
   sub = record { cart = cart; state = states80.power_on };
   line = 0;
-  fm = 16128;
+  fm_cycle = 16128;
   psg_cycle = 16128;
+  fm = fm_synths.at_power_on;
   psg = at_power_on;
   shared = boards.power_on recording;
 }
@@ -59,7 +67,7 @@ key_in m i =
     cond (i == 0) (next_of m.main).key
     (cond (i == 1) (sub_next_of m.sub.state).key
     (cond (i == 2) (record { cycle = m.line; chip = 2 })
-    (cond (i == 3) (record { cycle = m.fm; chip = 3 }) (record { cycle = m.psg_cycle; chip = 4 }))))
+    (cond (i == 3) (record { cycle = m.fm_cycle; chip = 3 }) (record { cycle = m.psg_cycle; chip = 4 }))))
 
 -- the 68000: a sample begins an instruction, and an access goes on with its answer
 unfoldable pub main_moved : Console → Console
@@ -67,7 +75,7 @@ main_moved m =
     cond (next_of m.main).sample
     (record m { main = begun m.cart m.main 0 })
     (record m {
-      main = answered m.cart m.main (main_answer m.shared (request_of m.cart m.main));
+      main = answered m.cart m.main (main_answer m.shared (next_of m.main).key (request_of m.cart m.main));
       shared = main_board m.shared (next_of m.main).key (request_of m.cart m.main);
     })
 
@@ -85,6 +93,18 @@ sub_moved m =
       shared = (sub_accessed m).board;
     })
 
+-- the writes that the FM synthesis takes for its batch
+abbrev pub fm_taken : Console → List FmWrite
+fm_taken m = fm_ports.taken_below m.fm_cycle m.shared.fm.writes
+
+-- the FM synthesis takes the writes below its cycle and makes a batch of 16 samples
+unfoldable pub fm_moved : Console → Console
+fm_moved m = record m {
+  fm = fm_batches.after_batch (first_of m.fm_cycle) m.fm (fm_taken m);
+  fm_cycle = m.fm_cycle + 16128;
+  shared = fm_board m.shared m.fm_cycle;
+}
+
 -- the PSG takes the writes below its cycle and makes a batch of 16 samples
 unfoldable pub psg_moved : Console → Console
 psg_moved m = record m {
@@ -99,7 +119,7 @@ moved m i =
     cond (i == 0) (main_moved m)
     (cond (i == 1) (sub_moved m)
     (cond (i == 2) (record m { line = m.line + 3420; shared = line_board m.shared m.line })
-    (cond (i == 3) (record m { fm = m.fm + 16128 }) (psg_moved m))))
+    (cond (i == 3) (fm_moved m) (psg_moved m))))
 
 -- the entry that it gives, if it is an access
 unfoldable pub told : Console → ℕ → List Entry
@@ -107,12 +127,15 @@ told m i =
     cond (i == 0) (cond (next_of m.main).sample [] (main_told m.shared (next_of m.main).key (request_of m.cart m.main) ∷ []))
     (cond (i == 1) (cond (sub_next_of m.sub.state).sample [] ((sub_accessed m).entry ∷ []))
     (cond (i == 2) (line_entry (record { cycle = m.line; chip = 2 }) (level_of (line_board m.shared m.line)) ∷ [])
-    (cond (i == 3) (batch_entry 11 (record { cycle = m.fm; chip = 3 }) 0 ∷ [])
+    (cond (i == 3) (batch_entry 11 (record { cycle = m.fm_cycle; chip = 3 }) (length (fm_taken m)) ∷ [])
     (batch_entry 12 (record { cycle = m.psg_cycle; chip = 4 }) (length (taken_below m.psg_cycle m.shared.held)) ∷ []))))
 
--- the levels that it makes
-unfoldable pub heard : Console → ℕ → List ℤ
-heard m i = cond (i == 4) (samples (first_of m.psg_cycle) m.psg (taken_below m.psg_cycle m.shared.held)) []
+-- the samples that it makes
+unfoldable pub heard : Console → ℕ → Samples
+heard m i = record {
+  sides = cond (i == 3) (fm_batches.samples (first_of m.fm_cycle) m.fm (fm_taken m)) [];
+  levels = cond (i == 4) (samples (first_of m.psg_cycle) m.psg (taken_below m.psg_cycle m.shared.held)) [];
+}
 
 -- the chip of least key
 unfoldable pub mover : Console → ℕ
@@ -123,15 +146,15 @@ unfoldable pub ran : Console → ℕ → Console
 ran m zero = m
 ran m (suc n) = moved (ran m n) (mover (ran m n))
 
--- the entries of the first n moves, in their order, and their levels
+-- the entries of the first n moves, in their order
 unfoldable pub journal : Console → ℕ → List Entry
 journal m zero = []
 journal m (suc n) = journal m n ++ told (ran m n) (mover (ran m n))
 
--- the levels of the first n moves, in their order
-unfoldable pub levels : Console → ℕ → List ℤ
-levels m zero = []
-levels m (suc n) = levels m n ++ heard (ran m n) (mover (ran m n))
+-- the samples of the first n moves, in their order
+unfoldable pub sounded : Console → ℕ → Samples
+sounded m zero = no_samples
+sounded m (suc n) = joined (sounded m n) (heard (ran m n) (mover (ran m n)))
 
 -- the first n moves stand below the cycle
 abbrev pub AllBelow : Console → ℕ → ℕ → Type 0
@@ -141,11 +164,11 @@ AllBelow m end n = (k : ℕ) → k < n → (key_in (ran m k) (mover (ran m k))).
 abbrev pub IsQuiet : ℕ → Console → Type 0
 IsQuiet end m = (i : ℕ) → i < 5 → end ≤ (key_in m i).cycle
 
--- after all events below the cycle and no other: the machine, the entries and the levels
-pub record IsRunTo (m : Console) (end : ℕ) (after : Console) (entries : List Entry) (sound : List ℤ) : Type 0 where
+-- after all events below the cycle and no other: the machine, the entries and the samples
+pub record IsRunTo (m : Console) (end : ℕ) (after : Console) (entries : List Entry) (sound : Samples) : Type 0 where
   pub moves : ℕ
   pub below : AllBelow m end moves
   pub quiet : IsQuiet end after
   pub console : after ≡ ran m moves
   pub entered : entries ≡ journal m moves
-  pub heard_to : sound ≡ levels m moves
+  pub heard_to : sound ≡ sounded m moves

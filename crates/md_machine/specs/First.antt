@@ -3,6 +3,7 @@ use Rattle.std.specs.Prelude.{ℕ, List, [], ◌∷◌, None}
 use Rattle.md_word.specs.declared.key.Key.{Key}
 use Rattle.m68k_chip.specs.States.{power_on}
 use Rattle.z80_chip.specs.States as states80
+use Rattle.fm_chip.specs.Synth as fm_synths
 use Rattle.psg_sound.specs.Synth.{at_power_on}
 use Rattle.md_machine.specs.declared.chips.Chip.{Chip}
 use Rattle.md_machine.specs.declared.chips.Chip.TheVariants.{Main, Sub, Line, Fm, Psg}
@@ -11,7 +12,8 @@ use Rattle.md_machine.specs.declared.chips.Chip.TheVariants.{Main, Sub, Line, Fm
 abbrev pub first_chips : List ℕ → List Chip
 first_chips cart =
     Main (record { chip = record { cart = cart; state = power_on cart }; answer = None })
-    ∷ Sub (record { chip = record { cart = cart; state = states80.power_on }; answer = None }) ∷ Line (record { cycle = 0 }) ∷ Fm (record { cycle = 16128 })
+    ∷ Sub (record { chip = record { cart = cart; state = states80.power_on }; answer = None }) ∷ Line (record { cycle = 0 })
+    ∷ Fm (record { synth = fm_synths.at_power_on; cycle = 16128; taken = []; samples = [] })
     ∷ Psg (record { synth = at_power_on; cycle = 16128; taken = []; samples = [] }) ∷ []
 
 -- each chip's bound is its key

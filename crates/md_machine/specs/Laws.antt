@@ -1,5 +1,5 @@
 -- What the scheduler asks of the five chips.
-use Rattle.std.specs.Prelude.{◌≡◌, ℕ, ◌^◌, ◌<◌, ◌≤◌, nat_le, Bool, true, false, ◌==◌, refl, List, ◌++◌, length, ℤ, cond, ◌+◌, ◌||◌, Option, Some, None}
+use Rattle.std.specs.Prelude.{◌≡◌, ℕ, ◌^◌, ◌<◌, ◌≤◌, nat_le, Bool, true, false, ◌==◌, refl, List, ◌++◌, length, cond, ◌+◌, ◌||◌, Option, Some, None}
 use Rattle.std.proofs.Common.{inl, arith, sym, length-append, lit<, lit≤, ap, ◌∙◌, subst, Result, Ok, Err, IfSome, IsTrue}
 use Rattle.std.proofs.lemmas.Bool.Decides.{nat_tests}
 use Rattle.chip_core.specs.Chips.{Follows, IsDue, Lawful}
@@ -13,7 +13,11 @@ use Rattle.psg_sound.specs.Batches.{samples}
 use Rattle.psg_sound.specs.Port.{taken_below}
 use Rattle.bus_shared.specs.Accesses.{main_answer, main_told, main_value, sub_access, taken_back, yielded, psg_board}
 use Rattle.bus_shared.specs.Entries.{main_entry}
-use Rattle.bus_shared.proofs.Keeps.{line-ok, main-ok, psg_board-ok}
+use Rattle.fm_chip.specs.Batches as fm_batches
+use Rattle.fm_chip.specs.Port as fm_ports
+use Rattle.bus_shared.specs.Fm.{fm_board}
+use Rattle.bus_shared.proofs.Keeps.{fm_board-ok, fm_taken-few, line-ok, main-ok, psg_board-ok}
+use Rattle.std.proofs.lemmas.List.FromFn.{length-map-range_with_len}
 use Rattle.bus_shared.proofs.Keeps as keeps
 use Rattle.bus_shared.proofs.Keeps.{HandsOver}
 use Rattle.bus_shared.proofs.Touches.{sub_leaves}
@@ -39,8 +43,8 @@ use Rattle.m68k_chip.proofs.Laws.{answered-later, answered-ok, begun-later, begu
 use Rattle.psg_sound.specs.PortLaws.{taken_below-few}
 use Rattle.psg_sound.specs.SynthLaws.{IsSynth-after_batch, length-samples}
 use Rattle.bus_shared.specs.Board.{Board, IsBoard}
-use Rattle.md_machine.specs.Parts.{IsPsg, PsgValue, IsSub, SubValue}
-use Rattle.md_machine.specs.Rules.{IsChip, advance, first_of, five, gap, kept, next, perform, psg_advance, psg_perform, sample, sub_advance, sub_perform, writes}
+use Rattle.md_machine.specs.Parts.{FmValue, IsFm, IsPsg, PsgValue, IsSub, SubValue}
+use Rattle.md_machine.specs.Rules.{IsChip, advance, first_of, five, fm_advance, fm_perform, gap, kept, next, perform, psg_advance, psg_perform, sample, sub_advance, sub_perform, writes}
 use Rattle.md_machine.specs.declared.chips.Chip.{Chip}
 use Rattle.md_machine.specs.declared.chips.Chip.TheVariants.{Main, Sub, Line, Fm, Psg}
 
@@ -49,14 +53,14 @@ clash : true ≡ false → ⊥
 clash same = cc
 
 -- what the board answers fits
-pub answer-fits : (board : Board) (request : Request68) → IsBoard board → Fits request (main_answer board request)
+pub answer-fits : (board : Board) (key : Key) (request : Request68) → IsBoard board → Fits request (main_answer board key request)
 unfolding main_answer main_value
-answer-fits board (Read8 at) ok = record { value = byte-below (area_of at) board at ok; transfer = tt; cost = tt }
-answer-fits board (Read16 at) ok = record { value = word-below (area_of at) board at ok; transfer = tt; cost = tt }
-answer-fits board (Write8 at value) ok = record { value = refl; transfer = tt; cost = tt }
-answer-fits board (Write16 at value) ok = record { value = refl; transfer = tt; cost = tt }
-answer-fits board (Ack level) ok = record { value = refl; transfer = tt; cost = tt }
-answer-fits board (Word value) ok = record { value = refl; transfer = tt; cost = inl refl }
+answer-fits board key (Read8 at) ok = record { value = byte-below (area_of at) board key.cycle at ok; transfer = tt; cost = tt }
+answer-fits board key (Read16 at) ok = record { value = word-below (area_of at) board key.cycle at ok; transfer = tt; cost = tt }
+answer-fits board key (Write8 at value) ok = record { value = refl; transfer = tt; cost = tt }
+answer-fits board key (Write16 at value) ok = record { value = refl; transfer = tt; cost = tt }
+answer-fits board key (Ack level) ok = record { value = refl; transfer = tt; cost = tt }
+answer-fits board key (Word value) ok = record { value = refl; transfer = tt; cost = inl refl }
 
 -- what the Z80 hands over is sound
 handing-sound : (store : Option Store) → IfSome store IsStore → HandsOver (handing store)
@@ -153,7 +157,7 @@ pins-same false old new a b c = refl
 -- an access leads to a next event a gap later
 access-next : (c : Chip) (s : Board) (i : ℕ) → IsDue five IsChip IsBoard c s i false → Follows gap (next c).key (next (advance (perform c s).chip)).key
 unfolding next_of sub_next_of
-access-next (Main c) s i d = record { number = refl; later = answered-later c.chip _ d.chip d.kind (answer-fits s (request_of c.chip.cart c.chip.state) d.shared) }
+access-next (Main c) s i d = record { number = refl; later = answered-later c.chip _ d.chip d.kind (answer-fits s (next_of c.chip.state).key (request_of c.chip.cart c.chip.state) d.shared) }
 access-next (Sub c) s i d = record { number = refl; later = sub-later c s d.chip d.kind }
 access-next (Line c) s i d = record { number = refl; later = omega arith }
 access-next (Fm c) s i d = record { number = refl; later = omega arith }
@@ -167,15 +171,26 @@ sample-next (Line c) s i d = absurd (clash (sym d.kind))
 sample-next (Fm c) s i d = absurd (clash (sym d.kind))
 sample-next (Psg c) s i d = absurd (clash (sym d.kind))
 
-kept_by : (b : Bool) (old batch : List ℤ) → (b ≡ true → length old ≤ 880) → length batch ≡ 16 → length old ≤ 896 → length (cond b (old ++ batch) old) ≤ 896
+kept_by : {A : Type 0} (b : Bool) (old batch : List A) → (b ≡ true → length old ≤ 880) → length batch ≡ 16 → length old ≤ 896 → length (cond b (old ++ batch) old) ≤ 896
 kept_by true old batch room sixteen few = omega (arith, room refl, length-append old batch)
 kept_by false old batch room sixteen few = few
 
 le_from : (n limit : ℕ) → nat_le n limit ≡ true → n ≤ limit
 le_from n limit is = grind (arith, nat_tests)
 
-kept-few : (old batch : List ℤ) → length batch ≡ 16 → length old ≤ 896 → length (kept old batch) ≤ 896
+kept-few : {A : Type 0} (old batch : List A) → length batch ≡ 16 → length old ≤ 896 → length (kept old batch) ≤ 896
 kept-few old batch sixteen few = kept_by (nat_le (length old) 880) old batch (le_from (length old) 880) sixteen few
+
+-- a batch of the FM synthesis has sixteen samples
+pub sixteen-fm : (c : FmValue) → length (fm_batches.samples (first_of c.cycle) c.synth c.taken) ≡ 16
+unfolding fm_batches.samples
+sixteen-fm c = length-map-range_with_len (fm_batches.sample (first_of c.cycle) c.synth c.taken) 0 16
+
+fm-ok : (c : FmValue) (s : Board) → IsFm c → IsBoard s → IsFm (fm_advance (fm_perform c s).chip)
+fm-ok c s ok board = record {
+  taken = fm_taken-few c.cycle s.fm.writes board.fm;
+  samples = kept-few c.samples _ (sixteen-fm (fm_perform c s).chip) ok.samples;
+}
 
 psg-ok : (c : PsgValue) (s : Board) → IsPsg c → IsBoard s → IsPsg (psg_advance (psg_perform c s).chip)
 psg-ok c s ok board = record {
@@ -185,17 +200,17 @@ psg-ok c s ok board = record {
 }
 
 access-chip : (c : Chip) (s : Board) (i : ℕ) → IsDue five IsChip IsBoard c s i false → IsChip (advance (perform c s).chip)
-access-chip (Main c) s i d = answered-ok c.chip _ d.chip d.kind (answer-fits s (request_of c.chip.cart c.chip.state) d.shared)
+access-chip (Main c) s i d = answered-ok c.chip _ d.chip d.kind (answer-fits s (next_of c.chip.state).key (request_of c.chip.cart c.chip.state) d.shared)
 access-chip (Sub c) s i d = sub-ok c s d.chip d.shared d.kind
 access-chip (Line c) s i d = tt
-access-chip (Fm c) s i d = tt
+access-chip (Fm c) s i d = fm-ok c s d.chip d.shared
 access-chip (Psg c) s i d = psg-ok c s d.chip d.shared
 
 sample-chip : (c : Chip) (s : Board) (i : ℕ) → IsDue five IsChip IsBoard c s i true → IsChip (sample c (pins_of s i))
 sample-chip (Main c) s i d = begun-ok c.chip (level_in (pins_of s i)) (level-known (i == 1) s) d.chip d.kind
 sample-chip (Sub c) s i d = laws80.begun-ok c.chip (sub_in (pins_of s i)) d.chip d.kind
 sample-chip (Line c) s i d = tt
-sample-chip (Fm c) s i d = tt
+sample-chip (Fm c) s i d = d.chip
 sample-chip (Psg c) s i d = d.chip
 
 main-low : (state : State68) → (next_of state).key.chip < 2
@@ -206,7 +221,7 @@ access-shared : (c : Chip) (s : Board) (i : ℕ) → IsDue five IsChip IsBoard c
 access-shared (Main c) s i d = main-ok s (next_of c.chip.state).key _ (main-low c.chip.state) d.shared
 access-shared (Sub c) s i d = keeps.sub-ok s (sub_next_of c.chip.state).key _ (sub-low c.chip.state) (hands-over c d.chip) d.shared
 access-shared (Line c) s i d = line-ok s c.cycle d.shared
-access-shared (Fm c) s i d = d.shared
+access-shared (Fm c) s i d = fm_board-ok s c.cycle d.shared
 access-shared (Psg c) s i d = psg_board-ok s c.cycle d.shared
 
 -- the entry of an access has its key
@@ -239,13 +254,13 @@ main-number c i is = is
 
 -- pins change only by those that write them
 leaves-pins : (c : Chip) (s : Board) (i j : ℕ) → IsDue five IsChip IsBoard c s i false → writes i j ≡ false → pins_of (perform c s).shared j ≡ pins_of s j
-unfolding psg_board
+unfolding psg_board fm_board
 leaves-pins (Main c) s i j d other = absurd (clash (subst (λ (n : ℕ). writes n j ≡ false) (sym (main-number c i d.number)) other))
 leaves-pins (Sub c) s i j d other =
     let same = sub_leaves s (sub_next_of c.chip.state).key (asked_of c.chip.cart c.chip.state) in
     pins-same (j == 1) s _ same.request same.reset same.resets
 leaves-pins (Line c) s i j d other = absurd (clash (subst (λ (n : ℕ). writes n j ≡ false) (sym d.number) other))
-leaves-pins (Fm c) s i j d other = refl
+leaves-pins (Fm c) s i j d other = pins-same (j == 1) s _ refl refl refl
 leaves-pins (Psg c) s i j d other = pins-same (j == 1) s _ refl refl refl
 
 -- the laws

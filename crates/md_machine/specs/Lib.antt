@@ -2,6 +2,7 @@ pub mod Code
 pub mod Console
 pub mod Drained
 pub mod First
+pub mod FmCode
 pub mod Laws
 pub mod Machines
 pub mod Movers
@@ -11,5 +12,6 @@ pub mod Parts
 pub mod Pins
 pub mod Refinement
 pub mod Rules
+pub mod Samples
 pub mod ShownParts
 pub mod Stubs

@@ -1,5 +1,5 @@
 -- The machine as contracts see it.
-use Rattle.std.specs.Prelude.{ℕ, ℤ, ◌≤◌, List, [], Option, IsSome, unwrap_or}
+use Rattle.std.specs.Prelude.{ℕ, ◌≤◌, List, [], Option, IsSome, unwrap_or}
 use Rattle.md_word.specs.declared.event.Entry.{Entry}
 use Rattle.md_word.specs.declared.key.Key.{Key}
 use Rattle.chip_core.specs.Cores.{CoreValue, IsCore, machine_of}
@@ -7,17 +7,18 @@ use Rattle.chip_core.specs.Machines as machines
 use Rattle.chip_core.specs.Machines.{Machine}
 use Rattle.md_machine.specs.Console.{Console}
 use Rattle.bus_shared.specs.Board.{Board, IsBoard, power_on}
-use Rattle.md_machine.specs.Refinement.{console, psg_of}
+use Rattle.md_machine.specs.Refinement.{console, fm_of, psg_of}
+use Rattle.md_machine.specs.Samples.{Samples}
 use Rattle.md_machine.specs.Rules.{IsChip, five}
 use Rattle.md_machine.specs.declared.chips.Chip.{Chip}
 
 -- the cycle to which the machine was brought, its record, and what was made since it was last
--- drained: the journal's entries and the levels of the PSG
+-- drained: the journal's entries and the samples of the sound chips
 pub record MachineValue : Type 0 where
   pub at : ℕ
   pub console : Console
   pub entries : List Entry
-  pub levels : List ℤ
+  pub samples : Samples
 
 -- the core of these parts
 abbrev pub core_in : Option Board → List Chip → List Key → List Entry → ℕ → CoreValue Chip Board
@@ -29,9 +30,9 @@ core_in board chips bounds entries room = record {
   room = room;
 }
 
--- the levels that a machine of five chips keeps
-abbrev pub kept_in : Machine Chip Board → List ℤ
-kept_in m = (psg_of (m.chip 4)).samples
+-- the samples that a machine of five chips keeps
+abbrev pub kept_in : Machine Chip Board → Samples
+kept_in m = record { sides = (fm_of (m.chip 3)).samples; levels = (psg_of (m.chip 4)).samples }
 
 -- the machine of a core that was brought to a cycle
 abbrev pub machine_at : ℕ → CoreValue Chip Board → MachineValue
@@ -39,7 +40,7 @@ machine_at at core = record {
   at = at;
   console = console (machine_of five core);
   entries = core.journal;
-  levels = kept_in (machine_of five core);
+  samples = kept_in (machine_of five core);
 }
 
 -- what holds of each machine: room for the entries of a segment, and no event below its cycle

@@ -1,18 +1,29 @@
 -- The bytes of the machine's output.
-use Rattle.std.specs.Prelude.{ℕ, ℤ, pos, List}
+use Rattle.std.specs.Prelude.{ℕ, ℤ, pos, List, [], ◌∷◌, ◌++◌, drop}
 use Rattle.std.specs.List.{flat_map}
 use Rattle.md_files.specs.Journal.{entry_bytes}
 use Rattle.md_files.specs.Wav.{pair_bytes}
 use Rattle.md_word.specs.declared.event.Entry.{Entry}
 use Rattle.psg_sound.specs.Pair.{mixed}
+use Rattle.md_machine.specs.Samples.{Samples}
 
--- a pair of samples of a level of the PSG, while the FM chip is silent
-abbrev pub level_bytes : ℤ → List ℕ
-level_bytes level = pair_bytes (mixed (pos 0) level) (mixed (pos 0) level)
+-- the pair of a sample: the sums of the FM chip, mixed with the level of the PSG
+abbrev pub sample_bytes : ℤ × ℤ → ℤ → List ℕ
+sample_bytes sums level = pair_bytes (mixed sums.0 level) (mixed sums.1 level)
 
--- the pairs of samples of levels
-unfoldable pub sound_bytes : List ℤ → List ℕ
-sound_bytes levels = flat_map level_bytes levels
+-- the sums of the first sample; silence where there is none
+abbrev pub first_sums : List (ℤ × ℤ) → ℤ × ℤ
+first_sums [] = (pos 0, pos 0)
+first_sums (sums ∷ later) = sums
+
+-- each level is mixed with the sums of the same number
+abbrev pub mixed_bytes : List ℤ → List (ℤ × ℤ) → List ℕ
+mixed_bytes [] sides = []
+mixed_bytes (level ∷ levels) sides = sample_bytes (first_sums sides) level ++ mixed_bytes levels (drop 1 sides)
+
+-- the pairs of samples
+unfoldable pub sound_bytes : Samples → List ℕ
+sound_bytes samples = mixed_bytes samples.levels samples.sides
 
 -- the records of entries
 unfoldable pub journal_bytes : List Entry → List ℕ

@@ -4,6 +4,8 @@ use Rattle.m68k_chip.specs.Sound.{IsChip68}
 use Rattle.z80_chip.specs.Sound.{Chip80Value, IsChip80}
 use Rattle.z80_parcel.specs.Requests.{Told}
 use Rattle.md_machine.specs.declared.main_chip.MainChip.{MainChip}
+use Rattle.fm_chip.specs.Synth as fm_synths
+use Rattle.fm_chip.specs.declared.write.FmWrite.{FmWrite}
 use Rattle.psg_sound.specs.Synth.{Synth, IsSynth}
 use Rattle.psg_sound.specs.declared.write.PsgWrite.{PsgWrite}
 
@@ -19,6 +21,18 @@ pub record SubValue : Type 0 where
 -- what holds of the Z80
 abbrev pub IsSub : SubValue → Type 0
 IsSub c = IsChip80 c.chip
+
+-- the FM synthesis, the cycle of its next batch, the writes that it took for it, and its samples
+pub record FmValue : Type 0 where
+  pub synth : fm_synths.Synth
+  pub cycle : ℕ
+  pub taken : List FmWrite
+  pub samples : List (ℤ × ℤ)
+
+-- what holds of the FM synthesis: the most that it takes and keeps
+pub record IsFm (c : FmValue) : Type 0 where
+  pub taken : length c.taken ≤ 1024
+  pub samples : length c.samples ≤ 896
 
 -- the PSG's synthesis, the cycle of its next batch, the writes that it took for it, and its samples
 pub record PsgValue : Type 0 where

@@ -3,10 +3,11 @@ use Rattle.std.specs.Prelude.{ℕ, [], None}
 use Rattle.chip_core.specs.Machines.{Machine}
 use Rattle.m68k_chip.specs.States as states
 use Rattle.z80_chip.specs.States as states80
+use Rattle.fm_chip.specs.Synth as fm_synths
 use Rattle.psg_sound.specs.Synth.{at_power_on}
 use Rattle.md_machine.specs.Console.{Console}
 use Rattle.bus_shared.specs.Board.{Board}
-use Rattle.md_machine.specs.Parts.{PsgValue, SubValue}
+use Rattle.md_machine.specs.Parts.{FmValue, PsgValue, SubValue}
 use Rattle.md_machine.specs.declared.main_chip.MainChip.{MainChip}
 use Rattle.md_machine.specs.declared.chips.Chip.{Chip}
 use Rattle.md_machine.specs.declared.chips.Chip.TheVariants.{Main, Sub, Line, Fm, Psg}
@@ -21,6 +22,11 @@ abbrev pub sub_of : Chip → SubValue
 sub_of (Sub c) = c
 sub_of _ = record { chip = record { cart = []; state = states80.power_on }; answer = None }
 
+-- the FM synthesis of a chip; where it is another, any
+abbrev pub fm_of : Chip → FmValue
+fm_of (Fm c) = c
+fm_of _ = record { synth = fm_synths.at_power_on; cycle = 0; taken = []; samples = [] }
+
 -- the PSG of a chip; where it is another, any
 abbrev pub psg_of : Chip → PsgValue
 psg_of (Psg c) = c
@@ -29,18 +35,18 @@ psg_of _ = record { synth = at_power_on; cycle = 0; taken = []; samples = [] }
 -- the cycle of a chip that is not built yet
 abbrev pub cycle_of : Chip → ℕ
 cycle_of (Line c) = c.cycle
-cycle_of (Fm c) = c.cycle
 cycle_of _ = 0
 
--- the record of five chips and a board: the answers that the processors keep, the writes that the PSG
--- took and the samples that it keeps are left out
+-- the record of five chips and a board: the answers that the processors keep, the writes that the
+-- sound chips took and the samples that they keep are left out
 abbrev pub record_of : Chip → Chip → Chip → Chip → Chip → Board → Console
 record_of c0 c1 c2 c3 c4 b = record {
   cart = (main_of c0).chip.cart;
   main = (main_of c0).chip.state;
   sub = (sub_of c1).chip;
   line = cycle_of c2;
-  fm = cycle_of c3;
+  fm_cycle = (fm_of c3).cycle;
+  fm = (fm_of c3).synth;
   psg_cycle = (psg_of c4).cycle;
   psg = (psg_of c4).synth;
   shared = b;

@@ -1,5 +1,5 @@
 -- What each chip of the set does, put into the scheduler's form.
-use Rattle.std.specs.Prelude.{ℕ, ℤ, ◌+◌, ◌-◌, ◌*◌, ◌/◌, ◌==◌, nat_le, Bool, false, ◌||◌, if◌then◌else◌, List, ◌++◌, length, Option, Some, None}
+use Rattle.std.specs.Prelude.{ℕ, ◌+◌, ◌-◌, ◌*◌, ◌/◌, ◌==◌, nat_le, Bool, false, ◌||◌, if◌then◌else◌, List, ◌++◌, length, Option, Some, None}
 use Rattle.md_word.specs.declared.event.Next.{Next}
 use Rattle.md_word.specs.declared.main_bus.Answer68.{Answer68}
 use Rattle.md_word.specs.declared.pins.Pins80.{Pins80}
@@ -12,12 +12,15 @@ use Rattle.z80_chip.specs.States.{next_of as sub_next_of}
 use Rattle.z80_parcel.specs.Requests.{Told, Nothing}
 use Rattle.md_machine.specs.Pins.{level_in, pins_of, sub_in}
 use Rattle.md_machine.specs.declared.pins.Pins.{Pins}
+use Rattle.fm_chip.specs.Batches as fm_batches
+use Rattle.fm_chip.specs.Port as fm_ports
+use Rattle.bus_shared.specs.Fm.{fm_board}
 use Rattle.psg_sound.specs.Batches.{after_batch, samples}
 use Rattle.psg_sound.specs.Port.{taken_below}
 use Rattle.bus_shared.specs.Accesses.{level_of, line_board, main_answer, main_board, main_told, psg_board, sub_access}
 use Rattle.bus_shared.specs.Entries.{batch_entry, line_entry}
 use Rattle.bus_shared.specs.Board.{Board}
-use Rattle.md_machine.specs.Parts.{IsMain, IsPsg, IsSub, PsgValue, SubValue}
+use Rattle.md_machine.specs.Parts.{FmValue, IsFm, IsMain, IsPsg, IsSub, PsgValue, SubValue}
 use Rattle.md_machine.specs.Stubs as stubs
 use Rattle.md_machine.specs.declared.main_chip.MainChip.{MainChip}
 use Rattle.md_machine.specs.declared.stubs.LineStub.{LineStub}
@@ -43,7 +46,7 @@ main_perform c b =
     let request = request_of c.chip.cart c.chip.state in
     let key = (next_of c.chip.state).key in
     record {
-      chip = record c { answer = Some (main_answer b request) };
+      chip = record c { answer = Some (main_answer b key request) };
       shared = main_board b key request;
       entry = main_told b key request;
     }
@@ -77,6 +80,10 @@ abbrev pub line_perform : LineStub → Board → Accessed LineStub Board
 line_perform c b =
     record { chip = c; shared = line_board b c.cycle; entry = line_entry (stubs.line_next c.cycle).key (level_of (line_board b c.cycle)) }
 
+-- a batch of the FM synthesis is an access
+abbrev pub fm_next : ℕ → Next
+fm_next cycle = record { key = record { cycle = cycle; chip = 3 }; sample = false }
+
 -- a batch of the PSG is an access
 abbrev pub psg_next : ℕ → Next
 psg_next cycle = record { key = record { cycle = cycle; chip = 4 }; sample = false }
@@ -86,10 +93,30 @@ abbrev pub first_of : ℕ → ℕ
 first_of cycle = 16 * (cycle / 16128 - 1)
 
 -- the samples are kept as long as there is room for a batch
-abbrev pub kept : List ℤ → List ℤ → List ℤ
+abbrev pub kept : {A : Type 0} → List A → List A → List A
 kept old batch = if nat_le (length old) 880 then old ++ batch else old
 
--- it takes the writes below its cycle, and tells how many
+-- the FM synthesis takes the writes below its cycle, and tells how many
+abbrev pub fm_perform : FmValue → Board → Accessed FmValue Board
+fm_perform c b =
+    let taken = fm_ports.taken_below c.cycle b.fm.writes in
+    record {
+      chip = record c { taken = taken };
+      shared = fm_board b c.cycle;
+      entry = batch_entry 11 (fm_next c.cycle).key (length taken);
+    }
+
+-- it makes its batch, and keeps the samples
+abbrev pub fm_advance : FmValue → FmValue
+fm_advance c =
+    record {
+      synth = fm_batches.after_batch (first_of c.cycle) c.synth c.taken;
+      cycle = c.cycle + 16128;
+      taken = c.taken;
+      samples = kept c.samples (fm_batches.samples (first_of c.cycle) c.synth c.taken);
+    }
+
+-- the PSG takes the writes below its cycle, and tells how many
 abbrev pub psg_perform : PsgValue → Board → Accessed PsgValue Board
 psg_perform c b =
     record {
@@ -113,7 +140,7 @@ abbrev pub next : Chip → Next
 next (Main c) = next_of c.chip.state
 next (Sub c) = sub_next_of c.chip.state
 next (Line c) = stubs.line_next c.cycle
-next (Fm c) = stubs.fm_next c.cycle
+next (Fm c) = fm_next c.cycle
 next (Psg c) = psg_next c.cycle
 
 -- what an access of one kind of chip leaves
@@ -125,7 +152,7 @@ abbrev pub perform : Chip → Board → Accessed Chip Board
 perform (Main c) b = of_kind Main (main_perform c b)
 perform (Sub c) b = of_kind Sub (sub_perform c b)
 perform (Line c) b = of_kind Line (line_perform c b)
-perform (Fm c) b = record { chip = Fm c; shared = b; entry = batch_entry 11 (stubs.fm_next c.cycle).key 0 }
+perform (Fm c) b = of_kind Fm (fm_perform c b)
 perform (Psg c) b = of_kind Psg (psg_perform c b)
 
 -- each chip's private work after an access
@@ -133,7 +160,7 @@ abbrev pub advance : Chip → Chip
 advance (Main c) = Main (main_advance c)
 advance (Sub c) = Sub (sub_advance c)
 advance (Line c) = Line (record { cycle = c.cycle + 3420 })
-advance (Fm c) = Fm (record { cycle = c.cycle + 16128 })
+advance (Fm c) = Fm (fm_advance c)
 advance (Psg c) = Psg (psg_advance c)
 
 -- each chip's sample
@@ -171,5 +198,5 @@ abbrev pub IsChip : Chip → Type 0
 IsChip (Main c) = IsMain c
 IsChip (Sub c) = IsSub c
 IsChip (Line c) = Unit {0}
-IsChip (Fm c) = Unit {0}
+IsChip (Fm c) = IsFm c
 IsChip (Psg c) = IsPsg c

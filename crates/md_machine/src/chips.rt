@@ -1,6 +1,7 @@
+use crate::fm::FmChip;
 use crate::main_chip::MainChip;
 use crate::psg_chip::PsgChip;
-use crate::stubs::{FmStub, LineStub};
+use crate::stubs::LineStub;
 use crate::sub_chip::SubChip;
 
 /// A chip of the machine.
@@ -13,7 +14,7 @@ pub enum Chip {
     /// The drawing half of the VDP, chip 2.
     Line(LineStub),
     /// The FM synthesis, chip 3.
-    Fm(FmStub),
+    Fm(FmChip),
     /// The PSG synthesis, chip 4.
     Psg(PsgChip),
 }

@@ -1,5 +1,5 @@
-ghost use Rattle.std.specs.Prelude.{◌≡◌, ◌+◌, ◌*◌, ◌≤◌, ◌++◌, [], length, vec_len, vec_capacity};
-ghost use Rattle.md_machine.specs.Outputs.{journal_bytes, sound_bytes, level_bytes};
+ghost use Rattle.std.specs.Prelude.{◌≡◌, ◌+◌, ◌*◌, ◌≤◌, ◌++◌, drop, length, vec_len, vec_capacity};
+ghost use Rattle.md_machine.specs.Outputs.{first_sums, journal_bytes, mixed_bytes, sample_bytes};
 ghost use Rattle.md_machine.specs.Drained as drained;
 
 use crate::chips::Chip;
@@ -19,39 +19,73 @@ pub(crate) fn put_entries(entries: &[Entry], into: &mut Vec<u8>)
     }
 }
 
-/// Appends the pairs of the levels of the PSG; the FM chip is silent.
-fn put_levels(levels: &[i32], into: &mut Vec<u8>)
+/// Appends the pairs of samples: each level with the sums of the same number, or with silence where there
+/// are none.
+pub(crate) fn put_pairs(levels: &[i32], sides: &[(i32, i32)], into: &mut Vec<u8>)
     requires { vec_len into.old + 4 * length levels.now ≤ vec_capacity into.old }
-    ensures bytes { into.new.items ≡ into.old.items ++ sound_bytes levels.now }
+    ensures bytes { into.new.items ≡ into.old.items ++ mixed_bytes levels.now sides.now }
     ensures length { vec_len into.new ≡ vec_len into.old + 4 * length levels.now }
     ensures room { vec_capacity into.new ≡ vec_capacity into.old }
 {
-    for level in levels {
-        put_level(level, into);
+    let mut sides = sides;
+    let mut levels = levels;
+    while let [level, later @ ..] = levels {
+        put_pair_of(next_sums(&mut sides), level, into);
+        levels = later;
     }
 }
 
-fn put_level(level: &i32, into: &mut Vec<u8>)
+/// The sums of the first sample, which are taken off; silence where there is none.
+fn next_sums(sides: &mut &[(i32, i32)]) -> (i32, i32)
+    ensures sums { result ≡ first_sums sides.old.now }
+    ensures rest { sides.new.now ≡ drop 1 sides.old.now }
+{
+    match *sides {
+        [first, later @ ..] => {
+            *sides = later;
+            *first
+        }
+        [] => (0, 0),
+    }
+}
+
+fn put_pair_of(sums: (i32, i32), level: &i32, into: &mut Vec<u8>)
     requires { vec_len into.old + 4 ≤ vec_capacity into.old }
-    ensures bytes { into.new.items ≡ into.old.items ++ level_bytes level.now }
+    ensures bytes { into.new.items ≡ into.old.items ++ sample_bytes sums level.now }
     ensures length { vec_len into.new ≡ vec_len into.old + 4 }
     ensures room { vec_capacity into.new ≡ vec_capacity into.old }
 {
-    let level = *level;
-    let (left, right) = mix((0, 0), level);
+    let (left, right) = mix(sums, *level);
     put_pair(left, right, into);
 }
 
-/// Appends the pairs of the PSG's samples, and lets them go; another chip has none.
-pub(crate) fn drain_chip(chip: &mut Chip, into: &mut Vec<u8>)
-    requires { vec_len into.old + 4 * length (drained.samples_of chip.old) ≤ vec_capacity into.old }
-    ensures bytes { into.new.items ≡ into.old.items ++ sound_bytes (drained.samples_of chip.old) }
-    ensures length { vec_len into.new ≡ vec_len into.old + 4 * length (drained.samples_of chip.old) }
-    ensures chip { chip.new ≡ drained.silent chip.old }
-    ensures room { vec_capacity into.new ≡ vec_capacity into.old }
+/// The sums that a chip keeps: another chip than the FM synthesis has none.
+pub(crate) fn sides_in(chip: &Chip) -> &[(i32, i32)]
+    ensures { result.now ≡ drained.sides_of chip.now }
 {
-    if let Chip::Psg(psg) = chip {
-        put_levels(psg.samples(), into);
-        psg.drain();
+    match chip {
+        Chip::Fm(fm) => fm.samples(),
+        Chip::Main(_) | Chip::Sub(_) | Chip::Line(_) | Chip::Psg(_) => &[],
+    }
+}
+
+/// The levels that a chip keeps: another chip than the PSG has none.
+pub(crate) fn levels_in(chip: &Chip) -> &[i32]
+    ensures { result.now ≡ drained.levels_of chip.now }
+{
+    match chip {
+        Chip::Psg(psg) => psg.samples(),
+        Chip::Main(_) | Chip::Sub(_) | Chip::Line(_) | Chip::Fm(_) => &[],
+    }
+}
+
+/// Lets the samples go that a chip keeps.
+pub(crate) fn silence(chip: &mut Chip)
+    ensures { chip.new ≡ drained.silent chip.old }
+{
+    match chip {
+        Chip::Fm(fm) => fm.drain(),
+        Chip::Psg(psg) => psg.drain(),
+        Chip::Main(_) | Chip::Sub(_) | Chip::Line(_) => {}
     }
 }

@@ -1,30 +1,34 @@
 //! Laws of the machine, as calls that do nothing and stand for what they ensure.
 
-ghost use Rattle.std.specs.Prelude.{◌≡◌, ℕ, ℤ, ◌+◌, ◌-◌, ◌*◌, ◌/◌, ◌^◌, ◌≤◌, ◌++◌, List, length};
+ghost use Rattle.std.specs.Prelude.{◌≡◌, ℕ, ◌+◌, ◌-◌, ◌*◌, ◌/◌, ◌^◌, ◌≤◌, ◌++◌, List, length};
 ghost use Rattle.md_word.specs.declared.event.Entry.{Entry};
 ghost use Rattle.chip_core.specs.Limits.{events_within};
 ghost use Rattle.md_pads.specs.Recording.{Frame};
 ghost use Rattle.md_machine.specs.Console.{AllBelow, Console, IsRunTo, power_on, ran};
 ghost use Rattle.md_machine.specs.Pads.{ShowsPads};
 ghost use Rattle.md_machine.specs.Rules.{five};
+ghost use Rattle.md_machine.specs.Samples as samples;
+ghost use Rattle.md_machine.specs.Samples.{Samples};
 
 use crate::set::MdChips;
 use chip_core::laws;
 use rom_header::Cart;
 
-/// A run that goes on from where another ended is one run, with the entries and levels of the one
+/// A run that goes on from where another ended is one run, with the entries and samples of the one
 /// followed by those of the other.
 pub fn joined()
-    ensures { (m w z : Console) (s t : ℕ) (entries later_entries : List Entry) (sound later_sound : List ℤ) → s ≤ t
+    ensures { (m w z : Console) (s t : ℕ) (entries later_entries : List Entry) (sound later_sound : Samples) → s ≤ t
         → IsRunTo m s w entries sound → IsRunTo w t z later_entries later_sound
-        → IsRunTo m t z (entries ++ later_entries) (sound ++ later_sound) }
+        → IsRunTo m t z (entries ++ later_entries) (samples.joined sound later_sound) }
 {}
 
-/// From power-on a run to a cycle makes 16 levels for each multiple of 16,128 cycles, from the first
-/// on, that lies below it.
-pub fn levels_counted()
-    ensures { (cart : List ℕ) (recording : List Frame) (z : Console) (end : ℕ) (entries : List Entry) (sound : List ℤ) → 1 ≤ end
-        → IsRunTo (power_on cart recording) end z entries sound → length sound ≡ 16 * ((end - 1) / 16128) }
+/// From power-on a run to a cycle makes 16 samples of each sound chip for each multiple of 16,128 cycles,
+/// from the first on, that lies below it.
+pub fn samples_counted()
+    ensures sides { (cart : List ℕ) (recording : List Frame) (z : Console) (end : ℕ) (entries : List Entry) (sound : Samples) → 1 ≤ end
+        → IsRunTo (power_on cart recording) end z entries sound → length sound.sides ≡ 16 * ((end - 1) / 16128) }
+    ensures levels { (cart : List ℕ) (recording : List Frame) (z : Console) (end : ℕ) (entries : List Entry) (sound : Samples) → 1 ≤ end
+        → IsRunTo (power_on cart recording) end z entries sound → length sound.levels ≡ 16 * ((end - 1) / 16128) }
 {}
 
 /// From power-on there are never more events below a cycle than cycles and chips.

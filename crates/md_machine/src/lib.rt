@@ -1,9 +1,11 @@
 //! The machine of five chips.
 #![tactic(auto)]
 
+mod batches;
 mod chips;
 mod drains;
 mod first;
+mod fm;
 pub mod laws;
 mod least;
 mod machine;

@@ -4,9 +4,10 @@ ghost use Rattle.md_machine.specs.Console.{IsRunTo, key_in, mover, power_on};
 ghost use Rattle.md_machine.specs.Outputs.{journal_bytes, sound_bytes};
 ghost use Rattle.md_machine.specs.Refinement.{main_of};
 ghost use Rattle.md_machine.specs.Rules.{next};
+ghost use Rattle.md_machine.specs.Samples.{no_samples};
 
 use crate::chips::Chip;
-use crate::drains::{drain_chip, put_entries};
+use crate::drains::{levels_in, put_entries, put_pairs, sides_in, silence};
 use crate::first::{first_bounds, first_chips};
 use crate::least::least_key;
 use crate::parts::{Parts, run_parts};
@@ -47,13 +48,14 @@ impl Model for Machine {
 }
 
 impl Machine {
-    /// The machine at power-on with this cartridge and this recording of the pads. All memory that it ever needs is taken here.
+    /// The machine at power-on with this cartridge and this recording of the pads. All memory that it
+    /// ever needs is taken here.
     pub fn power_on(
         alloc: Global,
         cart: Arc<Cart>,
         recording: Arc<Recording>,
     ) -> Result<Machine, NoMemory>
-        ensures { IfOk result (λ machine. machine ≡ record { at = 0; console = power_on (arc_value cart) (arc_value recording); entries = []; levels = [] }) }
+        ensures { IfOk result (λ machine. machine ≡ record { at = 0; console = power_on (arc_value cart) (arc_value recording); entries = []; samples = no_samples }) }
     {
         let shared = Shared::power_on(alloc, recording)?;
         let chips = first_chips(alloc, cart)?;
@@ -89,11 +91,11 @@ impl Machine {
         requires near { to ≤ self.old.at + 896040 }
         requires far { to ≤ 549755813888 }
         requires entries { self.old.entries ≡ [] }
-        requires levels { self.old.levels ≡ [] }
+        requires samples { self.old.samples ≡ no_samples }
         ensures at { self.new.at ≡ to }
-        ensures run { IsRunTo self.old.console to self.new.console self.new.entries self.new.levels }
+        ensures run { IsRunTo self.old.console to self.new.console self.new.entries self.new.samples }
         ensures entries { length self.new.entries ≤ 52500 }
-        ensures levels { length self.new.levels ≤ 896 }
+        ensures samples { length self.new.samples.levels ≤ 896 }
     {
         if let Some(shared) = self.shared.take() {
             let alloc = *self.chips.allocator();
@@ -138,14 +140,29 @@ impl Machine {
 
     /// Appends the pairs of samples that were made since the machine was last drained.
     pub fn drain_pairs(&mut self, into: &mut Vec<u8>)
-        requires { vec_len into.old + 4 * length self.old.levels ≤ vec_capacity into.old }
-        ensures bytes { into.new.items ≡ into.old.items ++ sound_bytes self.old.levels }
-        ensures length { vec_len into.new ≡ vec_len into.old + 4 * length self.old.levels }
-        ensures machine { self.new ≡ record self.old { levels = [] } }
+        requires { vec_len into.old + 4 * length self.old.samples.levels ≤ vec_capacity into.old }
+        ensures bytes { into.new.items ≡ into.old.items ++ sound_bytes self.old.samples }
+        ensures length { vec_len into.new ≡ vec_len into.old + 4 * length self.old.samples.levels }
+        ensures machine { self.new ≡ record self.old { samples = no_samples } }
         ensures room { vec_capacity into.new ≡ vec_capacity into.old }
     {
-        let chip = &mut self.chips[4];
-        drain_chip(chip, into);
+        put_pairs(levels_in(&self.chips[4]), sides_in(&self.chips[3]), into);
+        self.silence_fm();
+        self.silence_psg();
+    }
+
+    /// Lets the FM synthesis' samples go.
+    fn silence_fm(&mut self)
+        ensures { self.new ≡ record self.old { samples = record { sides = []; levels = self.old.samples.levels } } }
+    {
+        silence(&mut self.chips[3]);
+    }
+
+    /// Lets the PSG's samples go.
+    fn silence_psg(&mut self)
+        ensures { self.new ≡ record self.old { samples = record { sides = self.old.samples.sides; levels = [] } } }
+    {
+        silence(&mut self.chips[4]);
     }
 }
 

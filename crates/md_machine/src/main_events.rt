@@ -22,6 +22,7 @@ impl MainChip {
     #[tactic(auto, unfolding(m68k_chip::specs::States::next_of, bus_shared::specs::Accesses::carried))]
     pub(crate) fn perform(&mut self, shared: &mut Shared) -> Entry
         requires access { (next_of self.old.chip.state).sample ≡ false }
+        requires cycle { self.old.chip.state.next < 2 ^ 50 }
         ensures chip { self.new ≡ (rules.main_perform self.old shared.old).chip }
         ensures shared { shared.new ≡ (rules.main_perform self.old shared.old).shared }
         ensures entry { result ≡ (rules.main_perform self.old shared.old).entry }

@@ -6,6 +6,7 @@ ghost use Rattle.md_machine.specs.Machines.{kept_in};
 ghost use Rattle.bus_shared.specs.Board.{IsBoard};
 ghost use Rattle.md_machine.specs.Refinement.{console};
 ghost use Rattle.md_machine.specs.Rules.{IsChip, five};
+ghost use Rattle.md_machine.specs.Samples.{no_samples};
 ghost use Rattle.md_machine.specs.ShownParts.{core_of};
 
 use crate::chips::Chip;
@@ -30,7 +31,7 @@ pub(crate) fn run_parts(parts: Parts, from: u64, to: u64) -> Parts
     requires far { to ≤ 549755813888 }
     requires room { 52500 ≤ vec_capacity parts.journal }
     requires entries { parts.journal.items ≡ [] }
-    requires levels { kept_in (machine_of five (core_of parts)) ≡ [] }
+    requires samples { kept_in (machine_of five (core_of parts)) ≡ no_samples }
     ensures core { IsCore five IsChip IsBoard (core_of result) }
     ensures quiet { machines.IsQuiet five (machine_of five (core_of result)) to }
     ensures room { vec_capacity result.journal ≡ vec_capacity parts.journal }
@@ -63,7 +64,7 @@ fn run_core(core: &mut Core<MdChips>, from: u64, to: u64)
     requires far { to ≤ 549755813888 }
     requires room { 52500 ≤ core.old.room }
     requires entries { core.old.journal ≡ [] }
-    requires levels { kept_in (machine_of five core.old) ≡ [] }
+    requires samples { kept_in (machine_of five core.old) ≡ no_samples }
     ensures core { IsCore five IsChip IsBoard core.new }
     ensures room { core.new.room ≡ core.old.room }
     ensures run { IsRunTo (console (machine_of five core.old)) to (console (machine_of five core.new))

@@ -2,19 +2,15 @@ ghost use Rattle.std.specs.Prelude.{◌≡◌, ◌^◌, ◌<◌, IfOk, [], ◌+�
 ghost use Rattle.psg_sound.specs.Synth.{at_power_on};
 ghost use Rattle.md_machine.specs.Rules as rules;
 
+use crate::batches::{MOST_SAMPLES, first_sample, keep};
 use crate::stubs::next_at;
 use arrayvec::ArrayVec;
 use bus_shared::{Request, Shared, carry_out};
+use md_word::clock::BATCH;
 use md_word::{Entry, Next, NoMemory};
 use psg_sound::{PsgList, PsgSynth};
 use std::alloc::Global;
 use std::marker::Model;
-
-/// The master cycles of a batch of 16 samples.
-const BATCH: u64 = 16_128;
-
-/// The samples of a frame at most, in whole batches.
-pub(crate) const MOST_SAMPLES: usize = 896;
 
 /// The PSG's synthesis: an access each 16,128 cycles, which takes the writes that the port holds
 /// and makes 16 samples. It keeps the samples until they are drained, as long as there is room.
@@ -83,7 +79,7 @@ impl PsgChip {
         requires { self.old.cycle < 2 ^ 50 }
         ensures { self.new ≡ rules.psg_advance self.old }
     {
-        let first = 16 * (self.cycle / BATCH).saturating_sub(1);
+        let first = first_sample(self.cycle);
         let mut batch = [0; 16];
         if let Some(list) = &self.taken {
             self.synth.batch(first, list, &mut batch);
@@ -105,16 +101,5 @@ impl PsgChip {
         ensures { self.new ≡ record self.old { samples = [] } }
     {
         self.samples.clear();
-    }
-}
-
-/// Keeps the samples of a batch where there is room for them.
-fn keep(batch: &[i32; 16], samples: &mut ArrayVec<i32, MOST_SAMPLES>)
-    ensures { samples.new.items ≡ rules.kept samples.old.items batch.now }
-{
-    if samples.len() <= MOST_SAMPLES - 16 {
-        for sample in batch {
-            samples.push(*sample);
-        }
     }
 }

@@ -46,6 +46,7 @@ impl ChipSet for MdChips {
         }
     }
 
+    #[tactic(auto, unfolding(m68k_chip::specs::States::next_of, z80_chip::specs::States::next_of))]
     fn perform(chip: &mut Chip, shared: &mut Shared) -> Entry {
         match chip {
             Chip::Main(main) => main.perform(shared),

@@ -1,6 +1,5 @@
-// The chips that are not built yet: each has its events and does nothing else.
+// The drawing half of the VDP, which is not built yet: it has its events and does nothing else.
 ghost use Rattle.std.specs.Prelude.{◌≡◌, ◌+◌, ◌*◌, ◌<◌, ◌^◌};
-ghost use Rattle.bus_shared.specs.Entries.{batch_entry};
 ghost use Rattle.md_machine.specs.Rules as rules;
 ghost use Rattle.md_machine.specs.Stubs as stubs;
 
@@ -10,13 +9,6 @@ use md_word::{Entry, Key, Next};
 /// The drawing half of the VDP, which has an access at each line.
 #[derive(Drop)]
 pub struct LineStub {
-    /// The cycle of its next event.
-    pub cycle: u64,
-}
-
-/// The FM synthesis, which has an access at each batch of 16 samples.
-#[derive(Drop)]
-pub struct FmStub {
     /// The cycle of its next event.
     pub cycle: u64,
 }
@@ -31,6 +23,7 @@ impl LineStub {
     /// Starts the line that is due.
     #[tactic(auto, unfolding(bus_shared::specs::Accesses::carried))]
     pub(crate) fn perform(&mut self, shared: &mut Shared) -> Entry
+        requires { self.old.cycle < 2 ^ 50 }
         ensures chip { self.new ≡ (rules.line_perform self.old shared.old).chip }
         ensures shared { shared.new ≡ (rules.line_perform self.old shared.old).shared }
         ensures entry { result ≡ (rules.line_perform self.old shared.old).entry }
@@ -44,31 +37,6 @@ impl LineStub {
         ensures { self.new ≡ record { cycle = self.old.cycle + 3420 } }
     {
         self.cycle += 3_420;
-    }
-}
-
-impl FmStub {
-    pub(crate) fn next(&self) -> Next
-        ensures { result ≡ stubs.fm_next self.now.cycle }
-    {
-        next_at(self.cycle, 3, false)
-    }
-
-    /// Makes the batch that is due: no write is taken.
-    #[tactic(auto, unfolding(bus_shared::specs::Accesses::carried))]
-    pub(crate) fn perform(&self, shared: &mut Shared) -> Entry
-        ensures shared { shared.new ≡ shared.old }
-        ensures entry { result ≡ batch_entry 11 (stubs.fm_next self.now.cycle).key 0 }
-    {
-        let (_, entry) = carry_out(shared, self.next().key, Request::Fm);
-        entry
-    }
-
-    pub(crate) fn advance(&mut self)
-        requires { self.old.cycle < 2 ^ 50 }
-        ensures { self.new ≡ record { cycle = self.old.cycle + 16128 } }
-    {
-        self.cycle += 16_128;
     }
 }
 

@@ -40,6 +40,7 @@ impl SubChip {
     #[tactic(auto, unfolding(z80_chip::specs::States::next_of, bus_shared::specs::Accesses::carried))]
     pub(crate) fn perform(&mut self, shared: &mut Shared) -> Entry
         requires access { (next_of self.old.chip.state).sample ≡ false }
+        requires cycle { self.old.chip.state.next < 2 ^ 50 }
         ensures chip { self.new ≡ (rules.sub_perform self.old shared.old).chip }
         ensures shared { shared.new ≡ (rules.sub_perform self.old shared.old).shared }
         ensures entry { result ≡ (rules.sub_perform self.old shared.old).entry }

@@ -4,7 +4,7 @@ use Rattle.chip_core.specs.Machines.{IsRunTo, IsSound, Machine}
 use Rattle.bus_shared.specs.Board.{Board, IsBoard}
 use Rattle.md_machine.specs.Rules.{IsChip, five}
 use Rattle.md_machine.specs.declared.chips.Chip.{Chip}
-use Rattle.md_machine.proofs.Segments.{at_most, batches-few, few_entries, segment-run, within-few}
+use Rattle.md_machine.proofs.Segments.{at_most, batches-few, few_entries, fm_batches-few, segment-run, within-few}
 use Rattle.md_machine.proofs.parts.run_core.Goals as goal
 
 pub room-requires-clause-room : goal.room-requires-clause-room
@@ -18,8 +18,9 @@ returns-clause-run c =
     segment-run first (machine_of five c.run_least.new.core) c.args.to c.run_least.new.core.journal (c.run_least.ensures.first c.requires.entries)
     (λ n below. c.stages.ensures.sound first c.args.to n (omega arith) sound below) c.stages.ensures.mover
     (c.stages.ensures.core c.run_least.new.core c.run_least.ensures.core)
+    (λ n below. at_most (c.limits.ensures.made first c.args.to n 3 (omega arith) sound below (lit< tt)) (fm_batches-few first c.args.from c.args.to c.requires.near c.requires.quiet))
     (λ n below. at_most (c.limits.ensures.made first c.args.to n 4 (omega arith) sound below (lit< tt)) (batches-few first c.args.from c.args.to c.requires.near c.requires.quiet))
-    c.requires.levels
+    c.requires.samples
 
 pub returns-clause-entries : goal.returns-clause-entries
 returns-clause-entries c =

@@ -1,14 +1,11 @@
-use Rattle.std.proofs.Common.{◌≡◌, ◌≤◌, List, [], length, Option, Some, None, IsSome, ap, sym, refl, subst}
-use Rattle.std.specs.Prelude.{option_map, unwrap_or}
+use Rattle.std.proofs.Common.{◌≤◌, List, [], length, Option, ap, sym, subst}
+use Rattle.std.specs.Prelude.{unwrap_or}
 use Rattle.bus_shared.specs.Accesses.{carried}
 use Rattle.psg_sound.specs.Port.{taken_below}
 use Rattle.psg_sound.specs.PortLaws.{taken_below-few}
 use Rattle.psg_sound.specs.declared.write.PsgWrite.{PsgWrite}
+use Rattle.md_machine.proofs.Handed.{some_by}
 use Rattle.md_machine.proofs.psg_chip.PsgChip.perform.Goals as goal
-
-some_by : {A B : Type 0} (f : A → B) (o : Option A) (b : B) → option_map f o ≡ Some b → IsSome o
-some_by f None b e = cc
-some_by f (Some a) b e = refl
 
 pub invariant_of-self : goal.invariant_of-self
 unfolding carried

@@ -1,8 +1,8 @@
 use Rattle.std.proofs.Common.{◌≡◌, ◌+◌, ◌≤◌, ◌++◌, length, take}
-use Rattle.md_machine.proofs.psg_chip.keep.Given as goal
+use Rattle.md_machine.proofs.batches.keep.Given as goal
 
 abbrev pub invariant-loop-sample : goal.invariant-loop-sample
-invariant-loop-sample l = record {
+invariant-loop-sample g l = record {
   items : l.samples.items ≡ l.fn.samples.items ++ take l.sample-index l.batch;
   room : length l.samples.items ≤ 880 + l.sample-index;
 }

@@ -1,0 +1,28 @@
+ghost use Rattle.std.specs.Prelude.{◌≡◌, ◌^◌, ◌<◌, ◌≤◌};
+ghost use Rattle.md_machine.specs.Rules as rules;
+
+use arrayvec::ArrayVec;
+use md_word::clock::BATCH;
+
+/// The samples of a frame at most, in whole batches.
+pub(crate) const MOST_SAMPLES: usize = 896;
+
+/// The number of the first sample of the batch at a cycle.
+pub(crate) fn first_sample(cycle: u64) -> u64
+    requires { cycle < 2 ^ 50 }
+    ensures value { result ≡ rules.first_of cycle }
+    ensures most { result ≤ 2 ^ 50 }
+{
+    16 * (cycle / BATCH).saturating_sub(1)
+}
+
+/// Keeps the samples of a batch where there is room for them.
+pub(crate) fn keep<T: Copy + Default>(batch: &[T; 16], samples: &mut ArrayVec<T, MOST_SAMPLES>)
+    ensures { samples.new.items ≡ rules.kept samples.old.items batch.now }
+{
+    if samples.len() <= MOST_SAMPLES - 16 {
+        for sample in batch {
+            samples.push(*sample);
+        }
+    }
+}

@@ -1,0 +1,106 @@
+ghost use Rattle.std.specs.Prelude.{◌≡◌, ◌^◌, ◌<◌, IfOk, [], ◌+◌};
+ghost use Rattle.fm_chip.specs.Synth.{at_power_on};
+ghost use Rattle.md_machine.specs.Rules as rules;
+
+use crate::batches::{MOST_SAMPLES, first_sample, keep};
+use crate::stubs::next_at;
+use arrayvec::ArrayVec;
+use bus_shared::{Request, Shared, carry_out};
+use fm_chip::{FmList, FmSynth};
+use md_word::clock::BATCH;
+use md_word::{Entry, Next, NoMemory};
+use std::alloc::Global;
+use std::marker::Model;
+
+/// The FM synthesis: an access each 16,128 cycles, which takes the writes that the port holds and makes
+/// 16 samples, each the sums of both sides. It keeps the samples until they are drained, as long as
+/// there is room.
+#[derive(Drop)]
+pub struct FmChip {
+    synth: Box<FmSynth>,
+    cycle: u64,
+    taken: Option<Box<FmList>>,
+    samples: Box<ArrayVec<(i32, i32), MOST_SAMPLES>>,
+}
+
+impl Model for FmChip {
+    ghost use Rattle.md_machine.specs.Parts.{FmValue, IsFm};
+    ghost use Rattle.std.specs.Prelude.{IsSome, unwrap_or, option_map, []};
+
+    ghost Value = { FmValue };
+
+    ghost view = { λ c. record { synth = c.synth.value; cycle = c.cycle; taken = unwrap_or (option_map (λ b. b.value.items) c.taken) []; samples = c.samples.value.items } };
+
+    ghost invariant = { λ c. IsSome c.taken × IsFm (record { synth = c.synth.value; cycle = c.cycle; taken = unwrap_or (option_map (λ b. b.value.items) c.taken) []; samples = c.samples.value.items }) };
+}
+
+impl FmChip {
+    ghost use Rattle.md_machine.specs.Parts.{IsFm};
+
+    /// The synthesis at power-on: silent, and its first batch at 16,128.
+    pub(crate) fn power_on(alloc: Global) -> Result<FmChip, NoMemory>
+        ensures { IfOk result (λ chip. chip ≡ record { synth = at_power_on; cycle = 16128; taken = []; samples = [] }) }
+    {
+        Ok(FmChip {
+            synth: Box::new(alloc, FmSynth::power_on())?,
+            cycle: BATCH,
+            taken: Some(Box::new(alloc, FmList::new())?),
+            samples: Box::new(alloc, ArrayVec::new())?,
+        })
+    }
+
+    pub(crate) fn next(&self) -> Next
+        ensures value { result ≡ rules.fm_next self.now.cycle }
+        ensures fm { IsFm self.now }
+    {
+        next_at(self.cycle, 3, false)
+    }
+
+    /// Takes the writes for the batch that is due.
+    #[tactic(auto, unfolding(bus_shared::specs::Accesses::carried))]
+    pub(crate) fn perform(&mut self, shared: &mut Shared) -> Entry
+        requires { self.old.cycle < 2 ^ 50 }
+        ensures chip { self.new ≡ (rules.fm_perform self.old shared.old).chip }
+        ensures shared { shared.new ≡ (rules.fm_perform self.old shared.old).shared }
+        ensures entry { result ≡ (rules.fm_perform self.old shared.old).entry }
+    {
+        shared.known();
+        let key = self.next().key;
+        if let Some(list) = self.taken.take() {
+            let (answer, entry) = carry_out(shared, key, Request::Fm(list));
+            self.taken = answer.fm_list();
+            entry
+        } else {
+            unreachable!()
+        }
+    }
+
+    /// Makes the samples of the batch that is due.
+    pub(crate) fn advance(&mut self)
+        requires { self.old.cycle < 2 ^ 50 }
+        ensures { self.new ≡ rules.fm_advance self.old }
+    {
+        let first = first_sample(self.cycle);
+        let mut batch = [(0, 0); 16];
+        if let Some(list) = &self.taken {
+            self.synth.batch(first, list, &mut batch);
+        }
+        keep(&batch, &mut self.samples);
+        self.cycle += BATCH;
+    }
+
+    /// The sums that were made since they were last drained.
+    pub(crate) fn samples(&self) -> &[(i32, i32)]
+        ensures value { result.now ≡ self.now.samples }
+        ensures fm { IsFm self.now }
+    {
+        self.samples.as_slice()
+    }
+
+    /// Lets the samples go.
+    pub(crate) fn drain(&mut self)
+        ensures { self.new ≡ record self.old { samples = [] } }
+    {
+        self.samples.clear();
+    }
+}
