@@ -25,15 +25,22 @@ fn board(alloc: Global, bytes: &[u8]) -> Result<Shared, Fail> {
 }
 
 /// Carries out an access of the 68000 at a cycle: the value that it answers, and its entry.
-fn main(shared: &mut Shared, cycle: u64, request: Request68) -> (u16, Entry) {
-    let key = Key { cycle, chip: 0 };
+fn main(shared: &mut Shared, cycle: u32, request: Request68) -> (u16, Entry) {
+    let key = Key {
+        cycle: u64::from(cycle),
+        chip: 0,
+    };
     let (answer, entry) = carry_out(shared, key, Request::Main(request));
     (answer.main().map_or(0, |answer| answer.value), entry)
 }
 
 /// Starts the line of a cycle: its number in the frame, and the level, as the entry tells them.
-fn line(shared: &mut Shared, cycle: u64) -> (u8, u32, u16) {
-    let (_, entry) = carry_out(shared, Key { cycle, chip: 2 }, Request::Line);
+fn line(shared: &mut Shared, cycle: u32) -> (u8, u32, u16) {
+    let key = Key {
+        cycle: u64::from(cycle),
+        chip: 2,
+    };
+    let (_, entry) = carry_out(shared, key, Request::Line);
     (entry.kind, entry.address, entry.value)
 }
 
@@ -55,7 +62,11 @@ fn a_recorded_button_is_seen_from_line_224_on(rt: HostRuntime) -> Result<(), Fai
     ];
     for (cycle, number, want) in rows {
         assert_eq!(rt; line(&mut shared, cycle), (10, number, 0));
-        let (value, _) = main(&mut shared, cycle + 1, Request68::Read8(0xa1_0003));
+        let (value, _) = main(
+            &mut shared,
+            cycle.wrapping_add(1),
+            Request68::Read8(0xa1_0003),
+        );
         assert_eq!(rt; value, want);
     }
     Ok(())
@@ -87,8 +98,6 @@ fn each_register_as_byte_and_word(rt: HostRuntime) -> Result<(), Fail> {
         (0xa0_fffe, [0xff, 0xff, 0xffff]),
         (0xa1_1100, [0x01, 0x00, 0x0100]),
         (0xa1_1200, [0x00, 0x00, 0x0000]),
-        (0xc0_0000, [0xff, 0xff, 0xffff]),
-        (0xc0_0004, [0xff, 0xff, 0xffff]),
         (0xc0_0010, [0xff, 0xff, 0xffff]),
         (0xc0_001e, [0xff, 0xff, 0xffff]),
     ] {
@@ -166,8 +175,12 @@ fn writes_to_the_psg(rt: HostRuntime) -> Result<(), Fail> {
         (32_256, [(16_128, 0x78)].as_slice()),
     ] {
         let list = Request::Psg(Box::new(rt.alloc(), PsgList::new())?);
-        let (answer, entry) = carry_out(&mut shared, Key { cycle, chip: 4 }, list);
-        assert_eq!(rt; (entry.kind, entry.address), (12, (cycle / 16_128) as u32));
+        let key = Key {
+            cycle: u64::from(cycle),
+            chip: 4,
+        };
+        let (answer, entry) = carry_out(&mut shared, key, list);
+        assert_eq!(rt; (entry.kind, entry.address), (12, cycle / 16_128));
         assert_eq!(rt; usize::from(entry.value), want.len());
         assert!(rt; taken(rt.alloc(), answer)?.as_slice() == want);
     }
@@ -191,7 +204,7 @@ fn entries(rt: HostRuntime) -> Result<(), Fail> {
     let rows = [
         (Request68::Read8(0xa1_0001), (0, 0xa1_0001, 0xa0)),
         (Request68::Read16(0xa1_0000), (1, 0xa1_0000, 0xa0a0)),
-        (Request68::Read16(0xc0_0008), (1, 0xc0_0008, 0xffff)),
+        (Request68::Read16(0xc0_0018), (1, 0xc0_0018, 0xffff)),
         (Request68::Write8(0xa1_0009, 0x40), (2, 0xa1_0009, 0x40)),
         (Request68::Write16(0xa1_1100, 0x100), (3, 0xa1_1100, 0x100)),
         (Request68::Ack(6), (4, 0, 6)),
@@ -215,8 +228,12 @@ fn entries(rt: HostRuntime) -> Result<(), Fail> {
 }
 
 /// Carries out an access of the Z80 at a cycle: what it answers, and its entry.
-fn sub(shared: &mut Shared, cycle: u64, request: Request80) -> (Option<Answer80>, Entry) {
-    let (answer, entry) = carry_out(shared, Key { cycle, chip: 1 }, Request::Sub(request));
+fn sub(shared: &mut Shared, cycle: u32, request: Request80) -> (Option<Answer80>, Entry) {
+    let key = Key {
+        cycle: u64::from(cycle),
+        chip: 1,
+    };
+    let (answer, entry) = carry_out(shared, key, Request::Sub(request));
     (answer.sub(), entry)
 }
 

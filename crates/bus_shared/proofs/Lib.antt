@@ -1,3 +1,4 @@
 pub mod Keeps
 pub mod Touches
 pub mod Values
+pub mod Ports

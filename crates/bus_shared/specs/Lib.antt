@@ -5,4 +5,5 @@ pub mod Entries
 pub mod Laws
 pub mod Lines
 pub mod Registers
+pub mod Video
 pub mod Z80Space

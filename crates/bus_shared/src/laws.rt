@@ -2,17 +2,37 @@
 
 ghost use Rattle.std.specs.Prelude.{ℕ};
 ghost use Rattle.md_word.specs.declared.key.Key.{Key};
-ghost use Rattle.bus_shared.specs.Board.{Board};
-ghost use Rattle.bus_shared.specs.Laws.{BatchLeaves, LineLeaves, MainLeaves, SubLeaves};
+ghost use Rattle.bus_shared.specs.Board.{Board, IsBoard};
+ghost use Rattle.bus_shared.specs.Laws.{BatchLeaves, LineLeaves, MainLeaves, StaysBoard, SubLeaves, TellsMain, WritersLaw};
+ghost use Rattle.bus_shared.specs.declared.request.Request.{Request};
 ghost use Rattle.z80_parcel.specs.Requests.{Asked};
 
-/// What an access of each chip leaves as it was: the 68000's the recording and the buttons, and
-/// everything where it reads; the Z80's these, the pads' latches and its own lines; a line's all but the buttons; a batch's of the PSG all but the writes
-/// that its port holds.
+/// What an access of each chip leaves as it was: the 68000's the recording and the buttons, and all
+/// but the VDP where it reads; the Z80's these, the pads' latches, its own lines and the VDP; a line's
+/// all but the buttons and the VDP; a batch's of the PSG all but the writes that its port holds.
 #[tactic(auto, using(crate::proofs::Touches::main_leaves, crate::proofs::Touches::sub_leaves, crate::proofs::Touches::line_leaves, crate::proofs::Touches::batch_leaves))]
 pub fn each_chip_touches_its_part()
     ensures main { (board : Board) (key : Key) → MainLeaves board key }
     ensures sub { (board : Board) (key : Key) (request : Asked) → SubLeaves board key request }
     ensures line { (board : Board) (cycle : ℕ) → LineLeaves board cycle }
     ensures batch { (board : Board) (cycle : ℕ) → BatchLeaves board cycle }
+{}
+
+/// Accesses of the Z80, of FM and of the PSG leave the pins of both processors as they were.
+#[tactic(auto, using(crate::proofs::Touches::writers))]
+pub fn pins_have_two_writers()
+    ensures { (board : Board) (key : Key) (request : Request) → WritersLaw board key request }
+{}
+
+/// What a board tells the 68000: a byte, a word, a transfer of 1 to 65,536 words at an even address
+/// below 2^24, and what a word of one costs, 34 or 380 cycles.
+#[tactic(auto, using(crate::proofs::Values::tells))]
+pub fn answers_have_their_ranges()
+    ensures { (board : Board) (key : Key) → IsBoard board → TellsMain board key }
+{}
+
+/// Accesses of the 68000, lines and batches of the PSG leave a board.
+#[tactic(auto, using(crate::proofs::Keeps::stays))]
+pub fn boards_stay()
+    ensures { (board : Board) (key : Key) → IsBoard board → StaysBoard board key }
 {}
