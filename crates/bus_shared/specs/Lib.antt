@@ -5,5 +5,6 @@ pub mod Entries
 pub mod Laws
 pub mod Lines
 pub mod Registers
+pub mod Settled
 pub mod Video
 pub mod Z80Space

@@ -1,10 +1,12 @@
 //! Laws of the board, as calls that do nothing and stand for what they ensure.
 
-ghost use Rattle.std.specs.Prelude.{ℕ};
+ghost use Rattle.std.specs.Prelude.{ℕ, ◌≤◌};
 ghost use Rattle.md_word.specs.declared.key.Key.{Key};
 ghost use Rattle.bus_shared.specs.Board.{Board, IsBoard};
 ghost use Rattle.bus_shared.specs.Laws.{BatchLeaves, LineLeaves, MainLeaves, StaysBoard, SubLeaves, TellsMain, WritersLaw};
+ghost use Rattle.bus_shared.specs.Settled.{SeesNoSettling};
 ghost use Rattle.bus_shared.specs.declared.request.Request.{Request};
+ghost use Rattle.vdp_ports.specs.Vdp.{Vdp};
 ghost use Rattle.z80_parcel.specs.Requests.{Asked};
 
 /// What an access of each chip leaves as it was: the 68000's the recording and the buttons, and all
@@ -35,4 +37,10 @@ pub fn answers_have_their_ranges()
 #[tactic(auto, using(crate::proofs::Keeps::stays))]
 pub fn boards_stay()
     ensures { (board : Board) (key : Key) → IsBoard board → StaysBoard board key }
+{}
+
+/// That a fill or copy was settled to an earlier cycle is seen by no access: each tells the same, and
+/// leaves the same VDP once that is settled to the access's cycle.
+pub fn settling_is_unseen()
+    ensures { (earlier : ℕ) (cycle : ℕ) (vdp : Vdp) → earlier ≤ cycle → SeesNoSettling earlier cycle vdp }
 {}
