@@ -237,10 +237,17 @@ pins-leave old new same = record {
       ∙ ap (λ (vdp : Vdp). record { request = old.request; reset = old.reset; resets = old.resets; int_from = vdp.int_from; int_to = vdp.int_to }) same.vdp;
 }
 
+pub sub_pins_stay : (board : Board) (key : Key) (asks : Asked) → LeavesPins board (sub_access board key asks).board
+sub_pins_stay board key asks = pins-leave board _ (access-alike board key asks)
+
+pub batch_pins_stay : (board : Board) (cycle : ℕ) → LeavesPins board (psg_board board cycle)
+unfolding psg_board
+batch_pins_stay board cycle = record { main = refl; sub = refl }
+
 pub writers : (board : Board) (key : Key) (request : Request) → WritersLaw board key request
-unfolding carried psg_board
+unfolding carried
 writers board key (requests.Main request) first third = absurd (first refl)
-writers board key (requests.Sub request) first third = pins-leave board _ (access-alike board key (asked request))
+writers board key (requests.Sub request) first third = sub_pins_stay board key (asked request)
 writers board key requests.Line first third = absurd (third refl)
 writers board key requests.Fm first third = record { main = refl; sub = refl }
-writers board key (requests.Psg list) first third = record { main = refl; sub = refl }
+writers board key (requests.Psg list) first third = batch_pins_stay board key.cycle

@@ -2,8 +2,9 @@
 
 ghost use Rattle.std.specs.Prelude.{ℕ, ◌≤◌};
 ghost use Rattle.md_word.specs.declared.key.Key.{Key};
+ghost use Rattle.bus_shared.specs.Accesses.{psg_board, sub_access};
 ghost use Rattle.bus_shared.specs.Board.{Board, IsBoard};
-ghost use Rattle.bus_shared.specs.Laws.{BatchLeaves, LineLeaves, MainLeaves, StaysBoard, SubLeaves, TellsMain, WritersLaw};
+ghost use Rattle.bus_shared.specs.Laws.{BatchLeaves, LeavesPins, LineLeaves, MainLeaves, StaysBoard, SubLeaves, TellsMain, WritersLaw};
 ghost use Rattle.bus_shared.specs.Settled.{SeesNoSettling};
 ghost use Rattle.bus_shared.specs.declared.request.Request.{Request};
 ghost use Rattle.vdp_ports.specs.Vdp.{Vdp};
@@ -21,9 +22,10 @@ pub fn each_chip_touches_its_part()
 {}
 
 /// Accesses of the Z80, of FM and of the PSG leave the pins of both processors as they were.
-#[tactic(auto, using(crate::proofs::Touches::writers))]
 pub fn pins_have_two_writers()
-    ensures { (board : Board) (key : Key) (request : Request) → WritersLaw board key request }
+    ensures all { (board : Board) (key : Key) (request : Request) → WritersLaw board key request }
+    ensures sub { (board : Board) (key : Key) (request : Asked) → LeavesPins board (sub_access board key request).board }
+    ensures batch { (board : Board) (cycle : ℕ) → LeavesPins board (psg_board board cycle) }
 {}
 
 /// What a board tells the 68000: a byte, a word, a transfer of 1 to 65,536 words at an even address

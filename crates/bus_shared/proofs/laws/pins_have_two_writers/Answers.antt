@@ -1,5 +1,11 @@
-use Rattle.bus_shared.proofs.Touches.{writers}
+use Rattle.bus_shared.proofs.Touches.{batch_pins_stay, sub_pins_stay, writers}
 use Rattle.bus_shared.proofs.laws.pins_have_two_writers.Goals as goal
 
-pub returns : goal.returns
-returns c = writers
+pub returns-clause-all : goal.returns-clause-all
+returns-clause-all c = writers
+
+pub returns-clause-sub : goal.returns-clause-sub
+returns-clause-sub c = sub_pins_stay
+
+pub returns-clause-batch : goal.returns-clause-batch
+returns-clause-batch c = batch_pins_stay
