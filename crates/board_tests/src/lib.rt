@@ -1,7 +1,10 @@
-//! Tests of what the chips share: registers, pads, the Z80's lines and its memory.
+//! Tests of what the chips share: registers, pads, the Z80's lines and its memory, the FM chip's port,
+//! and the VDP.
 #![tactic(auto)]
 
 #[cfg(test)]
 mod board;
 #[cfg(test)]
 mod fm;
+#[cfg(test)]
+mod video;

@@ -1,5 +1,5 @@
 -- Each access leaves a board.
-use Rattle.std.proofs.Common.{ℕ, ◌*◌, ◌/◌, ◌%◌, ◌==◌, ◌<◌, ◌≤◌, ◌+◌, ◌&&◌, Bool, true, false, Option, Some, None, if◌then◌else◌, arith, lit<, lit≤, not}
+use Rattle.std.proofs.Common.{ℕ, ◌+◌, ◌*◌, ◌/◌, ◌%◌, ◌==◌, ◌<◌, ◌≤◌, Bool, true, false, Option, Some, None, if◌then◌else◌, arith, lit<, lit≤, not}
 use Rattle.std.proofs.lemmas.List.Elements.{All-filter, All-nil}
 use Rattle.fm_chip.specs.Port.{Port, first_write, held_with, left_from, reset, reset_write, second_write, taken_below, written}
 use Rattle.fm_chip.specs.Stamp.{stamp_of}
@@ -18,17 +18,23 @@ use Rattle.md_word.specs.declared.key.Key.{Key}
 use Rattle.md_word.specs.declared.main_bus.Request68.{Request68}
 use Rattle.md_word.specs.declared.main_bus.Request68.TheVariants.{Read8, Read16, Write8, Write16, Ack, Word}
 use Rattle.psg_sound.specs.PortLaws.{IsPort-held_with, IsPort-left_from, IsPort-nil}
-use Rattle.bus_shared.specs.Accesses.{line_board, main_board, psg_board, sub_access, taken_back, yielded}
-use Rattle.bus_shared.specs.Areas.{byte_written_at, byte_written_in, is_psg, read_at, word_written_at, word_written_in}
+use Rattle.vdp_ports.specs.Vdp.{Vdp}
+use Rattle.bus_shared.specs.Accesses.{line_board, main_board, pads_board, psg_board, sub_access, taken_back, video_started, yielded}
+use Rattle.bus_shared.specs.Areas.{byte_written_at, byte_written_in, read_at, read_in, word_written_at, word_written_in}
+use Rattle.bus_shared.specs.Laws.{StaysBoard}
 use Rattle.bus_shared.specs.Lines.{counted, requested}
+use Rattle.bus_shared.specs.Video.{both_halves, port_at, port_written, video_byte_written, video_read, video_word_written}
 use Rattle.bus_shared.specs.Z80Space.{granted, is_psg80, space_read, space_written, store_written, with_psg, z80_address}
+use Rattle.bus_shared.proofs.Ports.{acknowledged_bytes, line_started_bytes, port_read_bytes, port_written_bytes, power_on_bytes, taken_bytes}
 use Rattle.z80_parcel.proofs.Writes.{banked_fits, stored_fits}
 use Rattle.z80_parcel.specs.Parcels.{IsStore, Store}
 use Rattle.z80_parcel.specs.Requests.{Asked, ReadByte, WriteByte, HandOver, TakeBack, Fits}
 use Rattle.std.proofs.Common.{◌∙◌, IfSome}
-use Rattle.bus_shared.specs.Board.{Board, IsBoard, IsFewFm, power_on}
+use Rattle.bus_shared.specs.Board.{AreBytes, Board, IsBoard, IsFewFm, power_on}
 use Rattle.bus_shared.specs.Fm.{fm_board, fm_read, is_fm, with_fm, with_fm_reset}
 use Rattle.bus_shared.specs.Registers.{register_at, register_written}
+use Rattle.bus_shared.specs.declared.port.VideoPort.{VideoPort}
+use Rattle.bus_shared.specs.declared.port.VideoPort.TheVariants.{Data, Control, Counter, Sound, Unused as NoPort}
 use Rattle.bus_shared.specs.declared.register.Register.{Register}
 use Rattle.bus_shared.specs.declared.register.Register.TheVariants.{Version, Data1, Data2, DataExpansion, Control1, Control2, Unused}
 use Rattle.std.specs.Prelude.{List, length}
@@ -40,20 +46,21 @@ power_on-ok recording = record {
   held = IsPort-nil;
   fm = record { most = lit≤ tt; chips = All-nil (λ (w : FmWrite). w.key.chip < 2) };
   store = tt;
+  registers = power_on_bytes;
 }
 
 register-ok : (board : Board) (register : Register) (value : ℕ) → value < 0x100 → IsBoard board → IsBoard (register_written board register value)
 unfolding register_written
 register-ok board Version value below ok = ok
-register-ok board Data1 value below ok = record { port1 = record { value = below; control = ok.port1.control }; port2 = ok.port2; held = ok.held; fm = ok.fm; store = ok.store }
-register-ok board Data2 value below ok = record { port1 = ok.port1; port2 = record { value = below; control = ok.port2.control }; held = ok.held; fm = ok.fm; store = ok.store }
+register-ok board Data1 value below ok = record { port1 = record { value = below; control = ok.port1.control }; port2 = ok.port2; held = ok.held; fm = ok.fm; store = ok.store; registers = ok.registers }
+register-ok board Data2 value below ok = record { port1 = ok.port1; port2 = record { value = below; control = ok.port2.control }; held = ok.held; fm = ok.fm; store = ok.store; registers = ok.registers }
 register-ok board DataExpansion value below ok = ok
-register-ok board Control1 value below ok = record { port1 = record { value = ok.port1.value; control = below }; port2 = ok.port2; held = ok.held; fm = ok.fm; store = ok.store }
-register-ok board Control2 value below ok = record { port1 = ok.port1; port2 = record { value = ok.port2.value; control = below }; held = ok.held; fm = ok.fm; store = ok.store }
+register-ok board Control1 value below ok = record { port1 = record { value = ok.port1.value; control = below }; port2 = ok.port2; held = ok.held; fm = ok.fm; store = ok.store; registers = ok.registers }
+register-ok board Control2 value below ok = record { port1 = ok.port1; port2 = record { value = ok.port2.value; control = below }; held = ok.held; fm = ok.fm; store = ok.store; registers = ok.registers }
 register-ok board Unused value below ok = ok
 
 psg-ok : (board : Board) (key : Key) (value : ℕ) → key.chip < 2 → IsBoard board → IsBoard (with_psg board key value)
-psg-ok board key value low ok = record { port1 = ok.port1; port2 = ok.port2; held = IsPort-held_with board.held key value low ok.held; fm = ok.fm; store = ok.store }
+psg-ok board key value low ok = record { port1 = ok.port1; port2 = ok.port2; held = IsPort-held_with board.held key value low ok.held; fm = ok.fm; store = ok.store; registers = ok.registers }
 
 -- the FM chip's port, where writes come and go
 few-held : (writes : List FmWrite) (w : FmWrite) → w.key.chip < 2 → IsFewFm writes → IsFewFm (held_with writes w)
@@ -94,10 +101,10 @@ fm_taken-few cycle writes few = length-filter-most (is_below stamp_of cycle) 102
 
 fm-ok : (board : Board) (key : Key) (at value : ℕ) → key.chip < 2 → IsBoard board → IsBoard (with_fm board key at value)
 fm-ok board key at value low ok =
-    record { port1 = ok.port1; port2 = ok.port2; held = ok.held; fm = few-written key (at % 4) value board.fm low ok.fm; store = ok.store }
+    record { port1 = ok.port1; port2 = ok.port2; held = ok.held; fm = few-written key (at % 4) value board.fm low ok.fm; store = ok.store; registers = ok.registers }
 
 fm_read-if : (b : Bool) (board : Board) (cycle : ℕ) → IsBoard board → IsBoard (if b then fm_read board cycle else board)
-fm_read-if true board cycle ok = record { port1 = ok.port1; port2 = ok.port2; held = ok.held; fm = ok.fm; store = ok.store }
+fm_read-if true board cycle ok = record { port1 = ok.port1; port2 = ok.port2; held = ok.held; fm = ok.fm; store = ok.store; registers = ok.registers }
 fm_read-if false board cycle ok = ok
 
 psg-if : (b : Bool) (board : Board) (key : Key) (value : ℕ) → key.chip < 2 → IsBoard board → IsBoard (if b then with_psg board key value else board)
@@ -116,37 +123,65 @@ space-by : (b c : Bool) (board : Board) (key : Key) (at value : ℕ) (store : St
     → IsBoard (if b then with_psg board key value else (if c then with_fm board key at value else record board { store = Some store }))
 space-by true c board key at value store low ok sound = psg-ok board key value low ok
 space-by false true board key at value store low ok sound = fm-ok board key at value low ok
-space-by false false board key at value store low ok sound = record { port1 = ok.port1; port2 = ok.port2; held = ok.held; fm = ok.fm; store = sound }
+space-by false false board key at value store low ok sound = record { port1 = ok.port1; port2 = ok.port2; held = ok.held; fm = ok.fm; store = sound; registers = ok.registers }
 
 space-ok : (store : Option Store) (board : Board) (key : Key) (at value : ℕ) → key.chip < 2 → IsBoard board → IfSome store IsStore → IsBoard (space_written store board key at value)
 space-ok None board key at value low ok sound = ok
 space-ok (Some store) board key at value low ok sound = space-by (is_psg80 at) (is_fm at) board key at value _ low ok (store-ok store at value sound)
 
--- a read in it
-space_read-ok : (store : Option Store) (board : Board) (cycle at : ℕ) → IsBoard board → IsBoard (space_read store board cycle at)
-space_read-ok None board cycle at ok = ok
-space_read-ok (Some store) board cycle at ok = fm_read-if (is_fm at) board cycle ok
-
-read-ok : (area : Option Area) (board : Board) (cycle address : ℕ) → IsBoard board → IsBoard (read_at area board cycle address)
-read-ok None board cycle address ok = ok
-read-ok (Some Z80Space) board cycle address ok = space_read-ok (granted board.request board.store) board cycle (z80_address address) ok
-read-ok (Some InputOutput) board cycle address ok = ok
-read-ok (Some BusRequest) board cycle address ok = ok
-read-ok (Some Z80Reset) board cycle address ok = ok
-read-ok (Some VideoPorts) board cycle address ok = ok
-
 -- a write to a line
 requested-ok : (board : Board) (bit : ℕ) → IsBoard board → IsBoard (requested board bit)
-requested-ok board bit ok = record { port1 = ok.port1; port2 = ok.port2; held = ok.held; fm = ok.fm; store = ok.store }
+requested-ok board bit ok = record { port1 = ok.port1; port2 = ok.port2; held = ok.held; fm = ok.fm; store = ok.store; registers = ok.registers }
 
 reset-ok : (b : Bool) (board : Board) (key : Key) → key.chip < 2 → IsBoard board
     → IsBoard (if b then record (with_fm_reset board key) { reset = true; resets = counted board.resets } else record board { reset = false })
-reset-ok true board key low ok = record { port1 = ok.port1; port2 = ok.port2; held = ok.held; fm = few-reset key board.fm low ok.fm; store = ok.store }
-reset-ok false board key low ok = record { port1 = ok.port1; port2 = ok.port2; held = ok.held; fm = ok.fm; store = ok.store }
+reset-ok true board key low ok = record { port1 = ok.port1; port2 = ok.port2; held = ok.held; fm = few-reset key board.fm low ok.fm; store = ok.store; registers = ok.registers }
+reset-ok false board key low ok = record { port1 = ok.port1; port2 = ok.port2; held = ok.held; fm = ok.fm; store = ok.store; registers = ok.registers }
 
 even-ok : (b : Bool) (one other : Board) → IsBoard one → IsBoard other → IsBoard (if b then one else other)
 even-ok true one other first second = first
 even-ok false one other first second = second
+
+-- a board with another VDP whose registers are bytes
+with-vdp : (board : Board) (vdp : Vdp) → AreBytes vdp.registers → IsBoard board → IsBoard (record board { vdp = vdp })
+with-vdp board vdp bytes ok = record { port1 = ok.port1; port2 = ok.port2; held = ok.held; fm = ok.fm; store = ok.store; registers = bytes }
+
+-- a read
+video-read-ok : (board : Board) (key : Key) (address : ℕ) → IsBoard board → IsBoard (video_read board key address)
+video-read-ok board key address ok = with-vdp board _ (port_read_bytes (port_at address) key.cycle board.vdp ok.registers) ok
+
+space_read-ok : (store : Option Store) (board : Board) (cycle at : ℕ) → IsBoard board → IsBoard (space_read store board cycle at)
+space_read-ok None board cycle at ok = ok
+space_read-ok (Some store) board cycle at ok = fm_read-if (is_fm at) board cycle ok
+
+read-ok : (area : Option Area) (board : Board) (key : Key) (address : ℕ) → IsBoard board → IsBoard (read_at area board key address)
+unfolding read_in
+read-ok None board key address ok = ok
+read-ok (Some Z80Space) board key address ok = space_read-ok (granted board.request board.store) board key.cycle (z80_address address) ok
+read-ok (Some InputOutput) board key address ok = ok
+read-ok (Some BusRequest) board key address ok = ok
+read-ok (Some Z80Reset) board key address ok = ok
+read-ok (Some VideoPorts) board key address ok = video-read-ok board key address ok
+
+-- a write to a port of the VDP
+port-ok : (board : Board) (port : VideoPort) (cycle word : ℕ) → IsBoard board → IsBoard (record board { vdp = port_written port cycle word board.vdp })
+port-ok board port cycle word ok = with-vdp board _ (port_written_bytes port cycle word board.vdp ok.registers) ok
+
+video-byte-ok : (port : VideoPort) (board : Board) (key : Key) (address value : ℕ) → key.chip < 2 → IsBoard board → IsBoard (video_byte_written port board key address value)
+unfolding video_byte_written
+video-byte-ok Data board key address value low ok = port-ok board Data key.cycle (both_halves value) ok
+video-byte-ok Control board key address value low ok = port-ok board Control key.cycle (both_halves value) ok
+video-byte-ok Counter board key address value low ok = port-ok board Counter key.cycle (both_halves value) ok
+video-byte-ok Sound board key address value low ok = psg-if (address % 2 == 1) board key value low ok
+video-byte-ok NoPort board key address value low ok = port-ok board NoPort key.cycle (both_halves value) ok
+
+video-word-ok : (port : VideoPort) (board : Board) (key : Key) (value : ℕ) → key.chip < 2 → IsBoard board → IsBoard (video_word_written port board key value)
+unfolding video_word_written
+video-word-ok Data board key value low ok = port-ok board Data key.cycle value ok
+video-word-ok Control board key value low ok = port-ok board Control key.cycle value ok
+video-word-ok Counter board key value low ok = port-ok board Counter key.cycle value ok
+video-word-ok Sound board key value low ok = psg-ok board key (value % 0x100) low ok
+video-word-ok NoPort board key value low ok = port-ok board NoPort key.cycle value ok
 
 low-byte : (value : ℕ) → value % 0x100 < 0x100
 low-byte value = omega arith
@@ -159,7 +194,7 @@ byte-ok (Some Z80Space) board key address value low ok =
 byte-ok (Some InputOutput) board key address value low ok = register-ok board (register_at address) (value % 0x100) (low-byte value) ok
 byte-ok (Some BusRequest) board key address value low ok = even-ok (address % 2 == 0) _ board (requested-ok board (value % 2) ok) ok
 byte-ok (Some Z80Reset) board key address value low ok = even-ok (address % 2 == 0) _ board (reset-ok (value % 2 == 0) board key low ok) ok
-byte-ok (Some VideoPorts) board key address value low ok = psg-if (is_psg address && (address % 2 == 1)) board key value low ok
+byte-ok (Some VideoPorts) board key address value low ok = video-byte-ok (port_at address) board key address value low ok
 
 word-ok : (area : Option Area) (board : Board) (key : Key) (address value : ℕ) → key.chip < 2 → IsBoard board → IsBoard (word_written_at area board key address value)
 unfolding word_written_in
@@ -169,36 +204,38 @@ word-ok (Some Z80Space) board key address value low ok =
 word-ok (Some InputOutput) board key address value low ok = register-ok board (register_at address) (value % 0x100) (low-byte value) ok
 word-ok (Some BusRequest) board key address value low ok = requested-ok board (value / 0x100 % 2) ok
 word-ok (Some Z80Reset) board key address value low ok = reset-ok (value / 0x100 % 2 == 0) board key low ok
-word-ok (Some VideoPorts) board key address value low ok = psg-if (is_psg address) board key (value % 0x100) low ok
+word-ok (Some VideoPorts) board key address value low ok = video-word-ok (port_at address) board key value low ok
 
 -- an access of the 68000
 pub main-ok : (board : Board) (key : Key) (request : Request68) → key.chip < 2 → IsBoard board → IsBoard (main_board board key request)
 unfolding main_board
-main-ok board key (Read8 address) low ok = read-ok (area_of address) board key.cycle address ok
-main-ok board key (Read16 address) low ok = read-ok (area_of address) board key.cycle address ok
+main-ok board key (Read8 address) low ok = read-ok (area_of address) board key address ok
+main-ok board key (Read16 address) low ok = read-ok (area_of address) board key address ok
 main-ok board key (Write8 address value) low ok = byte-ok (area_of address) board key address value low ok
 main-ok board key (Write16 address value) low ok = word-ok (area_of address) board key address value low ok
-main-ok board key (Ack level) low ok = ok
-main-ok board key (Word value) low ok = ok
+main-ok board key (Ack level) low ok = with-vdp board _ (acknowledged_bytes level board.vdp ok.registers) ok
+main-ok board key (Word value) low ok = with-vdp board _ (taken_bytes key.cycle value board.vdp ok.registers) ok
 
 pads-ok : (b : Bool) (board : Board) (pads : Frame) → IsBoard board → IsBoard (if b then record board { pads = pads } else board)
-pads-ok true board pads ok = record { port1 = ok.port1; port2 = ok.port2; held = ok.held; fm = ok.fm; store = ok.store }
+pads-ok true board pads ok = record { port1 = ok.port1; port2 = ok.port2; held = ok.held; fm = ok.fm; store = ok.store; registers = ok.registers }
 pads-ok false board pads ok = ok
 
 -- the start of a line
 pub line-ok : (board : Board) (cycle : ℕ) → IsBoard board → IsBoard (line_board board cycle)
-unfolding line_board
-line-ok board cycle ok = pads-ok (cycle % frame == 224 * line) board (pads_of board.recording (cycle / frame)) ok
+unfolding line_board pads_board
+line-ok board cycle ok =
+    pads-ok (cycle % frame == 224 * line) (video_started board cycle) (pads_of board.recording (cycle / frame))
+    (with-vdp board _ (line_started_bytes cycle board.vdp ok.registers) ok)
 
 -- a batch of the PSG synthesis
 pub psg_board-ok : (board : Board) (cycle : ℕ) → IsBoard board → IsBoard (psg_board board cycle)
 unfolding psg_board
-psg_board-ok board cycle ok = record { port1 = ok.port1; port2 = ok.port2; held = IsPort-left_from cycle board.held ok.held; fm = ok.fm; store = ok.store }
+psg_board-ok board cycle ok = record { port1 = ok.port1; port2 = ok.port2; held = IsPort-left_from cycle board.held ok.held; fm = ok.fm; store = ok.store; registers = ok.registers }
 
 -- a batch of the FM synthesis
 pub fm_board-ok : (board : Board) (cycle : ℕ) → IsBoard board → IsBoard (fm_board board cycle)
 unfolding fm_board
-fm_board-ok board cycle ok = record { port1 = ok.port1; port2 = ok.port2; held = ok.held; fm = few-left cycle board.fm.writes ok.fm; store = ok.store }
+fm_board-ok board cycle ok = record { port1 = ok.port1; port2 = ok.port2; held = ok.held; fm = few-left cycle board.fm.writes ok.fm; store = ok.store; registers = ok.registers }
 
 -- what a request hands over
 abbrev pub HandsOver : Asked → Type 0
@@ -206,13 +243,13 @@ HandsOver (HandOver store) = IsStore store
 HandsOver request = Unit {0}
 
 yielded-ok : (request : Bool) (board : Board) (key : Key) (store : Store) → IsBoard board → IsStore store → IsBoard (yielded request board key store).board
-yielded-ok true board key store ok sound = record { port1 = ok.port1; port2 = ok.port2; held = ok.held; fm = ok.fm; store = sound }
+yielded-ok true board key store ok sound = record { port1 = ok.port1; port2 = ok.port2; held = ok.held; fm = ok.fm; store = sound; registers = ok.registers }
 yielded-ok false board key store ok sound = ok
 
 taken-ok : (request : Bool) (store : Option Store) (board : Board) (key : Key) → IsBoard board → IsBoard (taken_back request store board key).board
 taken-ok true store board key ok = ok
 taken-ok false None board key ok = ok
-taken-ok false (Some store) board key ok = record { port1 = ok.port1; port2 = ok.port2; held = ok.held; fm = ok.fm; store = tt }
+taken-ok false (Some store) board key ok = record { port1 = ok.port1; port2 = ok.port2; held = ok.held; fm = ok.fm; store = tt; registers = ok.registers }
 
 sub_written-ok : (b c : Bool) (board : Board) (key : Key) (at value : ℕ) → key.chip < 2 → IsBoard board
     → IsBoard (if b then with_psg board key value else (if c then with_fm board key at value else board))
@@ -255,3 +292,12 @@ sub-fits board key (ReadByte at) hands ok = status-below (is_fm at) (both_settle
 sub-fits board key (WriteByte at value) hands ok = tt
 sub-fits board key (HandOver store) hands ok = yielded-fits board.request board key store hands
 sub-fits board key TakeBack hands ok = taken-fits board.request board.store board key ok.store
+
+-- the accesses of the 68000, lines and batches
+pub stays : (board : Board) (key : Key) → IsBoard board → StaysBoard board key
+stays board key ok = record {
+  main = λ request low. main-ok board key request low ok;
+  line = λ cycle. line-ok board cycle ok;
+  batch = λ cycle. psg_board-ok board cycle ok;
+  fm_batch = λ cycle. fm_board-ok board cycle ok;
+}

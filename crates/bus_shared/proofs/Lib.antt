@@ -1,3 +1,5 @@
 pub mod Keeps
 pub mod Touches
+pub mod Unseen
 pub mod Values
+pub mod Ports

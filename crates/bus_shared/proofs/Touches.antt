@@ -1,5 +1,5 @@
 -- What each chip's accesses leave as it was.
-use Rattle.std.proofs.Common.{◌≡◌, ℕ, ◌*◌, ◌/◌, ◌%◌, ◌==◌, ◌&&◌, Bool, true, false, Option, Some, None, if◌then◌else◌, refl}
+use Rattle.std.proofs.Common.{◌≡◌, ◌≢◌, ℕ, ◌*◌, ◌/◌, ◌%◌, ◌==◌, Bool, true, false, Option, Some, None, if◌then◌else◌, refl, ap, ◌∙◌}
 use Rattle.md_pads.specs.Recording.{Frame, pads_of}
 use Rattle.md_word.specs.Clock.{frame, line}
 use Rattle.md_word.specs.Map.{area_of}
@@ -8,16 +8,22 @@ use Rattle.md_word.specs.declared.area.Area.TheVariants.{Z80Space, InputOutput, 
 use Rattle.md_word.specs.declared.key.Key.{Key}
 use Rattle.md_word.specs.declared.main_bus.Request68.{Request68}
 use Rattle.md_word.specs.declared.main_bus.Request68.TheVariants.{Read8, Read16, Write8, Write16, Ack, Word}
-use Rattle.bus_shared.specs.Accesses.{line_board, main_board, psg_board, sub_access, taken_back, yielded}
-use Rattle.z80_parcel.specs.Requests.{Asked, ReadByte, WriteByte, HandOver, TakeBack}
-use Rattle.bus_shared.specs.Areas.{byte_written_at, byte_written_in, is_psg, read_at, word_written_at, word_written_in}
-use Rattle.bus_shared.specs.Fm.{fm_board, fm_read, is_fm, with_fm, with_fm_reset}
+use Rattle.vdp_ports.specs.Vdp.{Vdp}
+use Rattle.bus_shared.specs.Accesses.{carried, line_board, main_board, pads_board, psg_board, sub_access, taken_back, video_started, yielded}
+use Rattle.z80_parcel.specs.Requests.{Asked, ReadByte, WriteByte, HandOver, TakeBack, asked}
+use Rattle.bus_shared.specs.Areas.{byte_written_at, byte_written_in, read_at, read_in, word_written_at, word_written_in}
 use Rattle.bus_shared.specs.Lines.{counted}
+use Rattle.bus_shared.specs.Video.{pins_by, port_at, video_byte_written, video_word_written}
+use Rattle.bus_shared.specs.Fm.{fm_board, fm_read, is_fm, with_fm, with_fm_reset}
 use Rattle.bus_shared.specs.Z80Space.{granted, is_psg80, space_read, space_written, with_psg, z80_address}
 use Rattle.z80_parcel.specs.Parcels.{Store}
 use Rattle.bus_shared.specs.Board.{Board}
-use Rattle.bus_shared.specs.Laws.{BatchLeaves, FmBatchLeaves, IsRead, LineLeaves, MainLeaves, SubLeaves}
+use Rattle.bus_shared.specs.Laws.{BatchLeaves, FmBatchLeaves, LeavesPins, LineLeaves, MainLeaves, SubLeaves, WritersLaw, looked_at}
 use Rattle.bus_shared.specs.Registers.{register_at, register_written}
+use Rattle.bus_shared.specs.declared.port.VideoPort.{VideoPort}
+use Rattle.bus_shared.specs.declared.port.VideoPort.TheVariants.{Data, Control, Counter, Sound, Unused as NoPort}
+use Rattle.bus_shared.specs.declared.request.Request.{Request}
+use Rattle.bus_shared.specs.declared.request.Request.TheVariants as requests
 use Rattle.bus_shared.specs.declared.register.Register.{Register}
 use Rattle.bus_shared.specs.declared.register.Register.TheVariants.{Version, Data1, Data2, DataExpansion, Control1, Control2, Unused}
 
@@ -66,6 +72,35 @@ even-same : (b : Bool) (board new : Board) → Same board new → Same board (if
 even-same true board new same = same
 even-same false board new same = itself board
 
+space_read-same : (store : Option Store) (board : Board) (cycle at : ℕ) → Same board (space_read store board cycle at)
+space_read-same None board cycle at = itself board
+space_read-same (Some store) board cycle at = fm_read-same (is_fm at) board cycle
+
+read-same : (area : Option Area) (board : Board) (key : Key) (address : ℕ) → Same board (read_at area board key address)
+unfolding read_in
+read-same None board key address = itself board
+read-same (Some Z80Space) board key address = space_read-same (granted board.request board.store) board key.cycle (z80_address address)
+read-same (Some InputOutput) board key address = itself board
+read-same (Some BusRequest) board key address = itself board
+read-same (Some Z80Reset) board key address = itself board
+read-same (Some VideoPorts) board key address = record { recording = refl; pads = refl }
+
+video-byte-same : (port : VideoPort) (board : Board) (key : Key) (address value : ℕ) → Same board (video_byte_written port board key address value)
+unfolding video_byte_written
+video-byte-same Data board key address value = record { recording = refl; pads = refl }
+video-byte-same Control board key address value = record { recording = refl; pads = refl }
+video-byte-same Counter board key address value = record { recording = refl; pads = refl }
+video-byte-same Sound board key address value = psg-same (address % 2 == 1) board key value
+video-byte-same NoPort board key address value = record { recording = refl; pads = refl }
+
+video-word-same : (port : VideoPort) (board : Board) (key : Key) (value : ℕ) → Same board (video_word_written port board key value)
+unfolding video_word_written
+video-word-same Data board key value = record { recording = refl; pads = refl }
+video-word-same Control board key value = record { recording = refl; pads = refl }
+video-word-same Counter board key value = record { recording = refl; pads = refl }
+video-word-same Sound board key value = record { recording = refl; pads = refl }
+video-word-same NoPort board key value = record { recording = refl; pads = refl }
+
 byte-same : (area : Option Area) (board : Board) (key : Key) (address value : ℕ) → Same board (byte_written_at area board key address value)
 unfolding byte_written_in
 byte-same None board key address value = itself board
@@ -73,7 +108,7 @@ byte-same (Some Z80Space) board key address value = space-same (granted board.re
 byte-same (Some InputOutput) board key address value = register-same board (register_at address) (value % 0x100)
 byte-same (Some BusRequest) board key address value = even-same (address % 2 == 0) board _ (record { recording = refl; pads = refl })
 byte-same (Some Z80Reset) board key address value = even-same (address % 2 == 0) board _ (reset-same (value % 2 == 0) board key)
-byte-same (Some VideoPorts) board key address value = psg-same (is_psg address && (address % 2 == 1)) board key value
+byte-same (Some VideoPorts) board key address value = video-byte-same (port_at address) board key address value
 
 word-same : (area : Option Area) (board : Board) (key : Key) (address value : ℕ) → Same board (word_written_at area board key address value)
 unfolding word_written_in
@@ -82,53 +117,53 @@ word-same (Some Z80Space) board key address value = space-same (granted board.re
 word-same (Some InputOutput) board key address value = register-same board (register_at address) (value % 0x100)
 word-same (Some BusRequest) board key address value = record { recording = refl; pads = refl }
 word-same (Some Z80Reset) board key address value = reset-same (value / 0x100 % 2 == 0) board key
-word-same (Some VideoPorts) board key address value = psg-same (is_psg address) board key (value % 0x100)
-
-space_read-same : (store : Option Store) (board : Board) (cycle at : ℕ) → Same board (space_read store board cycle at)
-space_read-same None board cycle at = itself board
-space_read-same (Some store) board cycle at = fm_read-same (is_fm at) board cycle
-
-read-same : (area : Option Area) (board : Board) (cycle address : ℕ) → Same board (read_at area board cycle address)
-read-same None board cycle address = itself board
-read-same (Some Z80Space) board cycle address = space_read-same (granted board.request board.store) board cycle (z80_address address)
-read-same (Some InputOutput) board cycle address = itself board
-read-same (Some BusRequest) board cycle address = itself board
-read-same (Some Z80Reset) board cycle address = itself board
-read-same (Some VideoPorts) board cycle address = itself board
+word-same (Some VideoPorts) board key address value = video-word-same (port_at address) board key value
 
 main-same : (board : Board) (key : Key) (request : Request68) → Same board (main_board board key request)
 unfolding main_board
-main-same board key (Read8 address) = read-same (area_of address) board key.cycle address
-main-same board key (Read16 address) = read-same (area_of address) board key.cycle address
+main-same board key (Read8 address) = read-same (area_of address) board key address
+main-same board key (Read16 address) = read-same (area_of address) board key address
 main-same board key (Write8 address value) = byte-same (area_of address) board key address value
 main-same board key (Write16 address value) = word-same (area_of address) board key address value
-main-same board key (Ack level) = itself board
-main-same board key (Word value) = itself board
+main-same board key (Ack level) = record { recording = refl; pads = refl }
+main-same board key (Word value) = record { recording = refl; pads = refl }
 
--- of a read only the timers are seen
-fm_read-read : (b : Bool) (board : Board) (cycle : ℕ) → IsRead board (if b then fm_read board cycle else board)
-fm_read-read true board cycle = refl
-fm_read-read false board cycle = refl
+-- a read
+fm_read-leaves : (b : Bool) (board : Board) (cycle : ℕ) → looked_at (if b then fm_read board cycle else board) board ≡ board
+fm_read-leaves true board cycle = refl
+fm_read-leaves false board cycle = refl
 
-space_read-read : (store : Option Store) (board : Board) (cycle at : ℕ) → IsRead board (space_read store board cycle at)
-space_read-read None board cycle at = refl
-space_read-read (Some store) board cycle at = fm_read-read (is_fm at) board cycle
+space_read-leaves : (store : Option Store) (board : Board) (cycle at : ℕ) → looked_at (space_read store board cycle at) board ≡ board
+space_read-leaves None board cycle at = refl
+space_read-leaves (Some store) board cycle at = fm_read-leaves (is_fm at) board cycle
 
-read-read : (area : Option Area) (board : Board) (cycle address : ℕ) → IsRead board (read_at area board cycle address)
-read-read None board cycle address = refl
-read-read (Some Z80Space) board cycle address = space_read-read (granted board.request board.store) board cycle (z80_address address)
-read-read (Some InputOutput) board cycle address = refl
-read-read (Some BusRequest) board cycle address = refl
-read-read (Some Z80Reset) board cycle address = refl
-read-read (Some VideoPorts) board cycle address = refl
+read-leaves : (area : Option Area) (board : Board) (key : Key) (address : ℕ) → looked_at (read_at area board key address) board ≡ board
+unfolding read_in
+read-leaves None board key address = refl
+read-leaves (Some Z80Space) board key address = space_read-leaves (granted board.request board.store) board key.cycle (z80_address address)
+read-leaves (Some InputOutput) board key address = refl
+read-leaves (Some BusRequest) board key address = refl
+read-leaves (Some Z80Reset) board key address = refl
+read-leaves (Some VideoPorts) board key address = refl
+
+read-beside : (area : Option Area) (board : Board) (key : Key) (address : ℕ) → area ≢ Some VideoPorts → area ≢ Some Z80Space → read_at area board key address ≡ board
+unfolding read_in
+read-beside None board key address other away = refl
+read-beside (Some Z80Space) board key address other away = absurd (away refl)
+read-beside (Some InputOutput) board key address other away = refl
+read-beside (Some BusRequest) board key address other away = refl
+read-beside (Some Z80Reset) board key address other away = refl
+read-beside (Some VideoPorts) board key address other away = absurd (other refl)
 
 pub main_leaves : (board : Board) (key : Key) → MainLeaves board key
 unfolding main_board
 main_leaves board key = record {
   recording = λ request. (main-same board key request).recording;
   pads = λ request. (main-same board key request).pads;
-  byte_read = λ address. read-read (area_of address) board key.cycle address;
-  word_read = λ address. read-read (area_of address) board key.cycle address;
+  byte_read = λ address. read-leaves (area_of address) board key address;
+  word_read = λ address. read-leaves (area_of address) board key address;
+  byte_beside = λ address other away. read-beside (area_of address) board key address other away;
+  word_beside = λ address other away. read-beside (area_of address) board key address other away;
 }
 
 record Beside (old new : Board) : Type 0 where
@@ -137,20 +172,34 @@ record Beside (old new : Board) : Type 0 where
   port2 : new.port2 ≡ old.port2
   held : new.held ≡ old.held
   fm : new.fm ≡ old.fm
+  request : new.request ≡ old.request
+  reset : new.reset ≡ old.reset
+  resets : new.resets ≡ old.resets
+  store : new.store ≡ old.store
 
 pads-beside : (b : Bool) (board : Board) (pads : Frame) → Beside board (if b then record board { pads = pads } else board)
-pads-beside true board pads = record { recording = refl; port1 = refl; port2 = refl; held = refl; fm = refl }
-pads-beside false board pads = record { recording = refl; port1 = refl; port2 = refl; held = refl; fm = refl }
+pads-beside true board pads = record { recording = refl; port1 = refl; port2 = refl; held = refl; fm = refl; request = refl; reset = refl; resets = refl; store = refl }
+pads-beside false board pads = record { recording = refl; port1 = refl; port2 = refl; held = refl; fm = refl; request = refl; reset = refl; resets = refl; store = refl }
 
 pub line_leaves : (board : Board) (cycle : ℕ) → LineLeaves board cycle
-unfolding line_board
+unfolding line_board pads_board
 line_leaves board cycle =
-    let beside = pads-beside (cycle % frame == 224 * line) board (pads_of board.recording (cycle / frame)) in
-    record { recording = beside.recording; port1 = beside.port1; port2 = beside.port2; held = beside.held; fm = beside.fm }
+    let beside = pads-beside (cycle % frame == 224 * line) (video_started board cycle) (pads_of board.recording (cycle / frame)) in
+    record {
+      recording = beside.recording;
+      port1 = beside.port1;
+      port2 = beside.port2;
+      held = beside.held;
+      fm = beside.fm;
+      request = beside.request;
+      reset = beside.reset;
+      resets = beside.resets;
+      store = beside.store;
+    }
 
 pub batch_leaves : (board : Board) (cycle : ℕ) → BatchLeaves board cycle
 unfolding psg_board
-batch_leaves board cycle = record { recording = refl; pads = refl; port1 = refl; port2 = refl; fm = refl }
+batch_leaves board cycle = record { recording = refl; pads = refl; port1 = refl; port2 = refl; vdp = refl; fm = refl }
 
 pub fm_batch_leaves : (board : Board) (cycle : ℕ) → FmBatchLeaves board cycle
 unfolding fm_board
@@ -165,28 +214,29 @@ record Alike (old new : Board) : Type 0 where
   request : new.request ≡ old.request
   reset : new.reset ≡ old.reset
   resets : new.resets ≡ old.resets
+  vdp : new.vdp ≡ old.vdp
 
 unchanged : (board : Board) → Alike board board
-unchanged board = record { recording = refl; pads = refl; port1 = refl; port2 = refl; request = refl; reset = refl; resets = refl }
+unchanged board = record { recording = refl; pads = refl; port1 = refl; port2 = refl; request = refl; reset = refl; resets = refl; vdp = refl }
 
 read-alike : (b : Bool) (board : Board) (cycle : ℕ) → Alike board (if b then fm_read board cycle else board)
-read-alike true board cycle = record { recording = refl; pads = refl; port1 = refl; port2 = refl; request = refl; reset = refl; resets = refl }
+read-alike true board cycle = record { recording = refl; pads = refl; port1 = refl; port2 = refl; request = refl; reset = refl; resets = refl; vdp = refl }
 read-alike false board cycle = unchanged board
 
 written-alike : (b c : Bool) (board : Board) (key : Key) (at value : ℕ)
     → Alike board (if b then with_psg board key value else (if c then with_fm board key at value else board))
-written-alike true c board key at value = record { recording = refl; pads = refl; port1 = refl; port2 = refl; request = refl; reset = refl; resets = refl }
-written-alike false true board key at value = record { recording = refl; pads = refl; port1 = refl; port2 = refl; request = refl; reset = refl; resets = refl }
+written-alike true c board key at value = record { recording = refl; pads = refl; port1 = refl; port2 = refl; request = refl; reset = refl; resets = refl; vdp = refl }
+written-alike false true board key at value = record { recording = refl; pads = refl; port1 = refl; port2 = refl; request = refl; reset = refl; resets = refl; vdp = refl }
 written-alike false false board key at value = unchanged board
 
 yielded-alike : (b : Bool) (board : Board) (key : Key) (store : Store) → Alike board (yielded b board key store).board
-yielded-alike true board key store = record { recording = refl; pads = refl; port1 = refl; port2 = refl; request = refl; reset = refl; resets = refl }
+yielded-alike true board key store = record { recording = refl; pads = refl; port1 = refl; port2 = refl; request = refl; reset = refl; resets = refl; vdp = refl }
 yielded-alike false board key store = unchanged board
 
 taken-alike : (b : Bool) (store : Option Store) (board : Board) (key : Key) → Alike board (taken_back b store board key).board
 taken-alike true store board key = unchanged board
 taken-alike false None board key = unchanged board
-taken-alike false (Some store) board key = record { recording = refl; pads = refl; port1 = refl; port2 = refl; request = refl; reset = refl; resets = refl }
+taken-alike false (Some store) board key = record { recording = refl; pads = refl; port1 = refl; port2 = refl; request = refl; reset = refl; resets = refl; vdp = refl }
 
 access-alike : (board : Board) (key : Key) (request : Asked) → Alike board (sub_access board key request).board
 unfolding sub_access
@@ -206,4 +256,34 @@ sub_leaves board key request =
       request = same.request;
       reset = same.reset;
       resets = same.resets;
+      vdp = same.vdp;
     }
+
+-- the pins go by the lines and by the VDP
+pins-leave : (old new : Board) → Alike old new → LeavesPins old new
+pins-leave old new same = record {
+  main = ap pins_by same.vdp;
+  sub = ap (λ (r : Bool). record { request = r; reset = new.reset; resets = new.resets; int_from = new.vdp.int_from; int_to = new.vdp.int_to }) same.request
+      ∙ ap (λ (r : Bool). record { request = old.request; reset = r; resets = new.resets; int_from = new.vdp.int_from; int_to = new.vdp.int_to }) same.reset
+      ∙ ap (λ (n : ℕ). record { request = old.request; reset = old.reset; resets = n; int_from = new.vdp.int_from; int_to = new.vdp.int_to }) same.resets
+      ∙ ap (λ (vdp : Vdp). record { request = old.request; reset = old.reset; resets = old.resets; int_from = vdp.int_from; int_to = vdp.int_to }) same.vdp;
+}
+
+pub sub_pins_stay : (board : Board) (key : Key) (asks : Asked) → LeavesPins board (sub_access board key asks).board
+sub_pins_stay board key asks = pins-leave board _ (access-alike board key asks)
+
+pub batch_pins_stay : (board : Board) (cycle : ℕ) → LeavesPins board (psg_board board cycle)
+unfolding psg_board
+batch_pins_stay board cycle = record { main = refl; sub = refl }
+
+pub fm_batch_pins_stay : (board : Board) (cycle : ℕ) → LeavesPins board (fm_board board cycle)
+unfolding fm_board
+fm_batch_pins_stay board cycle = record { main = refl; sub = refl }
+
+pub writers : (board : Board) (key : Key) (request : Request) → WritersLaw board key request
+unfolding carried
+writers board key (requests.Main request) first third = absurd (first refl)
+writers board key (requests.Sub request) first third = sub_pins_stay board key (asked request)
+writers board key requests.Line first third = absurd (third refl)
+writers board key (requests.Fm list) first third = fm_batch_pins_stay board key.cycle
+writers board key (requests.Psg list) first third = batch_pins_stay board key.cycle

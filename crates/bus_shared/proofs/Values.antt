@@ -1,15 +1,23 @@
 -- What a read of the 68000 gives has the width of the access.
-use Rattle.std.proofs.Common.{ℕ, ◌<◌, ◌≤◌, Bool, true, false, [], ◌∷◌, Option, Some, None, if◌then◌else◌, arith, lit<}
+use Rattle.std.proofs.Common.{ℕ, ◌<◌, ◌≤◌, Bool, true, false, [], ◌∷◌, Option, Some, None, if◌then◌else◌, arith, lit<, IfSome}
 use Rattle.md_pads.specs.Buttons.{up, down, left, right, button_b, button_c, button_a, start}
 use Rattle.md_pads.specs.Pad.{Latches, binary, is_set, is_th_high, lines, pad_value, released}
 use Rattle.md_word.specs.declared.area.Area.{Area}
 use Rattle.md_word.specs.declared.area.Area.TheVariants.{Z80Space, InputOutput, BusRequest, Z80Reset, VideoPorts}
-use Rattle.bus_shared.specs.Areas.{byte_at, byte_in, word_at, word_in}
+use Rattle.md_word.specs.Map.{area_of}
+use Rattle.md_word.specs.declared.key.Key.{Key}
+use Rattle.md_word.specs.declared.main_bus.Request68.{Request68}
+use Rattle.md_word.specs.declared.main_bus.Request68.TheVariants.{Read8, Read16, Write8, Write16, Ack, Word}
+use Rattle.bus_shared.specs.Accesses.{main_cost, main_transfer, main_value}
+use Rattle.bus_shared.specs.Areas.{byte_at, byte_in, transfer_at, transfer_in, word_at, word_in}
 use Rattle.bus_shared.specs.Board.{Board, IsBoard}
+use Rattle.bus_shared.specs.Laws.{IsTransfer, TellsMain}
 use Rattle.bus_shared.specs.Lines.{request_bit}
 use Rattle.bus_shared.specs.Registers.{register_at, register_read}
+use Rattle.bus_shared.specs.Video.{both_halves, port_at, port_word}
 use Rattle.bus_shared.specs.Fm.{is_fm}
 use Rattle.bus_shared.specs.Z80Space.{granted, space_byte, z80_address}
+use Rattle.bus_shared.proofs.Ports.{half-below, port-below, transfer-sound, word-cost}
 use Rattle.fm_chip.specs.Timers.{both_settled}
 use Rattle.bus_shared.proofs.Keeps.{status-below}
 use Rattle.z80_parcel.specs.Parcels.{Store, is_ram, ram_place}
@@ -61,21 +69,51 @@ even-below true bit h = omega (arith, h)
 even-below false bit h = lit< tt
 
 -- a byte is below 100h
-pub byte-below : (area : Option Area) (board : Board) (cycle address : ℕ) → IsBoard board → byte_at area board cycle address < 0x100
+pub byte-below : (area : Option Area) (board : Board) (key : Key) (address : ℕ) → IsBoard board → byte_at area board key address < 0x100
 unfolding byte_in
-byte-below None board cycle address ok = lit< tt
-byte-below (Some Z80Space) board cycle address ok = space-below (granted board.request board.store) board cycle (z80_address address)
-byte-below (Some InputOutput) board cycle address ok = register-below board (register_at address) ok
-byte-below (Some BusRequest) board cycle address ok = even-below (address % 2 == 0) (request_bit board) (bit-below (is_some (granted board.request board.store)))
-byte-below (Some Z80Reset) board cycle address ok = lit< tt
-byte-below (Some VideoPorts) board cycle address ok = lit< tt
+byte-below None board key address ok = lit< tt
+byte-below (Some Z80Space) board key address ok = space-below (granted board.request board.store) board key.cycle (z80_address address)
+byte-below (Some InputOutput) board key address ok = register-below board (register_at address) ok
+byte-below (Some BusRequest) board key address ok = even-below (address % 2 == 0) (request_bit board) (bit-below (is_some (granted board.request board.store)))
+byte-below (Some Z80Reset) board key address ok = lit< tt
+byte-below (Some VideoPorts) board key address ok =
+    half-below address (port_word (port_at address) key.cycle board.vdp) (port-below (port_at address) key.cycle board.vdp)
 
 -- a word is below 10000h
-pub word-below : (area : Option Area) (board : Board) (cycle address : ℕ) → IsBoard board → word_at area board cycle address < 0x1_0000
+pub word-below : (area : Option Area) (board : Board) (key : Key) (address : ℕ) → IsBoard board → word_at area board key address < 0x1_0000
 unfolding word_in
-word-below None board cycle address ok = lit< tt
-word-below (Some Z80Space) board cycle address ok = omega (arith, space-below (granted board.request board.store) board cycle (z80_address address))
-word-below (Some InputOutput) board cycle address ok = omega (arith, register-below board (register_at address) ok)
-word-below (Some BusRequest) board cycle address ok = omega (arith, bit-below (is_some (granted board.request board.store)))
-word-below (Some Z80Reset) board cycle address ok = lit< tt
-word-below (Some VideoPorts) board cycle address ok = lit< tt
+word-below None board key address ok = lit< tt
+word-below (Some Z80Space) board key address ok = omega (arith, space-below (granted board.request board.store) board key.cycle (z80_address address))
+word-below (Some InputOutput) board key address ok = omega (arith, register-below board (register_at address) ok)
+word-below (Some BusRequest) board key address ok = omega (arith, bit-below (is_some (granted board.request board.store)))
+word-below (Some Z80Reset) board key address ok = lit< tt
+word-below (Some VideoPorts) board key address ok = port-below (port_at address) key.cycle board.vdp
+
+-- a transfer starts with its words, at an even address on the bus
+transfer-in : (area : Option Area) (board : Board) (key : Key) (address word : ℕ) → IsBoard board → IfSome (transfer_at area board key address word) IsTransfer
+unfolding transfer_in
+transfer-in None board key address word ok = tt
+transfer-in (Some Z80Space) board key address word ok = tt
+transfer-in (Some InputOutput) board key address word ok = tt
+transfer-in (Some BusRequest) board key address word ok = tt
+transfer-in (Some Z80Reset) board key address word ok = tt
+transfer-in (Some VideoPorts) board key address word ok = transfer-sound (port_at address) key.cycle word board.vdp ok.registers
+
+transfer-ok : (board : Board) (key : Key) (request : Request68) → IsBoard board → IfSome (main_transfer board key request) IsTransfer
+unfolding main_transfer
+transfer-ok board key (Read8 address) ok = tt
+transfer-ok board key (Read16 address) ok = tt
+transfer-ok board key (Write8 address value) ok = transfer-in (area_of address) board key address (both_halves value) ok
+transfer-ok board key (Write16 address value) ok = transfer-in (area_of address) board key address value ok
+transfer-ok board key (Ack level) ok = tt
+transfer-ok board key (Word value) ok = tt
+
+-- what the 68000 is told
+pub tells : (board : Board) (key : Key) → IsBoard board → TellsMain board key
+unfolding main_value main_cost
+tells board key ok = record {
+  byte = λ address. byte-below (area_of address) board key address ok;
+  word = λ address. word-below (area_of address) board key address ok;
+  transfer = λ request. transfer-ok board key request ok;
+  cost = λ word. word-cost key.cycle board.vdp;
+}

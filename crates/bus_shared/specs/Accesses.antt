@@ -5,18 +5,23 @@ use Rattle.md_word.specs.Map.{area_of}
 use Rattle.md_word.specs.declared.event.Entry.{Entry}
 use Rattle.md_word.specs.declared.key.Key.{Key}
 use Rattle.md_word.specs.declared.main_bus.Answer68.{Answer68}
+use Rattle.md_word.specs.declared.pins.Pins68.{Pins68}
 use Rattle.md_word.specs.declared.pins.Pins80.{Pins80}
 use Rattle.md_word.specs.declared.main_bus.Request68.{Request68}
 use Rattle.md_word.specs.declared.main_bus.Request68.TheVariants.{Read8, Read16, Write8, Write16, Ack, Word}
+use Rattle.md_word.specs.declared.main_bus.Transfer.{Transfer}
 use Rattle.md_pads.specs.Recording.{pads_of}
 use Rattle.fm_chip.specs.Port as fm_ports
 use Rattle.fm_chip.specs.declared.write.FmWrite.{FmWrite}
 use Rattle.psg_sound.specs.Port.{left_from, taken_below}
 use Rattle.psg_sound.specs.declared.write.PsgWrite.{PsgWrite}
-use Rattle.bus_shared.specs.Areas.{byte_at, byte_written_at, read_at, word_at, word_written_at}
+use Rattle.vdp_ports.specs.Control.{level}
+use Rattle.vdp_time.specs.Lines.{line_started}
+use Rattle.bus_shared.specs.Areas.{byte_at, byte_written_at, read_at, transfer_at, word_at, word_written_at}
 use Rattle.bus_shared.specs.Board.{Board}
 use Rattle.bus_shared.specs.Entries.{batch_entry, line_entry, main_entry, sub_entry}
 use Rattle.bus_shared.specs.Fm.{chip_byte, chip_read, fm_board, is_fm, with_fm}
+use Rattle.bus_shared.specs.Video.{both_halves, pins_by, video_acknowledged, word_cost, word_taken}
 use Rattle.bus_shared.specs.Z80Space.{is_psg80, with_psg}
 use Rattle.z80_parcel.specs.Parcels.{Store}
 use Rattle.z80_parcel.specs.Requests.{Asked, ReadByte, WriteByte, HandOver, TakeBack, Told, Byte, Nothing, Returned, asked, told}
@@ -27,33 +32,41 @@ use Rattle.bus_shared.specs.declared.request.Request.TheVariants as requests
 
 -- the value that the 68000 is given: 0 where it reads nothing
 unfoldable pub main_value : Board → Key → Request68 → ℕ
-main_value board key (Read8 address) = byte_at (area_of address) board key.cycle address
-main_value board key (Read16 address) = word_at (area_of address) board key.cycle address
+main_value board key (Read8 address) = byte_at (area_of address) board key address
+main_value board key (Read16 address) = word_at (area_of address) board key address
 main_value board key (Write8 address value) = 0
 main_value board key (Write16 address value) = 0
 main_value board key (Ack level) = 0
 main_value board key (Word value) = 0
 
--- the cycles until the next word of a transfer: 34, since nothing is drawn
-abbrev pub cost_of : Request68 → ℕ
-cost_of (Word value) = 34
-cost_of request = 0
+-- the transfer that an access starts
+unfoldable pub main_transfer : Board → Key → Request68 → Option Transfer
+main_transfer board key (Write8 address value) = transfer_at (area_of address) board key address (both_halves value)
+main_transfer board key (Write16 address value) = transfer_at (area_of address) board key address value
+main_transfer board key request = None
 
--- the answer to the 68000; no access starts a transfer
+-- the cycles until the next word of a transfer, told to a word of one
+unfoldable pub main_cost : Board → Key → Request68 → ℕ
+main_cost board key (Word value) = word_cost key.cycle board.vdp
+main_cost board key request = 0
+
+-- the answer to the 68000
 unfoldable pub main_answer : Board → Key → Request68 → Answer68
-main_answer board key request = record { value = main_value board key request; transfer = None; cost = cost_of request }
+main_answer board key request =
+    record { value = main_value board key request; transfer = main_transfer board key request; cost = main_cost board key request }
 
 -- its entry
 unfoldable pub main_told : Board → Key → Request68 → Entry
-main_told board key request = main_entry key request (main_value board key request)
+main_told board key request = main_entry key request (main_value board key request) board.vdp.a
 
 -- the board after an access of the 68000
 unfoldable pub main_board : Board → Key → Request68 → Board
-main_board board key (Read8 address) = read_at (area_of address) board key.cycle address
-main_board board key (Read16 address) = read_at (area_of address) board key.cycle address
+main_board board key (Read8 address) = read_at (area_of address) board key address
+main_board board key (Read16 address) = read_at (area_of address) board key address
 main_board board key (Write8 address value) = byte_written_at (area_of address) board key address value
 main_board board key (Write16 address value) = word_written_at (area_of address) board key address value
-main_board board key request = board
+main_board board key (Ack level) = video_acknowledged board level
+main_board board key (Word value) = word_taken board key value
 
 -- an access of the Z80: what it is told, its entry, and the board after it
 pub record SubAccess : Type 0 where
@@ -92,9 +105,17 @@ sub_access board key (HandOver store) = yielded board.request board key store
 sub_access board key TakeBack = taken_back board.request board.store board key
 
 -- at the start of line 224 the pads take the recording's words of the frame
-unfoldable pub line_board : Board → ℕ → Board
-line_board board cycle =
+unfoldable pub pads_board : Board → ℕ → Board
+pads_board board cycle =
     if cycle % frame == 224 * line then record board { pads = pads_of board.recording (cycle / frame) } else board
+
+-- the VDP at the start of a line
+abbrev pub video_started : Board → ℕ → Board
+video_started board cycle = record board { vdp = line_started cycle board.vdp }
+
+-- at the start of a line the VDP and the pads take their part
+unfoldable pub line_board : Board → ℕ → Board
+line_board board cycle = pads_board (video_started board cycle) cycle
 
 -- a batch of the PSG synthesis takes the writes stamped below it
 unfoldable pub psg_board : Board → ℕ → Board
@@ -120,13 +141,23 @@ pub record Carried : Type 0 where
   pub entry : Entry
   pub board : Board
 
--- the interrupt level of the 68000: 0, since the VDP is not built
+-- the interrupt level of the 68000
 abbrev pub level_of : Board → ℕ
-level_of board = 0
+level_of board = level board.vdp
 
--- the pins of the Z80: its lines; no interrupt is asked for, since the VDP is not built
+-- the pins of the 68000
+abbrev pub main_pins : Board → Pins68
+main_pins board = pins_by board.vdp
+
+-- the pins of the Z80: its lines, and the interval in which its interrupt is asked for
 abbrev pub sub_pins : Board → Pins80
-sub_pins board = record { request = board.request; reset = board.reset; resets = board.resets; int_from = 0; int_to = 0 }
+sub_pins board = record {
+  request = board.request;
+  reset = board.reset;
+  resets = board.resets;
+  int_from = board.vdp.int_from;
+  int_to = board.vdp.int_to;
+}
 
 -- an access of the chip whose key it is
 unfoldable pub carried : Board → Key → Request → Carried

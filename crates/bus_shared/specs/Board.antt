@@ -1,11 +1,12 @@
 -- What the chips share.
-use Rattle.std.specs.Prelude.{◌<◌, ◌≤◌, List, [], length, All, ℕ, Bool, true, false, Option, None, IfSome}
+use Rattle.std.specs.Prelude.{◌<◌, ◌≤◌, List, [], length, ℕ, Bool, true, false, Option, None, IfSome, All}
 use Rattle.fm_chip.specs.Port as fm_ports
 use Rattle.fm_chip.specs.declared.write.FmWrite.{FmWrite}
 use Rattle.md_pads.specs.Pad.{Latches}
 use Rattle.md_pads.specs.Recording.{Frame}
 use Rattle.psg_sound.specs.Port.{IsPort}
 use Rattle.psg_sound.specs.declared.write.PsgWrite.{PsgWrite}
+use Rattle.vdp_ports.specs.Vdp.{Vdp, at_power_on}
 use Rattle.z80_parcel.specs.Parcels.{IsStore, Store}
 
 pub record Board : Type 0 where
@@ -26,11 +27,17 @@ pub record Board : Type 0 where
   pub resets : ℕ
   -- the Z80's RAM and bank register, where the bus has them
   pub store : Option Store
+  -- the VDP, whose fill or copy is settled where an access looks at it
+  pub vdp : Vdp
 
 -- the latches of a port are bytes
 pub record IsLatched (port : Latches) : Type 0 where
   pub value : port.value < 0x100
   pub control : port.control < 0x100
+
+-- registers are bytes
+abbrev pub AreBytes : List ℕ → Type 0
+AreBytes = All (λ value. value < 0x100)
 
 -- the FM chip's port holds few writes, all by the processors
 pub record IsFewFm (writes : List FmWrite) : Type 0 where
@@ -44,13 +51,14 @@ pub record IsBoard (board : Board) : Type 0 where
   pub held : IsPort board.held
   pub fm : IsFewFm board.fm.writes
   pub store : IfSome board.store IsStore
+  pub registers : AreBytes board.vdp.registers
 
 -- latches at power-on
 abbrev pub cleared : Latches
 cleared = record { value = 0; control = 0 }
 
--- the board at power-on: no button is pressed, nothing was written, and the reset is held of a Z80
--- that has its RAM
+-- the board at power-on: no button is pressed, nothing was written, the reset is held of a Z80 that
+-- has its RAM, and all of the VDP is 0
 abbrev pub power_on : List Frame → Board
 power_on recording = record {
   recording = recording;
@@ -63,4 +71,5 @@ power_on recording = record {
   reset = true;
   resets = 0;
   store = None;
+  vdp = at_power_on;
 }

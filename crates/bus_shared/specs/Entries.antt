@@ -6,14 +6,15 @@ use Rattle.md_word.specs.declared.key.Key.{Key}
 use Rattle.md_word.specs.declared.main_bus.Request68.{Request68}
 use Rattle.md_word.specs.declared.main_bus.Request68.TheVariants.{Read8, Read16, Write8, Write16, Ack, Word}
 
--- an access of the 68000 that gave this value
-abbrev pub main_entry : Key → Request68 → ℕ → Entry
-main_entry key (Read8 address) given = record { key = key; kind = 0; address = address; value = given }
-main_entry key (Read16 address) given = record { key = key; kind = 1; address = address; value = given }
-main_entry key (Write8 address value) given = record { key = key; kind = 2; address = address; value = value }
-main_entry key (Write16 address value) given = record { key = key; kind = 3; address = address; value = value }
-main_entry key (Ack level) given = record { key = key; kind = 4; address = 0; value = level }
-main_entry key (Word value) given = record { key = key; kind = 5; address = 0; value = value }
+-- an access of the 68000 that gave this value, with the VDP's address before it, at which the word of
+-- a transfer is told
+abbrev pub main_entry : Key → Request68 → ℕ → ℕ → Entry
+main_entry key (Read8 address) given a = record { key = key; kind = 0; address = address; value = given }
+main_entry key (Read16 address) given a = record { key = key; kind = 1; address = address; value = given }
+main_entry key (Write8 address value) given a = record { key = key; kind = 2; address = address; value = value }
+main_entry key (Write16 address value) given a = record { key = key; kind = 3; address = address; value = value }
+main_entry key (Ack level) given a = record { key = key; kind = 4; address = 0; value = level }
+main_entry key (Word value) given a = record { key = key; kind = 5; address = a; value = value }
 
 -- an access of the Z80: 6 reads and 7 writes a byte, and 8 and 9 tell a yield and a take, with 1 where
 -- the RAM moved

@@ -6,4 +6,6 @@ pub mod Fm
 pub mod Laws
 pub mod Lines
 pub mod Registers
+pub mod Settled
+pub mod Video
 pub mod Z80Space

@@ -4,9 +4,9 @@ ghost use Rattle.bus_shared.specs.Entries as entries;
 use md_word::clock::{BATCH, FRAME, LINE};
 use md_word::{Entry, Key, Request68};
 
-/// The entry of an access of the 68000 that gave this value.
-pub(crate) fn main_entry(key: Key, request: Request68, given: u16) -> Entry
-    ensures { result ≡ entries.main_entry key request given }
+/// The entry of an access of the 68000 that gave this value, with the VDP's address before it.
+pub(crate) fn main_entry(key: Key, request: Request68, given: u16, a: u16) -> Entry
+    ensures { result ≡ entries.main_entry key request given a }
 {
     let (kind, address, value) = match request {
         Request68::Read8(address) => (0, address, given),
@@ -14,7 +14,7 @@ pub(crate) fn main_entry(key: Key, request: Request68, given: u16) -> Entry
         Request68::Write8(address, value) => (2, address, u16::from(value)),
         Request68::Write16(address, value) => (3, address, value),
         Request68::Ack(level) => (4, 0, u16::from(level)),
-        Request68::Word(value) => (5, 0, value),
+        Request68::Word(value) => (5, u32::from(a), value),
     };
     Entry {
         key,

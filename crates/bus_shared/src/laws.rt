@@ -1,14 +1,20 @@
 //! Laws of the board, as calls that do nothing and stand for what they ensure.
 
-ghost use Rattle.std.specs.Prelude.{ℕ};
+ghost use Rattle.std.specs.Prelude.{ℕ, ◌≤◌};
 ghost use Rattle.md_word.specs.declared.key.Key.{Key};
-ghost use Rattle.bus_shared.specs.Board.{Board};
-ghost use Rattle.bus_shared.specs.Laws.{BatchLeaves, FmBatchLeaves, LineLeaves, MainLeaves, SubLeaves};
+ghost use Rattle.bus_shared.specs.Accesses.{psg_board, sub_access};
+ghost use Rattle.bus_shared.specs.Fm.{fm_board};
+ghost use Rattle.bus_shared.specs.Board.{Board, IsBoard};
+ghost use Rattle.bus_shared.specs.Laws.{BatchLeaves, FmBatchLeaves, LeavesPins, LineLeaves, MainLeaves, StaysBoard, SubLeaves, TellsMain, WritersLaw};
+ghost use Rattle.bus_shared.specs.Settled.{SeesNoSettling};
+ghost use Rattle.bus_shared.specs.declared.request.Request.{Request};
+ghost use Rattle.vdp_ports.specs.Vdp.{Vdp};
 ghost use Rattle.z80_parcel.specs.Requests.{Asked};
 
-/// What an access of each chip leaves as it was: the 68000's the recording and the buttons, and where
-/// it reads everything but the FM chip's timers; the Z80's these, the pads' latches and its own lines;
-/// a line's all but the buttons; a batch's all but the writes that the port of its chip holds.
+/// What an access of each chip leaves as it was: the 68000's the recording and the buttons, and all
+/// but the VDP and the FM chip's timers where it reads; the Z80's these, the pads' latches, its own
+/// lines and the VDP; a line's all but the buttons and the VDP; a batch's all but the writes that the
+/// port of its chip holds.
 #[tactic(auto, using(crate::proofs::Touches::main_leaves, crate::proofs::Touches::sub_leaves, crate::proofs::Touches::line_leaves, crate::proofs::Touches::batch_leaves, crate::proofs::Touches::fm_batch_leaves))]
 pub fn each_chip_touches_its_part()
     ensures main { (board : Board) (key : Key) → MainLeaves board key }
@@ -16,4 +22,31 @@ pub fn each_chip_touches_its_part()
     ensures line { (board : Board) (cycle : ℕ) → LineLeaves board cycle }
     ensures batch { (board : Board) (cycle : ℕ) → BatchLeaves board cycle }
     ensures fm_batch { (board : Board) (cycle : ℕ) → FmBatchLeaves board cycle }
+{}
+
+/// Accesses of the Z80, of FM and of the PSG leave the pins of both processors as they were.
+pub fn pins_have_two_writers()
+    ensures all { (board : Board) (key : Key) (request : Request) → WritersLaw board key request }
+    ensures sub { (board : Board) (key : Key) (request : Asked) → LeavesPins board (sub_access board key request).board }
+    ensures batch { (board : Board) (cycle : ℕ) → LeavesPins board (psg_board board cycle) }
+    ensures fm_batch { (board : Board) (cycle : ℕ) → LeavesPins board (fm_board board cycle) }
+{}
+
+/// What a board tells the 68000: a byte, a word, a transfer of 1 to 65,536 words at an even address
+/// below 2^24, and what a word of one costs, 34 or 380 cycles.
+#[tactic(auto, using(crate::proofs::Values::tells))]
+pub fn answers_have_their_ranges()
+    ensures { (board : Board) (key : Key) → IsBoard board → TellsMain board key }
+{}
+
+/// Accesses of the 68000, lines and batches leave a board.
+#[tactic(auto, using(crate::proofs::Keeps::stays))]
+pub fn boards_stay()
+    ensures { (board : Board) (key : Key) → IsBoard board → StaysBoard board key }
+{}
+
+/// That a fill or copy was settled to an earlier cycle is seen by no access: each tells the same, and
+/// leaves the same VDP once that is settled to the access's cycle.
+pub fn settling_is_unseen()
+    ensures { (earlier : ℕ) (cycle : ℕ) (vdp : Vdp) → earlier ≤ cycle → SeesNoSettling earlier cycle vdp }
 {}

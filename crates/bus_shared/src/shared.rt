@@ -1,4 +1,4 @@
-ghost use Rattle.std.specs.Prelude.{◌≡◌, ◌^◌, ◌<◌, ◌≤◌, IfOk};
+ghost use Rattle.std.specs.Prelude.{◌≡◌, ◌^◌, ◌<◌, ◌≤◌, IfOk, None};
 ghost use Rattle.std.specs.Arc.{arc_value};
 ghost use Rattle.md_word.specs.Map.{area_of};
 ghost use Rattle.fm_chip.specs.Port as fm_ports;
@@ -10,24 +10,29 @@ ghost use Rattle.bus_shared.specs.Board as boards;
 ghost use Rattle.bus_shared.specs.Fm as fm;
 ghost use Rattle.bus_shared.specs.Lines as lines;
 ghost use Rattle.bus_shared.specs.Registers as registers;
+ghost use Rattle.bus_shared.specs.Video as video;
 ghost use Rattle.bus_shared.specs.Z80Space as space;
 ghost use Rattle.z80_parcel.specs.Parcels.{store_of};
 ghost use Rattle.z80_parcel.specs.Requests.{asked, told};
 
-use crate::area::{is_fm, is_psg};
 use crate::entries::{fm_entry, line_entry, main_entry, psg_entry, sub_entry};
+use crate::fm::is_fm;
+use crate::port::VideoPort;
 use crate::register::Register;
 use crate::request::{Answer, Request};
+use crate::video::{acknowledge, begin_line, half_at, power_on, read_port, take_word, write_port};
 use fm_chip::{FmList, FmPort};
 use md_pads::{PadPort, Recording};
 use md_word::clock::{FRAME, LINE};
 use md_word::{
     Answer68, Answer80, Area, Entry, Key, NoMemory, Parcel, Pins68, Pins80, Request68, Request80,
+    Transfer,
 };
 use psg_sound::{PsgList, PsgPort};
 use std::alloc::Global;
 use std::marker::Model;
 use std::sync::Arc;
+use vdp_ports::VdpState;
 use z80_parcel::{RAM_END, known, read, store_byte};
 
 /// The version register: an overseas console of NTSC without an expansion unit.
@@ -48,10 +53,7 @@ const OPEN_WORD: u16 = 0xffff;
 /// The first line below the picture, at whose start the pads change.
 const PADS_LINE: u64 = 224;
 
-/// The master cycles of a transferred word while nothing is drawn.
-const UNDRAWN_COST: u16 = 34;
-
-/// What the chips share. The VDP is not built yet: reads of it give all ones, and writes have no effect.
+/// What the chips share.
 #[derive(Drop)]
 pub struct Shared {
     recording: Arc<Recording>,
@@ -64,6 +66,7 @@ pub struct Shared {
     reset: bool,
     resets: u64,
     parcel: Option<Parcel>,
+    vdp: Box<VdpState>,
 }
 
 impl Model for Shared {
@@ -74,16 +77,16 @@ impl Model for Shared {
 
     ghost Value = { Board };
 
-    ghost view = { λ s. record { recording = arc_value s.recording; pads = s.pads; port1 = s.port1; port2 = s.port2; held = s.psg.value; fm = s.fm.value; request = s.request; reset = s.reset; resets = s.resets; store = option_map store_of s.parcel } };
+    ghost view = { λ s. record { recording = arc_value s.recording; pads = s.pads; port1 = s.port1; port2 = s.port2; held = s.psg.value; fm = s.fm.value; request = s.request; reset = s.reset; resets = s.resets; store = option_map store_of s.parcel; vdp = s.vdp.value } };
 
-    ghost invariant = { λ s. IsBoard (record { recording = arc_value s.recording; pads = s.pads; port1 = s.port1; port2 = s.port2; held = s.psg.value; fm = s.fm.value; request = s.request; reset = s.reset; resets = s.resets; store = option_map store_of s.parcel }) };
+    ghost invariant = { λ s. IsBoard (record { recording = arc_value s.recording; pads = s.pads; port1 = s.port1; port2 = s.port2; held = s.psg.value; fm = s.fm.value; request = s.request; reset = s.reset; resets = s.resets; store = option_map store_of s.parcel; vdp = s.vdp.value }) };
 }
 
 impl Shared {
     ghost use Rattle.bus_shared.specs.Board.{IsBoard};
 
-    /// The board at power-on with a recording of the pads: no button is pressed, and the latches are
-    /// 0.
+    /// The board at power-on with a recording of the pads: no button is pressed, the latches are 0,
+    /// and all of the VDP is 0.
     pub fn power_on(alloc: Global, recording: Arc<Recording>) -> Result<Shared, NoMemory>
         ensures { IfOk result (λ shared. shared ≡ boards.power_on (arc_value recording)) }
     {
@@ -98,6 +101,7 @@ impl Shared {
             reset: true,
             resets: 0,
             parcel: None,
+            vdp: power_on(alloc)?,
         })
     }
 
@@ -177,37 +181,48 @@ impl Shared {
         if granted { 0 } else { 1 }
     }
 
-    #[tactic(auto, unfolding(crate::specs::Areas::byte_in))]
-    fn read_byte(&mut self, cycle: u64, address: u32) -> u8
-        requires { cycle ≤ 2 ^ 50 }
-        ensures value { result ≡ areas.byte_at (area_of address) self.old cycle address }
-        ensures board { self.new ≡ areas.read_at (area_of address) self.old cycle address }
+    /// Reads a port of the VDP.
+    fn read_video(&mut self, key: Key, address: u32) -> u16
+        requires { key.cycle ≤ 2 ^ 50 }
+        ensures value { result ≡ video.port_word (video.port_at address) key.cycle self.old.vdp }
+        ensures board { self.new ≡ video.video_read self.old key address }
+    {
+        read_port(VideoPort::at(address), &mut self.vdp, key.cycle)
+    }
+
+    #[tactic(auto, unfolding(crate::specs::Areas::byte_in, crate::specs::Areas::read_in))]
+    fn read_byte(&mut self, key: Key, address: u32) -> u8
+        requires { key.cycle ≤ 2 ^ 50 }
+        ensures value { result ≡ areas.byte_at (area_of address) self.old key address }
+        ensures board { self.new ≡ areas.read_at (area_of address) self.old key address }
     {
         match Area::of(address) {
-            Some(Area::Z80Space) => self.read_space(cycle, (address % 0x1_0000) as u16),
+            Some(Area::Z80Space) => self.read_space(key.cycle, (address % 0x1_0000) as u16),
             Some(Area::InputOutput) => self.read_register(Register::at(address)),
             Some(Area::BusRequest) if address % 2 == 0 => self.request_bit(),
             Some(Area::BusRequest | Area::Z80Reset) => 0,
-            Some(Area::VideoPorts) | None => OPEN_BYTE,
+            Some(Area::VideoPorts) => half_at(address, self.read_video(key, address)),
+            None => OPEN_BYTE,
         }
     }
 
-    #[tactic(auto, unfolding(crate::specs::Areas::word_in))]
-    fn read_word(&mut self, cycle: u64, address: u32) -> u16
-        requires { cycle ≤ 2 ^ 50 }
-        ensures value { result ≡ areas.word_at (area_of address) self.old cycle address }
-        ensures board { self.new ≡ areas.read_at (area_of address) self.old cycle address }
+    #[tactic(auto, unfolding(crate::specs::Areas::word_in, crate::specs::Areas::read_in))]
+    fn read_word(&mut self, key: Key, address: u32) -> u16
+        requires { key.cycle ≤ 2 ^ 50 }
+        ensures value { result ≡ areas.word_at (area_of address) self.old key address }
+        ensures board { self.new ≡ areas.read_at (area_of address) self.old key address }
     {
         match Area::of(address) {
             Some(Area::Z80Space) => {
-                u16::from(self.read_space(cycle, (address % 0x1_0000) as u16)) * 0x101
+                u16::from(self.read_space(key.cycle, (address % 0x1_0000) as u16)) * 0x101
             }
             Some(Area::InputOutput) => {
                 u16::from(self.read_register(Register::at(address))) * 0x101
             }
             Some(Area::BusRequest) => u16::from(self.request_bit()) * 0x100,
             Some(Area::Z80Reset) => 0,
-            Some(Area::VideoPorts) | None => OPEN_WORD,
+            Some(Area::VideoPorts) => self.read_video(key, address),
+            None => OPEN_WORD,
         }
     }
 
@@ -220,7 +235,7 @@ impl Shared {
 
     fn write_fm(&mut self, key: Key, at: u16, value: u8)
         requires chip { key.chip < 2 }
-        requires cycle { key.cycle ≤ 2 ^ 50 }
+        requires soon { key.cycle ≤ 2 ^ 50 }
         ensures { self.new ≡ fm.with_fm self.old key at value }
     {
         self.fm.write(key, (at % 4) as u8, value);
@@ -229,7 +244,7 @@ impl Shared {
     /// Writes a byte in the Z80's space.
     fn write_space(&mut self, key: Key, at: u16, value: u8)
         requires chip { key.chip < 2 }
-        requires cycle { key.cycle ≤ 2 ^ 50 }
+        requires soon { key.cycle ≤ 2 ^ 50 }
         ensures { self.new ≡ space.space_written (space.granted self.old.request self.old.store) self.old key at value }
     {
         match &mut self.parcel {
@@ -267,29 +282,76 @@ impl Shared {
         }
     }
 
-    #[tactic(auto, unfolding(crate::specs::Areas::byte_written_in))]
-    fn write_byte(&mut self, key: Key, address: u32, value: u8)
+    /// Writes a word to a port of the VDP: the transfer that it starts.
+    fn write_video(&mut self, key: Key, port: VideoPort, word: u16) -> Option<Transfer>
+        requires { key.cycle ≤ 2 ^ 50 }
+        ensures board { self.new ≡ record self.old { vdp = video.port_written port key.cycle word self.old.vdp } }
+        ensures transfer { result ≡ video.port_transfer port key.cycle word self.old.vdp }
+    {
+        write_port(port, &mut self.vdp, key.cycle, word)
+    }
+
+    /// Writes a byte to a port of the VDP, or that of an odd address to the PSG: the transfer that it
+    /// starts.
+    #[tactic(auto, unfolding(crate::specs::Video::video_byte_written, crate::specs::Video::port_transfer))]
+    fn write_video_byte(&mut self, key: Key, address: u32, value: u8) -> Option<Transfer>
+        requires chip { key.chip < 2 }
+        requires soon { key.cycle ≤ 2 ^ 50 }
+        ensures board { self.new ≡ video.video_byte_written (video.port_at address) self.old key address value }
+        ensures transfer { result ≡ video.port_transfer (video.port_at address) key.cycle (video.both_halves value) self.old.vdp }
+    {
+        match VideoPort::at(address) {
+            VideoPort::Sound => {
+                if address % 2 == 1 {
+                    self.write_psg(key, value);
+                }
+                None
+            }
+            port => self.write_video(key, port, u16::from(value) * 0x101),
+        }
+    }
+
+    /// Writes a word to a port of the VDP, or its low byte to the PSG: the transfer that it starts.
+    #[tactic(auto, unfolding(crate::specs::Video::video_word_written, crate::specs::Video::port_transfer))]
+    fn write_video_word(&mut self, key: Key, address: u32, value: u16) -> Option<Transfer>
+        requires chip { key.chip < 2 }
+        requires soon { key.cycle ≤ 2 ^ 50 }
+        ensures board { self.new ≡ video.video_word_written (video.port_at address) self.old key value }
+        ensures transfer { result ≡ video.port_transfer (video.port_at address) key.cycle value self.old.vdp }
+    {
+        match VideoPort::at(address) {
+            VideoPort::Sound => {
+                self.write_psg(key, (value % 0x100) as u8);
+                None
+            }
+            port => self.write_video(key, port, value),
+        }
+    }
+
+    #[tactic(auto, unfolding(crate::specs::Areas::byte_written_in, crate::specs::Areas::transfer_in))]
+    fn write_byte(&mut self, key: Key, address: u32, value: u8) -> Option<Transfer>
         requires chip { key.chip ≡ 0 }
-        requires cycle { key.cycle ≤ 2 ^ 50 }
-        ensures { self.new ≡ areas.byte_written_at (area_of address) self.old key address value }
+        requires soon { key.cycle ≤ 2 ^ 50 }
+        ensures board { self.new ≡ areas.byte_written_at (area_of address) self.old key address value }
+        ensures transfer { result ≡ areas.transfer_at (area_of address) self.old key address (video.both_halves value) }
     {
         match Area::of(address) {
             Some(Area::Z80Space) => self.write_space(key, (address % 0x1_0000) as u16, value),
             Some(Area::InputOutput) => self.write_register(Register::at(address), value),
             Some(Area::BusRequest) if address % 2 == 0 => self.write_request(value % 2),
             Some(Area::Z80Reset) if address % 2 == 0 => self.write_reset(key, value % 2),
-            Some(Area::VideoPorts) if is_psg(address) && address % 2 == 1 => {
-                self.write_psg(key, value)
-            }
+            Some(Area::VideoPorts) => return self.write_video_byte(key, address, value),
             _ => {}
         }
+        None
     }
 
-    #[tactic(auto, unfolding(crate::specs::Areas::word_written_in))]
-    fn write_word(&mut self, key: Key, address: u32, value: u16)
+    #[tactic(auto, unfolding(crate::specs::Areas::word_written_in, crate::specs::Areas::transfer_in))]
+    fn write_word(&mut self, key: Key, address: u32, value: u16) -> Option<Transfer>
         requires chip { key.chip ≡ 0 }
-        requires cycle { key.cycle ≤ 2 ^ 50 }
-        ensures { self.new ≡ areas.word_written_at (area_of address) self.old key address value }
+        requires soon { key.cycle ≤ 2 ^ 50 }
+        ensures board { self.new ≡ areas.word_written_at (area_of address) self.old key address value }
+        ensures transfer { result ≡ areas.transfer_at (area_of address) self.old key address value }
     {
         let high = (value / 0x100) as u8;
         let low = (value % 0x100) as u8;
@@ -298,31 +360,46 @@ impl Shared {
             Some(Area::InputOutput) => self.write_register(Register::at(address), low),
             Some(Area::BusRequest) => self.write_request(high % 2),
             Some(Area::Z80Reset) => self.write_reset(key, high % 2),
-            Some(Area::VideoPorts) if is_psg(address) => self.write_psg(key, low),
-            _ => {}
+            Some(Area::VideoPorts) => return self.write_video_word(key, address, value),
+            None => {}
         }
+        None
     }
 
-    /// The value that an access gives the 68000, and what it changes.
-    #[tactic(auto, unfolding(crate::specs::Accesses::main_value, crate::specs::Accesses::main_board))]
-    fn main_value(&mut self, key: Key, request: Request68) -> u16
+    /// The 68000 takes the interrupt of a level.
+    fn acknowledge(&mut self, level: u8)
+        ensures { self.new ≡ video.video_acknowledged self.old level }
+    {
+        acknowledge(&mut self.vdp, level);
+    }
+
+    /// Hands the VDP a word of a transfer: the master cycles to the next.
+    fn take_word(&mut self, key: Key, word: u16) -> u16
+        requires { key.cycle ≤ 2 ^ 50 }
+        ensures cost { result ≡ video.word_cost key.cycle self.old.vdp }
+        ensures board { self.new ≡ video.word_taken self.old key word }
+    {
+        take_word(&mut self.vdp, key.cycle, word)
+    }
+
+    /// What an access answers the 68000, with what it changes.
+    #[tactic(auto, unfolding(crate::specs::Accesses::main_answer, crate::specs::Accesses::main_value, crate::specs::Accesses::main_transfer, crate::specs::Accesses::main_cost, crate::specs::Accesses::main_board))]
+    fn main_answer(&mut self, key: Key, request: Request68) -> Answer68
         requires chip { key.chip ≡ 0 }
-        requires cycle { key.cycle ≤ 2 ^ 50 }
-        ensures value { result ≡ accesses.main_value self.old key request }
+        requires soon { key.cycle ≤ 2 ^ 50 }
+        ensures answer { result ≡ accesses.main_answer self.old key request }
         ensures board { self.new ≡ accesses.main_board self.old key request }
     {
         match request {
-            Request68::Read8(address) => u16::from(self.read_byte(key.cycle, address)),
-            Request68::Read16(address) => self.read_word(key.cycle, address),
-            Request68::Write8(address, value) => {
-                self.write_byte(key, address, value);
-                0
+            Request68::Read8(address) => answer_of(u16::from(self.read_byte(key, address))),
+            Request68::Read16(address) => answer_of(self.read_word(key, address)),
+            Request68::Write8(address, value) => started(self.write_byte(key, address, value)),
+            Request68::Write16(address, value) => started(self.write_word(key, address, value)),
+            Request68::Ack(level) => {
+                self.acknowledge(level);
+                answer_of(0)
             }
-            Request68::Write16(address, value) => {
-                self.write_word(key, address, value);
-                0
-            }
-            Request68::Ack(_) | Request68::Word(_) => 0,
+            Request68::Word(value) => costing(self.take_word(key, value)),
         }
     }
 
@@ -330,22 +407,14 @@ impl Shared {
     #[tactic(auto, unfolding(crate::specs::Accesses::main_answer, crate::specs::Accesses::main_told))]
     fn main(&mut self, key: Key, request: Request68) -> (Answer68, Entry)
         requires chip { key.chip ≡ 0 }
-        requires cycle { key.cycle ≤ 2 ^ 50 }
+        requires soon { key.cycle ≤ 2 ^ 50 }
         ensures answer { result.0 ≡ accesses.main_answer self.old key request }
         ensures entry { result.1 ≡ accesses.main_told self.old key request }
         ensures board { self.new ≡ accesses.main_board self.old key request }
     {
-        let value = self.main_value(key, request);
-        let cost = match request {
-            Request68::Word(_) => UNDRAWN_COST,
-            _ => 0,
-        };
-        let answer = Answer68 {
-            value,
-            transfer: None,
-            cost,
-        };
-        (answer, main_entry(key, request, value))
+        let a = self.vdp.a;
+        let answer = self.main_answer(key, request);
+        (answer, main_entry(key, request, answer.value, a))
     }
 
     /// Takes the Z80's RAM where the bus is still requested, else gives it back.
@@ -381,7 +450,7 @@ impl Shared {
     /// Carries out a byte that the Z80 writes: the PSG and the FM chip take their own.
     fn sub_write(&mut self, key: Key, at: u16, value: u8)
         requires chip { key.chip < 2 }
-        requires cycle { key.cycle ≤ 2 ^ 50 }
+        requires soon { key.cycle ≤ 2 ^ 50 }
         ensures { self.new ≡ accesses.sub_written self.old key at value }
     {
         if at == PSG80 {
@@ -395,7 +464,7 @@ impl Shared {
     #[tactic(auto, unfolding(crate::specs::Accesses::sub_access))]
     fn sub(&mut self, key: Key, request: Request80) -> (Answer80, Entry)
         requires chip { key.chip < 2 }
-        requires cycle { key.cycle ≤ 2 ^ 50 }
+        requires soon { key.cycle ≤ 2 ^ 50 }
         ensures answer { told result.0 ≡ (accesses.sub_access self.old key (asked request)).answer }
         ensures entry { result.1 ≡ (accesses.sub_access self.old key (asked request)).entry }
         ensures board { self.new ≡ (accesses.sub_access self.old key (asked request)).board }
@@ -414,14 +483,24 @@ impl Shared {
         }
     }
 
-    /// Carries out the start of a line.
-    #[tactic(auto, unfolding(crate::specs::Accesses::line_board))]
-    fn line(&mut self, cycle: u64)
-        ensures { self.new ≡ accesses.line_board self.old cycle }
+    /// Lets the pads take their words at the start of line 224.
+    #[tactic(auto, unfolding(crate::specs::Accesses::pads_board))]
+    fn change_pads(&mut self, cycle: u64)
+        ensures { self.new ≡ accesses.pads_board self.old cycle }
     {
         if cycle % FRAME == PADS_LINE * LINE {
             self.pads = self.recording.pads_at(cycle / FRAME);
         }
+    }
+
+    /// Carries out the start of a line.
+    #[tactic(auto, unfolding(crate::specs::Accesses::line_board))]
+    fn line(&mut self, cycle: u64)
+        requires { cycle ≤ 2 ^ 50 }
+        ensures { self.new ≡ accesses.line_board self.old cycle }
+    {
+        begin_line(&mut self.vdp, cycle);
+        self.change_pads(cycle);
     }
 
     /// Moves the writes of the FM chip that are stamped below a cycle into `into`.
@@ -443,12 +522,45 @@ impl Shared {
     }
 }
 
+/// The answer to an access that gives a value, 0 where it gives none.
+fn answer_of(value: u16) -> Answer68
+    ensures { result ≡ record { value = value; transfer = None; cost = 0 } }
+{
+    Answer68 {
+        value,
+        transfer: None,
+        cost: 0,
+    }
+}
+
+/// The answer to a write that may start a transfer.
+fn started(transfer: Option<Transfer>) -> Answer68
+    ensures { result ≡ record { value = 0; transfer = transfer; cost = 0 } }
+{
+    Answer68 {
+        value: 0,
+        transfer,
+        cost: 0,
+    }
+}
+
+/// The answer to a word of a transfer, with the master cycles to the next.
+fn costing(cost: u16) -> Answer68
+    ensures { result ≡ record { value = 0; transfer = None; cost = cost } }
+{
+    Answer68 {
+        value: 0,
+        transfer: None,
+        cost,
+    }
+}
+
 /// Carries out one access of the chip whose key it is, at a cycle of at most 2^50: its answer, and its
 /// entry in the journal.
 #[tactic(auto, unfolding(crate::specs::Accesses::carried))]
 pub fn carry_out(shared: &mut Shared, key: Key, request: Request) -> (Answer, Entry)
     requires chip { key.chip ≡ chip_of request }
-    requires cycle { key.cycle ≤ 2 ^ 50 }
+    requires soon { key.cycle ≤ 2 ^ 50 }
     ensures answer { shown result.0 ≡ (carried shared.old key request).answer }
     ensures entry { result.1 ≡ (carried shared.old key request).entry }
     ensures board { shared.new ≡ (carried shared.old key request).board }
@@ -479,16 +591,16 @@ pub fn carry_out(shared: &mut Shared, key: Key, request: Request) -> (Answer, En
     }
 }
 
-/// The interrupt pins of the 68000: none is asked for, since the VDP is not built yet.
+/// The interrupt pins of the 68000.
 pub fn pins68(shared: &Shared) -> Pins68
-    ensures { result.level ≡ accesses.level_of shared.now }
+    ensures { result ≡ accesses.main_pins shared.now }
 {
-    shared.known();
-    Pins68 { level: 0 }
+    Pins68 {
+        level: shared.vdp.level(),
+    }
 }
 
-/// The pins of the Z80: its bus request and its reset. No interrupt is asked for, since the VDP is not
-/// built yet.
+/// The pins of the Z80: its bus request, its reset, and the interval of its latest interrupt.
 pub fn pins80(shared: &Shared) -> Pins80
     ensures { result ≡ accesses.sub_pins shared.now }
 {
@@ -497,7 +609,7 @@ pub fn pins80(shared: &Shared) -> Pins80
         request: shared.request,
         reset: shared.reset,
         resets: shared.resets,
-        int_from: 0,
-        int_to: 0,
+        int_from: shared.vdp.int_from,
+        int_to: shared.vdp.int_to,
     }
 }

@@ -1,0 +1,23 @@
+-- That a fill or copy which was settled earlier, as in a state that is saved, is seen by nobody.
+use Rattle.std.specs.Prelude.{◌≡◌, ℕ}
+use Rattle.vdp_ports.specs.Vdp.{Vdp}
+use Rattle.vdp_ports.specs.Control.{acknowledged}
+use Rattle.vdp_ports.specs.Data.{transferred}
+use Rattle.vdp_ports.specs.Pins.{HasSamePins}
+use Rattle.vdp_dma.specs.Settling.{settled}
+use Rattle.vdp_time.specs.Lines.{line_started}
+use Rattle.bus_shared.specs.Video.{port_read, port_transfer, port_word, port_written, word_cost}
+use Rattle.bus_shared.specs.declared.port.VideoPort.{VideoPort}
+
+-- each access at a cycle tells the same, and leaves the same VDP at that cycle
+pub record SeesNoSettling (earlier cycle : ℕ) (vdp : Vdp) : Type 0 where
+  pub word : (port : VideoPort) → port_word port cycle (settled earlier vdp) ≡ port_word port cycle vdp
+  pub transfer : (port : VideoPort) (word : ℕ) → port_transfer port cycle word (settled earlier vdp) ≡ port_transfer port cycle word vdp
+  pub cost : word_cost cycle (settled earlier vdp) ≡ word_cost cycle vdp
+  pub pins : HasSamePins vdp (settled earlier vdp)
+  pub after_read : (port : VideoPort) → settled cycle (port_read port cycle (settled earlier vdp)) ≡ settled cycle (port_read port cycle vdp)
+  pub after_write : (port : VideoPort) (word : ℕ)
+      → settled cycle (port_written port cycle word (settled earlier vdp)) ≡ settled cycle (port_written port cycle word vdp)
+  pub after_word : (word : ℕ) → transferred word (settled cycle (settled earlier vdp)) ≡ transferred word (settled cycle vdp)
+  pub after_acknowledge : (level : ℕ) → settled cycle (acknowledged level (settled earlier vdp)) ≡ settled cycle (acknowledged level vdp)
+  pub after_line : settled cycle (line_started cycle (settled earlier vdp)) ≡ settled cycle (line_started cycle vdp)
