@@ -26,6 +26,7 @@ use Rattle.bus_shared.specs.Board.{Board}
 use Rattle.md_pads.specs.Pad.{Latches}
 use Rattle.md_pads.specs.Recording.{Frame}
 use Rattle.md_machine.specs.FmCode.{fm_way, port_way}
+use Rattle.md_machine.specs.VdpCode.{vdp_way}
 use Rattle.md_machine.specs.Parts.{FmValue, PsgValue, SubValue}
 use Rattle.md_machine.specs.declared.main_chip.MainChip.{MainChip}
 use Rattle.md_machine.specs.declared.chips.Chip.{Chip}
@@ -318,8 +319,8 @@ latches_way = by_way (both number number) (λ l. (l.value, l.control)) (λ p. re
 -- the way of the board
 abbrev pub board_way : Way Board
 board_way =
-    by_way (both (both (both (many frame_way) frame_way) (both latches_way latches_way)) (both (both (both (many write_way) port_way) flag) (both (both flag number) (maybe store_way))))
-    (λ b. (((b.recording, b.pads), (b.port1, b.port2)), (((b.held, b.fm), b.request), ((b.reset, b.resets), b.store))))
+    by_way (both (both (both (many frame_way) frame_way) (both latches_way latches_way)) (both (both (both (many write_way) port_way) flag) (both (both flag number) (both (maybe store_way) vdp_way))))
+    (λ b. (((b.recording, b.pads), (b.port1, b.port2)), (((b.held, b.fm), b.request), ((b.reset, b.resets), (b.store, b.vdp)))))
     (λ p. record {
       recording = p.0.0.0;
       pads = p.0.0.1;
@@ -330,6 +331,7 @@ board_way =
       request = p.1.0.1;
       reset = p.1.1.0.0;
       resets = p.1.1.0.1;
-      store = p.1.1.1;
+      store = p.1.1.1.0;
+      vdp = p.1.1.1.1;
     })
     (λ b. refl)

@@ -73,7 +73,7 @@ key_in m i =
 unfoldable pub main_moved : Console → Console
 main_moved m =
     cond (next_of m.main).sample
-    (record m { main = begun m.cart m.main 0 })
+    (record m { main = begun m.cart m.main (level_of m.shared) })
     (record m {
       main = answered m.cart m.main (main_answer m.shared (next_of m.main).key (request_of m.cart m.main));
       shared = main_board m.shared (next_of m.main).key (request_of m.cart m.main);

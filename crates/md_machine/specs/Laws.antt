@@ -7,20 +7,22 @@ use Rattle.md_word.specs.declared.key.Key.{Key}
 use Rattle.md_word.specs.declared.main_bus.Request68.{Request68}
 use Rattle.md_word.specs.declared.main_bus.Request68.TheVariants.{Read8, Read16, Write8, Write16, Ack, Word}
 use Rattle.m68k_chip.specs.Events.{request_of}
-use Rattle.m68k_chip.specs.Sound.{Fits}
+use Rattle.m68k_chip.specs.Sound.{Fits, IsStarted}
+use Rattle.md_word.specs.declared.main_bus.Transfer.{Transfer}
+use Rattle.bus_shared.specs.Laws.{IsTransfer, LeavesPins}
+use Rattle.bus_shared.specs.Video.{level_known}
 use Rattle.m68k_chip.specs.States.{State68, next_of}
 use Rattle.psg_sound.specs.Batches.{samples}
 use Rattle.psg_sound.specs.Port.{taken_below}
-use Rattle.bus_shared.specs.Accesses.{main_answer, main_told, main_value, sub_access, taken_back, yielded, psg_board}
+use Rattle.bus_shared.specs.Accesses.{main_answer, main_told, main_transfer, main_value, sub_access, taken_back, yielded}
 use Rattle.bus_shared.specs.Entries.{main_entry}
 use Rattle.fm_chip.specs.Batches as fm_batches
 use Rattle.fm_chip.specs.Port as fm_ports
-use Rattle.bus_shared.specs.Fm.{fm_board}
 use Rattle.bus_shared.proofs.Keeps.{fm_board-ok, fm_taken-few, line-ok, main-ok, psg_board-ok}
 use Rattle.std.proofs.lemmas.List.FromFn.{length-map-range_with_len}
 use Rattle.bus_shared.proofs.Keeps as keeps
 use Rattle.bus_shared.proofs.Keeps.{HandsOver}
-use Rattle.bus_shared.proofs.Touches.{sub_leaves}
+use Rattle.bus_shared.proofs.Touches.{batch_pins_stay, fm_batch_pins_stay, sub_pins_stay}
 use Rattle.md_word.specs.declared.sub_bus.Request80.{Request80}
 use Rattle.md_word.specs.declared.sub_bus.Request80.TheVariants as requests80
 use Rattle.z80_chip.proofs.Laws as laws80
@@ -37,8 +39,7 @@ use Rattle.z80_parcel.specs.Requests.{Asked, ReadByte, WriteByte, HandOver, Take
 use Rattle.md_machine.specs.Pins.{level_in, pins_by, pins_of, sub_in}
 use Rattle.md_machine.specs.declared.pins.Pins.TheVariants as pins
 use Rattle.md_machine.specs.declared.main_chip.MainChip.{MainChip}
-use Rattle.bus_shared.proofs.Values.{byte-below, word-below}
-use Rattle.md_word.specs.Map.{area_of}
+use Rattle.bus_shared.proofs.Values.{tells}
 use Rattle.m68k_chip.proofs.Laws.{answered-later, answered-ok, begun-later, begun-ok}
 use Rattle.psg_sound.specs.PortLaws.{taken_below-few}
 use Rattle.psg_sound.specs.SynthLaws.{IsSynth-after_batch, length-samples}
@@ -52,15 +53,20 @@ use Rattle.md_machine.specs.declared.chips.Chip.TheVariants.{Main, Sub, Line, Fm
 clash : true ≡ false → ⊥
 clash same = cc
 
+-- the board's transfers are those that the 68000 can be told
+started : (t : Option Transfer) → IfSome t IsTransfer → IfSome t IsStarted
+started None h = tt
+started (Some t) h = record { some = h.some; most = h.most; even = h.even; on_bus = h.on_bus; cost = h.cost }
+
 -- what the board answers fits
 pub answer-fits : (board : Board) (key : Key) (request : Request68) → IsBoard board → Fits request (main_answer board key request)
 unfolding main_answer main_value
-answer-fits board key (Read8 at) ok = record { value = byte-below (area_of at) board key.cycle at ok; transfer = tt; cost = tt }
-answer-fits board key (Read16 at) ok = record { value = word-below (area_of at) board key.cycle at ok; transfer = tt; cost = tt }
-answer-fits board key (Write8 at value) ok = record { value = refl; transfer = tt; cost = tt }
-answer-fits board key (Write16 at value) ok = record { value = refl; transfer = tt; cost = tt }
-answer-fits board key (Ack level) ok = record { value = refl; transfer = tt; cost = tt }
-answer-fits board key (Word value) ok = record { value = refl; transfer = tt; cost = inl refl }
+answer-fits board key (Read8 at) ok = record { value = (tells board key ok).byte at; transfer = started (main_transfer board key (Read8 at)) ((tells board key ok).transfer (Read8 at)); cost = tt }
+answer-fits board key (Read16 at) ok = record { value = (tells board key ok).word at; transfer = started (main_transfer board key (Read16 at)) ((tells board key ok).transfer (Read16 at)); cost = tt }
+answer-fits board key (Write8 at value) ok = record { value = refl; transfer = started (main_transfer board key (Write8 at value)) ((tells board key ok).transfer (Write8 at value)); cost = tt }
+answer-fits board key (Write16 at value) ok = record { value = refl; transfer = started (main_transfer board key (Write16 at value)) ((tells board key ok).transfer (Write16 at value)); cost = tt }
+answer-fits board key (Ack level) ok = record { value = refl; transfer = started (main_transfer board key (Ack level)) ((tells board key ok).transfer (Ack level)); cost = tt }
+answer-fits board key (Word value) ok = record { value = refl; transfer = started (main_transfer board key (Word value)) ((tells board key ok).transfer (Word value)); cost = (tells board key ok).cost value }
 
 -- what the Z80 hands over is sound
 handing-sound : (store : Option Store) → IfSome store IsStore → HandsOver (handing store)
@@ -128,7 +134,7 @@ sub-later c s ok kind =
 -- the levels of the pins are known
 level-known : (b : Bool) (s : Board) → IsTrue (level_in (pins_by b s) == 0 || level_in (pins_by b s) == 4 || level_in (pins_by b s) == 6)
 level-known true s = refl
-level-known false s = refl
+level-known false s = level_known s.vdp
 
 -- the entry of the Z80's access has its key
 yielded-key : (b : Bool) (s : Board) (key : Key) (store : Store) → (yielded b s key store).entry.key ≡ key
@@ -147,12 +153,10 @@ sub-key s key (WriteByte at value) = refl
 sub-key s key (HandOver store) = yielded-key s.request s key store
 sub-key s key TakeBack = taken-key s.request s.store s key
 
--- pins go by the lines alone
-pins-same : (b : Bool) (old new : Board) → new.request ≡ old.request → new.reset ≡ old.reset → new.resets ≡ old.resets → pins_by b new ≡ pins_by b old
-pins-same true old new a b c = ap (λ (r : Bool). pins.Sub (record { request = r; reset = new.reset; resets = new.resets; int_from = 0; int_to = 0 })) a
-    ∙ ap (λ (r : Bool). pins.Sub (record { request = old.request; reset = r; resets = new.resets; int_from = 0; int_to = 0 })) b
-    ∙ ap (λ (n : ℕ). pins.Sub (record { request = old.request; reset = old.reset; resets = n; int_from = 0; int_to = 0 })) c
-pins-same false old new a b c = refl
+-- pins that stay are the same for each chip
+pins-same : (b : Bool) (old new : Board) → LeavesPins old new → pins_by b new ≡ pins_by b old
+pins-same true old new same = ap pins.Sub same.sub
+pins-same false old new same = ap pins.Main same.main
 
 -- an access leads to a next event a gap later
 access-next : (c : Chip) (s : Board) (i : ℕ) → IsDue five IsChip IsBoard c s i false → Follows gap (next c).key (next (advance (perform c s).chip)).key
@@ -225,17 +229,17 @@ access-shared (Fm c) s i d = fm_board-ok s c.cycle d.shared
 access-shared (Psg c) s i d = psg_board-ok s c.cycle d.shared
 
 -- the entry of an access has its key
-entry-key : (key : Key) (request : Request68) (given : ℕ) → (main_entry key request given).key ≡ key
-entry-key key (Read8 at) given = refl
-entry-key key (Read16 at) given = refl
-entry-key key (Write8 at value) given = refl
-entry-key key (Write16 at value) given = refl
-entry-key key (Ack level) given = refl
-entry-key key (Word value) given = refl
+entry-key : (key : Key) (request : Request68) (given a : ℕ) → (main_entry key request given a).key ≡ key
+entry-key key (Read8 at) given a = refl
+entry-key key (Read16 at) given a = refl
+entry-key key (Write8 at value) given a = refl
+entry-key key (Write16 at value) given a = refl
+entry-key key (Ack level) given a = refl
+entry-key key (Word value) given a = refl
 
 access-entry : (c : Chip) (s : Board) (i : ℕ) → IsDue five IsChip IsBoard c s i false → (perform c s).entry.key ≡ (next c).key
 unfolding main_told
-access-entry (Main c) s i d = entry-key (next_of c.chip.state).key (request_of c.chip.cart c.chip.state) _
+access-entry (Main c) s i d = entry-key (next_of c.chip.state).key (request_of c.chip.cart c.chip.state) _ _
 access-entry (Sub c) s i d = sub-key s (sub_next_of c.chip.state).key (asked_of c.chip.cart c.chip.state)
 access-entry (Line c) s i d = refl
 access-entry (Fm c) s i d = refl
@@ -254,14 +258,11 @@ main-number c i is = is
 
 -- pins change only by those that write them
 leaves-pins : (c : Chip) (s : Board) (i j : ℕ) → IsDue five IsChip IsBoard c s i false → writes i j ≡ false → pins_of (perform c s).shared j ≡ pins_of s j
-unfolding psg_board fm_board
 leaves-pins (Main c) s i j d other = absurd (clash (subst (λ (n : ℕ). writes n j ≡ false) (sym (main-number c i d.number)) other))
-leaves-pins (Sub c) s i j d other =
-    let same = sub_leaves s (sub_next_of c.chip.state).key (asked_of c.chip.cart c.chip.state) in
-    pins-same (j == 1) s _ same.request same.reset same.resets
+leaves-pins (Sub c) s i j d other = pins-same (j == 1) s _ (sub_pins_stay s (sub_next_of c.chip.state).key (asked_of c.chip.cart c.chip.state))
 leaves-pins (Line c) s i j d other = absurd (clash (subst (λ (n : ℕ). writes n j ≡ false) (sym d.number) other))
-leaves-pins (Fm c) s i j d other = pins-same (j == 1) s _ refl refl refl
-leaves-pins (Psg c) s i j d other = pins-same (j == 1) s _ refl refl refl
+leaves-pins (Fm c) s i j d other = pins-same (j == 1) s _ (fm_batch_pins_stay s c.cycle)
+leaves-pins (Psg c) s i j d other = pins-same (j == 1) s _ (batch_pins_stay s c.cycle)
 
 -- the laws
 pub lawful : Lawful five IsChip IsBoard

@@ -15,3 +15,4 @@ pub mod Rules
 pub mod Samples
 pub mod ShownParts
 pub mod Stubs
+pub mod VdpCode

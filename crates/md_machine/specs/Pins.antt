@@ -2,12 +2,12 @@
 use Rattle.std.specs.Prelude.{ℕ, ◌==◌, Bool, true, false, refl}
 use Rattle.md_word.specs.declared.pins.Pins68.{Pins68}
 use Rattle.md_word.specs.declared.pins.Pins80.{Pins80}
-use Rattle.bus_shared.specs.Accesses.{sub_pins}
+use Rattle.bus_shared.specs.Accesses.{main_pins, sub_pins}
 use Rattle.bus_shared.specs.Board.{Board}
 use Rattle.md_machine.specs.declared.pins.Pins.{Pins}
 use Rattle.md_machine.specs.declared.pins.Pins.TheVariants.{Main, Sub}
 
--- no interrupt is asked for on the board that is built
+-- no interrupt is asked for
 abbrev pub no_interrupt : Pins68
 no_interrupt = record { level = 0; known = refl }
 
@@ -27,7 +27,7 @@ sub_in (Sub pins) = pins
 -- the pins of a chip, by its number
 abbrev pub pins_by : Bool → Board → Pins
 pins_by true board = Sub (sub_pins board)
-pins_by false board = Main no_interrupt
+pins_by false board = Main (main_pins board)
 
 abbrev pub pins_of : Board → ℕ → Pins
 pins_of board chip = pins_by (chip == 1) board

@@ -1,6 +1,4 @@
-ghost use Rattle.std.specs.Prelude.{◌≡◌};
 ghost use Rattle.bus_shared.specs.Board.{IsBoard};
-ghost use Rattle.md_machine.specs.Pins.{no_interrupt};
 ghost use Rattle.md_machine.specs.Rules as rules;
 ghost use Rattle.md_machine.specs.Code.{board_way, chip_way};
 ghost use Rattle.md_machine.specs.Laws.{lawful};
@@ -10,7 +8,7 @@ use crate::chips::Chip;
 use crate::pins::Pins;
 use bus_shared::{Shared, pins68, pins80};
 use chip_core::ChipSet;
-use md_word::{Entry, Next, Pins68};
+use md_word::{Entry, Next};
 
 /// The five chips of the machine, as a set for the scheduler.
 pub struct MdChips;
@@ -73,7 +71,7 @@ impl ChipSet for MdChips {
         if chip == 1 {
             Pins::Sub(pins80(shared))
         } else {
-            Pins::Main(main_pins(shared))
+            Pins::Main(pins68(shared))
         }
     }
 
@@ -102,11 +100,4 @@ impl ChipSet for MdChips {
     ghost coded = { coded board_way chip_way rules.five rules.IsChip IsBoard };
 
     ghost lawful = { lawful };
-}
-
-/// The pins of the 68000.
-fn main_pins(shared: &Shared) -> Pins68
-    ensures { result ≡ no_interrupt }
-{
-    pins68(shared)
 }

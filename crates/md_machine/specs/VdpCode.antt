@@ -1,0 +1,37 @@
+-- The VDP as a list of numbers, and back.
+use Rattle.std.specs.Prelude.{refl}
+use Rattle.md_word.specs.Coding.{Way, both, by_way, flag, many, number}
+use Rattle.vdp_ports.specs.Vdp.{Vdp}
+
+-- the way of the VDP
+abbrev pub vdp_way : Way Vdp
+vdp_way =
+    by_way
+    (both (both (both (many number) (many number)) (both (many number) (many number)))
+    (both (both (both flag number) (both number flag))
+    (both (both (both number number) (both number number)) (both (both number number) (both (both (both flag flag) (both flag flag)) (both number (both number number)))))))
+    (λ v. (((v.registers, v.vram), (v.cram, v.vsram)), (((v.pending, v.code), (v.a, v.armed)), (((v.dma_kind, v.byte), (v.source, v.address)), ((v.left, v.next_stamp), (((v.vertical, v.horizontal), (v.overflow, v.collision)), (v.line_counter, (v.int_from, v.int_to))))))))
+    (λ p. record {
+      registers = p.0.0.0;
+      vram = p.0.0.1;
+      cram = p.0.1.0;
+      vsram = p.0.1.1;
+      pending = p.1.0.0.0;
+      code = p.1.0.0.1;
+      a = p.1.0.1.0;
+      armed = p.1.0.1.1;
+      dma_kind = p.1.1.0.0.0;
+      byte = p.1.1.0.0.1;
+      source = p.1.1.0.1.0;
+      address = p.1.1.0.1.1;
+      left = p.1.1.1.0.0;
+      next_stamp = p.1.1.1.0.1;
+      vertical = p.1.1.1.1.0.0.0;
+      horizontal = p.1.1.1.1.0.0.1;
+      overflow = p.1.1.1.1.0.1.0;
+      collision = p.1.1.1.1.0.1.1;
+      line_counter = p.1.1.1.1.1.0;
+      int_from = p.1.1.1.1.1.1.0;
+      int_to = p.1.1.1.1.1.1.1;
+    })
+    (λ v. refl)
