@@ -5,7 +5,7 @@ use Rattle.md_outer.specs.Outside.{DepotState, Files, GoesOn, IsPrefix}
 use Rattle.md_machine.specs.Outputs.{journal_bytes, sound_bytes}
 use Rattle.md_top.specs.Endings.{HoldsUntil, RunCause, RunLeaves}
 use Rattle.md_top.specs.Outputs.{Adds, AddsParts, AreBegun, Holds, IsBegun, IsUnwritten, IsWriteFault, LeavesParts}
-use Rattle.md_top.specs.Runs.{FewEvents, entries_to, journal_of, levels_to, sound_of, sound_until}
+use Rattle.md_top.specs.Runs.{FewEvents, entries_to, journal_of, samples_to, sound_of, sound_until}
 use Rattle.md_words.specs.Words.{Run}
 use Rattle.md_top.specs.declared.ending.Ending.{Ending}
 use Rattle.md_top.specs.declared.ending.Ending.TheVariants.{Done, SoundFault, JournalFault, Memory}
@@ -54,7 +54,7 @@ unfolding journal_of
 journal-next inputs at to records is = sym is
 
 pub segment-held : (run : Run) (inputs : Inputs) (first old new : Files) (at to : ℕ) (pairs records : List ℕ)
-    → sound_bytes (levels_to inputs to) ≡ sound_bytes (levels_to inputs at) ++ pairs → journal_bytes (entries_to inputs to) ≡ journal_bytes (entries_to inputs at) ++ records
+    → sound_bytes (samples_to inputs to) ≡ sound_bytes (samples_to inputs at) ++ pairs → journal_bytes (entries_to inputs to) ≡ journal_bytes (entries_to inputs at) ++ records
     → Adds run old new pairs records → HoldsUntil inputs run first old at → HoldsUntil inputs run first new to
 segment-held run inputs first old new at to pairs records more_sound more_journal adds holds =
     subst (λ (l : List ℕ). Holds run first new l (journal_of inputs to)) (sound-next inputs run.cycles at to pairs more_sound)
@@ -62,7 +62,7 @@ segment-held run inputs first old new at to pairs records more_sound more_journa
     (adds first (sound_until inputs run.cycles at) (journal_of inputs at) holds))
 
 pub segment-parts : (run : Run) (inputs : Inputs) (first old new : Files) (at to : ℕ) (pairs records : List ℕ) → FewEvents inputs → to ≤ run.cycles → run.cycles ≤ 2 ^ 50
-    → sound_bytes (levels_to inputs to) ≡ sound_bytes (levels_to inputs at) ++ pairs → journal_bytes (entries_to inputs to) ≡ journal_bytes (entries_to inputs at) ++ records
+    → sound_bytes (samples_to inputs to) ≡ sound_bytes (samples_to inputs at) ++ pairs → journal_bytes (entries_to inputs to) ≡ journal_bytes (entries_to inputs at) ++ records
     → AddsParts run old new pairs records → HoldsUntil inputs run first old at → LeavesParts run first new (sound_of inputs run.cycles) (journal_of inputs run.cycles)
 segment-parts run inputs first old new at to pairs records few within small more_sound more_journal adds holds =
     parts-longer run first new (sound_until inputs run.cycles at ++ pairs) (journal_of inputs at ++ records) (sound_of inputs run.cycles) (journal_of inputs run.cycles)

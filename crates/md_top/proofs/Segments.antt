@@ -1,30 +1,41 @@
 -- A segment behind a run is a run, and what its outputs hold.
-use Rattle.std.proofs.Common.{◌≡◌, ℕ, zero, suc, ◌+◌, ◌≤◌, ◌^◌, List, [], ◌++◌, length, refl, sym, ap, ◌∙◌, subst, append_assoc, append-nil, arith}
+use Rattle.std.proofs.Common.{◌≡◌, ℕ, zero, suc, ◌+◌, ◌≤◌, ◌^◌, List, [], ◌∷◌, ◌++◌, length, refl, sym, ap, ◌∙◌, subst, append_assoc, append-nil, arith}
 use Rattle.std.specs.Prelude.{ℤ}
 use Rattle.std.proofs.lemmas.Grind.{flat_map-append}
 use Rattle.md_outer.specs.Outside.{IsPrefix}
 use Rattle.md_files.specs.Journal.{entry_bytes}
 use Rattle.md_files.specs.Wav.{wav_head}
 use Rattle.md_word.specs.declared.event.Entry.{Entry}
-use Rattle.md_machine.specs.Console.{AllBelow, Console, IsRunTo, journal, levels, ran}
+use Rattle.md_machine.specs.Console.{AllBelow, Console, IsRunTo, journal, ran, sounded}
 use Rattle.md_machine.specs.Machines.{MachineValue}
-use Rattle.md_machine.specs.Outputs.{journal_bytes, level_bytes, sound_bytes}
-use Rattle.md_machine.proofs.Counts.{entries-few, levels-counted}
+use Rattle.md_machine.specs.Outputs.{journal_bytes, mixed_bytes, sample_bytes, sound_bytes}
+use Rattle.md_machine.specs.Samples.{Samples, joined, no_samples}
+use Rattle.md_machine.proofs.Counts.{entries-few, levels-counted, sides-counted}
 use Rattle.md_machine.proofs.Joined.{run-joined}
 use Rattle.md_machine.proofs.Kept.{cart-stays}
 use Rattle.md_machine.proofs.Pads.{pads-recorded}
 use Rattle.md_top.specs.Courses.{CameTo, inputs_of}
 use Rattle.md_top.specs.Endings.{pairs_of}
 use Rattle.md_top.specs.Limits.{IsEnd}
-use Rattle.md_top.specs.Runs.{FewEvents, entries_to, halted_in, journal_of, levels_to, moves_to, run_to, sound_until, started}
+use Rattle.md_top.specs.Runs.{FewEvents, entries_to, halted_in, journal_of, samples_to, moves_to, run_to, sound_until, started}
 use Rattle.md_top.specs.declared.inputs.Inputs.{Inputs}
 use Rattle.md_top.proofs.LeastRuns.{Found, Later, later, moves-found, run-found, run-made}
 
--- the bytes of records one behind the other
-pub sound_bytes-append : (first second : List ℤ) → sound_bytes (first ++ second) ≡ sound_bytes first ++ sound_bytes second
-unfolding sound_bytes
-sound_bytes-append first second = flat_map-append level_bytes first second
+-- where a level has its sums, the pairs of samples stand one behind the other
+mixed-append : (levels later : List ℤ) (sides later_sides : List (ℤ × ℤ)) → length sides ≡ length levels
+    → mixed_bytes (levels ++ later) (sides ++ later_sides) ≡ mixed_bytes levels sides ++ mixed_bytes later later_sides
+mixed-append [] later [] later_sides paired = refl
+mixed-append [] later (sums ∷ sides) later_sides paired = absurd (omega (arith, paired))
+mixed-append (level ∷ levels) later [] later_sides paired = absurd (omega (arith, paired))
+mixed-append (level ∷ levels) later (sums ∷ sides) later_sides paired =
+    ap (λ l. sample_bytes sums level ++ l) (mixed-append levels later sides later_sides (omega (arith, paired)))
+    ∙ sym (append_assoc (sample_bytes sums level) (mixed_bytes levels sides) (mixed_bytes later later_sides))
 
+pub sound_bytes-append : (first second : Samples) → length first.sides ≡ length first.levels → sound_bytes (joined first second) ≡ sound_bytes first ++ sound_bytes second
+unfolding sound_bytes
+sound_bytes-append first second paired = mixed-append first.levels second.levels first.sides second.sides paired
+
+-- the bytes of records one behind the other
 pub journal_bytes-append : (first second : List Entry) → journal_bytes (first ++ second) ≡ journal_bytes first ++ journal_bytes second
 unfolding journal_bytes
 journal_bytes-append first second = flat_map-append entry_bytes first second
@@ -38,52 +49,36 @@ inputs-stay inputs n = λ i. record {
 
 -- the machine after a segment
 pub record Segment (inputs : Inputs) (at to : ℕ) (after : MachineValue) : Type 0 where
-  pub run : IsRunTo (started inputs) to after.console (entries_to inputs to) (levels_to inputs to)
+  pub run : IsRunTo (started inputs) to after.console (entries_to inputs to) (samples_to inputs to)
   pub same_inputs : inputs_of after.console ≡ inputs
   pub entries : entries_to inputs to ≡ entries_to inputs at ++ after.entries
-  pub levels : levels_to inputs to ≡ levels_to inputs at ++ after.levels
+  pub samples : samples_to inputs to ≡ joined (samples_to inputs at) after.samples
 
 pub segment : (inputs : Inputs) (at to : ℕ) (before : Console) (after : MachineValue) → FewEvents inputs → to ≤ 2 ^ 50 → at ≤ to
-    → IsRunTo (started inputs) at before (entries_to inputs at) (levels_to inputs at) → IsRunTo before to after.console after.entries after.levels
+    → IsRunTo (started inputs) at before (entries_to inputs at) (samples_to inputs at) → IsRunTo before to after.console after.entries after.samples
     → Segment inputs at to after
 segment inputs at to before after few small within first second =
-    let whole : IsRunTo (started inputs) to after.console (entries_to inputs at ++ after.entries) (levels_to inputs at ++ after.levels) =
-    run-joined (started inputs) before after.console at to (entries_to inputs at) after.entries (levels_to inputs at) after.levels within first second in
-    let found : Found inputs to after.console (entries_to inputs at ++ after.entries) (levels_to inputs at ++ after.levels) = run-found inputs to few small whole in
+    let whole : IsRunTo (started inputs) to after.console (entries_to inputs at ++ after.entries) (joined (samples_to inputs at) after.samples) =
+    run-joined (started inputs) before after.console at to (entries_to inputs at) after.entries (samples_to inputs at) after.samples within first second in
+    let found : Found inputs to after.console (entries_to inputs at ++ after.entries) (joined (samples_to inputs at) after.samples) = run-found inputs to few small whole in
     record {
-      run = subst (λ (l : List ℤ). IsRunTo (started inputs) to after.console (entries_to inputs to) l) found.heard_to
-          (subst (λ (l : List Entry). IsRunTo (started inputs) to after.console l (levels_to inputs at ++ after.levels)) found.entered whole);
+      run = subst (λ (l : Samples). IsRunTo (started inputs) to after.console (entries_to inputs to) l) found.heard_to
+          (subst (λ (l : List Entry). IsRunTo (started inputs) to after.console l (joined (samples_to inputs at) after.samples)) found.entered whole);
       same_inputs = ap inputs_of whole.console ∙ inputs-stay inputs whole.moves;
       entries = sym found.entered;
-      levels = sym found.heard_to;
+      samples = sym found.heard_to;
     }
 
 -- a run has no more entries than cycles and chips
-pub few-entries : (inputs : Inputs) (at : ℕ) (after : Console) → FewEvents inputs → at ≤ 2 ^ 50 → IsRunTo (started inputs) at after (entries_to inputs at) (levels_to inputs at)
+pub few-entries : (inputs : Inputs) (at : ℕ) (after : Console) → FewEvents inputs → at ≤ 2 ^ 50 → IsRunTo (started inputs) at after (entries_to inputs at) (samples_to inputs at)
     → length (entries_to inputs at) ≤ at + 5
 few-entries inputs at after few small run =
-    omega (arith, entries-few (started inputs) after at (entries_to inputs at) (levels_to inputs at) run, few at run.moves small run.below)
-
--- what the outputs hold at a cycle is a front part of what they hold later
-pub sound-grows : (inputs : Inputs) (end s t : ℕ) → FewEvents inputs → t ≤ 2 ^ 50 → s ≤ t → IsPrefix (sound_until inputs end s) (sound_until inputs end t)
-unfolding sound_until
-sound-grows inputs end s t few small within =
-    let more : Later inputs s t = later inputs s t few small within in (
-      sound_bytes more.levels,
-      append_assoc (wav_head (length (levels_to inputs end))) (sound_bytes (levels_to inputs s)) (sound_bytes more.levels)
-          ∙ ap (λ (l : List ℕ). wav_head (length (levels_to inputs end)) ++ l) (sym (sound_bytes-append (levels_to inputs s) more.levels) ∙ ap sound_bytes (sym more.more_levels)),
-    )
-
-pub journal-grows : (inputs : Inputs) (s t : ℕ) → FewEvents inputs → t ≤ 2 ^ 50 → s ≤ t → IsPrefix (journal_of inputs s) (journal_of inputs t)
-unfolding journal_of
-journal-grows inputs s t few small within =
-    let more : Later inputs s t = later inputs s t few small within in
-    (journal_bytes more.entries, sym (journal_bytes-append (entries_to inputs s) more.entries) ∙ ap journal_bytes (sym more.more_entries))
+    omega (arith, entries-few (started inputs) after at (entries_to inputs at) (samples_to inputs at) run, few at run.moves small run.below)
 
 -- at power-on nothing was made
 no-moves : (inputs : Inputs) → FewEvents inputs → moves_to inputs 0 ≡ 0
 no-moves inputs few =
-    let run : IsRunTo (started inputs) 0 (run_to inputs 0) (entries_to inputs 0) (levels_to inputs 0) = run-made inputs 0 few (omega arith) in
+    let run : IsRunTo (started inputs) 0 (run_to inputs 0) (entries_to inputs 0) (samples_to inputs 0) = run-made inputs 0 few (omega arith) in
     moves-found inputs 0 few (omega arith) run ∙ none run.moves run.below
   where
     none : (n : ℕ) → AllBelow (started inputs) 0 n → n ≡ 0
@@ -94,45 +89,69 @@ pub no-entries : (inputs : Inputs) → FewEvents inputs → entries_to inputs 0 
 unfolding entries_to journal
 no-entries inputs few = ap (journal (started inputs)) (no-moves inputs few)
 
-pub no-levels : (inputs : Inputs) → FewEvents inputs → levels_to inputs 0 ≡ []
-unfolding levels_to levels
-no-levels inputs few = ap (levels (started inputs)) (no-moves inputs few)
+pub no-samples : (inputs : Inputs) → FewEvents inputs → samples_to inputs 0 ≡ no_samples
+unfolding samples_to sounded
+no-samples inputs few = ap (sounded (started inputs)) (no-moves inputs few)
 
-pub start : (inputs : Inputs) → FewEvents inputs → CameTo inputs (record { at = 0; console = started inputs; entries = []; levels = [] }) 0
+-- each level has its sums
+pub paired : (inputs : Inputs) (at : ℕ) → FewEvents inputs → at ≤ 2 ^ 50 → length (samples_to inputs at).sides ≡ length (samples_to inputs at).levels
+paired inputs zero few small = ap (λ (s : Samples). length s.sides) (no-samples inputs few) ∙ sym (ap (λ (s : Samples). length s.levels) (no-samples inputs few))
+paired inputs (suc n) few small =
+    let run : IsRunTo (started inputs) (suc n) (run_to inputs (suc n)) (entries_to inputs (suc n)) (samples_to inputs (suc n)) = run-made inputs (suc n) few small in
+    sides-counted inputs.cart inputs.recording (run_to inputs (suc n)) (suc n) (entries_to inputs (suc n)) (samples_to inputs (suc n)) (omega arith) run
+    ∙ sym (levels-counted inputs.cart inputs.recording (run_to inputs (suc n)) (suc n) (entries_to inputs (suc n)) (samples_to inputs (suc n)) (omega arith) run)
+
+-- what the outputs hold at a cycle is a front part of what they hold later
+pub sound-grows : (inputs : Inputs) (end s t : ℕ) → FewEvents inputs → t ≤ 2 ^ 50 → s ≤ t → IsPrefix (sound_until inputs end s) (sound_until inputs end t)
+unfolding sound_until
+sound-grows inputs end s t few small within =
+    let more : Later inputs s t = later inputs s t few small within in (
+      sound_bytes more.samples,
+      append_assoc (wav_head (length (samples_to inputs end).levels)) (sound_bytes (samples_to inputs s)) (sound_bytes more.samples)
+          ∙ ap (λ (l : List ℕ). wav_head (length (samples_to inputs end).levels) ++ l) (sym (sound_bytes-append (samples_to inputs s) more.samples (paired inputs s few (omega (arith, small, within)))) ∙ ap sound_bytes (sym more.more_samples)),
+    )
+
+pub journal-grows : (inputs : Inputs) (s t : ℕ) → FewEvents inputs → t ≤ 2 ^ 50 → s ≤ t → IsPrefix (journal_of inputs s) (journal_of inputs t)
+unfolding journal_of
+journal-grows inputs s t few small within =
+    let more : Later inputs s t = later inputs s t few small within in
+    (journal_bytes more.entries, sym (journal_bytes-append (entries_to inputs s) more.entries) ∙ ap journal_bytes (sym more.more_entries))
+
+pub start : (inputs : Inputs) → FewEvents inputs → CameTo inputs (record { at = 0; console = started inputs; entries = []; samples = no_samples }) 0
 unfolding ran
 start inputs few = record {
   few = few;
-  run = subst (λ (m : Console). IsRunTo (started inputs) 0 m (entries_to inputs 0) (levels_to inputs 0)) (ap (ran (started inputs)) (no-moves inputs few)) (run-made inputs 0 few (omega arith));
+  run = subst (λ (m : Console). IsRunTo (started inputs) 0 m (entries_to inputs 0) (samples_to inputs 0)) (ap (ran (started inputs)) (no-moves inputs few)) (run-made inputs 0 few (omega arith));
   entries = refl;
-  levels = refl;
+  samples = refl;
   counted = sym (ap length (no-entries inputs few));
 }
 
 -- behind a segment
 pub came-to : (inputs : Inputs) (at to accesses : ℕ) (after machine : MachineValue) → FewEvents inputs → Segment inputs at to after
-    → machine ≡ record { at = to; console = after.console; entries = []; levels = [] } → accesses ≡ length (entries_to inputs to)
+    → machine ≡ record { at = to; console = after.console; entries = []; samples = no_samples } → accesses ≡ length (entries_to inputs to)
     → CameTo (inputs_of machine.console) machine accesses
 came-to inputs at to accesses after machine few made is counted =
     subst (λ (m : MachineValue). CameTo (inputs_of m.console) m accesses) (sym is)
-    (subst (λ (given : Inputs). CameTo given (record { at = to; console = after.console; entries = []; levels = [] }) accesses) (sym made.same_inputs)
-    (record { few = few; run = made.run; entries = refl; levels = refl; counted = counted }))
+    (subst (λ (given : Inputs). CameTo given (record { at = to; console = after.console; entries = []; samples = no_samples }) accesses) (sym made.same_inputs)
+    (record { few = few; run = made.run; entries = refl; samples = refl; counted = counted }))
 
 -- the outputs behind a segment
-pub sound-next : (inputs : Inputs) (end at to : ℕ) (pairs : List ℕ) → sound_bytes (levels_to inputs to) ≡ sound_bytes (levels_to inputs at) ++ pairs
+pub sound-next : (inputs : Inputs) (end at to : ℕ) (pairs : List ℕ) → sound_bytes (samples_to inputs to) ≡ sound_bytes (samples_to inputs at) ++ pairs
     → sound_until inputs end at ++ pairs ≡ sound_until inputs end to
 unfolding sound_until
 sound-next inputs end at to pairs is =
-    append_assoc (wav_head (length (levels_to inputs end))) (sound_bytes (levels_to inputs at)) pairs
-    ∙ ap (λ (l : List ℕ). wav_head (length (levels_to inputs end)) ++ l) (sym is)
+    append_assoc (wav_head (length (samples_to inputs end).levels)) (sound_bytes (samples_to inputs at)) pairs
+    ∙ ap (λ (l : List ℕ). wav_head (length (samples_to inputs end).levels) ++ l) (sym is)
 
 -- the outputs before the first segment: the head, and an empty journal
 pub head-first : (inputs : Inputs) (end : ℕ) → FewEvents inputs → IsEnd end → wav_head (pairs_of end) ≡ sound_until inputs end 0
 unfolding sound_until sound_bytes
 head-first inputs end few (some, near) =
-    let count : length (levels_to inputs end) ≡ pairs_of end =
-    levels-counted inputs.cart inputs.recording (run_to inputs end) end (entries_to inputs end) (levels_to inputs end) some (run-made inputs end few (omega (arith, near))) in
-    ap wav_head (sym count) ∙ sym (append-nil (wav_head (length (levels_to inputs end))))
-    ∙ ap (λ (l : List ℤ). wav_head (length (levels_to inputs end)) ++ sound_bytes l) (sym (no-levels inputs few))
+    let count : length (samples_to inputs end).levels ≡ pairs_of end =
+    levels-counted inputs.cart inputs.recording (run_to inputs end) end (entries_to inputs end) (samples_to inputs end) some (run-made inputs end few (omega (arith, near))) in
+    ap wav_head (sym count) ∙ sym (append-nil (wav_head (length (samples_to inputs end).levels)))
+    ∙ ap (λ (l : Samples). wav_head (length (samples_to inputs end).levels) ++ sound_bytes l) (sym (no-samples inputs few))
 
 pub journal-first : (inputs : Inputs) → FewEvents inputs → journal_of inputs 0 ≡ []
 unfolding journal_of journal_bytes

@@ -1,9 +1,10 @@
 -- A run of the machine from power-on, which always moves the chip of least key.
-use Rattle.std.specs.Prelude.{ℕ, ℤ, ◌+◌, ◌^◌, ◌≤◌, nat_le, Bool, List, ◌++◌, length, Option}
+use Rattle.std.specs.Prelude.{ℕ, ◌+◌, ◌^◌, ◌≤◌, nat_le, Bool, List, ◌++◌, length, Option}
 use Rattle.md_word.specs.declared.event.Entry.{Entry}
 use Rattle.md_files.specs.Wav.{wav_head}
-use Rattle.md_machine.specs.Console.{AllBelow, Console, journal, key_in, levels, mover, power_on, ran}
+use Rattle.md_machine.specs.Console.{AllBelow, Console, journal, key_in, mover, power_on, ran, sounded}
 use Rattle.md_machine.specs.Outputs.{journal_bytes, sound_bytes}
+use Rattle.md_machine.specs.Samples.{Samples}
 use Rattle.md_top.specs.Least.{least}
 use Rattle.md_top.specs.declared.inputs.Inputs.{Inputs}
 
@@ -28,18 +29,18 @@ run_to inputs end = ran (started inputs) (moves_to inputs end)
 unfoldable pub halted_in : Inputs → ℕ → Option ℕ
 halted_in inputs end = (run_to inputs end).main.halted
 
--- the entries of the accesses below the cycle, and the levels of the samples
+-- the entries of the accesses below the cycle
 unfoldable pub entries_to : Inputs → ℕ → List Entry
 entries_to inputs end = journal (started inputs) (moves_to inputs end)
 
--- the levels of the samples below the cycle
-unfoldable pub levels_to : Inputs → ℕ → List ℤ
-levels_to inputs end = levels (started inputs) (moves_to inputs end)
+-- the samples of the sound chips below the cycle
+unfoldable pub samples_to : Inputs → ℕ → Samples
+samples_to inputs end = sounded (started inputs) (moves_to inputs end)
 
 -- the sound file of a run to the cycle `end`, as far as the cycle `at`: a head for all samples of
 -- the run, and the pairs of those below `at`
 unfoldable pub sound_until : Inputs → ℕ → ℕ → List ℕ
-sound_until inputs end at = wav_head (length (levels_to inputs end)) ++ sound_bytes (levels_to inputs at)
+sound_until inputs end at = wav_head (length (samples_to inputs end).levels) ++ sound_bytes (samples_to inputs at)
 
 -- the sound file of a run to the cycle, and its journal
 abbrev pub sound_of : Inputs → ℕ → List ℕ

@@ -2,7 +2,7 @@
 ghost use Rattle.std.specs.Prelude.{◌≡◌, ◌≤◌, ◌<◌, ◌^◌, true, length};
 ghost use Rattle.md_top.specs.Endings.{pairs_of};
 ghost use Rattle.md_top.specs.Inputs.{IsVerdict, Verdict};
-ghost use Rattle.md_top.specs.Runs.{is_quiet, levels_to, run_to};
+ghost use Rattle.md_top.specs.Runs.{is_quiet, samples_to, run_to};
 
 use md_machine::laws;
 use md_pads::Recording;
@@ -23,10 +23,10 @@ pub fn run_is_complete(cart: &Cart, recording: &Recording, end: u64)
 pub fn pairs_are_counted(cart: &Cart, recording: &Recording, end: u64)
     requires some { 1 ≤ end }
     requires near { end < 2 ^ 40 }
-    ensures { length (levels_to (record { cart = cart.now; recording = recording.now }) end) ≡ pairs_of end }
+    ensures { length (samples_to (record { cart = cart.now; recording = recording.now }) end).levels ≡ pairs_of end }
 {
     laws::few_events(cart);
-    laws::levels_counted();
+    laws::samples_counted();
 }
 
 /// Whatever bytes the file of a recording holds, there is a verdict on them. It is found by reading

@@ -2,7 +2,7 @@ ghost use Rattle.std.specs.Prelude.{◌≡◌, ◌+◌, ◌<◌, ◌≤◌, ◌+
 ghost use Rattle.md_machine.specs.Outputs.{journal_bytes, sound_bytes};
 ghost use Rattle.md_top.specs.Courses.{IsUnderway, inputs_in, cycle_of};
 ghost use Rattle.md_top.specs.Limits.{last_cycle, segment_cycles};
-ghost use Rattle.md_top.specs.Runs.{FewEvents, entries_to, levels_to};
+ghost use Rattle.md_top.specs.Runs.{FewEvents, entries_to, samples_to};
 
 use crate::course::Course;
 use crate::inputs::Inputs;
@@ -47,8 +47,8 @@ pub(crate) fn advance(course: &mut Course, to: u64)
     ensures inputs { inputs_in course.new ≡ inputs_in course.old }
     ensures cycle { cycle_of course.new ≡ to }
     ensures underway { IsUnderway course.new }
-    ensures pairs { sound_bytes (levels_to (inputs_in course.old) to)
-        ≡ sound_bytes (levels_to (inputs_in course.old) (cycle_of course.old)) ++ course.new.pairs.items }
+    ensures pairs { sound_bytes (samples_to (inputs_in course.old) to)
+        ≡ sound_bytes (samples_to (inputs_in course.old) (cycle_of course.old)) ++ course.new.pairs.items }
     ensures records { journal_bytes (entries_to (inputs_in course.old) to)
         ≡ journal_bytes (entries_to (inputs_in course.old) (cycle_of course.old)) ++ course.new.records.items }
 {
