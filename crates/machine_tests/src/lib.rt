@@ -4,10 +4,14 @@
 #[cfg(test)]
 mod events;
 #[cfg(test)]
+mod fm;
+#[cfg(test)]
 mod machine;
 #[cfg(test)]
 mod pads;
 #[cfg(test)]
 mod sort;
+#[cfg(test)]
+mod video;
 #[cfg(test)]
 mod z80;

@@ -167,11 +167,11 @@ const ACCESSES: [u8; 46] = [
 ];
 
 // Chip, kind, address and value of the records of the 68000, and of the batch of the PSG, which tells
-// how many writes it took. The data of a pad with no button is 7Fh, and the VDP, which is not built,
-// answers all ones. The PSG hears a byte at an odd address and the low byte of a word.
+// how many writes it took. The data of a pad with no button is 7Fh. The VDP's status has bit 9, and
+// bit 3 since its display is off. The PSG hears a byte at an odd address and the low byte of a word.
 const ACCESS_RECORDS: &[u8; 56] = b"\
 \x00\x00\0\xa1\x00\x03\x00\x7f\
-\x00\x01\0\xc0\x00\x04\xff\xff\
+\x00\x01\0\xc0\x00\x04\x02\x08\
 \x00\x02\0\xc0\x00\x11\x00\x9f\
 \x00\x02\0\xc0\x00\x12\x00\xaa\
 \x00\x03\0\xc0\x00\x16\x12\xbf\

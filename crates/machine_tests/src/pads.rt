@@ -25,11 +25,11 @@ const LET_GO: &[u8; 16] = b"\0\0\0\0\0\x19\x5e\x40\x00\x02\0\xc0\0\x11\0\x9f";
 
 /// How many records of writes to the sound generator stand among these, and the last of them.
 fn volumes(entries: &[u8]) -> (usize, [u8; 16]) {
-    let mut count = 0;
+    let mut count = 0_usize;
     let mut last = [0; 16];
     for record in entries.chunks_exact(16) {
         if record[8..14] == [0, 2, 0, 0xc0, 0, 0x11] {
-            count += 1;
+            count = count.wrapping_add(1);
             last.copy_from_slice(record);
         }
     }

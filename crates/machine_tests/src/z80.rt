@@ -10,10 +10,10 @@ use std::test::Fail;
 const REQUEST: u32 = 0xa1_1100;
 
 /// An access: its cycle, the chip, its kind in the journal, its address and its value.
-type Row = (u64, u8, u8, u32, u16);
+pub type Row = (u64, u8, u8, u32, u16);
 
 /// The records of accesses.
-fn records(alloc: Global, rows: &[Row]) -> Result<Vec<u8>, Fail> {
+pub fn records(alloc: Global, rows: &[Row]) -> Result<Vec<u8>, Fail> {
     let mut bytes = Vec::new(alloc);
     for row in rows {
         let (cycle, chip, kind, address, value) = *row;
@@ -31,7 +31,7 @@ fn records(alloc: Global, rows: &[Row]) -> Result<Vec<u8>, Fail> {
 }
 
 /// The records of the two processors.
-fn processors(alloc: Global, entries: &[u8]) -> Result<Vec<u8>, Fail> {
+pub fn processors(alloc: Global, entries: &[u8]) -> Result<Vec<u8>, Fail> {
     let mut found = Vec::new(alloc);
     for record in entries.chunks_exact(16) {
         if record[8] <= 1 {
@@ -42,7 +42,7 @@ fn processors(alloc: Global, entries: &[u8]) -> Result<Vec<u8>, Fail> {
 }
 
 /// The bytes from one place to below another, where there are so many.
-fn part(bytes: &[u8], from: usize, to: usize) -> &[u8] {
+pub fn part(bytes: &[u8], from: usize, to: usize) -> &[u8] {
     bytes.get(from..to).unwrap_or(&[])
 }
 
