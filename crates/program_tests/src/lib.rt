@@ -4,4 +4,6 @@
 #[cfg(test)]
 mod program;
 #[cfg(test)]
+mod recordings;
+#[cfg(test)]
 mod words;

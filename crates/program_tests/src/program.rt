@@ -19,7 +19,7 @@ fn cartridge(
     Ok(image)
 }
 
-fn write_at(image: &mut Vec<u8>, place: usize, bytes: &[u8]) {
+pub(crate) fn write_at(image: &mut Vec<u8>, place: usize, bytes: &[u8]) {
     let mut at = place;
     for byte in bytes {
         if at < image.len() {
@@ -30,7 +30,7 @@ fn write_at(image: &mut Vec<u8>, place: usize, bytes: &[u8]) {
 }
 
 /// A branch to itself at 1FCh.
-fn idle(alloc: Global) -> Result<Vec<u8>, AllocError> {
+pub(crate) fn idle(alloc: Global) -> Result<Vec<u8>, AllocError> {
     cartridge(alloc, [0x60, 0xfe], [0, 0], b"SEGA")
 }
 
@@ -58,7 +58,7 @@ fn depot_with(
 }
 
 /// The words of a text, which single spaces part.
-fn words_of(alloc: Global, text: &str) -> Result<Vec<String>, AllocError> {
+pub(crate) fn words_of(alloc: Global, text: &str) -> Result<Vec<String>, AllocError> {
     let mut words = Vec::new(alloc);
     for word in text.split(' ') {
         words.push(String::from_str(alloc, word)?)?;

@@ -16,17 +16,21 @@ fn name_of(name: Option<&str>) -> &str {
     name.unwrap_or("-")
 }
 
-/// What was read: the cartridge; the count, and the names of the sound file and of the journal.
-type Read = (&'static str, Option<(u64, &'static str, &'static str)>);
+/// The count, and the names of the recording, of the sound file and of the journal.
+type Run = (u64, &'static str, &'static str, &'static str);
+
+/// What was read: the cartridge, and the run if one is asked for.
+type Read = (&'static str, Option<Run>);
 
 /// Whether the words were read so; none: they were refused.
 fn is_read_so(read: Option<CommandWords<'_>>, want: Option<Read>) -> bool {
     match (read, want) {
         (None, None) => true,
         (Some(CommandWords::Info(rom)), Some((name, None))) => rom == name,
-        (Some(CommandWords::Run(run)), Some((name, Some((cycles, sound, journal))))) => {
+        (Some(CommandWords::Run(run)), Some((name, Some((cycles, recording, sound, journal))))) => {
             run.rom == name
                 && run.cycles == cycles
+                && name_of(run.recording) == recording
                 && name_of(run.sound) == sound
                 && name_of(run.journal) == journal
         }
@@ -37,45 +41,57 @@ fn is_read_so(read: Option<CommandWords<'_>>, want: Option<Read>) -> bool {
 // Worked out by the rules: options in any order among the other words, each at most once, as two
 // words or with `=`; behind `--` no options; names that are not empty, begin with no hyphen and are
 // pairwise different; numbers of 1 to 20 digits below 2^64.
-const READ: [(&str, Read); 17] = [
+const READ: [(&str, Read); 20] = [
     ("info Z", ("Z", None)),
     ("info -- Z", ("Z", None)),
     ("info info", ("info", None)),
-    ("run Z --cycles 5", ("Z", Some((5, "-", "-")))),
-    ("run --cycles 5 Z", ("Z", Some((5, "-", "-")))),
-    ("run Z --cycles=5", ("Z", Some((5, "-", "-")))),
-    ("run --cycles 5 -- Z", ("Z", Some((5, "-", "-")))),
-    ("run Z --cycles 5 --", ("Z", Some((5, "-", "-")))),
-    ("run run --cycles 5", ("run", Some((5, "-", "-")))),
-    ("run 5 --cycles 6", ("5", Some((6, "-", "-")))),
+    ("run Z --cycles 5", ("Z", Some((5, "-", "-", "-")))),
+    ("run --cycles 5 Z", ("Z", Some((5, "-", "-", "-")))),
+    ("run Z --cycles=5", ("Z", Some((5, "-", "-", "-")))),
+    ("run --cycles 5 -- Z", ("Z", Some((5, "-", "-", "-")))),
+    ("run Z --cycles 5 --", ("Z", Some((5, "-", "-", "-")))),
+    ("run run --cycles 5", ("run", Some((5, "-", "-", "-")))),
+    ("run 5 --cycles 6", ("5", Some((6, "-", "-", "-")))),
     (
         "run Z --cycles 5 --sound W --journal J",
-        ("Z", Some((5, "W", "J"))),
+        ("Z", Some((5, "-", "W", "J"))),
     ),
     (
         "run --sound W Z --journal J --cycles 5",
-        ("Z", Some((5, "W", "J"))),
+        ("Z", Some((5, "-", "W", "J"))),
     ),
     (
         "run --journal=J --sound=W --cycles=5 Z",
-        ("Z", Some((5, "W", "J"))),
+        ("Z", Some((5, "-", "W", "J"))),
     ),
-    ("run Z --cycles 5 --sound W=V", ("Z", Some((5, "W=V", "-")))),
+    (
+        "run Z --cycles 5 --sound W=V",
+        ("Z", Some((5, "-", "W=V", "-"))),
+    ),
     (
         "run Z --cycles 5 --journal=J=-K",
-        ("Z", Some((5, "-", "J=-K"))),
+        ("Z", Some((5, "-", "-", "J=-K"))),
+    ),
+    ("run Z --cycles 5 --in P", ("Z", Some((5, "P", "-", "-")))),
+    (
+        "run --in=P --cycles 5 Z --sound W",
+        ("Z", Some((5, "P", "W", "-"))),
+    ),
+    (
+        "run Z --journal J --in in --cycles 5 --sound W",
+        ("Z", Some((5, "in", "W", "J"))),
     ),
     (
         "run Z --cycles 00000000000000000005",
-        ("Z", Some((5, "-", "-"))),
+        ("Z", Some((5, "-", "-", "-"))),
     ),
     (
         "run Z --cycles 18446744073709551615",
-        ("Z", Some((18_446_744_073_709_551_615, "-", "-"))),
+        ("Z", Some((18_446_744_073_709_551_615, "-", "-", "-"))),
     ),
 ];
 
-const REFUSED: [&str; 44] = [
+const REFUSED: [&str; 55] = [
     "",
     "walk Z",
     "RUN Z --cycles 5",
@@ -115,6 +131,17 @@ const REFUSED: [&str; 44] = [
     "run Z --cycles 5 --sound ",
     "run Z --cycles 5 --sound --journal J",
     "run Z --cycles 5 -- --sound W",
+    "run Z --in P",
+    "run Z --cycles 5 --in",
+    "run Z --cycles 5 --in=",
+    "run Z --cycles 5 --in -P",
+    "run Z --cycles 5 --in P --in Q",
+    "run Z --cycles 5 --in Z",
+    "run Z --cycles 5 --in P --sound P",
+    "run Z --cycles 5 --in P --journal P",
+    "run Z --cycles 5 -- --in P",
+    "run Z --cycles 5 --i P",
+    "info Z --in P",
     "run Z --cycle 5",
     "run Z --cycles 5 --sou=W",
     "run Z -c 5",
