@@ -1,5 +1,5 @@
 -- What rounds leave of the held chips.
-use Rattle.std.proofs.Common.{◌≡◌, ◌≢◌, ℕ, ◌+◌, ◌<◌, ◌≤◌, true, false, refl, sym, ◌∙◌, ap, subst, arith, [], ◌∷◌, ◌⊎◌, inl, inr, Option, Some, None, IfSome, IsSome, length, slice_set, slice_index_or, get_or-set_same, get_or-set_other}
+use Rattle.std.proofs.Common.{◌≡◌, ◌≢◌, ◌↔◌, ℕ, ◌+◌, ◌<◌, ◌≤◌, Bool, true, false, refl, sym, ◌∙◌, ap, subst, arith, [], ◌∷◌, ◌⊎◌, inl, inr, Option, Some, None, IfSome, IsSome, length, slice_set, slice_index_or, get_or-set_same, get_or-set_other}
 use Rattle.std.proofs.lemmas.Bool.{false≢true}
 use Rattle.std.proofs.lemmas.List.{get_or_past, map-set, set-get_or, set-set, set_past}
 use Rattle.std.proofs.Math.Seq.{map-set_same}
@@ -14,9 +14,11 @@ use Rattle.chip_run.specs.Locked.{LockedValue}
 use Rattle.chip_run.specs.Parts.{PartsValue}
 use Rattle.chip_run.specs.Places.{AllFree, IsFree, Places, place}
 use Rattle.chip_run.proofs.Places.{place-in}
-use Rattle.chip_run.specs.Rounds.{IsEnded, IsEndedAt, IsSeenTurn, Keeps, Made, bare, bares, is_there, occupied, settled_held}
+use Rattle.chip_run.specs.Rounds.{IsEnded, IsEndedAt, IsRound, IsSeenTurn, Keeps, Made, bare, bares, is_there, occupied, settled_held}
 use Rattle.chip_run.specs.Sections.{IsSection, IsTurn, Moves}
 use Rattle.chip_run.specs.declared.held.Due.TheVariants.{Nothing}
+use Rattle.chip_run.specs.declared.round.Round.{Round}
+use Rattle.chip_run.specs.declared.round.Round.TheVariants as Rounds
 use Rattle.chip_run.specs.declared.turn.Turn.{Turn}
 use Rattle.chip_run.specs.declared.turn.Turn.TheVariants.{Moved, Blocked, Finished}
 
@@ -61,8 +63,8 @@ module _ {Chip Pins : Type 0} where
   occupied-bares (None ∷ hs) = ap (λ bs. false ∷ bs) (occupied-bares hs)
   occupied-bares (Some h ∷ hs) = ap (λ bs. true ∷ bs) (occupied-bares hs)
 
-  occupied-made : (k : ℕ) (hs hs2 : Places Chip Pins) → Made k hs hs2 → occupied hs2 ≡ occupied hs
-  occupied-made k hs hs2 m = ap occupied m.now ∙ map-set_same is_there hs k (Some m.after) None (ap is_there (sym m.there))
+  occupied-set : (k : ℕ) (hs hs2 : Places Chip Pins) (before after : HeldValue Chip Pins) → place hs k ≡ Some before → hs2 ≡ slice_set hs k (Some after) → occupied hs2 ≡ occupied hs
+  occupied-set k hs hs2 before after there now = ap occupied now ∙ map-set_same is_there hs k (Some after) None (ap is_there (sym there))
 
   occupied-at : (hs : Places Chip Pins) (i : ℕ) → slice_index_or (occupied hs) i false ≡ is_there (place hs i)
   occupied-at hs i = get_or-map is_there hs i None
@@ -129,37 +131,38 @@ module _ {Chip Pins : Type 0} where
       }
 
 module _ {Chip Shared Pins : Type 0} (rules : Rules Chip Shared Pins) where
-  pub round-keeps-moved : (k : ℕ) (hs hs2 : Places Chip Pins) → Made k (bares hs) (bares hs2) → AllFree hs2 → Keeps hs hs2
-  round-keeps-moved k hs hs2 m free = record { same = sym (occupied-bares hs2) ∙ occupied-made k (bares hs) (bares hs2) m ∙ occupied-bares hs; free = free }
+  pub round-keeps-moved : (t k : ℕ) (hs hs2 : Places Chip Pins) → Made rules t k (bares hs) (bares hs2) → AllFree hs2 → Keeps hs hs2
+  round-keeps-moved t k hs hs2 m free = record { same = sym (occupied-bares hs2) ∙ occupied-set k (bares hs) (bares hs2) m.before m.after m.there m.now ∙ occupied-bares hs; free = free }
 
   pub round-keeps-ended : (hs hs2 : Places Chip Pins) → bares hs2 ≡ bares hs → AllFree hs2 → Keeps hs hs2
   round-keeps-ended hs hs2 same free = record { same = sym (occupied-bares hs2) ∙ ap occupied same ∙ occupied-bares hs; free = free }
 
   -- the held chips once the one that moved has done its private work
-  moved-settled : (k : ℕ) (hs1 hs2 hs3 : Places Chip Pins) (m : Made k hs1 hs2) → hs3 ≡ slice_set hs2 k (option_map (settled_held rules) (place hs2 k)) → hs3 ≡ slice_set hs1 k (Some (settled_held rules m.after))
-  moved-settled k hs1 hs2 hs3 m e =
+  moved-settled : (t k : ℕ) (hs1 hs2 hs3 : Places Chip Pins) (m : Made rules t k hs1 hs2) → hs3 ≡ slice_set hs2 k (option_map (settled_held rules) (place hs2 k)) → hs3 ≡ slice_set hs1 k (Some (settled_held rules m.after))
+  moved-settled t k hs1 hs2 hs3 m e =
       let at : place hs2 k ≡ Some m.after = ap (λ xs. place xs k) m.now ∙ get_or-set_same hs1 k (Some m.after) None (place-in hs1 k m.before m.there) in
       e ∙ ap (λ (o : Option (HeldValue Chip Pins)). slice_set hs2 k (option_map (settled_held rules) o)) at
       ∙ ap (λ xs. slice_set xs k (Some (settled_held rules m.after))) m.now ∙ set-set hs1 k (Some m.after) (Some (settled_held rules m.after))
 
-  pub round-made : (k : ℕ) (hs0 hs1 hs2 hs3 : Places Chip Pins) → bares hs1 ≡ bares hs0 → Made k hs1 hs2 → hs3 ≡ slice_set hs2 k (option_map (settled_held rules) (place hs2 k)) → Made k (bares hs0) (bares hs3)
-  round-made k hs0 hs1 hs2 hs3 same m e = record {
+  pub round-made : (t k : ℕ) (hs0 hs1 hs2 hs3 : Places Chip Pins) → bares hs1 ≡ bares hs0 → Made rules t k hs1 hs2 → hs3 ≡ slice_set hs2 k (option_map (settled_held rules) (place hs2 k)) → Made rules t k (bares hs0) (bares hs3)
+  round-made t k hs0 hs1 hs2 hs3 same m e = record {
     before = bare m.before;
     after = bare (settled_held rules m.after);
     there = ap (λ xs. place xs k) (sym same) ∙ place-bares hs1 k ∙ ap (option_map bare) m.there;
+    early = m.early;
     more = m.more;
-    now = ap bares (moved-settled k hs1 hs2 hs3 m e) ∙ map-set (option_map bare) hs1 k (Some (settled_held rules m.after)) ∙ ap (λ xs. slice_set xs k (Some (bare (settled_held rules m.after)))) same;
+    now = ap bares (moved-settled t k hs1 hs2 hs3 m e) ∙ map-set (option_map bare) hs1 k (Some (settled_held rules m.after)) ∙ ap (λ xs. slice_set xs k (Some (bare (settled_held rules m.after)))) same;
   }
 
-  pub round-free : (k : ℕ) (hs1 hs2 hs3 : Places Chip Pins) → AllFree hs1 → Made k hs1 hs2 → hs3 ≡ slice_set hs2 k (option_map (settled_held rules) (place hs2 k)) → AllFree hs3
-  round-free k hs1 hs2 hs3 free m e i h there = go (same_or i k)
+  pub round-free : (t k : ℕ) (hs1 hs2 hs3 : Places Chip Pins) → AllFree hs1 → Made rules t k hs1 hs2 → hs3 ≡ slice_set hs2 k (option_map (settled_held rules) (place hs2 k)) → AllFree hs3
+  round-free t k hs1 hs2 hs3 free m e i h there = go (same_or i k)
     where
       go : (i ≡ k) ⊎ (i ≢ k) → h.due ≡ Nothing
       go (inl same) =
           sym (ap (λ (x : HeldValue Chip Pins). x.due) (same_Some (settled_held rules m.after) h
           (sym (get_or-set_same hs1 k (Some (settled_held rules m.after)) None (place-in hs1 k m.before m.there))
-          ∙ ap (λ xs. place xs k) (sym (moved-settled k hs1 hs2 hs3 m e)) ∙ ap (place hs3) (sym same) ∙ there)))
-      go (inr ne) = free i h (sym (get_or-set_other hs1 k i (Some (settled_held rules m.after)) None ne) ∙ ap (λ xs. place xs i) (sym (moved-settled k hs1 hs2 hs3 m e)) ∙ there)
+          ∙ ap (λ xs. place xs k) (sym (moved-settled t k hs1 hs2 hs3 m e)) ∙ ap (place hs3) (sym same) ∙ there)))
+      go (inr ne) = free i h (sym (get_or-set_other hs1 k i (Some (settled_held rules m.after)) None ne) ∙ ap (λ xs. place xs i) (sym (moved-settled t k hs1 hs2 hs3 m e)) ∙ there)
 
   pub at-ended : (t : ℕ) (hs0 hs : Places Chip Pins) → hs0 ≡ hs → (i : ℕ) → IsEndedAt rules t hs i → IsEndedAt rules t hs0 i
   at-ended t hs0 hs e i late = subst (λ xs. IsEndedAt rules t xs i) (sym e) late
@@ -180,7 +183,7 @@ module _ {Chip Shared Pins : Type 0} (rules : Rules Chip Shared Pins) where
 
   seen-by : (t i : ℕ) (l : LockedValue Shared) (hs : Places Chip Pins) (answer : Turn) (l2 : LockedValue Shared) (hs2 : Places Chip Pins) → l.parts.end ≡ t
       → (before after : HeldValue Chip Pins) → place hs i ≡ Some before → IsTurn rules i l.parts before answer l2.parts after → hs2 ≡ slice_set hs i (Some after) → IsSeenTurn rules t i hs answer hs2
-  seen-by t i l hs Moved l2 hs2 end before after there is now = record { before = before; after = after; there = there; more = one-more i l.parts before l2.parts after is; now = now }
+  seen-by t i l hs Moved l2 hs2 end before after there is now = record { before = before; after = after; there = there; early = (let low = is.turn.early in omega (arith, end)); more = one-more i l.parts before l2.parts after is; now = now }
   seen-by t i l hs (Blocked other bound) l2 hs2 end before after there is now = now ∙ stays hs i before after there is.1.held
   seen-by t i l hs Finished l2 hs2 end before after there is now = (
     now ∙ stays hs i before after there is.1.held,
@@ -190,3 +193,34 @@ module _ {Chip Shared Pins : Type 0} (rules : Rules Chip Shared Pins) where
   pub seen-turn : (t i : ℕ) (l : LockedValue Shared) (hs : Places Chip Pins) (answer : Turn) (l2 : LockedValue Shared) (hs2 : Places Chip Pins) → l.parts.end ≡ t
       → IsSection rules i l hs answer l2 hs2 → IsSeenTurn rules t i hs answer hs2
   seen-turn t i l hs answer l2 hs2 end is = seen-by t i l hs answer l2 hs2 end is.before is.after is.there is.turn is.helds
+
+  -- whether a held chip is finished does not depend on the passes
+  bare-ended : (t : ℕ) (o : Option (HeldValue Chip Pins)) → IfSome o (λ h. t ≤ (rules.next h.chip).key.cycle) → IfSome (option_map bare o) (λ h. t ≤ (rules.next h.chip).key.cycle)
+  bare-ended t None late = tt
+  bare-ended t (Some h) late = late
+
+  ended-bare : (t : ℕ) (o : Option (HeldValue Chip Pins)) → IfSome (option_map bare o) (λ h. t ≤ (rules.next h.chip).key.cycle) → IfSome o (λ h. t ≤ (rules.next h.chip).key.cycle)
+  ended-bare t None late = tt
+  ended-bare t (Some h) late = late
+
+  bares-ended : (t i : ℕ) (hs : Places Chip Pins) → IsEndedAt rules t hs i → IsEndedAt rules t (bares hs) i
+  bares-ended t i hs late = subst (λ (o : Option (HeldValue Chip Pins)). IfSome o (λ h. t ≤ (rules.next h.chip).key.cycle)) (sym (place-bares hs i)) (bare-ended t (place hs i) late)
+
+  ended-bares : (t i : ℕ) (hs : Places Chip Pins) → IsEndedAt rules t (bares hs) i → IsEndedAt rules t hs i
+  ended-bares t i hs late = ended-bare t (place hs i) (subst (λ (o : Option (HeldValue Chip Pins)). IfSome o (λ h. t ≤ (rules.next h.chip).key.cycle)) (place-bares hs i) late)
+
+  abbrev is_end : Round → Bool
+  is_end (Rounds.Moved k) = false
+  is_end Rounds.Finished = true
+
+  -- the rounds end without a move exactly where all were finished before
+  pub round-finished : (t : ℕ) (hs : Places Chip Pins) (answer : Round) (hs2 : Places Chip Pins) → IsRound rules t hs answer hs2 → (answer ≡ Rounds.Finished) ↔ IsEnded rules t hs
+  round-finished t hs (Rounds.Moved k) hs2 m = (
+    λ e. absurd (false≢true (ap is_end e)),
+    λ ended. absurd (
+        let low = m.early in
+        let late : t ≤ (rules.next m.before.chip).key.cycle = subst (λ (o : Option (HeldValue Chip Pins)). IfSome o (λ h. t ≤ (rules.next h.chip).key.cycle)) m.there (bares-ended t k hs (ended k)) in
+        omega arith
+        ),
+  )
+  round-finished t hs Rounds.Finished hs2 is = (λ _ i. ended-bares t i hs (subst (λ (xs : Places Chip Pins). IsEndedAt rules t xs i) is.0 (bares-ended t i hs2 (is.1 i))), λ _. refl)

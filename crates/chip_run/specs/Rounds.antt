@@ -1,5 +1,5 @@
 -- What a round does with the chips that a worker holds.
-use Rattle.std.specs.Prelude.{◌≡◌, Bool, true, false, ℕ, ◌+◌, ◌≤◌, Option, Some, None, IfSome, List, map, slice_set}
+use Rattle.std.specs.Prelude.{◌≡◌, Bool, true, false, ℕ, ◌+◌, ◌<◌, ◌≤◌, Option, Some, None, IfSome, List, map, slice_set}
 use Rattle.std.specs.Option.{option_map}
 use Rattle.chip_core.specs.Chips.{Rules}
 use Rattle.chip_run.specs.Held.{HeldValue, settled}
@@ -33,14 +33,6 @@ module _ {Chip Pins : Type 0} where
     pub same : occupied hs2 ≡ occupied hs
     pub free : AllFree hs2
 
-  -- the chip of this number made one more move, and the others are as they were
-  pub record Made (i : ℕ) (hs hs2 : Places Chip Pins) : Type 0 where
-    pub before : HeldValue Chip Pins
-    pub after : HeldValue Chip Pins
-    pub there : place hs i ≡ Some before
-    pub more : after.amount ≡ before.amount + 1
-    pub now : hs2 ≡ slice_set hs i (Some after)
-
 module _ {Chip Shared Pins : Type 0} (rules : Rules Chip Shared Pins) where
   -- the held chip once the due work is done
   abbrev pub settled_held : HeldValue Chip Pins → HeldValue Chip Pins
@@ -54,19 +46,29 @@ module _ {Chip Shared Pins : Type 0} (rules : Rules Chip Shared Pins) where
   abbrev pub IsEnded : ℕ → Places Chip Pins → Type 0
   IsEnded t hs = (i : ℕ) → IsEndedAt t hs i
 
+  -- the chip of this number, whose event lies below the end, made one more move, and the others are
+  -- as they were
+  pub record Made (t i : ℕ) (hs hs2 : Places Chip Pins) : Type 0 where
+    pub before : HeldValue Chip Pins
+    pub after : HeldValue Chip Pins
+    pub there : place hs i ≡ Some before
+    pub early : (rules.next before.chip).key.cycle < t
+    pub more : after.amount ≡ before.amount + 1
+    pub now : hs2 ≡ slice_set hs i (Some after)
+
   -- what a section leaves of the held chips
   abbrev pub IsSeenTurn : ℕ → ℕ → Places Chip Pins → Turn → Places Chip Pins → Type 0
-  IsSeenTurn t i hs Turns.Moved hs2 = Made i hs hs2
+  IsSeenTurn t i hs Turns.Moved hs2 = Made t i hs hs2
   IsSeenTurn t i hs (Turns.Blocked other bound) hs2 = hs2 ≡ hs
   IsSeenTurn t i hs Turns.Finished hs2 = (hs2 ≡ hs) × IsEndedAt t hs i
 
   -- what a sweep over them leaves
   abbrev pub IsSwept : ℕ → Places Chip Pins → Swept → Places Chip Pins → Type 0
-  IsSwept t hs (Sweeps.Moved k) hs2 = Made k hs hs2
+  IsSwept t hs (Sweeps.Moved k) hs2 = Made t k hs hs2
   IsSwept t hs (Sweeps.Blocked other) hs2 = hs2 ≡ hs
   IsSwept t hs Sweeps.Finished hs2 = (hs2 ≡ hs) × IsEnded t hs
 
   -- what the rounds up to an answer leave, but for the passes
   abbrev pub IsRound : ℕ → Places Chip Pins → Round → Places Chip Pins → Type 0
-  IsRound t hs (Rounds.Moved k) hs2 = Made k (bares hs) (bares hs2)
+  IsRound t hs (Rounds.Moved k) hs2 = Made t k (bares hs) (bares hs2)
   IsRound t hs Rounds.Finished hs2 = (bares hs2 ≡ bares hs) × IsEnded t hs2

@@ -1,4 +1,4 @@
-ghost use Rattle.std.specs.Prelude.{◌≡◌};
+ghost use Rattle.std.specs.Prelude.{◌≡◌, ◌↔◌};
 ghost use Rattle.chip_run.specs.Places.{AllFree, AreOnPaths};
 ghost use Rattle.chip_run.specs.Rounds.{IsEnded, IsRound, IsSwept, Keeps};
 
@@ -77,6 +77,7 @@ impl<C: ChipSet, N: Named, L0: Ledger, L1: Ledger, L2: Ledger, L3: Ledger, L4: L
         requires free { AllFree helds.old }
         requires whole { (L0.parts ≡ 1) × (L1.parts ≡ 1) × (L2.parts ≡ 1) × (L3.parts ≡ 1) × (L4.parts ≡ 1) }
         ensures round { IsRound C.rules N.end helds.old result helds.new }
+        ensures finished { (result ≡ Round.Finished) ↔ IsEnded C.rules N.end helds.old }
         ensures free { AllFree helds.new }
         ensures paths { AreOnPaths C.rules (C.core_of N.base) N.end helds.new }
     {

@@ -1,4 +1,4 @@
-ghost use Rattle.std.specs.Prelude.{◌≡◌};
+ghost use Rattle.std.specs.Prelude.{◌≡◌, ◌+◌, ◌-◌, ◌^◌, if◌then◌else◌, min, nat_lt};
 ghost use Rattle.chip_run.specs.Held.{HeldValue, IsHeld, settled};
 ghost use Rattle.chip_run.specs.Rounds.{bare};
 
@@ -63,9 +63,11 @@ impl<C: ChipSet, N: Named, L: Ledger> Held<C, N, L> {
         self.due = Due::Nothing;
     }
 
-    /// Passes the gate for the chip where it is not finished.
+    /// Passes the gate for the chip where it is not finished, with the number of earlier passes,
+    /// which stays at its greatest value.
     pub(crate) fn pass<G: Gate>(&mut self, end: u64, gate: &G)
-        ensures { bare self.new ≡ bare self.old }
+        ensures same { bare self.new ≡ bare self.old }
+        ensures passes { self.new.passes ≡ (if nat_lt (C.rules.next self.old.chip).key.cycle end then min (self.old.passes + 1) (2 ^ 64 - 1) else self.old.passes) }
     {
         if C::next(&self.chip).key.cycle < end {
             gate.pass(self.number, self.passes);

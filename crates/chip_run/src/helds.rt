@@ -107,10 +107,9 @@ impl<C: ChipSet, N: Named, L0: Ledger, L1: Ledger, L2: Ledger, L3: Ledger, L4: L
     }
 
     /// Puts back the chip of this number.
-    pub(crate) fn put_back(&mut self, chip: u8, one: Self)
+    pub(crate) fn put_back(&mut self, chip: u8, mut one: Self)
         ensures { self.new ≡ slice_set self.old chip (place one chip) }
     {
-        let mut one = one;
         self.swap_places(&mut one, chip);
     }
 

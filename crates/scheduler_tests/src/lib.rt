@@ -12,4 +12,6 @@ mod pair;
 #[cfg(test)]
 mod runs;
 #[cfg(test)]
+mod turns;
+#[cfg(test)]
 mod workers;

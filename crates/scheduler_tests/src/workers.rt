@@ -2,6 +2,7 @@ use crate::five::power_on;
 use crate::meeting::Meeting;
 use crate::pair;
 use crate::runs::moved_by_least_key;
+use crate::turns::Turns;
 use chip_run::run_core;
 use md_outer::FreeGate;
 use std::sync::Arc;
@@ -47,5 +48,20 @@ fn private_work_of_two_workers_overlaps(rt: HostRuntime) -> Result<(), Fail> {
         let _core = run_core(&rt, core, 1, 2, &FreeGate);
         assert!(rt; meeting.met(1), "samples: {sample}");
     }
+    Ok(())
+}
+
+// Below cycle 1,000 the first chip moves 15 times and the second 23 times, each after a pass; the
+// last two have no event there.
+#[test]
+fn a_chip_passes_the_gate_before_each_of_its_moves(rt: HostRuntime) -> Result<(), Fail> {
+    let gate = Turns::new();
+    let core = power_on(rt.alloc(), 100)?;
+    let _core = run_core(&rt, core, 1000, 2, &gate);
+    assert!(rt; gate.are_right());
+    for (chip, least) in [(0, 15), (1, 23), (2, 1)] {
+        assert!(rt; gate.passed(chip, least));
+    }
+    assert!(rt; !gate.passed(4, 1));
     Ok(())
 }
