@@ -1,93 +1,59 @@
+use crate::program::words_of;
 use md_words::{CommandWords, read_words};
 use std::alloc::{AllocError, Global};
 use std::test::Fail;
-
-/// The words of a text, which single spaces part.
-fn words_of(alloc: Global, text: &str) -> Result<Vec<String>, AllocError> {
-    let mut words = Vec::new(alloc);
-    for word in text.split(' ') {
-        words.push(String::from_str(alloc, word)?)?;
-    }
-    Ok(words)
-}
 
 /// What a name reads as, and a hyphen for none.
 fn name_of(name: Option<&str>) -> &str {
     name.unwrap_or("-")
 }
 
-/// The count, and the names of the recording, of the sound file and of the journal.
-type Run = (u64, &'static str, &'static str, &'static str);
-
-/// What was read: the cartridge, and the run if one is asked for.
-type Read = (&'static str, Option<Run>);
-
-/// Whether the words were read so; none: they were refused.
-fn is_read_so(read: Option<CommandWords<'_>>, want: Option<Read>) -> bool {
-    match (read, want) {
-        (None, None) => true,
-        (Some(CommandWords::Info(rom)), Some((name, None))) => rom == name,
-        (Some(CommandWords::Run(run)), Some((name, Some((cycles, recording, sound, journal))))) => {
-            run.rom == name
-                && run.cycles == cycles
-                && name_of(run.recording) == recording
-                && name_of(run.sound) == sound
-                && name_of(run.journal) == journal
-        }
-        _ => false,
+/// What was read, as a text: the cartridge, and of a run its count and the names of the recording, of
+/// the sound file and of the journal.
+fn told(alloc: Global, read: Option<CommandWords<'_>>) -> Result<String, AllocError> {
+    match read {
+        None => String::from_str(alloc, "refused"),
+        Some(CommandWords::Info(rom)) => format!(in alloc; "{rom}"),
+        Some(CommandWords::Run(run)) => format!(in alloc;
+            "{} {} {} {} {}",
+            run.rom,
+            run.cycles,
+            name_of(run.recording),
+            name_of(run.sound),
+            name_of(run.journal)
+        ),
     }
 }
 
 // Worked out by the rules: options in any order among the other words, each at most once, as two
 // words or with `=`; behind `--` no options; names that are not empty, begin with no hyphen and are
 // pairwise different; numbers of 1 to 20 digits below 2^64.
-const READ: [(&str, Read); 20] = [
-    ("info Z", ("Z", None)),
-    ("info -- Z", ("Z", None)),
-    ("info info", ("info", None)),
-    ("run Z --cycles 5", ("Z", Some((5, "-", "-", "-")))),
-    ("run --cycles 5 Z", ("Z", Some((5, "-", "-", "-")))),
-    ("run Z --cycles=5", ("Z", Some((5, "-", "-", "-")))),
-    ("run --cycles 5 -- Z", ("Z", Some((5, "-", "-", "-")))),
-    ("run Z --cycles 5 --", ("Z", Some((5, "-", "-", "-")))),
-    ("run run --cycles 5", ("run", Some((5, "-", "-", "-")))),
-    ("run 5 --cycles 6", ("5", Some((6, "-", "-", "-")))),
-    (
-        "run Z --cycles 5 --sound W --journal J",
-        ("Z", Some((5, "-", "W", "J"))),
-    ),
-    (
-        "run --sound W Z --journal J --cycles 5",
-        ("Z", Some((5, "-", "W", "J"))),
-    ),
-    (
-        "run --journal=J --sound=W --cycles=5 Z",
-        ("Z", Some((5, "-", "W", "J"))),
-    ),
-    (
-        "run Z --cycles 5 --sound W=V",
-        ("Z", Some((5, "-", "W=V", "-"))),
-    ),
-    (
-        "run Z --cycles 5 --journal=J=-K",
-        ("Z", Some((5, "-", "-", "J=-K"))),
-    ),
-    ("run Z --cycles 5 --in P", ("Z", Some((5, "P", "-", "-")))),
-    (
-        "run --in=P --cycles 5 Z --sound W",
-        ("Z", Some((5, "P", "W", "-"))),
-    ),
+const READ: [(&str, &str); 20] = [
+    ("info Z", "Z"),
+    ("info -- Z", "Z"),
+    ("info info", "info"),
+    ("run Z --cycles 5", "Z 5 - - -"),
+    ("run --cycles 5 Z", "Z 5 - - -"),
+    ("run Z --cycles=5", "Z 5 - - -"),
+    ("run --cycles 5 -- Z", "Z 5 - - -"),
+    ("run Z --cycles 5 --", "Z 5 - - -"),
+    ("run run --cycles 5", "run 5 - - -"),
+    ("run 5 --cycles 6", "5 6 - - -"),
+    ("run Z --cycles 5 --sound W --journal J", "Z 5 - W J"),
+    ("run --sound W Z --journal J --cycles 5", "Z 5 - W J"),
+    ("run --journal=J --sound=W --cycles=5 Z", "Z 5 - W J"),
+    ("run Z --cycles 5 --sound W=V", "Z 5 - W=V -"),
+    ("run Z --cycles 5 --journal=J=-K", "Z 5 - - J=-K"),
+    ("run Z --cycles 5 --in P", "Z 5 P - -"),
+    ("run --in=P --cycles 5 Z --sound W", "Z 5 P W -"),
     (
         "run Z --journal J --in in --cycles 5 --sound W",
-        ("Z", Some((5, "in", "W", "J"))),
+        "Z 5 in W J",
     ),
-    (
-        "run Z --cycles 00000000000000000005",
-        ("Z", Some((5, "-", "-", "-"))),
-    ),
+    ("run Z --cycles 00000000000000000005", "Z 5 - - -"),
     (
         "run Z --cycles 18446744073709551615",
-        ("Z", Some((18_446_744_073_709_551_615, "-", "-", "-"))),
+        "Z 18446744073709551615 - - -",
     ),
 ];
 
@@ -154,15 +120,20 @@ fn words_are_read(rt: HostRuntime) -> Result<(), Fail> {
     let alloc = rt.alloc();
     for (text, want) in READ {
         let words = words_of(alloc, text)?;
-        let read = read_words(alloc, words.as_slice())?;
-        assert!(rt; is_read_so(read, Some(want)), "{text}");
+        let read = told(alloc, read_words(alloc, words.as_slice())?)?;
+        assert!(rt; read.as_str() == want, "{text}");
     }
+    Ok(())
+}
+
+#[test]
+fn words_are_refused(rt: HostRuntime) -> Result<(), Fail> {
+    let alloc = rt.alloc();
     for text in REFUSED {
         let words = words_of(alloc, text)?;
-        let read = read_words(alloc, words.as_slice())?;
-        assert!(rt; is_read_so(read, None), "{text}");
+        assert!(rt; read_words(alloc, words.as_slice())?.is_none(), "{text}");
     }
     let none = Vec::new(alloc);
-    assert!(rt; is_read_so(read_words(alloc, none.as_slice())?, None));
+    assert!(rt; read_words(alloc, none.as_slice())?.is_none());
     Ok(())
 }
