@@ -3,9 +3,10 @@
 
     bench/frames.py [FRAMES]
 
-It runs two cartridges for FRAMES frames of 896,040 cycles, 600 if not given, with one thread and
-with both outputs: `idle` is a branch to itself, and `scale` is examples/scale. The times are those
-of the clock on the wall, the program's start and the writing of its files included.
+It runs four cartridges for FRAMES frames of 896,040 cycles, 600 if not given, with one thread and
+with both outputs: `idle` is a branch to itself, `scale` and `chord` are those of examples, and
+`transfer` moves 7,500 bytes into the VDP's memory in the vertical blanking of each frame. The times
+are those of the clock on the wall, the program's start and the writing of its files included.
 """
 import pathlib
 import subprocess
@@ -17,6 +18,25 @@ TOP = pathlib.Path(__file__).resolve().parent.parent
 PROGRAM = TOP / "crates" / "md_prog" / "out" / "md_prog"
 FRAME = 896_040
 IDLE = "at 000\n00ff f000 0000 01fc\nat 100\n5345 4741\nat 1fc\n60fe\n"
+TRANSFER = """at 000
+    00ff f000 0000 0200
+at 100
+    5345 4741
+at 200
+    41f9 00c0 0004      ; lea     $00c00004.l,a0    the VDP's control port
+    30bc 8f02 30bc 8150 ; move.w  #,(a0)            increment 2; display and DMA on
+; at 20e: wait for the vertical blanking
+    3010 0800 0003      ; move.w  (a0),d0; btst #3,d0
+    67f8                ; beq.b   $20e
+    30bc 93a6 30bc 940e ; move.w  #,(a0)            3,750 words
+    30bc 9500 30bc 9600 ; move.w  #,(a0)            from 0
+    30bc 9700           ; move.w  #,(a0)
+    30bc 4000 30bc 0080 ; move.w  #,(a0)            to VRAM at 0
+; at 232: wait for its end
+    3010 0800 0003      ; move.w  (a0),d0; btst #3,d0
+    66f8                ; bne.b   $232
+    60d2                ; bra.b   $20e
+"""
 
 
 def build(source, image):
@@ -53,11 +73,15 @@ def main():
         sys.exit(f"{PROGRAM} is missing: run `rt ci` first")
     with tempfile.TemporaryDirectory() as name:
         folder = pathlib.Path(name)
-        (folder / "idle.src").write_text(IDLE)
-        build(folder / "idle.src", folder / "idle.bin")
-        build(TOP / "examples" / "scale" / "scale.src", folder / "scale.bin")
-        for cartridge in ("idle", "scale"):
-            measure(cartridge, folder / f"{cartridge}.bin", frames, folder)
+        sources = {"scale": TOP / "examples" / "scale" / "scale.src"}
+        sources["chord"] = TOP / "examples" / "chord" / "chord.src"
+        for cartridge, text in (("idle", IDLE), ("transfer", TRANSFER)):
+            sources[cartridge] = folder / f"{cartridge}.src"
+            sources[cartridge].write_text(text)
+        for cartridge in ("idle", "scale", "chord", "transfer"):
+            image = folder / f"{cartridge}.bin"
+            build(sources[cartridge], image)
+            measure(cartridge, image, frames, folder)
 
 
 if __name__ == "__main__":

@@ -7,6 +7,7 @@ pub mod Kept
 pub mod LeastKeys
 pub mod Lifts
 pub mod Moves
+pub mod Owners
 pub mod Pads
 pub mod Samples
 pub mod Segments

@@ -52,7 +52,7 @@ main_zero : (c : MainChip) → (next (Main c)).key.chip ≡ 0
 unfolding next_of
 main_zero c = refl
 
-kind1 : (c : Chip) → (next c).key.chip ≡ 1 → (v : SubValue) × (c ≡ Sub v)
+pub kind1 : (c : Chip) → (next c).key.chip ≡ 1 → (v : SubValue) × (c ≡ Sub v)
 kind1 (Main c) is = absurd (omega (arith, main_zero c))
 kind1 (Sub c) is = (c, refl)
 kind1 (Line c) is = absurd (omega arith)

@@ -7,6 +7,7 @@ pub mod Laws
 pub mod Machines
 pub mod Movers
 pub mod Outputs
+pub mod Owners
 pub mod Pads
 pub mod Parts
 pub mod Pins

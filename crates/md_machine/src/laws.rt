@@ -5,6 +5,7 @@ ghost use Rattle.md_word.specs.declared.event.Entry.{Entry};
 ghost use Rattle.chip_core.specs.Limits.{events_within};
 ghost use Rattle.md_pads.specs.Recording.{Frame};
 ghost use Rattle.md_machine.specs.Console.{AllBelow, Console, IsRunTo, power_on, ran};
+ghost use Rattle.md_machine.specs.Owners.{HasOneOwner};
 ghost use Rattle.md_machine.specs.Pads.{ShowsPads};
 ghost use Rattle.md_machine.specs.Rules.{five};
 ghost use Rattle.md_machine.specs.Samples as samples;
@@ -50,3 +51,13 @@ pub fn few_in_list()
 pub fn pads_are_recorded()
     ensures { (cart : List ℕ) (recording : List Frame) (moves : ℕ) → ShowsPads recording (ran (power_on cart recording) moves) }
 {}
+
+/// From power-on, after events below a cycle of at most 2^50, the Z80's RAM and bank register have one
+/// owner: the Z80 or the bus.
+pub fn one_owner(cart: &Cart)
+    ensures { (recording : List Frame) (end n : ℕ) → end ≤ 2 ^ 50 → AllBelow (power_on cart.now recording) end n
+        → HasOneOwner (ran (power_on cart.now recording) n) }
+{
+    cart.bytes();
+    laws::stages::<MdChips>();
+}
