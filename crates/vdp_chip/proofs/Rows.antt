@@ -1,0 +1,74 @@
+-- A row from the bytes that mixing writes, and a picture with another row.
+use Rattle.std.proofs.Common.{◌≡◌, ◌∙◌, refl, sym, ap, ℕ, ◌+◌, ◌-◌, ◌*◌, ◌/◌, ◌<◌, ◌≤◌, Bool, true, false, List, ◌++◌, length, arith, get_or, take, drop}
+use Rattle.std.specs.Prelude.{slice_index}
+use Rattle.std.proofs.lemmas.List.{append_assoc, drop-drop, ext_get_or, get_or-append_right, get_or-drop, length-append, length-drop, length-take-le}
+use Rattle.std.proofs.lemmas.List.FromFn.{get_or-map-range_with_len, length-map-range_with_len}
+use borrow.Rule.Slice.PartMut.{put_mid}
+use Rattle.vdp_planes.specs.declared.view.Dot.{Dot}
+use Rattle.vdp_planes.specs.declared.view.LineView.{LineView}
+use Rattle.vdp_planes.specs.View.{clear, dot_at}
+use Rattle.vdp_planes.specs.Planes.{plane_dot}
+use Rattle.vdp_planes.specs.Mixing.{border_of, line_byte, shown_at}
+use Rattle.vdp_chip.specs.Picture.{picture_length, plane_dots, row_length, row_of, with_row}
+
+-- a byte of a line reads the dots of the line alone
+line_byte_same : (view : LineView) (a b c d s : List Dot) (n : ℕ) → n < 960
+    → ((x : ℕ) → x < 320 → dot_at a x ≡ dot_at c x) → ((x : ℕ) → x < 320 → dot_at b x ≡ dot_at d x)
+    → line_byte view a b s n ≡ line_byte view c d s n
+unfolding line_byte shown_at
+line_byte_same view a b c d s n h first second =
+    let dot : ℕ = n / 3 - border_of view in
+    let u : dot < 320 = omega arith in
+    rw (first dot u, second dot u) refl
+
+plane_dots-at : (view : LineView) (second : Bool) (y x : ℕ) → x < 320 → dot_at (plane_dots view second y) x ≡ plane_dot view second y x
+unfolding plane_dots
+plane_dots-at view second y x h = get_or-map-range_with_len (plane_dot view second y) 0 320 x x clear h (omega arith)
+
+pub length-row_of : (view : LineView) (s : List Dot) (y : ℕ) → length (row_of view s y) ≡ row_length
+unfolding row_of
+length-row_of view s y = length-map-range_with_len (line_byte view (plane_dots view false y) (plane_dots view true y) s) 0 row_length
+
+pub row_made : (view : LineView) (a b s : List Dot) (y : ℕ) (row : List ℕ) → length row ≡ row_length
+    → ((x : ℕ) → x < 320 → dot_at a x ≡ plane_dot view false y x) → ((x : ℕ) → x < 320 → dot_at b x ≡ plane_dot view true y x)
+    → ((n : ℕ) → n < 960 → slice_index row n ≡ line_byte view a b s n)
+    → row ≡ row_of view s y
+unfolding row_of
+row_made view a b s y row whole first second bytes =
+    let c = plane_dots view false y in
+    let d = plane_dots view true y in
+    ext_get_or 0 row (row_of view s y) (whole ∙ sym (length-row_of view s y)) (λ n h.
+    let u : n < 960 = omega (arith, whole, h) in
+    bytes n u
+    ∙ line_byte_same view a b c d s n u (λ x i. first x i ∙ sym (plane_dots-at view false y x i)) (λ x i. second x i ∙ sym (plane_dots-at view true y x i))
+    ∙ sym (get_or-map-range_with_len (line_byte view c d s) 0 960 n n 0 u (omega arith)))
+
+pub row_put : (y k : ℕ) (old row : List ℕ) → k ≡ 960 → put_mid (y * 960) k old row ≡ with_row y row old
+unfolding with_row
+row_put y k old row e =
+    let at : y * 960 ≡ 960 * y = omega arith in
+    rw (e, at) (ap (λ (rest : List ℕ). take (960 * y) old ++ (row ++ rest)) (drop-drop 960 (960 * y) old) ∙ sym (append_assoc (take (960 * y) old) row (drop (960 * y + 960) old)))
+
+before_row : (y : ℕ) (row old : List ℕ) → y < 224 → length row ≡ row_length → length old ≡ picture_length → length (take (960 * y) old ++ row) ≡ 960 * y + 960
+before_row y row old h r o =
+    let both = length-append (take (960 * y) old) row in
+    let front = length-take-le (960 * y) old (omega (arith, o)) in
+    omega (arith, both, front, r)
+
+pub length-with_row : (y : ℕ) (row old : List ℕ) → y < 224 → length row ≡ row_length → length old ≡ picture_length → length (with_row y row old) ≡ picture_length
+unfolding with_row
+length-with_row y row old h r o =
+    let all = length-append (take (960 * y) old ++ row) (drop (960 * y + 960) old) in
+    let front = before_row y row old h r o in
+    let behind = length-drop (960 * y + 960) old in
+    omega (arith, all, front, behind, o)
+
+-- the rows behind it stay
+pub with_row-behind : (y n : ℕ) (row old : List ℕ) → y < 224 → length row ≡ row_length → length old ≡ picture_length → 960 * y + 960 ≤ n
+    → slice_index (with_row y row old) n ≡ slice_index old n
+unfolding with_row
+with_row-behind y n row old h r o behind =
+    let place : 960 * y + 960 + (n - (960 * y + 960)) ≡ n = omega arith in
+    get_or-append_right (take (960 * y) old ++ row) (drop (960 * y + 960) old) (960 * y + 960) n 0 (before_row y row old h r o) behind
+    ∙ get_or-drop (960 * y + 960) old (n - (960 * y + 960)) 0
+    ∙ ap (λ (m : ℕ). get_or old m 0) place

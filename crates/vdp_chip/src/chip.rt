@@ -1,0 +1,192 @@
+ghost use Rattle.std.specs.Prelude.{◌≡◌, ◌^◌, ◌<◌, IfOk, None, true, false, option_copied};
+ghost use Rattle.vdp_planes.specs.View.{AllColours, seen};
+ghost use Rattle.vdp_chip.specs.Picture.{blank};
+ghost use Rattle.vdp_chip.specs.Drawing.{IsDrawing, answered, at_power_on, line_drawn, next_of};
+
+use crate::kept::{Kept, draw};
+use crate::picture::PICTURE;
+use md_word::clock::LINE;
+use md_word::{Key, Next, NoMemory};
+use std::alloc::Global;
+use std::marker::Model;
+use vdp_planes::{Dot, LineView, Scene, SpriteNote};
+use vdp_time::line_of;
+
+/// The number of this chip.
+const DRAWING: u8 = 2;
+
+/// The drawing half of the VDP. Its events are the lines, each 3,420 master cycles behind the one
+/// before: those of lines 0 to 223 draw a row of the picture, the event of line 224 finishes the
+/// frame, and the lines up to 261 draw nothing. Contracts see the cycle of the next event, the note
+/// of the last line's sprites, whether the view is there, the picture and the frame that is kept.
+///
+/// All memory, about 500 KB, is taken at making. Source: Genesis Technical Overview, the display; the
+/// places of the events are this project's profile.
+#[derive(Drop)]
+pub struct ChipVdp {
+    next: u64,
+    view: Option<Box<LineView>>,
+    note: SpriteNote,
+    picture: Box<[u8; PICTURE]>,
+    aside: Box<[u8; PICTURE]>,
+    kept: Kept,
+}
+
+impl Model for ChipVdp {
+    ghost use Rattle.std.specs.Prelude.{is_some};
+    ghost use Rattle.vdp_chip.specs.Drawing.{Drawing, IsDrawing};
+    ghost use Rattle.vdp_chip.specs.Kept.{IsKept, frame_of};
+
+    ghost Value = { Drawing };
+
+    ghost view = { λ c. record { next = c.next; note = c.note; has_view = is_some c.view; picture = c.picture.value; frame = frame_of c.kept c.picture.value c.aside.value } };
+
+    ghost invariant = { λ c. IsDrawing (record { next = c.next; note = c.note; has_view = is_some c.view; picture = c.picture.value; frame = frame_of c.kept c.picture.value c.aside.value }) × IsKept c.kept c.next c.aside.value };
+}
+
+impl ChipVdp {
+    /// The chip at power-on: the picture is black, no frame is kept, and the event of line 0 comes at
+    /// cycle 0. It is refused where there is no memory for the picture and the view.
+    pub fn power_on(alloc: Global) -> Result<ChipVdp, NoMemory>
+        ensures { IfOk result (λ chip. chip ≡ at_power_on) }
+    {
+        let view = empty_view(alloc)?;
+        let picture = black(alloc)?;
+        let aside = black(alloc)?;
+        Ok(with_memory(view, picture, aside))
+    }
+
+    /// The next line's event.
+    pub fn next(&self) -> Next
+        ensures value { result ≡ next_of self.now }
+        ensures drawing { IsDrawing self.now }
+    {
+        Next {
+            key: Key {
+                cycle: self.next,
+                chip: DRAWING,
+            },
+            sample: false,
+        }
+    }
+
+    /// Whether the view is here, and not away to be filled.
+    pub fn has_view(&self) -> bool
+        ensures { result ≡ self.now.has_view }
+    {
+        self.view.is_some()
+    }
+
+    /// Gives the view, to be filled with the VDP's registers and memories, and what the sprites of the
+    /// last line have set. What the view holds is not told.
+    pub fn request(&mut self) -> (Box<LineView>, SpriteNote)
+        requires { self.old.has_view ≡ true }
+        ensures note { result.1 ≡ self.old.note }
+        ensures gone { self.new ≡ record self.old { has_view = false } }
+    {
+        if let Some(view) = self.view.take() {
+            (view, self.note)
+        } else {
+            unreachable!()
+        }
+    }
+
+    /// Makes the event of the next line, and takes the view back: the line is drawn from it and from
+    /// the dots of the line's sprites. The note of those is kept for the next request.
+    #[tactic(auto, unfolding(crate::specs::Drawing::answered))]
+    pub fn answer_with(&mut self, view: Box<LineView>, sprites: &[Dot; 320], note: SpriteNote)
+        requires view { self.old.has_view ≡ false }
+        requires colours { AllColours sprites.now }
+        requires cycle { self.old.next < 2 ^ 50 }
+        ensures { self.new ≡ answered view.value sprites.now note self.old }
+    {
+        self.draw_line(&view.scene(), sprites, note);
+        self.view = Some(view);
+    }
+
+    /// `answer_with` from borrowed registers and memories: the view stays where it is.
+    #[tactic(auto, unfolding(crate::specs::Drawing::line_drawn, crate::specs::Drawing::picture_after))]
+    pub fn draw_line(&mut self, scene: &Scene, sprites: &[Dot; 320], note: SpriteNote)
+        requires colours { AllColours sprites.now }
+        requires cycle { self.old.next < 2 ^ 50 }
+        ensures { self.new ≡ line_drawn (seen scene.now) sprites.now note self.old }
+    {
+        let line = line_of(self.next);
+        self.kept = draw(
+            scene,
+            line,
+            sprites,
+            self.kept,
+            &mut self.picture,
+            &mut self.aside,
+        );
+        self.note = note;
+        self.next += LINE;
+    }
+
+    /// The latest frame that was finished and not dropped: 224 rows of 320 dots of red, green and
+    /// blue. Lines that are drawn later do not change it.
+    pub fn frame(&self) -> Option<&[u8]>
+        ensures { option_copied result ≡ self.now.frame }
+    {
+        match self.kept {
+            Kept::Nowhere => None,
+            Kept::Picture => Some(&self.picture[..]),
+            Kept::Aside => Some(&self.aside[..]),
+        }
+    }
+
+    /// Lets the frame go. The picture stays.
+    pub fn drop_frame(&mut self)
+        ensures { self.new ≡ record self.old { frame = None } }
+    {
+        self.kept = Kept::Nowhere;
+    }
+}
+
+/// The chip at power-on with its memory.
+fn with_memory(
+    view: Box<LineView>,
+    picture: Box<[u8; PICTURE]>,
+    aside: Box<[u8; PICTURE]>,
+) -> ChipVdp
+    requires picture { picture.value ≡ blank }
+    requires aside { aside.value ≡ blank }
+    ensures { result ≡ at_power_on }
+{
+    ChipVdp {
+        next: 0,
+        view: Some(view),
+        note: SpriteNote {
+            overflow: false,
+            collision: false,
+        },
+        picture,
+        aside,
+        kept: Kept::Nowhere,
+    }
+}
+
+/// A picture without a row.
+fn black(alloc: Global) -> Result<Box<[u8; PICTURE]>, NoMemory>
+    ensures { IfOk result (λ picture. picture.value ≡ blank) }
+{
+    match Box::new(alloc, [0; PICTURE]) {
+        Ok(picture) => Ok(picture),
+        Err(_) => Err(NoMemory),
+    }
+}
+
+/// A view of a VDP whose registers and memories are 0.
+fn empty_view(alloc: Global) -> Result<Box<LineView>, NoMemory> {
+    let view = LineView {
+        registers: [0; 24],
+        vram: [0; 65536],
+        cram: [0; 64],
+        vsram: [0; 40],
+    };
+    match Box::new(alloc, view) {
+        Ok(view) => Ok(view),
+        Err(_) => Err(NoMemory),
+    }
+}

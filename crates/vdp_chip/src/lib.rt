@@ -1,0 +1,9 @@
+//! The drawing half of the video display processor (VDP): the picture, drawn line by line from a view
+//! of the registers and memories.
+#![tactic(auto)]
+
+mod chip;
+mod kept;
+mod picture;
+
+pub use chip::ChipVdp;
