@@ -1,4 +1,6 @@
 pub mod Cases
 pub mod Events
+pub mod Saved
 pub mod Sound
+pub mod Spelling
 pub mod States

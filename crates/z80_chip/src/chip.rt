@@ -16,10 +16,10 @@ use z80_parcel::first;
 /// project's profile.
 #[derive(Drop)]
 pub struct Chip80 {
-    cart: Arc<Cart>,
-    parcel: Option<Parcel>,
-    sequencer: Sequencer,
-    progress: Progress80,
+    pub(crate) cart: Arc<Cart>,
+    pub(crate) parcel: Option<Parcel>,
+    pub(crate) sequencer: Sequencer,
+    pub(crate) progress: Progress80,
 }
 
 impl Model for Chip80 {

@@ -4,7 +4,11 @@
 
 mod case;
 mod chip;
+mod need;
+mod saved;
 mod sequencer;
+mod spelling;
 mod stage;
+mod waiting;
 
 pub use chip::Chip80;

@@ -22,11 +22,11 @@ use z80_parcel::store;
 
 /// The master cycles from a sample to the first access, to a yield and to a take, and for which a
 /// halted Z80 waits.
-const FIRST_STEP: u64 = 60;
+pub const FIRST_STEP: u64 = 60;
 
 /// The master cycles from one access to the next, and for which a Z80 waits that is in reset or has
 /// no RAM.
-const STEP: u64 = 45;
+pub const STEP: u64 = 45;
 
 /// The master cycles from the sample that saw the request change to the sample after it.
 const MOVE: u64 = 105;

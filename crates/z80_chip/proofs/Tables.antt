@@ -1,0 +1,34 @@
+-- Tables of fields, one behind another.
+use Rattle.std.proofs.Common.{◌≡◌, ℕ, ◌+◌, Bool, true, false, cond, List, [], ◌∷◌, ◌++◌, Option, Some, None, refl, sym, ap, ◌∙◌, append_assoc, arith}
+use Rattle.md_fields.specs.Fields.{Field, bytes_of, first_wrong, holds_of, size_of, sizes, spelling}
+
+-- the bytes of two tables are those of one behind those of the other
+pub spelling_append : (xs ys : List Field) → spelling (xs ++ ys) ≡ spelling xs ++ spelling ys
+unfolding spelling
+spelling_append [] ys = refl
+spelling_append (x ∷ xs) ys = ap (λ (l : List ℕ). bytes_of x ++ l) (spelling_append xs ys) ∙ sym (append_assoc (bytes_of x) (spelling xs) (spelling ys))
+
+-- the first of two places, where there is one
+abbrev pub or_else : Option ℕ → Option ℕ → Option ℕ
+or_else (Some place) next = Some place
+or_else None next = next
+
+either : (holds : Bool) (place : ℕ) (first next : Option ℕ) → cond holds (or_else first next) (Some place) ≡ or_else (cond holds first (Some place)) next
+either true place first next = refl
+either false place first next = refl
+
+-- the first rule that fails of two tables is that of the one, else that of the other
+pub first_append : (place : ℕ) (xs ys : List Field) → first_wrong place (xs ++ ys) ≡ or_else (first_wrong place xs) (first_wrong (place + sizes xs) ys)
+unfolding first_wrong sizes
+first_append place [] ys = ap (λ (p : ℕ). first_wrong p ys) (omega arith)
+first_append place (x ∷ xs) ys =
+    ap (λ (f : Option ℕ). cond (holds_of x) f (Some place)) (first_append (place + size_of x) xs ys ∙ ap (λ (p : ℕ). or_else (first_wrong (place + size_of x) xs) (first_wrong p ys)) (omega arith))
+    ∙ either (holds_of x) place (first_wrong (place + size_of x) xs) (first_wrong (place + (size_of x + sizes xs)) ys)
+
+first_none : (first next : Option ℕ) → or_else first next ≡ None → (first ≡ None) × (next ≡ None)
+first_none None next e = (refl, e)
+first_none (Some place) next e = absurd cc
+
+-- where none is wrong of two tables none is of either
+pub none_of : (place : ℕ) (xs ys : List Field) → first_wrong place (xs ++ ys) ≡ None → (first_wrong place xs ≡ None) × (first_wrong (place + sizes xs) ys ≡ None)
+none_of place xs ys e = first_none _ _ (sym (first_append place xs ys) ∙ e)

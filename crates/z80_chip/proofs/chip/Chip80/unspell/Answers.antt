@@ -1,0 +1,100 @@
+use Rattle.std.proofs.Common.{◌≡◌, ℕ, Bool, true, List, Option, Ok, Err, ap, subst, sym, ◌∙◌, arith, refl}
+use Rattle.std.specs.Prelude.{option_map}
+use Rattle.std.specs.Arc.{arc_value}
+use Rattle.md_fields.specs.Items.{IsRight, Keeps}
+use Rattle.md_word.specs.declared.unspell.Unspell.TheVariants.{Rule}
+use Rattle.rom_header.specs.Cartridge.{IsImage}
+use Rattle.z80_parcel.specs.Parcels.{Store, store_of}
+use Rattle.z80_chip.specs.Saved.{asks_more, chip_fields, kept_of, state_from}
+use Rattle.z80_chip.specs.Sound.{IsChip80}
+use Rattle.z80_chip.specs.Spelling.{GoesWrongAt, Spells, store_at}
+use Rattle.z80_chip.specs.States.{State80, state_of}
+use Rattle.z80_chip.specs.declared.saved.Saved80.{Saved80}
+use Rattle.z80_chip.proofs.Laws.{of}
+use Rattle.z80_chip.proofs.Refusals.{same_rule}
+use Rattle.z80_chip.proofs.SavedLaws.{count_few, sound}
+use Rattle.z80_chip.proofs.SpellingLaws.{answers_four, breaks_ram, no_other, only_place, read_keeps, read_of, read_right, read_rules, read_store, right_not_refused, spells}
+use Rattle.z80_chip.proofs.chip.Chip80.unspell.Goals as goal
+
+pub returns-in-Err-clause-only : goal.returns-in-Err-clause-only
+returns-in-Err-clause-only c = λ state p n.
+    absurd (right_not_refused (arc_value c.args.cart) c.args.at c.args.bytes.now (kept_of state) c.in-Err.place p.keeps p.right (c.in-Err.ensures.refused (arc_value c.args.cart)))
+
+pub returns-in-Err-clause-refused : goal.returns-in-Err-clause-refused
+returns-in-Err-clause-refused c = λ place wrong n.
+    ap (λ (p : ℕ). Err (Rule p)) (only_place (arc_value c.args.cart) c.args.at c.args.bytes.now c.in-Err.place place (c.in-Err.ensures.refused (arc_value c.args.cart)) wrong)
+
+pub parcel_at-requires-clause-nine : goal.parcel_at-requires-clause-nine
+parcel_at-requires-clause-nine c = read_store c.args.at c.args.bytes.now c.in-Ok.saved c.in-Ok.ensures.found
+
+pub asks_more-requires : goal.asks_more-requires
+asks_more-requires c = omega (arith, count_few c.args.at true _ (read_rules c.args.at c.args.bytes.now c.in-Ok.saved c.in-Ok.ensures.found))
+
+-- what the answer of `asks_more` tells
+told : (image cart bytes : List ℕ) (saved : Saved80) (store : Option Store) (asks : Bool) → image ≡ cart → store ≡ store_at bytes
+    → asks ≡ asks_more image (record { numbers = saved; store = store }) → asks_more cart (read_of bytes saved) ≡ asks
+told image cart bytes saved store asks same there e =
+    sym (e ∙ ap (λ (l : List ℕ). asks_more l (record { numbers = saved; store = store })) same
+    ∙ ap (λ (o : Option Store). asks_more cart (record { numbers = saved; store = o })) there)
+
+wrong_ram : (c : goal.After-drop-cart-then-not-asks_more) → GoesWrongAt (arc_value c.args.cart) c.args.at c.args.bytes.now 62
+wrong_ram c =
+    breaks_ram (arc_value c.args.cart) c.args.at c.args.bytes.now c.in-Ok.saved (λ i. omega (arith, c.type_inv.bytes i)) c.in-Ok.ensures.found
+    (told c.deref-2.result.now (arc_value c.args.cart) c.args.bytes.now c.in-Ok.saved (option_map store_of c.in_ok-parcel.parcel) c.asks_more.result c.deref-2.ensures c.in_ok-parcel.ensures c.asks_more.ensures
+    ∙ c.if-not-asks_more.true)
+
+pub returns-then-not-asks_more-clause-only : goal.returns-then-not-asks_more-clause-only
+returns-then-not-asks_more-clause-only c = λ state p n.
+    absurd (right_not_refused (arc_value c.args.cart) c.args.at c.args.bytes.now (kept_of state) 62 p.keeps p.right (wrong_ram c))
+
+pub returns-then-not-asks_more-clause-rule : goal.returns-then-not-asks_more-clause-rule
+returns-then-not-asks_more-clause-rule c = λ place e.
+    subst (λ (p : ℕ). GoesWrongAt (arc_value c.args.cart) c.args.at c.args.bytes.now p) (same_rule 62 place e) (wrong_ram c)
+
+pub returns-then-not-asks_more-clause-refused : goal.returns-then-not-asks_more-clause-refused
+returns-then-not-asks_more-clause-refused c = λ place wrong n.
+    ap (λ (p : ℕ). Err (Rule p)) (only_place (arc_value c.args.cart) c.args.at c.args.bytes.now 62 place (wrong_ram c) wrong)
+
+pub sequencer-requires : goal.sequencer-requires
+sequencer-requires c = omega (arith, count_few c.args.at true _ (read_rules c.args.at c.args.bytes.now c.in-Ok.saved c.in-Ok.ensures.found))
+
+-- what is made
+made : (c : goal.After-new) → state_of c.sequencer.result c.in_ok-parcel.parcel ≡ state_from c.in-Ok.saved (store_at c.args.bytes.now)
+made c = c.sequencer.ensures c.in_ok-parcel.parcel ∙ ap (state_from c.in-Ok.saved) c.in_ok-parcel.ensures
+
+asks : (c : goal.After-new) → asks_more (arc_value c.args.cart) (read_of c.args.bytes.now c.in-Ok.saved) ≡ true
+asks c =
+    told c.deref-2.result.now (arc_value c.args.cart) c.args.bytes.now c.in-Ok.saved (option_map store_of c.in_ok-parcel.parcel) c.asks_more.result c.deref-2.ensures c.in_ok-parcel.ensures c.asks_more.ensures
+    ∙ c.if-not-asks_more.false
+
+keeps : (c : goal.After-new) → Keeps (chip_fields (arc_value c.args.cart) c.args.at) c.args.bytes.now (read_of c.args.bytes.now c.in-Ok.saved)
+keeps c = read_keeps (arc_value c.args.cart) c.args.at c.args.bytes.now c.in-Ok.saved (λ i. omega (arith, c.type_inv.bytes i)) c.in-Ok.ensures.found
+
+right : (c : goal.After-new) → IsRight (chip_fields (arc_value c.args.cart) c.args.at) (read_of c.args.bytes.now c.in-Ok.saved)
+right c = read_right (arc_value c.args.cart) c.args.at c.args.bytes.now c.in-Ok.saved c.in-Ok.ensures.found (asks c)
+
+pub invariant_of-result : goal.invariant_of-result
+invariant_of-result c =
+    subst (λ (state : State80). IsChip80 (of (arc_value c.args.cart) state)) (sym (made c))
+    (sound (arc_value c.args.cart) c.args.at (read_of c.args.bytes.now c.in-Ok.saved)
+    (subst (λ (image : List ℕ). IsImage image) c.deref.ensures c.bytes.ensures.image)
+    (read_store c.args.at c.args.bytes.now c.in-Ok.saved c.in-Ok.ensures.found)
+    (answers_four (arc_value c.args.cart) c.args.at c.args.bytes.now (read_of c.args.bytes.now c.in-Ok.saved) (keeps c))
+    (read_rules c.args.at c.args.bytes.now c.in-Ok.saved c.in-Ok.ensures.found)
+    (asks c))
+
+pub returns-clause-found : goal.returns-clause-found
+returns-clause-found c = (
+  refl,
+  subst (Spells (arc_value c.args.cart) c.args.at c.args.bytes.now) (sym (made c))
+      (spells (arc_value c.args.cart) c.args.at c.args.bytes.now (read_of c.args.bytes.now c.in-Ok.saved) (keeps c) (right c)),
+)
+
+pub returns-clause-only : goal.returns-clause-only
+returns-clause-only c = λ state p n.
+    ap (λ (s : State80). Ok (of (arc_value c.args.cart) s))
+    (made c ∙ no_other (arc_value c.args.cart) c.args.at c.args.bytes.now (read_of c.args.bytes.now c.in-Ok.saved) state (keeps c) p)
+
+pub returns-clause-refused : goal.returns-clause-refused
+returns-clause-refused c = λ place wrong n.
+    absurd (right_not_refused (arc_value c.args.cart) c.args.at c.args.bytes.now (read_of c.args.bytes.now c.in-Ok.saved) place (keeps c) (right c) wrong)

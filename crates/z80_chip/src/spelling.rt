@@ -1,0 +1,126 @@
+ghost use Rattle.std.specs.Prelude.{◌≡◌, ◌≢◌, ◌+◌, ◌≤◌, ◌++◌, ℕ, List, length, true, option_map, is_some, vec_len, vec_capacity, IfErr, IfOk, IfSome, IsErrOf, Ok, Err};
+ghost use Rattle.md_fields.specs.Fields.{spelling};
+ghost use Rattle.z80_chip.specs.Saved.{store_fields as held_fields};
+ghost use Rattle.z80_chip.specs.Spelling.{GoesWrongAt, IsLength, IsRead, Spells, chip_bytes, spelled_size, store_at};
+ghost use Rattle.z80_chip.specs.States.{State80};
+ghost use Rattle.z80_parcel.specs.Parcels.{IsStore, store_of};
+
+use crate::chip::Chip80;
+use crate::saved::{BANKS, Saved80, store_fields};
+use md_fields::{first_wrong, put, u16_at};
+use md_word::{NoMemory, Parcel, Unspell};
+use rom_header::Cart;
+use std::alloc::Global;
+use std::sync::Arc;
+use z80_exec::Progress80;
+use z80_parcel::known;
+
+/// How many bytes of a saved state keep a Z80 without its RAM, and where its RAM stands else.
+const RAM: usize = 62;
+
+/// Where the bank register stands.
+const BANK: usize = 8_254;
+
+/// How many bytes keep a Z80 with its RAM.
+const LENGTH: usize = 8_256;
+
+impl Chip80 {
+    ghost use Rattle.std.specs.Arc.{arc_value};
+
+    /// Appends the bytes of a saved state that keep this Z80: 62, and where it has its RAM, this and
+    /// the bank register, 8,256 in all. There is room for them.
+    pub fn spell(&self, at: u64, into: &mut Vec<u8>)
+        requires { vec_len into.old + spelled_size (is_some self.now.state.store) ≤ vec_capacity into.old }
+        ensures bytes { into.new.items ≡ into.old.items ++ chip_bytes self.now.state }
+        ensures length { vec_len into.new ≡ vec_len into.old + spelled_size (is_some self.now.state.store) }
+        ensures room { vec_capacity into.old ≤ vec_capacity into.new }
+    {
+        let has = self.parcel.is_some();
+        put(&Saved80::of(&self.sequencer).fields(at, has), into);
+        put_store(&self.parcel, into);
+    }
+
+    /// The Z80 that the bytes of a saved state at a cycle keep, over its cartridge. Bytes that are
+    /// neither 62 nor 8,256 are refused at the lesser of their number and 8,256, others at the place of
+    /// the first field whose rule fails. An access and a yield without RAM, a take with it, and an
+    /// access of what does not ask for one more answer are refused at 62, where RAM begins. RAM is
+    /// copied.
+    pub fn unspell(alloc: Global, bytes: &[u8], at: u64, cart: Arc<Cart>) -> Result<Chip80, Unspell>
+        ensures found { IfOk result (λ chip. (chip.cart ≡ arc_value cart) × Spells (arc_value cart) at bytes.now chip.state) }
+        ensures only { (state : State80) → Spells (arc_value cart) at bytes.now state → result ≢ Err Unspell.NoMemory
+            → result ≡ Ok (record { cart = arc_value cart; state = state }) }
+        ensures rule { (place : ℕ) → IsErrOf result (Unspell.Rule place) → GoesWrongAt (arc_value cart) at bytes.now place }
+        ensures refused { (place : ℕ) → GoesWrongAt (arc_value cart) at bytes.now place → result ≢ Err Unspell.NoMemory
+            → IsErrOf result (Unspell.Rule place) }
+    {
+        cart.bytes();
+        let saved = match checked(bytes, at) {
+            Ok(saved) => saved,
+            Err(place) => {
+                return Err(Unspell::Rule {
+                    place: place as u64,
+                });
+            }
+        };
+        let parcel = parcel_at(alloc, bytes)?;
+        if !saved.asks_more(&cart, &parcel) {
+            return Err(Unspell::Rule { place: RAM as u64 });
+        }
+        Ok(Chip80 {
+            cart,
+            parcel,
+            sequencer: saved.sequencer(),
+            progress: Progress80::new(),
+        })
+    }
+}
+
+/// Appends RAM and bank register, where they are there.
+fn put_store(parcel: &Option<Parcel>, into: &mut Vec<u8>)
+    requires { vec_len into.old + length (spelling (held_fields true (option_map store_of parcel.now))) ≤ vec_capacity into.old }
+    ensures bytes { into.new.items ≡ into.old.items ++ spelling (held_fields true (option_map store_of parcel.now)) }
+    ensures length { vec_len into.new ≡ vec_len into.old + length (spelling (held_fields true (option_map store_of parcel.now))) }
+    ensures room { vec_capacity into.old ≤ vec_capacity into.new }
+{
+    if let Some(parcel) = parcel {
+        known(parcel);
+        put(&store_fields(parcel.ram.as_slice(), parcel.bank), into);
+    }
+}
+
+/// The numbers that the bytes keep, where all rules hold but that of RAM, which is not looked at;
+/// else the place of the refusal.
+fn checked(bytes: &[u8], at: u64) -> Result<Saved80, usize>
+    ensures found { IfOk result (λ saved. IsRead at bytes.now saved) }
+    ensures refused { IfErr result (λ place. (cart : List ℕ) → GoesWrongAt cart at bytes.now place) }
+{
+    if bytes.len() != RAM && bytes.len() != LENGTH {
+        return Err(bytes.len().min(LENGTH));
+    }
+    let saved = Saved80::read(bytes);
+    let has = bytes.len() != RAM;
+    if let Some(place) = first_wrong(&saved.fields(at, has)) {
+        return Err(place);
+    }
+    if has && u16_at(bytes, BANK) >= BANKS {
+        return Err(BANK);
+    }
+    Ok(saved)
+}
+
+/// RAM and bank register as they stand in the bytes, where they do.
+fn parcel_at(alloc: Global, bytes: &[u8]) -> Result<Option<Parcel>, NoMemory>
+    requires length { IsLength bytes.now }
+    requires nine { IfSome (store_at bytes.now) IsStore }
+    ensures { IfOk result (λ parcel. option_map store_of parcel ≡ store_at bytes.now) }
+{
+    if bytes.len() == RAM {
+        return Ok(None);
+    }
+    let mut ram = Box::new(alloc, [0; 8192])?;
+    ram.copy_from_slice(&bytes[RAM..BANK]);
+    Ok(Some(Parcel {
+        ram,
+        bank: u16_at(bytes, BANK),
+    }))
+}
