@@ -62,6 +62,16 @@ module _ {Chip Shared Pins : Type 0} (rules : Rules Chip Shared Pins) (i : ℕ) 
       (subst (λ (x : Key). IsBlocked rules p i h.chip o x) (ap (λ (a : Turn). bound_of a b) e) is.0)
   blocked-turn Finished q k is other bound e = absurd (false≢true (ap is_blocked e))
 
+  -- a section leaves the journal's room as it was
+  pub turn-room : (answer : Turn) (q : PartsValue Shared) (k : HeldValue Chip Pins) → IsTurn rules i p h answer q k → q.room ≡ p.room
+  turn-room Moved q k is = go (rules.next h.chip).sample refl
+    where
+      go : (b : Bool) → (rules.next h.chip).sample ≡ b → q.room ≡ p.room
+      go false kind = ap (λ (x : PartsValue Shared). x.room) (is.access kind).0
+      go true kind = ap (λ (x : PartsValue Shared). x.room) (is.sample kind).0
+  turn-room (Blocked other bound) q k is = ap (λ (x : PartsValue Shared). x.room) is.1.parts
+  turn-room Finished q k is = ap (λ (x : PartsValue Shared). x.room) is.1.parts
+
 module _ {Chip Shared Pins : Type 0} (rules : Rules Chip Shared Pins) (i : ℕ) (l : LockedValue Shared) (hs : Places Chip Pins) (answer : Turn) (l2 : LockedValue Shared) (hs2 : Places Chip Pins)
     (is : IsSection rules i l hs answer l2 hs2) where
   pub moved-exactly : (answer ≡ Moved) ↔ HasTurnAt rules i l hs

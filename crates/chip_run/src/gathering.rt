@@ -46,7 +46,7 @@ fn put_chip<C: ChipSet, N: Named, L: Ledger>(
 }
 
 /// The core after the run, from all its chips once they are finished: all events below the run's
-/// end and no other have been made, and the journal has their accesses.
+/// end and no other have been made, and the journal has their accesses and the room that it had.
 pub fn gather<C: ChipSet, N: Named, L0: Ledger, L1: Ledger, L2: Ledger, L3: Ledger, L4: Ledger>(
     bus: Bus<C, N, L0, L1, L2, L3, L4>,
     helds: Helds<C, N, L0, L1, L2, L3, L4>,
@@ -55,7 +55,8 @@ pub fn gather<C: ChipSet, N: Named, L0: Ledger, L1: Ledger, L2: Ledger, L3: Ledg
     requires free { AllFree helds }
     requires ended { IsEnded C.rules N.end helds }
     requires whole { (L0.parts ≡ 1) × (L1.parts ≡ 1) × (L2.parts ≡ 1) × (L3.parts ≡ 1) × (L4.parts ≡ 1) }
-    ensures { IsRunTo C.rules (machine_of C.rules (C.core_of N.base)) N.end (machine_of C.rules result) result.journal }
+    ensures run { IsRunTo C.rules (machine_of C.rules (C.core_of N.base)) N.end (machine_of C.rules result) result.journal }
+    ensures room { result.room ≡ N.room }
 {
     let Locked {
         parts,

@@ -41,7 +41,7 @@ impl<C: ChipSet, N: Named, L0: Ledger, L1: Ledger, L2: Ledger, L3: Ledger, L4: L
 
     ghost invariant = { λ l. IsLocked C.rules C.chip_ok C.shared_ok (C.core_of N.base) N.end l.parts
         (l.book0.total ∷ l.book1.total ∷ l.book2.total ∷ l.book3.total ∷ l.book4.total ∷ [])
-        × (l.emptied.items ≡ []) × (C.rules.count ≤ vec_capacity l.emptied) };
+        × (l.emptied.items ≡ []) × (C.rules.count ≤ vec_capacity l.emptied) × (l.parts.room ≡ N.room) };
 }
 
 impl<C: ChipSet, N: Named, L0: Ledger, L1: Ledger, L2: Ledger, L3: Ledger, L4: Ledger> Locked<

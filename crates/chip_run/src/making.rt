@@ -60,6 +60,7 @@ impl<C: ChipSet, N: Named, L0: Ledger, L1: Ledger, L2: Ledger, L3: Ledger, L4: L
     ) -> (Self, Helds<C, N, L0, L1, L2, L3, L4>)
         requires base { C.core_of N.base ≡ record core { room = 0 } }
         requires end { N.end ≡ t }
+        requires places { N.room ≡ core.room }
         requires time { t ≤ 2 ^ 50 }
         requires empty { core.journal ≡ [] }
         requires room { all_moves_left C.rules t (machine_of C.rules core) ≤ core.room }
@@ -131,6 +132,7 @@ impl<C: ChipSet, N: Named, L0: Ledger, L1: Ledger, L2: Ledger, L3: Ledger, L4: L
     ) -> (Self, Helds<C, N, L0, L1, L2, L3, L4>)
         requires base { C.core_of N.base ≡ record core { room = 0 } }
         requires end { N.end ≡ t }
+        requires places { N.room ≡ core.room }
         requires time { t ≤ 2 ^ 50 }
         requires empty { core.journal ≡ [] }
         requires room { all_moves_left C.rules t (machine_of C.rules core) ≤ core.room }

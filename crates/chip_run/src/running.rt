@@ -1,5 +1,5 @@
 ghost use Rattle.std.specs.Prelude.{◌≡◌, ◌^◌, ◌≤◌, []};
-ghost use Rattle.chip_core.specs.Cores.{machine_of};
+ghost use Rattle.chip_core.specs.Cores.{IsCore, machine_of};
 ghost use Rattle.chip_core.specs.Limits.{all_moves_left};
 ghost use Rattle.chip_core.specs.Machines.{IsRunTo};
 
@@ -32,6 +32,7 @@ fn run_named<
 ) -> Core<C>
     requires base { C.core_of N.base ≡ record core { room = 0 } }
     requires end { N.end ≡ t }
+    requires places { N.room ≡ core.room }
     requires time { t ≤ 2 ^ 50 }
     requires empty { core.journal ≡ [] }
     requires room { all_moves_left C.rules t (machine_of C.rules core) ≤ core.room }
@@ -40,7 +41,8 @@ fn run_named<
     requires whole { (L0.parts ≡ 1) × (L1.parts ≡ 1) × (L2.parts ≡ 1) × (L3.parts ≡ 1) × (L4.parts ≡ 1) }
     requires some { 1 ≤ workers }
     requires few { workers ≤ C.rules.count }
-    ensures { IsRunTo C.rules (machine_of C.rules core) t (machine_of C.rules result) result.journal }
+    ensures run { IsRunTo C.rules (machine_of C.rules core) t (machine_of C.rules result) result.journal }
+    ensures room { result.room ≡ core.room }
 {
     let (bus, all) = Bus::<C, N, L0, L1, L2, L3, L4>::make(core, t, blanks);
     let mut helds = all;
@@ -49,8 +51,8 @@ fn run_named<
 }
 
 /// Runs the core to cycle `t` with so many workers, 1 to the count of its chips: after it, all
-/// events below `t` and no other have been made, and the journal has their accesses, whatever
-/// threads there are and however they take turns.
+/// events below `t` and no other have been made, and the journal has their accesses and the room
+/// that it had, whatever threads there are and however they take turns.
 pub fn run_core<C: ChipSet, R: Threads + Wait + Sync, G: Gate>(
     rt: &R,
     core: Core<C>,
@@ -63,7 +65,9 @@ pub fn run_core<C: ChipSet, R: Threads + Wait + Sync, G: Gate>(
     requires room { all_moves_left C.rules t (machine_of C.rules core) ≤ core.room }
     requires some { 1 ≤ workers }
     requires few { workers ≤ C.rules.count }
-    ensures { IsRunTo C.rules (machine_of C.rules core) t (machine_of C.rules result) result.journal }
+    ensures run { IsRunTo C.rules (machine_of C.rules core) t (machine_of C.rules result) result.journal }
+    ensures room { result.room ≡ core.room }
+    ensures core { IsCore C.rules C.chip_ok C.shared_ok result }
 {
     let _known = core.enabled(t, Event::Announce(0));
     let blanks = Blanks {
@@ -74,7 +78,9 @@ pub fn run_core<C: ChipSet, R: Threads + Wait + Sync, G: Gate>(
         l4: Blank::new(1),
         names: PhantomData,
     };
-    run_named::<C, Brand, Brand, Brand, Brand, Brand, Brand, R, G>(
+    let after = run_named::<C, Brand, Brand, Brand, Brand, Brand, Brand, R, G>(
         rt, core, t, workers, gate, blanks,
-    )
+    );
+    let _known = after.enabled(t, Event::Announce(0));
+    after
 }

@@ -14,6 +14,5 @@ pub mod Pins
 pub mod Refinement
 pub mod Rules
 pub mod Samples
-pub mod ShownParts
 pub mod Stubs
 pub mod VdpCode

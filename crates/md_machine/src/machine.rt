@@ -10,18 +10,19 @@ use crate::chips::Chip;
 use crate::drains::{levels_in, put_entries, put_pairs, sides_in, silence};
 use crate::first::{first_bounds, first_chips};
 use crate::least::least_key;
-use crate::parts::{Parts, run_parts};
+use crate::runs::{run_alone, run_workers, taken};
 use crate::set::MdChips;
 use bus_shared::Shared;
 use chip_core::laws;
 use m68k_chip::Chip68;
+use md_outer::Gate;
 use md_pads::Recording;
 use md_word::{Entry, Key, NoMemory};
 use rom_header::Cart;
 use std::alloc::Global;
 use std::marker::Model;
-use std::mem;
-use std::sync::Arc;
+use std::sync::{Arc, Wait};
+use std::thread::Threads;
 
 /// The entries of a frame at most.
 const MOST_ENTRIES: usize = 52_500;
@@ -98,19 +99,46 @@ impl Machine {
         ensures samples { length self.new.samples.levels ≤ 896 }
     {
         if let Some(shared) = self.shared.take() {
-            let alloc = *self.chips.allocator();
-            let parts = Parts {
-                shared,
-                chips: mem::replace(&mut self.chips, Vec::new(alloc)),
-                bounds: mem::replace(&mut self.bounds, Vec::new(alloc)),
-                journal: mem::replace(&mut self.journal, Vec::new(alloc)),
-            };
-            let Parts {
-                shared,
-                chips,
-                bounds,
-                journal,
-            } = run_parts(parts, self.at, to);
+            let core = taken(shared, &mut self.chips, &mut self.bounds, &mut self.journal);
+            let after = run_alone(core, self.at, to);
+            let (shared, chips, bounds, journal) = after.into_parts();
+            self.shared = Some(shared);
+            self.chips = chips;
+            self.bounds = bounds;
+            self.journal = journal;
+            self.at = to;
+        }
+    }
+
+    /// Brings the machine to the cycle `to`, at most a frame on, with so many workers, 1 to 5, of
+    /// which the caller is the last. What it leaves is defined as for `alone`, without them.
+    ///
+    /// Each other worker is a thread of its own with the chip of its number. The caller serves the
+    /// other chips, and with them the chip of each thread that the system refuses to start. A worker
+    /// passes the gate before it looks for the turn of a chip.
+    pub fn segment<R: Threads + Wait + Sync, G: Gate>(
+        &mut self,
+        rt: &R,
+        to: u64,
+        workers: u32,
+        gate: &G,
+    )
+        requires some { 1 ≤ workers }
+        requires few { workers ≤ 5 }
+        requires later { self.old.at < to }
+        requires near { to ≤ self.old.at + 896040 }
+        requires far { to ≤ 549755813888 }
+        requires entries { self.old.entries ≡ [] }
+        requires samples { self.old.samples ≡ no_samples }
+        ensures at { self.new.at ≡ to }
+        ensures run { IsRunTo self.old.console to self.new.console self.new.entries self.new.samples }
+        ensures entries { length self.new.entries ≤ 52500 }
+        ensures samples { length self.new.samples.levels ≤ 896 }
+    {
+        if let Some(shared) = self.shared.take() {
+            let core = taken(shared, &mut self.chips, &mut self.bounds, &mut self.journal);
+            let after = run_workers(rt, core, self.at, to, workers, gate);
+            let (shared, chips, bounds, journal) = after.into_parts();
             self.shared = Some(shared);
             self.chips = chips;
             self.bounds = bounds;

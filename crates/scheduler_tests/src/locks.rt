@@ -20,6 +20,7 @@ fn first_section<C: ChipSet, N: Named, L0: Ledger, L1: Ledger, L2: Ledger, L3: L
 ) -> Option<(Turn, Option<Key>)>
     requires base { C.core_of N.base ≡ record core { room = 0 } }
     requires end { N.end ≡ t }
+    requires places { N.room ≡ core.room }
     requires time { t ≤ 2 ^ 50 }
     requires empty { core.journal ≡ [] }
     requires room { all_moves_left C.rules t (machine_of C.rules core) ≤ core.room }
@@ -51,6 +52,7 @@ fn moves_alone<
 >(rt: &R, core: Core<C>, t: u64, blanks: Blanks<L0, L1, L2, L3, L4>) -> Option<[u32; 5]>
     requires base { C.core_of N.base ≡ record core { room = 0 } }
     requires end { N.end ≡ t }
+    requires places { N.room ≡ core.room }
     requires time { t ≤ 2 ^ 50 }
     requires empty { core.journal ≡ [] }
     requires room { all_moves_left C.rules t (machine_of C.rules core) ≤ core.room }

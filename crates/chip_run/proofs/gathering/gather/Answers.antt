@@ -1,5 +1,6 @@
-use Rattle.std.proofs.Common.{sym, subst, arith, [], ◌∷◌, vec_capacity}
+use Rattle.std.proofs.Common.{sym, subst, arith, [], ◌∷◌, vec_capacity, ap, ◌∙◌}
 use Rattle.chip_core.specs.Chips.{Lawful}
+use Rattle.chip_core.specs.Cores.{CoreValue}
 use Rattle.chip_run.specs.Locked.{IsLocked}
 use Rattle.chip_run.specs.Parts.{PartsValue}
 use Rattle.chip_run.proofs.Gathers.{gathered-first, gathered-room, gathered-run, gathered-shape}
@@ -78,5 +79,10 @@ put_chip-requires-5-clause-room g c κs within = λ low.
 pub make-requires-after_bounds : goal.make-requires-after_bounds
 make-requires-after_bounds g c κs within = gathered-shape g.C.ChipSet.rules g.C.ChipSet.chip_ok g.C.ChipSet.shared_ok (lawful g) (g.C.ChipSet.core_of g.N.Named.base) g.N.Named.end (record { end = c.parts-2.inside.end; shared = c.parts-2.inside.shared; bounds = c.parts-2.inside.bounds.items; journal = c.parts-2.inside.journal.items; room = vec_capacity c.parts-2.inside.journal }) (c.parts.inside.book0.total ∷ c.parts.inside.book1.total ∷ c.parts.inside.book2.total ∷ c.parts.inside.book3.total ∷ c.parts.inside.book4.total ∷ []) (subst (λ (p : PartsValue g.row.C-Shared.Denot). IsLocked g.C.ChipSet.rules g.C.ChipSet.chip_ok g.C.ChipSet.shared_ok (g.C.ChipSet.core_of g.N.Named.base) g.N.Named.end p (c.parts.inside.book0.total ∷ c.parts.inside.book1.total ∷ c.parts.inside.book2.total ∷ c.parts.inside.book3.total ∷ c.parts.inside.book4.total ∷ [])) (sym c.parts-2.view_is) c.parts.invariant.0) c.put_chip-5.new.chips.items (c.put_chip-5.ensures.gathered (subst (λ (p : PartsValue g.row.C-Shared.Denot). IsLocked g.C.ChipSet.rules g.C.ChipSet.chip_ok g.C.ChipSet.shared_ok (g.C.ChipSet.core_of g.N.Named.base) g.N.Named.end p (c.parts.inside.book0.total ∷ c.parts.inside.book1.total ∷ c.parts.inside.book2.total ∷ c.parts.inside.book3.total ∷ c.parts.inside.book4.total ∷ [])) (sym c.parts-2.view_is) c.parts.invariant.0).machine (λ h. (subst (λ (p : PartsValue g.row.C-Shared.Denot). IsLocked g.C.ChipSet.rules g.C.ChipSet.chip_ok g.C.ChipSet.shared_ok (g.C.ChipSet.core_of g.N.Named.base) g.N.Named.end p (c.parts.inside.book0.total ∷ c.parts.inside.book1.total ∷ c.parts.inside.book2.total ∷ c.parts.inside.book3.total ∷ c.parts.inside.book4.total ∷ [])) (sym c.parts-2.view_is) c.parts.invariant.0).stands.path 4 h) (c.put_chip-4.ensures.gathered (subst (λ (p : PartsValue g.row.C-Shared.Denot). IsLocked g.C.ChipSet.rules g.C.ChipSet.chip_ok g.C.ChipSet.shared_ok (g.C.ChipSet.core_of g.N.Named.base) g.N.Named.end p (c.parts.inside.book0.total ∷ c.parts.inside.book1.total ∷ c.parts.inside.book2.total ∷ c.parts.inside.book3.total ∷ c.parts.inside.book4.total ∷ [])) (sym c.parts-2.view_is) c.parts.invariant.0).machine (λ h. (subst (λ (p : PartsValue g.row.C-Shared.Denot). IsLocked g.C.ChipSet.rules g.C.ChipSet.chip_ok g.C.ChipSet.shared_ok (g.C.ChipSet.core_of g.N.Named.base) g.N.Named.end p (c.parts.inside.book0.total ∷ c.parts.inside.book1.total ∷ c.parts.inside.book2.total ∷ c.parts.inside.book3.total ∷ c.parts.inside.book4.total ∷ [])) (sym c.parts-2.view_is) c.parts.invariant.0).stands.path 3 h) (c.put_chip-3.ensures.gathered (subst (λ (p : PartsValue g.row.C-Shared.Denot). IsLocked g.C.ChipSet.rules g.C.ChipSet.chip_ok g.C.ChipSet.shared_ok (g.C.ChipSet.core_of g.N.Named.base) g.N.Named.end p (c.parts.inside.book0.total ∷ c.parts.inside.book1.total ∷ c.parts.inside.book2.total ∷ c.parts.inside.book3.total ∷ c.parts.inside.book4.total ∷ [])) (sym c.parts-2.view_is) c.parts.invariant.0).machine (λ h. (subst (λ (p : PartsValue g.row.C-Shared.Denot). IsLocked g.C.ChipSet.rules g.C.ChipSet.chip_ok g.C.ChipSet.shared_ok (g.C.ChipSet.core_of g.N.Named.base) g.N.Named.end p (c.parts.inside.book0.total ∷ c.parts.inside.book1.total ∷ c.parts.inside.book2.total ∷ c.parts.inside.book3.total ∷ c.parts.inside.book4.total ∷ [])) (sym c.parts-2.view_is) c.parts.invariant.0).stands.path 2 h) (c.put_chip-2.ensures.gathered (subst (λ (p : PartsValue g.row.C-Shared.Denot). IsLocked g.C.ChipSet.rules g.C.ChipSet.chip_ok g.C.ChipSet.shared_ok (g.C.ChipSet.core_of g.N.Named.base) g.N.Named.end p (c.parts.inside.book0.total ∷ c.parts.inside.book1.total ∷ c.parts.inside.book2.total ∷ c.parts.inside.book3.total ∷ c.parts.inside.book4.total ∷ [])) (sym c.parts-2.view_is) c.parts.invariant.0).machine (λ h. (subst (λ (p : PartsValue g.row.C-Shared.Denot). IsLocked g.C.ChipSet.rules g.C.ChipSet.chip_ok g.C.ChipSet.shared_ok (g.C.ChipSet.core_of g.N.Named.base) g.N.Named.end p (c.parts.inside.book0.total ∷ c.parts.inside.book1.total ∷ c.parts.inside.book2.total ∷ c.parts.inside.book3.total ∷ c.parts.inside.book4.total ∷ [])) (sym c.parts-2.view_is) c.parts.invariant.0).stands.path 1 h) (c.put_chip.ensures.gathered (subst (λ (p : PartsValue g.row.C-Shared.Denot). IsLocked g.C.ChipSet.rules g.C.ChipSet.chip_ok g.C.ChipSet.shared_ok (g.C.ChipSet.core_of g.N.Named.base) g.N.Named.end p (c.parts.inside.book0.total ∷ c.parts.inside.book1.total ∷ c.parts.inside.book2.total ∷ c.parts.inside.book3.total ∷ c.parts.inside.book4.total ∷ [])) (sym c.parts-2.view_is) c.parts.invariant.0).machine (λ h. (subst (λ (p : PartsValue g.row.C-Shared.Denot). IsLocked g.C.ChipSet.rules g.C.ChipSet.chip_ok g.C.ChipSet.shared_ok (g.C.ChipSet.core_of g.N.Named.base) g.N.Named.end p (c.parts.inside.book0.total ∷ c.parts.inside.book1.total ∷ c.parts.inside.book2.total ∷ c.parts.inside.book3.total ∷ c.parts.inside.book4.total ∷ [])) (sym c.parts-2.view_is) c.parts.invariant.0).stands.path 0 h) (gathered-first g.C.ChipSet.rules g.C.ChipSet.chip_ok g.C.ChipSet.shared_ok (lawful g) (subst (λ (p : PartsValue g.row.C-Shared.Denot). IsLocked g.C.ChipSet.rules g.C.ChipSet.chip_ok g.C.ChipSet.shared_ok (g.C.ChipSet.core_of g.N.Named.base) g.N.Named.end p (c.parts.inside.book0.total ∷ c.parts.inside.book1.total ∷ c.parts.inside.book2.total ∷ c.parts.inside.book3.total ∷ c.parts.inside.book4.total ∷ [])) (sym c.parts-2.view_is) c.parts.invariant.0).machine g.N.Named.end c.parts.inside.emptied.items c.parts.invariant.1))))))
 
-pub returns : goal.returns
-returns g c = gathered-run g.C.ChipSet.rules g.C.ChipSet.chip_ok g.C.ChipSet.shared_ok (lawful g) (g.C.ChipSet.core_of g.N.Named.base) g.N.Named.end (record { end = c.parts-2.inside.end; shared = c.parts-2.inside.shared; bounds = c.parts-2.inside.bounds.items; journal = c.parts-2.inside.journal.items; room = vec_capacity c.parts-2.inside.journal }) (c.parts.inside.book0.total ∷ c.parts.inside.book1.total ∷ c.parts.inside.book2.total ∷ c.parts.inside.book3.total ∷ c.parts.inside.book4.total ∷ []) (subst (λ (p : PartsValue g.row.C-Shared.Denot). IsLocked g.C.ChipSet.rules g.C.ChipSet.chip_ok g.C.ChipSet.shared_ok (g.C.ChipSet.core_of g.N.Named.base) g.N.Named.end p (c.parts.inside.book0.total ∷ c.parts.inside.book1.total ∷ c.parts.inside.book2.total ∷ c.parts.inside.book3.total ∷ c.parts.inside.book4.total ∷ [])) (sym c.parts-2.view_is) c.parts.invariant.0) c.put_chip-5.new.chips.items (c.put_chip-5.ensures.gathered (subst (λ (p : PartsValue g.row.C-Shared.Denot). IsLocked g.C.ChipSet.rules g.C.ChipSet.chip_ok g.C.ChipSet.shared_ok (g.C.ChipSet.core_of g.N.Named.base) g.N.Named.end p (c.parts.inside.book0.total ∷ c.parts.inside.book1.total ∷ c.parts.inside.book2.total ∷ c.parts.inside.book3.total ∷ c.parts.inside.book4.total ∷ [])) (sym c.parts-2.view_is) c.parts.invariant.0).machine (λ h. (subst (λ (p : PartsValue g.row.C-Shared.Denot). IsLocked g.C.ChipSet.rules g.C.ChipSet.chip_ok g.C.ChipSet.shared_ok (g.C.ChipSet.core_of g.N.Named.base) g.N.Named.end p (c.parts.inside.book0.total ∷ c.parts.inside.book1.total ∷ c.parts.inside.book2.total ∷ c.parts.inside.book3.total ∷ c.parts.inside.book4.total ∷ [])) (sym c.parts-2.view_is) c.parts.invariant.0).stands.path 4 h) (c.put_chip-4.ensures.gathered (subst (λ (p : PartsValue g.row.C-Shared.Denot). IsLocked g.C.ChipSet.rules g.C.ChipSet.chip_ok g.C.ChipSet.shared_ok (g.C.ChipSet.core_of g.N.Named.base) g.N.Named.end p (c.parts.inside.book0.total ∷ c.parts.inside.book1.total ∷ c.parts.inside.book2.total ∷ c.parts.inside.book3.total ∷ c.parts.inside.book4.total ∷ [])) (sym c.parts-2.view_is) c.parts.invariant.0).machine (λ h. (subst (λ (p : PartsValue g.row.C-Shared.Denot). IsLocked g.C.ChipSet.rules g.C.ChipSet.chip_ok g.C.ChipSet.shared_ok (g.C.ChipSet.core_of g.N.Named.base) g.N.Named.end p (c.parts.inside.book0.total ∷ c.parts.inside.book1.total ∷ c.parts.inside.book2.total ∷ c.parts.inside.book3.total ∷ c.parts.inside.book4.total ∷ [])) (sym c.parts-2.view_is) c.parts.invariant.0).stands.path 3 h) (c.put_chip-3.ensures.gathered (subst (λ (p : PartsValue g.row.C-Shared.Denot). IsLocked g.C.ChipSet.rules g.C.ChipSet.chip_ok g.C.ChipSet.shared_ok (g.C.ChipSet.core_of g.N.Named.base) g.N.Named.end p (c.parts.inside.book0.total ∷ c.parts.inside.book1.total ∷ c.parts.inside.book2.total ∷ c.parts.inside.book3.total ∷ c.parts.inside.book4.total ∷ [])) (sym c.parts-2.view_is) c.parts.invariant.0).machine (λ h. (subst (λ (p : PartsValue g.row.C-Shared.Denot). IsLocked g.C.ChipSet.rules g.C.ChipSet.chip_ok g.C.ChipSet.shared_ok (g.C.ChipSet.core_of g.N.Named.base) g.N.Named.end p (c.parts.inside.book0.total ∷ c.parts.inside.book1.total ∷ c.parts.inside.book2.total ∷ c.parts.inside.book3.total ∷ c.parts.inside.book4.total ∷ [])) (sym c.parts-2.view_is) c.parts.invariant.0).stands.path 2 h) (c.put_chip-2.ensures.gathered (subst (λ (p : PartsValue g.row.C-Shared.Denot). IsLocked g.C.ChipSet.rules g.C.ChipSet.chip_ok g.C.ChipSet.shared_ok (g.C.ChipSet.core_of g.N.Named.base) g.N.Named.end p (c.parts.inside.book0.total ∷ c.parts.inside.book1.total ∷ c.parts.inside.book2.total ∷ c.parts.inside.book3.total ∷ c.parts.inside.book4.total ∷ [])) (sym c.parts-2.view_is) c.parts.invariant.0).machine (λ h. (subst (λ (p : PartsValue g.row.C-Shared.Denot). IsLocked g.C.ChipSet.rules g.C.ChipSet.chip_ok g.C.ChipSet.shared_ok (g.C.ChipSet.core_of g.N.Named.base) g.N.Named.end p (c.parts.inside.book0.total ∷ c.parts.inside.book1.total ∷ c.parts.inside.book2.total ∷ c.parts.inside.book3.total ∷ c.parts.inside.book4.total ∷ [])) (sym c.parts-2.view_is) c.parts.invariant.0).stands.path 1 h) (c.put_chip.ensures.gathered (subst (λ (p : PartsValue g.row.C-Shared.Denot). IsLocked g.C.ChipSet.rules g.C.ChipSet.chip_ok g.C.ChipSet.shared_ok (g.C.ChipSet.core_of g.N.Named.base) g.N.Named.end p (c.parts.inside.book0.total ∷ c.parts.inside.book1.total ∷ c.parts.inside.book2.total ∷ c.parts.inside.book3.total ∷ c.parts.inside.book4.total ∷ [])) (sym c.parts-2.view_is) c.parts.invariant.0).machine (λ h. (subst (λ (p : PartsValue g.row.C-Shared.Denot). IsLocked g.C.ChipSet.rules g.C.ChipSet.chip_ok g.C.ChipSet.shared_ok (g.C.ChipSet.core_of g.N.Named.base) g.N.Named.end p (c.parts.inside.book0.total ∷ c.parts.inside.book1.total ∷ c.parts.inside.book2.total ∷ c.parts.inside.book3.total ∷ c.parts.inside.book4.total ∷ [])) (sym c.parts-2.view_is) c.parts.invariant.0).stands.path 0 h) (gathered-first g.C.ChipSet.rules g.C.ChipSet.chip_ok g.C.ChipSet.shared_ok (lawful g) (subst (λ (p : PartsValue g.row.C-Shared.Denot). IsLocked g.C.ChipSet.rules g.C.ChipSet.chip_ok g.C.ChipSet.shared_ok (g.C.ChipSet.core_of g.N.Named.base) g.N.Named.end p (c.parts.inside.book0.total ∷ c.parts.inside.book1.total ∷ c.parts.inside.book2.total ∷ c.parts.inside.book3.total ∷ c.parts.inside.book4.total ∷ [])) (sym c.parts-2.view_is) c.parts.invariant.0).machine g.N.Named.end c.parts.inside.emptied.items c.parts.invariant.1)))))) c.make.result c.make.ensures
+pub returns-clause-run : goal.returns-clause-run
+returns-clause-run g c = gathered-run g.C.ChipSet.rules g.C.ChipSet.chip_ok g.C.ChipSet.shared_ok (lawful g) (g.C.ChipSet.core_of g.N.Named.base) g.N.Named.end (record { end = c.parts-2.inside.end; shared = c.parts-2.inside.shared; bounds = c.parts-2.inside.bounds.items; journal = c.parts-2.inside.journal.items; room = vec_capacity c.parts-2.inside.journal }) (c.parts.inside.book0.total ∷ c.parts.inside.book1.total ∷ c.parts.inside.book2.total ∷ c.parts.inside.book3.total ∷ c.parts.inside.book4.total ∷ []) (subst (λ (p : PartsValue g.row.C-Shared.Denot). IsLocked g.C.ChipSet.rules g.C.ChipSet.chip_ok g.C.ChipSet.shared_ok (g.C.ChipSet.core_of g.N.Named.base) g.N.Named.end p (c.parts.inside.book0.total ∷ c.parts.inside.book1.total ∷ c.parts.inside.book2.total ∷ c.parts.inside.book3.total ∷ c.parts.inside.book4.total ∷ [])) (sym c.parts-2.view_is) c.parts.invariant.0) c.put_chip-5.new.chips.items (c.put_chip-5.ensures.gathered (subst (λ (p : PartsValue g.row.C-Shared.Denot). IsLocked g.C.ChipSet.rules g.C.ChipSet.chip_ok g.C.ChipSet.shared_ok (g.C.ChipSet.core_of g.N.Named.base) g.N.Named.end p (c.parts.inside.book0.total ∷ c.parts.inside.book1.total ∷ c.parts.inside.book2.total ∷ c.parts.inside.book3.total ∷ c.parts.inside.book4.total ∷ [])) (sym c.parts-2.view_is) c.parts.invariant.0).machine (λ h. (subst (λ (p : PartsValue g.row.C-Shared.Denot). IsLocked g.C.ChipSet.rules g.C.ChipSet.chip_ok g.C.ChipSet.shared_ok (g.C.ChipSet.core_of g.N.Named.base) g.N.Named.end p (c.parts.inside.book0.total ∷ c.parts.inside.book1.total ∷ c.parts.inside.book2.total ∷ c.parts.inside.book3.total ∷ c.parts.inside.book4.total ∷ [])) (sym c.parts-2.view_is) c.parts.invariant.0).stands.path 4 h) (c.put_chip-4.ensures.gathered (subst (λ (p : PartsValue g.row.C-Shared.Denot). IsLocked g.C.ChipSet.rules g.C.ChipSet.chip_ok g.C.ChipSet.shared_ok (g.C.ChipSet.core_of g.N.Named.base) g.N.Named.end p (c.parts.inside.book0.total ∷ c.parts.inside.book1.total ∷ c.parts.inside.book2.total ∷ c.parts.inside.book3.total ∷ c.parts.inside.book4.total ∷ [])) (sym c.parts-2.view_is) c.parts.invariant.0).machine (λ h. (subst (λ (p : PartsValue g.row.C-Shared.Denot). IsLocked g.C.ChipSet.rules g.C.ChipSet.chip_ok g.C.ChipSet.shared_ok (g.C.ChipSet.core_of g.N.Named.base) g.N.Named.end p (c.parts.inside.book0.total ∷ c.parts.inside.book1.total ∷ c.parts.inside.book2.total ∷ c.parts.inside.book3.total ∷ c.parts.inside.book4.total ∷ [])) (sym c.parts-2.view_is) c.parts.invariant.0).stands.path 3 h) (c.put_chip-3.ensures.gathered (subst (λ (p : PartsValue g.row.C-Shared.Denot). IsLocked g.C.ChipSet.rules g.C.ChipSet.chip_ok g.C.ChipSet.shared_ok (g.C.ChipSet.core_of g.N.Named.base) g.N.Named.end p (c.parts.inside.book0.total ∷ c.parts.inside.book1.total ∷ c.parts.inside.book2.total ∷ c.parts.inside.book3.total ∷ c.parts.inside.book4.total ∷ [])) (sym c.parts-2.view_is) c.parts.invariant.0).machine (λ h. (subst (λ (p : PartsValue g.row.C-Shared.Denot). IsLocked g.C.ChipSet.rules g.C.ChipSet.chip_ok g.C.ChipSet.shared_ok (g.C.ChipSet.core_of g.N.Named.base) g.N.Named.end p (c.parts.inside.book0.total ∷ c.parts.inside.book1.total ∷ c.parts.inside.book2.total ∷ c.parts.inside.book3.total ∷ c.parts.inside.book4.total ∷ [])) (sym c.parts-2.view_is) c.parts.invariant.0).stands.path 2 h) (c.put_chip-2.ensures.gathered (subst (λ (p : PartsValue g.row.C-Shared.Denot). IsLocked g.C.ChipSet.rules g.C.ChipSet.chip_ok g.C.ChipSet.shared_ok (g.C.ChipSet.core_of g.N.Named.base) g.N.Named.end p (c.parts.inside.book0.total ∷ c.parts.inside.book1.total ∷ c.parts.inside.book2.total ∷ c.parts.inside.book3.total ∷ c.parts.inside.book4.total ∷ [])) (sym c.parts-2.view_is) c.parts.invariant.0).machine (λ h. (subst (λ (p : PartsValue g.row.C-Shared.Denot). IsLocked g.C.ChipSet.rules g.C.ChipSet.chip_ok g.C.ChipSet.shared_ok (g.C.ChipSet.core_of g.N.Named.base) g.N.Named.end p (c.parts.inside.book0.total ∷ c.parts.inside.book1.total ∷ c.parts.inside.book2.total ∷ c.parts.inside.book3.total ∷ c.parts.inside.book4.total ∷ [])) (sym c.parts-2.view_is) c.parts.invariant.0).stands.path 1 h) (c.put_chip.ensures.gathered (subst (λ (p : PartsValue g.row.C-Shared.Denot). IsLocked g.C.ChipSet.rules g.C.ChipSet.chip_ok g.C.ChipSet.shared_ok (g.C.ChipSet.core_of g.N.Named.base) g.N.Named.end p (c.parts.inside.book0.total ∷ c.parts.inside.book1.total ∷ c.parts.inside.book2.total ∷ c.parts.inside.book3.total ∷ c.parts.inside.book4.total ∷ [])) (sym c.parts-2.view_is) c.parts.invariant.0).machine (λ h. (subst (λ (p : PartsValue g.row.C-Shared.Denot). IsLocked g.C.ChipSet.rules g.C.ChipSet.chip_ok g.C.ChipSet.shared_ok (g.C.ChipSet.core_of g.N.Named.base) g.N.Named.end p (c.parts.inside.book0.total ∷ c.parts.inside.book1.total ∷ c.parts.inside.book2.total ∷ c.parts.inside.book3.total ∷ c.parts.inside.book4.total ∷ [])) (sym c.parts-2.view_is) c.parts.invariant.0).stands.path 0 h) (gathered-first g.C.ChipSet.rules g.C.ChipSet.chip_ok g.C.ChipSet.shared_ok (lawful g) (subst (λ (p : PartsValue g.row.C-Shared.Denot). IsLocked g.C.ChipSet.rules g.C.ChipSet.chip_ok g.C.ChipSet.shared_ok (g.C.ChipSet.core_of g.N.Named.base) g.N.Named.end p (c.parts.inside.book0.total ∷ c.parts.inside.book1.total ∷ c.parts.inside.book2.total ∷ c.parts.inside.book3.total ∷ c.parts.inside.book4.total ∷ [])) (sym c.parts-2.view_is) c.parts.invariant.0).machine g.N.Named.end c.parts.inside.emptied.items c.parts.invariant.1)))))) c.make.result c.make.ensures
+
+pub returns-clause-room : goal.returns-clause-room
+returns-clause-room g c =
+    ap (λ (v : CoreValue g.row.C-Chip.Denot g.row.C-Shared.Denot). v.room) c.make.ensures
+    ∙ ap (λ (p : PartsValue g.row.C-Shared.Denot). p.room) c.parts-2.view_is ∙ c.parts.invariant.3

@@ -1,0 +1,30 @@
+use Rattle.std.proofs.Common.{◌-◌, arith, lit<}
+use Rattle.chip_core.specs.Cores.{machine_of}
+use Rattle.chip_core.specs.Machines.{IsSound, Machine}
+use Rattle.bus_shared.specs.Board.{Board, IsBoard}
+use Rattle.md_machine.specs.Rules.{IsChip, five}
+use Rattle.md_machine.specs.declared.chips.Chip.{Chip}
+use Rattle.md_machine.proofs.Segments.{at_most, batches-few, few_entries, fm_batches-few, segment-run, within-few}
+use Rattle.md_machine.proofs.runs.know_segments.Goals as goal
+
+pub returns-clause-few : goal.returns-clause-few
+returns-clause-few c = λ v from to quiet near far.
+    omega (arith, c.limits.ensures.within (machine_of five v) from to (omega arith) quiet, within-few (to - from) (omega arith))
+
+pub returns-clause-run : goal.returns-clause-run
+returns-clause-run c = λ v w from to core quiet near far samples after runs.
+    let first : Machine Chip Board = machine_of five v in
+    let sound : IsSound five IsChip IsBoard first = c.stages.ensures.core v core in
+    segment-run first (machine_of five w) to w.journal runs
+    (λ n below. c.stages.ensures.sound first to n (omega arith) sound below) c.stages.ensures.mover
+    (c.stages.ensures.core w after)
+    (λ n below. at_most (c.limits.ensures.made first to n 3 (omega arith) sound below (lit< tt)) (fm_batches-few first from to near quiet))
+    (λ n below. at_most (c.limits.ensures.made first to n 4 (omega arith) sound below (lit< tt)) (batches-few first from to near quiet))
+    samples
+
+pub returns-clause-entries : goal.returns-clause-entries
+returns-clause-entries c = λ v w from to core quiet near far runs.
+    let first : Machine Chip Board = machine_of five v in
+    let sound : IsSound five IsChip IsBoard first = c.stages.ensures.core v core in
+    few_entries first from to runs (c.limits.ensures.entered first to runs.moves (omega arith) sound runs.below)
+    (c.limits.ensures.within first from to (omega arith) quiet) near

@@ -1,0 +1,15 @@
+use Rattle.std.proofs.Common.{length, ap, arith}
+use Rattle.md_machine.proofs.runs.run_alone.Goals as goal
+
+pub room-requires-clause-room : goal.room-requires-clause-room
+room-requires-clause-room c = λ l. omega (arith, c.know_segments.ensures.few c.args.core c.args.from c.args.to c.requires.quiet c.requires.near c.requires.far, ap length c.requires.entries)
+
+pub returns-clause-run : goal.returns-clause-run
+returns-clause-run c =
+    c.know_segments.ensures.run c.args.core c.run_least.new.core c.args.from c.args.to c.requires.core c.requires.quiet c.requires.near c.requires.far c.requires.samples
+    c.run_least.ensures.core (c.run_least.ensures.first c.requires.entries)
+
+pub returns-clause-entries : goal.returns-clause-entries
+returns-clause-entries c =
+    c.know_segments.ensures.entries c.args.core c.run_least.new.core c.args.from c.args.to c.requires.core c.requires.quiet c.requires.near c.requires.far
+    (c.run_least.ensures.first c.requires.entries)

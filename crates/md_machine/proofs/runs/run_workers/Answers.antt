@@ -1,0 +1,14 @@
+use Rattle.std.proofs.Common.{arith}
+use Rattle.md_machine.proofs.runs.run_workers.Goals as goal
+
+pub run_core-requires-clause-room : goal.run_core-requires-clause-room
+run_core-requires-clause-room g c κs within = omega (arith, c.know_segments.ensures.few c.args.core c.args.from c.args.to c.requires.quiet c.requires.near c.requires.far)
+
+pub returns-clause-run : goal.returns-clause-run
+returns-clause-run g c =
+    c.know_segments.ensures.run c.args.core c.run_core.result c.args.from c.args.to c.requires.core c.requires.quiet c.requires.near c.requires.far c.requires.samples
+    c.run_core.ensures.core c.run_core.ensures.run
+
+pub returns-clause-entries : goal.returns-clause-entries
+returns-clause-entries g c =
+    c.know_segments.ensures.entries c.args.core c.run_core.result c.args.from c.args.to c.requires.core c.requires.quiet c.requires.near c.requires.far c.run_core.ensures.run

@@ -1,0 +1,108 @@
+ghost use Rattle.std.specs.Prelude.{◌≡◌, ℕ, ◌≤◌, ◌+◌, Some, [], length, vec_capacity};
+ghost use Rattle.chip_core.specs.Cores.{CoreValue, IsCore, machine_of};
+ghost use Rattle.chip_core.specs.Limits.{all_moves_left};
+ghost use Rattle.chip_core.specs.Machines as machines;
+ghost use Rattle.md_machine.specs.Console.{IsRunTo};
+ghost use Rattle.md_machine.specs.Machines.{core_in, kept_in};
+ghost use Rattle.bus_shared.specs.Board.{Board, IsBoard};
+ghost use Rattle.md_machine.specs.Refinement.{console};
+ghost use Rattle.md_machine.specs.Rules.{IsChip, five};
+ghost use Rattle.md_machine.specs.Samples.{no_samples};
+ghost use Rattle.md_machine.specs.declared.chips.Chip.{Chip};
+
+use crate::chips::Chip;
+use crate::set::MdChips;
+use bus_shared::Shared;
+use chip_core::{Core, laws};
+use md_outer::Gate;
+use md_word::{Entry, Key};
+use std::mem;
+use std::sync::Wait;
+use std::thread::Threads;
+
+/// The core of the machine's parts, taken out of their places.
+pub(crate) fn taken(
+    shared: Shared,
+    chips: &mut Vec<Chip>,
+    bounds: &mut Vec<Key>,
+    journal: &mut Vec<Entry>,
+) -> Core<MdChips>
+    requires { IsCore five IsChip IsBoard (core_in (Some shared) chips.old.items bounds.old.items journal.old.items (vec_capacity journal.old)) }
+    ensures { result ≡ core_in (Some shared) chips.old.items bounds.old.items journal.old.items (vec_capacity journal.old) }
+{
+    let alloc = *chips.allocator();
+    let chips = mem::replace(chips, Vec::new(alloc));
+    let bounds = mem::replace(bounds, Vec::new(alloc));
+    let journal = mem::replace(journal, Vec::new(alloc));
+    Core::make(shared, chips, bounds, journal)
+}
+
+/// Runs all events below a cycle, at most those of a segment, and waits for nobody.
+pub(crate) fn run_alone(core: Core<MdChips>, from: u64, to: u64) -> Core<MdChips>
+    requires core { IsCore five IsChip IsBoard core }
+    requires quiet { machines.IsQuiet five (machine_of five core) from }
+    requires near { to ≤ from + 896040 }
+    requires far { to ≤ 549755813888 }
+    requires room { 52500 ≤ core.room }
+    requires entries { core.journal ≡ [] }
+    requires samples { kept_in (machine_of five core) ≡ no_samples }
+    ensures core { IsCore five IsChip IsBoard result }
+    ensures room { result.room ≡ core.room }
+    ensures run { IsRunTo (console (machine_of five core)) to (console (machine_of five result))
+        result.journal (kept_in (machine_of five result)) }
+    ensures quiet { machines.IsQuiet five (machine_of five result) to }
+    ensures entries { length result.journal ≤ 52500 }
+{
+    know_segments();
+    let mut core = core;
+    laws::room(&core, to);
+    laws::run_least(&mut core, to);
+    core
+}
+
+/// The same with so many workers, of which the caller is the last.
+pub(crate) fn run_workers<R: Threads + Wait + Sync, G: Gate>(
+    rt: &R,
+    core: Core<MdChips>,
+    from: u64,
+    to: u64,
+    workers: u32,
+    gate: &G,
+) -> Core<MdChips>
+    requires core { IsCore five IsChip IsBoard core }
+    requires quiet { machines.IsQuiet five (machine_of five core) from }
+    requires near { to ≤ from + 896040 }
+    requires far { to ≤ 549755813888 }
+    requires room { 52500 ≤ core.room }
+    requires entries { core.journal ≡ [] }
+    requires samples { kept_in (machine_of five core) ≡ no_samples }
+    requires some { 1 ≤ workers }
+    requires few { workers ≤ 5 }
+    ensures core { IsCore five IsChip IsBoard result }
+    ensures room { result.room ≡ core.room }
+    ensures run { IsRunTo (console (machine_of five core)) to (console (machine_of five result))
+        result.journal (kept_in (machine_of five result)) }
+    ensures quiet { machines.IsQuiet five (machine_of five result) to }
+    ensures entries { length result.journal ≤ 52500 }
+{
+    know_segments();
+    chip_run::run_core(rt, core, to, workers, gate)
+}
+
+/// What a run of the five chips over a segment is, whoever made it.
+fn know_segments()
+    ensures few { (v : CoreValue Chip Board) (from to : ℕ) → machines.IsQuiet five (machine_of five v) from
+        → to ≤ from + 896040 → to ≤ 549755813888 → all_moves_left five to (machine_of five v) ≤ 52500 }
+    ensures run { (v w : CoreValue Chip Board) (from to : ℕ) → IsCore five IsChip IsBoard v
+        → machines.IsQuiet five (machine_of five v) from → to ≤ from + 896040 → to ≤ 549755813888
+        → kept_in (machine_of five v) ≡ no_samples
+        → IsCore five IsChip IsBoard w → machines.IsRunTo five (machine_of five v) to (machine_of five w) w.journal
+        → IsRunTo (console (machine_of five v)) to (console (machine_of five w)) w.journal (kept_in (machine_of five w)) }
+    ensures entries { (v w : CoreValue Chip Board) (from to : ℕ) → IsCore five IsChip IsBoard v
+        → machines.IsQuiet five (machine_of five v) from → to ≤ from + 896040 → to ≤ 549755813888
+        → machines.IsRunTo five (machine_of five v) to (machine_of five w) w.journal
+        → length w.journal ≤ 52500 }
+{
+    laws::stages::<MdChips>();
+    laws::limits::<MdChips>();
+}
