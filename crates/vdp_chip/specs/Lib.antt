@@ -1,3 +1,4 @@
 pub mod Picture
 pub mod Drawing
 pub mod Kept
+pub mod Frames

@@ -4,6 +4,7 @@
 
 mod chip;
 mod kept;
+pub mod laws;
 mod picture;
 
 pub use chip::ChipVdp;

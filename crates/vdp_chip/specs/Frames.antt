@@ -1,0 +1,30 @@
+-- A whole frame by the events of its lines. This project's profile.
+use Rattle.std.specs.Prelude.{◌≡◌, ℕ, ◌+◌, List, [], ◌∷◌, ◌++◌, length, Some}
+use Rattle.vdp_time.specs.Lines.{line_of}
+use Rattle.vdp_planes.specs.declared.view.Dot.{Dot}
+use Rattle.vdp_planes.specs.declared.view.LineView.{LineView}
+use Rattle.vdp_planes.specs.declared.view.SpriteNote.{SpriteNote}
+use Rattle.vdp_chip.specs.Picture.{height, row_of}
+use Rattle.vdp_chip.specs.Drawing.{Drawing, line_drawn}
+
+-- what the event of a line finds: the view, the dots of the sprites and their note
+pub record Line : Type 0 where
+  pub view : LineView
+  pub sprites : List Dot
+  pub note : SpriteNote
+
+-- the rows of lines that follow one another, of which the first is line y
+unfoldable pub rows_from : ℕ → List Line → List ℕ
+rows_from y [] = []
+rows_from y (first ∷ rest) = row_of first.view first.sprites y ++ rows_from (y + 1) rest
+
+-- behind the events of lines that follow one another
+unfoldable pub after : List Line → Drawing → Drawing
+after [] d = d
+after (first ∷ rest) d = after rest (line_drawn first.view first.sprites first.note d)
+
+-- from line 0 on: behind the events of the picture's lines and of the one behind it the frame is their
+-- rows, each as its own event found it
+abbrev pub IsItsRows : Drawing → Type 0
+IsItsRows d = (lines : List Line) (last : Line) → line_of d.next ≡ 0 → length lines ≡ height
+    → (after (lines ++ (last ∷ [])) d).frame ≡ Some (rows_from 0 lines)
