@@ -13,3 +13,5 @@ mod decode;
 mod names;
 #[cfg(test)]
 mod samples;
+#[cfg(test)]
+mod spelling;
