@@ -1,4 +1,5 @@
 ghost use Rattle.std.specs.Prelude.{◌≡◌, ◌+◌, ◌≤◌, ◌<◌, [], length, IfOk};
+ghost use Rattle.md_machine.specs.Samples.{no_samples};
 
 use md_machine::Machine;
 use md_pads::Recording;
@@ -26,7 +27,7 @@ pub fn idle(alloc: Global) -> Result<Arc<Cart>, Fail> {
 }
 
 /// LEA C00011h,A0; MOVE.B #90h,(A0); and a branch to itself.
-fn beep(alloc: Global) -> Result<Arc<Cart>, Fail> {
+pub fn beep(alloc: Global) -> Result<Arc<Cart>, Fail> {
     let program = [
         0x41, 0xf9, 0x00, 0xc0, 0x00, 0x11, 0x10, 0xbc, 0x00, 0x90, 0x60, 0xfe,
     ];
@@ -42,7 +43,7 @@ pub fn no_recording(alloc: Global) -> Result<Arc<Recording>, Fail> {
 pub fn power_on(alloc: Global, cart: Arc<Cart>) -> Result<Machine, Fail>
     ensures at { IfOk result (λ machine. machine.at ≡ 0) }
     ensures entries { IfOk result (λ machine. machine.entries ≡ []) }
-    ensures levels { IfOk result (λ machine. machine.levels ≡ []) }
+    ensures samples { IfOk result (λ machine. machine.samples ≡ no_samples) }
 {
     let recording = no_recording(alloc)?;
     Machine::power_on(alloc, cart, recording).map_err(|_| Fail::from("no memory"))
@@ -55,10 +56,10 @@ pub fn drained(machine: &mut Machine, alloc: Global, to: u64) -> Result<(Vec<u8>
     requires near { to ≤ machine.old.at + 896040 }
     requires far { to ≤ 549755813888 }
     requires entries { machine.old.entries ≡ [] }
-    requires levels { machine.old.levels ≡ [] }
+    requires samples { machine.old.samples ≡ no_samples }
     ensures at { IfOk result (λ bytes. machine.new.at ≡ to) }
     ensures entries { IfOk result (λ bytes. machine.new.entries ≡ []) }
-    ensures levels { IfOk result (λ bytes. machine.new.levels ≡ []) }
+    ensures samples { IfOk result (λ bytes. machine.new.samples ≡ no_samples) }
 {
     let mut entries = Vec::with_capacity(alloc, 840_000)?;
     let mut pairs = Vec::with_capacity(alloc, 3_584)?;
