@@ -14,4 +14,6 @@ mod sort;
 #[cfg(test)]
 mod video;
 #[cfg(test)]
+mod workers;
+#[cfg(test)]
 mod z80;

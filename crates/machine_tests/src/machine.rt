@@ -27,7 +27,7 @@ pub fn idle(alloc: Global) -> Result<Arc<Cart>, Fail> {
 }
 
 /// LEA C00011h,A0; MOVE.B #90h,(A0); and a branch to itself.
-fn beep(alloc: Global) -> Result<Arc<Cart>, Fail> {
+pub fn beep(alloc: Global) -> Result<Arc<Cart>, Fail> {
     let program = [
         0x41, 0xf9, 0x00, 0xc0, 0x00, 0x11, 0x10, 0xbc, 0x00, 0x90, 0x60, 0xfe,
     ];
