@@ -4,6 +4,8 @@
 #[cfg(test)]
 mod dma;
 #[cfg(test)]
+mod frames;
+#[cfg(test)]
 mod lines;
 #[cfg(test)]
 mod planes;

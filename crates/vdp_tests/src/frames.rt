@@ -1,0 +1,142 @@
+use md_word::clock::{LAST_CYCLE, LINE};
+use std::test::Fail;
+use vdp_chip::ChipVdp;
+use vdp_planes::register::{MODE_2, MODE_4, PLANE_B, SPRITES};
+use vdp_planes::{Dot, fill_view};
+use vdp_ports::VdpState;
+use vdp_sprites::sprite_line;
+
+const CLEAR: Dot = Dot {
+    colour: 0,
+    priority: false,
+};
+
+/// Makes the event of the chip's next line, of this number, from the VDP as it stands.
+fn make_event(chip: &mut ChipVdp, vdp: &VdpState, line: u32) {
+    if !chip.has_view() || chip.next().key.cycle >= LAST_CYCLE {
+        return;
+    }
+    let (mut view, _) = chip.request();
+    fill_view(&mut view, vdp);
+    let mut sprites = [CLEAR; 320];
+    let note = sprite_line(&view, line % 224, &mut sprites);
+    chip.answer_with(view, &sprites, note);
+}
+
+/// The bytes of a dot of the frame that is kept.
+fn dot(chip: &ChipVdp, y: usize, x: usize) -> Option<[u8; 3]> {
+    let frame = chip.frame()?;
+    let at = y.wrapping_mul(320).wrapping_add(x).wrapping_mul(3);
+    match frame.get(at..)? {
+        [red, green, blue, ..] => Some([*red, *green, *blue]),
+        _ => None,
+    }
+}
+
+/// Makes pattern 1 one of index 1.
+fn fill_pattern(vdp: &mut VdpState) {
+    for k in 0..32 {
+        vdp.vram[32 + k] = 0x11;
+    }
+}
+
+/// Fills plane B, at E000h, with pattern 1.
+fn fill_plane(vdp: &mut VdpState) {
+    for k in 0..1024 {
+        vdp.vram[0xe001 + 2 * k] = 1;
+    }
+}
+
+/// Puts a sprite of one cell of colour 49 at (160, 208).
+fn put_sprite(vdp: &mut VdpState) {
+    let sprite = [1, 80, 0, 0, 0x60, 1, 1, 32];
+    for k in 0..8 {
+        vdp.vram[0xf000 + k] = sprite[k];
+    }
+}
+
+fn prepare(vdp: &mut VdpState) {
+    vdp.registers[PLANE_B] = 0x07;
+    vdp.registers[SPRITES] = 0x78;
+    vdp.cram[49] = 0x0e00;
+    fill_pattern(vdp);
+    fill_plane(vdp);
+    put_sprite(vdp);
+}
+
+/// The VDP as it is drawn: lines 0 to 99 with the display off and a red of their own behind, 100 to
+/// 199 in the 256 mode with white behind, the others in the 320 mode.
+fn set_line(vdp: &mut VdpState, line: u16) {
+    if line < 100 {
+        vdp.cram[0] = line % 8 * 2;
+        return;
+    }
+    vdp.registers[MODE_2] = 0x40;
+    vdp.registers[MODE_4] = if line < 200 { 0x00 } else { 0x01 };
+    vdp.cram[0] = 0x0eee;
+}
+
+// Row, place and bytes: each row's own red, the borders of 32 dots, and the sprite of 8 by 8 dots.
+const DOTS: [(usize, usize, [u8; 3]); 14] = [
+    (0, 0, [0, 0, 0]),
+    (3, 0, [108, 0, 0]),
+    (7, 319, [252, 0, 0]),
+    (99, 160, [108, 0, 0]),
+    (100, 0, [252, 252, 252]),
+    (100, 31, [252, 252, 252]),
+    (100, 32, [0, 0, 0]),
+    (199, 287, [0, 0, 0]),
+    (199, 288, [252, 252, 252]),
+    (200, 0, [0, 0, 0]),
+    (207, 160, [0, 0, 0]),
+    (208, 160, [0, 0, 252]),
+    (215, 167, [0, 0, 252]),
+    (216, 167, [0, 0, 0]),
+];
+
+#[test]
+fn a_frame_has_the_rows_of_its_lines(rt: HostRuntime) -> Result<(), Fail> {
+    let alloc = rt.alloc();
+    let mut vdp = VdpState::power_on(alloc)?;
+    let mut chip = ChipVdp::power_on(alloc)?;
+    prepare(&mut vdp);
+    for line in 0..224u16 {
+        set_line(&mut vdp, line);
+        make_event(&mut chip, &vdp, u32::from(line));
+    }
+    assert!(rt; chip.frame().is_none());
+    make_event(&mut chip, &vdp, 224);
+    assert_eq!(rt; chip.next().key.cycle, 225 * LINE);
+    for (y, x, bytes) in DOTS {
+        assert_eq!(rt; dot(&chip, y, x), Some(bytes), "{y} {x}");
+    }
+    Ok(())
+}
+
+// How many events are made, with which colour behind, and the first dot of the frame then: that of
+// the first frame stays until line 224 of the second one.
+const EVENTS: [(u16, u16, Option<[u8; 3]>); 5] = [
+    (224, 0x0eee, None),
+    (1, 0x0eee, Some([252, 252, 252])),
+    (38, 0x000e, Some([252, 252, 252])),
+    (223, 0x000e, Some([252, 252, 252])),
+    (1, 0x00e0, Some([252, 0, 0])),
+];
+
+#[test]
+fn a_frame_stays_while_the_next_one_is_drawn(rt: HostRuntime) -> Result<(), Fail> {
+    let alloc = rt.alloc();
+    let mut vdp = VdpState::power_on(alloc)?;
+    let mut chip = ChipVdp::power_on(alloc)?;
+    for (count, colour, first) in EVENTS {
+        vdp.cram[0] = colour;
+        for _ in 0..count {
+            make_event(&mut chip, &vdp, 0);
+        }
+        assert_eq!(rt; dot(&chip, 0, 0), first, "{count} {colour}");
+    }
+    assert_eq!(rt; chip.next().key.cycle, 487 * LINE);
+    chip.drop_frame();
+    assert!(rt; chip.frame().is_none());
+    Ok(())
+}
