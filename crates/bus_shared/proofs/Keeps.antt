@@ -25,7 +25,8 @@ use Rattle.bus_shared.specs.Laws.{StaysBoard}
 use Rattle.bus_shared.specs.Lines.{counted, requested}
 use Rattle.bus_shared.specs.Video.{both_halves, port_at, port_written, video_byte_written, video_read, video_word_written}
 use Rattle.bus_shared.specs.Z80Space.{granted, is_psg80, space_read, space_written, store_written, with_psg, z80_address}
-use Rattle.bus_shared.proofs.Ports.{acknowledged_bytes, line_started_bytes, port_read_bytes, port_written_bytes, power_on_bytes, taken_bytes}
+use Rattle.vdp_planes.specs.declared.view.SpriteNote.{SpriteNote}
+use Rattle.bus_shared.proofs.Ports.{acknowledged_bytes, line_begun_bytes, port_read_bytes, port_written_bytes, power_on_bytes, taken_bytes}
 use Rattle.z80_parcel.proofs.Writes.{banked_fits, stored_fits}
 use Rattle.z80_parcel.specs.Parcels.{IsStore, Store}
 use Rattle.z80_parcel.specs.Requests.{Asked, ReadByte, WriteByte, HandOver, TakeBack, Fits}
@@ -221,11 +222,11 @@ pads-ok true board pads ok = record { port1 = ok.port1; port2 = ok.port2; held =
 pads-ok false board pads ok = ok
 
 -- the start of a line
-pub line-ok : (board : Board) (cycle : ℕ) → IsBoard board → IsBoard (line_board board cycle)
+pub line-ok : (board : Board) (cycle : ℕ) (note : SpriteNote) → IsBoard board → IsBoard (line_board board cycle note)
 unfolding line_board pads_board
-line-ok board cycle ok =
-    pads-ok (cycle % frame == 224 * line) (video_started board cycle) (pads_of board.recording (cycle / frame))
-    (with-vdp board _ (line_started_bytes cycle board.vdp ok.registers) ok)
+line-ok board cycle note ok =
+    pads-ok (cycle % frame == 224 * line) (video_started board cycle note) (pads_of board.recording (cycle / frame))
+    (with-vdp board _ (line_begun_bytes cycle note board.vdp ok.registers) ok)
 
 -- a batch of the PSG synthesis
 pub psg_board-ok : (board : Board) (cycle : ℕ) → IsBoard board → IsBoard (psg_board board cycle)
@@ -297,7 +298,7 @@ sub-fits board key TakeBack hands ok = taken-fits board.request board.store boar
 pub stays : (board : Board) (key : Key) → IsBoard board → StaysBoard board key
 stays board key ok = record {
   main = λ request low. main-ok board key request low ok;
-  line = λ cycle. line-ok board cycle ok;
+  line = λ cycle note. line-ok board cycle note ok;
   batch = λ cycle. psg_board-ok board cycle ok;
   fm_batch = λ cycle. fm_board-ok board cycle ok;
 }

@@ -10,10 +10,11 @@ use Rattle.vdp_ports.specs.Dma.{copying, dropped, filling, length_of}
 use Rattle.vdp_ports.specs.Data.{accessed, place, put, transferred, written}
 use Rattle.vdp_ports.specs.Control.{acknowledged, armed, bit, controlled, first, second, source_of, started, started_by, starts, status, status_read, stored, transfer_of, transfers}
 use Rattle.vdp_dma.specs.Settling.{advanced, due, finished, is_busy, moved, settled, vram_at}
+use Rattle.vdp_planes.specs.declared.view.SpriteNote.{SpriteNote}
 use Rattle.vdp_time.specs.Lines.{counted, h_blank, h_counter, hv, jumping, line_of, line_started, raised, v_blank, v_counter}
 use Rattle.bus_shared.specs.Board.{AreBytes}
 use Rattle.bus_shared.specs.Laws.{IsTransfer, IsWordCost}
-use Rattle.bus_shared.specs.Video.{half_at, is_shown, is_wide, port_read, port_transfer, port_word, port_written, with_cost, word_cost}
+use Rattle.bus_shared.specs.Video.{half_at, is_shown, is_wide, joined, line_begun, port_read, port_transfer, port_word, port_written, with_cost, word_cost}
 use Rattle.bus_shared.specs.declared.port.VideoPort.{VideoPort}
 use Rattle.bus_shared.specs.declared.port.VideoPort.TheVariants.{Data, Control, Counter, Sound, Unused}
 
@@ -115,10 +116,14 @@ counted-bytes : (number : ℕ) (s : Vdp) → AreBytes s.registers → AreBytes (
 unfolding counted
 counted-bytes number s h = bytes-if (nat_lt number 224) _ _ (bytes-if (s.line_counter == 0) _ _ h h) h
 
-pub line_started_bytes : (cycle : ℕ) (s : Vdp) → AreBytes s.registers → AreBytes (line_started cycle s).registers
+line_started-bytes : (cycle : ℕ) (s : Vdp) → AreBytes s.registers → AreBytes (line_started cycle s).registers
 unfolding line_started raised
-line_started_bytes cycle s h =
+line_started-bytes cycle s h =
     bytes-if (line_of cycle == 224) _ _ (counted-bytes (line_of cycle) s h) (counted-bytes (line_of cycle) s h)
+
+pub line_begun_bytes : (cycle : ℕ) (note : SpriteNote) (s : Vdp) → AreBytes s.registers → AreBytes (line_begun cycle note s).registers
+unfolding line_begun
+line_begun_bytes cycle note s h = line_started-bytes cycle (joined note (settled cycle s)) (settled-bytes cycle s h)
 
 pub power_on_bytes : AreBytes at_power_on.registers
 power_on_bytes = All-replicate (λ (value : ℕ). value < 0x100) 24 0 (lit< tt)

@@ -9,6 +9,7 @@ use Rattle.md_word.specs.declared.key.Key.{Key}
 use Rattle.md_word.specs.declared.main_bus.Request68.{Request68}
 use Rattle.md_word.specs.declared.main_bus.Request68.TheVariants.{Read8, Read16, Write8, Write16, Ack, Word}
 use Rattle.vdp_ports.specs.Vdp.{Vdp}
+use Rattle.vdp_planes.specs.declared.view.SpriteNote.{SpriteNote}
 use Rattle.bus_shared.specs.Accesses.{carried, line_board, main_board, pads_board, psg_board, sub_access, taken_back, video_started, yielded}
 use Rattle.z80_parcel.specs.Requests.{Asked, ReadByte, WriteByte, HandOver, TakeBack, asked}
 use Rattle.bus_shared.specs.Areas.{byte_written_at, byte_written_in, read_at, read_in, word_written_at, word_written_in}
@@ -181,10 +182,10 @@ pads-beside : (b : Bool) (board : Board) (pads : Frame) → Beside board (if b t
 pads-beside true board pads = record { recording = refl; port1 = refl; port2 = refl; held = refl; fm = refl; request = refl; reset = refl; resets = refl; store = refl }
 pads-beside false board pads = record { recording = refl; port1 = refl; port2 = refl; held = refl; fm = refl; request = refl; reset = refl; resets = refl; store = refl }
 
-pub line_leaves : (board : Board) (cycle : ℕ) → LineLeaves board cycle
+pub line_leaves : (board : Board) (cycle : ℕ) (note : SpriteNote) → LineLeaves board cycle note
 unfolding line_board pads_board
-line_leaves board cycle =
-    let beside = pads-beside (cycle % frame == 224 * line) (video_started board cycle) (pads_of board.recording (cycle / frame)) in
+line_leaves board cycle note =
+    let beside = pads-beside (cycle % frame == 224 * line) (video_started board cycle note) (pads_of board.recording (cycle / frame)) in
     record {
       recording = beside.recording;
       port1 = beside.port1;
@@ -284,6 +285,6 @@ pub writers : (board : Board) (key : Key) (request : Request) → WritersLaw boa
 unfolding carried
 writers board key (requests.Main request) first third = absurd (first refl)
 writers board key (requests.Sub request) first third = sub_pins_stay board key (asked request)
-writers board key requests.Line first third = absurd (third refl)
+writers board key (requests.Line view note) first third = absurd (third refl)
 writers board key (requests.Fm list) first third = fm_batch_pins_stay board key.cycle
 writers board key (requests.Psg list) first third = batch_pins_stay board key.cycle

@@ -1,7 +1,6 @@
 -- A fill or copy that was settled earlier is seen by nobody.
 use Rattle.std.proofs.Common.{◌≡◌, ◌∙◌, refl, sym, ap, ℕ, zero, suc, ◌+◌, ◌-◌, ◌/◌, ◌%◌, ◌≤◌, ◌==◌, nat_lt, Bool, true, false, if◌then◌else◌, List, length, slice_index, inl, inr, arith}
 use Rattle.std.proofs.lemmas.Bool.{cases_lt}
-use Rattle.md_word.specs.Clock.{line}
 use Rattle.vdp_ports.specs.Vdp.{Vdp, register}
 use Rattle.vdp_ports.specs.Control.{acknowledged, controlled, started_by, status_read}
 use Rattle.vdp_ports.specs.Data.{accessed, read, transferred, written}
@@ -9,9 +8,10 @@ use Rattle.vdp_dma.specs.Settling.{advanced, done, due, finished, moved, running
 use Rattle.vdp_dma.proofs.Counts.{count}
 use Rattle.vdp_dma.proofs.Same.{settled_same}
 use Rattle.vdp_dma.proofs.Settled.{by-none, by-some, settled_twice}
-use Rattle.vdp_time.specs.Lines.{counted, hv, line_of, line_started, raised, v_blank}
+use Rattle.vdp_planes.specs.declared.view.SpriteNote.{SpriteNote}
+use Rattle.vdp_time.specs.Lines.{hv, line_started, v_blank}
 use Rattle.bus_shared.specs.Settled.{SeesNoSettling}
-use Rattle.bus_shared.specs.Video.{is_shown, is_wide, port_read, port_transfer, port_word, port_written, status_at, with_cost, word_cost}
+use Rattle.bus_shared.specs.Video.{is_shown, is_wide, joined, line_begun, port_read, port_transfer, port_word, port_written, status_at, with_cost, word_cost}
 use Rattle.bus_shared.specs.declared.port.VideoPort.{VideoPort}
 use Rattle.bus_shared.specs.declared.port.VideoPort.TheVariants.{Data, Control, Counter, Sound, Unused}
 
@@ -111,42 +111,6 @@ acknowledged-order : (n c : ℕ) (s : Vdp) → settled c (acknowledged n s) ≡ 
 unfolding acknowledged
 acknowledged-order n c s = either-order (acknowledged n) (taken_by (n == 6) (n == 4)) (λ t. taken-is (n == 6) (n == 4) t) c s
 
-abbrev counted_by : Bool → Bool → Kept → Marks
-counted_by true true k = record k.1 { horizontal = true; line_counter = slice_index k.0 10 }
-counted_by true false k = record k.1 { line_counter = k.1.line_counter - 1 }
-counted_by false last k = record k.1 { line_counter = slice_index k.0 10 }
-
-counted-is : (b d : Bool) (s : Vdp)
-    → (if b then (if d then record s { horizontal = true; line_counter = register s 10 } else record s { line_counter = s.line_counter - 1 })
-    else record s { line_counter = register s 10 })
-    ≡ marked s (counted_by b d (kept_of s))
-counted-is true true s = refl
-counted-is true false s = refl
-counted-is false d s = refl
-
-counted-order : (number c : ℕ) (s : Vdp) → settled c (counted number s) ≡ counted number (settled c s)
-unfolding counted
-counted-order number c s =
-    either-order (counted number) (λ k. counted_by (nat_lt number 224) (k.1.line_counter == 0) k) (λ t. counted-is (nat_lt number 224) (t.line_counter == 0) t) c s
-
-abbrev raised_by : Bool → ℕ → Kept → Marks
-raised_by true cycle k = record k.1 { vertical = true; int_from = cycle; int_to = cycle + line }
-raised_by false cycle k = k.1
-
-raised-is : (b : Bool) (cycle : ℕ) (s : Vdp)
-    → (if b then record s { vertical = true; int_from = cycle; int_to = cycle + line } else s) ≡ marked s (raised_by b cycle (kept_of s))
-raised-is true cycle s = refl
-raised-is false cycle s = refl
-
-raised-order : (cycle number c : ℕ) (s : Vdp) → settled c (raised cycle number s) ≡ raised cycle number (settled c s)
-unfolding raised
-raised-order cycle number c s = either-order (raised cycle number) (raised_by (number == 224) cycle) (λ t. raised-is (number == 224) cycle t) c s
-
-line-order : (cycle c : ℕ) (s : Vdp) → settled c (line_started cycle s) ≡ line_started cycle (settled c s)
-unfolding line_started
-line-order cycle c s =
-    raised-order cycle (line_of cycle) c (counted (line_of cycle) s) ∙ ap (raised cycle (line_of cycle)) (counted-order (line_of cycle) c s)
-
 -- the ports
 module _ (e c : ℕ) (s : Vdp) (twice : settled c (settled e s) ≡ settled c s) where
   word-unseen : (port : VideoPort) → port_word port c (settled e s) ≡ port_word port c s
@@ -181,6 +145,10 @@ module _ (e c : ℕ) (s : Vdp) (twice : settled c (settled e s) ≡ settled c s)
   written-unseen Sound word = twice
   written-unseen Unused word = twice
 
+  begun-unseen : (note : SpriteNote) → line_begun c note (settled e s) ≡ line_begun c note s
+  unfolding line_begun
+  begun-unseen note = ap (λ (v : Vdp). line_started c (joined note v)) twice
+
 pub unseen : (e c : ℕ) (s : Vdp) → e ≤ c → SeesNoSettling e c s
 unseen e c s h =
     let twice : settled c (settled e s) ≡ settled c s = settled_twice e c s h in
@@ -193,5 +161,5 @@ unseen e c s h =
       after_write = written-unseen e c s twice;
       after_word = λ word. ap (transferred word) twice;
       after_acknowledge = λ level. acknowledged-order level c (settled e s) ∙ ap (acknowledged level) twice ∙ sym (acknowledged-order level c s);
-      after_line = line-order c c (settled e s) ∙ ap (line_started c) twice ∙ sym (line-order c c s);
+      after_line = begun-unseen e c s twice;
     }

@@ -16,12 +16,13 @@ use Rattle.fm_chip.specs.declared.write.FmWrite.{FmWrite}
 use Rattle.psg_sound.specs.Port.{left_from, taken_below}
 use Rattle.psg_sound.specs.declared.write.PsgWrite.{PsgWrite}
 use Rattle.vdp_ports.specs.Control.{level}
-use Rattle.vdp_time.specs.Lines.{line_started}
+use Rattle.vdp_planes.specs.declared.view.LineView.{LineView}
+use Rattle.vdp_planes.specs.declared.view.SpriteNote.{SpriteNote}
 use Rattle.bus_shared.specs.Areas.{byte_at, byte_written_at, read_at, transfer_at, word_at, word_written_at}
 use Rattle.bus_shared.specs.Board.{Board}
 use Rattle.bus_shared.specs.Entries.{batch_entry, line_entry, main_entry, sub_entry}
 use Rattle.bus_shared.specs.Fm.{chip_byte, chip_read, fm_board, is_fm, with_fm}
-use Rattle.bus_shared.specs.Video.{both_halves, pins_by, video_acknowledged, word_cost, word_taken}
+use Rattle.bus_shared.specs.Video.{both_halves, line_begun, line_view, pins_by, video_acknowledged, word_cost, word_taken}
 use Rattle.bus_shared.specs.Z80Space.{is_psg80, with_psg}
 use Rattle.z80_parcel.specs.Parcels.{Store}
 use Rattle.z80_parcel.specs.Requests.{Asked, ReadByte, WriteByte, HandOver, TakeBack, Told, Byte, Nothing, Returned, asked, told}
@@ -109,13 +110,13 @@ unfoldable pub pads_board : Board → ℕ → Board
 pads_board board cycle =
     if cycle % frame == 224 * line then record board { pads = pads_of board.recording (cycle / frame) } else board
 
--- the VDP at the start of a line
-abbrev pub video_started : Board → ℕ → Board
-video_started board cycle = record board { vdp = line_started cycle board.vdp }
+-- the VDP at the start of a line, with what the sprites of the line before have set
+abbrev pub video_started : Board → ℕ → SpriteNote → Board
+video_started board cycle note = record board { vdp = line_begun cycle note board.vdp }
 
 -- at the start of a line the VDP and the pads take their part
-unfoldable pub line_board : Board → ℕ → Board
-line_board board cycle = pads_board (video_started board cycle) cycle
+unfoldable pub line_board : Board → ℕ → SpriteNote → Board
+line_board board cycle note = pads_board (video_started board cycle note) cycle
 
 -- a batch of the PSG synthesis takes the writes stamped below it
 unfoldable pub psg_board : Board → ℕ → Board
@@ -125,14 +126,14 @@ psg_board board cycle = record board { held = left_from cycle board.held }
 pub data Shown : Type 0 where
   Main : Answer68 → Shown
   Sub : Told → Shown
-  Line : Shown
+  Line : LineView → Shown
   Fm : List FmWrite → Shown
   Psg : List PsgWrite → Shown
 
 abbrev pub shown : Answer → Shown
 shown (answers.Main answer) = Main answer
 shown (answers.Sub answer) = Sub (told answer)
-shown answers.Line = Line
+shown (answers.Line view) = Line view.value
 shown (answers.Fm list) = Fm list.value.items
 shown (answers.Psg list) = Psg list.value.items
 
@@ -169,11 +170,9 @@ carried board key (requests.Main request) = record {
 carried board key (requests.Sub request) =
     let access = sub_access board key (asked request) in
     record { answer = Sub access.answer; entry = access.entry; board = access.board }
-carried board key requests.Line = record {
-  answer = Line;
-  entry = line_entry key (level_of (line_board board key.cycle));
-  board = line_board board key.cycle;
-}
+carried board key (requests.Line view note) =
+    let after = line_board board key.cycle note in
+    record { answer = Line (line_view key.cycle after.vdp view.value); entry = line_entry key (level_of after); board = after }
 carried board key (requests.Fm list) = record {
   answer = Fm (fm_ports.taken_below key.cycle board.fm.writes);
   entry = batch_entry 11 key (length (fm_ports.taken_below key.cycle board.fm.writes));
@@ -189,6 +188,6 @@ carried board key (requests.Psg list) = record {
 abbrev pub chip_of : Request → ℕ
 chip_of (requests.Main request) = 0
 chip_of (requests.Sub request) = 1
-chip_of requests.Line = 2
+chip_of (requests.Line view note) = 2
 chip_of (requests.Fm list) = 3
 chip_of (requests.Psg list) = 4

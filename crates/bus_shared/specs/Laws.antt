@@ -7,6 +7,7 @@ use Rattle.md_word.specs.declared.main_bus.Request68.{Request68}
 use Rattle.md_word.specs.declared.main_bus.Request68.TheVariants.{Read8, Read16, Word}
 use Rattle.md_word.specs.declared.main_bus.Transfer.{Transfer}
 use Rattle.bus_shared.specs.Accesses.{carried, chip_of, line_board, main_board, main_cost, main_pins, main_transfer, main_value, psg_board, sub_access, sub_pins}
+use Rattle.vdp_planes.specs.declared.view.SpriteNote.{SpriteNote}
 use Rattle.z80_parcel.specs.Requests.{Asked}
 use Rattle.bus_shared.specs.Board.{Board, IsBoard}
 use Rattle.bus_shared.specs.Fm.{fm_board}
@@ -40,16 +41,16 @@ pub record SubLeaves (board : Board) (key : Key) (asks : Asked) : Type 0 where
   pub vdp : (sub_access board key asks).board.vdp ≡ board.vdp
 
 -- a line changes the buttons and the VDP alone
-pub record LineLeaves (board : Board) (cycle : ℕ) : Type 0 where
-  pub recording : (line_board board cycle).recording ≡ board.recording
-  pub port1 : (line_board board cycle).port1 ≡ board.port1
-  pub port2 : (line_board board cycle).port2 ≡ board.port2
-  pub held : (line_board board cycle).held ≡ board.held
-  pub fm : (line_board board cycle).fm ≡ board.fm
-  pub request : (line_board board cycle).request ≡ board.request
-  pub reset : (line_board board cycle).reset ≡ board.reset
-  pub resets : (line_board board cycle).resets ≡ board.resets
-  pub store : (line_board board cycle).store ≡ board.store
+pub record LineLeaves (board : Board) (cycle : ℕ) (note : SpriteNote) : Type 0 where
+  pub recording : (line_board board cycle note).recording ≡ board.recording
+  pub port1 : (line_board board cycle note).port1 ≡ board.port1
+  pub port2 : (line_board board cycle note).port2 ≡ board.port2
+  pub held : (line_board board cycle note).held ≡ board.held
+  pub fm : (line_board board cycle note).fm ≡ board.fm
+  pub request : (line_board board cycle note).request ≡ board.request
+  pub reset : (line_board board cycle note).reset ≡ board.reset
+  pub resets : (line_board board cycle note).resets ≡ board.resets
+  pub store : (line_board board cycle note).store ≡ board.store
 
 -- a batch of the PSG changes what its port holds alone
 pub record BatchLeaves (board : Board) (cycle : ℕ) : Type 0 where
@@ -96,6 +97,6 @@ pub record TellsMain (board : Board) (key : Key) : Type 0 where
 -- what an access leaves is a board
 pub record StaysBoard (board : Board) (key : Key) : Type 0 where
   pub main : (request : Request68) → key.chip < 2 → IsBoard (main_board board key request)
-  pub line : (cycle : ℕ) → IsBoard (line_board board cycle)
+  pub line : (cycle : ℕ) (note : SpriteNote) → IsBoard (line_board board cycle note)
   pub batch : (cycle : ℕ) → IsBoard (psg_board board cycle)
   pub fm_batch : (cycle : ℕ) → IsBoard (fm_board board cycle)

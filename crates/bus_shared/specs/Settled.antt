@@ -5,8 +5,8 @@ use Rattle.vdp_ports.specs.Control.{acknowledged}
 use Rattle.vdp_ports.specs.Data.{transferred}
 use Rattle.vdp_ports.specs.Pins.{HasSamePins}
 use Rattle.vdp_dma.specs.Settling.{settled}
-use Rattle.vdp_time.specs.Lines.{line_started}
-use Rattle.bus_shared.specs.Video.{port_read, port_transfer, port_word, port_written, word_cost}
+use Rattle.vdp_planes.specs.declared.view.SpriteNote.{SpriteNote}
+use Rattle.bus_shared.specs.Video.{line_begun, port_read, port_transfer, port_word, port_written, word_cost}
 use Rattle.bus_shared.specs.declared.port.VideoPort.{VideoPort}
 
 -- each access at a cycle tells the same, and leaves the same VDP at that cycle
@@ -20,4 +20,4 @@ pub record SeesNoSettling (earlier cycle : ℕ) (vdp : Vdp) : Type 0 where
       → settled cycle (port_written port cycle word (settled earlier vdp)) ≡ settled cycle (port_written port cycle word vdp)
   pub after_word : (word : ℕ) → transferred word (settled cycle (settled earlier vdp)) ≡ transferred word (settled cycle vdp)
   pub after_acknowledge : (level : ℕ) → settled cycle (acknowledged level (settled earlier vdp)) ≡ settled cycle (acknowledged level vdp)
-  pub after_line : settled cycle (line_started cycle (settled earlier vdp)) ≡ settled cycle (line_started cycle vdp)
+  pub after_line : (note : SpriteNote) → line_begun cycle note (settled earlier vdp) ≡ line_begun cycle note vdp

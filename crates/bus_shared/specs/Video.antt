@@ -9,7 +9,10 @@ use Rattle.vdp_ports.specs.Vdp.{Vdp, register}
 use Rattle.vdp_ports.specs.Control.{acknowledged, controlled, level, started_by, status, status_read}
 use Rattle.vdp_ports.specs.Data.{accessed, read, transferred, written}
 use Rattle.vdp_dma.specs.Settling.{is_busy, settled}
-use Rattle.vdp_time.specs.Lines.{h_blank, hv, v_blank}
+use Rattle.vdp_planes.specs.View.{view_of}
+use Rattle.vdp_planes.specs.declared.view.LineView.{LineView}
+use Rattle.vdp_planes.specs.declared.view.SpriteNote.{SpriteNote}
+use Rattle.vdp_time.specs.Lines.{h_blank, hv, line_of, line_started, v_blank}
 use Rattle.bus_shared.specs.Board.{Board}
 use Rattle.bus_shared.specs.Z80Space.{with_psg}
 use Rattle.bus_shared.specs.declared.port.VideoPort.{VideoPort}
@@ -100,6 +103,18 @@ video_acknowledged board level = record board { vdp = acknowledged level board.v
 -- the board after a word of a transfer
 abbrev pub word_taken : Board → Key → ℕ → Board
 word_taken board key word = record board { vdp = transferred word (settled key.cycle board.vdp) }
+
+-- what the sprites of the line before have set joins the status
+abbrev pub joined : SpriteNote → Vdp → Vdp
+joined note vdp = record vdp { overflow = vdp.overflow || note.overflow; collision = vdp.collision || note.collision }
+
+-- the VDP after the event of a line, to which fill and copy are settled
+unfoldable pub line_begun : ℕ → SpriteNote → Vdp → Vdp
+line_begun cycle note vdp = line_started cycle (joined note (settled cycle vdp))
+
+-- what the line at a cycle is drawn from; behind the picture a view stays as it was
+unfoldable pub line_view : ℕ → Vdp → LineView → LineView
+line_view cycle vdp view = if nat_lt (line_of cycle) 224 then view_of vdp else view
 
 -- the interrupt level is known: 6, 4 or 0
 abbrev pub level_by : Bool → Bool → ℕ

@@ -8,6 +8,7 @@ ghost use Rattle.bus_shared.specs.Board.{Board, IsBoard};
 ghost use Rattle.bus_shared.specs.Laws.{BatchLeaves, FmBatchLeaves, LeavesPins, LineLeaves, MainLeaves, StaysBoard, SubLeaves, TellsMain, WritersLaw};
 ghost use Rattle.bus_shared.specs.Settled.{SeesNoSettling};
 ghost use Rattle.bus_shared.specs.declared.request.Request.{Request};
+ghost use Rattle.vdp_planes.specs.declared.view.SpriteNote.{SpriteNote};
 ghost use Rattle.vdp_ports.specs.Vdp.{Vdp};
 ghost use Rattle.z80_parcel.specs.Requests.{Asked};
 
@@ -19,7 +20,7 @@ ghost use Rattle.z80_parcel.specs.Requests.{Asked};
 pub fn each_chip_touches_its_part()
     ensures main { (board : Board) (key : Key) → MainLeaves board key }
     ensures sub { (board : Board) (key : Key) (request : Asked) → SubLeaves board key request }
-    ensures line { (board : Board) (cycle : ℕ) → LineLeaves board cycle }
+    ensures line { (board : Board) (cycle : ℕ) (note : SpriteNote) → LineLeaves board cycle note }
     ensures batch { (board : Board) (cycle : ℕ) → BatchLeaves board cycle }
     ensures fm_batch { (board : Board) (cycle : ℕ) → FmBatchLeaves board cycle }
 {}

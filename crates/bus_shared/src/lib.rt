@@ -15,4 +15,4 @@ mod video;
 pub use port::VideoPort;
 pub use register::Register;
 pub use request::{Answer, Request};
-pub use shared::{Shared, carry_out, pins68, pins80};
+pub use shared::{Shared, carry_out, pins68, pins80, start_line};

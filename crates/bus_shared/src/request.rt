@@ -4,11 +4,13 @@ ghost use Rattle.bus_shared.specs.Accesses.{shown};
 ghost use Rattle.md_word.specs.declared.main_bus.Answer68.{Answer68 as MainAnswer};
 ghost use Rattle.fm_chip.specs.declared.write.FmWrite.{FmWrite as WriteFm};
 ghost use Rattle.psg_sound.specs.declared.write.PsgWrite.{PsgWrite as Write};
+ghost use Rattle.vdp_planes.specs.declared.view.LineView.{LineView as View};
 ghost use Rattle.z80_parcel.specs.Requests.{Told, told};
 
 use fm_chip::FmList;
 use md_word::{Answer68, Answer80, Request68, Request80};
 use psg_sound::PsgList;
+use vdp_planes::{LineView, SpriteNote};
 
 /// A shared access of a chip.
 #[derive(Drop)]
@@ -17,8 +19,9 @@ pub enum Request {
     Main(Request68),
     /// Of the Z80, chip 1.
     Sub(Request80),
-    /// The start of a line, by the drawing half of the VDP, chip 2.
-    Line,
+    /// The start of a line, by the drawing half of the VDP, chip 2: the view that is to be filled, and what
+    /// the sprites of the line before have set.
+    Line(Box<LineView>, SpriteNote),
     /// A batch of the FM synthesis, chip 3: the list into which the writes for it are moved.
     Fm(Box<FmList>),
     /// A batch of the PSG synthesis, chip 4: the list into which the writes for it are moved.
@@ -32,8 +35,8 @@ pub enum Answer {
     Main(Answer68),
     /// To the Z80.
     Sub(Answer80),
-    /// To the start of a line.
-    Line,
+    /// To the start of a line: the view, which shows the VDP of a line of the picture.
+    Line(Box<LineView>),
     /// To a batch of the FM synthesis: the writes for it.
     Fm(Box<FmList>),
     /// To a batch of the PSG synthesis: the writes for it.
@@ -47,7 +50,7 @@ impl Answer {
     {
         match self {
             Answer::Main(answer) => Some(answer),
-            Answer::Sub(_) | Answer::Line | Answer::Fm(_) | Answer::Psg(_) => None,
+            Answer::Sub(_) | Answer::Line(_) | Answer::Fm(_) | Answer::Psg(_) => None,
         }
     }
 
@@ -57,7 +60,17 @@ impl Answer {
     {
         match self {
             Answer::Sub(answer) => Some(answer),
-            Answer::Main(_) | Answer::Line | Answer::Fm(_) | Answer::Psg(_) => None,
+            Answer::Main(_) | Answer::Line(_) | Answer::Fm(_) | Answer::Psg(_) => None,
+        }
+    }
+
+    /// The view that it hands to the drawing half of the VDP, if it does.
+    pub fn line_view(self) -> Option<Box<LineView>>
+        ensures { (view : View) → shown self ≡ accesses.Line view → option_map (λ held. held.value) result ≡ Some view }
+    {
+        match self {
+            Answer::Line(view) => Some(view),
+            Answer::Main(_) | Answer::Sub(_) | Answer::Fm(_) | Answer::Psg(_) => None,
         }
     }
 
@@ -67,7 +80,7 @@ impl Answer {
     {
         match self {
             Answer::Fm(list) => Some(list),
-            Answer::Main(_) | Answer::Sub(_) | Answer::Line | Answer::Psg(_) => None,
+            Answer::Main(_) | Answer::Sub(_) | Answer::Line(_) | Answer::Psg(_) => None,
         }
     }
 
@@ -77,7 +90,7 @@ impl Answer {
     {
         match self {
             Answer::Psg(list) => Some(list),
-            Answer::Main(_) | Answer::Sub(_) | Answer::Line | Answer::Fm(_) => None,
+            Answer::Main(_) | Answer::Sub(_) | Answer::Line(_) | Answer::Fm(_) => None,
         }
     }
 }

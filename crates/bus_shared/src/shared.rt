@@ -7,11 +7,13 @@ ghost use Rattle.bus_shared.specs.Accesses.{carried, chip_of, shown};
 ghost use Rattle.bus_shared.specs.Accesses as accesses;
 ghost use Rattle.bus_shared.specs.Areas as areas;
 ghost use Rattle.bus_shared.specs.Board as boards;
+ghost use Rattle.bus_shared.specs.Entries as entries;
 ghost use Rattle.bus_shared.specs.Fm as fm;
 ghost use Rattle.bus_shared.specs.Lines as lines;
 ghost use Rattle.bus_shared.specs.Registers as registers;
 ghost use Rattle.bus_shared.specs.Video as video;
 ghost use Rattle.bus_shared.specs.Z80Space as space;
+ghost use Rattle.vdp_planes.specs.View.{seen, view_of};
 ghost use Rattle.z80_parcel.specs.Parcels.{store_of};
 ghost use Rattle.z80_parcel.specs.Requests.{asked, told};
 
@@ -20,7 +22,7 @@ use crate::fm::is_fm;
 use crate::port::VideoPort;
 use crate::register::Register;
 use crate::request::{Answer, Request};
-use crate::video::{acknowledge, begin_line, half_at, power_on, read_port, take_word, write_port};
+use crate::video::{acknowledge, begin_line, half_at, power_on, read_port, show, take_word, write_port};
 use fm_chip::{FmList, FmPort};
 use md_pads::{PadPort, Recording};
 use md_word::clock::{FRAME, LINE};
@@ -32,6 +34,7 @@ use psg_sound::{PsgList, PsgPort};
 use std::alloc::Global;
 use std::marker::Model;
 use std::sync::Arc;
+use vdp_planes::{Scene, SpriteNote, scene_of};
 use vdp_ports::VdpState;
 use z80_parcel::{RAM_END, known, read, store_byte};
 
@@ -103,6 +106,13 @@ impl Shared {
             parcel: None,
             vdp: power_on(alloc)?,
         })
+    }
+
+    /// The VDP's registers and memories, borrowed as they stand.
+    pub fn scene(&self) -> Scene<'_>
+        ensures { seen result ≡ view_of self.now.vdp }
+    {
+        scene_of(&self.vdp)
     }
 
     /// Tells what holds of every board.
@@ -495,11 +505,11 @@ impl Shared {
 
     /// Carries out the start of a line.
     #[tactic(auto, unfolding(crate::specs::Accesses::line_board))]
-    fn line(&mut self, cycle: u64)
+    fn line(&mut self, cycle: u64, note: SpriteNote)
         requires { cycle ≤ 2 ^ 50 }
-        ensures { self.new ≡ accesses.line_board self.old cycle }
+        ensures { self.new ≡ accesses.line_board self.old cycle note }
     {
-        begin_line(&mut self.vdp, cycle);
+        begin_line(&mut self.vdp, cycle, note);
         self.change_pads(cycle);
     }
 
@@ -574,9 +584,10 @@ pub fn carry_out(shared: &mut Shared, key: Key, request: Request) -> (Answer, En
             let (answer, entry) = shared.sub(key, request);
             (Answer::Sub(answer), entry)
         }
-        Request::Line => {
-            shared.line(key.cycle);
-            (Answer::Line, line_entry(key, pins68(shared).level))
+        Request::Line(mut view, note) => {
+            let entry = start_line(shared, key, note);
+            show(&shared.vdp, key.cycle, &mut view);
+            (Answer::Line(view), entry)
         }
         Request::Fm(mut list) => {
             shared.take_fm(key.cycle, &mut list);
@@ -589,6 +600,18 @@ pub fn carry_out(shared: &mut Shared, key: Key, request: Request) -> (Answer, En
             (Answer::Psg(list), psg_entry(key, taken))
         }
     }
+}
+
+/// Carries out the start of a line, with what the sprites of the line before have set, at a cycle of at
+/// most 2^50: its entry in the journal. The line may then be drawn from the board's `scene`, which is
+/// what the view of a request would show.
+pub fn start_line(shared: &mut Shared, key: Key, note: SpriteNote) -> Entry
+    requires { key.cycle ≤ 2 ^ 50 }
+    ensures board { shared.new ≡ accesses.line_board shared.old key.cycle note }
+    ensures entry { result ≡ entries.line_entry key (accesses.level_of shared.new) }
+{
+    shared.line(key.cycle, note);
+    line_entry(key, pins68(shared).level)
 }
 
 /// The interrupt pins of the 68000.

@@ -3,7 +3,6 @@ ghost use Rattle.vdp_dma.specs.Settling.{settled};
 ghost use Rattle.vdp_ports.specs.Control.{acknowledged, controlled, started_by, status_read};
 ghost use Rattle.vdp_ports.specs.Data.{accessed, read, transferred, written};
 ghost use Rattle.vdp_ports.specs.Vdp.{at_power_on};
-ghost use Rattle.vdp_time.specs.Lines.{line_started};
 ghost use Rattle.bus_shared.specs.Board.{AreBytes};
 ghost use Rattle.bus_shared.specs.Video as video;
 
@@ -11,15 +10,19 @@ use crate::port::VideoPort;
 use md_word::{NoMemory, Transfer};
 use std::alloc::Global;
 use vdp_dma::{busy, settle, transfer_word};
+use vdp_planes::{LineView, SpriteNote, fill_view};
 use vdp_ports::VdpState;
 use vdp_ports::register::MODE_2;
-use vdp_time::{blank, hv, start_line};
+use vdp_time::{blank, hv, line_of, start_line};
 
 /// The register whose bit 0 chooses the 320 mode.
 const MODE_4: usize = 12;
 
 /// The word that is read where no port answers.
 const OPEN_WORD: u16 = 0xffff;
+
+/// Lines of the picture.
+const HEIGHT: u32 = 224;
 
 /// The master cycles of a transferred word while the display is drawn.
 const DRAWN_COST: u16 = 380;
@@ -173,14 +176,34 @@ pub(crate) fn acknowledge(vdp: &mut VdpState, level: u8)
     vdp.acknowledge(level);
 }
 
-/// The VDP's part of the start of a line.
-#[tactic(auto, using(crate::proofs::Ports::line_started_bytes))]
-pub(crate) fn begin_line(vdp: &mut VdpState, cycle: u64)
+/// Joins what the sprites of a line have set to the status.
+fn join(vdp: &mut VdpState, note: SpriteNote)
+    ensures { vdp.new ≡ video.joined note vdp.old }
+{
+    vdp.overflow |= note.overflow;
+    vdp.collision |= note.collision;
+}
+
+/// The VDP's part of the start of a line, to which fill and copy are settled first.
+#[tactic(auto, using(crate::proofs::Ports::line_begun_bytes), unfolding(crate::specs::Video::line_begun))]
+pub(crate) fn begin_line(vdp: &mut VdpState, cycle: u64, note: SpriteNote)
     requires { cycle ≤ 2 ^ 50 }
-    ensures after { vdp.new ≡ line_started cycle vdp.old }
+    ensures after { vdp.new ≡ video.line_begun cycle note vdp.old }
     ensures bytes { AreBytes vdp.old.registers → AreBytes vdp.new.registers }
 {
+    settle(vdp, cycle);
+    join(vdp, note);
     start_line(vdp, cycle);
+}
+
+/// Fills the view of a line of the picture.
+#[tactic(auto, unfolding(crate::specs::Video::line_view))]
+pub(crate) fn show(vdp: &VdpState, cycle: u64, view: &mut LineView)
+    ensures { view.new ≡ video.line_view cycle vdp.now view.old }
+{
+    if line_of(cycle) < HEIGHT {
+        fill_view(view, vdp);
+    }
 }
 
 /// The half of a word that a byte read gives.
