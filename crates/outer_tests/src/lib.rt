@@ -10,3 +10,5 @@ mod depots;
 mod fields;
 #[cfg(test)]
 mod pads;
+#[cfg(test)]
+mod pictures;
