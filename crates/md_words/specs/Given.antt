@@ -53,17 +53,21 @@ abbrev pub value_of : Text → List Argument → Option Text
 value_of name arguments = option_map (λ argument. argument.1) (find (λ argument. has_name name argument.0) arguments)
 
 -- the run of these arguments
-abbrev pub run_by : List Argument → Option Run
-run_by arguments =
+abbrev pub run_of_arguments : List Argument → Option Run
+run_of_arguments arguments =
     if are_single arguments
     then
     run_given (value_of [] arguments) (value_of (codes "cycles") arguments) (value_of (codes "in") arguments) (value_of (codes "sound") arguments)
-    (value_of (codes "journal") arguments)
+    (value_of (codes "journal") arguments) (value_of (codes "workers") arguments)
     else None
+
+-- the names of the options of a run
+abbrev pub option_names : List Text
+option_names = codes "cycles" ∷ codes "in" ∷ codes "sound" ∷ codes "journal" ∷ codes "workers" ∷ []
 
 -- the run that words ask for
 abbrev pub given_run : List Text → Option Run
-given_run words = option_and_then run_by (given (codes "cycles" ∷ codes "in" ∷ codes "sound" ∷ codes "journal" ∷ []) false None words)
+given_run words = option_and_then run_of_arguments (given option_names false None words)
 
 -- LISTS OF WORDS
 

@@ -15,6 +15,7 @@ shown_run run =
       recording = option_copied run.recording;
       sound = option_copied run.sound;
       journal = option_copied run.journal;
+      workers = run.workers;
     }
 
 -- the command that words were read as

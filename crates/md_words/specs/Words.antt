@@ -9,13 +9,15 @@ use Rattle.clap.specs.Walk.{Row, Text, first_of}
 use Rattle.md_words.specs.Parse.{info_app, parse_of, run_app}
 
 -- a run of a cartridge from power-on: the cartridge's name, the cycle of its end, the name of the
--- recording, if one is given, and those of the sound file and of the journal, each if it is asked for
+-- recording, if one is given, those of the sound file and of the journal, each if it is asked for, and
+-- how many workers make it
 pub record Run : Type 0 where
   pub rom : List ℕ
   pub cycles : ℕ
   pub recording : Option (List ℕ)
   pub sound : Option (List ℕ)
   pub journal : Option (List ℕ)
+  pub workers : ℕ
 
 -- what a command line asks for: the lines of a cartridge's header, by the cartridge's name, or a run
 pub data Command : Type 0 where
@@ -52,6 +54,11 @@ abbrev pub journal_name : Command → Option (List ℕ)
 journal_name (Info rom) = None
 journal_name (RunCart run) = run.journal
 
+-- how many workers make it; 1 where none is asked for
+abbrev pub workers_in : Command → ℕ
+workers_in (Info rom) = 1
+workers_in (RunCart run) = run.workers
+
 -- a word that can be a name: it is not empty and does not begin with a hyphen
 abbrev pub is_name : List ℕ → Bool
 is_name [] = false
@@ -64,6 +71,15 @@ is_digits word = nat_le 1 (length word) && nat_le (length word) 20 && list_all i
 -- a number of the command line: its value is below 2^64
 abbrev pub number_of : List ℕ → Option ℕ
 number_of word = if is_digits word && nat_lt (digits_value 10 word) (2 ^ 64) then Some (digits_value 10 word) else None
+
+-- a number of workers: 1 to 5
+abbrev pub some_workers : ℕ → Option ℕ
+some_workers n = if nat_le 1 n && nat_le n 5 then Some n else None
+
+-- the number of workers of a run, 1 where it is not given
+abbrev pub workers_of : Option (List ℕ) → Option ℕ
+workers_of None = Some 1
+workers_of (Some count) = option_and_then some_workers (number_of count)
 
 -- the value of an option can be a name
 abbrev pub is_optional_name : Option (List ℕ) → Bool
@@ -90,23 +106,27 @@ info_from None = None
 abbrev pub info_of : List Text → Option Text
 info_of words = option_and_then (λ rows. info_from (first_of (codes "rom") rows)) (parse_of info_app words)
 
--- the run of these names and this count
-abbrev pub run_from : Text → Text → Option Text → Option Text → Option Text → Option Run
-run_from rom count recording sound journal =
-    if are_names rom recording sound journal
-    then option_map (λ n. record { rom = rom; cycles = n; recording = recording; sound = sound; journal = journal }) (number_of count)
-    else None
+-- the run of these names, this cycle of its end and this number of workers
+abbrev pub run_by : Text → Option Text → Option Text → Option Text → Option ℕ → Option ℕ → Option Run
+run_by rom recording sound journal (Some end) (Some workers) =
+    Some (record { rom = rom; cycles = end; recording = recording; sound = sound; journal = journal; workers = workers })
+run_by rom recording sound journal end workers = None
 
--- `run` has the name of a cartridge and `--cycles N`, with `--in P`, `--sound W` and `--journal J` if
--- wanted
-abbrev pub run_given : Option Text → Option Text → Option Text → Option Text → Option Text → Option Run
-run_given (Some rom) (Some count) recording sound journal = run_from rom count recording sound journal
-run_given rom count recording sound journal = None
+-- the run of these names and these two counts
+abbrev pub run_from : Text → Text → Option Text → Option Text → Option Text → Option Text → Option Run
+run_from rom count recording sound journal workers =
+    if are_names rom recording sound journal then run_by rom recording sound journal (number_of count) (workers_of workers) else None
+
+-- `run` has the name of a cartridge and `--cycles N`, with `--in P`, `--sound W`, `--journal J` and
+-- `--workers K` if wanted
+abbrev pub run_given : Option Text → Option Text → Option Text → Option Text → Option Text → Option Text → Option Run
+run_given (Some rom) (Some count) recording sound journal workers = run_from rom count recording sound journal workers
+run_given rom count recording sound journal workers = None
 
 abbrev pub run_with : List Row → Option Run
 run_with rows =
     run_given (first_of (codes "rom") rows) (first_of (codes "cycles") rows) (first_of (codes "in") rows) (first_of (codes "sound") rows)
-    (first_of (codes "journal") rows)
+    (first_of (codes "journal") rows) (first_of (codes "workers") rows)
 
 abbrev pub run_of : List Text → Option Run
 run_of words = option_and_then run_with (parse_of run_app words)

@@ -13,7 +13,7 @@ pub(crate) fn info_command<'a>(alloc: Global) -> Result<Command<'a>, AllocError>
     with_wanted_word(bare(alloc, "info"), alloc, "rom")
 }
 
-/// The command `run ROM --cycles N --in P --sound W --journal J`, behind its word.
+/// The command `run ROM --cycles N --in P --sound W --journal J --workers K`, behind its word.
 pub(crate) fn run_command<'a>(alloc: Global) -> Result<Command<'a>, AllocError>
     ensures { IfOk result (λ command. app_of command ≡ meaning.run_app) }
 {
@@ -22,7 +22,8 @@ pub(crate) fn run_command<'a>(alloc: Global) -> Result<Command<'a>, AllocError>
     let recording = with_option(cycles, alloc, "in")?;
     let sound = with_option(recording, alloc, "sound")?;
     let journal = with_option(sound, alloc, "journal")?;
-    Ok(journal)
+    let workers = with_option(journal, alloc, "workers")?;
+    Ok(workers)
 }
 
 /// A command with no argument yet, which reads no program's name and has no help.

@@ -1,7 +1,7 @@
-ghost use Rattle.std.specs.Prelude.{◌≡◌};
+ghost use Rattle.std.specs.Prelude.{◌≡◌, ◌≤◌};
 ghost use Rattle.std.specs.Option.{option_copied};
 ghost use Rattle.md_words.specs.Shown.{shown_command};
-ghost use Rattle.md_words.specs.Words.{end_of, journal_name, recording_name, rom_of, sound_name};
+ghost use Rattle.md_words.specs.Words.{end_of, journal_name, recording_name, rom_of, sound_name, workers_in};
 
 use crate::run_words::RunWords;
 
@@ -62,6 +62,18 @@ impl<'a> CommandWords<'a> {
         match self {
             CommandWords::Info(_) => None,
             CommandWords::Run(run) => run.journal,
+        }
+    }
+
+    /// How many workers make it, 1 to 5; 1 where none is asked for.
+    pub fn workers(&self) -> u32
+        ensures number { result ≡ workers_in (shown_command self.now) }
+        ensures some { 1 ≤ result }
+        ensures few { result ≤ 5 }
+    {
+        match self {
+            CommandWords::Info(_) => 1,
+            CommandWords::Run(run) => run.workers,
         }
     }
 }

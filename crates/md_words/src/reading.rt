@@ -8,7 +8,7 @@ ghost use Rattle.md_words.specs.Words as meaning;
 use crate::building::{info_command, run_command};
 use crate::command_words::CommandWords;
 use crate::names::{are_names, is_name};
-use crate::numbers::read_number;
+use crate::numbers::{read_number, read_workers};
 use crate::parse::parse;
 use crate::run_words::RunWords;
 use clap::ArgMatches;
@@ -17,10 +17,10 @@ use std::alloc::{AllocError, Global};
 /// Reads the words of the command line, those behind the program's name; none: they ask for nothing
 /// that there is.
 ///
-/// They are `info ROM`, or `run ROM --cycles N` with `--in P`, `--sound W` and `--journal J` where
-/// they are wanted. Options stand in any order among the other words, each at most once, as two words
+/// They are `info ROM`, or `run ROM --cycles N` with `--in P`, `--sound W`, `--journal J` and
+/// `--workers K` where they are wanted. Options stand in any order among the other words, each at most once, as two words
 /// or as `--name=value`; `--` ends the options. Names are not empty, do not begin with a hyphen, and
-/// are pairwise different. N is 1 to 20 decimal digits with a value below 2^64.
+/// are pairwise different. Numbers are 1 to 20 decimal digits with a value below 2^64; K is 1 to 5.
 pub fn read_words<'a>(
     alloc: Global,
     words: &'a [String],
@@ -91,6 +91,7 @@ fn run_chosen<'a>(matches: &ArgMatches<'a>) -> Option<RunWords<'a>>
         value(matches, "in"),
         value(matches, "sound"),
         value(matches, "journal"),
+        value(matches, "workers"),
     )
 }
 
@@ -108,38 +109,41 @@ fn run_given<'a>(
     recording: Option<&'a str>,
     sound: Option<&'a str>,
     journal: Option<&'a str>,
+    workers: Option<&str>,
 ) -> Option<RunWords<'a>>
     ensures { option_map shown_run result ≡ meaning.run_given (option_copied rom.entry) (option_copied count.entry)
-        (option_copied recording.entry) (option_copied sound.entry) (option_copied journal.entry) }
+        (option_copied recording.entry) (option_copied sound.entry) (option_copied journal.entry) (option_copied workers.entry) }
 {
     match (rom, count) {
-        (Some(rom), Some(count)) => run_from(rom, count, recording, sound, journal),
+        (Some(rom), Some(count)) => run_from(rom, count, recording, sound, journal, workers),
         _ => None,
     }
 }
 
-/// The run of these names and this count.
+/// The run of these names and these two counts.
 fn run_from<'a>(
     rom: &'a str,
     count: &str,
     recording: Option<&'a str>,
     sound: Option<&'a str>,
     journal: Option<&'a str>,
+    workers: Option<&str>,
 ) -> Option<RunWords<'a>>
     ensures { option_map shown_run result ≡ meaning.run_from rom.now count.now (option_copied recording.entry)
-        (option_copied sound.entry) (option_copied journal.entry) }
+        (option_copied sound.entry) (option_copied journal.entry) (option_copied workers.entry) }
 {
     if !are_names(rom, recording, sound, journal) {
         return None;
     }
-    match read_number(count) {
-        Some(cycles) => Some(RunWords {
+    match (read_number(count), read_workers(workers)) {
+        (Some(cycles), Some(workers)) => Some(RunWords {
             rom,
             cycles,
             recording,
             sound,
             journal,
+            workers,
         }),
-        None => None,
+        _ => None,
     }
 }

@@ -1,4 +1,4 @@
-ghost use Rattle.std.specs.Prelude.{◌≡◌, true};
+ghost use Rattle.std.specs.Prelude.{◌≡◌, ◌≤◌, true};
 ghost use Rattle.std.specs.Option.{option_copied};
 ghost use Rattle.md_words.specs.Words.{differ};
 
@@ -15,5 +15,9 @@ pub struct RunWords<'a> {
     pub sound: Option<&'a str>,
     /// The journal's name, if one is asked for.
     pub journal: Option<&'a str>,
+    /// How many workers make the run, 1 to 5.
+    pub workers: u32,
     ghost outputs_differ: { differ (option_copied sound) (option_copied journal) ≡ true },
+    ghost some_workers: { 1 ≤ workers },
+    ghost few_workers: { workers ≤ 5 },
 }

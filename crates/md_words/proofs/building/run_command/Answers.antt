@@ -14,4 +14,5 @@ returns c =
     let cycles_is = c.in_ok-cycles.ensures ∙ ap (after (required (option (codes "cycles")))) rom_is in
     let recording_is = c.in_ok-recording.ensures ∙ ap (after (option (codes "in"))) cycles_is in
     let sound_is = c.in_ok-sound.ensures ∙ ap (after (option (codes "sound"))) recording_is in
-    c.in_ok-journal.ensures ∙ ap (after (option (codes "journal"))) sound_is
+    let journal_is = c.in_ok-journal.ensures ∙ ap (after (option (codes "journal"))) sound_is in
+    c.in_ok-workers.ensures ∙ ap (after (option (codes "workers"))) journal_is
