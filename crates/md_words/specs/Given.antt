@@ -57,13 +57,13 @@ abbrev pub run_of_arguments : List Argument → Option Run
 run_of_arguments arguments =
     if are_single arguments
     then
-    run_given (value_of [] arguments) (value_of (codes "cycles") arguments) (value_of (codes "in") arguments) (value_of (codes "sound") arguments)
-    (value_of (codes "journal") arguments) (value_of (codes "workers") arguments)
+    run_given (value_of [] arguments) (value_of (codes "cycles") arguments) (value_of (codes "in") arguments) (value_of (codes "frames") arguments)
+    (value_of (codes "sound") arguments) (value_of (codes "journal") arguments) (value_of (codes "workers") arguments)
     else None
 
 -- the names of the options of a run
 abbrev pub option_names : List Text
-option_names = codes "cycles" ∷ codes "in" ∷ codes "sound" ∷ codes "journal" ∷ codes "workers" ∷ []
+option_names = codes "cycles" ∷ codes "in" ∷ codes "frames" ∷ codes "sound" ∷ codes "journal" ∷ codes "workers" ∷ []
 
 -- the run that words ask for
 abbrev pub given_run : List Text → Option Run

@@ -13,6 +13,7 @@ shown_run run =
       rom = run.rom.now;
       cycles = run.cycles;
       recording = option_copied run.recording;
+      frames = option_copied run.frames;
       sound = option_copied run.sound;
       journal = option_copied run.journal;
       workers = run.workers;

@@ -9,12 +9,13 @@ use Rattle.clap.specs.Walk.{Row, Text, first_of}
 use Rattle.md_words.specs.Parse.{info_app, parse_of, run_app}
 
 -- a run of a cartridge from power-on: the cartridge's name, the cycle of its end, the name of the
--- recording, if one is given, those of the sound file and of the journal, each if it is asked for, and
--- how many workers make it
+-- recording, if one is given, those of the frames file, of the sound file and of the journal, each if it
+-- is asked for, and how many workers make it
 pub record Run : Type 0 where
   pub rom : List ℕ
   pub cycles : ℕ
   pub recording : Option (List ℕ)
+  pub frames : Option (List ℕ)
   pub sound : Option (List ℕ)
   pub journal : Option (List ℕ)
   pub workers : ℕ
@@ -43,6 +44,11 @@ end_of (RunCart run) = run.cycles
 abbrev pub recording_name : Command → Option (List ℕ)
 recording_name (Info rom) = None
 recording_name (RunCart run) = run.recording
+
+-- the name of the frames file, if one is asked for
+abbrev pub frames_name : Command → Option (List ℕ)
+frames_name (Info rom) = None
+frames_name (RunCart run) = run.frames
 
 -- the name of the sound file, if one is asked for
 abbrev pub sound_name : Command → Option (List ℕ)
@@ -92,11 +98,12 @@ differ (Some first) (Some second) = not (bytes_eq first second)
 differ first second = true
 
 -- the names are names, and pairwise different
-abbrev pub are_names : List ℕ → Option (List ℕ) → Option (List ℕ) → Option (List ℕ) → Bool
-are_names rom recording sound journal =
-    is_name rom && is_optional_name recording && is_optional_name sound && is_optional_name journal
-    && differ (Some rom) recording && differ (Some rom) sound && differ (Some rom) journal
-    && differ recording sound && differ recording journal && differ sound journal
+abbrev pub are_names : List ℕ → Option (List ℕ) → Option (List ℕ) → Option (List ℕ) → Option (List ℕ) → Bool
+are_names rom recording frames sound journal =
+    is_name rom && is_optional_name recording && is_optional_name frames && is_optional_name sound && is_optional_name journal
+    && differ (Some rom) recording && differ (Some rom) frames && differ (Some rom) sound && differ (Some rom) journal
+    && differ recording frames && differ recording sound && differ recording journal
+    && differ frames sound && differ frames journal && differ sound journal
 
 -- `info` has the name of a cartridge
 abbrev pub info_from : Option Text → Option Text
@@ -107,26 +114,26 @@ abbrev pub info_of : List Text → Option Text
 info_of words = option_and_then (λ rows. info_from (first_of (codes "rom") rows)) (parse_of info_app words)
 
 -- the run of these names, this cycle of its end and this number of workers
-abbrev pub run_by : Text → Option Text → Option Text → Option Text → Option ℕ → Option ℕ → Option Run
-run_by rom recording sound journal (Some end) (Some workers) =
-    Some (record { rom = rom; cycles = end; recording = recording; sound = sound; journal = journal; workers = workers })
-run_by rom recording sound journal end workers = None
+abbrev pub run_by : Text → Option Text → Option Text → Option Text → Option Text → Option ℕ → Option ℕ → Option Run
+run_by rom recording frames sound journal (Some end) (Some workers) =
+    Some (record { rom = rom; cycles = end; recording = recording; frames = frames; sound = sound; journal = journal; workers = workers })
+run_by rom recording frames sound journal end workers = None
 
 -- the run of these names and these two counts
-abbrev pub run_from : Text → Text → Option Text → Option Text → Option Text → Option Text → Option Run
-run_from rom count recording sound journal workers =
-    if are_names rom recording sound journal then run_by rom recording sound journal (number_of count) (workers_of workers) else None
+abbrev pub run_from : Text → Text → Option Text → Option Text → Option Text → Option Text → Option Text → Option Run
+run_from rom count recording frames sound journal workers =
+    if are_names rom recording frames sound journal then run_by rom recording frames sound journal (number_of count) (workers_of workers) else None
 
--- `run` has the name of a cartridge and `--cycles N`, with `--in P`, `--sound W`, `--journal J` and
--- `--workers K` if wanted
-abbrev pub run_given : Option Text → Option Text → Option Text → Option Text → Option Text → Option Text → Option Run
-run_given (Some rom) (Some count) recording sound journal workers = run_from rom count recording sound journal workers
-run_given rom count recording sound journal workers = None
+-- `run` has the name of a cartridge and `--cycles N`, with `--in P`, `--frames F`, `--sound W`,
+-- `--journal J` and `--workers K` if wanted
+abbrev pub run_given : Option Text → Option Text → Option Text → Option Text → Option Text → Option Text → Option Text → Option Run
+run_given (Some rom) (Some count) recording frames sound journal workers = run_from rom count recording frames sound journal workers
+run_given rom count recording frames sound journal workers = None
 
 abbrev pub run_with : List Row → Option Run
 run_with rows =
-    run_given (first_of (codes "rom") rows) (first_of (codes "cycles") rows) (first_of (codes "in") rows) (first_of (codes "sound") rows)
-    (first_of (codes "journal") rows) (first_of (codes "workers") rows)
+    run_given (first_of (codes "rom") rows) (first_of (codes "cycles") rows) (first_of (codes "in") rows) (first_of (codes "frames") rows)
+    (first_of (codes "sound") rows) (first_of (codes "journal") rows) (first_of (codes "workers") rows)
 
 abbrev pub run_of : List Text → Option Run
 run_of words = option_and_then run_with (parse_of run_app words)

@@ -6,20 +6,26 @@ ghost use Rattle.md_words.specs.Words as meaning;
 pub(crate) fn are_names(
     rom: &str,
     recording: Option<&str>,
+    frames: Option<&str>,
     sound: Option<&str>,
     journal: Option<&str>,
 ) -> bool
-    ensures { result ≡ meaning.are_names rom.now (option_copied recording.entry) (option_copied sound.entry) (option_copied journal.entry) }
+    ensures { result ≡ meaning.are_names rom.now (option_copied recording.entry) (option_copied frames.entry) (option_copied sound.entry) (option_copied journal.entry) }
 {
     is_name(rom)
         && is_optional_name(recording)
+        && is_optional_name(frames)
         && is_optional_name(sound)
         && is_optional_name(journal)
         && differ(Some(rom), recording)
+        && differ(Some(rom), frames)
         && differ(Some(rom), sound)
         && differ(Some(rom), journal)
+        && differ(recording, frames)
         && differ(recording, sound)
         && differ(recording, journal)
+        && differ(frames, sound)
+        && differ(frames, journal)
         && differ(sound, journal)
 }
 

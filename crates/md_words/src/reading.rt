@@ -17,9 +17,9 @@ use std::alloc::{AllocError, Global};
 /// Reads the words of the command line, those behind the program's name; none: they ask for nothing
 /// that there is.
 ///
-/// They are `info ROM`, or `run ROM --cycles N` with `--in P`, `--sound W`, `--journal J` and
-/// `--workers K` where they are wanted. Options stand in any order among the other words, each at most once, as two words
-/// or as `--name=value`; `--` ends the options. Names are not empty, do not begin with a hyphen, and
+/// They are `info ROM`, or `run ROM --cycles N` with `--in P`, `--frames F`, `--sound W`,
+/// `--journal J` and `--workers K` where they are wanted. Options stand in any order among the other
+/// words, each at most once, as two words or as `--name=value`; `--` ends the options. Names are not empty, do not begin with a hyphen, and
 /// are pairwise different. Numbers are 1 to 20 decimal digits with a value below 2^64; K is 1 to 5.
 pub fn read_words<'a>(
     alloc: Global,
@@ -89,6 +89,7 @@ fn run_chosen<'a>(matches: &ArgMatches<'a>) -> Option<RunWords<'a>>
         value(matches, "rom"),
         value(matches, "cycles"),
         value(matches, "in"),
+        value(matches, "frames"),
         value(matches, "sound"),
         value(matches, "journal"),
         value(matches, "workers"),
@@ -107,15 +108,16 @@ fn run_given<'a>(
     rom: Option<&'a str>,
     count: Option<&'a str>,
     recording: Option<&'a str>,
+    frames: Option<&'a str>,
     sound: Option<&'a str>,
     journal: Option<&'a str>,
     workers: Option<&str>,
 ) -> Option<RunWords<'a>>
     ensures { option_map shown_run result ≡ meaning.run_given (option_copied rom.entry) (option_copied count.entry)
-        (option_copied recording.entry) (option_copied sound.entry) (option_copied journal.entry) (option_copied workers.entry) }
+        (option_copied recording.entry) (option_copied frames.entry) (option_copied sound.entry) (option_copied journal.entry) (option_copied workers.entry) }
 {
     match (rom, count) {
-        (Some(rom), Some(count)) => run_from(rom, count, recording, sound, journal, workers),
+        (Some(rom), Some(count)) => run_from(rom, count, recording, frames, sound, journal, workers),
         _ => None,
     }
 }
@@ -125,14 +127,15 @@ fn run_from<'a>(
     rom: &'a str,
     count: &str,
     recording: Option<&'a str>,
+    frames: Option<&'a str>,
     sound: Option<&'a str>,
     journal: Option<&'a str>,
     workers: Option<&str>,
 ) -> Option<RunWords<'a>>
     ensures { option_map shown_run result ≡ meaning.run_from rom.now count.now (option_copied recording.entry)
-        (option_copied sound.entry) (option_copied journal.entry) (option_copied workers.entry) }
+        (option_copied frames.entry) (option_copied sound.entry) (option_copied journal.entry) (option_copied workers.entry) }
 {
-    if !are_names(rom, recording, sound, journal) {
+    if !are_names(rom, recording, frames, sound, journal) {
         return None;
     }
     match (read_number(count), read_workers(workers)) {
@@ -140,6 +143,7 @@ fn run_from<'a>(
             rom,
             cycles,
             recording,
+            frames,
             sound,
             journal,
             workers,

@@ -11,13 +11,17 @@ pub struct RunWords<'a> {
     pub cycles: u64,
     /// The recording's name, if one is given.
     pub recording: Option<&'a str>,
+    /// The frames file's name, if one is asked for.
+    pub frames: Option<&'a str>,
     /// The sound file's name, if one is asked for.
     pub sound: Option<&'a str>,
     /// The journal's name, if one is asked for.
     pub journal: Option<&'a str>,
     /// How many workers make the run, 1 to 5.
     pub workers: u32,
-    ghost outputs_differ: { differ (option_copied sound) (option_copied journal) ≡ true },
+    ghost frames_and_sound_differ: { differ (option_copied frames) (option_copied sound) ≡ true },
+    ghost frames_and_journal_differ: { differ (option_copied frames) (option_copied journal) ≡ true },
+    ghost sound_and_journal_differ: { differ (option_copied sound) (option_copied journal) ≡ true },
     ghost some_workers: { 1 ≤ workers },
     ghost few_workers: { workers ≤ 5 },
 }
