@@ -3,7 +3,7 @@
 ghost use Rattle.std.specs.Prelude.{◌≡◌};
 ghost use Rattle.bus_shared.specs.Accesses.{chip_of};
 
-use bus_shared::{Answer, Request, Shared, carry_out, pins80};
+use bus_shared::{Answer, Request, Shared, carry_out, pins80, start_line};
 use fm_chip::FmList;
 use md_pads::Recording;
 use md_word::{Answer80, Entry, Key, Request68, Request80};
@@ -11,6 +11,7 @@ use psg_sound::PsgList;
 use std::alloc::Global;
 use std::sync::Arc;
 use std::test::Fail;
+use vdp_planes::SpriteNote;
 use z80_parcel::first;
 
 /// One frame, in which pad 1 has Up pressed.
@@ -18,6 +19,12 @@ const UP: &[u8; 16] = b"MDREC001\0\0\0\x01\0\x01\0\0";
 
 /// One frame, in which pad 1 has Up pressed, and pad 2 B and Start.
 const BOTH: &[u8; 16] = b"MDREC001\0\0\0\x01\0\x01\0\x90";
+
+/// A line without sprites has set nothing.
+const NONE_SET: SpriteNote = SpriteNote {
+    overflow: false,
+    collision: false,
+};
 
 /// A board with this recording.
 pub fn board(alloc: Global, bytes: &[u8]) -> Result<Shared, Fail> {
@@ -45,7 +52,7 @@ pub fn main(shared: &mut Shared, cycle: u32, request: Request68) -> (u16, Entry)
 
 /// Starts the line of a cycle: its number in the frame, and the level, as the entry tells them.
 fn line(shared: &mut Shared, cycle: u32) -> (u8, u32, u16) {
-    let (_, entry) = carry_out(shared, key_of(cycle, 2), Request::Line);
+    let entry = start_line(shared, key_of(cycle, 2), NONE_SET);
     (entry.kind, entry.address, entry.value)
 }
 

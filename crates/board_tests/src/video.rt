@@ -4,12 +4,13 @@
 ghost use Rattle.std.specs.Prelude.{◌≡◌};
 ghost use Rattle.bus_shared.specs.Accesses.{chip_of};
 
-use bus_shared::{Request, Shared, carry_out, pins68, pins80};
+use bus_shared::{Request, Shared, carry_out, pins68, pins80, start_line};
 use md_pads::Recording;
 use md_word::{Answer68, Entry, Key, Request68, Transfer};
 use std::alloc::Global;
 use std::sync::Arc;
 use std::test::Fail;
+use vdp_planes::{LineView, SpriteNote};
 
 const DATA: u32 = 0xc0_0000;
 
@@ -25,6 +26,12 @@ const NO_TRANSFER: Transfer = Transfer {
     source: 0,
     words: 0,
     cost: 0,
+};
+
+/// A line without sprites has set nothing.
+const NONE_SET: SpriteNote = SpriteNote {
+    overflow: false,
+    collision: false,
 };
 
 /// A board of whose pads nothing is recorded.
@@ -72,8 +79,123 @@ fn line(shared: &mut Shared, cycle: u32) -> (u32, u16) {
         cycle: u64::from(cycle),
         chip: 2,
     };
-    let (_, entry) = carry_out(shared, key, Request::Line);
+    let entry = start_line(shared, key, NONE_SET);
     (entry.address, entry.value)
+}
+
+/// Starts the line of a cycle behind one whose sprites have set this.
+fn line_behind(shared: &mut Shared, cycle: u32, overflow: bool, collision: bool) {
+    let key = Key {
+        cycle: u64::from(cycle),
+        chip: 2,
+    };
+    start_line(
+        shared,
+        key,
+        SpriteNote {
+            overflow,
+            collision,
+        },
+    );
+}
+
+// What the sprites of the line before have set joins the status, bits 6 and 5, at the start of a line,
+// and stays until the status is read: cycles of lines, what was set, and the status 28 cycles later, of
+// which bit 9 is 1 and bit 3 the vertical blanking of a display that is off.
+fn set_by_sprites(shared: &mut Shared) -> u32 {
+    let rows = [
+        (0, true, false, 0x248),
+        (3_420, false, true, 0x228),
+        (6_840, true, true, 0x268),
+        (10_260, false, false, 0x208),
+    ];
+    let mut wrong = 0;
+    for (cycle, overflow, collision, status) in rows {
+        line_behind(shared, cycle, overflow, collision);
+        let read = value(shared, cycle.wrapping_add(28), Request68::Read16(CONTROL));
+        if read != status {
+            wrong = 1;
+        }
+    }
+    line_behind(shared, 13_680, true, false);
+    line_behind(shared, 17_100, false, true);
+    let both = value(shared, 17_128, Request68::Read16(CONTROL));
+    if both != 0x268 { 1 } else { wrong }
+}
+
+#[test]
+fn sprites_of_the_line_before_join_the_status(rt: HostRuntime) -> Result<(), Fail> {
+    let mut shared = board(rt.alloc())?;
+    assert_eq!(rt; set_by_sprites(&mut shared), 0);
+    Ok(())
+}
+
+/// A view of which nothing is filled.
+fn blank_view(alloc: Global) -> Result<Box<LineView>, Fail> {
+    let view = LineView {
+        registers: [7; 24],
+        vram: [7; 65536],
+        cram: [7; 64],
+        vsram: [7; 40],
+    };
+    Box::new(alloc, view).map_err(|_| Fail::from("no memory"))
+}
+
+/// The view that the start of a line hands back, as a byte of VRAM, register 1, CRAM word 1 and VSRAM
+/// word 1.
+fn shown(shared: &mut Shared, cycle: u32, view: Box<LineView>, at: usize) -> [u16; 4] {
+    let key = Key {
+        cycle: u64::from(cycle),
+        chip: 2,
+    };
+    let (answer, _) = carry_out(shared, key, Request::Line(view, NONE_SET));
+    match answer.line_view() {
+        Some(view) => [
+            u16::from(view.vram[at % 65536]),
+            u16::from(view.registers[1]),
+            view.cram[1],
+            view.vsram[1],
+        ],
+        None => [0xdead; 4],
+    }
+}
+
+// A fill with the byte ABh, of 256 bytes, is started at cycle 56 with increment 1: the word is written at
+// 0, and byte k comes at 56 + 17 (k + 1) to 1 + k with bit 0 inverted. At 3,420 those stamped below are
+// done: 56 + 17 * 197 is 3,405, and 17 more are 3,422. So byte 196, at 197 with bit 0 inverted, is
+// there, and byte 197, at 198 with bit 0 inverted, is not.
+fn filling(shared: &mut Shared) {
+    control(shared, 28, &[0x8114, 0x8f01, 0x9300, 0x9401, 0x9780]);
+    control(shared, 28, &[0xc002, 0]);
+    data(shared, 28, 0x0eee);
+    control(shared, 28, &[0x4002, 0x0010]);
+    data(shared, 28, 0x0123);
+    control(shared, 56, &[0x4000, 0x0080]);
+    data(shared, 56, 0xab00);
+}
+
+#[test]
+fn a_line_shows_the_vdp_of_its_cycle(rt: HostRuntime) -> Result<(), Fail> {
+    let mut shared = board(rt.alloc())?;
+    filling(&mut shared);
+    let view = blank_view(rt.alloc())?;
+    assert_eq!(rt; shown(&mut shared, 3_420, view, 196), [0xab, 0x14, 0x0eee, 0x0123]);
+    let view = blank_view(rt.alloc())?;
+    assert_eq!(rt; shown(&mut shared, 3_420, view, 199)[0], 0);
+    let view = blank_view(rt.alloc())?;
+    assert_eq!(rt; shown(&mut shared, 6_840, view, 199)[0], 0xab);
+    Ok(())
+}
+
+// Behind the picture, from line 224 on, a view stays as it was.
+#[test]
+fn behind_the_picture_no_view_is_filled(rt: HostRuntime) -> Result<(), Fail> {
+    let mut shared = board(rt.alloc())?;
+    let view = blank_view(rt.alloc())?;
+    assert_eq!(rt; shown(&mut shared, 762_660, view, 5), [0, 0, 0, 0]);
+    let view = blank_view(rt.alloc())?;
+    assert_eq!(rt; shown(&mut shared, 766_080, view, 5), [7, 7, 7, 7]);
+    Ok(())
 }
 
 // Each even address of the area at cycle 2,566 of line 0, in the horizontal blanking, with the display

@@ -6,6 +6,8 @@ mod events;
 #[cfg(test)]
 mod fm;
 #[cfg(test)]
+mod frames;
+#[cfg(test)]
 mod machine;
 #[cfg(test)]
 mod pads;

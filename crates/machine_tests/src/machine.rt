@@ -1,5 +1,5 @@
 ghost use Rattle.std.specs.Prelude.{◌≡◌, ◌+◌, ◌≤◌, ◌<◌, [], length, IfOk};
-ghost use Rattle.md_machine.specs.Samples.{no_samples};
+ghost use Rattle.md_machine.specs.Media.{no_media};
 
 use md_machine::Machine;
 use md_pads::Recording;
@@ -43,30 +43,54 @@ pub fn no_recording(alloc: Global) -> Result<Arc<Recording>, Fail> {
 pub fn power_on(alloc: Global, cart: Arc<Cart>) -> Result<Machine, Fail>
     ensures at { IfOk result (λ machine. machine.at ≡ 0) }
     ensures entries { IfOk result (λ machine. machine.entries ≡ []) }
-    ensures samples { IfOk result (λ machine. machine.samples ≡ no_samples) }
+    ensures media { IfOk result (λ machine. machine.media ≡ no_media) }
 {
     let recording = no_recording(alloc)?;
     Machine::power_on(alloc, cart, recording).map_err(|_| Fail::from("no memory"))
 }
 
 /// Brings the machine to a cycle, and gives the bytes of its entries and pairs since it was last
-/// drained.
+/// drained. A frame is let go.
 pub fn drained(machine: &mut Machine, alloc: Global, to: u64) -> Result<(Vec<u8>, Vec<u8>), Fail>
     requires later { machine.old.at < to }
     requires near { to ≤ machine.old.at + 896040 }
     requires far { to ≤ 549755813888 }
     requires entries { machine.old.entries ≡ [] }
-    requires samples { machine.old.samples ≡ no_samples }
+    requires media { machine.old.media ≡ no_media }
     ensures at { IfOk result (λ bytes. machine.new.at ≡ to) }
     ensures entries { IfOk result (λ bytes. machine.new.entries ≡ []) }
-    ensures samples { IfOk result (λ bytes. machine.new.samples ≡ no_samples) }
+    ensures media { IfOk result (λ bytes. machine.new.media ≡ no_media) }
 {
     let mut entries = Vec::with_capacity(alloc, 840_000)?;
     let mut pairs = Vec::with_capacity(alloc, 3_584)?;
+    let mut frames = Vec::with_capacity(alloc, 215_055)?;
     machine.alone(to);
     machine.drain_entries(&mut entries);
     machine.drain_pairs(&mut pairs);
+    machine.drain_frames(&mut frames);
     Ok((entries, pairs))
+}
+
+/// Brings the machine to a cycle, and gives the frame that was finished since it was last drained, if one
+/// was. Entries and pairs are let go.
+pub fn framed(machine: &mut Machine, alloc: Global, to: u64) -> Result<Vec<u8>, Fail>
+    requires later { machine.old.at < to }
+    requires near { to ≤ machine.old.at + 896040 }
+    requires far { to ≤ 549755813888 }
+    requires entries { machine.old.entries ≡ [] }
+    requires media { machine.old.media ≡ no_media }
+    ensures at { IfOk result (λ bytes. machine.new.at ≡ to) }
+    ensures entries { IfOk result (λ bytes. machine.new.entries ≡ []) }
+    ensures media { IfOk result (λ bytes. machine.new.media ≡ no_media) }
+{
+    let mut entries = Vec::with_capacity(alloc, 840_000)?;
+    let mut pairs = Vec::with_capacity(alloc, 3_584)?;
+    let mut frames = Vec::with_capacity(alloc, 215_055)?;
+    machine.alone(to);
+    machine.drain_entries(&mut entries);
+    machine.drain_pairs(&mut pairs);
+    machine.drain_frames(&mut frames);
+    Ok(frames)
 }
 
 // 262 lines and 55 batches of each sound chip, all silent. The line that begins at 896,040 is line

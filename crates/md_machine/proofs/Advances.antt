@@ -1,5 +1,5 @@
 -- The answer that a processor keeps fits its request.
-use Rattle.std.proofs.Common.{◌≡◌, IfSome, sym, ap, subst, ℕ, ◌<◌, ◌^◌, false, refl, ◌∙◌}
+use Rattle.std.proofs.Common.{◌≡◌, IfSome, IsSome, sym, ap, subst, ℕ, ◌<◌, ◌^◌, false, refl, ◌∙◌}
 use Rattle.z80_chip.specs.Events.{asked_of, handed}
 use Rattle.z80_chip.specs.States.{State80, next_of as sub_next_of}
 use Rattle.md_word.specs.declared.event.Next.{Next}
@@ -9,9 +9,9 @@ use Rattle.m68k_chip.specs.Sound.{Fits}
 use Rattle.m68k_chip.specs.States.{next_of as main_next_of}
 use Rattle.md_machine.specs.Laws.{answer-fits, told-fits}
 use Rattle.bus_shared.specs.Board.{Board, IsBoard}
-use Rattle.md_machine.specs.Refinement.{main_of, sub_of}
+use Rattle.md_machine.specs.Refinement.{draw_of, main_of, sub_of}
 use Rattle.md_machine.specs.Rules.{perform, IsChip, next}
-use Rattle.md_machine.specs.Parts.{SubValue}
+use Rattle.md_machine.specs.Parts.{DrawValue, SubValue}
 use Rattle.md_machine.specs.declared.chips.Chip.{Chip}
 use Rattle.md_machine.specs.declared.chips.Chip.TheVariants.{Main, Sub, Line, Fm, Psg}
 use Rattle.md_machine.specs.declared.main_chip.MainChip.{MainChip}
@@ -56,3 +56,18 @@ performed-cycle (Sub b) s c is below =
 performed-cycle (Line b) s c is below = cc
 performed-cycle (Fm b) s c is below = cc
 performed-cycle (Psg b) s c is below = cc
+
+-- the view of a line that was begun is there, at the same line
+pub performed-view : (before : Chip) (s : Board) (c : DrawValue) → Line c ≡ (perform before s).chip → IsSome c.view
+performed-view (Main b) s c is = cc
+performed-view (Sub b) s c is = cc
+performed-view (Line b) s c is = subst (λ (v : DrawValue). IsSome v.view) (sym (ap draw_of is)) refl
+performed-view (Fm b) s c is = cc
+performed-view (Psg b) s c is = cc
+
+pub performed-line : (before : Chip) (s : Board) (c : DrawValue) → Line c ≡ (perform before s).chip → (next before).key.cycle < 2 ^ 50 → c.chip.next < 2 ^ 50
+performed-line (Main b) s c is below = cc
+performed-line (Sub b) s c is below = cc
+performed-line (Line b) s c is below = subst (λ (v : DrawValue). v.chip.next < 2 ^ 50) (sym (ap draw_of is)) below
+performed-line (Fm b) s c is below = cc
+performed-line (Psg b) s c is below = cc

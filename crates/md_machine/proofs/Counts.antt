@@ -7,21 +7,21 @@ use Rattle.m68k_chip.specs.States.{next_of}
 use Rattle.z80_chip.specs.States.{next_of as sub_next_of}
 use Rattle.md_pads.specs.Recording.{Frame}
 use Rattle.bus_shared.specs.Accesses.{main_told}
-use Rattle.md_machine.specs.Console.{AllBelow, Console, IsQuiet, IsRunTo, fm_moved, heard, journal, key_in, main_moved, moved, sub_accessed, sub_moved, mover, power_on, psg_moved, ran, sounded, told}
-use Rattle.md_machine.specs.Samples.{Samples, joined, no_samples}
+use Rattle.md_machine.specs.Console.{AllBelow, Console, IsQuiet, IsRunTo, fm_moved, rendered, journal, key_in, main_moved, moved, sub_accessed, sub_moved, mover, power_on, psg_moved, ran, media, told}
+use Rattle.md_machine.specs.Media.{Media, joined, no_media}
 use Rattle.md_machine.specs.Movers.{mover-lt}
 use Rattle.md_machine.proofs.Moves.{five-each}
 use Rattle.md_machine.proofs.Samples.{levels-long, sides-long}
 
 -- a sound chip's samples among those of both, the cycle of its next batch, and what a move does to them
-data Batch {A : Type 0} (of : Samples → List A) (next : Console → ℕ) (z : Console) (i : ℕ) : Type 0 where
-  made : (key_in z i).cycle ≡ next z → next (moved z i) ≡ next z + 16128 → length (of (heard z i)) ≡ 16 → Batch of next z i
-  none : next (moved z i) ≡ next z → of (heard z i) ≡ [] → Batch of next z i
+data Batch {A : Type 0} (of : Media → List A) (next : Console → ℕ) (z : Console) (i : ℕ) : Type 0 where
+  made : (key_in z i).cycle ≡ next z → next (moved z i) ≡ next z + 16128 → length (of (rendered z i)) ≡ 16 → Batch of next z i
+  none : next (moved z i) ≡ next z → of (rendered z i) ≡ [] → Batch of next z i
 
 record Beat (A : Type 0) : Type 0 where
-  of : Samples → List A
-  nothing : of no_samples ≡ []
-  more : (first second : Samples) → of (joined first second) ≡ of first ++ of second
+  of : Media → List A
+  nothing : of no_media ≡ []
+  more : (first second : Media) → of (joined first second) ≡ of first ++ of second
   next : Console → ℕ
   first : (cart : List ℕ) (recording : List Frame) → next (power_on cart recording) ≡ 16128
   batch : (z : Console) (i : ℕ) → i < 5 → Batch of next z i
@@ -36,7 +36,7 @@ main-leaves true x y c first second = first
 main-leaves false x y c first second = second
 
 fm-batch : (z : Console) (i : ℕ) → i < 5 → Batch (λ s. s.sides) (λ m. m.fm_cycle) z i
-unfolding key_in moved heard main_moved sub_moved fm_moved psg_moved
+unfolding key_in moved rendered main_moved sub_moved fm_moved psg_moved
 fm-batch z =
     five-each (λ i. Batch (λ s. s.sides) (λ m. m.fm_cycle) z i)
     (none (fm-leaves (next_of z.main).sample _ _ z.fm_cycle refl refl) refl)
@@ -44,7 +44,7 @@ fm-batch z =
     (none refl refl) (made refl refl (sides-long z 3 (lit< tt))) (none refl refl)
 
 psg-batch : (z : Console) (i : ℕ) → i < 5 → Batch (λ s. s.levels) (λ m. m.psg_cycle) z i
-unfolding key_in moved heard main_moved sub_moved fm_moved psg_moved
+unfolding key_in moved rendered main_moved sub_moved fm_moved psg_moved
 psg-batch z =
     five-each (λ i. Batch (λ s. s.levels) (λ m. m.psg_cycle) z i)
     (none (main-leaves (next_of z.main).sample _ _ z.psg_cycle refl refl) refl)
@@ -85,54 +85,54 @@ psg_beat = record {
 record Batches {A : Type 0} (p : Beat A) (cart : List ℕ) (recording : List Frame) (end n : ℕ) : Type 0 where
   batches : ℕ
   next : p.next (ran (power_on cart recording) n) ≡ 16128 * (batches + 1)
-  count : length (p.of (sounded (power_on cart recording) n)) ≡ 16 * batches
+  count : length (p.of (media (power_on cart recording) n)) ≡ 16 * batches
   last : 16128 * batches < end
 
 -- the samples of one move more
-longer : {A : Type 0} (p : Beat A) (first second : Samples) → length (p.of (joined first second)) ≡ length (p.of first) + length (p.of second)
+longer : {A : Type 0} (p : Beat A) (first second : Media) → length (p.of (joined first second)) ≡ length (p.of first) + length (p.of second)
 longer p first second = ap length (p.more first second) ∙ length-append (p.of first) (p.of second)
 
 batch-more : {A : Type 0} (p : Beat A) (cart : List ℕ) (recording : List Frame) (end n : ℕ) → Batches p cart recording end n
     → (key_in (ran (power_on cart recording) n) (mover (ran (power_on cart recording) n))).cycle < end
     → Batch p.of p.next (ran (power_on cart recording) n) (mover (ran (power_on cart recording) n)) → Batches p cart recording end (suc n)
-unfolding ran sounded
+unfolding ran media
 batch-more p cart recording end n before below (made at next sixteen) = record {
   batches = before.batches + 1;
   next = omega (arith, next, before.next);
-  count = omega (arith, longer p (sounded (power_on cart recording) n) (heard (ran (power_on cart recording) n) (mover (ran (power_on cart recording) n))), before.count, sixteen);
+  count = omega (arith, longer p (media (power_on cart recording) n) (rendered (ran (power_on cart recording) n) (mover (ran (power_on cart recording) n))), before.count, sixteen);
   last = omega (arith, at, before.next, below);
 }
 batch-more p cart recording end n before below (none next silent) = record {
   batches = before.batches;
   next = next ∙ before.next;
   count =
-      longer p (sounded (power_on cart recording) n) (heard (ran (power_on cart recording) n) (mover (ran (power_on cart recording) n)))
-      ∙ ap (λ l. length (p.of (sounded (power_on cart recording) n)) + length l) silent ∙ omega (arith, before.count);
+      longer p (media (power_on cart recording) n) (rendered (ran (power_on cart recording) n) (mover (ran (power_on cart recording) n)))
+      ∙ ap (λ l. length (p.of (media (power_on cart recording) n)) + length l) silent ∙ omega (arith, before.count);
   last = before.last;
 }
 
 batches-to : {A : Type 0} (p : Beat A) (cart : List ℕ) (recording : List Frame) (end n : ℕ) → 1 ≤ end → AllBelow (power_on cart recording) end n → Batches p cart recording end n
-unfolding ran sounded
+unfolding ran media
 batches-to p cart recording end zero some below = record { batches = 0; next = p.first cart recording; count = ap length p.nothing; last = omega (arith, some) }
 batches-to p cart recording end (suc n) some below =
     batch-more p cart recording end n (batches-to p cart recording end n some (λ k earlier. below k (omega arith))) (below n (omega arith))
     (p.batch (ran (power_on cart recording) n) (mover (ran (power_on cart recording) n)) (mover-lt (ran (power_on cart recording) n)))
 
-counted : {A : Type 0} (p : Beat A) (cart : List ℕ) (recording : List Frame) (z : Console) (end : ℕ) (entries : List Entry) (sound : Samples) → 1 ≤ end
+counted : {A : Type 0} (p : Beat A) (cart : List ℕ) (recording : List Frame) (z : Console) (end : ℕ) (entries : List Entry) (sound : Media) → 1 ≤ end
     → IsRunTo (power_on cart recording) end z entries sound → length (p.of sound) ≡ 16 * ((end - 1) / 16128)
 counted p cart recording z end entries sound some run =
     let made : Batches p cart recording end run.moves = batches-to p cart recording end run.moves some run.below in
     let late : end ≤ p.next z = p.late z end run.quiet in
     let at : p.next z ≡ 16128 * (made.batches + 1) = ap p.next run.console ∙ made.next in
     let first : (end - 1) / 16128 ≡ made.batches = omega (arith, late, at, made.last, some) in
-    ap (λ (s : Samples). length (p.of s)) run.heard_to ∙ made.count ∙ ap (λ k. 16 * k) (omega (arith, first))
+    ap (λ (s : Media). length (p.of s)) run.rendered_to ∙ made.count ∙ ap (λ k. 16 * k) (omega (arith, first))
 
-pub sides-counted : (cart : List ℕ) (recording : List Frame) (z : Console) (end : ℕ) (entries : List Entry) (sound : Samples) → 1 ≤ end
+pub sides-counted : (cart : List ℕ) (recording : List Frame) (z : Console) (end : ℕ) (entries : List Entry) (sound : Media) → 1 ≤ end
     → IsRunTo (power_on cart recording) end z entries sound → length sound.sides ≡ 16 * ((end - 1) / 16128)
 unfolding fm_beat
 sides-counted = counted fm_beat
 
-pub levels-counted : (cart : List ℕ) (recording : List Frame) (z : Console) (end : ℕ) (entries : List Entry) (sound : Samples) → 1 ≤ end
+pub levels-counted : (cart : List ℕ) (recording : List Frame) (z : Console) (end : ℕ) (entries : List Entry) (sound : Media) → 1 ≤ end
     → IsRunTo (power_on cart recording) end z entries sound → length sound.levels ≡ 16 * ((end - 1) / 16128)
 unfolding psg_beat
 levels-counted = counted psg_beat
@@ -153,5 +153,5 @@ journal-few m zero = omega arith
 journal-few m (suc n) =
     omega (arith, length-append (journal m n) (told (ran m n) (mover (ran m n))), journal-few m n, told-few (ran m n) (mover (ran m n)) (mover-lt (ran m n)))
 
-pub entries-few : (m z : Console) (end : ℕ) (entries : List Entry) (sound : Samples) (run : IsRunTo m end z entries sound) → length entries ≤ run.moves
+pub entries-few : (m z : Console) (end : ℕ) (entries : List Entry) (sound : Media) (run : IsRunTo m end z entries sound) → length entries ≤ run.moves
 entries-few m z end entries sound run = subst (λ (l : List Entry). length l ≤ run.moves) (sym run.entered) (journal-few m run.moves)

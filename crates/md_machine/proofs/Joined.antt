@@ -1,8 +1,8 @@
 -- Two runs, the one behind the other, are one.
 use Rattle.std.proofs.Common.{◌≡◌, ℕ, zero, suc, ◌+◌, ◌-◌, ◌<◌, ◌≤◌, ◌⊎◌, inl, inr, List, ◌++◌, sym, ap, ◌∙◌, subst, append-nil, append_assoc, arith}
 use Rattle.md_word.specs.declared.event.Entry.{Entry}
-use Rattle.md_machine.specs.Console.{Console, IsRunTo, heard, journal, key_in, moved, mover, ran, sounded, told}
-use Rattle.md_machine.specs.Samples.{Samples, joined, no_samples}
+use Rattle.md_machine.specs.Console.{Console, IsRunTo, rendered, journal, key_in, moved, mover, ran, media, told}
+use Rattle.md_machine.specs.Media.{Media, joined, no_media}
 
 next : (a b : ℕ) → a + suc b ≡ suc (a + b)
 next a b = omega arith
@@ -25,20 +25,24 @@ journal-add m a (suc b) =
     ∙ append_assoc (journal m a) (journal (ran m a) b) (told (ran (ran m a) b) (mover (ran (ran m a) b)))
 
 -- samples behind one another
-joined-none : (s : Samples) → joined s no_samples ≡ s
-joined-none s = λ i. record { sides = append-nil s.sides i; levels = append-nil s.levels i }
+joined-none : (s : Media) → joined s no_media ≡ s
+joined-none s = λ i. record { frames = append-nil s.frames i; sides = append-nil s.sides i; levels = append-nil s.levels i }
 
-joined-assoc : (a b c : Samples) → joined (joined a b) c ≡ joined a (joined b c)
-joined-assoc a b c = λ i. record { sides = append_assoc a.sides b.sides c.sides i; levels = append_assoc a.levels b.levels c.levels i }
+joined-assoc : (a b c : Media) → joined (joined a b) c ≡ joined a (joined b c)
+joined-assoc a b c = λ i. record {
+  frames = append_assoc a.frames b.frames c.frames i;
+  sides = append_assoc a.sides b.sides c.sides i;
+  levels = append_assoc a.levels b.levels c.levels i;
+}
 
-pub sounded-add : (m : Console) (a b : ℕ) → sounded m (a + b) ≡ joined (sounded m a) (sounded (ran m a) b)
-unfolding sounded
-sounded-add m a zero = ap (sounded m) (none a) ∙ sym (joined-none (sounded m a))
-sounded-add m a (suc b) =
-    ap (sounded m) (next a b)
-    ∙ ap (λ l. joined l (heard (ran m (a + b)) (mover (ran m (a + b))))) (sounded-add m a b)
-    ∙ ap (λ z. joined (joined (sounded m a) (sounded (ran m a) b)) (heard z (mover z))) (ran-add m a b)
-    ∙ joined-assoc (sounded m a) (sounded (ran m a) b) (heard (ran (ran m a) b) (mover (ran (ran m a) b)))
+pub media-add : (m : Console) (a b : ℕ) → media m (a + b) ≡ joined (media m a) (media (ran m a) b)
+unfolding media
+media-add m a zero = ap (media m) (none a) ∙ sym (joined-none (media m a))
+media-add m a (suc b) =
+    ap (media m) (next a b)
+    ∙ ap (λ l. joined l (rendered (ran m (a + b)) (mover (ran m (a + b))))) (media-add m a b)
+    ∙ ap (λ z. joined (joined (media m a) (media (ran m a) b)) (rendered z (mover z))) (ran-add m a b)
+    ∙ joined-assoc (media m a) (media (ran m a) b) (rendered (ran (ran m a) b) (mover (ran (ran m a) b)))
 
 early : (k a : ℕ) → (k < a) ⊎ (a ≤ k)
 early k a = grind arith
@@ -50,7 +54,7 @@ split k a b below = elim (early k a) [
   | inr late ↦ inr (k - a, omega arith, omega arith)
 ]
 
-pub run-joined : (m w z : Console) (s t : ℕ) (entries later_entries : List Entry) (sound later_sound : Samples) → s ≤ t
+pub run-joined : (m w z : Console) (s t : ℕ) (entries later_entries : List Entry) (sound later_sound : Media) → s ≤ t
     → IsRunTo m s w entries sound → IsRunTo w t z later_entries later_sound
     → IsRunTo m t z (entries ++ later_entries) (joined sound later_sound)
 run-joined m w z s t entries later_entries sound later_sound within first second =
@@ -68,8 +72,8 @@ run-joined m w z s t entries later_entries sound later_sound within first second
           ap (λ l. l ++ later_entries) first.entered
           ∙ ap (λ l. journal m first.moves ++ l) (second.entered ∙ ap (λ (x : Console). journal x second.moves) first.console)
           ∙ sym (journal-add m first.moves second.moves);
-      heard_to =
-          ap (λ l. joined l later_sound) first.heard_to
-          ∙ ap (λ l. joined (sounded m first.moves) l) (second.heard_to ∙ ap (λ (x : Console). sounded x second.moves) first.console)
-          ∙ sym (sounded-add m first.moves second.moves);
+      rendered_to =
+          ap (λ l. joined l later_sound) first.rendered_to
+          ∙ ap (λ l. joined (media m first.moves) l) (second.rendered_to ∙ ap (λ (x : Console). media x second.moves) first.console)
+          ∙ sym (media-add m first.moves second.moves);
     }

@@ -1,6 +1,8 @@
 pub mod Advances
 pub mod Appended
 pub mod Counts
+pub mod FrameCounts
+pub mod Frames
 pub mod Handed
 pub mod Joined
 pub mod Kept

@@ -1,5 +1,5 @@
 -- A move of the five chips is the record's move.
-use Rattle.std.proofs.Common.{◌≡◌, ℕ, zero, suc, ◌<◌, Bool, true, false, cond, List, [], ◌∷◌, length, refl, sym, ap, ◌∙◌, arith, lit<}
+use Rattle.std.proofs.Common.{◌≡◌, ℕ, zero, suc, ◌<◌, Bool, true, false, cond, ◌+◌, List, [], ◌∷◌, length, None, refl, sym, ap, ◌∙◌, arith, lit<}
 use Rattle.md_word.specs.declared.event.Entry.{Entry}
 use Rattle.md_word.specs.declared.key.Key.{Key}
 use Rattle.chip_core.specs.Machines.{IsSound, Machine, entries, is_sample, key_of, move, put}
@@ -9,13 +9,17 @@ use Rattle.psg_sound.specs.Port.{taken_below}
 use Rattle.fm_chip.specs.Port as fm_ports
 use Rattle.bus_shared.specs.Accesses.{level_of, line_board, main_told, sub_access}
 use Rattle.bus_shared.specs.Entries.{batch_entry, line_entry}
-use Rattle.md_machine.specs.Console.{fm_moved, key_in, main_moved, moved, sub_moved, psg_moved, told}
+use Rattle.md_machine.specs.Console.{Console, fm_moved, key_in, line_moved, main_moved, moved, sub_moved, psg_moved, told}
 use Rattle.bus_shared.specs.Board.{Board, IsBoard}
-use Rattle.md_machine.specs.Parts.{FmValue, PsgValue, SubValue}
-use Rattle.md_machine.specs.Refinement.{console, cycle_of, fm_of, main_of, psg_of, sub_of}
+use Rattle.vdp_planes.specs.View.{view_of}
+use Rattle.vdp_planes.specs.declared.view.LineView.{LineView}
+use Rattle.vdp_chip.specs.Drawing.{Drawing, line_drawn, picture_after}
+use Rattle.md_machine.specs.LineLaws.{told-drawn}
+use Rattle.md_machine.specs.Lines.{drawn_from, told_view}
+use Rattle.md_machine.specs.Parts.{DrawValue, FmValue, PsgValue, SubValue}
+use Rattle.md_machine.specs.Refinement.{console, draw_of, fm_of, main_of, psg_of, record_of, sub_of}
 use Rattle.md_machine.specs.Rules.{IsChip, advance, five, next, perform, sample}
 use Rattle.md_machine.specs.declared.main_chip.MainChip.{MainChip}
-use Rattle.md_machine.specs.declared.stubs.LineStub.{LineStub}
 use Rattle.z80_chip.specs.Events.{asked_of}
 use Rattle.z80_chip.specs.States.{next_of as sub_next_of}
 use Rattle.md_machine.specs.Pins.{pins_of}
@@ -59,7 +63,7 @@ kind1 (Line c) is = absurd (omega arith)
 kind1 (Fm c) is = absurd (omega arith)
 kind1 (Psg c) is = absurd (omega arith)
 
-kind2 : (c : Chip) → (next c).key.chip ≡ 2 → (v : LineStub) × (c ≡ Line v)
+kind2 : (c : Chip) → (next c).key.chip ≡ 2 → (v : DrawValue) × (c ≡ Line v)
 kind2 (Main c) is = absurd (omega (arith, main_zero c))
 kind2 (Sub c) is = absurd (omega (arith, sub_one c))
 kind2 (Line c) is = (c, refl)
@@ -80,6 +84,22 @@ kind4 (Line c) is = absurd (omega arith)
 kind4 (Fm c) is = absurd (omega arith)
 kind4 (Psg c) is = (c, refl)
 
+-- the parts of the drawing half that the record has
+line-seen : (z : Console) (view : LineView) (d : Drawing)
+    → record z {
+      note = (drawn_from (told_view d.next view) (record d { has_view = false })).note;
+      picture = (drawn_from (told_view d.next view) (record d { has_view = false })).picture;
+      line = (drawn_from (told_view d.next view) (record d { has_view = false })).next;
+    }
+    ≡ record z {
+      note = (drawn_from view (record { next = d.next; note = d.note; has_view = true; picture = d.picture; frame = None })).note;
+      picture = (drawn_from view (record { next = d.next; note = d.note; has_view = true; picture = d.picture; frame = None })).picture;
+      line = d.next + 3420;
+    }
+unfolding drawn_from line_drawn picture_after
+line-seen z view d =
+    ap (λ (after : Drawing). record z { note = after.note; picture = after.picture; line = after.next }) (told-drawn view (record d { has_view = false }))
+
 -- the moves, chip by chip
 main_move : (b : Bool) (m : Machine Chip Board) (v : MainChip) → (next_of v.chip.state).sample ≡ b → m.chip 0 ≡ Main v
     → console (move five m 0) ≡ moved (console m) 0
@@ -93,9 +113,14 @@ unfolding console moved sub_moved put
 sub_move true m v kind is = rw (move-sample m 1 (ap (λ (c : Chip). (next c).sample) is ∙ kind)) (rw is (rw kind refl))
 sub_move false m v kind is = rw (move-access m 1 (ap (λ (c : Chip). (next c).sample) is ∙ kind)) (rw is (rw kind refl))
 
-line_move : (m : Machine Chip Board) (v : LineStub) → m.chip 2 ≡ Line v → console (move five m 2) ≡ moved (console m) 2
-unfolding console moved put
-line_move m v is = rw (move-access m 2 (ap (λ (c : Chip). (next c).sample) is)) (rw is refl)
+-- the event of a line: what is not told of the view is not seen
+draw_move : (m : Machine Chip Board) (v : DrawValue) → m.chip 2 ≡ Line v → console (move five m 2) ≡ moved (console m) 2
+unfolding console moved line_moved put
+draw_move m v is =
+    let lent : Drawing = record v.chip { has_view = false } in
+    let after : Board = line_board m.shared v.chip.next v.chip.note in
+    let before : Console = record_of (m.chip 0) (m.chip 1) (Line v) (m.chip 3) (m.chip 4) after in
+    rw (move-access m 2 (ap (λ (c : Chip). (next c).sample) is)) (rw is (line-seen before (view_of after.vdp) v.chip))
 
 fm_move : (m : Machine Chip Board) (v : FmValue) → m.chip 3 ≡ Fm v → console (move five m 3) ≡ moved (console m) 3
 unfolding console moved fm_moved put
@@ -122,7 +147,7 @@ move-same m sound =
     let k3 = kind3 (m.chip 3) (sound.number 3 (lit< tt)) in
     let k4 = kind4 (m.chip 4) (sound.number 4 (lit< tt)) in
     five-each (λ i. console (move five m i) ≡ moved (console m) i)
-    (main_move (next_of k0.0.chip.state).sample m k0.0 refl k0.1) (sub_move (sub_next_of k1.0.chip.state).sample m k1.0 refl k1.1) (line_move m k2.0 k2.1) (fm_move m k3.0 k3.1) (psg_move m k4.0 k4.1)
+    (main_move (next_of k0.0.chip.state).sample m k0.0 refl k0.1) (sub_move (sub_next_of k1.0.chip.state).sample m k1.0 refl k1.1) (draw_move m k2.0 k2.1) (fm_move m k3.0 k3.1) (psg_move m k4.0 k4.1)
 
 -- two readings of a chip that agree on a kind of chip agree on one of that kind
 pub at-kind : {B : Type 0} (f g : Chip → B) (c k : Chip) → c ≡ k → f k ≡ g k → f c ≡ g c
@@ -141,7 +166,7 @@ key-same m sound =
     five-each (λ i. key_of five m i ≡ key_in (console m) i)
     (at-kind read (λ c. (next_of (main_of c).chip.state).key) (m.chip 0) (Main k0.0) k0.1 refl)
     (at-kind read (λ c. (sub_next_of (sub_of c).chip.state).key) (m.chip 1) (Sub k1.0) k1.1 refl)
-    (at-kind read (λ c. record { cycle = cycle_of c; chip = 2 }) (m.chip 2) (Line k2.0) k2.1 refl)
+    (at-kind read (λ c. record { cycle = (draw_of c).chip.next; chip = 2 }) (m.chip 2) (Line k2.0) k2.1 refl)
     (at-kind read (λ c. record { cycle = (fm_of c).cycle; chip = 3 }) (m.chip 3) (Fm k3.0) k3.1 refl)
     (at-kind read (λ c. record { cycle = (psg_of c).cycle; chip = 4 }) (m.chip 4) (Psg k4.0) k4.1 refl)
 
@@ -162,7 +187,7 @@ told-same m sound =
     (at-kind read
     (λ c. let s = (sub_of c).chip.state in cond (sub_next_of s).sample [] ((sub_access m.shared (sub_next_of s).key (asked_of (sub_of c).chip.cart s)).entry ∷ []))
     (m.chip 1) (Sub k1.0) k1.1 refl)
-    (at-kind read (λ c. line_entry (record { cycle = cycle_of c; chip = 2 }) (level_of (line_board m.shared (cycle_of c))) ∷ []) (m.chip 2) (Line k2.0) k2.1 refl)
+    (at-kind read (λ c. line_entry (record { cycle = (draw_of c).chip.next; chip = 2 }) (level_of (line_board m.shared (draw_of c).chip.next (draw_of c).chip.note)) ∷ []) (m.chip 2) (Line k2.0) k2.1 refl)
     (at-kind read
     (λ c. batch_entry 11 (record { cycle = (fm_of c).cycle; chip = 3 }) (length (fm_ports.taken_below (fm_of c).cycle m.shared.fm.writes)) ∷ [])
     (m.chip 3) (Fm k3.0) k3.1 refl)

@@ -15,6 +15,7 @@ use Rattle.md_word.specs.declared.sub_bus.Request80.TheVariants as requests80
 use Rattle.chip_core.specs.Machines.{IsSound, Machine, run}
 use Rattle.m68k_chip.specs.Events.{request_of}
 use Rattle.m68k_chip.specs.States.{next_of}
+use Rattle.vdp_planes.specs.declared.view.SpriteNote.{SpriteNote}
 use Rattle.bus_shared.specs.Accesses.{line_board, main_board, pads_board, psg_board, sub_access, sub_pins, taken_back, video_started, yielded}
 use Rattle.bus_shared.specs.Areas.{byte_written_at, byte_written_in, read_at, read_in, word_written_at, word_written_in}
 use Rattle.bus_shared.specs.Board.{Board, IsBoard}
@@ -142,9 +143,9 @@ main-has board key (Write16 address value) = word-has (area_of address) board ke
 main-has board key (Ack level) = refl
 main-has board key (Word value) = refl
 
-line-has : (board : Board) (cycle : ℕ) → is_some (line_board board cycle).store ≡ is_some board.store
+line-has : (board : Board) (cycle : ℕ) (note : SpriteNote) → is_some (line_board board cycle note).store ≡ is_some board.store
 unfolding line_board pads_board
-line-has board cycle = has-same (cycle % frame == 224 * line) _ (video_started board cycle) (is_some board.store) refl refl
+line-has board cycle note = has-same (cycle % frame == 224 * line) _ (video_started board cycle note) (is_some board.store) refl refl
 
 -- what the Z80 has stays with it but at a yield and a take
 map-has : (f : Store → Store) (store : Option Store) → is_some (option_map f store) ≡ is_some store
@@ -347,7 +348,7 @@ move-owns : (z : Console) → IsChip80 z.sub → Owns z.sub.state z.shared → (
 unfolding moved
 move-owns z ok owns =
     five-each (λ i. Owns (moved z i).sub.state (moved z i).shared) (main-owns z owns) (sub-owns z ok owns)
-    (as-before z.sub.state z.shared _ (line-has z.shared z.line) owns) (fm-owns z owns) (psg-owns z owns)
+    (as-before z.sub.state z.shared _ (line-has z.shared z.line z.note) owns) (fm-owns z owns) (psg-owns z owns)
 
 -- the Z80 of a sound machine is sound
 sub-sound : (m : Machine Chip Board) → IsSound five IsChip IsBoard m → IsChip80 (console m).sub

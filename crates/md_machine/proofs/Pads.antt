@@ -12,7 +12,7 @@ use Rattle.bus_shared.proofs.Touches.{batch_leaves, main_leaves, sub_leaves}
 use Rattle.bus_shared.specs.Fm.{fm_board}
 use Rattle.bus_shared.specs.Accesses.{line_board, pads_board, video_started}
 use Rattle.bus_shared.specs.Board.{Board}
-use Rattle.md_machine.specs.Console.{Console, fm_moved, main_moved, moved, mover, power_on, psg_moved, ran, sub_moved}
+use Rattle.md_machine.specs.Console.{Console, fm_moved, line_moved, main_moved, moved, mover, power_on, psg_moved, ran, sub_moved}
 use Rattle.md_machine.specs.Movers.{mover-lt}
 use Rattle.md_machine.specs.Pads.{ShowsPads, lines_begun, pads_shown}
 use Rattle.md_machine.proofs.Moves.{five-each}
@@ -105,17 +105,17 @@ recording-of true board pads = refl
 recording-of false board pads = refl
 
 -- the line's own move
-line_shows : (recording : List Frame) (z : Console) → ShowsPads recording z → ShowsPads recording (record z { line = z.line + 3420; shared = line_board z.shared z.line })
-unfolding line_board pads_board
+line_shows : (recording : List Frame) (z : Console) → ShowsPads recording z → ShowsPads recording (line_moved z)
+unfolding line_moved line_board pads_board
 line_shows recording z shows =
     let k : ℕ = lines_begun z in
     let next : (z.line + 3420) / line ≡ k + 1 = omega (arith, shows.lines) in
     let test : Bool = z.line % frame == 224 * line in
     record {
-      recording_is = recording-of test (video_started z.shared z.line) (pads_of z.shared.recording (z.line / frame)) ∙ shows.recording_is;
+      recording_is = recording-of test (video_started z.shared z.line z.note) (pads_of z.shared.recording (z.line / frame)) ∙ shows.recording_is;
       lines = omega (arith, shows.lines);
       pads =
-          pads-of test (video_started z.shared z.line) (pads_of z.shared.recording (z.line / frame))
+          pads-of test (video_started z.shared z.line z.note) (pads_of z.shared.recording (z.line / frame))
           ∙ ap (λ (r : List Frame). if test then pads_of r (z.line / frame) else z.shared.pads) shows.recording_is
           ∙ ap (λ (p : Frame). if test then pads_of recording (z.line / frame) else p) shows.pads
           ∙ ap (λ (n : ℕ). if n % frame == 224 * line then pads_of recording (n / frame) else pads_shown recording k) shows.lines

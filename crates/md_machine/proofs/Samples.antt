@@ -11,10 +11,10 @@ use Rattle.fm_chip.specs.Port as fm_ports
 use Rattle.psg_sound.specs.Batches.{samples}
 use Rattle.psg_sound.specs.Port.{taken_below}
 use Rattle.psg_sound.specs.SynthLaws.{length-samples}
-use Rattle.md_machine.specs.Console.{Console, first_of, fm_taken, heard, mover, ran, sounded}
+use Rattle.md_machine.specs.Console.{Console, first_of, fm_taken, rendered, mover, ran, media}
 use Rattle.md_machine.specs.Laws.{sixteen-fm}
 use Rattle.md_machine.specs.Machines.{kept_in}
-use Rattle.md_machine.specs.Samples.{Samples, joined, no_samples}
+use Rattle.md_machine.specs.Media.{Media, joined, no_media}
 use Rattle.bus_shared.specs.Board.{Board, IsBoard}
 use Rattle.md_machine.specs.Parts.{FmValue, PsgValue}
 use Rattle.md_machine.specs.Refinement.{console, fm_of, psg_of}
@@ -26,12 +26,12 @@ use Rattle.md_machine.proofs.Lifts.{Movers, SoundTo, mover-same, ran-same}
 
 -- the samples of one sound chip among those of both: its number, and how a move adds to what it keeps
 pub record Part (A : Type 0) : Type 0 where
-  pub of : Samples → List A
-  pub none : of no_samples ≡ []
-  pub more : (first second : Samples) → of (joined first second) ≡ of first ++ of second
+  pub of : Media → List A
+  pub none : of no_media ≡ []
+  pub more : (first second : Media) → of (joined first second) ≡ of first ++ of second
   pub number : ℕ
-  pub grows : (m : Machine Chip Board) → IsSound five IsChip IsBoard m → (i : ℕ) → i < 5 → (i ≡ number → length (of (kept_in m)) ≤ 880) → of (kept_in (move five m i)) ≡ of (kept_in m) ++ of (heard (console m) i)
-  pub long : (z : Console) (i : ℕ) → i < 5 → length (of (heard z i)) ≡ 16 * cond (i == number) 1 0
+  pub grows : (m : Machine Chip Board) → IsSound five IsChip IsBoard m → (i : ℕ) → i < 5 → (i ≡ number → length (of (kept_in m)) ≤ 880) → of (kept_in (move five m i)) ≡ of (kept_in m) ++ of (rendered (console m) i)
+  pub long : (z : Console) (i : ℕ) → i < 5 → length (of (rendered z i)) ≡ 16 * cond (i == number) 1 0
 
 is_room : (n limit : ℕ) → n ≤ limit → nat_le n limit ≡ true
 is_room n limit within = grind (arith, nat_tests)
@@ -41,14 +41,14 @@ kept-all : {A : Type 0} (old batch : List A) → length old ≤ 880 → kept old
 kept-all old batch room = ap (λ (b : Bool). cond b (old ++ batch) old) (is_room (length old) 880 room)
 
 -- a move of another chip leaves chip j
-other_by : (b : Bool) (m : Machine Chip Board) (i j : ℕ) → is_sample five m i ≡ b → (j == i) ≡ false → (move five m i).chip j ≡ m.chip j
+pub other_by : (b : Bool) (m : Machine Chip Board) (i j : ℕ) → is_sample five m i ≡ b → (j == i) ≡ false → (move five m i).chip j ≡ m.chip j
 unfolding put
 other_by true m i j kind other = ap (λ (z : Machine Chip Board). z.chip j) (move-sample m i kind) ∙ rw other refl
 other_by false m i j kind other = ap (λ (z : Machine Chip Board). z.chip j) (move-access m i kind) ∙ rw other refl
 
 -- a move of the FM synthesis adds the sums of its batch
-fm-kept : (m : Machine Chip Board) (v : FmValue) → m.chip 3 ≡ Fm v → length (kept_in m).sides ≤ 880 → (kept_in (move five m 3)).sides ≡ (kept_in m).sides ++ (heard (console m) 3).sides
-unfolding console heard put
+fm-kept : (m : Machine Chip Board) (v : FmValue) → m.chip 3 ≡ Fm v → length (kept_in m).sides ≤ 880 → (kept_in (move five m 3)).sides ≡ (kept_in m).sides ++ (rendered (console m) 3).sides
+unfolding console rendered put
 fm-kept m v is room =
     let batch : List (ℤ × ℤ) = fm_batches.samples (first_of v.cycle) v.synth (fm_ports.taken_below v.cycle m.shared.fm.writes) in
     let room' : length v.samples ≤ 880 = subst (λ (c : Chip). length (fm_of c).samples ≤ 880) is room in
@@ -58,8 +58,8 @@ fm-kept m v is room =
     (m.chip 3) (Fm v) is (kept-all v.samples batch room')
 
 -- a move of the PSG adds the levels of its batch
-psg-kept : (m : Machine Chip Board) (v : PsgValue) → m.chip 4 ≡ Psg v → length (kept_in m).levels ≤ 880 → (kept_in (move five m 4)).levels ≡ (kept_in m).levels ++ (heard (console m) 4).levels
-unfolding console heard put
+psg-kept : (m : Machine Chip Board) (v : PsgValue) → m.chip 4 ≡ Psg v → length (kept_in m).levels ≤ 880 → (kept_in (move five m 4)).levels ≡ (kept_in m).levels ++ (rendered (console m) 4).levels
+unfolding console rendered put
 psg-kept m v is room =
     let batch : List ℤ = samples (first_of v.cycle) v.synth (taken_below v.cycle m.shared.held) in
     let room' : length v.samples ≤ 880 = subst (λ (c : Chip). length (psg_of c).samples ≤ 880) is room in
@@ -69,26 +69,26 @@ psg-kept m v is room =
     (m.chip 4) (Psg v) is (kept-all v.samples batch room')
 
 -- a move keeps the sums that it makes, and the levels
-pub sides-grow : (m : Machine Chip Board) → IsSound five IsChip IsBoard m → (i : ℕ) → i < 5 → (i ≡ 3 → length (kept_in m).sides ≤ 880) → (kept_in (move five m i)).sides ≡ (kept_in m).sides ++ (heard (console m) i).sides
-unfolding heard
+pub sides-grow : (m : Machine Chip Board) → IsSound five IsChip IsBoard m → (i : ℕ) → i < 5 → (i ≡ 3 → length (kept_in m).sides ≤ 880) → (kept_in (move five m i)).sides ≡ (kept_in m).sides ++ (rendered (console m) i).sides
+unfolding rendered
 sides-grow m sound =
     let k3 = kind3 (m.chip 3) (sound.number 3 (lit< tt)) in
     let other : (i : ℕ) → (3 == i) ≡ false → (kept_in (move five m i)).sides ≡ (kept_in m).sides =
     λ i away. ap (λ (c : Chip). (fm_of c).samples) (other_by (is_sample five m i) m i 3 refl away) in
-    five-each (λ i. (i ≡ 3 → length (kept_in m).sides ≤ 880) → (kept_in (move five m i)).sides ≡ (kept_in m).sides ++ (heard (console m) i).sides)
+    five-each (λ i. (i ≡ 3 → length (kept_in m).sides ≤ 880) → (kept_in (move five m i)).sides ≡ (kept_in m).sides ++ (rendered (console m) i).sides)
     (λ room. other 0 refl ∙ sym (append-nil (kept_in m).sides))
     (λ room. other 1 refl ∙ sym (append-nil (kept_in m).sides))
     (λ room. other 2 refl ∙ sym (append-nil (kept_in m).sides))
     (λ room. fm-kept m k3.0 k3.1 (room refl))
     (λ room. other 4 refl ∙ sym (append-nil (kept_in m).sides))
 
-pub levels-grow : (m : Machine Chip Board) → IsSound five IsChip IsBoard m → (i : ℕ) → i < 5 → (i ≡ 4 → length (kept_in m).levels ≤ 880) → (kept_in (move five m i)).levels ≡ (kept_in m).levels ++ (heard (console m) i).levels
-unfolding heard
+pub levels-grow : (m : Machine Chip Board) → IsSound five IsChip IsBoard m → (i : ℕ) → i < 5 → (i ≡ 4 → length (kept_in m).levels ≤ 880) → (kept_in (move five m i)).levels ≡ (kept_in m).levels ++ (rendered (console m) i).levels
+unfolding rendered
 levels-grow m sound =
     let k4 = kind4 (m.chip 4) (sound.number 4 (lit< tt)) in
     let other : (i : ℕ) → (4 == i) ≡ false → (kept_in (move five m i)).levels ≡ (kept_in m).levels =
     λ i away. ap (λ (c : Chip). (psg_of c).samples) (other_by (is_sample five m i) m i 4 refl away) in
-    five-each (λ i. (i ≡ 4 → length (kept_in m).levels ≤ 880) → (kept_in (move five m i)).levels ≡ (kept_in m).levels ++ (heard (console m) i).levels)
+    five-each (λ i. (i ≡ 4 → length (kept_in m).levels ≤ 880) → (kept_in (move five m i)).levels ≡ (kept_in m).levels ++ (rendered (console m) i).levels)
     (λ room. other 0 refl ∙ sym (append-nil (kept_in m).levels))
     (λ room. other 1 refl ∙ sym (append-nil (kept_in m).levels))
     (λ room. other 2 refl ∙ sym (append-nil (kept_in m).levels))
@@ -99,14 +99,14 @@ levels-grow m sound =
 sixteen-of : (z : Console) → length (fm_batches.samples (first_of z.fm_cycle) z.fm (fm_taken z)) ≡ 16
 sixteen-of z = sixteen-fm (record { synth = z.fm; cycle = z.fm_cycle; taken = fm_taken z; samples = [] })
 
-pub sides-long : (z : Console) (i : ℕ) → i < 5 → length (heard z i).sides ≡ 16 * cond (i == 3) 1 0
-unfolding heard
-sides-long z = five-each (λ i. length (heard z i).sides ≡ 16 * cond (i == 3) 1 0) refl refl refl (sixteen-of z) refl
+pub sides-long : (z : Console) (i : ℕ) → i < 5 → length (rendered z i).sides ≡ 16 * cond (i == 3) 1 0
+unfolding rendered
+sides-long z = five-each (λ i. length (rendered z i).sides ≡ 16 * cond (i == 3) 1 0) refl refl refl (sixteen-of z) refl
 
-pub levels-long : (z : Console) (i : ℕ) → i < 5 → length (heard z i).levels ≡ 16 * cond (i == 4) 1 0
-unfolding heard
+pub levels-long : (z : Console) (i : ℕ) → i < 5 → length (rendered z i).levels ≡ 16 * cond (i == 4) 1 0
+unfolding rendered
 levels-long z =
-    five-each (λ i. length (heard z i).levels ≡ 16 * cond (i == 4) 1 0) refl refl refl refl (length-samples (first_of z.psg_cycle) z.psg (taken_below z.psg_cycle z.shared.held))
+    five-each (λ i. length (rendered z i).levels ≡ 16 * cond (i == 4) 1 0) refl refl refl refl (length-samples (first_of z.psg_cycle) z.psg (taken_below z.psg_cycle z.shared.held))
 
 -- the two sound chips
 unfoldable pub fm_part : Part (ℤ × ℤ)
@@ -133,40 +133,40 @@ own n = grind (arith, nat_tests)
 
 -- one move more
 pub record KeepsMore {A : Type 0} (p : Part A) (z : Machine Chip Board) (i : ℕ) (old : List A) (count : ℕ) : Type 0 where
-  pub samples_are : p.of (kept_in (move five z i)) ≡ old ++ p.of (heard (console z) i)
+  pub samples_are : p.of (kept_in (move five z i)) ≡ old ++ p.of (rendered (console z) i)
   pub long : length (p.of (kept_in (move five z i))) ≡ 16 * (count + cond (i == p.number) 1 0)
 
 keeps-more : {A : Type 0} (p : Part A) (z : Machine Chip Board) (i : ℕ) (old : List A) (count : ℕ) → IsSound five IsChip IsBoard z → i < 5
     → p.of (kept_in z) ≡ old → length (p.of (kept_in z)) ≡ 16 * count → count + cond (i == p.number) 1 0 ≤ 56 → KeepsMore p z i old count
 keeps-more p z i old count sound below is long few =
-    let moved : p.of (kept_in (move five z i)) ≡ p.of (kept_in z) ++ p.of (heard (console z) i) =
+    let moved : p.of (kept_in (move five z i)) ≡ p.of (kept_in z) ++ p.of (rendered (console z) i) =
     p.grows z sound i below (λ same. subst (λ (n : ℕ). n ≤ 880) (sym long) (has_room p.number i count few (own p.number) same)) in
     record {
-      samples_are = moved ∙ ap (λ l. l ++ p.of (heard (console z) i)) is;
-      long = ap length moved ∙ length-append (p.of (kept_in z)) (p.of (heard (console z) i)) ∙ sum_long (length (p.of (kept_in z))) (length (p.of (heard (console z) i))) count (cond (i == p.number) 1 0) long (p.long (console z) i below);
+      samples_are = moved ∙ ap (λ l. l ++ p.of (rendered (console z) i)) is;
+      long = ap length moved ∙ length-append (p.of (kept_in z)) (p.of (rendered (console z) i)) ∙ sum_long (length (p.of (kept_in z))) (length (p.of (rendered (console z) i))) count (cond (i == p.number) 1 0) long (p.long (console z) i below);
     }
 
 -- from a machine that keeps none, as many batches as there is room for are kept
 pub record KeepsAll {A : Type 0} (p : Part A) (m : Machine Chip Board) (n : ℕ) : Type 0 where
-  pub samples_are : p.of (kept_in (run five m n)) ≡ p.of (sounded (console m) n)
+  pub samples_are : p.of (kept_in (run five m n)) ≡ p.of (media (console m) n)
   pub long : length (p.of (kept_in (run five m n))) ≡ 16 * made five m p.number n
 
 pub samples-kept : {A : Type 0} (p : Part A) (m : Machine Chip Board) (n : ℕ) → SoundTo m n → Movers → p.of (kept_in m) ≡ [] → made five m p.number n ≤ 56 → KeepsAll p m n
-unfolding run sounded made
+unfolding run media made
 samples-kept p m zero sound movers none few = record { samples_are = none ∙ sym p.none; long = ap length none }
 samples-kept p m (suc n) sound movers none few =
     let stage : IsSound five IsChip IsBoard (run five m n) = sound n (omega arith) in
     let sound' : SoundTo m n = λ k below. sound k (omega arith) in
     let i : ℕ = machines.mover five (run five m n) in
     let rest : KeepsAll p m n = samples-kept p m n sound' movers none (fewer (made five m p.number n) (cond (i == p.number) 1 0) few) in
-    let more : KeepsMore p (run five m n) i (p.of (sounded (console m) n)) (made five m p.number n) =
-    keeps-more p (run five m n) i (p.of (sounded (console m) n)) (made five m p.number n) stage (movers (run five m n)) rest.samples_are rest.long few in
-    let same : heard (console (run five m n)) i ≡ heard (ran (console m) n) (mover (ran (console m) n)) =
-    ap (λ (j : ℕ). heard (console (run five m n)) j) (mover-same (run five m n) stage)
-    ∙ ap (λ (z : Console). heard z (mover z)) (ran-same m n sound' movers) in
+    let more : KeepsMore p (run five m n) i (p.of (media (console m) n)) (made five m p.number n) =
+    keeps-more p (run five m n) i (p.of (media (console m) n)) (made five m p.number n) stage (movers (run five m n)) rest.samples_are rest.long few in
+    let same : rendered (console (run five m n)) i ≡ rendered (ran (console m) n) (mover (ran (console m) n)) =
+    ap (λ (j : ℕ). rendered (console (run five m n)) j) (mover-same (run five m n) stage)
+    ∙ ap (λ (z : Console). rendered z (mover z)) (ran-same m n sound' movers) in
     record {
       samples_are =
-          more.samples_are ∙ ap (λ (s : Samples). p.of (sounded (console m) n) ++ p.of s) same
-          ∙ sym (p.more (sounded (console m) n) (heard (ran (console m) n) (mover (ran (console m) n))));
+          more.samples_are ∙ ap (λ (s : Media). p.of (media (console m) n) ++ p.of s) same
+          ∙ sym (p.more (media (console m) n) (rendered (ran (console m) n) (mover (ran (console m) n))));
       long = more.long;
     }

@@ -8,12 +8,14 @@ use Rattle.chip_core.specs.Machines as machines
 use Rattle.chip_core.specs.Machines.{AllBelow, IsSound, Machine, key_of, made, run}
 use Rattle.md_machine.specs.Console as consoles
 use Rattle.md_machine.specs.Console.{Console, key_in, mover, ran}
+use Rattle.md_machine.specs.Lines.{frames_of}
 use Rattle.md_machine.specs.Machines.{kept_in}
 use Rattle.bus_shared.specs.Board.{Board, IsBoard}
-use Rattle.md_machine.specs.Refinement.{console, fm_of, psg_of, record_of}
-use Rattle.md_machine.specs.Samples.{Samples, no_samples}
+use Rattle.md_machine.specs.Refinement.{console, draw_of, fm_of, psg_of, record_of}
+use Rattle.md_machine.specs.Media.{Media, no_media}
 use Rattle.md_machine.specs.Rules.{IsChip, five}
 use Rattle.md_machine.specs.declared.chips.Chip.{Chip}
+use Rattle.md_machine.proofs.Frames.{frames-kept}
 use Rattle.md_machine.proofs.Moves.{five-each, key-same}
 use Rattle.md_machine.proofs.Lifts.{Movers, SoundTo, journal-same, mover-same, ran-same}
 use Rattle.md_machine.proofs.Samples.{KeepsAll, fm_part, psg_part, samples-kept}
@@ -58,25 +60,27 @@ move_key-same m k sound movers =
     ∙ ap (λ (i : ℕ). key_in (console (run five m k)) i) (mover-same (run five m k) stage)
     ∙ ap (λ (z : Console). key_in z (mover z)) (ran-same m k (λ j below. sound j (omega arith)) movers)
 
--- a run of the five chips, from a machine that keeps no samples, is the record's, with its entries
--- and samples
-pub segment-run : (m w : Machine Chip Board) (to : ℕ) (entered : List Entry) → machines.IsRunTo five m to w entered
+-- a run of the five chips over a segment, from a machine that keeps no frame and no samples, is the
+-- record's, with its entries, frame and samples
+pub segment-run : (m w : Machine Chip Board) (from to : ℕ) (entered : List Entry) → machines.IsRunTo five m to w entered
     → ((n : ℕ) → AllBelow five m to n → IsSound five IsChip IsBoard (run five m n)) → Movers → IsSound five IsChip IsBoard w
-    → ((n : ℕ) → AllBelow five m to n → made five m 3 n ≤ 56) → ((n : ℕ) → AllBelow five m to n → made five m 4 n ≤ 56) → kept_in m ≡ no_samples
-    → consoles.IsRunTo (console m) to (console w) entered (kept_in w)
+    → ((n : ℕ) → AllBelow five m to n → made five m 3 n ≤ 56) → ((n : ℕ) → AllBelow five m to n → made five m 4 n ≤ 56) → kept_in m ≡ no_media
+    → machines.IsQuiet five m from → to ≤ from + 896040 → consoles.IsRunTo (console m) to (console w) entered (kept_in w)
 unfolding fm_part psg_part
-segment-run m w to entered runs sound movers sound-w few_fm few none =
+segment-run m w from to entered runs sound movers sound-w few_fm few none quiet near =
     let earlier : (k : ℕ) → k ≤ runs.moves → AllBelow five m to k = λ k within. record { each = λ j below. runs.below.each j (omega arith) } in
     let stages : SoundTo m runs.moves = λ k below. sound k (earlier k (omega arith)) in
-    let sides : KeepsAll fm_part m runs.moves = samples-kept fm_part m runs.moves stages movers (ap (λ (s : Samples). s.sides) none) (few_fm runs.moves runs.below) in
-    let levels : KeepsAll psg_part m runs.moves = samples-kept psg_part m runs.moves stages movers (ap (λ (s : Samples). s.levels) none) (few runs.moves runs.below) in
+    let sides : KeepsAll fm_part m runs.moves = samples-kept fm_part m runs.moves stages movers (ap (λ (s : Media). s.sides) none) (few_fm runs.moves runs.below) in
+    let levels : KeepsAll psg_part m runs.moves = samples-kept psg_part m runs.moves stages movers (ap (λ (s : Media). s.levels) none) (few runs.moves runs.below) in
+    let frames = frames-kept m from to runs.moves stages (sound 0 (earlier 0 (omega arith))) movers (ap (λ (s : Media). s.frames) none) quiet near runs.below in
     record {
       moves = runs.moves;
       below = λ k below. subst (λ (key : Key). key.cycle < to) (move_key-same m k (λ j within. stages j (omega arith)) movers) (runs.below.each k below);
       quiet = λ i below. subst (λ (key : Key). to ≤ key.cycle) (key-same w sound-w i below) (runs.quiet i below);
       console = console-alike w (run five m runs.moves) runs.shared runs.chips ∙ ran-same m runs.moves stages movers;
       entered = runs.journal ∙ journal-same m runs.moves stages movers;
-      heard_to = λ i. record {
+      rendered_to = λ i. record {
+        frames = (ap (λ (c : Chip). frames_of (draw_of c).chip.frame) (runs.chips 2 (lit< tt)) ∙ frames) i;
         sides = (ap (λ (c : Chip). (fm_of c).samples) (runs.chips 3 (lit< tt)) ∙ sides.samples_are) i;
         levels = (ap (λ (c : Chip). (psg_of c).samples) (runs.chips 4 (lit< tt)) ∙ levels.samples_are) i;
       };

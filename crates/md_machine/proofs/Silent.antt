@@ -1,18 +1,26 @@
--- The machine after the samples of its sound chips were drained.
-use Rattle.std.proofs.Common.{◌≡◌, ℕ, [], length, refl, sym, ap, ◌∙◌, arith}
+-- The machine after its frame, or the samples of a sound chip, were drained.
+use Rattle.std.proofs.Common.{◌≡◌, ℕ, ◌<◌, ◌==◌, cond, Bool, true, false, [], length, refl, ap, ◌∙◌, arith, subst, lit<}
+use Rattle.std.proofs.lemmas.Bool.Decides.{nat_tests}
 use Rattle.std.specs.Prelude.{slice_set}
 use Rattle.std.proofs.lemmas.List.{get_or-set_other, get_or-set_same}
 use Rattle.chip_core.specs.Cores.{CoreValue, chip_in, machine_of}
 use Rattle.chip_core.specs.Machines.{Machine, put}
 use Rattle.md_machine.specs.Drained.{silent}
-use Rattle.md_machine.specs.Machines.{machine_at}
+use Rattle.md_machine.specs.Lines.{frames_of}
+use Rattle.md_machine.specs.Machines.{kept_in, machine_at}
 use Rattle.bus_shared.specs.Board.{Board}
-use Rattle.md_machine.specs.Refinement.{console, fm_of, psg_of, record_of}
+use Rattle.md_machine.specs.Refinement.{console, draw_of, fm_of, psg_of, record_of}
 use Rattle.md_machine.specs.Rules.{five}
 use Rattle.md_machine.specs.declared.chips.Chip.{Chip}
 use Rattle.md_machine.specs.declared.chips.Chip.TheVariants.{Main, Sub, Line, Fm, Psg}
-use Rattle.md_machine.proofs.Moves.{five-each}
 use Rattle.md_machine.proofs.Segments.{console-alike}
+
+silent-draw : (c0 c1 c c3 c4 : Chip) (b : Board) → record_of c0 c1 (silent c) c3 c4 b ≡ record_of c0 c1 c c3 c4 b
+silent-draw c0 c1 (Main c) c3 c4 b = refl
+silent-draw c0 c1 (Sub c) c3 c4 b = refl
+silent-draw c0 c1 (Line c) c3 c4 b = refl
+silent-draw c0 c1 (Fm c) c3 c4 b = refl
+silent-draw c0 c1 (Psg c) c3 c4 b = refl
 
 silent-fm : (c0 c1 c2 c d : Chip) (b : Board) → record_of c0 c1 c2 (silent c) d b ≡ record_of c0 c1 c2 c d b
 silent-fm c0 c1 c2 (Main c) d b = refl
@@ -28,6 +36,13 @@ silent-psg c0 c1 c2 c3 (Line c) b = refl
 silent-psg c0 c1 c2 c3 (Fm c) b = refl
 silent-psg c0 c1 c2 c3 (Psg c) b = refl
 
+silent-frame : (c : Chip) → frames_of (draw_of (silent c)).chip.frame ≡ []
+silent-frame (Main c) = refl
+silent-frame (Sub c) = refl
+silent-frame (Line c) = refl
+silent-frame (Fm c) = refl
+silent-frame (Psg c) = refl
+
 silent-sides : (c : Chip) → (fm_of (silent c)).samples ≡ []
 silent-sides (Main c) = refl
 silent-sides (Sub c) = refl
@@ -42,48 +57,78 @@ silent-levels (Line c) = refl
 silent-levels (Fm c) = refl
 silent-levels (Psg c) = refl
 
+-- the chips after one of them was made silent
+apart : (i j : ℕ) → (i == j) ≡ false → j ≡ i → ⊥
+apart i j e same = let own : (i == i) ≡ false = subst (λ (k : ℕ). (i == k) ≡ false) same e in grind (arith, nat_tests)
+
+equal : (i j : ℕ) → (i == j) ≡ true → i ≡ j
+equal i j e = grind (arith, nat_tests)
+
+silenced_by : (b : Bool) (v : CoreValue Chip Board) (j : ℕ) (x : Chip) (i : ℕ) → j < 5 → length v.chips ≡ 5 → x ≡ silent (chip_in five v.chips j) → (i == j) ≡ b
+    → chip_in five (slice_set v.chips j x) i ≡ cond b (silent (chip_in five v.chips j)) (chip_in five v.chips i)
+silenced_by true v j x i below long is e =
+    ap (chip_in five (slice_set v.chips j x)) (equal i j e) ∙ get_or-set_same v.chips j x five.blank (omega (arith, long, below)) ∙ is
+silenced_by false v j x i below long is e = get_or-set_other v.chips j i x five.blank (apart i j e)
+
+abbrev with_silent : CoreValue Chip Board → ℕ → Machine Chip Board
+with_silent v j = record { shared = v.shared; chip = put (chip_in five v.chips) j (silent (chip_in five v.chips j)) }
+
+silenced : (v : CoreValue Chip Board) (j : ℕ) (x : Chip) → j < 5 → length v.chips ≡ 5 → x ≡ silent (chip_in five v.chips j)
+    → (i : ℕ) → i < 5 → chip_in five (slice_set v.chips j x) i ≡ (with_silent v j).chip i
+unfolding put
+silenced v j x below long is i within = silenced_by (i == j) v j x i below long is refl
+
+-- the machine, with what its chips keep
+drained : (at : ℕ) (v : CoreValue Chip Board) (j : ℕ) (x : Chip) → j < 5 → length v.chips ≡ 5 → x ≡ silent (chip_in five v.chips j)
+    → machine_at at (record v { chips = slice_set v.chips j x })
+    ≡ record { at = at; console = console (with_silent v j); entries = v.journal; media = kept_in (with_silent v j) }
+drained at v j x below long is =
+    let chips : (i : ℕ) → i < 5 → chip_in five (slice_set v.chips j x) i ≡ (with_silent v j).chip i = silenced v j x below long is in
+    let same : console (machine_of five (record v { chips = slice_set v.chips j x })) ≡ console (with_silent v j) =
+    console-alike (machine_of five (record v { chips = slice_set v.chips j x })) (with_silent v j) refl chips in
+    λ i. record {
+      at = at;
+      console = same i;
+      entries = v.journal;
+      media = record {
+        frames = frames_of (draw_of (chips 2 (lit< tt) i)).chip.frame;
+        sides = (fm_of (chips 3 (lit< tt) i)).samples;
+        levels = (psg_of (chips 4 (lit< tt) i)).samples;
+      };
+    }
+
+-- the drawing half without its frame
+pub drained-draw : (at : ℕ) (v : CoreValue Chip Board) (x : Chip) → length v.chips ≡ 5 → x ≡ silent (chip_in five v.chips 2)
+    → machine_at at (record v { chips = slice_set v.chips 2 x }) ≡ record (machine_at at v) { media = record (machine_at at v).media { frames = [] } }
+unfolding console put
+drained-draw at v x long is =
+    let old : Machine Chip Board = machine_of five v in
+    drained at v 2 x (lit< tt) long is
+    ∙ (λ i. record (machine_at at v) {
+      console = silent-draw (old.chip 0) (old.chip 1) (old.chip 2) (old.chip 3) (old.chip 4) v.shared i;
+      media = record (machine_at at v).media { frames = silent-frame (old.chip 2) i };
+    })
+
 -- the FM synthesis without its samples
 pub drained-fm : (at : ℕ) (v : CoreValue Chip Board) (x : Chip) → length v.chips ≡ 5 → x ≡ silent (chip_in five v.chips 3)
-    → machine_at at (record v { chips = slice_set v.chips 3 x }) ≡ record (machine_at at v) { samples = record { sides = []; levels = (machine_at at v).samples.levels } }
+    → machine_at at (record v { chips = slice_set v.chips 3 x }) ≡ record (machine_at at v) { media = record (machine_at at v).media { sides = [] } }
 unfolding console put
 drained-fm at v x long is =
     let old : Machine Chip Board = machine_of five v in
-    let new : Machine Chip Board = record { shared = v.shared; chip = put old.chip 3 x } in
-    let third : chip_in five (slice_set v.chips 3 x) 3 ≡ x = get_or-set_same v.chips 3 x five.blank (omega (arith, long)) in
-    let fourth : chip_in five (slice_set v.chips 3 x) 4 ≡ old.chip 4 = get_or-set_other v.chips 3 4 x five.blank (λ e. absurd (omega (arith, e))) in
-    let alike : console (machine_of five (record v { chips = slice_set v.chips 3 x })) ≡ console new =
-    console-alike (machine_of five (record v { chips = slice_set v.chips 3 x })) new refl
-    (five-each (λ i. chip_in five (slice_set v.chips 3 x) i ≡ new.chip i)
-    (get_or-set_other v.chips 3 0 x five.blank (λ e. absurd (omega (arith, e))))
-    (get_or-set_other v.chips 3 1 x five.blank (λ e. absurd (omega (arith, e))))
-    (get_or-set_other v.chips 3 2 x five.blank (λ e. absurd (omega (arith, e))))
-    third fourth) in
-    let same : console (machine_of five (record v { chips = slice_set v.chips 3 x })) ≡ console old =
-    alike ∙ ap (λ (c : Chip). record_of (old.chip 0) (old.chip 1) (old.chip 2) c (old.chip 4) v.shared) is
-    ∙ silent-fm (old.chip 0) (old.chip 1) (old.chip 2) (old.chip 3) (old.chip 4) v.shared in
-    let no_sides : (fm_of (chip_in five (slice_set v.chips 3 x) 3)).samples ≡ [] =
-    ap (λ (c : Chip). (fm_of c).samples) (third ∙ is) ∙ silent-sides (old.chip 3) in
-    λ i. record { at = at; console = same i; entries = v.journal; samples = record { sides = no_sides i; levels = (psg_of (fourth i)).samples } }
+    drained at v 3 x (lit< tt) long is
+    ∙ (λ i. record (machine_at at v) {
+      console = silent-fm (old.chip 0) (old.chip 1) (old.chip 2) (old.chip 3) (old.chip 4) v.shared i;
+      media = record (machine_at at v).media { sides = silent-sides (old.chip 3) i };
+    })
 
 -- the PSG without its samples
 pub drained-psg : (at : ℕ) (v : CoreValue Chip Board) (x : Chip) → length v.chips ≡ 5 → x ≡ silent (chip_in five v.chips 4)
-    → machine_at at (record v { chips = slice_set v.chips 4 x }) ≡ record (machine_at at v) { samples = record { sides = (machine_at at v).samples.sides; levels = [] } }
+    → machine_at at (record v { chips = slice_set v.chips 4 x }) ≡ record (machine_at at v) { media = record (machine_at at v).media { levels = [] } }
 unfolding console put
 drained-psg at v x long is =
     let old : Machine Chip Board = machine_of five v in
-    let new : Machine Chip Board = record { shared = v.shared; chip = put old.chip 4 x } in
-    let third : chip_in five (slice_set v.chips 4 x) 3 ≡ old.chip 3 = get_or-set_other v.chips 4 3 x five.blank (λ e. absurd (omega (arith, e))) in
-    let fourth : chip_in five (slice_set v.chips 4 x) 4 ≡ x = get_or-set_same v.chips 4 x five.blank (omega (arith, long)) in
-    let alike : console (machine_of five (record v { chips = slice_set v.chips 4 x })) ≡ console new =
-    console-alike (machine_of five (record v { chips = slice_set v.chips 4 x })) new refl
-    (five-each (λ i. chip_in five (slice_set v.chips 4 x) i ≡ new.chip i)
-    (get_or-set_other v.chips 4 0 x five.blank (λ e. absurd (omega (arith, e))))
-    (get_or-set_other v.chips 4 1 x five.blank (λ e. absurd (omega (arith, e))))
-    (get_or-set_other v.chips 4 2 x five.blank (λ e. absurd (omega (arith, e))))
-    third fourth) in
-    let same : console (machine_of five (record v { chips = slice_set v.chips 4 x })) ≡ console old =
-    alike ∙ ap (λ (c : Chip). record_of (old.chip 0) (old.chip 1) (old.chip 2) (old.chip 3) c v.shared) is
-    ∙ silent-psg (old.chip 0) (old.chip 1) (old.chip 2) (old.chip 3) (old.chip 4) v.shared in
-    let no_levels : (psg_of (chip_in five (slice_set v.chips 4 x) 4)).samples ≡ [] =
-    ap (λ (c : Chip). (psg_of c).samples) (fourth ∙ is) ∙ silent-levels (old.chip 4) in
-    λ i. record { at = at; console = same i; entries = v.journal; samples = record { sides = (fm_of (third i)).samples; levels = no_levels i } }
+    drained at v 4 x (lit< tt) long is
+    ∙ (λ i. record (machine_at at v) {
+      console = silent-psg (old.chip 0) (old.chip 1) (old.chip 2) (old.chip 3) (old.chip 4) v.shared i;
+      media = record (machine_at at v).media { levels = silent-levels (old.chip 4) i };
+    })

@@ -22,7 +22,7 @@ use Rattle.md_pads.specs.Recording.{Frame}
 use Rattle.psg_sound.specs.SynthLaws.{IsSynth-at_power_on}
 use Rattle.md_machine.specs.Refinement.{console}
 use Rattle.md_machine.specs.Rules.{IsChip, five, next}
-use Rattle.md_machine.specs.Samples.{no_samples}
+use Rattle.md_machine.specs.Media.{no_media}
 use Rattle.md_machine.specs.declared.chips.Chip.{Chip}
 use Rattle.chip_core.specs.Machines as machines
 use Rattle.md_machine.proofs.Moves.{five-each}
@@ -69,10 +69,10 @@ first-machine cart recording board chips bounds entries room b c k e ample image
 
 pub first-value : (cart : List ℕ) (recording : List Frame) (board : Board) (chips : List Chip) (bounds : List Key) (entries : List Entry) (room : ℕ)
     → board ≡ boards.power_on recording → chips ≡ first_chips cart → bounds ≡ first_bounds → entries ≡ []
-    → machine_at 0 (core_in (Some board) chips bounds entries room) ≡ record { at = 0; console = power_on cart recording; entries = []; samples = no_samples }
+    → machine_at 0 (core_in (Some board) chips bounds entries room) ≡ record { at = 0; console = power_on cart recording; entries = []; media = no_media }
 first-value cart recording board chips bounds entries room b c k e =
     ap (λ z. machine_at 0 (core_in (Some z) chips bounds entries room)) b
     ∙ ap (λ z. machine_at 0 (core_in (Some (boards.power_on recording)) z bounds entries room)) c
     ∙ ap (λ z. machine_at 0 (core_in (Some (boards.power_on recording)) (first_chips cart) z entries room)) k
     ∙ ap (λ z. machine_at 0 (core_in (Some (boards.power_on recording)) (first_chips cart) first_bounds z room)) e
-    ∙ ap (λ z. record { at = 0; console = z; entries = []; samples = no_samples }) (first-console cart recording room)
+    ∙ ap (λ z. record { at = 0; console = z; entries = []; media = no_media }) (first-console cart recording room)

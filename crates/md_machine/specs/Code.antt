@@ -26,8 +26,8 @@ use Rattle.bus_shared.specs.Board.{Board}
 use Rattle.md_pads.specs.Pad.{Latches}
 use Rattle.md_pads.specs.Recording.{Frame}
 use Rattle.md_machine.specs.FmCode.{fm_way, port_way}
-use Rattle.md_machine.specs.VdpCode.{vdp_way}
-use Rattle.md_machine.specs.Parts.{FmValue, PsgValue, SubValue}
+use Rattle.md_machine.specs.VdpCode.{draw_way, vdp_way}
+use Rattle.md_machine.specs.Parts.{DrawValue, FmValue, PsgValue, SubValue}
 use Rattle.md_machine.specs.declared.main_chip.MainChip.{MainChip}
 use Rattle.md_machine.specs.declared.chips.Chip.{Chip}
 use Rattle.md_machine.specs.declared.chips.Chip.TheVariants.{Main, Sub, Line, Fm, Psg}
@@ -266,13 +266,13 @@ sub_way =
 
 -- the kinds of chips as a sum
 abbrev pub Sum : Type 0
-Sum = MainChip ⊎ (SubValue ⊎ (ℕ ⊎ (FmValue ⊎ PsgValue)))
+Sum = MainChip ⊎ (SubValue ⊎ (DrawValue ⊎ (FmValue ⊎ PsgValue)))
 
 -- the sum of a chip
 abbrev pub sum_of : Chip → Sum
 sum_of (Main c) = inl c
 sum_of (Sub c) = inr (inl c)
-sum_of (Line c) = inr (inr (inl c.cycle))
+sum_of (Line c) = inr (inr (inl c))
 sum_of (Fm c) = inr (inr (inr (inl c)))
 sum_of (Psg c) = inr (inr (inr (inr c)))
 
@@ -282,12 +282,12 @@ late_of (inl c) = Fm c
 late_of (inr c) = Psg c
 
 -- the chip of a sum, from the lines on
-abbrev pub middle_of : ℕ ⊎ (FmValue ⊎ PsgValue) → Chip
-middle_of (inl cycle) = Line (record { cycle = cycle })
+abbrev pub middle_of : DrawValue ⊎ (FmValue ⊎ PsgValue) → Chip
+middle_of (inl c) = Line c
 middle_of (inr c) = late_of c
 
 -- the chip of a sum, from the Z80 on
-abbrev pub early_of : SubValue ⊎ (ℕ ⊎ (FmValue ⊎ PsgValue)) → Chip
+abbrev pub early_of : SubValue ⊎ (DrawValue ⊎ (FmValue ⊎ PsgValue)) → Chip
 early_of (inl c) = Sub c
 early_of (inr c) = middle_of c
 
@@ -306,7 +306,7 @@ chip_same (Psg c) = refl
 
 -- the way of a chip
 abbrev pub chip_way : Way Chip
-chip_way = by_way (either main_way (either sub_way (either number (either fm_way psg_way)))) sum_of chip_of chip_same
+chip_way = by_way (either main_way (either sub_way (either draw_way (either fm_way psg_way)))) sum_of chip_of chip_same
 
 -- the way of the two words of the pads
 abbrev pub frame_way : Way Frame

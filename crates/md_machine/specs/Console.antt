@@ -1,5 +1,5 @@
 -- The machine as one record, with each memory once, and what a move of each chip changes.
-use Rattle.std.specs.Prelude.{◌≡◌, ℕ, zero, suc, ◌+◌, ◌-◌, ◌*◌, ◌/◌, ◌<◌, ◌≤◌, ◌==◌, cond, List, [], ◌∷◌, ◌++◌, length}
+use Rattle.std.specs.Prelude.{◌≡◌, ℕ, zero, suc, ◌+◌, ◌-◌, ◌*◌, ◌/◌, ◌<◌, ◌≤◌, ◌==◌, cond, true, List, [], ◌∷◌, ◌++◌, length, None}
 use Rattle.md_word.specs.declared.event.Entry.{Entry}
 use Rattle.md_word.specs.declared.key.Key.{Key}
 use Rattle.chip_core.specs.Machines.{least_below}
@@ -24,7 +24,12 @@ use Rattle.bus_shared.specs.Board.{Board}
 use Rattle.bus_shared.specs.Board as boards
 use Rattle.bus_shared.specs.Entries.{batch_entry, line_entry}
 use Rattle.md_pads.specs.Recording.{Frame}
-use Rattle.md_machine.specs.Samples.{Samples, joined, no_samples}
+use Rattle.vdp_planes.specs.View.{view_of}
+use Rattle.vdp_planes.specs.declared.view.SpriteNote.{SpriteNote}
+use Rattle.vdp_chip.specs.Drawing.{Drawing}
+use Rattle.vdp_chip.specs.Drawing as drawings
+use Rattle.md_machine.specs.Lines.{drawn_from, frames_of}
+use Rattle.md_machine.specs.Media.{Media, joined, no_media}
 
 -- the machine: the cartridge, the two processors, the cycles of the other chips, the FM synthesis and
 -- the sound generator, and what they share
@@ -34,6 +39,9 @@ pub record Console : Type 0 where
   pub main : State68
   -- the Z80, with the cartridge that its window shows
   pub sub : Chip80Value
+  -- the drawing half of the VDP: what the sprites of the last line have set, and the picture
+  pub note : SpriteNote
+  pub picture : List ℕ
   -- the cycles of the next events of the lines, the FM batches and the PSG batches
   pub line : ℕ
   pub fm_cycle : ℕ
@@ -49,6 +57,8 @@ power_on cart recording = record {
   cart = cart;
   main = states.power_on cart;
   sub = record { cart = cart; state = states80.power_on };
+  note = drawings.at_power_on.note;
+  picture = drawings.at_power_on.picture;
   line = 0;
   fm_cycle = 16128;
   psg_cycle = 16128;
@@ -93,6 +103,23 @@ sub_moved m =
       shared = (sub_accessed m).board;
     })
 
+-- the drawing half of the VDP, of which no frame is kept
+abbrev pub drawing_in : Console → Drawing
+drawing_in m = record { next = m.line; note = m.note; has_view = true; picture = m.picture; frame = None }
+
+-- what it is behind the event of its next line: that is drawn from the VDP as the event leaves it
+abbrev pub line_done : Console → Drawing
+line_done m = drawn_from (view_of (line_board m.shared m.line m.note).vdp) (drawing_in m)
+
+-- the event of a line
+unfoldable pub line_moved : Console → Console
+line_moved m = record m {
+  note = (line_done m).note;
+  picture = (line_done m).picture;
+  line = m.line + 3420;
+  shared = line_board m.shared m.line m.note;
+}
+
 -- the writes that the FM synthesis takes for its batch
 abbrev pub fm_taken : Console → List FmWrite
 fm_taken m = fm_ports.taken_below m.fm_cycle m.shared.fm.writes
@@ -118,7 +145,7 @@ unfoldable pub moved : Console → ℕ → Console
 moved m i =
     cond (i == 0) (main_moved m)
     (cond (i == 1) (sub_moved m)
-    (cond (i == 2) (record m { line = m.line + 3420; shared = line_board m.shared m.line })
+    (cond (i == 2) (line_moved m)
     (cond (i == 3) (fm_moved m) (psg_moved m))))
 
 -- the entry that it gives, if it is an access
@@ -126,13 +153,14 @@ unfoldable pub told : Console → ℕ → List Entry
 told m i =
     cond (i == 0) (cond (next_of m.main).sample [] (main_told m.shared (next_of m.main).key (request_of m.cart m.main) ∷ []))
     (cond (i == 1) (cond (sub_next_of m.sub.state).sample [] ((sub_accessed m).entry ∷ []))
-    (cond (i == 2) (line_entry (record { cycle = m.line; chip = 2 }) (level_of (line_board m.shared m.line)) ∷ [])
+    (cond (i == 2) (line_entry (record { cycle = m.line; chip = 2 }) (level_of (line_board m.shared m.line m.note)) ∷ [])
     (cond (i == 3) (batch_entry 11 (record { cycle = m.fm_cycle; chip = 3 }) (length (fm_taken m)) ∷ [])
     (batch_entry 12 (record { cycle = m.psg_cycle; chip = 4 }) (length (taken_below m.psg_cycle m.shared.held)) ∷ []))))
 
--- the samples that it makes
-unfoldable pub heard : Console → ℕ → Samples
-heard m i = record {
+-- the frames and the samples that it makes
+unfoldable pub rendered : Console → ℕ → Media
+rendered m i = record {
+  frames = cond (i == 2) (frames_of (line_done m).frame) [];
   sides = cond (i == 3) (fm_batches.samples (first_of m.fm_cycle) m.fm (fm_taken m)) [];
   levels = cond (i == 4) (samples (first_of m.psg_cycle) m.psg (taken_below m.psg_cycle m.shared.held)) [];
 }
@@ -151,10 +179,10 @@ unfoldable pub journal : Console → ℕ → List Entry
 journal m zero = []
 journal m (suc n) = journal m n ++ told (ran m n) (mover (ran m n))
 
--- the samples of the first n moves, in their order
-unfoldable pub sounded : Console → ℕ → Samples
-sounded m zero = no_samples
-sounded m (suc n) = joined (sounded m n) (heard (ran m n) (mover (ran m n)))
+-- the frames and samples of the first n moves, in their order
+unfoldable pub media : Console → ℕ → Media
+media m zero = no_media
+media m (suc n) = joined (media m n) (rendered (ran m n) (mover (ran m n)))
 
 -- the first n moves stand below the cycle
 abbrev pub AllBelow : Console → ℕ → ℕ → Type 0
@@ -164,11 +192,11 @@ AllBelow m end n = (k : ℕ) → k < n → (key_in (ran m k) (mover (ran m k))).
 abbrev pub IsQuiet : ℕ → Console → Type 0
 IsQuiet end m = (i : ℕ) → i < 5 → end ≤ (key_in m i).cycle
 
--- after all events below the cycle and no other: the machine, the entries and the samples
-pub record IsRunTo (m : Console) (end : ℕ) (after : Console) (entries : List Entry) (sound : Samples) : Type 0 where
+-- after all events below the cycle and no other: the machine, the entries, the frames and the samples
+pub record IsRunTo (m : Console) (end : ℕ) (after : Console) (entries : List Entry) (output : Media) : Type 0 where
   pub moves : ℕ
   pub below : AllBelow m end moves
   pub quiet : IsQuiet end after
   pub console : after ≡ ran m moves
   pub entered : entries ≡ journal m moves
-  pub heard_to : sound ≡ sounded m moves
+  pub rendered_to : output ≡ media m moves

@@ -44,8 +44,12 @@ use Rattle.m68k_chip.proofs.Laws.{answered-later, answered-ok, begun-later, begu
 use Rattle.psg_sound.specs.PortLaws.{taken_below-few}
 use Rattle.psg_sound.specs.SynthLaws.{IsSynth-after_batch, length-samples}
 use Rattle.bus_shared.specs.Board.{Board, IsBoard}
-use Rattle.md_machine.specs.Parts.{FmValue, IsFm, IsPsg, PsgValue, IsSub, SubValue}
-use Rattle.md_machine.specs.Rules.{IsChip, advance, first_of, five, fm_advance, fm_perform, gap, kept, next, perform, psg_advance, psg_perform, sample, sub_advance, sub_perform, writes}
+use Rattle.vdp_chip.specs.Drawing.{Drawing}
+use Rattle.vdp_planes.specs.declared.view.LineView.{LineView}
+use Rattle.md_machine.specs.LineLaws.{drawing-ok, drawing-wherever, drawn-next}
+use Rattle.md_machine.specs.Lines.{drawn_from}
+use Rattle.md_machine.specs.Parts.{DrawValue, FmValue, IsDraw, IsFm, IsPsg, PsgValue, IsSub, SubValue}
+use Rattle.md_machine.specs.Rules.{IsChip, advance, draw_advance, draw_perform, first_of, five, fm_advance, fm_perform, gap, kept, next, perform, psg_advance, psg_perform, sample, sub_advance, sub_perform, view_in, writes}
 use Rattle.md_machine.specs.declared.chips.Chip.{Chip}
 use Rattle.md_machine.specs.declared.chips.Chip.TheVariants.{Main, Sub, Line, Fm, Psg}
 
@@ -163,7 +167,7 @@ access-next : (c : Chip) (s : Board) (i : ℕ) → IsDue five IsChip IsBoard c s
 unfolding next_of sub_next_of
 access-next (Main c) s i d = record { number = refl; later = answered-later c.chip _ d.chip d.kind (answer-fits s (next_of c.chip.state).key (request_of c.chip.cart c.chip.state) d.shared) }
 access-next (Sub c) s i d = record { number = refl; later = sub-later c s d.chip d.kind }
-access-next (Line c) s i d = record { number = refl; later = omega arith }
+access-next (Line c) s i d = record { number = refl; later = omega (arith, drawn-next (view_in (draw_perform c s).chip.view) (record c.chip { has_view = false })) }
 access-next (Fm c) s i d = record { number = refl; later = omega arith }
 access-next (Psg c) s i d = record { number = refl; later = omega arith }
 
@@ -203,17 +207,23 @@ psg-ok c s ok board = record {
   samples = kept-few c.samples (samples (first_of c.cycle) c.synth (taken_below c.cycle s.held)) (length-samples (first_of c.cycle) c.synth (taken_below c.cycle s.held)) ok.samples;
 }
 
+draw-ok : (c : DrawValue) (s : Board) → IsDraw c → IsDraw (draw_advance (draw_perform c s).chip)
+draw-ok c s ok =
+    let lent : Drawing = record c.chip { has_view = false } in
+    let view : LineView = view_in (draw_perform c s).chip.view in
+    record { chip = drawing-wherever true (drawn_from view lent) (drawing-ok view lent (drawing-wherever false c.chip ok.chip)); view = refl }
+
 access-chip : (c : Chip) (s : Board) (i : ℕ) → IsDue five IsChip IsBoard c s i false → IsChip (advance (perform c s).chip)
 access-chip (Main c) s i d = answered-ok c.chip _ d.chip d.kind (answer-fits s (next_of c.chip.state).key (request_of c.chip.cart c.chip.state) d.shared)
 access-chip (Sub c) s i d = sub-ok c s d.chip d.shared d.kind
-access-chip (Line c) s i d = tt
+access-chip (Line c) s i d = draw-ok c s d.chip
 access-chip (Fm c) s i d = fm-ok c s d.chip d.shared
 access-chip (Psg c) s i d = psg-ok c s d.chip d.shared
 
 sample-chip : (c : Chip) (s : Board) (i : ℕ) → IsDue five IsChip IsBoard c s i true → IsChip (sample c (pins_of s i))
 sample-chip (Main c) s i d = begun-ok c.chip (level_in (pins_of s i)) (level-known (i == 1) s) d.chip d.kind
 sample-chip (Sub c) s i d = laws80.begun-ok c.chip (sub_in (pins_of s i)) d.chip d.kind
-sample-chip (Line c) s i d = tt
+sample-chip (Line c) s i d = d.chip
 sample-chip (Fm c) s i d = d.chip
 sample-chip (Psg c) s i d = d.chip
 
@@ -224,7 +234,7 @@ main-low state = lit< tt
 access-shared : (c : Chip) (s : Board) (i : ℕ) → IsDue five IsChip IsBoard c s i false → IsBoard (perform c s).shared
 access-shared (Main c) s i d = main-ok s (next_of c.chip.state).key _ (main-low c.chip.state) d.shared
 access-shared (Sub c) s i d = keeps.sub-ok s (sub_next_of c.chip.state).key _ (sub-low c.chip.state) (hands-over c d.chip) d.shared
-access-shared (Line c) s i d = line-ok s c.cycle d.shared
+access-shared (Line c) s i d = line-ok s c.chip.next c.chip.note d.shared
 access-shared (Fm c) s i d = fm_board-ok s c.cycle d.shared
 access-shared (Psg c) s i d = psg_board-ok s c.cycle d.shared
 

@@ -4,7 +4,10 @@ pub mod Drained
 pub mod First
 pub mod FmCode
 pub mod Laws
+pub mod LineLaws
+pub mod Lines
 pub mod Machines
+pub mod Media
 pub mod Movers
 pub mod Outputs
 pub mod Owners
@@ -13,6 +16,4 @@ pub mod Parts
 pub mod Pins
 pub mod Refinement
 pub mod Rules
-pub mod Samples
-pub mod Stubs
 pub mod VdpCode

@@ -7,18 +7,19 @@ use Rattle.chip_core.specs.Machines as machines
 use Rattle.chip_core.specs.Machines.{Machine}
 use Rattle.md_machine.specs.Console.{Console}
 use Rattle.bus_shared.specs.Board.{Board, IsBoard, power_on}
-use Rattle.md_machine.specs.Refinement.{console, fm_of, psg_of}
-use Rattle.md_machine.specs.Samples.{Samples}
+use Rattle.md_machine.specs.Refinement.{console, draw_of, fm_of, psg_of}
+use Rattle.md_machine.specs.Lines.{frames_of}
+use Rattle.md_machine.specs.Media.{Media}
 use Rattle.md_machine.specs.Rules.{IsChip, five}
 use Rattle.md_machine.specs.declared.chips.Chip.{Chip}
 
 -- the cycle to which the machine was brought, its record, and what was made since it was last
--- drained: the journal's entries and the samples of the sound chips
+-- drained: the journal's entries, the frames, and the samples of the sound chips
 pub record MachineValue : Type 0 where
   pub at : ℕ
   pub console : Console
   pub entries : List Entry
-  pub samples : Samples
+  pub media : Media
 
 -- the core of these parts
 abbrev pub core_in : Option Board → List Chip → List Key → List Entry → ℕ → CoreValue Chip Board
@@ -30,9 +31,9 @@ core_in board chips bounds entries room = record {
   room = room;
 }
 
--- the samples that a machine of five chips keeps
-abbrev pub kept_in : Machine Chip Board → Samples
-kept_in m = record { sides = (fm_of (m.chip 3)).samples; levels = (psg_of (m.chip 4)).samples }
+-- the frames and samples that a machine of five chips keeps
+abbrev pub kept_in : Machine Chip Board → Media
+kept_in m = record { frames = frames_of (draw_of (m.chip 2)).chip.frame; sides = (fm_of (m.chip 3)).samples; levels = (psg_of (m.chip 4)).samples }
 
 -- the machine of a core that was brought to a cycle
 abbrev pub machine_at : ℕ → CoreValue Chip Board → MachineValue
@@ -40,7 +41,7 @@ machine_at at core = record {
   at = at;
   console = console (machine_of five core);
   entries = core.journal;
-  samples = kept_in (machine_of five core);
+  media = kept_in (machine_of five core);
 }
 
 -- what holds of each machine: room for the entries of a segment, and no event below its cycle

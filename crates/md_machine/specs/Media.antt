@@ -1,14 +1,20 @@
--- What is heard of a run, before it is mixed.
-use Rattle.std.specs.Prelude.{ℤ, List, [], ◌++◌}
+-- What is seen and rendered of a run, before the sounds are mixed.
+use Rattle.std.specs.Prelude.{ℕ, ℤ, List, [], ◌++◌}
 
--- the sums of both sides of each sample of the FM chip, and the level of each sample of the PSG
-pub record Samples : Type 0 where
+-- the finished frames, the sums of both sides of each sample of the FM chip, and the level of each
+-- sample of the PSG
+pub record Media : Type 0 where
+  pub frames : List (List ℕ)
   pub sides : List (ℤ × ℤ)
   pub levels : List ℤ
 
-abbrev pub no_samples : Samples
-no_samples = record { sides = []; levels = [] }
+abbrev pub no_media : Media
+no_media = record { frames = []; sides = []; levels = [] }
 
 -- those of one run, and behind them those of another
-abbrev pub joined : Samples → Samples → Samples
-joined first second = record { sides = first.sides ++ second.sides; levels = first.levels ++ second.levels }
+abbrev pub joined : Media → Media → Media
+joined first second = record {
+  frames = first.frames ++ second.frames;
+  sides = first.sides ++ second.sides;
+  levels = first.levels ++ second.levels;
+}

@@ -5,7 +5,8 @@ use Rattle.md_files.specs.Journal.{entry_bytes}
 use Rattle.md_files.specs.Wav.{pair_bytes}
 use Rattle.md_word.specs.declared.event.Entry.{Entry}
 use Rattle.psg_sound.specs.Pair.{mixed}
-use Rattle.md_machine.specs.Samples.{Samples}
+use Rattle.md_files.specs.Ppm.{ppm_head}
+use Rattle.md_machine.specs.Media.{Media}
 
 -- the pair of a sample: the sums of the FM chip, mixed with the level of the PSG
 abbrev pub sample_bytes : ℤ × ℤ → ℤ → List ℕ
@@ -22,8 +23,20 @@ mixed_bytes [] sides = []
 mixed_bytes (level ∷ levels) sides = sample_bytes (first_sums sides) level ++ mixed_bytes levels (drop 1 sides)
 
 -- the pairs of samples
-unfoldable pub sound_bytes : Samples → List ℕ
-sound_bytes samples = mixed_bytes samples.levels samples.sides
+unfoldable pub sound_bytes : Media → List ℕ
+sound_bytes media = mixed_bytes media.levels media.sides
+
+-- the bytes of a frame with its head
+abbrev pub frame_length : ℕ
+frame_length = 215055
+
+-- a frame with its head
+abbrev pub frame_bytes : List ℕ → List ℕ
+frame_bytes picture = ppm_head ++ picture
+
+-- the frames, one behind the other
+unfoldable pub frames_bytes : List (List ℕ) → List ℕ
+frames_bytes frames = flat_map frame_bytes frames
 
 -- the records of entries
 unfoldable pub journal_bytes : List Entry → List ℕ

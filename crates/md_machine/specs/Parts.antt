@@ -1,9 +1,11 @@
 -- The parts of the machine as contracts see them.
-use Rattle.std.specs.Prelude.{ℕ, ℤ, ◌≤◌, List, length, Option}
+use Rattle.std.specs.Prelude.{◌≡◌, ℕ, ℤ, ◌≤◌, not, List, length, Option, is_some}
 use Rattle.m68k_chip.specs.Sound.{IsChip68}
 use Rattle.z80_chip.specs.Sound.{Chip80Value, IsChip80}
 use Rattle.z80_parcel.specs.Requests.{Told}
 use Rattle.md_machine.specs.declared.main_chip.MainChip.{MainChip}
+use Rattle.vdp_planes.specs.declared.view.LineView.{LineView}
+use Rattle.vdp_chip.specs.Drawing.{Drawing, IsDrawing}
 use Rattle.fm_chip.specs.Synth as fm_synths
 use Rattle.fm_chip.specs.declared.write.FmWrite.{FmWrite}
 use Rattle.psg_sound.specs.Synth.{Synth, IsSynth}
@@ -21,6 +23,17 @@ pub record SubValue : Type 0 where
 -- what holds of the Z80
 abbrev pub IsSub : SubValue → Type 0
 IsSub c = IsChip80 c.chip
+
+-- the drawing half of the VDP, and the view that the board filled for it between the two halves of an
+-- access
+pub record DrawValue : Type 0 where
+  pub chip : Drawing
+  pub view : Option LineView
+
+-- what holds of it: the view is in one of the two places
+pub record IsDraw (c : DrawValue) : Type 0 where
+  pub chip : IsDrawing c.chip
+  pub view : c.chip.has_view ≡ not (is_some c.view)
 
 -- the FM synthesis, the cycle of its next batch, the writes that it took for it, and its samples
 pub record FmValue : Type 0 where

@@ -1,13 +1,14 @@
 -- The record of a machine of five chips.
-use Rattle.std.specs.Prelude.{ℕ, [], None}
+use Rattle.std.specs.Prelude.{[], None}
 use Rattle.chip_core.specs.Machines.{Machine}
 use Rattle.m68k_chip.specs.States as states
 use Rattle.z80_chip.specs.States as states80
+use Rattle.vdp_chip.specs.Drawing as drawings
 use Rattle.fm_chip.specs.Synth as fm_synths
 use Rattle.psg_sound.specs.Synth.{at_power_on}
 use Rattle.md_machine.specs.Console.{Console}
 use Rattle.bus_shared.specs.Board.{Board}
-use Rattle.md_machine.specs.Parts.{FmValue, PsgValue, SubValue}
+use Rattle.md_machine.specs.Parts.{DrawValue, FmValue, PsgValue, SubValue}
 use Rattle.md_machine.specs.declared.main_chip.MainChip.{MainChip}
 use Rattle.md_machine.specs.declared.chips.Chip.{Chip}
 use Rattle.md_machine.specs.declared.chips.Chip.TheVariants.{Main, Sub, Line, Fm, Psg}
@@ -32,19 +33,21 @@ abbrev pub psg_of : Chip → PsgValue
 psg_of (Psg c) = c
 psg_of _ = record { synth = at_power_on; cycle = 0; taken = []; samples = [] }
 
--- the cycle of a chip that is not built yet
-abbrev pub cycle_of : Chip → ℕ
-cycle_of (Line c) = c.cycle
-cycle_of _ = 0
+-- the drawing half of the VDP of a chip; where it is another, any
+abbrev pub draw_of : Chip → DrawValue
+draw_of (Line c) = c
+draw_of _ = record { chip = drawings.at_power_on; view = None }
 
--- the record of five chips and a board: the answers that the processors keep, the writes that the
--- sound chips took and the samples that they keep are left out
+-- the record of five chips and a board: the answers that the processors keep, the view, the writes that
+-- the sound chips took, and the frame and the samples that are kept are left out
 abbrev pub record_of : Chip → Chip → Chip → Chip → Chip → Board → Console
 record_of c0 c1 c2 c3 c4 b = record {
   cart = (main_of c0).chip.cart;
   main = (main_of c0).chip.state;
   sub = (sub_of c1).chip;
-  line = cycle_of c2;
+  line = (draw_of c2).chip.next;
+  note = (draw_of c2).chip.note;
+  picture = (draw_of c2).chip.picture;
   fm_cycle = (fm_of c3).cycle;
   fm = (fm_of c3).synth;
   psg_cycle = (psg_of c4).cycle;

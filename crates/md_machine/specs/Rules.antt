@@ -20,10 +20,13 @@ use Rattle.psg_sound.specs.Port.{taken_below}
 use Rattle.bus_shared.specs.Accesses.{level_of, line_board, main_answer, main_board, main_told, psg_board, sub_access}
 use Rattle.bus_shared.specs.Entries.{batch_entry, line_entry}
 use Rattle.bus_shared.specs.Board.{Board}
-use Rattle.md_machine.specs.Parts.{FmValue, IsFm, IsMain, IsPsg, IsSub, PsgValue, SubValue}
-use Rattle.md_machine.specs.Stubs as stubs
+use Rattle.md_machine.specs.Parts.{DrawValue, FmValue, IsDraw, IsFm, IsMain, IsPsg, IsSub, PsgValue, SubValue}
+use Rattle.vdp_planes.specs.declared.view.LineView.{LineView}
+use Rattle.vdp_planes.specs.View.{view_of}
+use Rattle.vdp_chip.specs.Drawing.{at_power_on}
+use Rattle.vdp_chip.specs.Drawing as drawings
+use Rattle.md_machine.specs.Lines.{drawn_from, told_view, untold}
 use Rattle.md_machine.specs.declared.main_chip.MainChip.{MainChip}
-use Rattle.md_machine.specs.declared.stubs.LineStub.{LineStub}
 use Rattle.md_machine.specs.declared.chips.Chip.{Chip}
 use Rattle.md_machine.specs.declared.chips.Chip.TheVariants.{Main, Sub, Line, Fm, Psg}
 
@@ -75,10 +78,24 @@ sub_advance c = record { chip = record c.chip { state = events80.answered c.chip
 abbrev pub sub_sample : SubValue → Pins80 → SubValue
 sub_sample c pins = record c { chip = record c.chip { state = events80.begun c.chip.cart c.chip.state pins } }
 
--- the start of a line
-abbrev pub line_perform : LineStub → Board → Accessed LineStub Board
-line_perform c b =
-    record { chip = c; shared = line_board b c.cycle; entry = line_entry (stubs.line_next c.cycle).key (level_of (line_board b c.cycle)) }
+-- the start of a line: the board takes what the sprites of the line before have set, and fills the view
+abbrev pub draw_perform : DrawValue → Board → Accessed DrawValue Board
+draw_perform c b =
+    let after = line_board b c.chip.next c.chip.note in
+    record {
+      chip = record { chip = record c.chip { has_view = false }; view = Some (told_view c.chip.next (view_of after.vdp)) };
+      shared = after;
+      entry = line_entry (drawings.next_of c.chip).key (level_of after);
+    }
+
+-- the view that was filled; where none was, any
+abbrev pub view_in : Option LineView → LineView
+view_in None = untold
+view_in (Some view) = view
+
+-- the line is drawn from it
+abbrev pub draw_advance : DrawValue → DrawValue
+draw_advance c = record { chip = record (drawn_from (view_in c.view) c.chip) { has_view = true }; view = None }
 
 -- a batch of the FM synthesis is an access
 abbrev pub fm_next : ℕ → Next
@@ -139,7 +156,7 @@ psg_advance c =
 abbrev pub next : Chip → Next
 next (Main c) = next_of c.chip.state
 next (Sub c) = sub_next_of c.chip.state
-next (Line c) = stubs.line_next c.cycle
+next (Line c) = drawings.next_of c.chip
 next (Fm c) = fm_next c.cycle
 next (Psg c) = psg_next c.cycle
 
@@ -151,7 +168,7 @@ of_kind kind a = record { chip = kind a.chip; shared = a.shared; entry = a.entry
 abbrev pub perform : Chip → Board → Accessed Chip Board
 perform (Main c) b = of_kind Main (main_perform c b)
 perform (Sub c) b = of_kind Sub (sub_perform c b)
-perform (Line c) b = of_kind Line (line_perform c b)
+perform (Line c) b = of_kind Line (draw_perform c b)
 perform (Fm c) b = of_kind Fm (fm_perform c b)
 perform (Psg c) b = of_kind Psg (psg_perform c b)
 
@@ -159,7 +176,7 @@ perform (Psg c) b = of_kind Psg (psg_perform c b)
 abbrev pub advance : Chip → Chip
 advance (Main c) = Main (main_advance c)
 advance (Sub c) = Sub (sub_advance c)
-advance (Line c) = Line (record { cycle = c.cycle + 3420 })
+advance (Line c) = Line (draw_advance c)
 advance (Fm c) = Fm (fm_advance c)
 advance (Psg c) = Psg (psg_advance c)
 
@@ -190,13 +207,13 @@ five = record {
   sample = sample;
   writes = writes;
   gap = gap;
-  blank = Line (record { cycle = 0 });
+  blank = Line (record { chip = at_power_on; view = None });
 }
 
 -- the chips and the board that the code can have
 abbrev pub IsChip : Chip → Type 0
 IsChip (Main c) = IsMain c
 IsChip (Sub c) = IsSub c
-IsChip (Line c) = Unit {0}
+IsChip (Line c) = IsDraw c
 IsChip (Fm c) = IsFm c
 IsChip (Psg c) = IsPsg c

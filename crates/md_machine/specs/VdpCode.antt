@@ -1,7 +1,11 @@
--- The VDP as a list of numbers, and back.
+-- The VDP, and its drawing half, as lists of numbers, and back.
 use Rattle.std.specs.Prelude.{refl}
-use Rattle.md_word.specs.Coding.{Way, both, by_way, flag, many, number}
+use Rattle.md_word.specs.Coding.{Way, both, by_way, flag, many, maybe, number}
 use Rattle.vdp_ports.specs.Vdp.{Vdp}
+use Rattle.vdp_planes.specs.declared.view.LineView.{LineView}
+use Rattle.vdp_planes.specs.declared.view.SpriteNote.{SpriteNote}
+use Rattle.vdp_chip.specs.Drawing.{Drawing}
+use Rattle.md_machine.specs.Parts.{DrawValue}
 
 -- the way of the VDP
 abbrev pub vdp_way : Way Vdp
@@ -35,3 +39,25 @@ vdp_way =
       int_to = p.1.1.1.1.1.1.1;
     })
     (λ v. refl)
+
+-- the way of what sprites have set
+abbrev pub note_way : Way SpriteNote
+note_way = by_way (both flag flag) (λ n. (n.overflow, n.collision)) (λ p. record { overflow = p.0; collision = p.1 }) (λ n. refl)
+
+-- the way of a view
+abbrev pub view_way : Way LineView
+view_way =
+    by_way (both (both (many number) (many number)) (both (many number) (many number)))
+    (λ v. ((v.registers, v.vram), (v.cram, v.vsram)))
+    (λ p. record { registers = p.0.0; vram = p.0.1; cram = p.1.0; vsram = p.1.1 }) (λ v. refl)
+
+-- the way of the drawing half
+abbrev pub drawing_way : Way Drawing
+drawing_way =
+    by_way (both (both number note_way) (both flag (both (many number) (maybe (many number)))))
+    (λ d. ((d.next, d.note), (d.has_view, (d.picture, d.frame))))
+    (λ p. record { next = p.0.0; note = p.0.1; has_view = p.1.0; picture = p.1.1.0; frame = p.1.1.1 }) (λ d. refl)
+
+-- the way of the drawing half with the view that was filled for it
+abbrev pub draw_way : Way DrawValue
+draw_way = by_way (both drawing_way (maybe view_way)) (λ c. (c.chip, c.view)) (λ p. record { chip = p.0; view = p.1 }) (λ c. refl)

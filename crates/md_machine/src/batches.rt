@@ -1,8 +1,9 @@
-ghost use Rattle.std.specs.Prelude.{◌≡◌, ◌^◌, ◌<◌, ◌≤◌};
+ghost use Rattle.std.specs.Prelude.{◌≡◌, ◌^◌, ◌<◌, ◌≤◌, false};
 ghost use Rattle.md_machine.specs.Rules as rules;
 
 use arrayvec::ArrayVec;
 use md_word::clock::BATCH;
+use md_word::{Key, Next};
 
 /// The samples of a frame at most, in whole batches.
 pub(crate) const MOST_SAMPLES: usize = 896;
@@ -14,6 +15,16 @@ pub(crate) fn first_sample(cycle: u64) -> u64
     ensures most { result ≤ 2 ^ 50 }
 {
     16 * (cycle / BATCH).saturating_sub(1)
+}
+
+/// A batch of a chip, which is an access.
+pub(crate) fn batch_at(cycle: u64, chip: u8) -> Next
+    ensures { result ≡ record { key = record { cycle = cycle; chip = chip }; sample = false } }
+{
+    Next {
+        key: Key { cycle, chip },
+        sample: false,
+    }
 }
 
 /// Keeps the samples of a batch where there is room for them.

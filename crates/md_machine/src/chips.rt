@@ -1,7 +1,7 @@
+use crate::draw::DrawChip;
 use crate::fm::FmChip;
 use crate::main_chip::MainChip;
 use crate::psg_chip::PsgChip;
-use crate::stubs::LineStub;
 use crate::sub_chip::SubChip;
 
 /// A chip of the machine.
@@ -12,7 +12,7 @@ pub enum Chip {
     /// The Z80, chip 1.
     Sub(SubChip),
     /// The drawing half of the VDP, chip 2.
-    Line(LineStub),
+    Line(DrawChip),
     /// The FM synthesis, chip 3.
     Fm(FmChip),
     /// The PSG synthesis, chip 4.

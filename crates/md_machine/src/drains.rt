@@ -1,9 +1,11 @@
-ghost use Rattle.std.specs.Prelude.{◌≡◌, ◌+◌, ◌*◌, ◌≤◌, ◌++◌, drop, length, vec_len, vec_capacity};
-ghost use Rattle.md_machine.specs.Outputs.{first_sums, journal_bytes, mixed_bytes, sample_bytes};
+ghost use Rattle.std.specs.Prelude.{◌≡◌, ◌+◌, ◌*◌, ◌≤◌, ◌++◌, IfSome, drop, length, option_copied, vec_len, vec_capacity};
+ghost use Rattle.vdp_chip.specs.Picture.{picture_length};
+ghost use Rattle.md_machine.specs.Lines.{frames_of};
+ghost use Rattle.md_machine.specs.Outputs.{first_sums, frame_length, frames_bytes, journal_bytes, mixed_bytes, sample_bytes};
 ghost use Rattle.md_machine.specs.Drained as drained;
 
 use crate::chips::Chip;
-use md_files::{put_entry, put_pair};
+use md_files::{ppm_head, put_entry, put_frame, put_pair};
 use md_word::Entry;
 use psg_sound::mix;
 
@@ -16,6 +18,21 @@ pub(crate) fn put_entries(entries: &[Entry], into: &mut Vec<u8>)
 {
     for entry in entries {
         put_entry(entry, into);
+    }
+}
+
+/// Appends a frame with its head, where there is one.
+#[tactic(auto, unfolding(crate::specs::Outputs::frames_bytes))]
+pub(crate) fn put_frames(frame: Option<&[u8]>, into: &mut Vec<u8>)
+    requires size { IfSome (option_copied frame) (λ picture. length picture ≡ picture_length) }
+    requires room { vec_len into.old + frame_length * length (frames_of (option_copied frame)) ≤ vec_capacity into.old }
+    ensures bytes { into.new.items ≡ into.old.items ++ frames_bytes (frames_of (option_copied frame)) }
+    ensures length { vec_len into.new ≡ vec_len into.old + frame_length * length (frames_of (option_copied frame)) }
+    ensures room { vec_capacity into.old ≤ vec_capacity into.new }
+{
+    if let Some(picture) = frame {
+        ppm_head(into);
+        put_frame(picture, into);
     }
 }
 
@@ -59,6 +76,17 @@ fn put_pair_of(sums: (i32, i32), level: &i32, into: &mut Vec<u8>)
     put_pair(left, right, into);
 }
 
+/// The frame that a chip keeps: another chip than the drawing half of the VDP has none.
+pub(crate) fn frame_in(chip: &Chip) -> Option<&[u8]>
+    ensures value { option_copied result ≡ drained.frame_of chip.now }
+    ensures size { IfSome (option_copied result) (λ picture. length picture ≡ picture_length) }
+{
+    match chip {
+        Chip::Line(draw) => draw.frame(),
+        Chip::Main(_) | Chip::Sub(_) | Chip::Fm(_) | Chip::Psg(_) => None,
+    }
+}
+
 /// The sums that a chip keeps: another chip than the FM synthesis has none.
 pub(crate) fn sides_in(chip: &Chip) -> &[(i32, i32)]
     ensures { result.now ≡ drained.sides_of chip.now }
@@ -79,13 +107,14 @@ pub(crate) fn levels_in(chip: &Chip) -> &[i32]
     }
 }
 
-/// Lets the samples go that a chip keeps.
+/// Lets the frame or the samples go that a chip keeps.
 pub(crate) fn silence(chip: &mut Chip)
     ensures { chip.new ≡ drained.silent chip.old }
 {
     match chip {
         Chip::Fm(fm) => fm.drain(),
         Chip::Psg(psg) => psg.drain(),
-        Chip::Main(_) | Chip::Sub(_) | Chip::Line(_) => {}
+        Chip::Line(draw) => draw.drop_frame(),
+        Chip::Main(_) | Chip::Sub(_) => {}
     }
 }

@@ -5,11 +5,11 @@ ghost use Rattle.bus_shared.specs.Board.{power_on};
 ghost use Rattle.md_machine.specs.First as first;
 
 use crate::chips::Chip;
+use crate::draw::DrawChip;
 use crate::fm::FmChip;
 use crate::main_chip::MainChip;
 use crate::psg_chip::PsgChip;
 use crate::set::MdChips;
-use crate::stubs::LineStub;
 use crate::sub_chip::SubChip;
 use bus_shared::Shared;
 use chip_core::Core;
@@ -38,7 +38,7 @@ pub(crate) fn first_chips(alloc: Global, cart: Arc<Cart>) -> Result<Vec<Chip>, N
     let chips = [
         Chip::Main(main),
         Chip::Sub(sub),
-        Chip::Line(LineStub { cycle: 0 }),
+        Chip::Line(DrawChip::power_on(alloc)?),
         Chip::Fm(FmChip::power_on(alloc)?),
         Chip::Psg(psg),
     ];

@@ -2,8 +2,7 @@ ghost use Rattle.std.specs.Prelude.{◌≡◌, ◌^◌, ◌<◌, IfOk, [], ◌+�
 ghost use Rattle.fm_chip.specs.Synth.{at_power_on};
 ghost use Rattle.md_machine.specs.Rules as rules;
 
-use crate::batches::{MOST_SAMPLES, first_sample, keep};
-use crate::stubs::next_at;
+use crate::batches::{MOST_SAMPLES, batch_at, first_sample, keep};
 use arrayvec::ArrayVec;
 use bus_shared::{Request, Shared, carry_out};
 use fm_chip::{FmList, FmSynth};
@@ -53,7 +52,7 @@ impl FmChip {
         ensures value { result ≡ rules.fm_next self.now.cycle }
         ensures fm { IsFm self.now }
     {
-        next_at(self.cycle, 3, false)
+        batch_at(self.cycle, 3)
     }
 
     /// Takes the writes for the batch that is due.

@@ -8,28 +8,35 @@ ghost use Rattle.md_machine.specs.Console.{AllBelow, Console, IsRunTo, power_on,
 ghost use Rattle.md_machine.specs.Owners.{HasOneOwner};
 ghost use Rattle.md_machine.specs.Pads.{ShowsPads};
 ghost use Rattle.md_machine.specs.Rules.{five};
-ghost use Rattle.md_machine.specs.Samples as samples;
-ghost use Rattle.md_machine.specs.Samples.{Samples};
+ghost use Rattle.md_machine.specs.Media as outputs;
+ghost use Rattle.md_machine.specs.Media.{Media};
 
 use crate::set::MdChips;
 use chip_core::laws;
 use rom_header::Cart;
 
-/// A run that goes on from where another ended is one run, with the entries and samples of the one
-/// followed by those of the other.
+/// A run that goes on from where another ended is one run, with the entries, frames and samples of the
+/// one followed by those of the other.
 pub fn joined()
-    ensures { (m w z : Console) (s t : ℕ) (entries later_entries : List Entry) (sound later_sound : Samples) → s ≤ t
-        → IsRunTo m s w entries sound → IsRunTo w t z later_entries later_sound
-        → IsRunTo m t z (entries ++ later_entries) (samples.joined sound later_sound) }
+    ensures { (m w z : Console) (s t : ℕ) (entries later_entries : List Entry) (output later_output : Media) → s ≤ t
+        → IsRunTo m s w entries output → IsRunTo w t z later_entries later_output
+        → IsRunTo m t z (entries ++ later_entries) (outputs.joined output later_output) }
 {}
 
 /// From power-on a run to a cycle makes 16 samples of each sound chip for each multiple of 16,128 cycles,
 /// from the first on, that lies below it.
 pub fn samples_counted()
-    ensures sides { (cart : List ℕ) (recording : List Frame) (z : Console) (end : ℕ) (entries : List Entry) (sound : Samples) → 1 ≤ end
-        → IsRunTo (power_on cart recording) end z entries sound → length sound.sides ≡ 16 * ((end - 1) / 16128) }
-    ensures levels { (cart : List ℕ) (recording : List Frame) (z : Console) (end : ℕ) (entries : List Entry) (sound : Samples) → 1 ≤ end
-        → IsRunTo (power_on cart recording) end z entries sound → length sound.levels ≡ 16 * ((end - 1) / 16128) }
+    ensures sides { (cart : List ℕ) (recording : List Frame) (z : Console) (end : ℕ) (entries : List Entry) (output : Media) → 1 ≤ end
+        → IsRunTo (power_on cart recording) end z entries output → length output.sides ≡ 16 * ((end - 1) / 16128) }
+    ensures levels { (cart : List ℕ) (recording : List Frame) (z : Console) (end : ℕ) (entries : List Entry) (output : Media) → 1 ≤ end
+        → IsRunTo (power_on cart recording) end z entries output → length output.levels ≡ 16 * ((end - 1) / 16128) }
+{}
+
+/// From power-on a run to a cycle makes a frame for each cycle 766,080 + 896,040 n below it, at which line
+/// 224 of frame n begins.
+pub fn frames_counted()
+    ensures { (cart : List ℕ) (recording : List Frame) (z : Console) (end : ℕ) (entries : List Entry) (output : Media)
+        → IsRunTo (power_on cart recording) end z entries output → length output.frames ≡ (end + (896040 - 766080 - 1)) / 896040 }
 {}
 
 /// From power-on there are never more events below a cycle than cycles and chips.

@@ -4,6 +4,7 @@
 mod batches;
 mod chips;
 mod drains;
+mod draw;
 mod first;
 mod fm;
 pub mod laws;
@@ -15,7 +16,6 @@ mod pins;
 mod psg_chip;
 mod runs;
 mod set;
-mod stubs;
 mod sub_chip;
 
 pub use first::first_core;

@@ -1,13 +1,13 @@
 ghost use Rattle.std.specs.Prelude.{◌≡◌, ◌≤◌, ◌<◌, ◌+◌, ◌*◌, ◌++◌, [], IfOk, length, vec_len, vec_capacity};
 ghost use Rattle.std.specs.Arc.{arc_value};
 ghost use Rattle.md_machine.specs.Console.{IsRunTo, key_in, mover, power_on};
-ghost use Rattle.md_machine.specs.Outputs.{journal_bytes, sound_bytes};
+ghost use Rattle.md_machine.specs.Outputs.{frame_length, frames_bytes, journal_bytes, sound_bytes};
 ghost use Rattle.md_machine.specs.Refinement.{main_of};
 ghost use Rattle.md_machine.specs.Rules.{next};
-ghost use Rattle.md_machine.specs.Samples.{no_samples};
+ghost use Rattle.md_machine.specs.Media.{no_media};
 
 use crate::chips::Chip;
-use crate::drains::{levels_in, put_entries, put_pairs, sides_in, silence};
+use crate::drains::{frame_in, levels_in, put_entries, put_frames, put_pairs, sides_in, silence};
 use crate::first::{first_bounds, first_chips};
 use crate::least::least_key;
 use crate::runs::{run_alone, run_workers, taken};
@@ -56,7 +56,7 @@ impl Machine {
         cart: Arc<Cart>,
         recording: Arc<Recording>,
     ) -> Result<Machine, NoMemory>
-        ensures { IfOk result (λ machine. machine ≡ record { at = 0; console = power_on (arc_value cart) (arc_value recording); entries = []; samples = no_samples }) }
+        ensures { IfOk result (λ machine. machine ≡ record { at = 0; console = power_on (arc_value cart) (arc_value recording); entries = []; media = no_media }) }
     {
         let shared = Shared::power_on(alloc, recording)?;
         let chips = first_chips(alloc, cart)?;
@@ -92,11 +92,12 @@ impl Machine {
         requires near { to ≤ self.old.at + 896040 }
         requires far { to ≤ 549755813888 }
         requires entries { self.old.entries ≡ [] }
-        requires samples { self.old.samples ≡ no_samples }
+        requires media { self.old.media ≡ no_media }
         ensures at { self.new.at ≡ to }
-        ensures run { IsRunTo self.old.console to self.new.console self.new.entries self.new.samples }
+        ensures run { IsRunTo self.old.console to self.new.console self.new.entries self.new.media }
         ensures entries { length self.new.entries ≤ 52500 }
-        ensures samples { length self.new.samples.levels ≤ 896 }
+        ensures frames { length self.new.media.frames ≤ 1 }
+        ensures samples { length self.new.media.levels ≤ 896 }
     {
         if let Some(shared) = self.shared.take() {
             let core = taken(shared, &mut self.chips, &mut self.bounds, &mut self.journal);
@@ -129,11 +130,12 @@ impl Machine {
         requires near { to ≤ self.old.at + 896040 }
         requires far { to ≤ 549755813888 }
         requires entries { self.old.entries ≡ [] }
-        requires samples { self.old.samples ≡ no_samples }
+        requires media { self.old.media ≡ no_media }
         ensures at { self.new.at ≡ to }
-        ensures run { IsRunTo self.old.console to self.new.console self.new.entries self.new.samples }
+        ensures run { IsRunTo self.old.console to self.new.console self.new.entries self.new.media }
         ensures entries { length self.new.entries ≤ 52500 }
-        ensures samples { length self.new.samples.levels ≤ 896 }
+        ensures frames { length self.new.media.frames ≤ 1 }
+        ensures samples { length self.new.media.levels ≤ 896 }
     {
         if let Some(shared) = self.shared.take() {
             let core = taken(shared, &mut self.chips, &mut self.bounds, &mut self.journal);
@@ -166,12 +168,24 @@ impl Machine {
         self.journal.clear();
     }
 
+    /// Appends the frame that was finished since the machine was last drained, with its head, if one was.
+    pub fn drain_frames(&mut self, into: &mut Vec<u8>)
+        requires { vec_len into.old + frame_length * length self.old.media.frames ≤ vec_capacity into.old }
+        ensures bytes { into.new.items ≡ into.old.items ++ frames_bytes self.old.media.frames }
+        ensures length { vec_len into.new ≡ vec_len into.old + frame_length * length self.old.media.frames }
+        ensures machine { self.new ≡ record self.old { media = record self.old.media { frames = [] } } }
+        ensures room { vec_capacity into.old ≤ vec_capacity into.new }
+    {
+        put_frames(frame_in(&self.chips[2]), into);
+        self.drop_frame();
+    }
+
     /// Appends the pairs of samples that were made since the machine was last drained.
     pub fn drain_pairs(&mut self, into: &mut Vec<u8>)
-        requires { vec_len into.old + 4 * length self.old.samples.levels ≤ vec_capacity into.old }
-        ensures bytes { into.new.items ≡ into.old.items ++ sound_bytes self.old.samples }
-        ensures length { vec_len into.new ≡ vec_len into.old + 4 * length self.old.samples.levels }
-        ensures machine { self.new ≡ record self.old { samples = no_samples } }
+        requires { vec_len into.old + 4 * length self.old.media.levels ≤ vec_capacity into.old }
+        ensures bytes { into.new.items ≡ into.old.items ++ sound_bytes self.old.media }
+        ensures length { vec_len into.new ≡ vec_len into.old + 4 * length self.old.media.levels }
+        ensures machine { self.new ≡ record self.old { media = record self.old.media { sides = []; levels = [] } } }
         ensures room { vec_capacity into.new ≡ vec_capacity into.old }
     {
         put_pairs(levels_in(&self.chips[4]), sides_in(&self.chips[3]), into);
@@ -179,16 +193,23 @@ impl Machine {
         self.silence_psg();
     }
 
+    /// Lets the frame go.
+    fn drop_frame(&mut self)
+        ensures { self.new ≡ record self.old { media = record self.old.media { frames = [] } } }
+    {
+        silence(&mut self.chips[2]);
+    }
+
     /// Lets the FM synthesis' samples go.
     fn silence_fm(&mut self)
-        ensures { self.new ≡ record self.old { samples = record { sides = []; levels = self.old.samples.levels } } }
+        ensures { self.new ≡ record self.old { media = record self.old.media { sides = [] } } }
     {
         silence(&mut self.chips[3]);
     }
 
     /// Lets the PSG's samples go.
     fn silence_psg(&mut self)
-        ensures { self.new ≡ record self.old { samples = record { sides = self.old.samples.sides; levels = [] } } }
+        ensures { self.new ≡ record self.old { media = record self.old.media { levels = [] } } }
     {
         silence(&mut self.chips[4]);
     }

@@ -2,8 +2,7 @@ ghost use Rattle.std.specs.Prelude.{◌≡◌, ◌^◌, ◌<◌, IfOk, [], ◌+�
 ghost use Rattle.psg_sound.specs.Synth.{at_power_on};
 ghost use Rattle.md_machine.specs.Rules as rules;
 
-use crate::batches::{MOST_SAMPLES, first_sample, keep};
-use crate::stubs::next_at;
+use crate::batches::{MOST_SAMPLES, batch_at, first_sample, keep};
 use arrayvec::ArrayVec;
 use bus_shared::{Request, Shared, carry_out};
 use md_word::clock::BATCH;
@@ -52,7 +51,7 @@ impl PsgChip {
         ensures value { result ≡ rules.psg_next self.now.cycle }
         ensures psg { IsPsg self.now }
     {
-        next_at(self.cycle, 4, false)
+        batch_at(self.cycle, 4)
     }
 
     /// Takes the writes for the batch that is due.

@@ -7,7 +7,7 @@ ghost use Rattle.md_machine.specs.Machines.{core_in, kept_in};
 ghost use Rattle.bus_shared.specs.Board.{Board, IsBoard};
 ghost use Rattle.md_machine.specs.Refinement.{console};
 ghost use Rattle.md_machine.specs.Rules.{IsChip, five};
-ghost use Rattle.md_machine.specs.Samples.{no_samples};
+ghost use Rattle.md_machine.specs.Media.{no_media};
 ghost use Rattle.md_machine.specs.declared.chips.Chip.{Chip};
 
 use crate::chips::Chip;
@@ -45,7 +45,7 @@ pub(crate) fn run_alone(core: Core<MdChips>, from: u64, to: u64) -> Core<MdChips
     requires far { to ≤ 549755813888 }
     requires room { 52500 ≤ core.room }
     requires entries { core.journal ≡ [] }
-    requires samples { kept_in (machine_of five core) ≡ no_samples }
+    requires media { kept_in (machine_of five core) ≡ no_media }
     ensures core { IsCore five IsChip IsBoard result }
     ensures room { result.room ≡ core.room }
     ensures run { IsRunTo (console (machine_of five core)) to (console (machine_of five result))
@@ -75,7 +75,7 @@ pub(crate) fn run_workers<R: Threads + Wait + Sync, G: Gate>(
     requires far { to ≤ 549755813888 }
     requires room { 52500 ≤ core.room }
     requires entries { core.journal ≡ [] }
-    requires samples { kept_in (machine_of five core) ≡ no_samples }
+    requires media { kept_in (machine_of five core) ≡ no_media }
     requires some { 1 ≤ workers }
     requires few { workers ≤ 5 }
     ensures core { IsCore five IsChip IsBoard result }
@@ -95,7 +95,7 @@ fn know_segments()
         → to ≤ from + 896040 → to ≤ 549755813888 → all_moves_left five to (machine_of five v) ≤ 52500 }
     ensures run { (v w : CoreValue Chip Board) (from to : ℕ) → IsCore five IsChip IsBoard v
         → machines.IsQuiet five (machine_of five v) from → to ≤ from + 896040 → to ≤ 549755813888
-        → kept_in (machine_of five v) ≡ no_samples
+        → kept_in (machine_of five v) ≡ no_media
         → IsCore five IsChip IsBoard w → machines.IsRunTo five (machine_of five v) to (machine_of five w) w.journal
         → IsRunTo (console (machine_of five v)) to (console (machine_of five w)) w.journal (kept_in (machine_of five w)) }
     ensures entries { (v w : CoreValue Chip Board) (from to : ℕ) → IsCore five IsChip IsBoard v

@@ -38,7 +38,7 @@ impl ChipSet for MdChips {
         match chip {
             Chip::Main(main) => main.next(),
             Chip::Sub(sub) => sub.next(),
-            Chip::Line(line) => line.next(),
+            Chip::Line(draw) => draw.next(),
             Chip::Fm(fm) => fm.next(),
             Chip::Psg(psg) => psg.next(),
         }
@@ -49,7 +49,7 @@ impl ChipSet for MdChips {
         match chip {
             Chip::Main(main) => main.perform(shared),
             Chip::Sub(sub) => sub.perform(shared),
-            Chip::Line(line) => line.perform(shared),
+            Chip::Line(draw) => draw.perform(shared),
             Chip::Fm(fm) => fm.perform(shared),
             Chip::Psg(psg) => psg.perform(shared),
         }
@@ -60,10 +60,23 @@ impl ChipSet for MdChips {
         match chip {
             Chip::Main(main) => main.advance(),
             Chip::Sub(sub) => sub.advance(),
-            Chip::Line(line) => line.advance(),
+            Chip::Line(draw) => draw.advance(),
             Chip::Fm(fm) => fm.advance(),
             Chip::Psg(psg) => psg.advance(),
         }
+    }
+
+    /// A line is drawn straight from the board, and the view is not filled.
+    #[tactic(auto, unfolding(m68k_chip::specs::States::next_of, z80_chip::specs::States::next_of))]
+    fn access(chip: &mut Chip, shared: &mut Shared) -> Entry {
+        if let Chip::Line(draw) = chip {
+            if draw.has_view() {
+                return draw.draw(shared);
+            }
+        }
+        let entry = Self::perform(chip, shared);
+        Self::advance(chip);
+        entry
     }
 
     fn pins(shared: &Shared, chip: u8) -> Pins {

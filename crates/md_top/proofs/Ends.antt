@@ -1,19 +1,18 @@
 -- How a run ends: what the outputs hold on the way, and why it stops.
-use Rattle.std.proofs.Common.{◌≡◌, ℕ, ◌^◌, ◌≤◌, List, [], ◌++◌, Result, Ok, Err, Option, Some, None, refl, sym, subst, ◌∙◌, arith}
+use Rattle.std.proofs.Common.{◌≡◌, ℕ, ◌^◌, ◌≤◌, List, Result, Ok, Err, Option, Some, None, subst, ◌∙◌, arith}
 use Rattle.std.specs.Prelude.{IfErr, IsSome, OnOk, OnErr}
-use Rattle.md_outer.specs.Outside.{DepotState, Files, GoesOn, IsPrefix}
-use Rattle.md_machine.specs.Outputs.{journal_bytes, sound_bytes}
+use Rattle.md_outer.specs.Outside.{DepotState, Files, GoesOn}
 use Rattle.md_top.specs.Endings.{HoldsUntil, RunCause, RunLeaves}
-use Rattle.md_top.specs.Outputs.{Adds, AddsParts, AreBegun, Holds, IsBegun, IsUnwritten, IsWriteFault, LeavesParts}
-use Rattle.md_top.specs.Runs.{FewEvents, entries_to, journal_of, samples_to, sound_of, sound_until}
+use Rattle.md_top.specs.Outputs.{Adds, AddsParts, AreBegun, Holds, IsBegun, IsUnwritten, IsWriteFault, LeavesParts, Pieces, lengthened, nothing}
+use Rattle.md_top.specs.Runs.{FewEvents, pieces_of, pieces_until, sound_until}
 use Rattle.md_words.specs.Words.{Run}
 use Rattle.md_top.specs.declared.ending.Ending.{Ending}
-use Rattle.md_top.specs.declared.ending.Ending.TheVariants.{Done, SoundFault, JournalFault, Memory}
+use Rattle.md_top.specs.declared.ending.Ending.TheVariants.{Done, FramesFault, SoundFault, JournalFault, Memory}
 use Rattle.md_top.specs.declared.inputs.Inputs.{Inputs}
 use Rattle.md_top.specs.declared.outputs.Outputs.{Outputs}
 use Rattle.md_top.proofs.Puts.{rose_later}
-use Rattle.md_top.proofs.Segments.{journal-first, journal-grows, sound-grows, sound-next}
-use Rattle.md_top.proofs.Writes.{parts-longer}
+use Rattle.md_top.proofs.Segments.{pieces-first, pieces-grow}
+use Rattle.md_top.proofs.Writes.{nothing-front, parts-longer}
 
 -- RESULTS
 
@@ -32,54 +31,40 @@ both-err (Err e) f p q = f e p q
 -- WHAT THE OUTPUTS HOLD
 
 pub head-held : (run : Run) (inputs : Inputs) (first files : Files) (head : List ℕ) → FewEvents inputs → head ≡ sound_until inputs run.cycles 0
-    → Holds run first files head [] → HoldsUntil inputs run first files 0
-head-held run inputs first files head few is holds =
-    subst (λ (l : List ℕ). Holds run first files (sound_until inputs run.cycles 0) l) (sym (journal-first inputs few))
-    (subst (λ (l : List ℕ). Holds run first files l []) is holds)
-
-empty-first : (l : List ℕ) → IsPrefix [] l
-empty-first l = (l, refl)
+    → Holds run first files (record nothing { sound = head }) → HoldsUntil inputs run first files 0
+head-held run inputs first files head few is holds = subst (Holds run first files) (pieces-first inputs run.cycles head few is) holds
 
 pub head-parts : (run : Run) (inputs : Inputs) (first files : Files) (head : List ℕ) → FewEvents inputs → run.cycles ≤ 2 ^ 50 → head ≡ sound_until inputs run.cycles 0
-    → LeavesParts run first files head [] → LeavesParts run first files (sound_of inputs run.cycles) (journal_of inputs run.cycles)
+    → LeavesParts run first files (record nothing { sound = head }) → LeavesParts run first files (pieces_of inputs run.cycles)
 head-parts run inputs first files head few small is leaves =
-    parts-longer run first files head [] (sound_of inputs run.cycles) (journal_of inputs run.cycles) leaves
-    (subst (λ (l : List ℕ). IsPrefix l (sound_of inputs run.cycles)) (sym is) (sound-grows inputs run.cycles 0 run.cycles few small (omega arith)))
-    (empty-first (journal_of inputs run.cycles))
+    parts-longer run first files (pieces_until inputs run.cycles 0) (pieces_of inputs run.cycles)
+    (subst (LeavesParts run first files) (pieces-first inputs run.cycles head few is) leaves)
+    (pieces-grow inputs run.cycles 0 run.cycles few small (omega arith))
 
--- the journal behind a segment
-journal-next : (inputs : Inputs) (at to : ℕ) (records : List ℕ) → journal_bytes (entries_to inputs to) ≡ journal_bytes (entries_to inputs at) ++ records
-    → journal_of inputs at ++ records ≡ journal_of inputs to
-unfolding journal_of
-journal-next inputs at to records is = sym is
+pub segment-held : (run : Run) (inputs : Inputs) (first old new : Files) (at to : ℕ) (more : Pieces)
+    → lengthened (pieces_until inputs run.cycles at) more ≡ pieces_until inputs run.cycles to
+    → Adds run old new more → HoldsUntil inputs run first old at → HoldsUntil inputs run first new to
+segment-held run inputs first old new at to more is adds holds =
+    subst (Holds run first new) is (adds first (pieces_until inputs run.cycles at) holds)
 
-pub segment-held : (run : Run) (inputs : Inputs) (first old new : Files) (at to : ℕ) (pairs records : List ℕ)
-    → sound_bytes (samples_to inputs to) ≡ sound_bytes (samples_to inputs at) ++ pairs → journal_bytes (entries_to inputs to) ≡ journal_bytes (entries_to inputs at) ++ records
-    → Adds run old new pairs records → HoldsUntil inputs run first old at → HoldsUntil inputs run first new to
-segment-held run inputs first old new at to pairs records more_sound more_journal adds holds =
-    subst (λ (l : List ℕ). Holds run first new l (journal_of inputs to)) (sound-next inputs run.cycles at to pairs more_sound)
-    (subst (λ (l : List ℕ). Holds run first new (sound_until inputs run.cycles at ++ pairs) l) (journal-next inputs at to records more_journal)
-    (adds first (sound_until inputs run.cycles at) (journal_of inputs at) holds))
-
-pub segment-parts : (run : Run) (inputs : Inputs) (first old new : Files) (at to : ℕ) (pairs records : List ℕ) → FewEvents inputs → to ≤ run.cycles → run.cycles ≤ 2 ^ 50
-    → sound_bytes (samples_to inputs to) ≡ sound_bytes (samples_to inputs at) ++ pairs → journal_bytes (entries_to inputs to) ≡ journal_bytes (entries_to inputs at) ++ records
-    → AddsParts run old new pairs records → HoldsUntil inputs run first old at → LeavesParts run first new (sound_of inputs run.cycles) (journal_of inputs run.cycles)
-segment-parts run inputs first old new at to pairs records few within small more_sound more_journal adds holds =
-    parts-longer run first new (sound_until inputs run.cycles at ++ pairs) (journal_of inputs at ++ records) (sound_of inputs run.cycles) (journal_of inputs run.cycles)
-    (adds first (sound_until inputs run.cycles at) (journal_of inputs at) holds)
-    (subst (λ (l : List ℕ). IsPrefix l (sound_of inputs run.cycles)) (sym (sound-next inputs run.cycles at to pairs more_sound))
-    (sound-grows inputs run.cycles to run.cycles few small within))
-    (subst (λ (l : List ℕ). IsPrefix l (journal_of inputs run.cycles)) (sym (journal-next inputs at to records more_journal))
-    (journal-grows inputs to run.cycles few small within))
+pub segment-parts : (run : Run) (inputs : Inputs) (first old new : Files) (at to : ℕ) (more : Pieces) → FewEvents inputs → to ≤ run.cycles → run.cycles ≤ 2 ^ 50
+    → lengthened (pieces_until inputs run.cycles at) more ≡ pieces_until inputs run.cycles to
+    → AddsParts run old new more → HoldsUntil inputs run first old at → LeavesParts run first new (pieces_of inputs run.cycles)
+segment-parts run inputs first old new at to more few within small is adds holds =
+    parts-longer run first new (pieces_until inputs run.cycles to) (pieces_of inputs run.cycles)
+    (subst (LeavesParts run first new) is (adds first (pieces_until inputs run.cycles at) holds))
+    (pieces-grow inputs run.cycles to run.cycles few small within)
 
 -- WHY IT STOPS
 
 pub fault-cause : (inputs : Inputs) (run : Run) (old new : DepotState) (ending : Ending) → IsWriteFault run old new ending → RunCause inputs run old new ending
+fault-cause inputs run old new FramesFault fault = fault
 fault-cause inputs run old new SoundFault fault = fault
 fault-cause inputs run old new JournalFault fault = fault
 fault-cause inputs run old new _ fault = absurd fault
 
 pub unwritten-cause : (inputs : Inputs) (run : Run) (old new : DepotState) (ending : Ending) → IsUnwritten run old new ending → RunCause inputs run old new ending
+unwritten-cause inputs run old new FramesFault fault = fault
 unwritten-cause inputs run old new SoundFault fault = fault
 unwritten-cause inputs run old new JournalFault fault = fault
 unwritten-cause inputs run old new Memory fault = tt
@@ -89,22 +74,23 @@ unwritten-cause inputs run old new _ fault = absurd fault
 pub cause-before : (inputs : Inputs) (run : Run) (old mid new : DepotState) (ending : Ending) → GoesOn old mid → RunCause inputs run mid new ending → RunCause inputs run old new ending
 cause-before inputs run old mid new (Done accesses halted) on cause = cause
 cause-before inputs run old mid new Memory on cause = tt
+cause-before inputs run old mid new FramesFault on cause = (cause.0, rose_later old.write_faults mid.write_faults new.write_faults on.writes cause.1)
 cause-before inputs run old mid new SoundFault on cause = (cause.0, rose_later old.write_faults mid.write_faults new.write_faults on.writes cause.1)
 cause-before inputs run old mid new JournalFault on cause = (cause.0, rose_later old.write_faults mid.write_faults new.write_faults on.writes cause.1)
 cause-before inputs run old mid new _ on cause = absurd cause
 
 pub fault-leaves : (inputs : Inputs) (run : Run) (first files : Files) (old new : DepotState) (ending : Ending) → IsWriteFault run old new ending
-    → LeavesParts run first files (sound_of inputs run.cycles) (journal_of inputs run.cycles) → RunLeaves inputs run first files ending
+    → LeavesParts run first files (pieces_of inputs run.cycles) → RunLeaves inputs run first files ending
+fault-leaves inputs run first files old new FramesFault fault leaves = leaves
 fault-leaves inputs run first files old new SoundFault fault leaves = leaves
 fault-leaves inputs run first files old new JournalFault fault leaves = leaves
 fault-leaves inputs run first files old new _ fault leaves = absurd fault
 
 pub unwritten-leaves : (inputs : Inputs) (run : Run) (first files : Files) (old new : DepotState) (ending : Ending) → IsUnwritten run old new ending
-    → LeavesParts run first files [] [] → RunLeaves inputs run first files ending
-unwritten-leaves inputs run first files old new SoundFault fault leaves =
-    parts-longer run first files [] [] (sound_of inputs run.cycles) (journal_of inputs run.cycles) leaves (empty-first (sound_of inputs run.cycles)) (empty-first (journal_of inputs run.cycles))
-unwritten-leaves inputs run first files old new JournalFault fault leaves =
-    parts-longer run first files [] [] (sound_of inputs run.cycles) (journal_of inputs run.cycles) leaves (empty-first (sound_of inputs run.cycles)) (empty-first (journal_of inputs run.cycles))
+    → LeavesParts run first files nothing → RunLeaves inputs run first files ending
+unwritten-leaves inputs run first files old new FramesFault fault leaves = parts-longer run first files nothing (pieces_of inputs run.cycles) leaves (nothing-front (pieces_of inputs run.cycles))
+unwritten-leaves inputs run first files old new SoundFault fault leaves = parts-longer run first files nothing (pieces_of inputs run.cycles) leaves (nothing-front (pieces_of inputs run.cycles))
+unwritten-leaves inputs run first files old new JournalFault fault leaves = parts-longer run first files nothing (pieces_of inputs run.cycles) leaves (nothing-front (pieces_of inputs run.cycles))
 unwritten-leaves inputs run first files old new Memory fault leaves = leaves
 unwritten-leaves inputs run first files old new _ fault leaves = absurd fault
 
@@ -119,6 +105,7 @@ begun-one old new (Some file) name on (some, is) = (some, on.names file (held na
 
 pub begun-on : (run : Run) (old new : DepotState) (outputs : Outputs) → GoesOn old new → AreBegun run old.begun outputs → AreBegun run new.begun outputs
 begun-on run old new outputs on begun = record {
+  frames = begun-one old new outputs.frames run.frames on begun.frames;
   sound = begun-one old new outputs.sound run.sound on begun.sound;
   journal = begun-one old new outputs.journal run.journal on begun.journal;
 }

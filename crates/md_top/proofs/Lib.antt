@@ -3,6 +3,7 @@ pub mod Ends
 pub mod Fetched
 pub mod Least
 pub mod LeastRuns
+pub mod Named
 pub mod Puts
 pub mod Right
 pub mod Rows

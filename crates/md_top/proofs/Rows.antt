@@ -9,12 +9,12 @@ use Rattle.md_pads.specs.Recording.{GoesWrongAt, IsSpelled}
 use Rattle.md_top.specs.Answers.{Causes, PutsAll, PutsOutput, PutsPart, Reports}
 use Rattle.md_top.specs.Inputs.{IsAccepted, IsJudged, IsMissing, Recorded, RecordingCause, Verdict, cart_of, recording_limit}
 use Rattle.md_top.specs.Limits.{last_cycle}
-use Rattle.md_top.specs.Runs.{journal_of, sound_of}
+use Rattle.md_top.specs.Runs.{pieces_of}
 use Rattle.md_top.specs.Endings.{HasCause, InfoEnds, LeavesFiles, RunEnds, RunFiles, accepted_ending, file_ending, right_ending, run_ending, status_of, text_of}
-use Rattle.md_top.specs.Outputs.{LeavesParts, with_part, written}
+use Rattle.md_top.specs.Outputs.{LeavesParts, Parts, Pieces, all_of, nothing, with_part, written}
 use Rattle.md_words.specs.Words.{Command, Info, Run, RunCart}
 use Rattle.md_top.specs.declared.ending.Ending.{Ending}
-use Rattle.md_top.specs.declared.ending.Ending.TheVariants.{Shown, Done, Usage, TooFar, ReadFault, RecordingFault, RecordingTooLong, RecordingWrong, Behind, SoundFault, JournalFault, Memory}
+use Rattle.md_top.specs.declared.ending.Ending.TheVariants.{Shown, Done, Usage, TooFar, ReadFault, RecordingFault, RecordingTooLong, RecordingWrong, Behind, FramesFault, SoundFault, JournalFault, Memory}
 use Rattle.md_top.proofs.Right.{cart_right, judged, recording_right, right_accepted, right_behind, right_behind_cart, right_done, right_far, right_near}
 
 -- WHAT A STATUS TELLS
@@ -159,6 +159,7 @@ run_right told run old new verdict (Done accesses halted) (end, cause) is reads 
     let found = cause t in inl (sym (right_done run old.files verdict end (found.0, found.1) is))
 run_right told run old new verdict TooFar cause is reads writes t = inl (sym (ap status_of (right_far run old.files verdict cause)))
 run_right told run old new verdict Behind (zero, cause) is reads writes t = inl (sym (right_behind run old.files verdict zero (cause t) is))
+run_right told run old new verdict FramesFault cause is reads writes t = absurd (writes cause.2.1)
 run_right told run old new verdict SoundFault cause is reads writes t = absurd (writes cause.2.1)
 run_right told run old new verdict JournalFault cause is reads writes t = absurd (writes cause.2.1)
 run_right told run old new verdict RecordingFault (near, (accepted, cause)) is reads writes t = run_recorded told run old new verdict RecordingFault near (accepted t) cause is reads t
@@ -205,27 +206,30 @@ part_other files output None name differ = refl
 part_other files None (Some bytes) name differ = refl
 part_other files (Some output) (Some bytes) name differ = with_other files output bytes name (λ same. differ (ap Some same))
 
-written_other : (run : Run) (old : Files) (sound journal : Option (List ℕ)) (name : List ℕ) → run.sound ≢ Some name → run.journal ≢ Some name
-    → written run old sound journal name ≡ old name
-written_other run old sound journal name no_sound no_journal =
-    part_other (with_part old run.sound sound) run.journal journal name no_journal ∙ part_other old run.sound sound name no_sound
+written_other : (run : Run) (old : Files) (parts : Parts) (name : List ℕ) → run.frames ≢ Some name → run.sound ≢ Some name → run.journal ≢ Some name
+    → written run old parts name ≡ old name
+written_other run old parts name no_frames no_sound no_journal =
+    part_other (with_part (with_part old run.frames parts.frames) run.sound parts.sound) run.journal parts.journal name no_journal
+    ∙ part_other (with_part old run.frames parts.frames) run.sound parts.sound name no_sound
+    ∙ part_other old run.frames parts.frames name no_frames
 
-parts_other : (run : Run) (old new : Files) (sound journal : List ℕ) → LeavesParts run old new sound journal
-    → (name : List ℕ) → run.sound ≢ Some name → run.journal ≢ Some name → new name ≡ old name
-parts_other run old new sound journal leaves name no_sound no_journal =
-    ap (λ (files : Files). files name) leaves.files ∙ written_other run old leaves.sound leaves.journal name no_sound no_journal
+parts_other : (run : Run) (old new : Files) (whole : Pieces) → LeavesParts run old new whole
+    → (name : List ℕ) → run.frames ≢ Some name → run.sound ≢ Some name → run.journal ≢ Some name → new name ≡ old name
+parts_other run old new whole leaves name no_frames no_sound no_journal =
+    ap (λ (files : Files). files name) leaves.files ∙ written_other run old leaves.parts name no_frames no_sound no_journal
 
 leaves_other : (run : Run) (old new : Files) (ending : Ending) → RunFiles run old new ending
-    → (name : List ℕ) → run.sound ≢ Some name → run.journal ≢ Some name → new name ≡ old name
-leaves_other run old new (Done accesses halted) (inputs, are, leaves) name no_sound no_journal =
-    ap (λ (files : Files). files name) leaves
-    ∙ written_other run old (Some (sound_of inputs run.cycles)) (Some (journal_of inputs run.cycles)) name no_sound no_journal
-leaves_other run old new SoundFault (inputs, are, leaves) name no_sound no_journal =
-    parts_other run old new (sound_of inputs run.cycles) (journal_of inputs run.cycles) leaves name no_sound no_journal
-leaves_other run old new JournalFault (inputs, are, leaves) name no_sound no_journal =
-    parts_other run old new (sound_of inputs run.cycles) (journal_of inputs run.cycles) leaves name no_sound no_journal
-leaves_other run old new Memory leaves name no_sound no_journal = parts_other run old new [] [] leaves name no_sound no_journal
-leaves_other run old new _ leaves name no_sound no_journal = ap (λ (files : Files). files name) leaves
+    → (name : List ℕ) → run.frames ≢ Some name → run.sound ≢ Some name → run.journal ≢ Some name → new name ≡ old name
+leaves_other run old new (Done accesses halted) (inputs, are, leaves) name no_frames no_sound no_journal =
+    ap (λ (files : Files). files name) leaves ∙ written_other run old (all_of (pieces_of inputs run.cycles)) name no_frames no_sound no_journal
+leaves_other run old new FramesFault (inputs, are, leaves) name no_frames no_sound no_journal =
+    parts_other run old new (pieces_of inputs run.cycles) leaves name no_frames no_sound no_journal
+leaves_other run old new SoundFault (inputs, are, leaves) name no_frames no_sound no_journal =
+    parts_other run old new (pieces_of inputs run.cycles) leaves name no_frames no_sound no_journal
+leaves_other run old new JournalFault (inputs, are, leaves) name no_frames no_sound no_journal =
+    parts_other run old new (pieces_of inputs run.cycles) leaves name no_frames no_sound no_journal
+leaves_other run old new Memory leaves name no_frames no_sound no_journal = parts_other run old new nothing leaves name no_frames no_sound no_journal
+leaves_other run old new _ leaves name no_frames no_sound no_journal = ap (λ (files : Files). files name) leaves
 
 -- ALL OF THEM
 
@@ -286,7 +290,7 @@ causes_of told sink (Info rom) old new out out' status ending cause leaves repor
           (exact_is status (status_of ending) (status_of (right_ending (Some (Info rom)) old.files (Recorded []))) by clean.puts
           (info_right told rom old new (Recorded []) ending cause clean.reads t))
           (ap status_of (right_accepted (old.files rom) (Shown (header_lines (cart_of rom old.files))) ready));
-      others = λ t name no_sound no_journal. ap (λ (files : Files). files name) (leaves t);
+      others = λ t name no_frames no_sound no_journal. ap (λ (files : Files). files name) (leaves t);
     }
 causes_of told sink (RunCart run) old new out out' status ending cause leaves reports =
     let by = reported sink (Some (RunCart run)) ending out out' status reports in
@@ -322,7 +326,7 @@ memory_cause told (Some (RunCart run)) old = tt
 pub memory_leaves : (command : Option Command) (files : Files) → LeavesFiles command files files Memory
 memory_leaves None files = refl
 memory_leaves (Some (Info rom)) files = refl
-memory_leaves (Some (RunCart run)) files = record { sound = None; journal = None; sound_part = tt; journal_part = tt; files = refl }
+memory_leaves (Some (RunCart run)) files = record { parts = record { frames = None; sound = None; journal = None }; frames = tt; sound = tt; journal = tt; files = refl }
 
 pub memory_reports : (sink : Type 0) (command : Option Command) (out out' : SinkState) (status : ℕ) → status ≡ 10
     → PutsAll sink (codes "refused: memory\n") out out' ⊎ PutsPart sink (codes "refused: memory\n") out out' → Reports sink command Memory out out' status

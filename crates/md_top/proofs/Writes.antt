@@ -5,7 +5,7 @@ use Rattle.std.specs.Str.{bytes_eq}
 use Rattle.std.proofs.lemmas.Slice.Eq.{bytes_eq-Decides}
 use mathlib.Core.Path.{fun_ext}
 use Rattle.md_outer.specs.Outside.{Files, IsPrefix, bytes_of, with_file}
-use Rattle.md_top.specs.Outputs.{Adds, AddsParts, Holds, IsPartOf, LeavesParts, with_part}
+use Rattle.md_top.specs.Outputs.{Adds, AddsParts, Holds, IsPartOf, LeavesParts, Pieces, all_of, lengthened, nothing, with_part, written}
 use Rattle.md_words.specs.Words.{Run, differ}
 
 -- FILES
@@ -42,9 +42,9 @@ with_file-comm files a b x y differs =
     (λ first second. clash (sym ((bytes_eq-Decides a b).1 ((bytes_eq-Decides a other).0 first ∙ sym ((bytes_eq-Decides b other).0 second))) ∙ differs)))
 
 -- a piece behind the bytes of a file
-lengthened : (base files new : Files) (name held piece : List ℕ) → files ≡ with_file base name held → new ≡ with_file files name (bytes_of files name ++ piece)
+file-longer : (base files new : Files) (name held piece : List ℕ) → files ≡ with_file base name held → new ≡ with_file files name (bytes_of files name ++ piece)
     → new ≡ with_file base name (held ++ piece)
-lengthened base files new name held piece is appended =
+file-longer base files new name held piece is appended =
     let from : new ≡ with_file (with_file base name held) name (bytes_of (with_file base name held) name ++ piece) =
     subst (λ (m : Files). new ≡ with_file m name (bytes_of m name ++ piece)) is appended in
     let same : bytes_of (with_file base name held) name ++ piece ≡ held ++ piece = ap (λ (l : List ℕ). l ++ piece) (bytes_of-with_file base name held) in
@@ -56,49 +56,83 @@ not_true : (b : Bool) → not b ≡ true → b ≡ false
 not_true true is = absurd (clash (sym is))
 not_true false is = refl
 
--- the first output is lengthened, whatever the second is
-first-lengthened : (base files new : Files) (name : List ℕ) (other : Option (List ℕ)) (sound journal piece : List ℕ) → differ (Some name) other ≡ true
-    → files ≡ with_part (with_file base name sound) other (Some journal) → new ≡ with_file files name (bytes_of files name ++ piece)
-    → new ≡ with_part (with_file base name (sound ++ piece)) other (Some journal)
-first-lengthened base files new name None sound journal piece differs is appended = lengthened base files new name sound piece is appended
-first-lengthened base files new name (Some other) sound journal piece differs is appended =
-    let apart : bytes_eq name other ≡ false = not_true (bytes_eq name other) differs in
-    lengthened (with_file base other journal) files new name sound piece (is ∙ with_file-comm base name other sound journal apart) appended
-    ∙ sym (with_file-comm base name other (sound ++ piece) journal apart)
+-- outputs of two names change places
+part-comm : (files : Files) (a b x y : Option (List ℕ)) → differ a b ≡ true → with_part (with_part files a x) b y ≡ with_part (with_part files b y) a x
+part-comm files a b None y apart = refl
+part-comm files None b (Some x) y apart = refl
+part-comm files (Some a) b (Some x) None apart = refl
+part-comm files (Some a) None (Some x) (Some y) apart = refl
+part-comm files (Some a) (Some b) (Some x) (Some y) apart = with_file-comm files a b x y (not_true (bytes_eq a b) apart)
+
+-- an output that is written last is lengthened
+part-longer : (base files new : Files) (output : Option (List ℕ)) (name held piece : List ℕ) → output ≡ Some name
+    → files ≡ with_part base output (Some held) → new ≡ with_file files name (bytes_of files name ++ piece) → new ≡ with_part base output (Some (held ++ piece))
+part-longer base files new output name held piece is holds appended =
+    let held' : files ≡ with_file base name held = subst (λ (o : Option (List ℕ)). files ≡ with_part base o (Some held)) is holds in
+    subst (λ (o : Option (List ℕ)). new ≡ with_part base o (Some (held ++ piece))) (sym is) (file-longer base files new name held piece held' appended)
+
+-- an output that is not asked for holds what one likes
+part-unasked : (base : Files) (output : Option (List ℕ)) (x y : List ℕ) → output ≡ None → with_part base output (Some x) ≡ with_part base output (Some y)
+part-unasked base output x y is =
+    ap (λ (o : Option (List ℕ)). with_part base o (Some x)) is ∙ sym (ap (λ (o : Option (List ℕ)). with_part base o (Some y)) is)
 
 named : (output : Option (List ℕ)) → IsSome output → (name : List ℕ) × (output ≡ Some name)
 named None some = absurd (clash (sym some))
 named (Some name) some = (name, refl)
 
-sound-lengthened : (run : Run) (first files new : Files) (name sound journal piece : List ℕ) → run.sound ≡ Some name → differ run.sound run.journal ≡ true
-    → Holds run first files sound journal → new ≡ with_file files name (bytes_of files name ++ piece) → Holds run first new (sound ++ piece) journal
-sound-lengthened run first files new name sound journal piece is differs holds appended =
-    let apart : differ (Some name) run.journal ≡ true = subst (λ (output : Option (List ℕ)). differ output run.journal ≡ true) is differs in
-    let held : files ≡ with_part (with_file first name sound) run.journal (Some journal) =
-    subst (λ (output : Option (List ℕ)). files ≡ with_part (with_part first output (Some sound)) run.journal (Some journal)) is holds in
-    subst (λ (output : Option (List ℕ)). new ≡ with_part (with_part first output (Some (sound ++ piece))) run.journal (Some journal)) (sym is)
-    (first-lengthened first files new name run.journal sound journal piece apart held appended)
+-- the outputs of a run have names that differ
+pub record Apart (run : Run) : Type 0 where
+  pub frames_sound : differ run.frames run.sound ≡ true
+  pub frames_journal : differ run.frames run.journal ≡ true
+  pub sound_journal : differ run.sound run.journal ≡ true
 
-journal-lengthened : (run : Run) (first files new : Files) (name sound journal piece : List ℕ) → run.journal ≡ Some name
-    → Holds run first files sound journal → new ≡ with_file files name (bytes_of files name ++ piece) → Holds run first new sound (journal ++ piece)
-journal-lengthened run first files new name sound journal piece is holds appended =
-    let held : files ≡ with_file (with_part first run.sound (Some sound)) name journal =
-    subst (λ (output : Option (List ℕ)). files ≡ with_part (with_part first run.sound (Some sound)) output (Some journal)) is holds in
-    subst (λ (output : Option (List ℕ)). new ≡ with_part (with_part first run.sound (Some sound)) output (Some (journal ++ piece))) (sym is)
-    (lengthened (with_part first run.sound (Some sound)) files new name journal piece held appended)
+-- each output may be written last
+abbrev but_frames : Run → Files → Pieces → Files
+but_frames run first held = with_part (with_part first run.sound (Some held.sound)) run.journal (Some held.journal)
 
--- PIECES
+abbrev but_sound : Run → Files → Pieces → Files
+but_sound run first held = with_part (with_part first run.frames (Some held.frames)) run.journal (Some held.journal)
 
--- both outputs hold their bytes, and so parts of them
-pub parts : (run : Run) (first files : Files) (sound journal whole_sound whole_journal : List ℕ) → Holds run first files sound journal
-    → IsPrefix sound whole_sound → IsPrefix journal whole_journal → LeavesParts run first files whole_sound whole_journal
-parts run first files sound journal whole_sound whole_journal holds sound_part journal_part = record {
-  sound = Some sound;
-  journal = Some journal;
-  sound_part = sound_part;
-  journal_part = journal_part;
-  files = holds;
-}
+frames-last : (run : Run) → Apart run → (first : Files) (held : Pieces) → written run first (all_of held) ≡ with_part (but_frames run first held) run.frames (Some held.frames)
+frames-last run apart first held =
+    ap (λ (files : Files). with_part files run.journal (Some held.journal)) (part-comm first run.frames run.sound (Some held.frames) (Some held.sound) apart.frames_sound)
+    ∙ part-comm (with_part first run.sound (Some held.sound)) run.frames run.journal (Some held.frames) (Some held.journal) apart.frames_journal
+
+sound-last : (run : Run) → Apart run → (first : Files) (held : Pieces) → written run first (all_of held) ≡ with_part (but_sound run first held) run.sound (Some held.sound)
+sound-last run apart first held =
+    part-comm (with_part first run.frames (Some held.frames)) run.sound run.journal (Some held.sound) (Some held.journal) apart.sound_journal
+
+frames-longer : (run : Run) → Apart run → (first files new : Files) (held : Pieces) (name piece : List ℕ) → run.frames ≡ Some name → Holds run first files held
+    → new ≡ with_file files name (bytes_of files name ++ piece) → Holds run first new (record held { frames = held.frames ++ piece })
+frames-longer run apart first files new held name piece is holds appended =
+    part-longer (but_frames run first held) files new run.frames name held.frames piece is (holds ∙ frames-last run apart first held) appended
+    ∙ sym (frames-last run apart first (record held { frames = held.frames ++ piece }))
+
+sound-longer : (run : Run) → Apart run → (first files new : Files) (held : Pieces) (name piece : List ℕ) → run.sound ≡ Some name → Holds run first files held
+    → new ≡ with_file files name (bytes_of files name ++ piece) → Holds run first new (record held { sound = held.sound ++ piece })
+sound-longer run apart first files new held name piece is holds appended =
+    part-longer (but_sound run first held) files new run.sound name held.sound piece is (holds ∙ sound-last run apart first held) appended
+    ∙ sym (sound-last run apart first (record held { sound = held.sound ++ piece }))
+
+journal-longer : (run : Run) (first files new : Files) (held : Pieces) (name piece : List ℕ) → run.journal ≡ Some name → Holds run first files held
+    → new ≡ with_file files name (bytes_of files name ++ piece) → Holds run first new (record held { journal = held.journal ++ piece })
+journal-longer run first files new held name piece is holds appended =
+    part-longer (with_part (with_part first run.frames (Some held.frames)) run.sound (Some held.sound)) files new run.journal name held.journal piece is holds appended
+
+-- a piece of one output alone
+only-frames : (held : Pieces) (piece : List ℕ) → record held { frames = held.frames ++ piece } ≡ lengthened held (record nothing { frames = piece })
+only-frames held piece =
+    λ i. record { frames = held.frames ++ piece; sound = sym (append-nil held.sound) i; journal = sym (append-nil held.journal) i }
+
+only-sound : (held : Pieces) (piece : List ℕ) → record held { sound = held.sound ++ piece } ≡ lengthened held (record nothing { sound = piece })
+only-sound held piece =
+    λ i. record { frames = sym (append-nil held.frames) i; sound = held.sound ++ piece; journal = sym (append-nil held.journal) i }
+
+only-journal : (held : Pieces) (piece : List ℕ) → record held { journal = held.journal ++ piece } ≡ lengthened held (record nothing { journal = piece })
+only-journal held piece =
+    λ i. record { frames = sym (append-nil held.frames) i; sound = sym (append-nil held.sound) i; journal = held.journal ++ piece }
+
+-- PARTS
 
 pub prefix-self : (l : List ℕ) → IsPrefix l l
 prefix-self l = ([], append-nil l)
@@ -113,76 +147,137 @@ pub prefix-trans : (a b c : List ℕ) → IsPrefix a b → IsPrefix b c → IsPr
 prefix-trans a b c first second =
     (first.0 ++ second.0, sym (append_assoc a first.0 second.0) ∙ ap (λ (l : List ℕ). l ++ second.0) first.1 ∙ second.1)
 
-part-longer : (part : Option (List ℕ)) (whole longer : List ℕ) → IsPrefix whole longer → IsPartOf part whole → IsPartOf part longer
-part-longer None whole longer more is = tt
-part-longer (Some part) whole longer more is = prefix-trans part whole longer is more
+-- each is a front part
+pub record AreFront (front whole : Pieces) : Type 0 where
+  pub frames : IsPrefix front.frames whole.frames
+  pub sound : IsPrefix front.sound whole.sound
+  pub journal : IsPrefix front.journal whole.journal
+
+pub nothing-front : (whole : Pieces) → AreFront nothing whole
+nothing-front whole = record { frames = (whole.frames, refl); sound = (whole.sound, refl); journal = (whole.journal, refl) }
+
+-- the outputs hold their bytes, and so parts of longer ones
+parts : (run : Run) (first files : Files) (held whole : Pieces) → Holds run first files held → AreFront held whole → LeavesParts run first files whole
+parts run first files held whole holds front = record {
+  parts = all_of held;
+  frames = front.frames;
+  sound = front.sound;
+  journal = front.journal;
+  files = holds;
+}
+
+part-of : (part : Option (List ℕ)) (whole longer : List ℕ) → IsPrefix whole longer → IsPartOf part whole → IsPartOf part longer
+part-of None whole longer more is = tt
+part-of (Some part) whole longer more is = prefix-trans part whole longer is more
 
 -- parts of bytes are parts of longer ones
-pub parts-longer : (run : Run) (first files : Files) (sound journal longer_sound longer_journal : List ℕ) → LeavesParts run first files sound journal
-    → IsPrefix sound longer_sound → IsPrefix journal longer_journal → LeavesParts run first files longer_sound longer_journal
-parts-longer run first files sound journal longer_sound longer_journal leaves more_sound more_journal = record {
-  sound = leaves.sound;
-  journal = leaves.journal;
-  sound_part = part-longer leaves.sound sound longer_sound more_sound leaves.sound_part;
-  journal_part = part-longer leaves.journal journal longer_journal more_journal leaves.journal_part;
+pub parts-longer : (run : Run) (first files : Files) (whole longer : Pieces) → LeavesParts run first files whole → AreFront whole longer → LeavesParts run first files longer
+parts-longer run first files whole longer leaves front = record {
+  parts = leaves.parts;
+  frames = part-of leaves.parts.frames whole.frames longer.frames front.frames leaves.frames;
+  sound = part-of leaves.parts.sound whole.sound longer.sound front.sound leaves.sound;
+  journal = part-of leaves.parts.journal whole.journal longer.journal front.journal leaves.journal;
   files = leaves.files;
 }
 
-nothing-more : (run : Run) (first files : Files) (sound journal : List ℕ) → Holds run first files sound journal → Holds run first files sound (journal ++ [])
-nothing-more run first files sound journal holds = subst (λ (l : List ℕ). Holds run first files sound l) (sym (append-nil journal)) holds
+-- APPENDS
 
-nothing-before : (run : Run) (first files : Files) (sound journal : List ℕ) → Holds run first files sound journal → Holds run first files (sound ++ []) journal
-nothing-before run first files sound journal holds = subst (λ (l : List ℕ). Holds run first files l journal) (sym (append-nil sound)) holds
+-- the file of an output's number was lengthened by a piece, or by a part of one
+abbrev Appended : (ℕ → Option (List ℕ)) → ℕ → Files → Files → List ℕ → Type 0
+Appended begun file old new piece = (name : List ℕ) → begun file ≡ Some name → new ≡ with_file old name (bytes_of old name ++ piece)
 
--- a piece that was appended to the sound file, and a part of one
-pub adds-sound : (run : Run) (begun : ℕ → Option (List ℕ)) (file : ℕ) (old new : Files) (piece : List ℕ) → differ run.sound run.journal ≡ true
-    → IsSome run.sound × (begun file ≡ run.sound) → ((name : List ℕ) → begun file ≡ Some name → new ≡ with_file old name (bytes_of old name ++ piece))
-    → Adds run old new piece []
-adds-sound run begun file old new piece differs (some, is) appended first sound journal holds =
+abbrev AppendedPart : (ℕ → Option (List ℕ)) → ℕ → Files → Files → List ℕ → Type 0
+AppendedPart begun file old new piece =
+    (name : List ℕ) → begun file ≡ Some name → (part : List ℕ) × IsPrefix part piece × (new ≡ with_file old name (bytes_of old name ++ part))
+
+-- to the frames file
+pub adds-frames : (run : Run) → Apart run → (begun : ℕ → Option (List ℕ)) (file : ℕ) (old new : Files) (piece : List ℕ)
+    → IsSome run.frames × (begun file ≡ run.frames) → Appended begun file old new piece → Adds run old new (record nothing { frames = piece })
+adds-frames run apart begun file old new piece (some, is) appended first held holds =
+    let name = named run.frames some in
+    subst (Holds run first new) (only-frames held piece) (frames-longer run apart first old new held name.0 piece name.1 holds (appended name.0 (is ∙ name.1)))
+
+pub parts-frames : (run : Run) → Apart run → (begun : ℕ → Option (List ℕ)) (file : ℕ) (old new : Files) (piece : List ℕ)
+    → IsSome run.frames × (begun file ≡ run.frames) → AppendedPart begun file old new piece → AddsParts run old new (record nothing { frames = piece })
+parts-frames run apart begun file old new piece (some, is) appended first held holds =
+    let name = named run.frames some in
+    let part = appended name.0 (is ∙ name.1) in
+    parts run first new (record held { frames = held.frames ++ part.0 }) (lengthened held (record nothing { frames = piece }))
+    (frames-longer run apart first old new held name.0 part.0 name.1 holds part.2)
+    (record { frames = prefix-append held.frames part.0 piece part.1; sound = prefix-more held.sound []; journal = prefix-more held.journal [] })
+
+pub adds-no_frames : (run : Run) (files : Files) (piece : List ℕ) → run.frames ≡ None → Adds run files files (record nothing { frames = piece })
+adds-no_frames run files piece is first held holds =
+    subst (Holds run first files) (only-frames held piece)
+    (holds ∙ ap (λ (base : Files). with_part (with_part base run.sound (Some held.sound)) run.journal (Some held.journal))
+    (part-unasked first run.frames held.frames (held.frames ++ piece) is))
+
+-- to the sound file
+pub adds-sound : (run : Run) → Apart run → (begun : ℕ → Option (List ℕ)) (file : ℕ) (old new : Files) (piece : List ℕ)
+    → IsSome run.sound × (begun file ≡ run.sound) → Appended begun file old new piece → Adds run old new (record nothing { sound = piece })
+adds-sound run apart begun file old new piece (some, is) appended first held holds =
     let name = named run.sound some in
-    nothing-more run first new (sound ++ piece) journal
-    (sound-lengthened run first old new name.0 sound journal piece name.1 differs holds (appended name.0 (is ∙ name.1)))
+    subst (Holds run first new) (only-sound held piece) (sound-longer run apart first old new held name.0 piece name.1 holds (appended name.0 (is ∙ name.1)))
 
-pub parts-sound : (run : Run) (begun : ℕ → Option (List ℕ)) (file : ℕ) (old new : Files) (piece : List ℕ) → differ run.sound run.journal ≡ true
-    → IsSome run.sound × (begun file ≡ run.sound)
-    → ((name : List ℕ) → begun file ≡ Some name → (part : List ℕ) × IsPrefix part piece × (new ≡ with_file old name (bytes_of old name ++ part)))
-    → AddsParts run old new piece []
-parts-sound run begun file old new piece differs (some, is) appended first sound journal holds =
+pub parts-sound : (run : Run) → Apart run → (begun : ℕ → Option (List ℕ)) (file : ℕ) (old new : Files) (piece : List ℕ)
+    → IsSome run.sound × (begun file ≡ run.sound) → AppendedPart begun file old new piece → AddsParts run old new (record nothing { sound = piece })
+parts-sound run apart begun file old new piece (some, is) appended first held holds =
     let name = named run.sound some in
     let part = appended name.0 (is ∙ name.1) in
-    parts run first new (sound ++ part.0) journal (sound ++ piece) (journal ++ [])
-    (sound-lengthened run first old new name.0 sound journal part.0 name.1 differs holds part.2)
-    (prefix-append sound part.0 piece part.1) (prefix-more journal [])
+    parts run first new (record held { sound = held.sound ++ part.0 }) (lengthened held (record nothing { sound = piece }))
+    (sound-longer run apart first old new held name.0 part.0 name.1 holds part.2)
+    (record { frames = prefix-more held.frames []; sound = prefix-append held.sound part.0 piece part.1; journal = prefix-more held.journal [] })
+
+pub adds-no_sound : (run : Run) (files : Files) (piece : List ℕ) → run.sound ≡ None → Adds run files files (record nothing { sound = piece })
+adds-no_sound run files piece is first held holds =
+    subst (Holds run first files) (only-sound held piece)
+    (holds ∙ ap (λ (base : Files). with_part base run.journal (Some held.journal))
+    (part-unasked (with_part first run.frames (Some held.frames)) run.sound held.sound (held.sound ++ piece) is))
 
 -- and to the journal
 pub adds-journal : (run : Run) (begun : ℕ → Option (List ℕ)) (file : ℕ) (old new : Files) (piece : List ℕ)
-    → IsSome run.journal × (begun file ≡ run.journal) → ((name : List ℕ) → begun file ≡ Some name → new ≡ with_file old name (bytes_of old name ++ piece))
-    → Adds run old new [] piece
-adds-journal run begun file old new piece (some, is) appended first sound journal holds =
+    → IsSome run.journal × (begun file ≡ run.journal) → Appended begun file old new piece → Adds run old new (record nothing { journal = piece })
+adds-journal run begun file old new piece (some, is) appended first held holds =
     let name = named run.journal some in
-    nothing-before run first new sound (journal ++ piece)
-    (journal-lengthened run first old new name.0 sound journal piece name.1 holds (appended name.0 (is ∙ name.1)))
+    subst (Holds run first new) (only-journal held piece) (journal-longer run first old new held name.0 piece name.1 holds (appended name.0 (is ∙ name.1)))
 
 pub parts-journal : (run : Run) (begun : ℕ → Option (List ℕ)) (file : ℕ) (old new : Files) (piece : List ℕ)
-    → IsSome run.journal × (begun file ≡ run.journal)
-    → ((name : List ℕ) → begun file ≡ Some name → (part : List ℕ) × IsPrefix part piece × (new ≡ with_file old name (bytes_of old name ++ part)))
-    → AddsParts run old new [] piece
-parts-journal run begun file old new piece (some, is) appended first sound journal holds =
+    → IsSome run.journal × (begun file ≡ run.journal) → AppendedPart begun file old new piece → AddsParts run old new (record nothing { journal = piece })
+parts-journal run begun file old new piece (some, is) appended first held holds =
     let name = named run.journal some in
     let part = appended name.0 (is ∙ name.1) in
-    parts run first new sound (journal ++ part.0) (sound ++ []) (journal ++ piece)
-    (journal-lengthened run first old new name.0 sound journal part.0 name.1 holds part.2)
-    (prefix-more sound []) (prefix-append journal part.0 piece part.1)
+    parts run first new (record held { journal = held.journal ++ part.0 }) (lengthened held (record nothing { journal = piece }))
+    (journal-longer run first old new held name.0 part.0 name.1 holds part.2)
+    (record { frames = prefix-more held.frames []; sound = prefix-more held.sound []; journal = prefix-append held.journal part.0 piece part.1 })
 
--- an output that is not asked for holds what one likes
-pub adds-no_sound : (run : Run) (files : Files) (piece : List ℕ) → run.sound ≡ None → Adds run files files piece []
-adds-no_sound run files piece is first sound journal holds =
-    nothing-more run first files (sound ++ piece) journal
-    (subst (λ (output : Option (List ℕ)). files ≡ with_part (with_part first output (Some (sound ++ piece))) run.journal (Some journal)) (sym is)
-    (subst (λ (output : Option (List ℕ)). files ≡ with_part (with_part first output (Some sound)) run.journal (Some journal)) is holds))
+pub adds-no_journal : (run : Run) (files : Files) (piece : List ℕ) → run.journal ≡ None → Adds run files files (record nothing { journal = piece })
+adds-no_journal run files piece is first held holds =
+    subst (Holds run first files) (only-journal held piece)
+    (holds ∙ part-unasked (with_part (with_part first run.frames (Some held.frames)) run.sound (Some held.sound)) run.journal held.journal (held.journal ++ piece) is)
 
-pub adds-no_journal : (run : Run) (files : Files) (piece : List ℕ) → run.journal ≡ None → Adds run files files [] piece
-adds-no_journal run files piece is first sound journal holds =
-    nothing-before run first files sound (journal ++ piece)
-    (subst (λ (output : Option (List ℕ)). files ≡ with_part (with_part first run.sound (Some sound)) output (Some (journal ++ piece))) (sym is)
-    (subst (λ (output : Option (List ℕ)). files ≡ with_part (with_part first run.sound (Some sound)) output (Some journal)) is holds))
+-- PIECES BEHIND PIECES
+
+pub lengthened-assoc : (held more rest : Pieces) → lengthened (lengthened held more) rest ≡ lengthened held (lengthened more rest)
+lengthened-assoc held more rest = λ i. record {
+  frames = append_assoc held.frames more.frames rest.frames i;
+  sound = append_assoc held.sound more.sound rest.sound i;
+  journal = append_assoc held.journal more.journal rest.journal i;
+}
+
+-- a second piece behind one that was appended
+pub adds-on : (run : Run) (old mid new : Files) (more rest : Pieces) → Adds run old mid more → Adds run mid new rest → Adds run old new (lengthened more rest)
+adds-on run old mid new more rest one two first held holds =
+    subst (Holds run first new) (lengthened-assoc held more rest) (two first (lengthened held more) (one first held holds))
+
+pub parts-on : (run : Run) (old mid new : Files) (more rest : Pieces) → Adds run old mid more → AddsParts run mid new rest → AddsParts run old new (lengthened more rest)
+parts-on run old mid new more rest one two first held holds =
+    subst (LeavesParts run first new) (lengthened-assoc held more rest) (two first (lengthened held more) (one first held holds))
+
+pub front-longer : (more rest : Pieces) → AreFront more (lengthened more rest)
+front-longer more rest = record { frames = prefix-more more.frames rest.frames; sound = prefix-more more.sound rest.sound; journal = prefix-more more.journal rest.journal }
+
+-- no second piece behind a part of one
+pub parts-stop : (run : Run) (old new : Files) (more rest : Pieces) → AddsParts run old new more → AddsParts run old new (lengthened more rest)
+parts-stop run old new more rest one first held holds =
+    subst (LeavesParts run first new) (lengthened-assoc held more rest)
+    (parts-longer run first new (lengthened held more) (lengthened (lengthened held more) rest) (one first held holds) (front-longer (lengthened held more) rest))

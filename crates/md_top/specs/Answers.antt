@@ -4,7 +4,7 @@ use Rattle.md_outer.specs.Outside.{DepotState, IsPrefix, Rose, SinkState, bytes_
 use Rattle.md_pads.specs.Recording.{IsSpelled}
 use Rattle.md_top.specs.Inputs.{IsJudged, IsMissing, Verdict}
 use Rattle.md_top.specs.Limits.{last_cycle}
-use Rattle.md_words.specs.Words.{Command, journal_name, recording_name, run_in, sound_name}
+use Rattle.md_words.specs.Words.{Command, frames_name, journal_name, recording_name, run_in, sound_name}
 use Rattle.md_top.specs.Endings.{HasCause, IsReady, LeavesFiles, right_ending, status_of, text_of}
 use Rattle.md_top.specs.declared.ending.Ending.{Ending}
 use Rattle.md_top.specs.declared.ending.Ending.TheVariants.{Done, Shown}
@@ -60,4 +60,4 @@ pub record Causes (depot_told : Type 0) (command : Option Command) (old new : De
   -- where nothing is wrong the command ends well, or memory is wanting
   pub complete : NoFaults old new out out' → depot_told → IsSomeAnd command (λ asked. IsReady asked old.files) → (status ≡ 0) ⊎ (status ≡ 10)
   -- no file but the outputs changes
-  pub others : depot_told → IfSome command (λ asked. (name : List ℕ) → sound_name asked ≢ Some name → journal_name asked ≢ Some name → new.files name ≡ old.files name)
+  pub others : depot_told → IfSome command (λ asked. (name : List ℕ) → frames_name asked ≢ Some name → sound_name asked ≢ Some name → journal_name asked ≢ Some name → new.files name ≡ old.files name)

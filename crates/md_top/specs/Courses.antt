@@ -2,8 +2,8 @@
 use Rattle.std.specs.Prelude.{◌≡◌, ℕ, [], length}
 use Rattle.md_machine.specs.Console.{Console, IsRunTo}
 use Rattle.md_machine.specs.Machines.{MachineValue}
-use Rattle.md_machine.specs.Samples.{no_samples}
-use Rattle.md_top.specs.Runs.{FewEvents, entries_to, samples_to, started}
+use Rattle.md_machine.specs.Media.{no_media}
+use Rattle.md_top.specs.Runs.{FewEvents, entries_to, media_to, started}
 use Rattle.md_top.specs.declared.course.Course.{Course}
 use Rattle.md_top.specs.declared.inputs.Inputs.{Inputs}
 
@@ -22,9 +22,9 @@ cycle_of course = course.machine.at
 -- a machine came from power-on to its cycle with so many accesses, and its records were drained
 pub record CameTo (inputs : Inputs) (machine : MachineValue) (accesses : ℕ) : Type 0 where
   pub few : FewEvents inputs
-  pub run : IsRunTo (started inputs) machine.at machine.console (entries_to inputs machine.at) (samples_to inputs machine.at)
+  pub run : IsRunTo (started inputs) machine.at machine.console (entries_to inputs machine.at) (media_to inputs machine.at)
   pub entries : machine.entries ≡ []
-  pub samples : machine.samples ≡ no_samples
+  pub media : machine.media ≡ no_media
   pub counted : accesses ≡ length (entries_to inputs machine.at)
 
 -- a run came from power-on to where it is

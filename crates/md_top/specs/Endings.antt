@@ -8,11 +8,11 @@ use Rattle.md_outer.specs.Outside.{DepotState, Files}
 use Rattle.md_pads.specs.Recording.{Frame}
 use Rattle.md_top.specs.Inputs.{AreInputs, CartCause, HaveInputs, InputCause, IsAccepted, Recorded, Verdict, WrongAt, cart_limit, cart_of, recording_limit, refusal_of}
 use Rattle.md_top.specs.Limits.{IsEnd, last_cycle}
-use Rattle.md_top.specs.Runs.{entries_to, halted_in, journal_of, sound_of, sound_until}
-use Rattle.md_top.specs.Outputs.{Holds, IsUnwritten, LeavesParts}
-use Rattle.md_words.specs.Words.{Command, Info, Run, RunCart, end_of, journal_name, recording_name, rom_of, sound_name}
+use Rattle.md_top.specs.Runs.{entries_to, halted_in, pieces_of, pieces_until}
+use Rattle.md_top.specs.Outputs.{Holds, IsUnwritten, LeavesParts, nothing}
+use Rattle.md_words.specs.Words.{Command, Info, Run, RunCart, end_of, frames_name, journal_name, recording_name, rom_of, sound_name}
 use Rattle.md_top.specs.declared.ending.Ending.{Ending}
-use Rattle.md_top.specs.declared.ending.Ending.TheVariants.{Shown, Done, Usage, TooFar, ReadFault, TooLong, Short, NoMark, RecordingFault, RecordingTooLong, RecordingWrong, Behind, SoundFault, JournalFault, Memory}
+use Rattle.md_top.specs.declared.ending.Ending.TheVariants.{Shown, Done, Usage, TooFar, ReadFault, TooLong, Short, NoMark, RecordingFault, RecordingTooLong, RecordingWrong, Behind, FramesFault, SoundFault, JournalFault, Memory}
 use Rattle.md_top.specs.declared.inputs.Inputs.{Inputs}
 
 -- the status that the program ends with
@@ -22,6 +22,7 @@ status_of (Done accesses halted) = 0
 status_of Usage = 2
 status_of ReadFault = 3
 status_of RecordingFault = 3
+status_of FramesFault = 4
 status_of SoundFault = 4
 status_of JournalFault = 4
 status_of Short = 5
@@ -33,21 +34,29 @@ status_of TooFar = 11
 status_of TooLong = 14
 status_of RecordingTooLong = 14
 
+-- the frames of a run: one is finished at the start of line 224 of each frame, at cycle 766080 and each
+-- 896040 cycles later
+abbrev pub count_of_frames : ℕ → ℕ
+count_of_frames cycles = (cycles + (896040 - 766080 - 1)) / 896040
+
 -- the pairs of a run: 16 for each multiple of 16128 from 16128 on that lies below its end
 abbrev pub pairs_of : ℕ → ℕ
 pairs_of cycles = 16 * ((cycles - 1) / 16128)
 
+-- a line of a word and a number
+abbrev pub number_line : List ℕ → ℕ → List ℕ
+number_line word number = word ++ decimal number ++ codes "\n"
+
 -- the line of a 68000 that is halted: the start of the instruction or exception that halted it
 abbrev pub halted_line : Option ℕ → List ℕ
 halted_line None = []
-halted_line (Some since) = codes "halted at " ++ decimal since ++ codes "\n"
+halted_line (Some since) = number_line (codes "halted at ") since
 
 -- how far a run went, and how much it made
 abbrev pub counts_of : ℕ → ℕ → List ℕ
 counts_of end accesses =
-    codes "cycles 0 to " ++ decimal end
-    ++ codes "\nsamples " ++ decimal (pairs_of end)
-    ++ codes "\naccesses " ++ decimal accesses ++ codes "\n"
+    (number_line (codes "cycles 0 to ") end ++ number_line (codes "frames ") (count_of_frames end))
+    ++ (number_line (codes "samples ") (pairs_of end) ++ number_line (codes "accesses ") accesses)
 
 -- what a run to a cycle puts that ends well
 abbrev pub lines_of : ℕ → ℕ → Option ℕ → List ℕ
@@ -66,6 +75,7 @@ text_of (Some command) RecordingFault = codes "fault: reading " ++ unwrap_or (re
 text_of (Some command) RecordingTooLong = codes "refused: " ++ unwrap_or (recording_name command) [] ++ codes " is too long\n"
 text_of (Some command) (RecordingWrong place) = codes "refused: recording at " ++ decimal place ++ codes "\n"
 text_of (Some command) Behind = codes "refused: cycle " ++ decimal (end_of command) ++ codes " is not above 0\n"
+text_of (Some command) FramesFault = codes "fault: writing " ++ unwrap_or (frames_name command) [] ++ codes "\n"
 text_of (Some command) SoundFault = codes "fault: writing " ++ unwrap_or (sound_name command) [] ++ codes "\n"
 text_of (Some command) JournalFault = codes "fault: writing " ++ unwrap_or (journal_name command) [] ++ codes "\n"
 text_of command Memory = codes "refused: memory\n"
@@ -96,6 +106,7 @@ RunEnds told run old new TooFar = last_cycle < run.cycles
 RunEnds told run old new Behind = (run.cycles ≡ 0) × (told → HaveInputs run old.files)
 RunEnds told run old new (Done accesses halted) =
     IsEnd run.cycles × (told → (inputs : Inputs) × AreInputs run old.files inputs × RunCause inputs run old new (Done accesses halted))
+RunEnds told run old new FramesFault = IsEnd run.cycles × (told → HaveInputs run old.files) × IsUnwritten run old new FramesFault
 RunEnds told run old new SoundFault = IsEnd run.cycles × (told → HaveInputs run old.files) × IsUnwritten run old new SoundFault
 RunEnds told run old new JournalFault = IsEnd run.cycles × (told → HaveInputs run old.files) × IsUnwritten run old new JournalFault
 RunEnds told run old new ending = (run.cycles ≤ last_cycle) × InputCause told run old new ending
@@ -109,14 +120,15 @@ HasCause told (Some (RunCart run)) old new ending = RunEnds told run old new end
 
 -- the outputs hold what the run of these inputs made below a cycle
 abbrev pub HoldsUntil : Inputs → Run → Files → Files → ℕ → Type 0
-HoldsUntil inputs run old new at = Holds run old new (sound_until inputs run.cycles at) (journal_of inputs at)
+HoldsUntil inputs run old new at = Holds run old new (pieces_until inputs run.cycles at)
 
 -- what the files hold once the run of these inputs has ended
 abbrev pub RunLeaves : Inputs → Run → Files → Files → Ending → Type 0
 RunLeaves inputs run old new (Done accesses halted) = HoldsUntil inputs run old new run.cycles
-RunLeaves inputs run old new SoundFault = LeavesParts run old new (sound_of inputs run.cycles) (journal_of inputs run.cycles)
-RunLeaves inputs run old new JournalFault = LeavesParts run old new (sound_of inputs run.cycles) (journal_of inputs run.cycles)
-RunLeaves inputs run old new Memory = LeavesParts run old new [] []
+RunLeaves inputs run old new FramesFault = LeavesParts run old new (pieces_of inputs run.cycles)
+RunLeaves inputs run old new SoundFault = LeavesParts run old new (pieces_of inputs run.cycles)
+RunLeaves inputs run old new JournalFault = LeavesParts run old new (pieces_of inputs run.cycles)
+RunLeaves inputs run old new Memory = LeavesParts run old new nothing
 RunLeaves inputs run old new ending = new ≡ old
 
 -- what the files hold once a run has ended that found its inputs in them
@@ -126,9 +138,10 @@ InputsLeave run old new ending = (inputs : Inputs) × AreInputs run old inputs �
 -- what the files hold once a run has ended, or was refused
 abbrev pub RunFiles : Run → Files → Files → Ending → Type 0
 RunFiles run old new (Done accesses halted) = InputsLeave run old new (Done accesses halted)
+RunFiles run old new FramesFault = InputsLeave run old new FramesFault
 RunFiles run old new SoundFault = InputsLeave run old new SoundFault
 RunFiles run old new JournalFault = InputsLeave run old new JournalFault
-RunFiles run old new Memory = LeavesParts run old new [] []
+RunFiles run old new Memory = LeavesParts run old new nothing
 RunFiles run old new ending = new ≡ old
 
 -- what the files hold then

@@ -1,10 +1,37 @@
 -- What the output files of a run hold.
-use Rattle.std.specs.Prelude.{◌≡◌, ℕ, List, ◌++◌, Option, Some, None, IsSome}
+use Rattle.std.specs.Prelude.{◌≡◌, ℕ, List, [], ◌++◌, Option, Some, None, IsSome}
 use Rattle.md_outer.specs.Outside.{DepotState, Files, IsPrefix, Rose, with_file}
 use Rattle.md_words.specs.Words.{Run}
 use Rattle.md_top.specs.declared.ending.Ending.{Ending}
-use Rattle.md_top.specs.declared.ending.Ending.TheVariants.{SoundFault, JournalFault, Memory}
+use Rattle.md_top.specs.declared.ending.Ending.TheVariants.{FramesFault, SoundFault, JournalFault, Memory}
 use Rattle.md_top.specs.declared.outputs.Outputs.{Outputs}
+
+-- bytes of the three outputs
+pub record Pieces : Type 0 where
+  pub frames : List ℕ
+  pub sound : List ℕ
+  pub journal : List ℕ
+
+abbrev pub nothing : Pieces
+nothing = record { frames = []; sound = []; journal = [] }
+
+-- bytes, and behind them more
+abbrev pub lengthened : Pieces → Pieces → Pieces
+lengthened held more = record {
+  frames = held.frames ++ more.frames;
+  sound = held.sound ++ more.sound;
+  journal = held.journal ++ more.journal;
+}
+
+-- the bytes of those of the three outputs that are begun
+pub record Parts : Type 0 where
+  pub frames : Option (List ℕ)
+  pub sound : Option (List ℕ)
+  pub journal : Option (List ℕ)
+
+-- all are begun
+abbrev pub all_of : Pieces → Parts
+all_of held = record { frames = Some held.frames; sound = Some held.sound; journal = Some held.journal }
 
 -- an output that is asked for and begun holds these bytes
 abbrev pub with_part : Files → Option (List ℕ) → Option (List ℕ) → Files
@@ -13,12 +40,13 @@ with_part files (Some name) (Some bytes) = with_file files name bytes
 with_part files None (Some bytes) = files
 
 -- the outputs of a run, each where it is asked for and begun; all other files stay
-abbrev pub written : Run → Files → Option (List ℕ) → Option (List ℕ) → Files
-written run files sound journal = with_part (with_part files run.sound sound) run.journal journal
+abbrev pub written : Run → Files → Parts → Files
+written run files parts =
+    with_part (with_part (with_part files run.frames parts.frames) run.sound parts.sound) run.journal parts.journal
 
--- both outputs are begun, and hold these bytes
-abbrev pub Holds : Run → Files → Files → List ℕ → List ℕ → Type 0
-Holds run old new sound journal = new ≡ written run old (Some sound) (Some journal)
+-- the outputs are begun, and hold these bytes
+abbrev pub Holds : Run → Files → Files → Pieces → Type 0
+Holds run old new held = new ≡ written run old (all_of held)
 
 -- an output that is begun holds a part of its bytes
 abbrev pub IsPartOf : Option (List ℕ) → List ℕ → Type 0
@@ -26,15 +54,16 @@ IsPartOf (Some part) whole = IsPrefix part whole
 IsPartOf None whole = Unit {0}
 
 -- each output is not begun, or holds a part of its bytes; all other files stay
-pub record LeavesParts (run : Run) (old new : Files) (whole_sound whole_journal : List ℕ) : Type 0 where
-  pub sound : Option (List ℕ)
-  pub journal : Option (List ℕ)
-  pub sound_part : IsPartOf sound whole_sound
-  pub journal_part : IsPartOf journal whole_journal
-  pub files : new ≡ written run old sound journal
+pub record LeavesParts (run : Run) (old new : Files) (whole : Pieces) : Type 0 where
+  pub parts : Parts
+  pub frames : IsPartOf parts.frames whole.frames
+  pub sound : IsPartOf parts.sound whole.sound
+  pub journal : IsPartOf parts.journal whole.journal
+  pub files : new ≡ written run old parts
 
 -- an output that is asked for could not be written: a count of faults rose
 abbrev pub IsWriteFault : Run → DepotState → DepotState → Ending → Type 0
+IsWriteFault run old new FramesFault = IsSome run.frames × Rose old.write_faults new.write_faults
 IsWriteFault run old new SoundFault = IsSome run.sound × Rose old.write_faults new.write_faults
 IsWriteFault run old new JournalFault = IsSome run.journal × Rose old.write_faults new.write_faults
 IsWriteFault run old new ending = ⊥
@@ -51,17 +80,14 @@ IsBegun begun (Some file) name = IsSome name × (begun file ≡ name)
 
 -- the outputs that are asked for were begun, and these are their numbers
 pub record AreBegun (run : Run) (begun : ℕ → Option (List ℕ)) (outputs : Outputs) : Type 0 where
+  pub frames : IsBegun begun outputs.frames run.frames
   pub sound : IsBegun begun outputs.sound run.sound
   pub journal : IsBegun begun outputs.journal run.journal
 
--- whatever both outputs held before, they hold these pieces behind it
-abbrev pub Adds : Run → Files → Files → List ℕ → List ℕ → Type 0
-Adds run old new sound_piece journal_piece =
-    (first : Files) (sound journal : List ℕ) → Holds run first old sound journal
-    → Holds run first new (sound ++ sound_piece) (journal ++ journal_piece)
+-- whatever the outputs held before, they hold these pieces behind it
+abbrev pub Adds : Run → Files → Files → Pieces → Type 0
+Adds run old new more = (first : Files) (held : Pieces) → Holds run first old held → Holds run first new (lengthened held more)
 
 -- whatever they held before, they hold that and parts of these pieces behind it
-abbrev pub AddsParts : Run → Files → Files → List ℕ → List ℕ → Type 0
-AddsParts run old new sound_piece journal_piece =
-    (first : Files) (sound journal : List ℕ) → Holds run first old sound journal
-    → LeavesParts run first new (sound ++ sound_piece) (journal ++ journal_piece)
+abbrev pub AddsParts : Run → Files → Files → Pieces → Type 0
+AddsParts run old new more = (first : Files) (held : Pieces) → Holds run first old held → LeavesParts run first new (lengthened held more)

@@ -2,10 +2,11 @@
 use Rattle.std.specs.Prelude.{ℕ, ◌+◌, ◌^◌, ◌≤◌, nat_le, Bool, List, ◌++◌, length, Option}
 use Rattle.md_word.specs.declared.event.Entry.{Entry}
 use Rattle.md_files.specs.Wav.{wav_head}
-use Rattle.md_machine.specs.Console.{AllBelow, Console, journal, key_in, mover, power_on, ran, sounded}
-use Rattle.md_machine.specs.Outputs.{journal_bytes, sound_bytes}
-use Rattle.md_machine.specs.Samples.{Samples}
+use Rattle.md_machine.specs.Console.{AllBelow, Console, journal, key_in, media, mover, power_on, ran}
+use Rattle.md_machine.specs.Media.{Media}
+use Rattle.md_machine.specs.Outputs.{frames_bytes, journal_bytes, sound_bytes}
 use Rattle.md_top.specs.Least.{least}
+use Rattle.md_top.specs.Outputs.{Pieces}
 use Rattle.md_top.specs.declared.inputs.Inputs.{Inputs}
 
 -- the machine at power-on, with the cartridge and the recording of a run
@@ -33,22 +34,31 @@ halted_in inputs end = (run_to inputs end).main.halted
 unfoldable pub entries_to : Inputs → ℕ → List Entry
 entries_to inputs end = journal (started inputs) (moves_to inputs end)
 
--- the samples of the sound chips below the cycle
-unfoldable pub samples_to : Inputs → ℕ → Samples
-samples_to inputs end = sounded (started inputs) (moves_to inputs end)
+-- the frames that were finished below the cycle, and the samples of the sound chips
+unfoldable pub media_to : Inputs → ℕ → Media
+media_to inputs end = media (started inputs) (moves_to inputs end)
 
 -- the sound file of a run to the cycle `end`, as far as the cycle `at`: a head for all samples of
 -- the run, and the pairs of those below `at`
 unfoldable pub sound_until : Inputs → ℕ → ℕ → List ℕ
-sound_until inputs end at = wav_head (length (samples_to inputs end).levels) ++ sound_bytes (samples_to inputs at)
+sound_until inputs end at = wav_head (length (media_to inputs end).levels) ++ sound_bytes (media_to inputs at)
 
--- the sound file of a run to the cycle, and its journal
-abbrev pub sound_of : Inputs → ℕ → List ℕ
-sound_of inputs end = sound_until inputs end end
+-- the frames file of a run to the cycle
+unfoldable pub frames_to : Inputs → ℕ → List ℕ
+frames_to inputs end = frames_bytes (media_to inputs end).frames
 
 -- the journal of a run to the cycle
 unfoldable pub journal_of : Inputs → ℕ → List ℕ
 journal_of inputs end = journal_bytes (entries_to inputs end)
+
+-- the outputs of a run to the cycle `end`, as far as the cycle `at`
+abbrev pub pieces_until : Inputs → ℕ → ℕ → Pieces
+pieces_until inputs end at =
+    record { frames = frames_to inputs at; sound = sound_until inputs end at; journal = journal_of inputs at }
+
+-- the outputs of a run to the cycle
+abbrev pub pieces_of : Inputs → ℕ → Pieces
+pieces_of inputs end = pieces_until inputs end end
 
 -- there are never more events below a cycle than cycles and chips
 abbrev pub FewEvents : Inputs → Type 0

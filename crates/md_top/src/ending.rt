@@ -28,6 +28,8 @@ pub(crate) enum Ending {
     RecordingWrong(u64),
     /// The run's end is not above the cycle at which it begins.
     Behind,
+    /// The frames file could not be written.
+    FramesFault,
     /// The sound file could not be written.
     SoundFault,
     /// The journal could not be written.

@@ -1,8 +1,8 @@
 //! Laws of the definitions that the contracts cite, each on a call that does nothing else.
 ghost use Rattle.std.specs.Prelude.{◌≡◌, ◌≤◌, ◌<◌, ◌^◌, true, length};
-ghost use Rattle.md_top.specs.Endings.{pairs_of};
+ghost use Rattle.md_top.specs.Endings.{count_of_frames, pairs_of};
 ghost use Rattle.md_top.specs.Inputs.{IsVerdict, Verdict};
-ghost use Rattle.md_top.specs.Runs.{is_quiet, samples_to, run_to};
+ghost use Rattle.md_top.specs.Runs.{is_quiet, media_to, run_to};
 
 use md_machine::laws;
 use md_pads::Recording;
@@ -23,10 +23,19 @@ pub fn run_is_complete(cart: &Cart, recording: &Recording, end: u64)
 pub fn pairs_are_counted(cart: &Cart, recording: &Recording, end: u64)
     requires some { 1 ≤ end }
     requires near { end < 2 ^ 40 }
-    ensures { length (samples_to (record { cart = cart.now; recording = recording.now }) end).levels ≡ pairs_of end }
+    ensures { length (media_to (record { cart = cart.now; recording = recording.now }) end).levels ≡ pairs_of end }
 {
     laws::few_events(cart);
     laws::samples_counted();
+}
+
+/// A run to the cycle `end` has a frame for each start of a line 224 below it.
+pub fn frames_are_counted(cart: &Cart, recording: &Recording, end: u64)
+    requires { end < 2 ^ 40 }
+    ensures { length (media_to (record { cart = cart.now; recording = recording.now }) end).frames ≡ count_of_frames end }
+{
+    laws::few_events(cart);
+    laws::frames_counted();
 }
 
 /// Whatever bytes the file of a recording holds, there is a verdict on them. It is found by reading

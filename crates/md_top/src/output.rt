@@ -1,7 +1,7 @@
 ghost use Rattle.std.specs.Prelude.{◌≡◌, [], OnOk, OnErr, IfOk, IfErr, IsErrOf, IsSome, Some};
 ghost use Rattle.std.specs.Option.{option_copied};
 ghost use Rattle.md_outer.specs.Outside.{GoesOn, Rose};
-ghost use Rattle.md_top.specs.Outputs.{Adds, AddsParts, AreBegun, Holds, IsBegun, IsUnwritten, IsWriteFault, LeavesParts, with_part};
+ghost use Rattle.md_top.specs.Outputs.{Adds, AddsParts, AreBegun, Holds, IsBegun, IsUnwritten, IsWriteFault, LeavesParts, nothing, with_part};
 ghost use Rattle.md_words.specs.Shown.{shown_run};
 
 use crate::ending::Ending;
@@ -17,18 +17,27 @@ pub(crate) fn begin_all<D: Depot>(
     depot: &mut D,
 ) -> Result<Outputs, Ending>
     ensures begun { IfOk result (AreBegun (shown_run run.now) (D.state depot.new).begun) }
-    ensures files { OnOk result (D.told → Holds (shown_run run.now) (D.state depot.old).files (D.state depot.new).files [] []) }
+    ensures files { OnOk result (D.told → Holds (shown_run run.now) (D.state depot.old).files (D.state depot.new).files nothing) }
     ensures err { IfErr result (IsUnwritten (shown_run run.now) (D.state depot.old) (D.state depot.new)) }
-    ensures err_files { OnErr result (D.told → LeavesParts (shown_run run.now) (D.state depot.old).files (D.state depot.new).files [] []) }
+    ensures err_files { OnErr result (D.told → LeavesParts (shown_run run.now) (D.state depot.old).files (D.state depot.new).files nothing) }
     ensures goes_on { GoesOn (D.state depot.old) (D.state depot.new) }
 {
+    let frames = match begin(alloc, run.frames, depot) {
+        Ok(frames) => frames,
+        Err(Begin::Failed) => return Err(Ending::FramesFault),
+        Err(Begin::NoMemory) => return Err(Ending::Memory),
+    };
     let sound = match begin(alloc, run.sound, depot) {
         Ok(sound) => sound,
         Err(Begin::Failed) => return Err(Ending::SoundFault),
         Err(Begin::NoMemory) => return Err(Ending::Memory),
     };
     match begin(alloc, run.journal, depot) {
-        Ok(journal) => Ok(Outputs { sound, journal }),
+        Ok(journal) => Ok(Outputs {
+            frames,
+            sound,
+            journal,
+        }),
         Err(Begin::Failed) => Err(Ending::JournalFault),
         Err(Begin::NoMemory) => Err(Ending::Memory),
     }
@@ -51,6 +60,28 @@ fn begin<D: Depot>(alloc: Global, name: Option<&str>, depot: &mut D) -> Result<O
     }
 }
 
+/// Appends a piece to the frames file, if it is asked for.
+fn append_frames<D: Depot>(
+    run: &RunWords<'_>,
+    outputs: &Outputs,
+    depot: &mut D,
+    piece: &[u8],
+) -> Result<(), Ending>
+    requires begun { AreBegun (shown_run run.now) (D.state depot.old).begun outputs.now }
+    ensures files { OnOk result (D.told → Adds (shown_run run.now) (D.state depot.old).files (D.state depot.new).files (record nothing { frames = piece.now })) }
+    ensures err { IfErr result (IsWriteFault (shown_run run.now) (D.state depot.old) (D.state depot.new)) }
+    ensures err_files { OnErr result (D.told → AddsParts (shown_run run.now) (D.state depot.old).files (D.state depot.new).files (record nothing { frames = piece.now })) }
+    ensures goes_on { GoesOn (D.state depot.old) (D.state depot.new) }
+{
+    match outputs.frames {
+        Some(file) => match depot.append(file, piece) {
+            Ok(()) => Ok(()),
+            Err(Failed) => Err(Ending::FramesFault),
+        },
+        None => Ok(()),
+    }
+}
+
 /// Appends a piece to the sound file, if it is asked for.
 pub(crate) fn append_sound<D: Depot>(
     run: &RunWords<'_>,
@@ -59,9 +90,9 @@ pub(crate) fn append_sound<D: Depot>(
     piece: &[u8],
 ) -> Result<(), Ending>
     requires begun { AreBegun (shown_run run.now) (D.state depot.old).begun outputs.now }
-    ensures files { OnOk result (D.told → Adds (shown_run run.now) (D.state depot.old).files (D.state depot.new).files piece.now []) }
+    ensures files { OnOk result (D.told → Adds (shown_run run.now) (D.state depot.old).files (D.state depot.new).files (record nothing { sound = piece.now })) }
     ensures err { IfErr result (IsWriteFault (shown_run run.now) (D.state depot.old) (D.state depot.new)) }
-    ensures err_files { OnErr result (D.told → AddsParts (shown_run run.now) (D.state depot.old).files (D.state depot.new).files piece.now []) }
+    ensures err_files { OnErr result (D.told → AddsParts (shown_run run.now) (D.state depot.old).files (D.state depot.new).files (record nothing { sound = piece.now })) }
     ensures goes_on { GoesOn (D.state depot.old) (D.state depot.new) }
 {
     match outputs.sound {
@@ -81,9 +112,9 @@ fn append_journal<D: Depot>(
     piece: &[u8],
 ) -> Result<(), Ending>
     requires begun { AreBegun (shown_run run.now) (D.state depot.old).begun outputs.now }
-    ensures files { OnOk result (D.told → Adds (shown_run run.now) (D.state depot.old).files (D.state depot.new).files [] piece.now) }
+    ensures files { OnOk result (D.told → Adds (shown_run run.now) (D.state depot.old).files (D.state depot.new).files (record nothing { journal = piece.now })) }
     ensures err { IfErr result (IsWriteFault (shown_run run.now) (D.state depot.old) (D.state depot.new)) }
-    ensures err_files { OnErr result (D.told → AddsParts (shown_run run.now) (D.state depot.old).files (D.state depot.new).files [] piece.now) }
+    ensures err_files { OnErr result (D.told → AddsParts (shown_run run.now) (D.state depot.old).files (D.state depot.new).files (record nothing { journal = piece.now })) }
     ensures goes_on { GoesOn (D.state depot.old) (D.state depot.new) }
 {
     match outputs.journal {
@@ -96,7 +127,7 @@ fn append_journal<D: Depot>(
 }
 
 /// Appends a segment's pairs to the sound file and its records to the journal.
-pub(crate) fn append_records<D: Depot>(
+fn append_records<D: Depot>(
     run: &RunWords<'_>,
     outputs: &Outputs,
     depot: &mut D,
@@ -104,13 +135,34 @@ pub(crate) fn append_records<D: Depot>(
     records: &[u8],
 ) -> Result<(), Ending>
     requires begun { AreBegun (shown_run run.now) (D.state depot.old).begun outputs.now }
-    ensures files { OnOk result (D.told → Adds (shown_run run.now) (D.state depot.old).files (D.state depot.new).files pairs.now records.now) }
+    ensures files { OnOk result (D.told → Adds (shown_run run.now) (D.state depot.old).files (D.state depot.new).files (record nothing { sound = pairs.now; journal = records.now })) }
     ensures err { IfErr result (IsWriteFault (shown_run run.now) (D.state depot.old) (D.state depot.new)) }
-    ensures err_files { OnErr result (D.told → AddsParts (shown_run run.now) (D.state depot.old).files (D.state depot.new).files pairs.now records.now) }
+    ensures err_files { OnErr result (D.told → AddsParts (shown_run run.now) (D.state depot.old).files (D.state depot.new).files (record nothing { sound = pairs.now; journal = records.now })) }
     ensures goes_on { GoesOn (D.state depot.old) (D.state depot.new) }
 {
     match append_sound(run, outputs, depot, pairs) {
         Ok(()) => append_journal(run, outputs, depot, records),
+        Err(ending) => Err(ending),
+    }
+}
+
+/// Appends a segment's frames to the frames file, and its pairs and records to the other outputs.
+pub(crate) fn append_all<D: Depot>(
+    run: &RunWords<'_>,
+    outputs: &Outputs,
+    depot: &mut D,
+    frames: &[u8],
+    pairs: &[u8],
+    records: &[u8],
+) -> Result<(), Ending>
+    requires begun { AreBegun (shown_run run.now) (D.state depot.old).begun outputs.now }
+    ensures files { OnOk result (D.told → Adds (shown_run run.now) (D.state depot.old).files (D.state depot.new).files (record { frames = frames.now; sound = pairs.now; journal = records.now })) }
+    ensures err { IfErr result (IsWriteFault (shown_run run.now) (D.state depot.old) (D.state depot.new)) }
+    ensures err_files { OnErr result (D.told → AddsParts (shown_run run.now) (D.state depot.old).files (D.state depot.new).files (record { frames = frames.now; sound = pairs.now; journal = records.now })) }
+    ensures goes_on { GoesOn (D.state depot.old) (D.state depot.new) }
+{
+    match append_frames(run, outputs, depot, frames) {
+        Ok(()) => append_records(run, outputs, depot, pairs, records),
         Err(ending) => Err(ending),
     }
 }

@@ -1,6 +1,8 @@
 /// The numbers of the output files that were begun.
 #[derive(Clone, Copy)]
 pub(crate) struct Outputs {
+    /// The frames file, if one is asked for.
+    pub frames: Option<u32>,
     /// The sound file, if one is asked for.
     pub sound: Option<u32>,
     /// The journal, if one is asked for.

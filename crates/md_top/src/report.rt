@@ -2,12 +2,12 @@ ghost use Rattle.std.specs.Prelude.{◌≡◌, ◌⊎◌, ◌++◌, [], Some, On
 ghost use Rattle.std.specs.Option.{option_copied};
 ghost use Rattle.md_outer.specs.Outside.{PutsText};
 ghost use Rattle.md_top.specs.Answers.{PutsAll, PutsOutput, PutsPart, Reports};
-ghost use Rattle.md_top.specs.Endings.{counts_of, halted_line, lines_of};
+ghost use Rattle.md_top.specs.Endings.{counts_of, halted_line, lines_of, number_line};
 ghost use Rattle.md_words.specs.Shown.{shown_command};
 
 use crate::ending::Ending;
-use crate::put::{put_seven, put_three};
-use crate::run_on::count_pairs;
+use crate::put::put_three;
+use crate::run_on::{count_frames, count_pairs};
 use itoa::Buffer;
 use md_outer::{Failed, Sink};
 use md_words::CommandWords;
@@ -40,6 +40,7 @@ pub(crate) fn report<S: Sink>(command: &CommandWords<'_>, ending: Ending, out: &
         ),
         Ending::RecordingWrong(place) => refuse_place(out, place),
         Ending::Behind => refuse_cycle(out, 9, command.end(), " is not above 0\n"),
+        Ending::FramesFault => refuse_file(out, 4, "fault: writing ", command.frames(), "\n"),
         Ending::SoundFault => refuse_file(out, 4, "fault: writing ", command.sound(), "\n"),
         Ending::JournalFault => refuse_file(out, 4, "fault: writing ", command.journal(), "\n"),
         Ending::Memory => refuse(out, 10, "refused: memory\n", "", ""),
@@ -126,36 +127,41 @@ fn put_halted<S: Sink>(out: &mut S, halted: Option<u64>) -> Result<(), Failed>
     ensures { PutsText S.told (halted_line halted) (S.state out.old) (S.state out.new) result }
 {
     match halted {
-        Some(since) => put_since(out, since),
+        Some(since) => put_number(out, "halted at ", since),
         None => Ok(()),
     }
-}
-
-fn put_since<S: Sink>(out: &mut S, since: u64) -> Result<(), Failed>
-    ensures { PutsText S.told (codes "halted at " ++ decimal since ++ codes "\n") (S.state out.old) (S.state out.new) result }
-{
-    let mut digits = Buffer::new();
-    put_three(out, "halted at ", digits.format(since).as_bytes(), "\n")
 }
 
 /// Puts how far a run went, and how much it made.
 fn put_counts<S: Sink>(out: &mut S, end: u64, accesses: u64) -> Result<(), Failed>
     ensures { PutsText S.told (counts_of end accesses) (S.state out.old) (S.state out.new) result }
 {
-    let mut cycles = Buffer::new();
-    let mut pairs = Buffer::new();
-    let mut entries = Buffer::new();
-    let cycles = cycles.format(end).as_bytes();
-    let pairs = pairs.format(count_pairs(end)).as_bytes();
-    let entries = entries.format(accesses).as_bytes();
-    put_seven(
-        out,
-        "cycles 0 to ",
-        cycles,
-        "\nsamples ",
-        pairs,
-        "\naccesses ",
-        entries,
-        "\n",
-    )
+    match put_numbers(out, "cycles 0 to ", end, "frames ", count_frames(end)) {
+        Ok(()) => put_numbers(out, "samples ", count_pairs(end), "accesses ", accesses),
+        Err(failed) => Err(failed),
+    }
+}
+
+/// Puts two lines, each of a word and a number.
+fn put_numbers<S: Sink>(
+    out: &mut S,
+    first: &str,
+    number: u64,
+    second: &str,
+    other: u64,
+) -> Result<(), Failed>
+    ensures { PutsText S.told (number_line first.now number ++ number_line second.now other) (S.state out.old) (S.state out.new) result }
+{
+    match put_number(out, first, number) {
+        Ok(()) => put_number(out, second, other),
+        Err(failed) => Err(failed),
+    }
+}
+
+/// Puts a line of a word and a number.
+fn put_number<S: Sink>(out: &mut S, word: &str, number: u64) -> Result<(), Failed>
+    ensures { PutsText S.told (number_line word.now number) (S.state out.old) (S.state out.new) result }
+{
+    let mut digits = Buffer::new();
+    put_three(out, word, digits.format(number).as_bytes(), "\n")
 }

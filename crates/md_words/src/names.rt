@@ -1,4 +1,4 @@
-ghost use Rattle.std.specs.Prelude.{◌≡◌};
+ghost use Rattle.std.specs.Prelude.{◌≡◌, true};
 ghost use Rattle.std.specs.Option.{option_copied};
 ghost use Rattle.md_words.specs.Words as meaning;
 
@@ -10,7 +10,10 @@ pub(crate) fn are_names(
     sound: Option<&str>,
     journal: Option<&str>,
 ) -> bool
-    ensures { result ≡ meaning.are_names rom.now (option_copied recording.entry) (option_copied frames.entry) (option_copied sound.entry) (option_copied journal.entry) }
+    ensures names { result ≡ meaning.are_names rom.now (option_copied recording.entry) (option_copied frames.entry) (option_copied sound.entry) (option_copied journal.entry) }
+    ensures frames_and_sound { result ≡ true → meaning.differ (option_copied frames.entry) (option_copied sound.entry) ≡ true }
+    ensures frames_and_journal { result ≡ true → meaning.differ (option_copied frames.entry) (option_copied journal.entry) ≡ true }
+    ensures sound_and_journal { result ≡ true → meaning.differ (option_copied sound.entry) (option_copied journal.entry) ≡ true }
 {
     is_name(rom)
         && is_optional_name(recording)

@@ -77,6 +77,13 @@ impl ChipVdp {
         self.view.is_some()
     }
 
+    /// What the sprites of the last line have set.
+    pub fn note(&self) -> SpriteNote
+        ensures { result ≡ self.now.note }
+    {
+        self.note
+    }
+
     /// Gives the view, to be filled with the VDP's registers and memories, and what the sprites of the
     /// last line have set. What the view holds is not told.
     pub fn request(&mut self) -> (Box<LineView>, SpriteNote)

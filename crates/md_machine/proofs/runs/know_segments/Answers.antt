@@ -15,12 +15,12 @@ pub returns-clause-run : goal.returns-clause-run
 returns-clause-run c = λ v w from to core quiet near far samples after runs.
     let first : Machine Chip Board = machine_of five v in
     let sound : IsSound five IsChip IsBoard first = c.stages.ensures.core v core in
-    segment-run first (machine_of five w) to w.journal runs
+    segment-run first (machine_of five w) from to w.journal runs
     (λ n below. c.stages.ensures.sound first to n (omega arith) sound below) c.stages.ensures.mover
     (c.stages.ensures.core w after)
     (λ n below. at_most (c.limits.ensures.made first to n 3 (omega arith) sound below (lit< tt)) (fm_batches-few first from to near quiet))
     (λ n below. at_most (c.limits.ensures.made first to n 4 (omega arith) sound below (lit< tt)) (batches-few first from to near quiet))
-    samples
+    samples quiet near
 
 pub returns-clause-entries : goal.returns-clause-entries
 returns-clause-entries c = λ v w from to core quiet near far runs.

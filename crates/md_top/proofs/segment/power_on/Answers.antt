@@ -2,7 +2,7 @@ use Rattle.std.proofs.Common.{◌≡◌, ◌∙◌, [], ap, sym, subst}
 use Rattle.std.specs.Arc.{arc_value}
 use Rattle.md_machine.specs.Console.{power_on}
 use Rattle.md_machine.specs.Machines.{MachineValue}
-use Rattle.md_machine.specs.Samples.{no_samples}
+use Rattle.md_machine.specs.Media.{no_media}
 use Rattle.md_top.specs.Courses.{CameTo, inputs_of}
 use Rattle.md_top.specs.Runs.{FewEvents, started}
 use Rattle.md_top.proofs.Segments.{start}
@@ -19,6 +19,6 @@ returns-clause-underway c =
     let few : FewEvents c.args.inputs = c.few_events.ensures c.args.inputs.recording in
     let cart_is : arc_value c.in_ok-cart.cart ≡ c.args.inputs.cart = (c.in_ok-cart.ensures {u = tt}).ok in
     let recording_is : arc_value c.in_ok-recording.recording ≡ c.args.inputs.recording = (c.in_ok-recording.ensures {u = tt}).ok in
-    let first : c.in_ok-machine.machine ≡ record { at = 0; console = started c.args.inputs; entries = []; samples = no_samples } =
-    c.in_ok-machine.ensures {u = tt} ∙ λ i. record { at = 0; console = power_on (cart_is i) (recording_is i); entries = []; samples = no_samples } in
+    let first : c.in_ok-machine.machine ≡ record { at = 0; console = started c.args.inputs; entries = []; media = no_media } =
+    c.in_ok-machine.ensures {u = tt} ∙ λ i. record { at = 0; console = power_on (cart_is i) (recording_is i); entries = []; media = no_media } in
     subst (λ (m : MachineValue). CameTo (inputs_of m.console) m 0) (sym first) (start c.args.inputs few)

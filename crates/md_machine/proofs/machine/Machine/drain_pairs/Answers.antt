@@ -12,10 +12,10 @@ returns-clause-bytes c =
     let m = c.self.inside in
     let levels = c.levels_in.ensures
     ∙ ap levels_of (get_or_read m.chips.items 4 c.index.result.now (omega (arith, c.self.invariant.sound.shape.chip_count)) c.index.ensures five.blank)
-    ∙ ap (λ (v : MachineValue). v.samples.levels) c.self.view_is in
+    ∙ ap (λ (v : MachineValue). v.media.levels) c.self.view_is in
     let sides = c.sides_in.ensures
     ∙ ap sides_of (get_or_read m.chips.items 3 c.index-2.result.now (omega (arith, c.self.invariant.sound.shape.chip_count)) c.index-2.ensures five.blank)
-    ∙ ap (λ (v : MachineValue). v.samples.sides) c.self.view_is in
+    ∙ ap (λ (v : MachineValue). v.media.sides) c.self.view_is in
     c.put_pairs.ensures.bytes
     ∙ ap (λ l. c.args.into.now.items ++ mixed_bytes l c.sides_in.result.now) levels
-    ∙ ap (λ l. c.args.into.now.items ++ mixed_bytes c.args.self.now.samples.levels l) sides
+    ∙ ap (λ l. c.args.into.now.items ++ mixed_bytes c.args.self.now.media.levels l) sides

@@ -11,4 +11,4 @@ returns c =
     let m = c.self.inside in
     drained-fm m.at (core_in m.shared m.chips.items m.bounds.items m.journal.items 0) c.silence.new.chip c.self.invariant.sound.shape.chip_count
     (c.silence.ensures ∙ ap silent (get_or_read m.chips.items 3 c.index_mut.result.now (omega (arith, c.self.invariant.sound.shape.chip_count)) c.index_mut.ensures.value five.blank))
-    ∙ ap (λ (v : MachineValue). record v { samples = record { sides = []; levels = v.samples.levels } }) c.self.view_is
+    ∙ ap (λ (v : MachineValue). record v { media = record v.media { sides = [] } }) c.self.view_is

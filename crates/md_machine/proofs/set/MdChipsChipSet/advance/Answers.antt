@@ -1,5 +1,5 @@
 use Rattle.std.proofs.Common.{◌∙◌, sym}
-use Rattle.md_machine.proofs.Advances.{performed-cycle, performed-fits, performed-kind, performed-told}
+use Rattle.md_machine.proofs.Advances.{performed-cycle, performed-fits, performed-kind, performed-line, performed-told, performed-view}
 use Rattle.md_machine.proofs.set.MdChipsChipSet.advance.Goals as goal
 
 pub advance-requires-clause-fits : goal.advance-requires-clause-fits
@@ -14,3 +14,9 @@ advance-requires-in-Sub-clause-cycle c = performed-cycle c.requires.before c.req
 pub advance-requires-in-Sub-clause-fits : goal.advance-requires-in-Sub-clause-fits
 advance-requires-in-Sub-clause-fits c =
     performed-told c.requires.before c.requires.shared c.requires.due.chip c.requires.due.shared c.in-Sub.sub (sym c.in-Sub.is ∙ c.requires.is)
+
+pub advance-requires-in-Line-clause-view : goal.advance-requires-in-Line-clause-view
+advance-requires-in-Line-clause-view c = performed-view c.requires.before c.requires.shared c.in-Line.draw (sym c.in-Line.is ∙ c.requires.is)
+
+pub advance-requires-in-Line-clause-cycle : goal.advance-requires-in-Line-clause-cycle
+advance-requires-in-Line-clause-cycle c = performed-line c.requires.before c.requires.shared c.in-Line.draw (sym c.in-Line.is ∙ c.requires.is) c.requires.due.cycle

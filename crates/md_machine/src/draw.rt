@@ -1,0 +1,166 @@
+ghost use Rattle.std.specs.Prelude.{◌≡◌, ℕ, ◌^◌, ◌<◌, IfOk, IsSome, None, is_some, not, option_copied};
+ghost use Rattle.vdp_chip.specs.Drawing.{Drawing, at_power_on, next_of};
+ghost use Rattle.vdp_chip.specs.Picture.{height};
+ghost use Rattle.vdp_planes.specs.View.{AllColours, dot_at, seen};
+ghost use Rattle.vdp_sprites.specs.Sprites.{sprite_dot};
+ghost use Rattle.md_machine.specs.Lines as lines;
+ghost use Rattle.md_machine.specs.Rules as rules;
+
+use bus_shared::{Request, Shared, carry_out, start_line};
+use md_word::{Entry, Next, NoMemory};
+use std::alloc::Global;
+use std::marker::Model;
+use vdp_chip::ChipVdp;
+use vdp_planes::{Dot, LineView, Scene, SpriteNote};
+use vdp_sprites::draw_sprites;
+use vdp_time::line_of;
+
+/// Lines of the picture.
+const HEIGHT: u32 = 224;
+
+/// A dot where no sprite is drawn.
+const CLEAR: Dot = Dot {
+    colour: 0,
+    priority: false,
+};
+
+/// The drawing half of the VDP, chip 2: an access at each line. Between the two halves of an access it
+/// keeps the view that the board has filled.
+#[derive(Drop)]
+pub struct DrawChip {
+    chip: ChipVdp,
+    view: Option<Box<LineView>>,
+}
+
+impl Model for DrawChip {
+    ghost use Rattle.std.specs.Prelude.{option_map};
+    ghost use Rattle.md_machine.specs.Lines.{told_view};
+    ghost use Rattle.md_machine.specs.Parts.{DrawValue, IsDraw};
+
+    ghost Value = { DrawValue };
+
+    ghost view = { λ c. record { chip = c.chip; view = option_map (λ v. told_view c.chip.next v.value) c.view } };
+
+    ghost invariant = { λ c. IsDraw (record { chip = c.chip; view = option_map (λ v. told_view c.chip.next v.value) c.view }) };
+}
+
+impl DrawChip {
+    ghost use Rattle.md_machine.specs.Parts.{IsDraw};
+
+    /// The drawing half at power-on, with the memory of its picture and its view.
+    pub(crate) fn power_on(alloc: Global) -> Result<DrawChip, NoMemory>
+        ensures { IfOk result (λ chip. chip ≡ record { chip = at_power_on; view = None }) }
+    {
+        let chip = ChipVdp::power_on(alloc)?;
+        chip.next();
+        Ok(DrawChip { chip, view: None })
+    }
+
+    pub(crate) fn next(&self) -> Next
+        ensures value { result ≡ next_of self.now.chip }
+        ensures draw { IsDraw self.now }
+    {
+        self.chip.next()
+    }
+
+    /// The part of a line's event that needs the board: the view is filled.
+    #[tactic(auto, unfolding(bus_shared::specs::Accesses::carried))]
+    pub(crate) fn perform(&mut self, shared: &mut Shared) -> Entry
+        requires { self.old.chip.next < 2 ^ 50 }
+        ensures chip { self.new ≡ (rules.draw_perform self.old shared.old).chip }
+        ensures shared { shared.new ≡ (rules.draw_perform self.old shared.old).shared }
+        ensures entry { result ≡ (rules.draw_perform self.old shared.old).entry }
+    {
+        let key = self.chip.next().key;
+        let (view, note) = lent_view(&mut self.chip, &mut self.view);
+        let (answer, entry) = carry_out(shared, key, Request::Line(view, note));
+        self.view = answer.line_view();
+        entry
+    }
+
+    /// Draws the line from the view that was filled.
+    pub(crate) fn advance(&mut self)
+        requires view { IsSome self.old.view }
+        requires cycle { self.old.chip.next < 2 ^ 50 }
+        ensures { self.new ≡ rules.draw_advance self.old }
+    {
+        let line = line_of(self.chip.next().key.cycle);
+        if let Some(view) = self.view.take() {
+            let mut dots = [CLEAR; 320];
+            let note = draw_line_sprites(&view.scene(), line, &mut dots);
+            self.chip.answer_with(view, &dots, note);
+        }
+    }
+
+    /// Whether the view is here, and not filled between the two halves of an access.
+    pub(crate) fn has_view(&self) -> bool
+        ensures { result ≡ self.now.chip.has_view }
+    {
+        self.chip.has_view()
+    }
+
+    /// Both halves of a line's event in one: the line is drawn straight from the board.
+    pub(crate) fn draw(&mut self, shared: &mut Shared) -> Entry
+        requires view { self.old.chip.has_view ≡ true }
+        requires cycle { self.old.chip.next < 2 ^ 50 }
+        ensures chip { self.new ≡ rules.draw_advance (rules.draw_perform self.old shared.old).chip }
+        ensures shared { shared.new ≡ (rules.draw_perform self.old shared.old).shared }
+        ensures entry { result ≡ (rules.draw_perform self.old shared.old).entry }
+    {
+        let key = self.chip.next().key;
+        let entry = start_line(shared, key, self.chip.note());
+        let scene = shared.scene();
+        let mut dots = [CLEAR; 320];
+        let note = draw_line_sprites(&scene, line_of(key.cycle), &mut dots);
+        self.chip.draw_line(&scene, &dots, note);
+        entry
+    }
+
+    /// The frame that was finished last and not dropped.
+    pub(crate) fn frame(&self) -> Option<&[u8]>
+        ensures value { option_copied result ≡ self.now.chip.frame }
+        ensures draw { IsDraw self.now }
+    {
+        self.chip.next();
+        self.chip.frame()
+    }
+
+    /// Lets the frame go.
+    pub(crate) fn drop_frame(&mut self)
+        ensures { self.new ≡ record self.old { chip = record self.old.chip { frame = None } } }
+    {
+        self.chip.drop_frame();
+    }
+}
+
+/// The view that is to be filled, from the one of two places where it is, and what the sprites of the
+/// last line have set.
+fn lent_view(chip: &mut ChipVdp, view: &mut Option<Box<LineView>>) -> (Box<LineView>, SpriteNote)
+    requires { chip.old.has_view ≡ not (is_some view.old) }
+    ensures note { result.1 ≡ chip.old.note }
+    ensures chip { chip.new ≡ record chip.old { has_view = false } }
+    ensures view { view.new ≡ None }
+{
+    match view.take() {
+        Some(view) => (view, chip.note()),
+        None => chip.request(),
+    }
+}
+
+/// Draws the sprites of a line of the picture over clear dots: what they set. Behind the picture nothing
+/// is drawn or set.
+#[tactic(auto, unfolding(crate::specs::Lines::note_on))]
+fn draw_line_sprites(scene: &Scene, line: u32, dots: &mut [Dot; 320]) -> SpriteNote
+    requires { AllColours dots.old }
+    ensures note { result ≡ lines.note_on line (seen scene.now) }
+    ensures dots { line < height → (x : ℕ) → x < 320 → dot_at dots.new x ≡ sprite_dot (seen scene.now) line x }
+    ensures colours { AllColours dots.new }
+{
+    if line < HEIGHT {
+        return draw_sprites(scene, line, dots);
+    }
+    SpriteNote {
+        overflow: false,
+        collision: false,
+    }
+}
