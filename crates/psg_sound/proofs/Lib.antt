@@ -1,5 +1,7 @@
 pub mod Courses
+pub mod Halves
 pub mod Heard
 pub mod Histories
-pub mod Halves
 pub mod Levels
+pub mod PortBytes
+pub mod SynthBytes

@@ -3,7 +3,9 @@ pub mod History
 pub mod Pair
 pub mod Port
 pub mod PortLaws
+pub mod PortSpelling
 pub mod Stamp
 pub mod Synth
 pub mod SynthLaws
+pub mod SynthSpelling
 pub mod Voices

@@ -12,7 +12,7 @@ use std::marker::Model;
 /// To take writes costs their number, and no memory.
 #[derive(Drop)]
 pub struct PsgPort {
-    writes: PsgList,
+    pub(crate) writes: PsgList,
 }
 
 impl Model for PsgPort {

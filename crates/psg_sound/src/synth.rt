@@ -21,11 +21,11 @@ const SAMPLE: u64 = 1_008;
 /// Source: Texas Instruments, SN76489AN data sheet; the 16-bit noise register is Sega's.
 #[derive(Drop)]
 pub struct PsgSynth {
-    latch: u8,
-    tone1: Tone,
-    tone2: Tone,
-    tone3: Tone,
-    noise: Noise,
+    pub(crate) latch: u8,
+    pub(crate) tone1: Tone,
+    pub(crate) tone2: Tone,
+    pub(crate) tone3: Tone,
+    pub(crate) noise: Noise,
 }
 
 impl Model for PsgSynth {

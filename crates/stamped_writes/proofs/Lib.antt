@@ -1,5 +1,8 @@
 pub mod Courses
+pub mod Entries
 pub mod Filters
 pub mod Helds
 pub mod Orders
+pub mod Refusals
+pub mod Spaced
 pub mod Splits

@@ -1,3 +1,5 @@
 pub mod Course
+pub mod Entries
 pub mod Held
+pub mod Keys
 pub mod Order

@@ -1,3 +1,9 @@
 //! Writes with stamps, of any kind, to a chip of any kind: definitions and lemmas that the crates of
-//! the sound chips share. It has no code.
+//! the sound chips share, and the keys of the writes that a saved state keeps.
 #![tactic(auto)]
+
+mod earliest;
+mod zeros;
+
+pub use earliest::Earliest;
+pub use zeros::are_zeros;

@@ -1,0 +1,34 @@
+use Rattle.std.proofs.Common.{◌≡◌, ◌∙◌, Ok, ap, subst, sym}
+use Rattle.stamped_writes.proofs.Refusals.{told_right, told_wrong}
+use Rattle.psg_sound.specs.Synth.{IsSynth}
+use Rattle.psg_sound.specs.SynthSpelling.{SpellsSynth, SynthGoesWrongAt, synth_from}
+use Rattle.psg_sound.proofs.SynthBytes.{read_only, read_sound, read_spells, right_nowhere, wrong_once}
+use Rattle.psg_sound.proofs.synth.PsgSynth.unspell.Goals as goal
+
+-- what is made
+made : (c : goal.After-noise) → record { latch = c.in-Ok.saved.latch; tone1 = c.tone_from.result; tone2 = c.tone_from-in-Ok.result; tone3 = c.tone_from-in-Ok-2.result; noise = c.noise.result } ≡ synth_from c.in-Ok.saved
+made c = λ i. record {
+  latch = c.in-Ok.saved.latch;
+  tone1 = c.tone_from.ensures i;
+  tone2 = c.tone_from-in-Ok.ensures i;
+  tone3 = c.tone_from-in-Ok-2.ensures i;
+  noise = c.noise.ensures i;
+}
+
+pub invariant_of-result : goal.invariant_of-result
+invariant_of-result c = subst IsSynth (sym (made c)) (read_sound c.args.bytes.now c.in-Ok.saved c.in-Ok.ensures.found.0 c.in-Ok.ensures.found.1)
+
+pub returns-in-Ok-clause-found : goal.returns-in-Ok-clause-found
+returns-in-Ok-clause-found c = subst (SpellsSynth c.args.bytes.now) (sym (made c)) (read_spells c.args.bytes.now c.in-Ok.saved c.in-Ok.ensures.found.0 c.in-Ok.ensures.found.1)
+
+pub returns-in-Ok-clause-only : goal.returns-in-Ok-clause-only
+returns-in-Ok-clause-only c = λ synth spells. ap Ok (made c ∙ read_only c.args.bytes.now c.in-Ok.saved synth c.in-Ok.ensures.found.0 spells)
+
+pub returns-in-Ok-clause-rule : goal.returns-in-Ok-clause-rule
+returns-in-Ok-clause-rule c = told_right _ (SynthGoesWrongAt c.args.bytes.now) (right_nowhere c.args.bytes.now c.in-Ok.saved c.in-Ok.ensures.found.0 c.in-Ok.ensures.found.1)
+
+pub returns-in-Err-clause-only : goal.returns-in-Err-clause-only
+returns-in-Err-clause-only c = λ synth spells. absurd (right_nowhere c.args.bytes.now _ spells.keeps spells.right c.in-Err.place c.in-Err.ensures.refused)
+
+pub returns-in-Err-clause-rule : goal.returns-in-Err-clause-rule
+returns-in-Err-clause-rule c = told_wrong (SynthGoesWrongAt c.args.bytes.now) c.in-Err.place c.in-Err.ensures.refused (wrong_once c.args.bytes.now)

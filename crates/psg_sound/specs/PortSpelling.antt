@@ -1,0 +1,61 @@
+-- The bytes of a saved state that keep the port: how many writes it holds, the writes, and zeros in the
+-- places that are not used. This project's profile.
+use Rattle.std.specs.Prelude.{ℕ, ◌+◌, ◌*◌, nat_le, true, Bool, ◌&&◌, List, [], ◌∷◌, length, drop, map, slice_index}
+use Rattle.std.specs.Int.{w64}
+use Rattle.md_word.specs.declared.key.Key.{Key}
+use Rattle.md_fields.specs.Fields.{Field, byte, word, quad, block, spelling}
+use Rattle.md_fields.specs.Items.{IsRefused, IsRight, Keeps}
+use Rattle.md_fields.specs.Padding.{are_zeros, padded}
+use Rattle.md_fields.specs.Places.{number_at}
+use Rattle.stamped_writes.specs.Entries.{AreFit, entries_bytes, entries_from}
+use Rattle.stamped_writes.specs.Keys.{are_kept}
+use Rattle.psg_sound.specs.declared.write.PsgWrite.{PsgWrite}
+
+-- what is kept, whatever it is: the number of the writes, and the bytes of 1,024 of ten bytes each
+pub record SavedPort : Type 0 where
+  pub count : ℕ
+  pub entries : List ℕ
+
+-- a write as fields, and the one that stands at a place
+abbrev pub write_fields : PsgWrite → List Field
+write_fields w = quad w.key.cycle true ∷ byte w.key.chip true ∷ byte w.value true ∷ []
+
+abbrev pub write_at : ℕ → List ℕ → PsgWrite
+write_at place bytes = record {
+  key = record { cycle = number_at w64 place bytes; chip = slice_index bytes (place + 8) };
+  value = slice_index bytes (place + 9);
+}
+
+-- the first so many writes
+abbrev pub writes_at : ℕ → List ℕ → List PsgWrite
+writes_at count entries = entries_from 10 write_at count 0 entries
+
+abbrev pub key_of : PsgWrite → Key
+key_of w = w.key
+
+-- at most 1,024 writes, with keys that a port holds at the cycle, and zeros behind them
+abbrev pub are_writes : ℕ → SavedPort → Bool
+are_writes at s =
+    nat_le s.count 1024 && (are_kept at (map key_of (writes_at s.count s.entries)) && are_zeros (drop (10 * s.count) s.entries))
+
+-- the fields in their order, and their rules; count and writes are one, whose rule stands first
+abbrev pub port_fields : ℕ → SavedPort → List Field
+port_fields at s = word s.count (are_writes at s) ∷ block 10240 s.entries true ∷ []
+
+-- what is kept of a port
+abbrev pub saved_port : List PsgWrite → SavedPort
+saved_port writes = record { count = length writes; entries = padded 10240 (entries_bytes write_fields writes) }
+
+-- the bytes that keep a port; the rules, and so the cycle, have no part in them
+abbrev pub port_bytes : List PsgWrite → List ℕ
+port_bytes writes = spelling (port_fields 0 (saved_port writes))
+
+-- the bytes of a state at a cycle keep the port, whose rules hold
+pub record SpellsPort (at : ℕ) (bytes : List ℕ) (writes : List PsgWrite) : Type 0 where
+  pub keeps : Keeps (port_fields at) bytes (saved_port writes)
+  pub right : IsRight (port_fields at) (saved_port writes)
+  pub fit : AreFit write_fields writes
+
+-- bytes that keep no port are refused at this place
+abbrev pub PortGoesWrongAt : ℕ → List ℕ → ℕ → Type 0
+PortGoesWrongAt at bytes place = IsRefused 10242 (port_fields at) bytes place

@@ -1,0 +1,122 @@
+ghost use Rattle.std.specs.Prelude.{◌≡◌, ◌+◌, ◌-◌, ◌*◌, ◌≤◌, ◌++◌, length, map, replicate, vec_len, vec_capacity};
+ghost use Rattle.std.specs.Int.{w16, to_be_bytes};
+ghost use Rattle.md_fields.specs.Fields.{seen, spelling};
+ghost use Rattle.stamped_writes.specs.Entries.{entries_bytes};
+ghost use Rattle.stamped_writes.specs.Keys.{are_kept};
+ghost use Rattle.psg_sound.specs.PortSpelling as meaning;
+
+use crate::write::{PsgList, PsgWrite};
+use md_fields::{Field, put, u8_at, u64_at};
+use md_word::Key;
+use stamped_writes::Earliest;
+
+/// How many writes a port holds, at most.
+pub const MOST: usize = 1_024;
+
+/// How many bytes keep a write.
+pub const WRITE: usize = 10;
+
+/// A write as fields: its cycle, its chip and its value.
+fn fields_of(write: &PsgWrite) -> [Field<'_>; 3]
+    ensures { map seen result ≡ meaning.write_fields write.now }
+{
+    [
+        Field::Quad(write.key.cycle, true),
+        Field::Byte(write.key.chip, true),
+        Field::Byte(write.value, true),
+    ]
+}
+
+#[tactic(auto, unfolding(md_fields::specs::Fields::spelling))]
+fn put_write(write: &PsgWrite, into: &mut Vec<u8>)
+    requires { vec_len into.old + 10 ≤ vec_capacity into.old }
+    ensures bytes { into.new.items ≡ into.old.items ++ spelling (meaning.write_fields write.now) }
+    ensures length { vec_len into.new ≡ vec_len into.old + 10 }
+    ensures room { vec_capacity into.old ≤ vec_capacity into.new }
+{
+    put(&fields_of(write), into);
+}
+
+/// Appends the bytes of writes.
+pub fn put_writes(writes: &[PsgWrite], into: &mut Vec<u8>)
+    requires { vec_len into.old + 10 * length writes.now ≤ vec_capacity into.old }
+    ensures bytes { into.new.items ≡ into.old.items ++ entries_bytes meaning.write_fields writes.now }
+    ensures length { vec_len into.new ≡ vec_len into.old + 10 * length writes.now }
+    ensures room { vec_capacity into.old ≤ vec_capacity into.new }
+{
+    let mut rest = writes;
+    while let [write, after @ ..] = rest {
+        put_write(write, into);
+        rest = after;
+    }
+}
+
+/// Appends how many writes there are.
+#[tactic(auto, unfolding(md_fields::specs::Fields::spelling))]
+pub fn put_count(count: u16, into: &mut Vec<u8>)
+    requires { vec_len into.old + 2 ≤ vec_capacity into.old }
+    ensures bytes { into.new.items ≡ into.old.items ++ to_be_bytes w16 count }
+    ensures length { vec_len into.new ≡ vec_len into.old + 2 }
+    ensures room { vec_capacity into.old ≤ vec_capacity into.new }
+{
+    put(&[Field::Word(count, true)], into);
+}
+
+/// Appends 0 for the places that so many writes leave.
+#[tactic(auto, unfolding(md_fields::specs::Fields::spelling))]
+pub fn put_unused(count: usize, into: &mut Vec<u8>)
+    requires most { count ≤ 1024 }
+    requires room { vec_len into.old + 10 * (1024 - count) ≤ vec_capacity into.old }
+    ensures bytes { into.new.items ≡ into.old.items ++ replicate (10 * (1024 - count)) 0 }
+    ensures length { vec_len into.new ≡ vec_len into.old + 10 * (1024 - count) }
+    ensures room { vec_capacity into.old ≤ vec_capacity into.new }
+{
+    let unused = [0; MOST * WRITE];
+    put(
+        &[Field::Block(&unused[..WRITE * (MOST - count)], true)],
+        into,
+    );
+}
+
+/// The write that stands at a place.
+fn write_at(bytes: &[u8], place: usize) -> PsgWrite
+    requires { place + 10 ≤ length bytes.now }
+    ensures { result ≡ meaning.write_at place bytes.now }
+{
+    PsgWrite {
+        key: Key {
+            cycle: u64_at(bytes, place),
+            chip: u8_at(bytes, place + 8),
+        },
+        value: u8_at(bytes, place + 9),
+    }
+}
+
+/// The first so many writes, at most 1,024.
+pub fn writes_at(entries: &[u8], count: usize) -> PsgList
+    requires most { count ≤ 1024 }
+    requires there { length entries.now ≡ 10240 }
+    ensures { result.items ≡ meaning.writes_at count entries.now }
+{
+    let mut writes = PsgList::new();
+    for index in 0..count {
+        writes.push(write_at(entries, WRITE * index));
+    }
+    writes
+}
+
+/// Whether the writes have keys that a port holds at a cycle.
+pub fn are_kept(writes: &[PsgWrite], at: u64) -> bool
+    ensures { result ≡ are_kept at (map meaning.key_of writes.now) }
+{
+    let mut earliest = Earliest::behind_batch(at);
+    let mut rest = writes;
+    while let [write, after @ ..] = rest {
+        if !earliest.fits(&write.key, at) {
+            return false;
+        }
+        earliest = earliest.after(&write.key);
+        rest = after;
+    }
+    true
+}

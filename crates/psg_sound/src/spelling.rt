@@ -1,0 +1,151 @@
+ghost use Rattle.std.specs.Prelude.{◌≡◌, ◌≢◌, ◌↔◌, ◌+◌, ◌≤◌, ◌++◌, ℕ, List, vec_len, vec_capacity, IfErr, IfOk, IsErrOf, Ok, Err};
+ghost use Rattle.md_fields.specs.Items.{IsRight, Keeps};
+ghost use Rattle.psg_sound.specs.PortSpelling.{PortGoesWrongAt, SpellsPort, port_bytes};
+ghost use Rattle.psg_sound.specs.SynthSpelling.{SpellsSynth, SynthGoesWrongAt, saved_synth, synth_bytes, synth_fields};
+ghost use Rattle.psg_sound.specs.Synth.{Synth};
+ghost use Rattle.psg_sound.specs.declared.write.PsgWrite.{PsgWrite as Write};
+
+use crate::port::PsgPort;
+use crate::saved_port::{MOST, WRITE, are_kept, put_count, put_unused, put_writes, writes_at};
+use crate::saved_synth::{SavedSynth, tone_from};
+use crate::synth::PsgSynth;
+use crate::write::PsgList;
+use md_fields::{first_wrong, put, u16_at};
+use md_word::Unspell;
+use stamped_writes::are_zeros;
+use std::alloc::Global;
+
+/// How many bytes keep a port, and how many a synthesis.
+const PORT: usize = 10_242;
+
+const SYNTH: usize = 26;
+
+impl PsgPort {
+    /// Appends the bytes of a saved state that keep this port, 10,242. There is room for them.
+    pub fn spell(&self, _at: u64, into: &mut Vec<u8>)
+        requires { vec_len into.old + 10242 ≤ vec_capacity into.old }
+        ensures bytes { into.new.items ≡ into.old.items ++ port_bytes self.now }
+        ensures length { vec_len into.new ≡ vec_len into.old + 10242 }
+        ensures room { vec_capacity into.old ≤ vec_capacity into.new }
+    {
+        let count = self.writes.len();
+        put_count(count as u16, into);
+        put_writes(self.writes.as_slice(), into);
+        put_unused(count, into);
+    }
+
+    /// The port that the bytes of a saved state at a cycle keep. It takes no memory. Bytes that are not
+    /// 10,242 are refused at the lesser of their number and 10,242; else at 0, where the writes are
+    /// more than 1,024, where their keys are none of the two processors', do not rise, stand below the
+    /// last batch before the cycle or not below the cycle, or stand less than 28 cycles apart for the
+    /// 68000 or 45 for the Z80, and where an unused place is not 0.
+    pub fn unspell(_alloc: Global, bytes: &[u8], at: u64) -> Result<PsgPort, Unspell>
+        ensures found { IfOk result (λ port. SpellsPort at bytes.now port) }
+        ensures only { (port : List Write) → SpellsPort at bytes.now port → result ≡ Ok port }
+        ensures rule { (place : ℕ) → IsErrOf result (Unspell.Rule place) ↔ PortGoesWrongAt at bytes.now place }
+        ensures memory { result ≢ Err Unspell.NoMemory }
+    {
+        match port_of(bytes, at) {
+            Ok(writes) => Ok(PsgPort { writes }),
+            Err(place) => Err(Unspell::Rule {
+                place: place as u64,
+            }),
+        }
+    }
+}
+
+/// The writes that the bytes keep, where the rules hold; else the place of the refusal.
+fn port_of(bytes: &[u8], at: u64) -> Result<PsgList, usize>
+    ensures found { IfOk result (λ writes. SpellsPort at bytes.now writes.items) }
+    ensures refused { IfErr result (λ place. PortGoesWrongAt at bytes.now place) }
+{
+    if bytes.len() != PORT {
+        return Err(bytes.len().min(PORT));
+    }
+    let count = usize::from(u16_at(bytes, 0));
+    if count > MOST {
+        return Err(0);
+    }
+    let entries = &bytes[2..PORT];
+    let writes = writes_at(entries, count);
+    if !are_kept(writes.as_slice(), at) || !are_zeros(&entries[WRITE * count..WRITE * MOST]) {
+        return Err(0);
+    }
+    Ok(writes)
+}
+
+impl PsgSynth {
+    /// Appends the bytes of a saved state that keep this chip, 26. There is room for them.
+    pub fn spell(&self, _at: u64, into: &mut Vec<u8>)
+        requires { vec_len into.old + 26 ≤ vec_capacity into.old }
+        ensures bytes { into.new.items ≡ into.old.items ++ synth_bytes self.now }
+        ensures length { vec_len into.new ≡ vec_len into.old + 26 }
+        ensures room { vec_capacity into.old ≤ vec_capacity into.new }
+    {
+        put(&self.saved().fields(), into);
+    }
+
+    fn saved(&self) -> SavedSynth
+        ensures { result ≡ saved_synth self.now }
+    {
+        SavedSynth {
+            latch: self.latch,
+            period1: self.tone1.period,
+            period2: self.tone2.period,
+            period3: self.tone3.period,
+            control: self.noise.control,
+            volume1: self.tone1.volume,
+            volume2: self.tone2.volume,
+            volume3: self.tone3.volume,
+            volume4: self.noise.volume,
+            counter1: self.tone1.divider.counter,
+            counter2: self.tone2.divider.counter,
+            counter3: self.tone3.divider.counter,
+            counter4: self.noise.divider.counter,
+            bit1: u8::from(self.tone1.divider.bit),
+            bit2: u8::from(self.tone2.divider.bit),
+            bit3: u8::from(self.tone3.divider.bit),
+            bit4: u8::from(self.noise.divider.bit),
+            register: self.noise.register,
+        }
+    }
+
+    /// The chip that the bytes of a saved state keep. It takes no memory. Bytes that are not 26 are
+    /// refused at the lesser of their number and 26, others at the place of the first field whose rule
+    /// fails: the latch is to be below 8, periods below 1,024, control and volumes below 16, counters
+    /// 1 to 1,023, and the bits 0 or 1.
+    pub fn unspell(_alloc: Global, bytes: &[u8], _at: u64) -> Result<PsgSynth, Unspell>
+        ensures found { IfOk result (λ synth. SpellsSynth bytes.now synth) }
+        ensures only { (synth : Synth) → SpellsSynth bytes.now synth → result ≡ Ok synth }
+        ensures rule { (place : ℕ) → IsErrOf result (Unspell.Rule place) ↔ SynthGoesWrongAt bytes.now place }
+        ensures memory { result ≢ Err Unspell.NoMemory }
+    {
+        match saved_of(bytes) {
+            Ok(saved) => Ok(PsgSynth {
+                latch: saved.latch,
+                tone1: tone_from(saved.period1, saved.volume1, saved.counter1, saved.bit1),
+                tone2: tone_from(saved.period2, saved.volume2, saved.counter2, saved.bit2),
+                tone3: tone_from(saved.period3, saved.volume3, saved.counter3, saved.bit3),
+                noise: saved.noise(),
+            }),
+            Err(place) => Err(Unspell::Rule {
+                place: place as u64,
+            }),
+        }
+    }
+}
+
+/// The numbers that the bytes keep, where the rules hold of them; else the place of the refusal.
+fn saved_of(bytes: &[u8]) -> Result<SavedSynth, usize>
+    ensures found { IfOk result (λ saved. Keeps synth_fields bytes.now saved × IsRight synth_fields saved) }
+    ensures refused { IfErr result (λ place. SynthGoesWrongAt bytes.now place) }
+{
+    if bytes.len() != SYNTH {
+        return Err(bytes.len().min(SYNTH));
+    }
+    let saved = SavedSynth::read(bytes);
+    match first_wrong(&saved.fields()) {
+        Some(place) => Err(place),
+        None => Ok(saved),
+    }
+}

@@ -1,0 +1,20 @@
+-- The answers of a reader that takes no memory.
+use Rattle.std.proofs.Common.{◌≡◌, ◌↔◌, ℕ, Result, Ok, Err, ap, subst}
+use Rattle.md_word.specs.declared.unspell.Unspell.{Unspell}
+use Rattle.md_word.specs.declared.unspell.Unspell.TheVariants.{Rule}
+
+abbrev pub failed : {T : Type 0} → Unspell → Result T Unspell
+failed e = Err e
+
+same_rule : {T : Type 0} (p q : ℕ) → failed {T = T} (Rule p) ≡ failed (Rule q) → p ≡ q
+same_rule p q e = cc
+
+-- a refusal tells the one place that is wrong
+pub told_wrong : {T : Type 0} (Wrong : ℕ → Type 0) (p : ℕ) → Wrong p → ((q r : ℕ) → Wrong q → Wrong r → q ≡ r)
+    → (place : ℕ) → (failed {T = T} (Rule p) ≡ failed (Rule place)) ↔ Wrong place
+told_wrong Wrong p wrong one place = (λ e. subst Wrong (same_rule p place e) wrong, λ w. ap (λ (q : ℕ). failed (Rule q)) (one p place wrong w))
+
+-- where a value is read no place is wrong
+pub told_right : {T : Type 0} (value : T) (Wrong : ℕ → Type 0) → ((q : ℕ) → Wrong q → ⊥)
+    → (place : ℕ) → (Ok value ≡ failed (Rule place)) ↔ Wrong place
+told_right value Wrong none place = (λ e. absurd cc, λ w. absurd (none place w))
