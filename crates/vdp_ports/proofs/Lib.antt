@@ -1,3 +1,6 @@
 pub mod ByCases
 pub mod Kept
+pub mod Refusals
+pub mod RuleLaws
 pub mod Same
+pub mod SavedLaws

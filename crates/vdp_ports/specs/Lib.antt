@@ -2,6 +2,9 @@ pub mod Cases
 pub mod Control
 pub mod Data
 pub mod Dma
+pub mod Numbers
 pub mod Pins
 pub mod Rules
+pub mod Saved
+pub mod Spelling
 pub mod Vdp

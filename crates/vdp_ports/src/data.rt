@@ -10,9 +10,9 @@ use crate::register::INCREMENT;
 use crate::state::VdpState;
 
 /// The bits of a colour: blue 11 to 9, green 7 to 5, red 3 to 1.
-const COLOUR: u16 = 0x0eee;
+pub(crate) const COLOUR: u16 = 0x0eee;
 /// The bits of a vertical scroll.
-const SCROLL: u16 = 0x07ff;
+pub(crate) const SCROLL: u16 = 0x07ff;
 /// How many vertical scrolls there are.
 const SCROLLS: usize = 40;
 

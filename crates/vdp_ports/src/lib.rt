@@ -5,8 +5,11 @@ mod code;
 mod control;
 mod data;
 mod dma;
+mod known;
 mod memory;
 pub mod register;
+mod saved;
+mod spelling;
 mod state;
 
 pub use dma::{COPY, COPY_STEP, FILL, FILL_STEP, NO_DMA};

@@ -1,0 +1,35 @@
+use Rattle.std.proofs.Common.{◌++◌, List, ℕ, ap, ◌∙◌, arith}
+use Rattle.md_fields.specs.Fields.{spelling, sizes}
+use Rattle.md_fields.proofs.Standing.{long_as_sized}
+use Rattle.vdp_ports.specs.Numbers.{VdpNumbers}
+use Rattle.vdp_ports.specs.Saved.{vdp_fields}
+use Rattle.vdp_ports.proofs.SavedLaws.{fields_size, same_bytes}
+use Rattle.vdp_ports.proofs.RuleLaws.{spelled_back}
+use Rattle.vdp_ports.proofs.state.VdpState.spell.Goals as goal
+
+pub put-requires : goal.put-requires
+put-requires c = omega (arith, long_as_sized _ c.fields.ensures.sizes ∙ ap sizes c.fields.ensures.fields ∙ fields_size c.args.at c.of.result, c.requires)
+
+pub returns-clause-bytes : goal.returns-clause-bytes
+returns-clause-bytes c = c.put.ensures.bytes ∙ ap (λ (l : List ℕ). c.args.into.now.items ++ l) (ap spelling c.fields.ensures.fields ∙ same_bytes c.args.at 0 c.of.result ∙ ap (λ (n : VdpNumbers). spelling (vdp_fields 0 n)) c.of.ensures)
+
+pub returns-clause-length : goal.returns-clause-length
+returns-clause-length c = omega (arith, c.put.ensures.length, long_as_sized _ c.fields.ensures.sizes ∙ ap sizes c.fields.ensures.fields ∙ fields_size c.args.at c.of.result)
+
+pub returns-clause-kept : goal.returns-clause-kept
+returns-clause-kept c = λ is. spelled_back c.args.at c.args.self.now (record {
+  sizes = c.known_memories.ensures.sizes;
+  cram = c.known_memories.ensures.cram;
+  vsram = c.known_memories.ensures.vsram;
+  code = c.known_port.ensures.code;
+  a = c.known_port.ensures.a;
+  dma_kind = c.known_dma.ensures.dma_kind;
+  byte = c.known_dma.ensures.byte;
+  source = c.known_dma.ensures.source;
+  address = c.known_dma.ensures.address;
+  left = c.known_dma.ensures.left;
+  next_stamp = c.known_dma.ensures.next_stamp;
+  line_counter = c.known_port.ensures.line_counter;
+  int_from = c.known_interval.ensures.int_from;
+  int_to = c.known_interval.ensures.int_to;
+}) is

@@ -1,0 +1,32 @@
+-- The bytes of a saved state that keep the VDP. This project's profile.
+use Rattle.std.specs.Prelude.{ℕ, ◌<◌, ◌≤◌, List}
+use Rattle.md_fields.specs.Fields.{spelling}
+use Rattle.md_fields.specs.Items.{IsRefused, IsRight, Keeps}
+use Rattle.vdp_ports.specs.Numbers.{numbers_of}
+use Rattle.vdp_ports.specs.Rules.{HasRules}
+use Rattle.vdp_ports.specs.Saved.{vdp_fields}
+use Rattle.vdp_ports.specs.Vdp.{Vdp}
+
+-- how many bytes there are
+abbrev pub vdp_size : ℕ
+vdp_size = 65812
+
+-- the bytes that keep a VDP; the rules, and so the cycle, have no part in them
+abbrev pub vdp_bytes : Vdp → List ℕ
+vdp_bytes s = spelling (vdp_fields 0 (numbers_of s))
+
+-- the bytes of a state at a cycle keep the VDP, whose rules hold
+pub record Spells (at : ℕ) (bytes : List ℕ) (s : Vdp) : Type 0 where
+  pub keeps : Keeps (vdp_fields at) bytes (numbers_of s)
+  pub right : IsRight (vdp_fields at) (numbers_of s)
+
+-- bytes of a state at a cycle that keep no VDP are refused at this place: by their length, or by the
+-- first rule that fails
+abbrev pub GoesWrongAt : ℕ → List ℕ → ℕ → Type 0
+GoesWrongAt at bytes place = IsRefused vdp_size (vdp_fields at) bytes place
+
+-- the values that a state at a cycle may have: those that the ports keep, where what goes on is
+-- settled to it
+pub record IsSettled (at : ℕ) (s : Vdp) : Type 0 where
+  pub rules : HasRules at s
+  pub settled : 0 < s.left → at ≤ s.next_stamp

@@ -1,0 +1,310 @@
+ghost use Rattle.std.specs.Prelude.{◌≡◌, ℕ, length, map, IfErr, IfOk};
+ghost use Rattle.md_fields.specs.Fields.{AreSized, seen};
+ghost use Rattle.md_fields.specs.Items.{IsRefused, IsRight, Keeps};
+ghost use Rattle.md_fields.specs.Places.{Stand};
+ghost use Rattle.vdp_ports.specs.Numbers.{numbers_of, vdp_of};
+ghost use Rattle.vdp_ports.specs.Saved as rules;
+ghost use Rattle.vdp_ports.specs.Saved.{vdp_fields};
+ghost use Rattle.vdp_ports.specs.Spelling.{vdp_size};
+
+use crate::data::{COLOUR, SCROLL};
+use crate::dma::{COPY, FILL, NO_DMA};
+use crate::state::VdpState;
+use md_fields::{Field, first_wrong, u8_at, u16_at, u32_at, u64_at, words_at};
+use md_word::NoMemory;
+use md_word::clock::LINE;
+use std::alloc::Global;
+use std::marker::Model;
+
+/// How many bytes of a saved state keep a VDP.
+const LENGTH: usize = 65_812;
+
+/// Where VRAM and CRAM stand among them.
+const VRAM: usize = 24;
+
+const CRAM: usize = 65_560;
+
+/// How many codes there are.
+const CODES: u8 = 64;
+
+/// How far from the cycle of a saved state the next byte of a fill or copy can be.
+const FILL_FAR: u64 = 16;
+
+const COPY_FAR: u64 = 33;
+
+/// The numbers that a saved state keeps of the VDP, whatever they are, in their order. Cycles are
+/// master cycles.
+#[derive(Drop)]
+pub struct SavedVdp<'a> {
+    registers: &'a [u8],
+    vram: &'a [u8],
+    cram: [u16; 64],
+    vsram: [u16; 40],
+    pending: u8,
+    code: u8,
+    a: u16,
+    armed: u8,
+    dma_kind: u8,
+    byte: u8,
+    source: u16,
+    address: u16,
+    left: u32,
+    next_stamp: u64,
+    vertical: u8,
+    horizontal: u8,
+    overflow: u8,
+    collision: u8,
+    line_counter: u8,
+    int_from: u64,
+    int_to: u64,
+}
+
+impl<'a> Model for SavedVdp<'a> {
+    ghost use Rattle.vdp_ports.specs.Numbers.{VdpNumbers};
+    ghost use Rattle.vdp_ports.specs.Vdp.{IsVdp};
+
+    ghost Value = { VdpNumbers };
+
+    ghost view = { λ s. record {
+      registers = s.registers.now;
+      vram = s.vram.now;
+      cram = s.cram;
+      vsram = s.vsram;
+      pending = s.pending;
+      code = s.code;
+      a = s.a;
+      armed = s.armed;
+      dma_kind = s.dma_kind;
+      byte = s.byte;
+      source = s.source;
+      address = s.address;
+      left = s.left;
+      next_stamp = s.next_stamp;
+      vertical = s.vertical;
+      horizontal = s.horizontal;
+      overflow = s.overflow;
+      collision = s.collision;
+      line_counter = s.line_counter;
+      int_from = s.int_from;
+      int_to = s.int_to;
+    } };
+
+    ghost invariant = { λ s. IsVdp s.registers.now s.vram.now s.cram s.vsram };
+}
+
+impl<'a> SavedVdp<'a> {
+    /// What is kept of a VDP.
+    pub fn of(state: &'a VdpState) -> SavedVdp<'a>
+        ensures { result ≡ numbers_of state.now }
+    {
+        SavedVdp {
+            registers: &state.registers,
+            vram: state.vram.as_slice(),
+            cram: state.cram,
+            vsram: state.vsram,
+            pending: u8::from(state.pending),
+            code: state.code,
+            a: state.a,
+            armed: u8::from(state.armed),
+            dma_kind: state.dma_kind,
+            byte: state.byte,
+            source: state.source,
+            address: state.address,
+            left: state.left,
+            next_stamp: state.next_stamp,
+            vertical: u8::from(state.vertical),
+            horizontal: u8::from(state.horizontal),
+            overflow: u8::from(state.overflow),
+            collision: u8::from(state.collision),
+            line_counter: state.line_counter,
+            int_from: state.int_from,
+            int_to: state.int_to,
+        }
+    }
+
+    /// The numbers that stand in the bytes.
+    #[tactic(auto, unfolding(md_fields::specs::Places::Stand))]
+    fn read(bytes: &'a [u8]) -> SavedVdp<'a>
+        requires { length bytes.now ≡ 65812 }
+        ensures { (at : ℕ) → Stand 0 (vdp_fields at result) bytes.now }
+    {
+        SavedVdp {
+            registers: &bytes[..VRAM],
+            vram: &bytes[VRAM..CRAM],
+            cram: words_at(bytes, CRAM),
+            vsram: words_at(bytes, 65_688),
+            pending: u8_at(bytes, 65_768),
+            code: u8_at(bytes, 65_769),
+            a: u16_at(bytes, 65_770),
+            armed: u8_at(bytes, 65_772),
+            dma_kind: u8_at(bytes, 65_773),
+            byte: u8_at(bytes, 65_774),
+            source: u16_at(bytes, 65_775),
+            address: u16_at(bytes, 65_777),
+            left: u32_at(bytes, 65_779),
+            next_stamp: u64_at(bytes, 65_783),
+            vertical: u8_at(bytes, 65_791),
+            horizontal: u8_at(bytes, 65_792),
+            overflow: u8_at(bytes, 65_793),
+            collision: u8_at(bytes, 65_794),
+            line_counter: u8_at(bytes, 65_795),
+            int_from: u64_at(bytes, 65_796),
+            int_to: u64_at(bytes, 65_804),
+        }
+    }
+
+    /// The fields in their order, and whether their rules hold.
+    #[tactic(auto, unfolding(md_fields::specs::Fields::AreSized))]
+    pub fn fields(&self, at: u64) -> [Field<'_>; 21]
+        ensures fields { map seen result ≡ vdp_fields at self.now }
+        ensures sizes { AreSized (map seen result) }
+    {
+        [
+            Field::Block(self.registers, true),
+            Field::Block(self.vram, true),
+            Field::Words(&self.cram, have_only(COLOUR, &self.cram)),
+            Field::Words(&self.vsram, have_only(SCROLL, &self.vsram)),
+            Field::Byte(self.pending, self.pending <= 1),
+            Field::Byte(self.code, self.code < CODES),
+            Field::Word(self.a, true),
+            Field::Byte(self.armed, self.armed <= 1),
+            Field::Byte(self.dma_kind, self.dma_kind <= COPY),
+            Field::Byte(self.byte, self.dma_kind == FILL || self.byte == 0),
+            Field::Word(self.source, self.dma_kind == COPY || self.source == 0),
+            Field::Word(self.address, self.is_address()),
+            Field::Long(self.left, self.is_left()),
+            Field::Quad(self.next_stamp, self.is_next_stamp(at)),
+            Field::Byte(self.vertical, self.vertical <= 1),
+            Field::Byte(self.horizontal, self.horizontal <= 1),
+            Field::Byte(self.overflow, self.overflow <= 1),
+            Field::Byte(self.collision, self.collision <= 1),
+            Field::Byte(self.line_counter, true),
+            Field::Quad(self.int_from, true),
+            Field::Quad(self.int_to, self.is_interval(at)),
+        ]
+    }
+
+    fn is_address(&self) -> bool
+        ensures { result ≡ rules.is_address self.now }
+    {
+        if self.dma_kind == NO_DMA {
+            self.address == 0
+        } else {
+            true
+        }
+    }
+
+    fn is_left(&self) -> bool
+        ensures { result ≡ rules.is_left self.now }
+    {
+        if self.dma_kind == NO_DMA {
+            self.left == 0
+        } else {
+            1 <= self.left && self.left <= 65_536
+        }
+    }
+
+    fn is_next_stamp(&self, at: u64) -> bool
+        ensures { result ≡ rules.is_next_stamp at self.now }
+    {
+        if self.dma_kind == NO_DMA {
+            return self.next_stamp == 0;
+        }
+        let far = if self.dma_kind == FILL {
+            FILL_FAR
+        } else {
+            COPY_FAR
+        };
+        at <= self.next_stamp && self.next_stamp - at <= far
+    }
+
+    fn is_interval(&self, at: u64) -> bool
+        ensures { result ≡ rules.is_interval at self.now }
+    {
+        (self.int_from == 0 && self.int_to == 0) || self.is_begun(at)
+    }
+
+    /// Whether an interrupt of the Z80 began with a line, and is a line long.
+    fn is_begun(&self, at: u64) -> bool
+        ensures { result ≡ rules.is_begun at self.now }
+    {
+        self.int_from % LINE == 0
+            && self.int_from < at
+            && is_after(self.int_to, self.int_from, LINE)
+    }
+
+    /// The numbers that the bytes keep, where the rules hold of them; else the place of the refusal.
+    pub fn checked(bytes: &'a [u8], at: u64) -> Result<SavedVdp<'a>, usize>
+        ensures found { IfOk result (λ n. Keeps (vdp_fields at) bytes.now n × IsRight (vdp_fields at) n) }
+        ensures refused { IfErr result (λ place. IsRefused vdp_size (vdp_fields at) bytes.now place) }
+    {
+        if bytes.len() != LENGTH {
+            return Err(bytes.len().min(LENGTH));
+        }
+        let saved = SavedVdp::read(bytes);
+        match first_wrong(&saved.fields(at)) {
+            Some(place) => Err(place),
+            None => Ok(saved),
+        }
+    }
+
+    /// The VDP of which these numbers are kept. VRAM is copied.
+    pub fn state(&self, alloc: Global) -> Result<VdpState, NoMemory>
+        ensures { IfOk result (λ state. state ≡ vdp_of self.now) }
+    {
+        let mut vram = Box::new(alloc, [0; 65536])?;
+        vram.copy_from_slice(self.vram);
+        Ok(self.with_vram(vram))
+    }
+
+    fn with_vram(&self, vram: Box<[u8; 65536]>) -> VdpState
+        requires { vram.value ≡ self.now.vram }
+        ensures { result ≡ vdp_of self.now }
+    {
+        VdpState {
+            registers: registers_of(self.registers),
+            vram,
+            cram: self.cram,
+            vsram: self.vsram,
+            pending: self.pending == 1,
+            code: self.code,
+            a: self.a,
+            armed: self.armed == 1,
+            dma_kind: self.dma_kind,
+            byte: self.byte,
+            source: self.source,
+            address: self.address,
+            left: self.left,
+            next_stamp: self.next_stamp,
+            vertical: self.vertical == 1,
+            horizontal: self.horizontal == 1,
+            overflow: self.overflow == 1,
+            collision: self.collision == 1,
+            line_counter: self.line_counter,
+            int_from: self.int_from,
+            int_to: self.int_to,
+        }
+    }
+}
+
+fn have_only(bits: u16, words: &[u16]) -> bool
+    ensures { result ≡ rules.have_only bits words.now }
+{
+    words.iter().all(|word| *word & bits == *word)
+}
+
+fn is_after(later: u64, earlier: u64, distance: u64) -> bool
+    ensures { result ≡ rules.is_after later earlier distance }
+{
+    earlier <= later && later - earlier == distance
+}
+
+/// The registers that stand in 24 bytes.
+fn registers_of(bytes: &[u8]) -> [u8; 24]
+    requires { length bytes.now ≡ 24 }
+    ensures { result ≡ bytes.now }
+{
+    let mut registers = [0; 24];
+    registers.copy_from_slice(bytes);
+    registers
+}

@@ -1,0 +1,45 @@
+ghost use Rattle.std.specs.Prelude.{◌≡◌, ◌≢◌, ◌+◌, ◌≤◌, ◌++◌, ◌↔◌, ℕ, vec_len, vec_capacity, IfOk, IsErrOf, Ok, Err};
+ghost use Rattle.vdp_ports.specs.Spelling.{GoesWrongAt, IsSettled, Spells, vdp_bytes, vdp_size};
+ghost use Rattle.vdp_ports.specs.Vdp.{Vdp};
+
+use crate::known::{known_dma, known_interval, known_memories, known_port};
+use crate::saved::SavedVdp;
+use crate::state::VdpState;
+use md_fields::put;
+use md_word::Unspell;
+use std::alloc::Global;
+
+impl VdpState {
+    /// Appends the bytes of a saved state at a cycle that keep this VDP, 65,812 in all. There is room
+    /// for them. They are read again where fill and copy are settled to the cycle.
+    pub fn spell(&self, at: u64, into: &mut Vec<u8>)
+        requires { vec_len into.old + vdp_size ≤ vec_capacity into.old }
+        ensures bytes { into.new.items ≡ into.old.items ++ vdp_bytes self.now }
+        ensures length { vec_len into.new ≡ vec_len into.old + vdp_size }
+        ensures room { vec_capacity into.old ≤ vec_capacity into.new }
+        ensures kept { IsSettled at self.now → Spells at (vdp_bytes self.now) self.now }
+    {
+        known_memories(self);
+        known_port(self);
+        known_dma(self);
+        known_interval(self);
+        put(&SavedVdp::of(self).fields(at), into);
+    }
+
+    /// The VDP that the bytes of a saved state at a cycle keep. Bytes that are not 65,812 are refused at
+    /// the lesser of the two lengths, others at the place of the first field whose rule fails. Fill and
+    /// copy are to be settled to the cycle. VRAM is copied.
+    pub fn unspell(alloc: Global, bytes: &[u8], at: u64) -> Result<VdpState, Unspell>
+        ensures found { IfOk result (λ s. Spells at bytes.now s) }
+        ensures settled { IfOk result (λ s. IsSettled at s) }
+        ensures only { (s : Vdp) → Spells at bytes.now s → result ≢ Err Unspell.NoMemory → result ≡ Ok s }
+        ensures rule { (place : ℕ) → IsErrOf result (Unspell.Rule place) ↔ GoesWrongAt at bytes.now place }
+    {
+        match SavedVdp::checked(bytes, at) {
+            Ok(saved) => Ok(saved.state(alloc)?),
+            Err(place) => Err(Unspell::Rule {
+                place: place as u64,
+            }),
+        }
+    }
+}
