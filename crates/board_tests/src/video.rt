@@ -179,7 +179,10 @@ fn a_line_shows_the_vdp_of_its_cycle(rt: HostRuntime) -> Result<(), Fail> {
     let mut shared = board(rt.alloc())?;
     filling(&mut shared);
     let view = blank_view(rt.alloc())?;
-    assert_eq!(rt; shown(&mut shared, 3_420, view, 196), [0xab, 0x14, 0x0eee, 0x0123]);
+    assert_eq!(rt;
+        shown(&mut shared, 3_420, view, 196),
+        [0xab, 0x14, 0x0eee, 0x0123]
+    );
     let view = blank_view(rt.alloc())?;
     assert_eq!(rt; shown(&mut shared, 3_420, view, 199)[0], 0);
     let view = blank_view(rt.alloc())?;

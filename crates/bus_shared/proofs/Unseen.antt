@@ -1,7 +1,7 @@
 -- A fill or copy that was settled earlier is seen by nobody.
-use Rattle.std.proofs.Common.{◌≡◌, ◌∙◌, refl, sym, ap, ℕ, zero, suc, ◌+◌, ◌-◌, ◌/◌, ◌%◌, ◌≤◌, ◌==◌, nat_lt, Bool, true, false, if◌then◌else◌, List, length, slice_index, inl, inr, arith}
+use Rattle.std.proofs.Common.{◌≡◌, ◌∙◌, refl, sym, ap, ℕ, zero, suc, ◌/◌, ◌%◌, ◌≤◌, ◌==◌, nat_lt, Bool, true, false, if◌then◌else◌, List, length, slice_index, inl, inr, arith}
 use Rattle.std.proofs.lemmas.Bool.{cases_lt}
-use Rattle.vdp_ports.specs.Vdp.{Vdp, register}
+use Rattle.vdp_ports.specs.Vdp.{Vdp}
 use Rattle.vdp_ports.specs.Control.{acknowledged, controlled, started_by, status_read}
 use Rattle.vdp_ports.specs.Data.{accessed, read, transferred, written}
 use Rattle.vdp_dma.specs.Settling.{advanced, done, due, finished, moved, running, settled, step, vram_after, write}

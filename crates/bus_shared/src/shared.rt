@@ -22,7 +22,9 @@ use crate::fm::is_fm;
 use crate::port::VideoPort;
 use crate::register::Register;
 use crate::request::{Answer, Request};
-use crate::video::{acknowledge, begin_line, half_at, power_on, read_port, show, take_word, write_port};
+use crate::video::{
+    acknowledge, begin_line, half_at, power_on, read_port, show, take_word, write_port,
+};
 use fm_chip::{FmList, FmPort};
 use md_pads::{PadPort, Recording};
 use md_word::clock::{FRAME, LINE};

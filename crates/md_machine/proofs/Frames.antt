@@ -1,21 +1,19 @@
 -- The frame that the drawing half keeps is that of the record's run: over a segment there is one at most.
 use Rattle.std.proofs.Common.{◌≡◌, ◌⊎◌, ℕ, zero, suc, ◌+◌, ◌<◌, ◌≤◌, ◌==◌, ◌%◌, cond, Bool, true, false, List, [], ◌∷◌, ◌++◌, refl, sym, ap, ◌∙◌, arith, subst, lit<, inl, inr, Option, Some, None, length}
-use Rattle.std.proofs.lemmas.Bool.{cases_Bool}
 use Rattle.std.proofs.lemmas.Bool.Decides.{nat_tests}
 use Rattle.std.proofs.lemmas.List.{append-nil}
-use Rattle.md_word.specs.declared.key.Key.{Key}
 use Rattle.chip_core.specs.Machines as machines
 use Rattle.chip_core.specs.Machines.{AllBelow, IsSound, Machine, is_sample, key_of, move, put, run}
 use Rattle.vdp_time.specs.Lines.{line_of}
 use Rattle.vdp_planes.specs.View.{view_of}
 use Rattle.vdp_planes.specs.declared.view.LineView.{LineView}
-use Rattle.vdp_chip.specs.Drawing.{Drawing, line_drawn, next_of, picture_after}
+use Rattle.vdp_chip.specs.Drawing.{Drawing, line_drawn, picture_after}
 use Rattle.vdp_chip.specs.Picture.{finished, height}
 use Rattle.bus_shared.specs.Accesses.{line_board}
 use Rattle.bus_shared.specs.Board.{Board, IsBoard}
-use Rattle.md_machine.specs.Console.{Console, line_done, media, mover, ran, rendered}
+use Rattle.md_machine.specs.Console.{Console, media, mover, ran, rendered}
 use Rattle.md_machine.specs.LineLaws.{told-drawn}
-use Rattle.md_machine.specs.Lines.{drawn_from, frames_of, told_view}
+use Rattle.md_machine.specs.Lines.{drawn_from, frames_of}
 use Rattle.md_machine.specs.Media.{Media}
 use Rattle.md_machine.specs.Parts.{DrawValue, IsDraw}
 use Rattle.md_machine.specs.Refinement.{console, draw_of}

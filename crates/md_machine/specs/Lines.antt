@@ -1,6 +1,6 @@
 -- The event of a line, as the drawing half of the VDP makes it from what the board shows. Genesis
 -- Technical Overview, the display and sprites; the places of the events are this project's profile.
-use Rattle.std.specs.Prelude.{ℕ, nat_lt, Bool, true, false, if◌then◌else◌, List, [], ◌∷◌, map, Option, Some, None}
+use Rattle.std.specs.Prelude.{ℕ, nat_lt, false, if◌then◌else◌, List, [], ◌∷◌, map, Option, Some, None}
 use Rattle.std.specs.List.{range_with_len}
 use Rattle.vdp_time.specs.Lines.{line_of}
 use Rattle.vdp_planes.specs.declared.view.Dot.{Dot}

@@ -1,5 +1,5 @@
 ghost use Rattle.std.specs.Prelude.{◌≡◌, ℕ, ◌^◌, ◌<◌, IfOk, IsSome, None, is_some, not, option_copied};
-ghost use Rattle.vdp_chip.specs.Drawing.{Drawing, at_power_on, next_of};
+ghost use Rattle.vdp_chip.specs.Drawing.{at_power_on, next_of};
 ghost use Rattle.vdp_chip.specs.Picture.{height};
 ghost use Rattle.vdp_planes.specs.View.{AllColours, dot_at, seen};
 ghost use Rattle.vdp_sprites.specs.Sprites.{sprite_dot};

@@ -117,7 +117,9 @@ fn run_given<'a>(
         (option_copied recording.entry) (option_copied frames.entry) (option_copied sound.entry) (option_copied journal.entry) (option_copied workers.entry) }
 {
     match (rom, count) {
-        (Some(rom), Some(count)) => run_from(rom, count, recording, frames, sound, journal, workers),
+        (Some(rom), Some(count)) => run_from(
+            rom, count, recording, frames, sound, journal, workers,
+        ),
         _ => None,
     }
 }

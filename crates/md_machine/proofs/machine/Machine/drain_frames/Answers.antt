@@ -1,5 +1,5 @@
-use Rattle.std.proofs.Common.{◌≡◌, ap, ◌∙◌, arith, sym, subst, ℕ, List, Option, length, ◌≤◌, ◌*◌, ◌+◌, ◌++◌}
-use Rattle.std.specs.Prelude.{option_copied, vec_len, vec_capacity}
+use Rattle.std.proofs.Common.{ap, ◌∙◌, arith, sym, subst, ℕ, List, length, ◌≤◌, ◌*◌, ◌+◌, ◌++◌}
+use Rattle.std.specs.Prelude.{vec_len, vec_capacity}
 use Rattle.std.proofs.lemmas.List.{get_or_read}
 use Rattle.md_machine.specs.Drained.{frame_of}
 use Rattle.md_machine.specs.Lines.{frames_of}
