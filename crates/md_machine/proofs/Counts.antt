@@ -7,7 +7,7 @@ use Rattle.m68k_chip.specs.States.{next_of}
 use Rattle.z80_chip.specs.States.{next_of as sub_next_of}
 use Rattle.md_pads.specs.Recording.{Frame}
 use Rattle.bus_shared.specs.Accesses.{main_told}
-use Rattle.md_machine.specs.Console.{AllBelow, Console, IsQuiet, IsRunTo, fm_moved, rendered, journal, key_in, main_moved, moved, sub_accessed, sub_moved, mover, power_on, psg_moved, ran, media, told}
+use Rattle.md_machine.specs.Console.{AllBelow, Console, IsQuiet, IsRunTo, fm_moved, rendered, journal, key_in, line_moved, main_moved, moved, sub_accessed, sub_moved, mover, power_on, psg_moved, ran, media, told}
 use Rattle.md_machine.specs.Media.{Media, joined, no_media}
 use Rattle.md_machine.specs.Movers.{mover-lt}
 use Rattle.md_machine.proofs.Moves.{five-each}
@@ -36,7 +36,7 @@ main-leaves true x y c first second = first
 main-leaves false x y c first second = second
 
 fm-batch : (z : Console) (i : ℕ) → i < 5 → Batch (λ s. s.sides) (λ m. m.fm_cycle) z i
-unfolding key_in moved rendered main_moved sub_moved fm_moved psg_moved
+unfolding key_in moved rendered main_moved sub_moved line_moved fm_moved psg_moved
 fm-batch z =
     five-each (λ i. Batch (λ s. s.sides) (λ m. m.fm_cycle) z i)
     (none (fm-leaves (next_of z.main).sample _ _ z.fm_cycle refl refl) refl)
@@ -44,7 +44,7 @@ fm-batch z =
     (none refl refl) (made refl refl (sides-long z 3 (lit< tt))) (none refl refl)
 
 psg-batch : (z : Console) (i : ℕ) → i < 5 → Batch (λ s. s.levels) (λ m. m.psg_cycle) z i
-unfolding key_in moved rendered main_moved sub_moved fm_moved psg_moved
+unfolding key_in moved rendered main_moved sub_moved line_moved fm_moved psg_moved
 psg-batch z =
     five-each (λ i. Batch (λ s. s.levels) (λ m. m.psg_cycle) z i)
     (none (main-leaves (next_of z.main).sample _ _ z.psg_cycle refl refl) refl)

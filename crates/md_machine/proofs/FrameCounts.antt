@@ -45,7 +45,7 @@ one-more true lines is =
     let same : 3420 * lines / 3420 ≡ lines = omega arith in
     omega (arith, subst (λ (n : ℕ). n % 262 ≡ 224) same at)
 one-more false lines is =
-    let other : 3420 * lines / 3420 % 262 ≡ 224 → ⊥ = λ e. absurd (grind (arith, nat_tests, e)) in
+    let other : 3420 * lines / 3420 % 262 ≡ 224 → ⊥ = λ e. grind (arith, nat_tests, e) in
     let same : 3420 * lines / 3420 ≡ lines = omega arith in
     omega (arith, subst (λ (n : ℕ). n % 262 ≡ 224 → ⊥) same other)
 

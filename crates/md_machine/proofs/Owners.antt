@@ -42,7 +42,7 @@ use Rattle.z80_exec.specs.Sample.Bounds.{IsAccess}
 use Rattle.z80_exec.specs.Sample.Samples.{Ended}
 use Rattle.z80_parcel.specs.Parcels.{Store, written}
 use Rattle.z80_parcel.specs.Requests.{Asked, ReadByte, WriteByte, HandOver, TakeBack, Told, store_in}
-use Rattle.md_machine.specs.Console.{Console, fm_moved, main_moved, moved, mover, power_on, psg_moved, ran, sub_accessed, sub_moved}
+use Rattle.md_machine.specs.Console.{Console, fm_moved, line_moved, main_moved, moved, mover, power_on, psg_moved, ran, sub_accessed, sub_moved}
 use Rattle.md_machine.specs.Movers.{mover-lt}
 use Rattle.md_machine.specs.Owners.{HasOneOwner}
 use Rattle.md_machine.specs.Refinement.{console, sub_of}
@@ -344,11 +344,15 @@ psg-owns : (z : Console) → Owns z.sub.state z.shared → Owns (psg_moved z).su
 unfolding psg_moved psg_board
 psg-owns z owns = as-before z.sub.state z.shared _ refl owns
 
+line-owns : (z : Console) → Owns z.sub.state z.shared → Owns (line_moved z).sub.state (line_moved z).shared
+unfolding line_moved
+line-owns z owns = as-before z.sub.state z.shared _ (line-has z.shared z.line z.note) owns
+
 move-owns : (z : Console) → IsChip80 z.sub → Owns z.sub.state z.shared → (i : ℕ) → i < 5 → Owns (moved z i).sub.state (moved z i).shared
 unfolding moved
 move-owns z ok owns =
     five-each (λ i. Owns (moved z i).sub.state (moved z i).shared) (main-owns z owns) (sub-owns z ok owns)
-    (as-before z.sub.state z.shared _ (line-has z.shared z.line z.note) owns) (fm-owns z owns) (psg-owns z owns)
+    (line-owns z owns) (fm-owns z owns) (psg-owns z owns)
 
 -- the Z80 of a sound machine is sound
 sub-sound : (m : Machine Chip Board) → IsSound five IsChip IsBoard m → IsChip80 (console m).sub

@@ -65,14 +65,14 @@ move_key-same m k sound movers =
 pub segment-run : (m w : Machine Chip Board) (from to : ℕ) (entered : List Entry) → machines.IsRunTo five m to w entered
     → ((n : ℕ) → AllBelow five m to n → IsSound five IsChip IsBoard (run five m n)) → Movers → IsSound five IsChip IsBoard w
     → ((n : ℕ) → AllBelow five m to n → made five m 3 n ≤ 56) → ((n : ℕ) → AllBelow five m to n → made five m 4 n ≤ 56) → kept_in m ≡ no_media
-    → machines.IsQuiet five m from → to ≤ from + 896040 → consoles.IsRunTo (console m) to (console w) entered (kept_in w)
+    → IsSound five IsChip IsBoard m → machines.IsQuiet five m from → to ≤ from + 896040 → consoles.IsRunTo (console m) to (console w) entered (kept_in w)
 unfolding fm_part psg_part
-segment-run m w from to entered runs sound movers sound-w few_fm few none quiet near =
+segment-run m w from to entered runs sound movers sound-w few_fm few none here quiet near =
     let earlier : (k : ℕ) → k ≤ runs.moves → AllBelow five m to k = λ k within. record { each = λ j below. runs.below.each j (omega arith) } in
     let stages : SoundTo m runs.moves = λ k below. sound k (earlier k (omega arith)) in
     let sides : KeepsAll fm_part m runs.moves = samples-kept fm_part m runs.moves stages movers (ap (λ (s : Media). s.sides) none) (few_fm runs.moves runs.below) in
     let levels : KeepsAll psg_part m runs.moves = samples-kept psg_part m runs.moves stages movers (ap (λ (s : Media). s.levels) none) (few runs.moves runs.below) in
-    let frames = frames-kept m from to runs.moves stages (sound 0 (earlier 0 (omega arith))) movers (ap (λ (s : Media). s.frames) none) quiet near runs.below in
+    let frames = frames-kept m from to runs.moves stages here movers (ap (λ (s : Media). s.frames) none) quiet near runs.below in
     record {
       moves = runs.moves;
       below = λ k below. subst (λ (key : Key). key.cycle < to) (move_key-same m k (λ j within. stages j (omega arith)) movers) (runs.below.each k below);

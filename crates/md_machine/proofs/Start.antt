@@ -8,6 +8,7 @@ use Rattle.rom_header.specs.Cartridge.{IsImage}
 use Rattle.chip_core.specs.Cores.{IsCore, machine_of, no_key}
 use Rattle.m68k_chip.specs.States as states
 use Rattle.m68k_chip.specs.States.{next_of}
+use Rattle.vdp_chip.proofs.Lined.{drawing_begun}
 use Rattle.z80_chip.proofs.Laws as laws80
 use Rattle.z80_chip.specs.States as states80
 use Rattle.z80_chip.specs.States.{next_of as sub_next_of}
@@ -38,7 +39,8 @@ first-core cart recording room image = record {
     under = five-each (λ i. key_lt (next (slice_index_or (first_chips cart) i five.blank)).key (slice_index_or first_bounds i no_key) ≡ false) refl refl refl refl refl;
   };
   shared = keeps.power_on-ok recording;
-  chip = five-each (λ i. IsChip (slice_index_or (first_chips cart) i five.blank)) (power_on-ok cart image) (laws80.power_on-ok cart image) tt
+  chip = five-each (λ i. IsChip (slice_index_or (first_chips cart) i five.blank)) (power_on-ok cart image) (laws80.power_on-ok cart image)
+      (record { chip = drawing_begun; view = refl })
       (record { taken = lit≤ tt; samples = lit≤ tt })
       (record { synth = IsSynth-at_power_on; taken = lit≤ tt; samples = lit≤ tt });
 }

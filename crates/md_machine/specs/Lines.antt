@@ -1,6 +1,6 @@
 -- The event of a line, as the drawing half of the VDP makes it from what the board shows. Genesis
 -- Technical Overview, the display and sprites; the places of the events are this project's profile.
-use Rattle.std.specs.Prelude.{ℕ, nat_lt, false, if◌then◌else◌, List, [], ◌∷◌, map, Option, Some, None}
+use Rattle.std.specs.Prelude.{ℕ, nat_lt, true, false, if◌then◌else◌, List, [], ◌∷◌, map, Option, Some, None}
 use Rattle.std.specs.List.{range_with_len}
 use Rattle.vdp_time.specs.Lines.{line_of}
 use Rattle.vdp_planes.specs.declared.view.Dot.{Dot}
@@ -31,6 +31,10 @@ untold = record { registers = []; vram = []; cram = []; vsram = [] }
 -- what is told of the view that the board fills at a cycle: behind the picture it fills none
 unfoldable pub told_view : ℕ → LineView → LineView
 told_view cycle view = if nat_lt (line_of cycle) height then view else untold
+
+-- a drawing half of which nothing is told
+abbrev pub no_drawing : Drawing
+no_drawing = record { next = 0; note = record { overflow = false; collision = false }; has_view = true; picture = []; frame = None }
 
 -- the frame that is kept, as a list
 abbrev pub frames_of : Option (List ℕ) → List (List ℕ)

@@ -3,10 +3,10 @@ use Rattle.std.specs.Prelude.{[], None}
 use Rattle.chip_core.specs.Machines.{Machine}
 use Rattle.m68k_chip.specs.States as states
 use Rattle.z80_chip.specs.States as states80
-use Rattle.vdp_chip.specs.Drawing as drawings
 use Rattle.fm_chip.specs.Synth as fm_synths
 use Rattle.psg_sound.specs.Synth.{at_power_on}
 use Rattle.md_machine.specs.Console.{Console}
+use Rattle.md_machine.specs.Lines.{no_drawing}
 use Rattle.bus_shared.specs.Board.{Board}
 use Rattle.md_machine.specs.Parts.{DrawValue, FmValue, PsgValue, SubValue}
 use Rattle.md_machine.specs.declared.main_chip.MainChip.{MainChip}
@@ -36,7 +36,7 @@ psg_of _ = record { synth = at_power_on; cycle = 0; taken = []; samples = [] }
 -- the drawing half of the VDP of a chip; where it is another, any
 abbrev pub draw_of : Chip → DrawValue
 draw_of (Line c) = c
-draw_of _ = record { chip = drawings.at_power_on; view = None }
+draw_of _ = record { chip = no_drawing; view = None }
 
 -- the record of five chips and a board: the answers that the processors keep, the view, the writes that
 -- the sound chips took, and the frame and the samples that are kept are left out

@@ -1,5 +1,5 @@
 -- What each chip of the set does, put into the scheduler's form.
-use Rattle.std.specs.Prelude.{ℕ, ◌+◌, ◌-◌, ◌*◌, ◌/◌, ◌==◌, nat_le, Bool, false, ◌||◌, if◌then◌else◌, List, ◌++◌, length, Option, Some, None}
+use Rattle.std.specs.Prelude.{ℕ, ◌+◌, ◌-◌, ◌*◌, ◌/◌, ◌==◌, nat_le, Bool, true, false, ◌||◌, if◌then◌else◌, List, ◌++◌, length, Option, Some, None}
 use Rattle.md_word.specs.declared.event.Next.{Next}
 use Rattle.md_word.specs.declared.main_bus.Answer68.{Answer68}
 use Rattle.md_word.specs.declared.pins.Pins80.{Pins80}
@@ -23,9 +23,8 @@ use Rattle.bus_shared.specs.Board.{Board}
 use Rattle.md_machine.specs.Parts.{DrawValue, FmValue, IsDraw, IsFm, IsMain, IsPsg, IsSub, PsgValue, SubValue}
 use Rattle.vdp_planes.specs.declared.view.LineView.{LineView}
 use Rattle.vdp_planes.specs.View.{view_of}
-use Rattle.vdp_chip.specs.Drawing.{at_power_on}
 use Rattle.vdp_chip.specs.Drawing as drawings
-use Rattle.md_machine.specs.Lines.{drawn_from, told_view, untold}
+use Rattle.md_machine.specs.Lines.{drawn_from, no_drawing, told_view, untold}
 use Rattle.md_machine.specs.declared.main_chip.MainChip.{MainChip}
 use Rattle.md_machine.specs.declared.chips.Chip.{Chip}
 use Rattle.md_machine.specs.declared.chips.Chip.TheVariants.{Main, Sub, Line, Fm, Psg}
@@ -207,7 +206,7 @@ five = record {
   sample = sample;
   writes = writes;
   gap = gap;
-  blank = Line (record { chip = at_power_on; view = None });
+  blank = Line (record { chip = no_drawing; view = None });
 }
 
 -- the chips and the board that the code can have

@@ -1,6 +1,6 @@
-ghost use Rattle.std.specs.Prelude.{◌≡◌, ℕ, ◌^◌, ◌<◌, IfOk, IsSome, None, is_some, not, option_copied};
+ghost use Rattle.std.specs.Prelude.{◌≡◌, ℕ, ◌^◌, ◌<◌, IfOk, IsSome, None, true, false, is_some, not, option_copied, IfSome, length};
 ghost use Rattle.vdp_chip.specs.Drawing.{at_power_on, next_of};
-ghost use Rattle.vdp_chip.specs.Picture.{height};
+ghost use Rattle.vdp_chip.specs.Picture.{height, picture_length};
 ghost use Rattle.vdp_planes.specs.View.{AllColours, dot_at, seen};
 ghost use Rattle.vdp_sprites.specs.Sprites.{sprite_dot};
 ghost use Rattle.md_machine.specs.Lines as lines;
@@ -33,15 +33,15 @@ pub struct DrawChip {
 }
 
 impl Model for DrawChip {
-    ghost use Rattle.std.specs.Prelude.{option_map};
+    ghost use Rattle.std.specs.Prelude.{◌≡◌, is_some, not, option_map};
     ghost use Rattle.md_machine.specs.Lines.{told_view};
-    ghost use Rattle.md_machine.specs.Parts.{DrawValue, IsDraw};
+    ghost use Rattle.md_machine.specs.Parts.{DrawValue};
 
     ghost Value = { DrawValue };
 
     ghost view = { λ c. record { chip = c.chip; view = option_map (λ v. told_view c.chip.next v.value) c.view } };
 
-    ghost invariant = { λ c. IsDraw (record { chip = c.chip; view = option_map (λ v. told_view c.chip.next v.value) c.view }) };
+    ghost invariant = { λ c. c.chip.has_view ≡ not (is_some c.view) };
 }
 
 impl DrawChip {
@@ -51,11 +51,13 @@ impl DrawChip {
     pub(crate) fn power_on(alloc: Global) -> Result<DrawChip, NoMemory>
         ensures { IfOk result (λ chip. chip ≡ record { chip = at_power_on; view = None }) }
     {
-        let chip = ChipVdp::power_on(alloc)?;
-        chip.next();
-        Ok(DrawChip { chip, view: None })
+        Ok(DrawChip {
+            chip: ChipVdp::power_on(alloc)?,
+            view: None,
+        })
     }
 
+    #[tactic(auto, using(crate::specs::LineLaws::is_drawn))]
     pub(crate) fn next(&self) -> Next
         ensures value { result ≡ next_of self.now.chip }
         ensures draw { IsDraw self.now }
@@ -64,7 +66,7 @@ impl DrawChip {
     }
 
     /// The part of a line's event that needs the board: the view is filled.
-    #[tactic(auto, unfolding(bus_shared::specs::Accesses::carried))]
+    #[tactic(auto, using(crate::specs::LineLaws::told_filled), unfolding(bus_shared::specs::Accesses::carried))]
     pub(crate) fn perform(&mut self, shared: &mut Shared) -> Entry
         requires { self.old.chip.next < 2 ^ 50 }
         ensures chip { self.new ≡ (rules.draw_perform self.old shared.old).chip }
@@ -84,42 +86,37 @@ impl DrawChip {
         requires cycle { self.old.chip.next < 2 ^ 50 }
         ensures { self.new ≡ rules.draw_advance self.old }
     {
-        let line = line_of(self.chip.next().key.cycle);
         if let Some(view) = self.view.take() {
-            let mut dots = [CLEAR; 320];
-            let note = draw_line_sprites(&view.scene(), line, &mut dots);
-            self.chip.answer_with(view, &dots, note);
+            draw_lent(&mut self.chip, view);
         }
     }
 
-    /// Whether the view is here, and not filled between the two halves of an access.
-    pub(crate) fn has_view(&self) -> bool
-        ensures { result ≡ self.now.chip.has_view }
-    {
-        self.chip.has_view()
-    }
-
-    /// Both halves of a line's event in one: the line is drawn straight from the board.
-    pub(crate) fn draw(&mut self, shared: &mut Shared) -> Entry
-        requires view { self.old.chip.has_view ≡ true }
-        requires cycle { self.old.chip.next < 2 ^ 50 }
+    /// Both halves of a line's event. Where the view is here, the line is drawn straight from the board.
+    pub(crate) fn access(&mut self, shared: &mut Shared) -> Entry
+        requires { self.old.chip.next < 2 ^ 50 }
         ensures chip { self.new ≡ rules.draw_advance (rules.draw_perform self.old shared.old).chip }
         ensures shared { shared.new ≡ (rules.draw_perform self.old shared.old).shared }
         ensures entry { result ≡ (rules.draw_perform self.old shared.old).entry }
     {
-        let key = self.chip.next().key;
-        let entry = start_line(shared, key, self.chip.note());
-        let scene = shared.scene();
-        let mut dots = [CLEAR; 320];
-        let note = draw_line_sprites(&scene, line_of(key.cycle), &mut dots);
-        self.chip.draw_line(&scene, &dots, note);
-        entry
+        match &self.view {
+            Some(_) => {
+                let entry = self.perform(shared);
+                self.advance();
+                entry
+            }
+            None => {
+                let key = self.chip.next().key;
+                let entry = start_line(shared, key, self.chip.note());
+                draw_straight(&mut self.chip, &shared.scene());
+                entry
+            }
+        }
     }
 
     /// The frame that was finished last and not dropped.
     pub(crate) fn frame(&self) -> Option<&[u8]>
         ensures value { option_copied result ≡ self.now.chip.frame }
-        ensures draw { IsDraw self.now }
+        ensures size { IfSome self.now.chip.frame (λ picture. length picture ≡ picture_length) }
     {
         self.chip.next();
         self.chip.frame()
@@ -145,6 +142,32 @@ fn lent_view(chip: &mut ChipVdp, view: &mut Option<Box<LineView>>) -> (Box<LineV
         Some(view) => (view, chip.note()),
         None => chip.request(),
     }
+}
+
+/// Draws the next line from the view, which comes back with it.
+#[tactic(auto, using(crate::specs::LineLaws::lent_drawn))]
+fn draw_lent(chip: &mut ChipVdp, view: Box<LineView>)
+    requires view { chip.old.has_view ≡ false }
+    requires cycle { chip.old.next < 2 ^ 50 }
+    ensures { chip.new ≡ record (lines.drawn_from (lines.told_view chip.old.next view.value) chip.old) { has_view = true } }
+{
+    let mut dots = [CLEAR; 320];
+    let line = line_of(chip.next().key.cycle);
+    let note = draw_line_sprites(&view.scene(), line, &mut dots);
+    chip.answer_with(view, &dots, note);
+}
+
+/// Draws the next line straight from a scene: the view stays where it is.
+#[tactic(auto, using(crate::specs::LineLaws::straight_drawn))]
+fn draw_straight(chip: &mut ChipVdp, scene: &Scene)
+    requires view { chip.old.has_view ≡ true }
+    requires cycle { chip.old.next < 2 ^ 50 }
+    ensures { chip.new ≡ record (lines.drawn_from (lines.told_view chip.old.next (seen scene.now)) (record chip.old { has_view = false })) { has_view = true } }
+{
+    let mut dots = [CLEAR; 320];
+    let line = line_of(chip.next().key.cycle);
+    let note = draw_line_sprites(scene, line, &mut dots);
+    chip.draw_line(scene, &dots, note);
 }
 
 /// Draws the sprites of a line of the picture over clear dots: what they set. Behind the picture nothing

@@ -66,13 +66,11 @@ impl ChipSet for MdChips {
         }
     }
 
-    /// A line is drawn straight from the board, and the view is not filled.
+    /// A line is drawn straight from the board, and no view is filled.
     #[tactic(auto, unfolding(m68k_chip::specs::States::next_of, z80_chip::specs::States::next_of))]
     fn access(chip: &mut Chip, shared: &mut Shared) -> Entry {
         if let Chip::Line(draw) = chip {
-            if draw.has_view() {
-                return draw.draw(shared);
-            }
+            return draw.access(shared);
         }
         let entry = Self::perform(chip, shared);
         Self::advance(chip);

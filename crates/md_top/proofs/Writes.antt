@@ -257,7 +257,7 @@ adds-no_journal run files piece is first held holds =
 
 -- PIECES BEHIND PIECES
 
-pub lengthened-assoc : (held more rest : Pieces) → lengthened (lengthened held more) rest ≡ lengthened held (lengthened more rest)
+lengthened-assoc : (held more rest : Pieces) → lengthened (lengthened held more) rest ≡ lengthened held (lengthened more rest)
 lengthened-assoc held more rest = λ i. record {
   frames = append_assoc held.frames more.frames rest.frames i;
   sound = append_assoc held.sound more.sound rest.sound i;
@@ -265,19 +265,60 @@ lengthened-assoc held more rest = λ i. record {
 }
 
 -- a second piece behind one that was appended
-pub adds-on : (run : Run) (old mid new : Files) (more rest : Pieces) → Adds run old mid more → Adds run mid new rest → Adds run old new (lengthened more rest)
+adds-on : (run : Run) (old mid new : Files) (more rest : Pieces) → Adds run old mid more → Adds run mid new rest → Adds run old new (lengthened more rest)
 adds-on run old mid new more rest one two first held holds =
     subst (Holds run first new) (lengthened-assoc held more rest) (two first (lengthened held more) (one first held holds))
 
-pub parts-on : (run : Run) (old mid new : Files) (more rest : Pieces) → Adds run old mid more → AddsParts run mid new rest → AddsParts run old new (lengthened more rest)
+parts-on : (run : Run) (old mid new : Files) (more rest : Pieces) → Adds run old mid more → AddsParts run mid new rest → AddsParts run old new (lengthened more rest)
 parts-on run old mid new more rest one two first held holds =
     subst (LeavesParts run first new) (lengthened-assoc held more rest) (two first (lengthened held more) (one first held holds))
 
-pub front-longer : (more rest : Pieces) → AreFront more (lengthened more rest)
+front-longer : (more rest : Pieces) → AreFront more (lengthened more rest)
 front-longer more rest = record { frames = prefix-more more.frames rest.frames; sound = prefix-more more.sound rest.sound; journal = prefix-more more.journal rest.journal }
 
 -- no second piece behind a part of one
-pub parts-stop : (run : Run) (old new : Files) (more rest : Pieces) → AddsParts run old new more → AddsParts run old new (lengthened more rest)
+parts-stop : (run : Run) (old new : Files) (more rest : Pieces) → AddsParts run old new more → AddsParts run old new (lengthened more rest)
 parts-stop run old new more rest one first held holds =
     subst (LeavesParts run first new) (lengthened-assoc held more rest)
     (parts-longer run first new (lengthened held more) (lengthened (lengthened held more) rest) (one first held holds) (front-longer (lengthened held more) rest))
+
+-- the pieces of a segment
+sound-and-journal : (sound journal : List ℕ) → lengthened (record nothing { sound = sound }) (record nothing { journal = journal }) ≡ record nothing { sound = sound; journal = journal }
+sound-and-journal sound journal = λ i. record { frames = []; sound = append-nil sound i; journal = journal }
+
+frames-and-records : (frames sound journal : List ℕ)
+    → lengthened (record nothing { frames = frames }) (record nothing { sound = sound; journal = journal }) ≡ record { frames = frames; sound = sound; journal = journal }
+frames-and-records frames sound journal = λ i. record { frames = append-nil frames i; sound = sound; journal = journal }
+
+pub adds-records : (run : Run) (old mid new : Files) (sound journal : List ℕ) → Adds run old mid (record nothing { sound = sound })
+    → Adds run mid new (record nothing { journal = journal }) → Adds run old new (record nothing { sound = sound; journal = journal })
+adds-records run old mid new sound journal one two =
+    subst (Adds run old new) (sound-and-journal sound journal) (adds-on run old mid new (record nothing { sound = sound }) (record nothing { journal = journal }) one two)
+
+pub parts-records : (run : Run) (old mid new : Files) (sound journal : List ℕ) → Adds run old mid (record nothing { sound = sound })
+    → AddsParts run mid new (record nothing { journal = journal }) → AddsParts run old new (record nothing { sound = sound; journal = journal })
+parts-records run old mid new sound journal one two =
+    subst (AddsParts run old new) (sound-and-journal sound journal) (parts-on run old mid new (record nothing { sound = sound }) (record nothing { journal = journal }) one two)
+
+pub stop-records : (run : Run) (old new : Files) (sound journal : List ℕ) → AddsParts run old new (record nothing { sound = sound })
+    → AddsParts run old new (record nothing { sound = sound; journal = journal })
+stop-records run old new sound journal one =
+    subst (AddsParts run old new) (sound-and-journal sound journal) (parts-stop run old new (record nothing { sound = sound }) (record nothing { journal = journal }) one)
+
+pub adds-all : (run : Run) (old mid new : Files) (frames sound journal : List ℕ) → Adds run old mid (record nothing { frames = frames })
+    → Adds run mid new (record nothing { sound = sound; journal = journal }) → Adds run old new (record { frames = frames; sound = sound; journal = journal })
+adds-all run old mid new frames sound journal one two =
+    subst (Adds run old new) (frames-and-records frames sound journal)
+    (adds-on run old mid new (record nothing { frames = frames }) (record nothing { sound = sound; journal = journal }) one two)
+
+pub parts-all : (run : Run) (old mid new : Files) (frames sound journal : List ℕ) → Adds run old mid (record nothing { frames = frames })
+    → AddsParts run mid new (record nothing { sound = sound; journal = journal }) → AddsParts run old new (record { frames = frames; sound = sound; journal = journal })
+parts-all run old mid new frames sound journal one two =
+    subst (AddsParts run old new) (frames-and-records frames sound journal)
+    (parts-on run old mid new (record nothing { frames = frames }) (record nothing { sound = sound; journal = journal }) one two)
+
+pub stop-all : (run : Run) (old new : Files) (frames sound journal : List ℕ) → AddsParts run old new (record nothing { frames = frames })
+    → AddsParts run old new (record { frames = frames; sound = sound; journal = journal })
+stop-all run old new frames sound journal one =
+    subst (AddsParts run old new) (frames-and-records frames sound journal)
+    (parts-stop run old new (record nothing { frames = frames }) (record nothing { sound = sound; journal = journal }) one)

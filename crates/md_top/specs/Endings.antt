@@ -1,6 +1,6 @@
 -- What a command line can come to: its status, what is put, why it comes, and what the files hold
 -- then.
-use Rattle.std.specs.Prelude.{◌≡◌, ℕ, ◌-◌, ◌*◌, ◌/◌, ◌<◌, ◌≤◌, ◌==◌, nat_lt, if◌then◌else◌, List, [], ◌++◌, length, codes, decimal, Option, Some, None, unwrap_or}
+use Rattle.std.specs.Prelude.{◌≡◌, ℕ, ◌+◌, ◌-◌, ◌*◌, ◌/◌, ◌%◌, ◌<◌, ◌≤◌, ◌==◌, nat_lt, if◌then◌else◌, List, [], ◌++◌, length, codes, decimal, Option, Some, None, unwrap_or}
 use Rattle.rom_header.specs.Cartridge.{fault_of}
 use Rattle.rom_header.specs.Header.{header_lines}
 use Rattle.rom_header.specs.declared.cart.CartFault.{CartFault}
@@ -34,10 +34,9 @@ status_of TooFar = 11
 status_of TooLong = 14
 status_of RecordingTooLong = 14
 
--- the frames of a run: one is finished at the start of line 224 of each frame, at cycle 766080 and each
--- 896040 cycles later
+-- the frames that a run finishes: one in each 896040 cycles, and one more behind the start of line 224
 abbrev pub count_of_frames : ℕ → ℕ
-count_of_frames cycles = (cycles + (896040 - 766080 - 1)) / 896040
+count_of_frames cycles = cycles / 896040 + (if nat_lt 766080 (cycles % 896040) then 1 else 0)
 
 -- the pairs of a run: 16 for each multiple of 16128 from 16128 on that lies below its end
 abbrev pub pairs_of : ℕ → ℕ

@@ -15,5 +15,6 @@ mod run_on;
 mod segment;
 mod text;
 mod top;
+mod workers;
 
 pub use top::{drive, drive_one};

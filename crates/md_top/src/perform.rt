@@ -7,6 +7,7 @@ use crate::reading::{read_cart, read_inputs};
 use crate::run_on::write_all;
 use crate::segment::power_on;
 use crate::text::Text;
+use crate::workers::Workers;
 use md_outer::Depot;
 use md_word::NoMemory;
 use md_words::{CommandWords, RunWords};
@@ -16,13 +17,18 @@ use std::alloc::Global;
 const LAST_CYCLE: u64 = 549_755_813_888;
 
 /// Does what the words ask for, up to what is to be put.
-pub(crate) fn perform<D: Depot>(alloc: Global, command: &CommandWords<'_>, depot: &mut D) -> Ending
+pub(crate) fn perform<W: Workers, D: Depot>(
+    alloc: Global,
+    workers: &W,
+    command: &CommandWords<'_>,
+    depot: &mut D,
+) -> Ending
     ensures cause { HasCause D.told (Some (shown_command command.now)) (D.state depot.old) (D.state depot.new) result }
     ensures files { D.told → LeavesFiles (Some (shown_command command.now)) (D.state depot.old).files (D.state depot.new).files result }
 {
     match command {
         CommandWords::Info(rom) => show_header(alloc, rom, depot),
-        CommandWords::Run(run) => run_cart(alloc, run, depot),
+        CommandWords::Run(run) => run_cart(alloc, workers, run, depot),
     }
 }
 
@@ -41,9 +47,14 @@ fn show_header<D: Depot>(alloc: Global, rom: &str, depot: &mut D) -> Ending
     }
 }
 
-/// Runs the cartridge that the words name, with the recording if they name one, and writes the
-/// outputs that they ask for.
-fn run_cart<D: Depot>(alloc: Global, run: &RunWords<'_>, depot: &mut D) -> Ending
+/// Has the workers run the cartridge that the words name, with the recording if they name one, and
+/// writes the outputs that they ask for.
+fn run_cart<W: Workers, D: Depot>(
+    alloc: Global,
+    workers: &W,
+    run: &RunWords<'_>,
+    depot: &mut D,
+) -> Ending
     ensures cause { RunEnds D.told (shown_run run.now) (D.state depot.old) (D.state depot.new) result }
     ensures files { D.told → RunFiles (shown_run run.now) (D.state depot.old).files (D.state depot.new).files result }
 {
@@ -58,7 +69,7 @@ fn run_cart<D: Depot>(alloc: Global, run: &RunWords<'_>, depot: &mut D) -> Endin
         return Ending::Behind;
     }
     match power_on(alloc, inputs) {
-        Ok(course) => write_all(alloc, run, depot, course),
+        Ok(course) => write_all(alloc, workers, run, depot, course),
         Err(NoMemory) => Ending::Memory,
     }
 }

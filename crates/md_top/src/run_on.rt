@@ -1,29 +1,35 @@
 ghost use Rattle.std.specs.Prelude.{◌≡◌, ◌≤◌, ◌<◌, ◌%◌, [], OnOk, OnErr, IfErr};
 ghost use Rattle.md_outer.specs.Outside.{Files, GoesOn};
 ghost use Rattle.md_top.specs.Courses.{IsUnderway, inputs_in, cycle_of};
-ghost use Rattle.md_top.specs.Endings.{HoldsUntil, RunCause, RunLeaves, pairs_of};
+ghost use Rattle.md_top.specs.Endings.{HoldsUntil, RunCause, RunLeaves, count_of_frames, pairs_of};
 ghost use Rattle.md_top.specs.Limits.{IsEnd, last_cycle, segment_cycles};
 ghost use Rattle.md_top.specs.Limits as limits;
-ghost use Rattle.md_top.specs.Outputs.{AreBegun, Holds, IsWriteFault, LeavesParts};
-ghost use Rattle.md_top.specs.Runs.{journal_of, sound_of};
+ghost use Rattle.md_top.specs.Outputs.{AreBegun, Holds, IsWriteFault, LeavesParts, nothing};
+ghost use Rattle.md_top.specs.Runs.{pieces_of};
 ghost use Rattle.md_words.specs.Shown.{shown_run};
 
 use crate::course::Course;
 use crate::ending::Ending;
-use crate::output::{append_records, append_sound, begin_all};
+use crate::output::{append_all, append_sound, begin_all};
 use crate::outputs::Outputs;
 use crate::segment::advance;
+use crate::workers::Workers;
 use md_files::wav_head;
 use md_outer::Depot;
+use md_word::clock::FRAME;
 use md_words::RunWords;
 use std::alloc::Global;
+
+/// The cycle of a frame at which its picture is finished: the start of line 224.
+const FINISHED: u64 = 766_080;
 
 /// The most cycles of a segment.
 const SEGMENT: u64 = 896_040;
 
-/// Begins the outputs of a run at power-on, runs to its end, and writes what it makes.
-pub(crate) fn write_all<D: Depot>(
+/// Begins the outputs of a run at power-on, has the workers run to its end, and writes what it makes.
+pub(crate) fn write_all<W: Workers, D: Depot>(
     alloc: Global,
+    workers: &W,
     run: &RunWords<'_>,
     depot: &mut D,
     course: Course,
@@ -40,9 +46,17 @@ pub(crate) fn write_all<D: Depot>(
         Err(ending) => return ending,
     };
     match append_head(run, &outputs, depot, &mut course) {
-        Ok(()) => run_on(run, &outputs, depot, course),
+        Ok(()) => run_on(workers, run, &outputs, depot, course),
         Err(ending) => ending,
     }
+}
+
+/// How many frames a run finishes.
+pub(crate) fn count_frames(cycles: u64) -> u64
+    ensures { result ≡ count_of_frames cycles }
+{
+    let last = if cycles % FRAME > FINISHED { 1 } else { 0 };
+    cycles / FRAME + last
 }
 
 /// How many pairs of samples a run has.
@@ -65,12 +79,12 @@ fn append_head<D: Depot>(
     requires begun { AreBegun (shown_run run.now) (D.state depot.old).begun outputs.now }
     ensures machine { course.new.machine ≡ course.old.machine }
     ensures accesses { course.new.accesses ≡ course.old.accesses }
-    ensures files { OnOk result (D.told → (first : Files) → Holds (shown_run run.now) first (D.state depot.old).files [] []
+    ensures files { OnOk result (D.told → (first : Files) → Holds (shown_run run.now) first (D.state depot.old).files nothing
         → HoldsUntil (inputs_in course.old) (shown_run run.now) first (D.state depot.new).files 0) }
     ensures err { IfErr result (IsWriteFault (shown_run run.now) (D.state depot.old) (D.state depot.new)) }
-    ensures err_files { OnErr result (D.told → (first : Files) → Holds (shown_run run.now) first (D.state depot.old).files [] []
+    ensures err_files { OnErr result (D.told → (first : Files) → Holds (shown_run run.now) first (D.state depot.old).files nothing
         → LeavesParts (shown_run run.now) first (D.state depot.new).files
-        (sound_of (inputs_in course.old) run.now.cycles) (journal_of (inputs_in course.old) run.now.cycles)) }
+        (pieces_of (inputs_in course.old) run.now.cycles)) }
     ensures goes_on { GoesOn (D.state depot.old) (D.state depot.new) }
 {
     course.pairs.clear();
@@ -87,7 +101,8 @@ fn segment_end(at: u64, end: u64) -> u64
 }
 
 /// Runs on for a segment, and appends what it makes.
-fn run_segment<D: Depot>(
+fn run_segment<W: Workers, D: Depot>(
+    workers: &W,
     run: &RunWords<'_>,
     outputs: &Outputs,
     depot: &mut D,
@@ -111,18 +126,25 @@ fn run_segment<D: Depot>(
     ensures goes_on { GoesOn (D.state depot.old) (D.state depot.new) }
 {
     let end = segment_end(course.machine.at(), run.cycles);
-    advance(course, end);
-    append_records(
+    advance(workers, course, end);
+    append_all(
         run,
         outputs,
         depot,
+        course.frames.as_slice(),
         course.pairs.as_slice(),
         course.records.as_slice(),
     )
 }
 
 /// Runs from power-on to the end in as few segments as reach it, and appends what each makes.
-fn run_on<D: Depot>(run: &RunWords<'_>, outputs: &Outputs, depot: &mut D, course: Course) -> Ending
+fn run_on<W: Workers, D: Depot>(
+    workers: &W,
+    run: &RunWords<'_>,
+    outputs: &Outputs,
+    depot: &mut D,
+    course: Course,
+) -> Ending
     requires end { IsEnd run.now.cycles }
     requires start { cycle_of course ≡ 0 }
     requires underway { IsUnderway course }
@@ -134,7 +156,7 @@ fn run_on<D: Depot>(run: &RunWords<'_>, outputs: &Outputs, depot: &mut D, course
 {
     let mut course = course;
     'segments: while course.machine.at() < run.cycles {
-        if let Err(ending) = run_segment(run, outputs, depot, &mut course) {
+        if let Err(ending) = run_segment(workers, run, outputs, depot, &mut course) {
             return ending;
         }
     }

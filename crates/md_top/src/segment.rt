@@ -1,15 +1,19 @@
 ghost use Rattle.std.specs.Prelude.{◌≡◌, ◌+◌, ◌<◌, ◌≤◌, ◌++◌, [], length, IfOk, IfSome, None, Some};
-ghost use Rattle.md_machine.specs.Outputs.{journal_bytes, sound_bytes};
+ghost use Rattle.md_machine.specs.Outputs.{frames_bytes, journal_bytes, sound_bytes};
 ghost use Rattle.md_top.specs.Courses.{IsUnderway, inputs_in, cycle_of};
 ghost use Rattle.md_top.specs.Limits.{last_cycle, segment_cycles};
-ghost use Rattle.md_top.specs.Runs.{FewEvents, entries_to, samples_to};
+ghost use Rattle.md_top.specs.Runs.{FewEvents, entries_to, media_to};
 
 use crate::course::Course;
 use crate::inputs::Inputs;
+use crate::workers::Workers;
 use md_machine::{Machine, laws};
 use md_word::NoMemory;
 use std::alloc::Global;
 use std::sync::Arc;
+
+/// The bytes of a segment's frame.
+const FRAME: usize = 215_055;
 
 /// The bytes of a segment's pairs of samples at most.
 const MOST_PAIRS: usize = 4 * 896;
@@ -27,19 +31,20 @@ pub(crate) fn power_on(alloc: Global, inputs: Inputs) -> Result<Course, NoMemory
     let cart = Arc::new(alloc, inputs.cart)?;
     let recording = Arc::new(alloc, inputs.recording)?;
     let machine = Machine::power_on(alloc, cart, recording)?;
+    let frames = Vec::with_capacity(alloc, FRAME)?;
     let pairs = Vec::with_capacity(alloc, MOST_PAIRS)?;
     let records = Vec::with_capacity(alloc, MOST_RECORDS)?;
     Ok(Course {
         machine,
         accesses: 0,
+        frames,
         pairs,
         records,
     })
 }
 
-/// Brings a run to the cycle `to`, at most a segment on, and holds the records of what came
-/// between.
-pub(crate) fn advance(course: &mut Course, to: u64)
+/// Has the workers bring a run to the cycle `to`, at most a segment on, and holds what it made.
+pub(crate) fn advance<W: Workers>(workers: &W, course: &mut Course, to: u64)
     requires underway { IsUnderway course.old }
     requires later { cycle_of course.old < to }
     requires near { to ≤ cycle_of course.old + segment_cycles }
@@ -47,12 +52,16 @@ pub(crate) fn advance(course: &mut Course, to: u64)
     ensures inputs { inputs_in course.new ≡ inputs_in course.old }
     ensures cycle { cycle_of course.new ≡ to }
     ensures underway { IsUnderway course.new }
-    ensures pairs { sound_bytes (samples_to (inputs_in course.old) to)
-        ≡ sound_bytes (samples_to (inputs_in course.old) (cycle_of course.old)) ++ course.new.pairs.items }
+    ensures frames { frames_bytes (media_to (inputs_in course.old) to).frames
+        ≡ frames_bytes (media_to (inputs_in course.old) (cycle_of course.old)).frames ++ course.new.frames.items }
+    ensures pairs { sound_bytes (media_to (inputs_in course.old) to)
+        ≡ sound_bytes (media_to (inputs_in course.old) (cycle_of course.old)) ++ course.new.pairs.items }
     ensures records { journal_bytes (entries_to (inputs_in course.old) to)
         ≡ journal_bytes (entries_to (inputs_in course.old) (cycle_of course.old)) ++ course.new.records.items }
 {
-    course.machine.alone(to);
+    workers.make_segment(&mut course.machine, to);
+    course.frames.clear();
+    course.machine.drain_frames(&mut course.frames);
     course.pairs.clear();
     course.machine.drain_pairs(&mut course.pairs);
     course.records.clear();

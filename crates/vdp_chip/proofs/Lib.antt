@@ -1,3 +1,3 @@
-mod Rows
-mod Lined
+pub mod Rows
+pub mod Lined
 mod Framed

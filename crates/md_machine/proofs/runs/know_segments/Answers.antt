@@ -20,7 +20,7 @@ returns-clause-run c = λ v w from to core quiet near far samples after runs.
     (c.stages.ensures.core w after)
     (λ n below. at_most (c.limits.ensures.made first to n 3 (omega arith) sound below (lit< tt)) (fm_batches-few first from to near quiet))
     (λ n below. at_most (c.limits.ensures.made first to n 4 (omega arith) sound below (lit< tt)) (batches-few first from to near quiet))
-    samples quiet near
+    samples sound quiet near
 
 pub returns-clause-entries : goal.returns-clause-entries
 returns-clause-entries c = λ v w from to core quiet near far runs.

@@ -1,6 +1,7 @@
 use Rattle.std.proofs.Common.{◌≡◌, List, [], ℕ, ◌++◌, ap, ◌∙◌, arith}
 use Rattle.md_files.specs.Wav.{wav_head}
 use Rattle.md_top.specs.Courses.{inputs_in}
+use Rattle.md_top.specs.Outputs.{nothing}
 use Rattle.md_top.specs.Runs.{sound_until}
 use Rattle.md_words.specs.Shown.{shown_run}
 use Rattle.md_top.proofs.Ends.{head-held, head-parts, on-err, on-ok}
@@ -15,7 +16,7 @@ returns-clause-files g c =
     on-ok c.append_sound.result
     (λ adds t first holds.
     head-held (shown_run c.args.run.now) (inputs_in c.args.course.now) first (g.D.Depot.state c.append_sound.new.depot).files c.as_slice.result.now c.requires.underway.few head
-    (adds t first [] [] holds))
+    (adds t first nothing holds))
     c.append_sound.ensures.files
 
 pub returns-clause-err_files : goal.returns-clause-err_files
@@ -26,5 +27,5 @@ returns-clause-err_files g c =
     on-err c.append_sound.result
     (λ adds t first holds.
     head-parts (shown_run c.args.run.now) (inputs_in c.args.course.now) first (g.D.Depot.state c.append_sound.new.depot).files c.as_slice.result.now c.requires.underway.few
-    (omega (arith, c.requires.end.1)) head (adds t first [] [] holds))
+    (omega (arith, c.requires.end.1)) head (adds t first nothing holds))
     c.append_sound.ensures.err_files
