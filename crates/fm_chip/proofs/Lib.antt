@@ -2,4 +2,5 @@ pub mod Courses
 pub mod Histories
 pub mod Mixed
 pub mod Overflows
+pub mod PortBytes
 pub mod Ports

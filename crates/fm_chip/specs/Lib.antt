@@ -6,6 +6,7 @@ pub mod Latches
 pub mod Lfo
 pub mod Operators
 pub mod Port
+pub mod PortSpelling
 pub mod Registers
 pub mod Stamp
 pub mod Steps

@@ -17,10 +17,10 @@ use std::marker::Model;
 /// Source: Sega, Genesis Software Manual, FM addresses.
 #[derive(Drop)]
 pub struct FmPort {
-    first: u8,
-    second: u8,
-    timers: Timers,
-    writes: FmList,
+    pub(crate) first: u8,
+    pub(crate) second: u8,
+    pub(crate) timers: Timers,
+    pub(crate) writes: FmList,
 }
 
 impl Model for FmPort {

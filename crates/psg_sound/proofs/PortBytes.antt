@@ -14,9 +14,7 @@ use Rattle.md_fields.proofs.Items.{all_hold, kept, not_both, one_place, same}
 use Rattle.md_fields.proofs.Padding.{padded_back}
 use Rattle.md_fields.proofs.Standing.{IsBytes-drop, IsBytes-take}
 use Rattle.stamped_writes.specs.Entries.{AreFit, entries_bytes}
-use Rattle.stamped_writes.specs.Keys.{after, all_fit, are_kept, fits, is_kept}
-use Rattle.stamped_writes.specs.declared.earliest.Earliest.{Earliest}
-use Rattle.stamped_writes.proofs.Spaced.{all_fit_more, all_fit_not}
+use Rattle.stamped_writes.specs.Keys.{are_kept, is_kept}
 use Rattle.stamped_writes.proofs.Entries as entries
 use Rattle.psg_sound.specs.Port.{IsPort}
 use Rattle.psg_sound.specs.PortSpelling.{PortGoesWrongAt, SavedPort, SpellsPort, are_writes, key_of, port_bytes, port_fields, saved_port, write_at, write_fields, writes_at}
@@ -188,24 +186,3 @@ pub left_there : (count size : ℕ) (bytes : List ℕ) → length bytes ≡ 1024
 left_there count size bytes long same =
     take_all size (drop (10 * count) (take 10240 (drop 2 bytes)))
     (omega (arith, same, long, length-drop (10 * count) (take 10240 (drop 2 bytes)), length-take 10240 (drop 2 bytes), length-drop 2 bytes))
-
--- ---- one key more
-
-all_there : (ws : List PsgWrite) (n : ℕ) → n ≡ length ws → take n ws ≡ ws
-all_there ws n e = ap (λ (k : ℕ). take k ws) e ∙ take_all (length ws) ws (omega arith)
-
-pub fits_next : (at : ℕ) (e : Earliest) (ws : List PsgWrite) (d : PsgWrite) (n : ℕ) → 1 ≤ length ws → n ≡ length ws - 1 → fits at e (get_or ws 0 d).key ≡ true
-    → all_fit at (after (get_or ws 0 d).key e) (map key_of (take n (drop 1 ws))) ≡ all_fit at e (map key_of ws)
-fits_next at e [] d n more same fit = absurd (omega (arith, more))
-fits_next at e (w ∷ ws) d n more same fit =
-    ap (λ (l : List PsgWrite). all_fit at (after w.key e) (map key_of l)) (all_there ws n (omega (arith, same))) ∙ sym (all_fit_more at e w.key (map key_of ws) fit)
-
-pub fits_not : (at : ℕ) (e : Earliest) (ws : List PsgWrite) (d : PsgWrite) → 1 ≤ length ws → fits at e (get_or ws 0 d).key ≡ false
-    → all_fit at e (map key_of ws) ≡ false
-fits_not at e [] d more fit = absurd (omega (arith, more))
-fits_not at e (w ∷ ws) d more fit = all_fit_not at e w.key (map key_of ws) fit
-
-pub fits_all : (at : ℕ) (e : Earliest) (ws : List PsgWrite) → length ws < 1 → all_fit at e (map key_of ws) ≡ true
-unfolding all_fit
-fits_all at e [] none = refl
-fits_all at e (w ∷ ws) none = absurd (omega (arith, none))

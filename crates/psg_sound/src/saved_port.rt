@@ -1,5 +1,4 @@
-ghost use Rattle.std.specs.Prelude.{◌≡◌, ◌+◌, ◌-◌, ◌*◌, ◌≤◌, ◌++◌, length, map, replicate, vec_len, vec_capacity};
-ghost use Rattle.std.specs.Int.{w16, to_be_bytes};
+ghost use Rattle.std.specs.Prelude.{◌≡◌, ◌+◌, ◌*◌, ◌≤◌, ◌++◌, length, map, vec_len, vec_capacity};
 ghost use Rattle.md_fields.specs.Fields.{seen, spelling};
 ghost use Rattle.stamped_writes.specs.Entries.{entries_bytes};
 ghost use Rattle.stamped_writes.specs.Keys.{are_kept};
@@ -49,33 +48,6 @@ pub fn put_writes(writes: &[PsgWrite], into: &mut Vec<u8>)
         put_write(write, into);
         rest = after;
     }
-}
-
-/// Appends how many writes there are.
-#[tactic(auto, unfolding(md_fields::specs::Fields::spelling))]
-pub fn put_count(count: u16, into: &mut Vec<u8>)
-    requires { vec_len into.old + 2 ≤ vec_capacity into.old }
-    ensures bytes { into.new.items ≡ into.old.items ++ to_be_bytes w16 count }
-    ensures length { vec_len into.new ≡ vec_len into.old + 2 }
-    ensures room { vec_capacity into.old ≤ vec_capacity into.new }
-{
-    put(&[Field::Word(count, true)], into);
-}
-
-/// Appends 0 for the places that so many writes leave.
-#[tactic(auto, unfolding(md_fields::specs::Fields::spelling))]
-pub fn put_unused(count: usize, into: &mut Vec<u8>)
-    requires most { count ≤ 1024 }
-    requires room { vec_len into.old + 10 * (1024 - count) ≤ vec_capacity into.old }
-    ensures bytes { into.new.items ≡ into.old.items ++ replicate (10 * (1024 - count)) 0 }
-    ensures length { vec_len into.new ≡ vec_len into.old + 10 * (1024 - count) }
-    ensures room { vec_capacity into.old ≤ vec_capacity into.new }
-{
-    let unused = [0; MOST * WRITE];
-    put(
-        &[Field::Block(&unused[..WRITE * (MOST - count)], true)],
-        into,
-    );
 }
 
 /// The write that stands at a place.

@@ -6,13 +6,13 @@ ghost use Rattle.psg_sound.specs.Synth.{Synth};
 ghost use Rattle.psg_sound.specs.declared.write.PsgWrite.{PsgWrite as Write};
 
 use crate::port::PsgPort;
-use crate::saved_port::{MOST, WRITE, are_kept, put_count, put_unused, put_writes, writes_at};
+use crate::saved_port::{MOST, WRITE, are_kept, put_writes, writes_at};
 use crate::saved_synth::{SavedSynth, tone_from};
 use crate::synth::PsgSynth;
 use crate::write::PsgList;
 use md_fields::{first_wrong, put, u16_at};
 use md_word::Unspell;
-use stamped_writes::are_zeros;
+use stamped_writes::{are_zeros, put_count, put_zeros};
 use std::alloc::Global;
 
 /// How many bytes keep a port, and how many a synthesis.
@@ -31,7 +31,7 @@ impl PsgPort {
         let count = self.writes.len();
         put_count(count as u16, into);
         put_writes(self.writes.as_slice(), into);
-        put_unused(count, into);
+        put_zeros(WRITE * (MOST - count), into);
     }
 
     /// The port that the bytes of a saved state at a cycle keep. It takes no memory. Bytes that are not

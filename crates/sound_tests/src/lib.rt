@@ -10,4 +10,6 @@ mod ports;
 #[cfg(test)]
 mod psg;
 #[cfg(test)]
+mod spelling;
+#[cfg(test)]
 mod voices;

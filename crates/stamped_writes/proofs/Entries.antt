@@ -1,28 +1,12 @@
 -- Entries that stand in bytes are those that are spelled there.
 use Rattle.std.proofs.Common.{◌≡◌, ℕ, zero, suc, ◌+◌, ◌*◌, ◌-◌, ◌<◌, ◌≤◌, true, List, [], ◌∷◌, ◌++◌, length, take, drop, refl, sym, ap, subst, ◌∙◌, append_assoc, arith}
 use Rattle.std.proofs.lemmas.List.{take_at, length-append, append-nil, length-drop}
-use Rattle.md_fields.specs.Fields.{AreWithin, Field, block, bytes_of, sizes, spelling}
+use Rattle.md_fields.specs.Fields.{AreWithin, Field, block, sizes, spelling}
 use Rattle.md_fields.specs.Places.{IsBytes, Stand}
 use Rattle.md_fields.proofs.Items.{within_there}
 use Rattle.md_fields.proofs.Standing.{long_as, spelled_from, stand_behind}
 use Rattle.stamped_writes.specs.Entries.{AreFit, entries_bytes, entries_from}
-
--- the bytes of two tables are those of one behind those of the other
-pub spelling_append : (xs ys : List Field) → spelling (xs ++ ys) ≡ spelling xs ++ spelling ys
-unfolding spelling
-spelling_append [] ys = refl
-spelling_append (x ∷ xs) ys = ap (λ (l : List ℕ). bytes_of x ++ l) (spelling_append xs ys) ∙ sym (append_assoc (bytes_of x) (spelling xs) (spelling ys))
-
--- what fits of two tables fits of each
-pub within_both : (xs ys : List Field) → AreWithin (xs ++ ys) → AreWithin xs × AreWithin ys
-unfolding AreWithin
-within_both [] ys w = (tt, w)
-within_both (x ∷ xs) ys w = let p = within_both xs ys w.1 in ((w.0, p.0), p.1)
-
-pub within_append : (xs ys : List Field) → AreWithin xs → AreWithin ys → AreWithin (xs ++ ys)
-unfolding AreWithin
-within_append [] ys v w = w
-within_append (x ∷ xs) ys v w = (v.0, within_append xs ys v.1 w)
+use Rattle.stamped_writes.proofs.Tables.{spelling_append, within_append, within_both}
 
 -- what is left as one field
 abbrev left : List ℕ → List Field

@@ -6,3 +6,4 @@ pub mod Orders
 pub mod Refusals
 pub mod Spaced
 pub mod Splits
+pub mod Tables

@@ -3,7 +3,7 @@
 #![tactic(auto)]
 
 mod earliest;
-mod zeros;
+mod padding;
 
 pub use earliest::Earliest;
-pub use zeros::are_zeros;
+pub use padding::{are_zeros, put_count, put_zeros};

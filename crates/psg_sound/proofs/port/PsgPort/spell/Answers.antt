@@ -19,5 +19,5 @@ returns-clause-bytes c =
     parts c.args.into.now.items _ _ _ _ (to_be_bytes w16 (length ws)) (entries_bytes write_fields ws) (replicate (10 * (1024 - length ws)) 0)
     (c.put_count.ensures.bytes ∙ ap (λ (n : ℕ). c.args.into.now.items ++ to_be_bytes w16 n) c.len-count.ensures.value)
     (c.put_writes.ensures.bytes ∙ ap (λ (l : List PsgWrite). c.put_count.new.into.items ++ entries_bytes write_fields l) c.as_slice.ensures.value)
-    (c.put_unused.ensures.bytes ∙ ap (λ (n : ℕ). c.put_writes.new.into.items ++ replicate (10 * (1024 - n)) 0) c.len-count.ensures.value)
+    (c.put_zeros.ensures.bytes ∙ ap (λ (n : ℕ). c.put_writes.new.into.items ++ replicate (10 * (1024 - n)) 0) c.len-count.ensures.value)
     (parts_are ws (entries_size ws) ∙ ap port_bytes c.self.view_is)
