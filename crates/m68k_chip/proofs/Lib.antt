@@ -2,6 +2,10 @@ pub mod Choices
 pub mod Fitting
 pub mod Kept
 pub mod Laws
+pub mod Refusals
 pub mod Resting
 pub mod SampleTimes
+pub mod SavedLaws
+pub mod SavedSound
+pub mod SpellingLaws
 pub mod Waiting

@@ -1,6 +1,10 @@
 pub mod Cases
 pub mod Events
 pub mod Held
+pub mod Numbers
+pub mod Resuming
+pub mod Saved
 pub mod Sound
+pub mod Spelling
 pub mod States
 pub mod Steps

@@ -16,10 +16,10 @@ use std::sync::Arc;
 /// 5, 6 and 8; the places of events are this project's profile.
 #[derive(Drop)]
 pub struct Chip68 {
-    cart: Arc<Cart>,
-    ram: Box<[u8; 65536]>,
-    sequencer: Sequencer,
-    progress: Progress,
+    pub(crate) cart: Arc<Cart>,
+    pub(crate) ram: Box<[u8; 65536]>,
+    pub(crate) sequencer: Sequencer,
+    pub(crate) progress: Progress,
 }
 
 impl Model for Chip68 {

@@ -4,7 +4,10 @@
 
 mod case;
 mod chip;
+mod resuming;
+mod saved;
 mod sequencer;
+mod spelling;
 mod stage;
 
 pub use chip::Chip68;

@@ -22,7 +22,7 @@ use rom_header::Cart;
 
 /// The master cycles from a sample to the first access of what it carries out, from one access to
 /// the next, and for which a 68000 waits that is stopped or halted.
-const STEP: u64 = 28;
+pub const STEP: u64 = 28;
 
 /// The status register at power-on: supervisor mode, and the interrupt mask at 7.
 const RESET_STATUS: u16 = 0x2700;

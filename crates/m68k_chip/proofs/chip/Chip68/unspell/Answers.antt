@@ -1,0 +1,67 @@
+use Rattle.std.proofs.Common.{◌≡◌, ℕ, List, Ok, Err, ap, subst, sym, ◌∙◌, refl}
+use Rattle.std.specs.Arc.{arc_value}
+use Rattle.std.proofs.lemmas.Result.{err_from_is_err_and}
+use Rattle.md_word.specs.declared.unspell.Unspell.TheVariants.{Rule}
+use Rattle.rom_header.specs.Cartridge.{IsImage}
+use Rattle.m68k_chip.specs.Held.{IsWaiting}
+use Rattle.m68k_chip.specs.Sound.{IsChip68}
+use Rattle.m68k_chip.specs.Spelling.{GoesWrongAt, IsKept, Spells, ram_in}
+use Rattle.m68k_chip.specs.States.{State68, state_of}
+use Rattle.m68k_chip.proofs.Laws.{of}
+use Rattle.m68k_chip.proofs.Refusals.{no_rule, same_rule}
+use Rattle.m68k_chip.proofs.SpellingLaws.{no_other, only_place, right_not_refused, spelled_long, spelled_sound}
+use Rattle.m68k_chip.proofs.chip.Chip68.unspell.Goals as goal
+
+pub copied-requires : goal.copied-requires
+copied-requires c = spelled_long c.deref-2.result.now c.args.at c.args.bytes.now (state_of c.in-Ok.sequencer (ram_in c.args.bytes.now)) c.in-Ok.ensures.found.spells
+
+pub returns-in_err-ram-in-Ok-clause-rule : goal.returns-in_err-ram-in-Ok-clause-rule
+returns-in_err-ram-in-Ok-clause-rule c =
+    let p = err_from_is_err_and c.from_residual.result c.from_residual.ensures.1 in
+    let kept : Spells (arc_value c.args.cart) c.args.at c.args.bytes.now (state_of c.in-Ok.sequencer (ram_in c.args.bytes.now)) =
+    subst (λ (image : List ℕ). Spells image c.args.at c.args.bytes.now (state_of c.in-Ok.sequencer (ram_in c.args.bytes.now))) c.deref-2.ensures c.in-Ok.ensures.found.spells in
+    λ place. (
+      λ e. absurd (no_rule place p.0 (sym p.2) (sym p.1 ∙ e)),
+      λ wrong. absurd (right_not_refused (arc_value c.args.cart) c.args.at c.args.bytes.now _ place kept wrong),
+    )
+
+-- what is made is what the bytes keep
+made : (c : goal.After-new) → state_of c.in-Ok.sequencer c.in_ok-ram-in-Ok.ram.value ≡ state_of c.in-Ok.sequencer (ram_in c.args.bytes.now)
+made c = ap (state_of c.in-Ok.sequencer) c.in_ok-ram-in-Ok.ensures
+
+kept : (c : goal.After-new) → IsKept (arc_value c.args.cart) c.args.at c.args.bytes.now (state_of c.in-Ok.sequencer (ram_in c.args.bytes.now)) c.in-Ok.sequencer.request
+kept c = subst (λ (image : List ℕ). IsKept image c.args.at c.args.bytes.now (state_of c.in-Ok.sequencer (ram_in c.args.bytes.now)) c.in-Ok.sequencer.request) c.deref-2.ensures c.in-Ok.ensures.found
+
+pub invariant_of-result : goal.invariant_of-result
+invariant_of-result c = record {
+  sound = subst (λ (s : State68). IsChip68 (of (arc_value c.args.cart) s)) (sym (made c))
+      (spelled_sound (arc_value c.args.cart) c.args.at c.args.bytes.now _ (subst (λ (image : List ℕ). IsImage image) c.deref.ensures c.bytes.ensures.image) (kept c).spells);
+  waiting = subst (λ (s : State68). IsWaiting s.stage (arc_value c.args.cart) s c.in-Ok.sequencer.request) (sym (made c)) (kept c).waits;
+}
+
+pub returns-in_ok-ram-in-Ok-clause-found : goal.returns-in_ok-ram-in-Ok-clause-found
+returns-in_ok-ram-in-Ok-clause-found c = (refl, subst (Spells (arc_value c.args.cart) c.args.at c.args.bytes.now) (sym (made c)) (kept c).spells)
+
+pub returns-in_ok-ram-in-Ok-clause-only : goal.returns-in_ok-ram-in-Ok-clause-only
+returns-in_ok-ram-in-Ok-clause-only c = λ state p n.
+    ap (λ (s : State68). Ok (of (arc_value c.args.cart) s)) (made c ∙ no_other (arc_value c.args.cart) c.args.at c.args.bytes.now _ state (kept c).spells p)
+
+pub returns-in_ok-ram-in-Ok-clause-rule : goal.returns-in_ok-ram-in-Ok-clause-rule
+returns-in_ok-ram-in-Ok-clause-rule c = λ place. (
+  λ e. absurd cc,
+  λ wrong. absurd (right_not_refused (arc_value c.args.cart) c.args.at c.args.bytes.now _ place (kept c).spells wrong),
+)
+
+pub returns-in-Err-clause-only : goal.returns-in-Err-clause-only
+returns-in-Err-clause-only c = λ state p n.
+    absurd (right_not_refused (arc_value c.args.cart) c.args.at c.args.bytes.now state c.in-Err.place p
+    (subst (λ (image : List ℕ). GoesWrongAt image c.args.at c.args.bytes.now c.in-Err.place) c.deref-2.ensures c.in-Err.ensures.refused))
+
+pub returns-in-Err-clause-rule : goal.returns-in-Err-clause-rule
+returns-in-Err-clause-rule c =
+    let wrong : GoesWrongAt (arc_value c.args.cart) c.args.at c.args.bytes.now c.in-Err.place =
+    subst (λ (image : List ℕ). GoesWrongAt image c.args.at c.args.bytes.now c.in-Err.place) c.deref-2.ensures c.in-Err.ensures.refused in
+    λ place. (
+      λ e. subst (GoesWrongAt (arc_value c.args.cart) c.args.at c.args.bytes.now) (same_rule c.in-Err.place place e) wrong,
+      λ other. ap (λ (p : ℕ). Err (Rule p)) (only_place (arc_value c.args.cart) c.args.at c.args.bytes.now c.in-Err.place place wrong other),
+    )

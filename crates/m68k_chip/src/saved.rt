@@ -1,0 +1,429 @@
+ghost use Rattle.std.specs.Prelude.{◌≡◌, ◌≤◌, ℕ, Bool, length, map, IfErr, IfOk};
+ghost use Rattle.md_fields.specs.Fields.{AreSized, seen};
+ghost use Rattle.md_fields.specs.Padding as padding;
+ghost use Rattle.md_fields.specs.Places.{Stand};
+ghost use Rattle.m68k_chip.specs.Numbers.{IsRegs, numbers_of, stage_number as number_by, stage_of as stage_by, state_from};
+ghost use Rattle.m68k_chip.specs.Saved as rules;
+ghost use Rattle.m68k_chip.specs.Saved.{fields_by};
+ghost use Rattle.m68k_chip.specs.Spelling.{GoesWrongAt, IsKept, ram_in};
+ghost use Rattle.m68k_chip.specs.States.{state_of};
+
+use crate::resuming::first_answers;
+use crate::sequencer::{STEP, Sequencer};
+use crate::stage::Stage;
+use md_fields::{Field, first_wrong, u8_at, u16_at, u32_at, u64_at, words_at};
+use md_word::{Regs, Request68, Transfer};
+use rom_header::Cart;
+use std::marker::Model;
+
+/// How many bytes of a saved state keep a 68000.
+pub const LENGTH: usize = 65_714;
+
+/// Where work RAM stands among them.
+pub const RAM: usize = 178;
+
+/// How far from the cycle of a saved state the next event can be.
+const FAR: u64 = 0x10_0000;
+
+/// The stages of an access and of a word of a transfer.
+const ACCESS: u8 = 1;
+
+const WORD: u8 = 2;
+
+/// The bits of the status register.
+const STATUS: u16 = 0xa71f;
+
+/// How many answers there can be, and how many words of a transfer.
+const ANSWERS: u8 = 31;
+
+const WORDS: u32 = 0x1_0000;
+
+/// Where the addresses of the bus end.
+const BUS_END: u32 = 0x100_0000;
+
+/// The numbers that a saved state keeps of the 68000, whatever they are, in their order. Cycles are
+/// master cycles.
+#[derive(Drop)]
+pub struct Saved68<'a> {
+    next: u64,
+    /// 0 a sample, 1 an access, 2 a word of a transfer.
+    stage: u8,
+    start: u64,
+    regs: Regs,
+    stopped: u8,
+    halted: u8,
+    trace: u8,
+    /// The start of what halted it.
+    since: u64,
+    cause: u8,
+    /// How many of the answers there are.
+    count: u8,
+    answers: [u16; 32],
+    transfer: Transfer,
+    ram: &'a [u8; 65536],
+}
+
+impl<'a> Model for Saved68<'a> {
+    ghost use Rattle.std.specs.Prelude.{slice_index};
+    ghost use Rattle.m68k_chip.specs.Numbers.{AreSizes, Numbers68};
+
+    ghost Value = { Numbers68 };
+
+    ghost view = { λ s. record {
+      next = s.next;
+      stage = s.stage;
+      start = s.start;
+      d0 = slice_index s.regs.d 0;
+      d1 = slice_index s.regs.d 1;
+      d2 = slice_index s.regs.d 2;
+      d3 = slice_index s.regs.d 3;
+      d4 = slice_index s.regs.d 4;
+      d5 = slice_index s.regs.d 5;
+      d6 = slice_index s.regs.d 6;
+      d7 = slice_index s.regs.d 7;
+      a0 = slice_index s.regs.a 0;
+      a1 = slice_index s.regs.a 1;
+      a2 = slice_index s.regs.a 2;
+      a3 = slice_index s.regs.a 3;
+      a4 = slice_index s.regs.a 4;
+      a5 = slice_index s.regs.a 5;
+      a6 = slice_index s.regs.a 6;
+      usp = s.regs.usp;
+      ssp = s.regs.ssp;
+      pc = s.regs.pc;
+      sr = s.regs.sr;
+      stopped = s.stopped;
+      halted = s.halted;
+      trace = s.trace;
+      since = s.since;
+      cause = s.cause;
+      count = s.count;
+      answers = s.answers;
+      source = s.transfer.source;
+      words = s.transfer.words;
+      cost = s.transfer.cost;
+      ram = s.ram.now;
+    } };
+
+    ghost invariant = { λ s. AreSizes s.regs s.answers s.ram.now };
+}
+
+impl<'a> Saved68<'a> {
+    /// What is kept of the 68000 between two of its events.
+    pub fn of(sequencer: &Sequencer, ram: &'a [u8; 65536]) -> Saved68<'a>
+        requires { length ram.now ≡ 0x1_0000 }
+        ensures { result ≡ numbers_of (state_of sequencer.now ram.now) }
+    {
+        known_regs(&sequencer.regs);
+        Saved68 {
+            next: sequencer.next,
+            stage: stage_number(sequencer.stage),
+            start: sequencer.start,
+            regs: sequencer.regs,
+            stopped: u8::from(sequencer.stopped),
+            halted: u8::from(sequencer.halted.is_some()),
+            trace: u8::from(sequencer.trace),
+            since: sequencer.halted.unwrap_or(0),
+            cause: sequencer.cause,
+            count: sequencer.answers.len() as u8,
+            answers: padded(sequencer.answers.as_slice()),
+            transfer: sequencer.transfer,
+            ram,
+        }
+    }
+
+    /// The numbers that stand in the bytes.
+    #[tactic(auto, unfolding(md_fields::specs::Places::Stand))]
+    fn read(bytes: &'a [u8]) -> Saved68<'a>
+        requires { length bytes.now ≡ 65714 }
+        ensures stands { (at : ℕ) (holds : Bool) → Stand 0 (fields_by at holds result) bytes.now }
+        ensures ram { result.ram ≡ ram_in bytes.now }
+    {
+        Saved68 {
+            next: u64_at(bytes, 0),
+            stage: u8_at(bytes, 8),
+            start: u64_at(bytes, 9),
+            regs: Regs {
+                d: [
+                    u32_at(bytes, 17),
+                    u32_at(bytes, 21),
+                    u32_at(bytes, 25),
+                    u32_at(bytes, 29),
+                    u32_at(bytes, 33),
+                    u32_at(bytes, 37),
+                    u32_at(bytes, 41),
+                    u32_at(bytes, 45),
+                ],
+                a: [
+                    u32_at(bytes, 49),
+                    u32_at(bytes, 53),
+                    u32_at(bytes, 57),
+                    u32_at(bytes, 61),
+                    u32_at(bytes, 65),
+                    u32_at(bytes, 69),
+                    u32_at(bytes, 73),
+                ],
+                usp: u32_at(bytes, 77),
+                ssp: u32_at(bytes, 81),
+                pc: u32_at(bytes, 85),
+                sr: u16_at(bytes, 89),
+            },
+            stopped: u8_at(bytes, 91),
+            halted: u8_at(bytes, 92),
+            trace: u8_at(bytes, 93),
+            since: u64_at(bytes, 94),
+            cause: u8_at(bytes, 102),
+            count: u8_at(bytes, 103),
+            answers: words_at(bytes, 104),
+            transfer: Transfer {
+                source: u32_at(bytes, 168),
+                words: u32_at(bytes, 172),
+                cost: u16_at(bytes, 176),
+            },
+            ram: ram_at(bytes),
+        }
+    }
+
+    /// The fields in their order, and whether their rules hold; that of work RAM is told.
+    #[tactic(auto, unfolding(md_fields::specs::Fields::AreSized))]
+    pub fn fields(&self, at: u64, holds: bool) -> [Field<'_>; 33]
+        ensures fields { map seen result ≡ fields_by at holds self.now }
+        ensures sizes { AreSized (map seen result) }
+    {
+        let ram = self.ram;
+        [
+            Field::Quad(self.next, is_soon(self.next, at)),
+            Field::Byte(self.stage, self.stage <= WORD),
+            Field::Quad(self.start, self.is_start(at)),
+            Field::Long(self.regs.d[0], true),
+            Field::Long(self.regs.d[1], true),
+            Field::Long(self.regs.d[2], true),
+            Field::Long(self.regs.d[3], true),
+            Field::Long(self.regs.d[4], true),
+            Field::Long(self.regs.d[5], true),
+            Field::Long(self.regs.d[6], true),
+            Field::Long(self.regs.d[7], true),
+            Field::Long(self.regs.a[0], true),
+            Field::Long(self.regs.a[1], true),
+            Field::Long(self.regs.a[2], true),
+            Field::Long(self.regs.a[3], true),
+            Field::Long(self.regs.a[4], true),
+            Field::Long(self.regs.a[5], true),
+            Field::Long(self.regs.a[6], true),
+            Field::Long(self.regs.usp, true),
+            Field::Long(self.regs.ssp, true),
+            Field::Long(self.regs.pc, true),
+            Field::Word(self.regs.sr, self.regs.sr & STATUS == self.regs.sr),
+            Field::Byte(self.stopped, self.stopped <= 1),
+            Field::Byte(self.halted, self.is_halted()),
+            Field::Byte(self.trace, self.trace <= 1),
+            Field::Quad(self.since, self.is_since(at)),
+            Field::Byte(self.cause, self.is_cause()),
+            Field::Byte(self.count, self.are_answers()),
+            Field::Words(&self.answers, true),
+            Field::Long(self.transfer.source, true),
+            Field::Long(self.transfer.words, self.are_words()),
+            Field::Word(self.transfer.cost, self.is_cost()),
+            Field::Block(ram, holds),
+        ]
+    }
+
+    fn is_start(&self, at: u64) -> bool
+        ensures { result ≡ rules.is_start at self.now }
+    {
+        if self.stage == ACCESS {
+            self.start < at
+        } else {
+            self.start == self.next
+        }
+    }
+
+    fn is_halted(&self) -> bool
+        ensures { result ≡ rules.is_halted self.now }
+    {
+        self.halted <= 1 && (self.halted == 0 || self.stage != ACCESS)
+    }
+
+    fn is_since(&self, at: u64) -> bool
+        ensures { result ≡ rules.is_since at self.now }
+    {
+        if self.halted == 1 {
+            self.since < at
+        } else {
+            self.since == 0
+        }
+    }
+
+    fn is_cause(&self) -> bool
+        ensures { result ≡ rules.is_cause self.now }
+    {
+        self.cause == 0
+            || (self.stage == ACCESS && (self.cause == 4 || (self.cause == 6 || self.cause == 8)))
+    }
+
+    /// Whether the next event stands where the count of answers puts it.
+    fn follows(&self) -> bool
+        ensures { result ≡ rules.follows self.now }
+    {
+        if self.stage == ACCESS {
+            is_after(self.next, self.start, STEP * (u64::from(self.count) + 1))
+        } else {
+            self.count == 0
+        }
+    }
+
+    fn are_answers(&self) -> bool
+        ensures { result ≡ rules.are_answers self.now }
+    {
+        self.count <= ANSWERS
+            && (self.follows() && are_zeros(&self.answers[usize::from(self.count)..]))
+    }
+
+    fn are_words(&self) -> bool
+        ensures { result ≡ rules.are_words self.now }
+    {
+        let Transfer { source, words, .. } = self.transfer;
+        if words == 0 {
+            source == 0 && self.stage != WORD
+        } else {
+            words <= WORDS && self.stage != 0 && is_source(source)
+        }
+    }
+
+    fn is_cost(&self) -> bool
+        ensures { result ≡ rules.is_cost self.now }
+    {
+        let Transfer { words, cost, .. } = self.transfer;
+        if words == 0 {
+            cost == 0
+        } else {
+            cost == 34 || cost == 380
+        }
+    }
+
+    /// The 68000 of which these numbers are kept. What it waits for is not known yet.
+    fn sequencer(&self) -> Sequencer
+        requires { self.now.count ≤ 31 }
+        ensures { state_of result self.now.ram ≡ state_from self.now }
+    {
+        Sequencer {
+            regs: self.regs,
+            next: self.next,
+            stage: stage_of(self.stage),
+            start: self.start,
+            stopped: self.stopped == 1,
+            trace: self.trace == 1,
+            halted: self.halted_since(),
+            cause: self.cause,
+            answers: first_answers(&self.answers, usize::from(self.count)),
+            transfer: self.transfer,
+            request: Request68::Ack(0),
+        }
+    }
+
+    fn halted_since(&self) -> Option<u64>
+        ensures { result ≡ (state_from self.now).halted }
+    {
+        if self.halted == 1 {
+            Some(self.since)
+        } else {
+            None
+        }
+    }
+
+    /// The 68000 that the bytes keep, with the request that it waits for, where all rules hold; else
+    /// the place of the refusal.
+    pub fn checked(bytes: &'a [u8], at: u64, cart: &Cart) -> Result<Sequencer, usize>
+        ensures found { IfOk result (λ s. IsKept cart.now at bytes.now (state_of s (ram_in bytes.now)) s.request) }
+        ensures refused { IfErr result (λ place. GoesWrongAt cart.now at bytes.now place) }
+    {
+        if bytes.len() != LENGTH {
+            return Err(bytes.len().min(LENGTH));
+        }
+        let saved = Saved68::read(bytes);
+        if let Some(place) = first_wrong(&saved.fields(at, true)) {
+            return Err(place);
+        }
+        let mut sequencer = saved.sequencer();
+        if sequencer.resumes(cart, saved.ram) {
+            Ok(sequencer)
+        } else {
+            Err(RAM)
+        }
+    }
+}
+
+/// Tells how many registers there are.
+fn known_regs(regs: &Regs)
+    ensures { IsRegs regs.now }
+{
+    let _d0 = regs.d[0];
+    let _a0 = regs.a[0];
+}
+
+fn stage_number(stage: Stage) -> u8
+    ensures { result ≡ number_by stage }
+{
+    match stage {
+        Stage::Sample => 0,
+        Stage::Access => ACCESS,
+        Stage::Word => WORD,
+    }
+}
+
+fn stage_of(number: u8) -> Stage
+    ensures { result ≡ stage_by number }
+{
+    match number {
+        0 => Stage::Sample,
+        1 => Stage::Access,
+        _ => Stage::Word,
+    }
+}
+
+fn is_soon(next: u64, at: u64) -> bool
+    ensures { result ≡ rules.is_soon next at }
+{
+    at <= next && next - at <= FAR
+}
+
+fn is_after(later: u64, earlier: u64, distance: u64) -> bool
+    ensures { result ≡ rules.is_after later earlier distance }
+{
+    earlier <= later && later - earlier == distance
+}
+
+fn is_source(source: u32) -> bool
+    ensures { result ≡ rules.is_source source }
+{
+    source % 2 == 0 && source < BUS_END
+}
+
+fn are_zeros(numbers: &[u16]) -> bool
+    ensures { result ≡ padding.are_zeros numbers.now }
+{
+    numbers.iter().all(|number| *number == 0)
+}
+
+/// The answers, and 0 in the places that are not used.
+fn padded(answers: &[u16]) -> [u16; 32]
+    requires { length answers.now ≤ 32 }
+    ensures value { result ≡ padding.padded 32 answers.now }
+    ensures size { length result ≡ 32 }
+{
+    let mut all = [0; 32];
+    all[..answers.len()].copy_from_slice(answers);
+    all
+}
+
+/// Work RAM as it stands in the bytes.
+fn ram_at(bytes: &[u8]) -> &[u8; 65536]
+    requires { length bytes.now ≡ 65714 }
+    ensures value { result.now ≡ ram_in bytes.now }
+    ensures size { length result.now ≡ 0x1_0000 }
+{
+    match bytes[RAM..LENGTH].as_array() {
+        Some(ram) => ram,
+        None => unreachable!(),
+    }
+}
