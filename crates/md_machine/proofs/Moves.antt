@@ -63,7 +63,7 @@ kind1 (Line c) is = absurd (omega arith)
 kind1 (Fm c) is = absurd (omega arith)
 kind1 (Psg c) is = absurd (omega arith)
 
-kind2 : (c : Chip) → (next c).key.chip ≡ 2 → (v : DrawValue) × (c ≡ Line v)
+pub kind2 : (c : Chip) → (next c).key.chip ≡ 2 → (v : DrawValue) × (c ≡ Line v)
 kind2 (Main c) is = absurd (omega (arith, main_zero c))
 kind2 (Sub c) is = absurd (omega (arith, sub_one c))
 kind2 (Line c) is = (c, refl)

@@ -58,8 +58,8 @@ silent-levels (Fm c) = refl
 silent-levels (Psg c) = refl
 
 -- the chips after one of them was made silent
-apart : (i j : ℕ) → (i == j) ≡ false → j ≡ i → ⊥
-apart i j e same = let own : (i == i) ≡ false = subst (λ (k : ℕ). (i == k) ≡ false) same e in grind (arith, nat_tests)
+apart : (i j : ℕ) → (i == j) ≡ false → i ≡ j → ⊥
+apart i j e same = let own : (j == j) ≡ false = subst (λ (k : ℕ). (k == j) ≡ false) same e in grind (arith, nat_tests)
 
 equal : (i j : ℕ) → (i == j) ≡ true → i ≡ j
 equal i j e = grind (arith, nat_tests)

@@ -24,8 +24,8 @@ pub(crate) fn put_entries(entries: &[Entry], into: &mut Vec<u8>)
 /// Appends a frame with its head, where there is one.
 #[tactic(auto, unfolding(crate::specs::Outputs::frames_bytes))]
 pub(crate) fn put_frames(frame: Option<&[u8]>, into: &mut Vec<u8>)
-    requires size { IfSome (option_copied frame.entry) (λ picture. length picture ≡ picture_length) }
-    requires room { vec_len into.old + frame_length * length (frames_of (option_copied frame.entry)) ≤ vec_capacity into.old }
+    requires size { IfSome (option_copied frame) (λ picture. length picture ≡ picture_length) }
+    requires room { vec_len into.old + frame_length * length (frames_of (option_copied frame)) ≤ vec_capacity into.old }
     ensures bytes { into.new.items ≡ into.old.items ++ frames_bytes (frames_of (option_copied frame.entry)) }
     ensures length { vec_len into.new ≡ vec_len into.old + frame_length * length (frames_of (option_copied frame.entry)) }
     ensures room { vec_capacity into.old ≤ vec_capacity into.new }

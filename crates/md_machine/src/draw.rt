@@ -151,7 +151,7 @@ fn draw_lent(chip: &mut ChipVdp, view: Box<LineView>)
     requires cycle { chip.old.next < 2 ^ 50 }
     ensures { chip.new ≡ record (lines.drawn_from (lines.told_view chip.old.next view.value) chip.old) { has_view = true } }
 {
-    let mut dots = [CLEAR; 320];
+    let mut dots = clear_dots();
     let line = line_of(chip.next().key.cycle);
     let note = draw_line_sprites(&view.scene(), line, &mut dots);
     chip.answer_with(view, &dots, note);
@@ -164,10 +164,17 @@ fn draw_straight(chip: &mut ChipVdp, scene: &Scene)
     requires cycle { chip.old.next < 2 ^ 50 }
     ensures { chip.new ≡ record (lines.drawn_from (lines.told_view chip.old.next (seen scene.now)) (record chip.old { has_view = false })) { has_view = true } }
 {
-    let mut dots = [CLEAR; 320];
+    let mut dots = clear_dots();
     let line = line_of(chip.next().key.cycle);
     let note = draw_line_sprites(scene, line, &mut dots);
     chip.draw_line(scene, &dots, note);
+}
+
+/// A line on which no sprite is drawn.
+fn clear_dots() -> [Dot; 320]
+    ensures { AllColours result }
+{
+    [CLEAR; 320]
 }
 
 /// Draws the sprites of a line of the picture over clear dots: what they set. Behind the picture nothing

@@ -6,7 +6,7 @@ room-requires-clause-room c = λ l. omega (arith, c.know_segments.ensures.few c.
 
 pub returns-clause-run : goal.returns-clause-run
 returns-clause-run c =
-    c.know_segments.ensures.run c.args.core c.run_least.new.core c.args.from c.args.to c.requires.core c.requires.quiet c.requires.near c.requires.far c.requires.samples
+    c.know_segments.ensures.run c.args.core c.run_least.new.core c.args.from c.args.to c.requires.core c.requires.quiet c.requires.near c.requires.far c.requires.media
     c.run_least.ensures.core (c.run_least.ensures.first c.requires.entries)
 
 pub returns-clause-entries : goal.returns-clause-entries

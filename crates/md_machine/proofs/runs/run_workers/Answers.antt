@@ -6,7 +6,7 @@ run_core-requires-clause-room g c κs within = omega (arith, c.know_segments.ens
 
 pub returns-clause-run : goal.returns-clause-run
 returns-clause-run g c =
-    c.know_segments.ensures.run c.args.core c.run_core.result c.args.from c.args.to c.requires.core c.requires.quiet c.requires.near c.requires.far c.requires.samples
+    c.know_segments.ensures.run c.args.core c.run_core.result c.args.from c.args.to c.requires.core c.requires.quiet c.requires.near c.requires.far c.requires.media
     c.run_core.ensures.core c.run_core.ensures.run
 
 pub returns-clause-entries : goal.returns-clause-entries
