@@ -17,6 +17,8 @@ mod exceptions;
 #[cfg(test)]
 mod samples;
 #[cfg(test)]
+mod spelling;
+#[cfg(test)]
 mod text;
 #[cfg(test)]
 mod times;

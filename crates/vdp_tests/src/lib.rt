@@ -12,4 +12,6 @@ mod planes;
 #[cfg(test)]
 mod ports;
 #[cfg(test)]
+mod spelling;
+#[cfg(test)]
 mod sprites;
