@@ -1,4 +1,4 @@
-use Rattle.std.proofs.Common.{◌≡◌, ◌∙◌, ◌++◌, ◌+◌, ◌*◌, ◌-◌, ◌≤◌, List, ℕ, length, map, replicate, ap, append_assoc, arith}
+use Rattle.std.proofs.Common.{◌≡◌, ◌∙◌, ◌++◌, ◌*◌, ◌-◌, ◌≤◌, List, ℕ, length, map, replicate, ap, append_assoc, arith}
 use Rattle.std.specs.Int.{w16, to_be_bytes}
 use Rattle.md_fields.specs.Fields.{sizes, spelling}
 use Rattle.md_fields.proofs.Standing.{long_as_sized}
