@@ -4,3 +4,4 @@ pub mod Mixed
 pub mod Overflows
 pub mod PortBytes
 pub mod Ports
+pub mod SynthBytes

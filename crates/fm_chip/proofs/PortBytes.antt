@@ -1,6 +1,6 @@
 -- Laws of the bytes that keep the port.
-use Rattle.std.proofs.Common.{◌≡◌, ℕ, zero, suc, ◌+◌, ◌*◌, ◌-◌, ◌^◌, ◌<◌, ◌≤◌, ◌/◌, ◌%◌, Bool, true, false, cond, eqb, List, [], ◌∷◌, ◌++◌, length, get_or, map, take, drop, replicate, take_all, Option, Some, None, refl, sym, ap, subst, ◌∙◌, inl, inr, arith}
-use Rattle.std.specs.Prelude.{All, min, ◌&&◌, ◌||◌, nat_le, nat_lt, if◌then◌else◌}
+use Rattle.std.proofs.Common.{◌≡◌, ℕ, ◌+◌, ◌*◌, ◌-◌, ◌^◌, ◌<◌, ◌≤◌, ◌/◌, ◌%◌, Bool, true, false, cond, eqb, List, [], ◌∷◌, ◌++◌, length, get_or, map, take, drop, replicate, take_all, Some, None, refl, sym, ap, subst, ◌∙◌, inr, arith}
+use Rattle.std.specs.Prelude.{All, min, ◌&&◌, ◌||◌, nat_le, nat_lt}
 use Rattle.std.specs.List.{list_all}
 use Rattle.std.specs.Int.{w16, to_be_bytes}
 use Rattle.std.proofs.Math.Bridge.{le_prop}
@@ -19,12 +19,11 @@ use Rattle.md_fields.proofs.Items.{all_hold, kept, not_both, one_place, same}
 use Rattle.md_fields.proofs.Padding.{padded_back}
 use Rattle.md_fields.proofs.Standing.{IsBytes-drop, IsBytes-take}
 use Rattle.stamped_writes.specs.Entries.{AreFit, entries_bytes}
-use Rattle.stamped_writes.specs.Keys.{are_kept, is_kept}
+use Rattle.stamped_writes.specs.Keys.{is_kept}
 use Rattle.stamped_writes.proofs.Entries as entries
 use Rattle.stamped_writes.proofs.Tables.{first_behind, first_front, spelling_append}
 use Rattle.fm_chip.specs.Port.{IsPort, Port}
-use Rattle.fm_chip.specs.PortSpelling.{PortGoesWrongAt, SavedPort, SpellsPort, are_right, at_most_2, are_writes, is_next, is_write, key_of, list_fields, number_fields, port_bytes, port_fields, port_from, port_with, saved_numbers, saved_port, saved_write, timers_from, write_at, write_fields, write_from, writes_at, writes_from}
-use Rattle.fm_chip.specs.Timers.{IsTimers}
+use Rattle.fm_chip.specs.PortSpelling.{PortGoesWrongAt, SavedPort, SpellsPort, are_right, at_most_2, are_writes, is_next, is_write, key_of, list_fields, number_fields, port_bytes, port_fields, port_from, port_with, saved_numbers, saved_port, saved_write, write_at, write_fields, write_from, writes_at, writes_from}
 use Rattle.fm_chip.specs.declared.saved_port.SavedPort.{SavedPort as Numbers}
 use Rattle.fm_chip.specs.declared.saved_write.SavedWrite.{SavedWrite}
 use Rattle.fm_chip.specs.declared.write.FmWrite.{FmWrite}
@@ -38,9 +37,22 @@ write_size w = refl
 write_stands : (place : ℕ) (bytes : List ℕ) (rest : List Field) → Stand (place + 12) rest bytes → Stand place (write_fields (write_at place bytes) ++ rest) bytes
 unfolding Stand
 write_stands place bytes rest h =
-    let at = λ (m n : ℕ) (e : m ≡ n). ap (λ (k : ℕ). get_or bytes k 0) e in
-    (refl, (refl, (at (place + 9) (place + 8 + 1) (omega arith), (at (place + 10) (place + 8 + 1 + 1) (omega arith), (at (place + 11) (place + 8 + 1 + 1 + 1) (omega arith),
-    subst (λ (n : ℕ). Stand n rest bytes) (omega arith) h)))))
+    let at = λ (m n : ℕ) (e : m ≡ n). ap (λ (k : ℕ). get_or bytes k 0) e in (
+      refl,
+      (
+        refl,
+        (
+          at (place + 9) (place + 8 + 1) (omega arith),
+          (
+            at (place + 10) (place + 8 + 1 + 1) (omega arith),
+            (
+              at (place + 11) (place + 8 + 1 + 1 + 1) (omega arith),
+              subst (λ (n : ℕ). Stand n rest bytes) (omega arith) h,
+            ),
+          ),
+        ),
+      ),
+    )
 
 write_only : (place : ℕ) (bytes : List ℕ) (w : SavedWrite) (rest : List Field) → Stand place (write_fields w ++ rest) bytes → w ≡ write_at place bytes
 unfolding Stand

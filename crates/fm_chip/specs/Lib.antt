@@ -11,4 +11,5 @@ pub mod Registers
 pub mod Stamp
 pub mod Steps
 pub mod Synth
+pub mod SynthSpelling
 pub mod Timers

@@ -32,11 +32,11 @@ const KEYS: u8 = 0x28;
 /// Source: Yamaha, YM2608 Application Manual; Sega, Genesis Software Manual, FM registers.
 #[derive(Drop)]
 pub struct FmSynth {
-    registers: Registers,
-    latches: [u8; 9],
-    lfo: Lfo,
-    counter: u32,
-    channels: [Channel; 6],
+    pub(crate) registers: Registers,
+    pub(crate) latches: [u8; 9],
+    pub(crate) lfo: Lfo,
+    pub(crate) counter: u32,
+    pub(crate) channels: [Channel; 6],
 }
 
 impl Model for FmSynth {

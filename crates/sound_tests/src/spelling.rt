@@ -3,11 +3,13 @@
 //
 // The PSG's port: count 0, writes of ten bytes from 2. Its synthesis: latch 0, tones 1 to 5, noise 7,
 // volumes 8 to 11, counters 12 to 18, bits 20 to 23, register 24. The FM chip's port: latches 0 and 1,
-// registers 24 to 27 2 to 5, run and next of timer A 6 and 7, of timer B 15 and 16, flags 24 and 25, count
-// 26, writes of twelve bytes from 28.
-use fm_chip::{FmList, FmPort};
+// registers 24 to 27 at 2 to 5, run and next of timer A 6 and 7, of timer B 15 and 16, flags 24 and 25, count
+// 26, writes of twelve bytes from 28. Its synthesis: registers 0, latches 512, the oscillator's place 521
+// and count 522, the counter of the envelopes 523, 24 operators of eight bytes from 525 (phase, attenuation,
+// state and key at 0, 4, 6 and 7), six pairs of last outputs of four bytes from 717.
+use fm_chip::{FmList, FmPort, FmSynth, FmWrite};
 use md_word::{Key, Unspell};
-use psg_sound::{PsgList, PsgPort, PsgSynth};
+use psg_sound::{PsgList, PsgPort, PsgSynth, PsgWrite};
 use std::alloc::Global;
 use std::test::Fail;
 
@@ -22,12 +24,15 @@ const PSG: usize = 26;
 
 const FM_PORT: usize = 12_316;
 
+const FM: usize = 741;
+
 /// What a chip is spelled by and read from.
 #[derive(Clone, Copy)]
 enum Chip {
     PsgPort,
     Psg,
     FmPort,
+    Fm,
 }
 
 /// The place at which the bytes are refused.
@@ -36,6 +41,7 @@ fn place_of(alloc: Global, chip: Chip, bytes: &[u8]) -> Option<u64> {
         Chip::PsgPort => PsgPort::unspell(alloc, bytes, AT).err(),
         Chip::Psg => PsgSynth::unspell(alloc, bytes, AT).err(),
         Chip::FmPort => FmPort::unspell(alloc, bytes, AT).err(),
+        Chip::Fm => FmSynth::unspell(alloc, bytes, AT).err(),
     };
     match fault {
         Some(Unspell::Rule { place }) => Some(place),
@@ -65,14 +71,6 @@ fn place_with(
     place_of(alloc, chip, first(&changed, length))
 }
 
-/// A key of the 68000 or the Z80.
-fn key(cycle: u32, chip: u8) -> Key {
-    Key {
-        cycle: u64::from(cycle),
-        chip: chip % 2,
-    }
-}
-
 fn fm_write(port: &mut FmPort, cycle: u32, address: u8, value: u8) {
     let key = Key {
         cycle: u64::from(cycle),
@@ -82,7 +80,11 @@ fn fm_write(port: &mut FmPort, cycle: u32, address: u8, value: u8) {
 }
 
 fn psg_write(port: &mut PsgPort, cycle: u32, chip: u8, value: u8) {
-    port.write(key(cycle, chip), value);
+    let key = Key {
+        cycle: u64::from(cycle),
+        chip: chip % 2,
+    };
+    port.write(key, value);
 }
 
 /// A PSG's port that holds E7h of the 68000 at 16,128 and 9Fh of the Z80 at 16,130 (3F02h).
@@ -207,8 +209,8 @@ fn a_synthesis_runs_on(rt: HostRuntime) -> Result<(), Fail> {
         (700, 0xe7),
         (900, 0xf1),
     ] {
-        list.push(psg_sound::PsgWrite {
-            key: key(cycle, 0),
+        let _there_is_room = list.try_push(PsgWrite {
+            key: Key { cycle, chip: 0 },
             value,
         });
     }
@@ -322,6 +324,7 @@ fn lengths_are_exact(rt: HostRuntime) {
         (Chip::PsgPort, PSG_PORT),
         (Chip::Psg, PSG),
         (Chip::FmPort, FM_PORT),
+        (Chip::Fm, FM),
     ] {
         let bytes = [0; 12_400];
         for (given, place) in [(0, 0), (length - 1, length - 1), (length + 1, length)] {
@@ -331,4 +334,87 @@ fn lengths_are_exact(rt: HostRuntime) {
             );
         }
     }
+}
+
+// An FM synthesis in mid run, with the oscillator on and a note of the algorithm 4 with feedback on channel
+// 1, goes on as the one that is read from its bytes: the same samples.
+#[test]
+fn an_fm_synthesis_runs_on(rt: HostRuntime) -> Result<(), Fail> {
+    let mut list = FmList::new();
+    for (register, value) in [
+        (0x22, 0x0f),
+        (0x30, 0x71),
+        (0x50, 0x1f),
+        (0x58, 0x1f),
+        (0x60, 0x85),
+        (0xa4, 0x22),
+        (0xa0, 0x69),
+        (0xb0, 0x3c),
+        (0xb4, 0xf7),
+        (0x28, 0xf0),
+    ] {
+        let _there_is_room = list.try_push(FmWrite {
+            key: Key {
+                cycle: 100,
+                chip: 0,
+            },
+            port: 0,
+            register,
+            value,
+        });
+    }
+    let mut synth = FmSynth::power_on();
+    let mut out = [(0, 0); 16];
+    synth.batch(0, &list, &mut out);
+    synth.batch(16, &FmList::new(), &mut out);
+    let mut bytes = Vec::with_capacity(rt.alloc(), FM)?;
+    synth.spell(32_256, &mut bytes);
+    let mut again = FmSynth::unspell(rt.alloc(), &bytes, 32_256).map_err(|_| Fail::from(
+        "refused",
+    ))?;
+    let mut more = [(0, 0); 16];
+    synth.batch(32, &FmList::new(), &mut out);
+    again.batch(32, &FmList::new(), &mut more);
+    assert_eq!(rt; more, out);
+    Ok(())
+}
+
+/// The FM synthesis at power-on: every operator at 1,023 (03FFh) in release, which is 3, and all else 0.
+fn fm() -> [u8; FM_PORT] {
+    let mut bytes = [0; FM_PORT];
+    for operator in 0..24 {
+        bytes[529 + 8 * operator] = 0x03;
+        bytes[530 + 8 * operator] = 0xff;
+        bytes[531 + 8 * operator] = 3;
+    }
+    bytes
+}
+
+// Power-on is spelled so; and each rule broken once, at the field's own place: of the first operator and the
+// last, and of the last outputs, which may be -8,192 (E000h) and 8,191 (1FFFh), at the older one.
+#[test]
+fn rules_of_the_fm_chip(rt: HostRuntime) -> Result<(), Fail> {
+    let mut start = Vec::with_capacity(rt.alloc(), FM)?;
+    FmSynth::power_on().spell(0, &mut start);
+    assert_eq!(rt; start.as_slice(), first(&fm(), FM));
+    let rows = [
+        ([(0, 0xff), (512, 0xff), (520, 0xff)], None),
+        ([(521, 128); 3], Some(521)),
+        ([(522, 108); 3], Some(522)),
+        ([(523, 0x10); 3], Some(523)),
+        ([(526, 0x10); 3], Some(525)),
+        ([(529, 0x04), (530, 0x00), (531, 3)], Some(529)),
+        ([(531, 4); 3], Some(531)),
+        ([(532, 2); 3], Some(532)),
+        ([(710, 0x10); 3], Some(709)),
+        ([(716, 2); 3], Some(716)),
+        ([(717, 0xe0), (719, 0x1f), (720, 0xff)], None),
+        ([(717, 0x20); 3], Some(717)),
+        ([(719, 0xdf), (720, 0xff), (717, 0)], Some(717)),
+        ([(739, 0x20); 3], Some(737)),
+    ];
+    for (changes, place) in rows {
+        assert_eq!(rt; place_with(rt.alloc(), Chip::Fm, &fm(), FM, changes), place);
+    }
+    Ok(())
 }

@@ -1,5 +1,4 @@
-use Rattle.std.proofs.Common.{◌≡◌, ◌∙◌, ℕ, Bool, List, Option, Some, None, ap, sym, subst, true, false, arith}
-use Rattle.std.specs.Prelude.{is_some}
+use Rattle.std.proofs.Common.{◌≡◌, ◌∙◌, ℕ, Bool, List, ap, sym, subst, true, false, arith}
 use Rattle.md_fields.specs.Fields.{first_wrong, sizes}
 use Rattle.fm_chip.specs.PortSpelling.{SpellsPort, are_writes, port_with, writes_from}
 use Rattle.fm_chip.specs.declared.write.FmWrite.{FmWrite}

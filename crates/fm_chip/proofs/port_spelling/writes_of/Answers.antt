@@ -1,6 +1,6 @@
-use Rattle.std.proofs.Common.{◌≡◌, ◌∙◌, ◌*◌, ◌-◌, ℕ, Bool, List, length, ap, sym, map, take, drop, true, false, arith}
+use Rattle.std.proofs.Common.{◌≡◌, ◌∙◌, ◌*◌, ◌-◌, ℕ, Bool, List, length, ap, sym, take, drop, arith}
 use Rattle.md_fields.specs.Padding.{are_zeros}
-use Rattle.fm_chip.specs.PortSpelling.{are_right, write_from, writes_at}
+use Rattle.fm_chip.specs.PortSpelling.{are_right, writes_at}
 use Rattle.fm_chip.specs.declared.saved_write.SavedWrite.{SavedWrite}
 use Rattle.fm_chip.proofs.PortBytes.{all_right, left_there, not_right, not_zeros, too_many}
 use Rattle.fm_chip.proofs.port_spelling.writes_of.Goals as goal

@@ -1,6 +1,6 @@
 use Rattle.std.proofs.Common.{◌≡◌, ◌∙◌, Ok, ap, subst, sym}
 use Rattle.stamped_writes.proofs.Refusals.{told_right, told_wrong}
-use Rattle.fm_chip.specs.Port.{IsPort, Port}
+use Rattle.fm_chip.specs.Port.{IsPort}
 use Rattle.fm_chip.specs.PortSpelling.{PortGoesWrongAt, SpellsPort, port_with}
 use Rattle.fm_chip.specs.declared.timers.Timers.{Timers}
 use Rattle.fm_chip.proofs.PortBytes.{port_sound, right_nowhere, spelled_once, wrong_once}
