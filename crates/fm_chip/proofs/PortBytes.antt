@@ -37,9 +37,22 @@ write_size w = refl
 write_stands : (place : ℕ) (bytes : List ℕ) (rest : List Field) → Stand (place + 12) rest bytes → Stand place (write_fields (write_at place bytes) ++ rest) bytes
 unfolding Stand
 write_stands place bytes rest h =
-    let at = λ (m n : ℕ) (e : m ≡ n). ap (λ (k : ℕ). get_or bytes k 0) e in
-    (refl, (refl, (at (place + 9) (place + 8 + 1) (omega arith), (at (place + 10) (place + 8 + 1 + 1) (omega arith), (at (place + 11) (place + 8 + 1 + 1 + 1) (omega arith),
-    subst (λ (n : ℕ). Stand n rest bytes) (omega arith) h)))))
+    let at = λ (m n : ℕ) (e : m ≡ n). ap (λ (k : ℕ). get_or bytes k 0) e in (
+      refl,
+      (
+        refl,
+        (
+          at (place + 9) (place + 8 + 1) (omega arith),
+          (
+            at (place + 10) (place + 8 + 1 + 1) (omega arith),
+            (
+              at (place + 11) (place + 8 + 1 + 1 + 1) (omega arith),
+              subst (λ (n : ℕ). Stand n rest bytes) (omega arith) h,
+            ),
+          ),
+        ),
+      ),
+    )
 
 write_only : (place : ℕ) (bytes : List ℕ) (w : SavedWrite) (rest : List Field) → Stand place (write_fields w ++ rest) bytes → w ≡ write_at place bytes
 unfolding Stand

@@ -42,7 +42,10 @@ impl FmPort {
         let mut timers = self.timers;
         timers.settle(at);
         let count = self.writes.len();
-        put(&numbers_of(self.first, self.second, &timers).fields(at), into);
+        put(
+            &numbers_of(self.first, self.second, &timers).fields(at),
+            into,
+        );
         put_count(count as u16, into);
         put_writes(self.writes.as_slice(), into);
         put_zeros(WRITE * (MOST - count), into);

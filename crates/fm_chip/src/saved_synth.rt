@@ -1,5 +1,4 @@
 ghost use Rattle.std.specs.Prelude.{◌≡◌, ◌+◌, ◌<◌, ◌≤◌, ◌^◌, ◌&&◌, ◌++◌, length, map, take, drop, vec_len, vec_capacity};
-
 ghost use Rattle.md_fields.specs.Fields.{AreSized, first_wrong as wrong_place, seen, sizes, spelling};
 ghost use Rattle.fm_chip.specs.Channels.{IsChannel};
 ghost use Rattle.fm_chip.specs.SynthSpelling as meaning;

@@ -29,18 +29,47 @@ put_count-requires c =
 pub put_writes-requires : goal.put_writes-requires
 put_writes-requires c =
     let few : length c.as_slice.result.now ≤ 1024 = omega (arith, ap length c.as_slice.ensures.value, c.self.invariant.most) in
-    omega (arith, long_as_sized _ c.fields.ensures.sizes ∙ ap sizes c.fields.ensures.fields ∙ number_size c.args.at c.numbers_of.result, c.requires.room, c.put.ensures.length, c.put.ensures.room,
-    c.put_count.ensures.length, c.put_count.ensures.room, few)
+    omega (
+      arith,
+      long_as_sized _ c.fields.ensures.sizes ∙ ap sizes c.fields.ensures.fields ∙ number_size c.args.at c.numbers_of.result,
+      c.requires.room,
+      c.put.ensures.length,
+      c.put.ensures.room,
+      c.put_count.ensures.length,
+      c.put_count.ensures.room,
+      few,
+    )
 
 pub put_zeros-requires-clause-room : goal.put_zeros-requires-clause-room
 put_zeros-requires-clause-room c =
-    omega (arith, long_as_sized _ c.fields.ensures.sizes ∙ ap sizes c.fields.ensures.fields ∙ number_size c.args.at c.numbers_of.result, c.requires.room, c.put.ensures.length, c.put.ensures.room,
-    c.put_count.ensures.length, c.put_count.ensures.room, c.put_writes.ensures.length, c.put_writes.ensures.room, ap length c.as_slice.ensures.value, c.len-count.ensures.value, c.self.invariant.most)
+    omega (
+      arith,
+      long_as_sized _ c.fields.ensures.sizes ∙ ap sizes c.fields.ensures.fields ∙ number_size c.args.at c.numbers_of.result,
+      c.requires.room,
+      c.put.ensures.length,
+      c.put.ensures.room,
+      c.put_count.ensures.length,
+      c.put_count.ensures.room,
+      c.put_writes.ensures.length,
+      c.put_writes.ensures.room,
+      ap length c.as_slice.ensures.value,
+      c.len-count.ensures.value,
+      c.self.invariant.most,
+    )
 
 pub returns-clause-length : goal.returns-clause-length
 returns-clause-length c =
-    omega (arith, long_as_sized _ c.fields.ensures.sizes ∙ ap sizes c.fields.ensures.fields ∙ number_size c.args.at c.numbers_of.result, c.put.ensures.length,
-    c.put_count.ensures.length, c.put_writes.ensures.length, c.put_zeros.ensures.length, ap length c.as_slice.ensures.value, c.len-count.ensures.value, c.self.invariant.most)
+    omega (
+      arith,
+      long_as_sized _ c.fields.ensures.sizes ∙ ap sizes c.fields.ensures.fields ∙ number_size c.args.at c.numbers_of.result,
+      c.put.ensures.length,
+      c.put_count.ensures.length,
+      c.put_writes.ensures.length,
+      c.put_zeros.ensures.length,
+      ap length c.as_slice.ensures.value,
+      c.len-count.ensures.value,
+      c.self.invariant.most,
+    )
 
 pub returns-clause-bytes : goal.returns-clause-bytes
 returns-clause-bytes c =
