@@ -6,7 +6,7 @@ use Rattle.std.proofs.lemmas.Slice.Eq.{bytes_eq-Decides}
 use Rattle.rom_header.specs.Header.{header_lines}
 use Rattle.md_outer.specs.Outside.{DepotState, Files, Rose, SinkState, bytes_of, with_file}
 use Rattle.md_pads.specs.Recording.{GoesWrongAt, IsSpelled}
-use Rattle.md_top.specs.Answers.{Causes, PutsAll, PutsOutput, PutsPart, Reports}
+use Rattle.md_top.specs.Answers.{Answers, Causes, PutsAll, PutsOutput, PutsPart, Reports}
 use Rattle.md_top.specs.Inputs.{IsAccepted, IsJudged, IsMissing, Recorded, RecordingCause, Verdict, cart_of, recording_limit}
 use Rattle.md_top.specs.Limits.{last_cycle}
 use Rattle.md_top.specs.Runs.{journal_of, sound_of}
@@ -314,23 +314,33 @@ causes_of told sink (RunCart run) old new out out' status ending cause leaves re
     }
 
 -- where memory was wanting for the words
-pub memory_cause : (told : Type 0) (command : Option Command) (old : DepotState) → HasCause told command old old Memory
+memory_cause : (told : Type 0) (command : Option Command) (old : DepotState) → HasCause told command old old Memory
 memory_cause told None old = tt
 memory_cause told (Some (Info rom)) old = tt
 memory_cause told (Some (RunCart run)) old = tt
 
-pub memory_leaves : (command : Option Command) (files : Files) → LeavesFiles command files files Memory
+memory_leaves : (command : Option Command) (files : Files) → LeavesFiles command files files Memory
 memory_leaves None files = refl
 memory_leaves (Some (Info rom)) files = refl
 memory_leaves (Some (RunCart run)) files = record { sound = None; journal = None; sound_part = tt; journal_part = tt; files = refl }
 
-pub memory_reports : (sink : Type 0) (command : Option Command) (out out' : SinkState) (status : ℕ) → status ≡ 10
+memory_reports : (sink : Type 0) (command : Option Command) (out out' : SinkState) (status : ℕ) → status ≡ 10
     → PutsAll sink (codes "refused: memory\n") out out' ⊎ PutsPart sink (codes "refused: memory\n") out out' → Reports sink command Memory out out' status
 memory_reports sink None out out' status ten put = (ten, put)
 memory_reports sink (Some command) out out' status ten put = (ten, put)
 
+pub memory_answers : (told sink : Type 0) (command : Option Command) (old : DepotState) (out out' : SinkState) (status : ℕ) → status ≡ 10
+    → PutsAll sink (codes "refused: memory\n") out out' ⊎ PutsPart sink (codes "refused: memory\n") out out' → Answers told sink command old old out out' status
+memory_answers told sink command old out out' status ten put = record {
+  ending = Memory;
+  cause = memory_cause told command old;
+  files = λ t. memory_leaves command old.files;
+  reports = memory_reports sink command out out' status ten put;
+}
+
 pub memory_causes : (told sink : Type 0) (command : Option Command) (old : DepotState) (out out' : SinkState) (status : ℕ) → status ≡ 10
-    → Reports sink command Memory out out' status → Causes told command old old out out' status
-memory_causes told sink None old out out' status ten reports = none_causes told old out out' status (inr ten)
-memory_causes told sink (Some command) old out out' status ten reports =
-    causes_of told sink command old old out out' status Memory (memory_cause told (Some command) old) (λ t. memory_leaves (Some command) old.files) reports
+    → PutsAll sink (codes "refused: memory\n") out out' ⊎ PutsPart sink (codes "refused: memory\n") out out' → Causes told command old old out out' status
+memory_causes told sink None old out out' status ten put = none_causes told old out out' status (inr ten)
+memory_causes told sink (Some command) old out out' status ten put =
+    causes_of told sink command old old out out' status Memory (memory_cause told (Some command) old) (λ t. memory_leaves (Some command) old.files)
+    (memory_reports sink (Some command) out out' status ten put)

@@ -1,11 +1,14 @@
-ghost use Rattle.std.specs.Prelude.{◌≡◌, None, Some, map, string_bytes};
+ghost use Rattle.std.specs.Prelude.{◌≡◌, ℕ, ◌≤◌, None, Some, map, string_bytes};
 ghost use Rattle.md_top.specs.Answers.{Answers, Causes};
+ghost use Rattle.md_top.specs.Workers.{CanGoOn, WentOn};
+ghost use Rattle.md_words.specs.Shown.{shown_command};
 ghost use Rattle.md_words.specs.Words.{command_of};
 
 use crate::perform::perform;
 use crate::report::{refuse, report};
+use md_machine::Machine;
 use md_outer::{Depot, Gate, Sink};
-use md_words::read_words;
+use md_words::{CommandWords, read_words};
 use std::alloc::Global;
 use std::sync::Wait;
 use std::thread::Threads;
@@ -18,7 +21,8 @@ use std::thread::Threads;
 /// wanted, runs the cartridge ROM from power-on for N master cycles, 1 to 549,755,813,888, with what
 /// the recording P presses on the pads, and writes its sound into W and the journal of its accesses
 /// into J. Files are fetched from the depot and written to it, a segment of at most 896,040 cycles
-/// after the other; the lines are put into `out`. It waits for nobody.
+/// after the other; the lines are put into `out`. It waits for nobody: whatever `--workers` asks for,
+/// one worker makes the run.
 pub fn drive_one<D: Depot, S: Sink>(
     alloc: Global,
     words: &Vec<String>,
@@ -30,29 +34,75 @@ pub fn drive_one<D: Depot, S: Sink>(
     ensures causes { Causes D.told (command_of (map string_bytes words.now.items))
         (D.state depot.old) (D.state depot.new) (S.state out.old) (S.state out.new) result }
 {
+    let alone = |machine: &mut Machine, to: u64|
+        requires can { CanGoOn machine.old to }
+        ensures went { WentOn machine.old to machine.new }
+    {
+        machine.alone(to);
+    };
     match read_words(alloc, words.as_slice()) {
-        Ok(Some(command)) => {
-            let ending = perform(alloc, &command, depot);
-            report(&command, ending, out)
-        }
+        Ok(Some(command)) => obey(alloc, &alone, &command, depot, out),
         Ok(None) => refuse(out, 2, "refused: usage\n", "", ""),
         Err(_) => refuse(out, 10, "refused: memory\n", "", ""),
     }
 }
 
-/// Does the same as `drive_one`, with the right to threads and to waiting for them.
+/// Does the same as `drive_one`, a run with as many workers as `--workers K` asks for, 1 to 5.
+///
+/// One worker, and where nothing is said of them, is `drive_one`. Of several the caller is the last;
+/// each other one is a thread, and passes the gate before it looks for the turn of a chip. The
+/// threads of a segment have ended before its records are written. The call may wait for them; where
+/// it returns, its answer is that of `drive_one`.
 pub fn drive<D: Depot, S: Sink, G: Gate, Rt: Threads + Wait + Sync>(
-    _rt: &Rt,
+    rt: &Rt,
     alloc: Global,
     words: &Vec<String>,
     depot: &mut D,
     out: &mut S,
-    _gate: &G,
+    gate: &G,
 ) -> u8
     ensures answer { Answers D.told S.told (command_of (map string_bytes words.now.items))
         (D.state depot.old) (D.state depot.new) (S.state out.old) (S.state out.new) result }
     ensures causes { Causes D.told (command_of (map string_bytes words.now.items))
         (D.state depot.old) (D.state depot.new) (S.state out.old) (S.state out.new) result }
 {
-    drive_one(alloc, words, depot, out)
+    match read_words(alloc, words.as_slice()) {
+        Ok(Some(command)) => {
+            let number = command.workers();
+            if number > 1 {
+                let together = |machine: &mut Machine, to: u64|
+                    requires some { 1 ≤ number }
+                    requires few { number ≤ 5 }
+                    requires can { CanGoOn machine.old to }
+                    ensures went { WentOn machine.old to machine.new }
+                {
+                    machine.segment(rt, to, number, gate);
+                };
+                obey(alloc, &together, &command, depot, out)
+            } else {
+                drive_one(alloc, words, depot, out)
+            }
+        }
+        Ok(None) => drive_one(alloc, words, depot, out),
+        Err(_) => refuse(out, 10, "refused: memory\n", "", ""),
+    }
+}
+
+/// Does what a command asks for, and reports what it comes to. `go_on` makes each segment of a run.
+fn obey<F: Fn(&mut Machine, u64), D: Depot, S: Sink>(
+    alloc: Global,
+    go_on: &F,
+    command: &CommandWords<'_>,
+    depot: &mut D,
+    out: &mut S,
+) -> u8
+    requires may { (m : _) (to : ℕ) → CanGoOn m.now to → F.pre go_on.now m to }
+    requires goes { (m : _) (to : ℕ) (after : _) → F.post go_on.now m to tt after → WentOn m.now to after.now }
+    ensures answer { Answers D.told S.told (Some (shown_command command.now))
+        (D.state depot.old) (D.state depot.new) (S.state out.old) (S.state out.new) result }
+    ensures causes { Causes D.told (Some (shown_command command.now))
+        (D.state depot.old) (D.state depot.new) (S.state out.old) (S.state out.new) result }
+{
+    let ending = perform(alloc, go_on, command, depot);
+    report(command, ending, out)
 }

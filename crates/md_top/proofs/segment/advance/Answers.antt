@@ -4,11 +4,13 @@ use Rattle.md_machine.specs.Outputs.{journal_bytes, sound_bytes}
 use Rattle.md_machine.specs.Samples.{no_samples}
 use Rattle.md_top.specs.Courses.{cycle_of, inputs_in, inputs_of}
 use Rattle.md_top.specs.Runs.{entries_to, samples_to}
+use Rattle.md_top.specs.Workers.{WentOn}
 use Rattle.md_top.proofs.Segments.{Segment, came-to, few-entries, journal_bytes-append, paired, segment, sound_bytes-append}
 use Rattle.md_top.proofs.segment.advance.Goals as goal
 
 pub overflow_add-course : goal.overflow_add-course
-overflow_add-course c =
+overflow_add-course g c =
+    let went : WentOn c.args.course.now.machine c.args.to c.go_on.new.arg2 = c.requires.goes _ c.args.to _ c.go_on.ensures in
     let few : length (entries_to (inputs_in c.args.course.now) (cycle_of c.args.course.now)) ≤ cycle_of c.args.course.now + 5 =
     few-entries (inputs_in c.args.course.now) (cycle_of c.args.course.now) c.args.course.now.machine.console c.requires.underway.few
     (omega (arith, c.requires.later, c.requires.far)) c.requires.underway.run in
@@ -22,29 +24,36 @@ overflow_add-course c =
       c.drain_entries.ensures.length,
       c.clear-2.ensures.len,
       ap (λ (m : MachineValue). length m.entries) c.drain_pairs.ensures.machine,
-      c.alone.ensures.entries,
+      went.entries,
     )
 
 pub returns-clause-inputs : goal.returns-clause-inputs
-returns-clause-inputs c =
-    let made : Segment (inputs_in c.args.course.now) (cycle_of c.args.course.now) c.args.to c.alone.new.self =
-    segment (inputs_in c.args.course.now) (cycle_of c.args.course.now) c.args.to c.args.course.now.machine.console c.alone.new.self c.requires.underway.few
-    (omega (arith, c.requires.far)) (omega (arith, c.requires.later)) c.requires.underway.run c.alone.ensures.run in
+returns-clause-inputs g c =
+    let went : WentOn c.args.course.now.machine c.args.to c.go_on.new.arg2 = c.requires.goes _ c.args.to _ c.go_on.ensures in
+    let made : Segment (inputs_in c.args.course.now) (cycle_of c.args.course.now) c.args.to c.go_on.new.arg2 =
+    segment (inputs_in c.args.course.now) (cycle_of c.args.course.now) c.args.to c.args.course.now.machine.console c.go_on.new.arg2 c.requires.underway.few
+    (omega (arith, c.requires.far)) (omega (arith, c.requires.later)) c.requires.underway.run went.run in
     ap (λ (m : MachineValue). inputs_of m.console) (c.drain_entries.ensures.machine ∙ ap (λ (m : MachineValue). record m { entries = [] }) c.drain_pairs.ensures.machine)
     ∙ made.same_inputs
 
+pub returns-clause-cycle : goal.returns-clause-cycle
+returns-clause-cycle g c =
+    let went : WentOn c.args.course.now.machine c.args.to c.go_on.new.arg2 = c.requires.goes _ c.args.to _ c.go_on.ensures in
+    ap (λ (m : MachineValue). m.at) c.drain_entries.ensures.machine ∙ ap (λ (m : MachineValue). m.at) c.drain_pairs.ensures.machine ∙ went.at
+
 pub returns-clause-underway : goal.returns-clause-underway
-returns-clause-underway c =
-    let made : Segment (inputs_in c.args.course.now) (cycle_of c.args.course.now) c.args.to c.alone.new.self =
-    segment (inputs_in c.args.course.now) (cycle_of c.args.course.now) c.args.to c.args.course.now.machine.console c.alone.new.self c.requires.underway.few
-    (omega (arith, c.requires.far)) (omega (arith, c.requires.later)) c.requires.underway.run c.alone.ensures.run in
-    let after : c.drain_entries.new.self ≡ record { at = c.args.to; console = c.alone.new.self.console; entries = []; samples = no_samples } =
+returns-clause-underway g c =
+    let went : WentOn c.args.course.now.machine c.args.to c.go_on.new.arg2 = c.requires.goes _ c.args.to _ c.go_on.ensures in
+    let made : Segment (inputs_in c.args.course.now) (cycle_of c.args.course.now) c.args.to c.go_on.new.arg2 =
+    segment (inputs_in c.args.course.now) (cycle_of c.args.course.now) c.args.to c.args.course.now.machine.console c.go_on.new.arg2 c.requires.underway.few
+    (omega (arith, c.requires.far)) (omega (arith, c.requires.later)) c.requires.underway.run went.run in
+    let after : c.drain_entries.new.self ≡ record { at = c.args.to; console = c.go_on.new.arg2.console; entries = []; samples = no_samples } =
     c.drain_entries.ensures.machine ∙ ap (λ (m : MachineValue). record m { entries = [] }) c.drain_pairs.ensures.machine
-    ∙ ap (λ (at : ℕ). record { at = at; console = c.alone.new.self.console; entries = []; samples = no_samples }) c.alone.ensures.at in
+    ∙ ap (λ (at : ℕ). record { at = at; console = c.go_on.new.arg2.console; entries = []; samples = no_samples }) went.at in
     let more : length (entries_to (inputs_in c.args.course.now) c.args.to)
-    ≡ length (entries_to (inputs_in c.args.course.now) (cycle_of c.args.course.now)) + length c.alone.new.self.entries =
-    ap length made.entries ∙ length-append (entries_to (inputs_in c.args.course.now) (cycle_of c.args.course.now)) c.alone.new.self.entries in
-    came-to (inputs_in c.args.course.now) (cycle_of c.args.course.now) c.args.to (c.args.course.now.accesses + c.len.result / 16) c.alone.new.self c.drain_entries.new.self
+    ≡ length (entries_to (inputs_in c.args.course.now) (cycle_of c.args.course.now)) + length c.go_on.new.arg2.entries =
+    ap length made.entries ∙ length-append (entries_to (inputs_in c.args.course.now) (cycle_of c.args.course.now)) c.go_on.new.arg2.entries in
+    came-to (inputs_in c.args.course.now) (cycle_of c.args.course.now) c.args.to (c.args.course.now.accesses + c.len.result / 16) c.go_on.new.arg2 c.drain_entries.new.self
     c.requires.underway.few made after
     (omega (
       arith,
@@ -57,23 +66,25 @@ returns-clause-underway c =
     ))
 
 pub returns-clause-pairs : goal.returns-clause-pairs
-returns-clause-pairs c =
-    let made : Segment (inputs_in c.args.course.now) (cycle_of c.args.course.now) c.args.to c.alone.new.self =
-    segment (inputs_in c.args.course.now) (cycle_of c.args.course.now) c.args.to c.args.course.now.machine.console c.alone.new.self c.requires.underway.few
-    (omega (arith, c.requires.far)) (omega (arith, c.requires.later)) c.requires.underway.run c.alone.ensures.run in
-    let piece : c.drain_pairs.new.into.items ≡ sound_bytes c.alone.new.self.samples =
-    c.drain_pairs.ensures.bytes ∙ ap (λ (l : List ℕ). l ++ sound_bytes c.alone.new.self.samples) c.clear.ensures.items in
-    ap sound_bytes made.samples ∙ sound_bytes-append (samples_to (inputs_in c.args.course.now) (cycle_of c.args.course.now)) c.alone.new.self.samples
+returns-clause-pairs g c =
+    let went : WentOn c.args.course.now.machine c.args.to c.go_on.new.arg2 = c.requires.goes _ c.args.to _ c.go_on.ensures in
+    let made : Segment (inputs_in c.args.course.now) (cycle_of c.args.course.now) c.args.to c.go_on.new.arg2 =
+    segment (inputs_in c.args.course.now) (cycle_of c.args.course.now) c.args.to c.args.course.now.machine.console c.go_on.new.arg2 c.requires.underway.few
+    (omega (arith, c.requires.far)) (omega (arith, c.requires.later)) c.requires.underway.run went.run in
+    let piece : c.drain_pairs.new.into.items ≡ sound_bytes c.go_on.new.arg2.samples =
+    c.drain_pairs.ensures.bytes ∙ ap (λ (l : List ℕ). l ++ sound_bytes c.go_on.new.arg2.samples) c.clear.ensures.items in
+    ap sound_bytes made.samples ∙ sound_bytes-append (samples_to (inputs_in c.args.course.now) (cycle_of c.args.course.now)) c.go_on.new.arg2.samples
     (paired (inputs_in c.args.course.now) (cycle_of c.args.course.now) c.requires.underway.few (omega (arith, c.requires.later, c.requires.far)))
     ∙ ap (λ (l : List ℕ). sound_bytes (samples_to (inputs_in c.args.course.now) (cycle_of c.args.course.now)) ++ l) (sym piece)
 
 pub returns-clause-records : goal.returns-clause-records
-returns-clause-records c =
-    let made : Segment (inputs_in c.args.course.now) (cycle_of c.args.course.now) c.args.to c.alone.new.self =
-    segment (inputs_in c.args.course.now) (cycle_of c.args.course.now) c.args.to c.args.course.now.machine.console c.alone.new.self c.requires.underway.few
-    (omega (arith, c.requires.far)) (omega (arith, c.requires.later)) c.requires.underway.run c.alone.ensures.run in
-    let piece : c.drain_entries.new.into.items ≡ journal_bytes c.alone.new.self.entries =
+returns-clause-records g c =
+    let went : WentOn c.args.course.now.machine c.args.to c.go_on.new.arg2 = c.requires.goes _ c.args.to _ c.go_on.ensures in
+    let made : Segment (inputs_in c.args.course.now) (cycle_of c.args.course.now) c.args.to c.go_on.new.arg2 =
+    segment (inputs_in c.args.course.now) (cycle_of c.args.course.now) c.args.to c.args.course.now.machine.console c.go_on.new.arg2 c.requires.underway.few
+    (omega (arith, c.requires.far)) (omega (arith, c.requires.later)) c.requires.underway.run went.run in
+    let piece : c.drain_entries.new.into.items ≡ journal_bytes c.go_on.new.arg2.entries =
     c.drain_entries.ensures.bytes ∙ ap (λ (l : List ℕ). l ++ journal_bytes c.drain_pairs.new.self.entries) c.clear-2.ensures.items
     ∙ ap (λ (m : MachineValue). journal_bytes m.entries) c.drain_pairs.ensures.machine in
-    ap journal_bytes made.entries ∙ journal_bytes-append (entries_to (inputs_in c.args.course.now) (cycle_of c.args.course.now)) c.alone.new.self.entries
+    ap journal_bytes made.entries ∙ journal_bytes-append (entries_to (inputs_in c.args.course.now) (cycle_of c.args.course.now)) c.go_on.new.arg2.entries
     ∙ ap (λ (l : List ℕ). journal_bytes (entries_to (inputs_in c.args.course.now) (cycle_of c.args.course.now)) ++ l) (sym piece)

@@ -2,8 +2,8 @@ use Rattle.std.proofs.Common.{◌≡◌, Global, None, Option, Some, map, refl, 
 use Rattle.md_top.specs.Answers.{Answers, Causes}
 use Rattle.md_words.specs.Shown.{shown_command}
 use Rattle.md_words.specs.Words.{Command, command_of}
-use Rattle.md_top.specs.declared.ending.Ending.TheVariants.{Memory, Usage}
-use Rattle.md_top.proofs.Rows.{causes_of, memory_cause, memory_causes, memory_leaves, memory_reports}
+use Rattle.md_top.specs.declared.ending.Ending.TheVariants.{Usage}
+use Rattle.md_top.proofs.Rows.{memory_answers, memory_causes}
 use Rattle.md_top.proofs.top.drive_one.Goals as goal
 
 pub returns-in-Ok-None-clause-answer : goal.returns-in-Ok-None-clause-answer
@@ -16,33 +16,32 @@ returns-in-Ok-None-clause-answer g c =
     words
     (record { ending = Usage; cause = tt; files = λ t. refl; reports = (c.refuse.ensures.status, c.refuse.ensures.put) })
 
+pub returns-in-Ok-Some-clause-answer : goal.returns-in-Ok-Some-clause-answer
+returns-in-Ok-Some-clause-answer g c =
+    let words : Some (shown_command c.in-Ok-Some.command) ≡ command_of (map (string_bytes {Z = Global}) c.args.words.now.items) =
+    rw c.as_slice.ensures.value at (rw c.in-Ok-Some.field-0-is at (c.in-Ok-Some.ensures {u = tt})) in
+    subst
+    (λ (asked : Option Command). Answers g.D.Depot.told g.S.Sink.told asked (g.D.Depot.state c.args.depot.now) (g.D.Depot.state c.obey.new.depot)
+    (g.S.Sink.state c.args.out.now) (g.S.Sink.state c.obey.new.out) c.obey.result)
+    words
+    c.obey.ensures.answer
+
 pub returns-in-Ok-Some-clause-causes : goal.returns-in-Ok-Some-clause-causes
 returns-in-Ok-Some-clause-causes g c =
     let words : Some (shown_command c.in-Ok-Some.command) ≡ command_of (map (string_bytes {Z = Global}) c.args.words.now.items) =
     rw c.as_slice.ensures.value at (rw c.in-Ok-Some.field-0-is at (c.in-Ok-Some.ensures {u = tt})) in
     subst
-    (λ (asked : Option Command). Causes g.D.Depot.told asked (g.D.Depot.state c.args.depot.now) (g.D.Depot.state c.perform-ending.new.depot)
-    (g.S.Sink.state c.args.out.now) (g.S.Sink.state c.report.new.out) c.report.result)
+    (λ (asked : Option Command). Causes g.D.Depot.told asked (g.D.Depot.state c.args.depot.now) (g.D.Depot.state c.obey.new.depot)
+    (g.S.Sink.state c.args.out.now) (g.S.Sink.state c.obey.new.out) c.obey.result)
     words
-    (causes_of g.D.Depot.told g.S.Sink.told (shown_command c.in-Ok-Some.command) (g.D.Depot.state c.args.depot.now) (g.D.Depot.state c.perform-ending.new.depot)
-    (g.S.Sink.state c.args.out.now) (g.S.Sink.state c.report.new.out) c.report.result c.perform-ending.result
-    c.perform-ending.ensures.cause c.perform-ending.ensures.files c.report.ensures)
+    c.obey.ensures.causes
 
 pub returns-in-Err-clause-answer : goal.returns-in-Err-clause-answer
 returns-in-Err-clause-answer g c =
-    let command = command_of (map (string_bytes {Z = Global}) c.args.words.now.items) in
-    record {
-      ending = Memory;
-      cause = memory_cause g.D.Depot.told command (g.D.Depot.state c.args.depot.now);
-      files = λ t. memory_leaves command (g.D.Depot.state c.args.depot.now).files;
-      reports = memory_reports g.S.Sink.told command (g.S.Sink.state c.args.out.now) (g.S.Sink.state c.refuse-in-Err.new.out) c.refuse-in-Err.result
-          c.refuse-in-Err.ensures.status c.refuse-in-Err.ensures.put;
-    }
+    memory_answers g.D.Depot.told g.S.Sink.told (command_of (map (string_bytes {Z = Global}) c.args.words.now.items)) (g.D.Depot.state c.args.depot.now)
+    (g.S.Sink.state c.args.out.now) (g.S.Sink.state c.refuse-in-Err.new.out) c.refuse-in-Err.result c.refuse-in-Err.ensures.status c.refuse-in-Err.ensures.put
 
 pub returns-in-Err-clause-causes : goal.returns-in-Err-clause-causes
 returns-in-Err-clause-causes g c =
-    let command = command_of (map (string_bytes {Z = Global}) c.args.words.now.items) in
-    memory_causes g.D.Depot.told g.S.Sink.told command (g.D.Depot.state c.args.depot.now) (g.S.Sink.state c.args.out.now) (g.S.Sink.state c.refuse-in-Err.new.out)
-    c.refuse-in-Err.result c.refuse-in-Err.ensures.status
-    (memory_reports g.S.Sink.told command (g.S.Sink.state c.args.out.now) (g.S.Sink.state c.refuse-in-Err.new.out) c.refuse-in-Err.result
-    c.refuse-in-Err.ensures.status c.refuse-in-Err.ensures.put)
+    memory_causes g.D.Depot.told g.S.Sink.told (command_of (map (string_bytes {Z = Global}) c.args.words.now.items)) (g.D.Depot.state c.args.depot.now)
+    (g.S.Sink.state c.args.out.now) (g.S.Sink.state c.refuse-in-Err.new.out) c.refuse-in-Err.result c.refuse-in-Err.ensures.status c.refuse-in-Err.ensures.put
