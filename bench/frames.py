@@ -1,13 +1,17 @@
 #!/usr/bin/env python3
-"""Emulated frames a second, and the peak of memory, of the program that `rt ci` has built.
+"""Emulated frames a second, context switches and the peak of memory, of the program that `rt ci` has
+built.
 
     bench/frames.py [FRAMES]
 
-It runs four cartridges for FRAMES frames of 896,040 cycles, 600 if not given, with one thread and
+It runs four cartridges for FRAMES frames of 896,040 cycles, 600 if not given, with one worker and
 with both outputs: `idle` is a branch to itself, `scale` and `chord` are those of examples, and
-`transfer` moves 7,500 bytes into the VDP's memory in the vertical blanking of each frame. The times
-are those of the clock on the wall, the program's start and the writing of its files included.
+`transfer` moves 7,500 bytes into the VDP's memory in the vertical blanking of each frame. Then it
+runs `chord` for a tenth of them with 1, 2, 3 and 5 workers. The times are those of the clock on the
+wall, the program's start and the writing of its files included; the switches are those of all its
+threads, those that wait and those that are made to.
 """
+import os
 import pathlib
 import subprocess
 import sys
@@ -52,19 +56,28 @@ def memory(run):
     return max((int(line.split()[1]) for line in lines if line.startswith("VmHWM:")), default=0)
 
 
-def measure(name, image, frames, folder):
-    words = [PROGRAM, "run", image, "--cycles", str(frames * FRAME)]
+def measure(name, image, frames, folder, workers=1):
+    words = [PROGRAM, "run", image, "--cycles", str(frames * FRAME), "--workers", str(workers)]
     words += ["--sound", folder / "sound.wav", "--journal", folder / "journal"]
     start = time.perf_counter()
     run = subprocess.Popen(words, stdout=subprocess.DEVNULL)
     peak = 0
-    while run.poll() is None:
+    while True:
+        ended, status, used = os.wait4(run.pid, os.WNOHANG)
+        if ended:
+            break
         peak = max(peak, memory(run))
         time.sleep(0.005)
     seconds = time.perf_counter() - start
+    run.returncode = os.waitstatus_to_exitcode(status)
     if run.returncode != 0:
         sys.exit(f"{name}: status {run.returncode}")
-    print(f"{name}: {frames / seconds:.0f} frames a second, {peak / 1024:.1f} MiB at most")
+    switches = used.ru_nvcsw + used.ru_nivcsw
+    print(
+        f"{name}, workers {workers}: {frames / seconds:.0f} frames a second, "
+        f"{switches} context switches, {peak / 1024:.1f} MiB at most",
+        flush=True,
+    )
 
 
 def main():
@@ -82,6 +95,8 @@ def main():
             image = folder / f"{cartridge}.bin"
             build(sources[cartridge], image)
             measure(cartridge, image, frames, folder)
+        for workers in (1, 2, 3, 5):
+            measure("chord", folder / "chord.bin", max(frames // 10, 1), folder, workers)
 
 
 if __name__ == "__main__":

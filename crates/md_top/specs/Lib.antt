@@ -6,3 +6,4 @@ pub mod Least
 pub mod Limits
 pub mod Outputs
 pub mod Runs
+pub mod Workers

@@ -15,6 +15,5 @@ mod run_on;
 mod segment;
 mod text;
 mod top;
-mod workers;
 
 pub use top::{drive, drive_one};

@@ -1,5 +1,6 @@
-ghost use Rattle.std.specs.Prelude.{◌≡◌, Some};
+ghost use Rattle.std.specs.Prelude.{◌≡◌, ℕ, Some};
 ghost use Rattle.md_top.specs.Endings.{HasCause, InfoEnds, LeavesFiles, RunEnds, RunFiles};
+ghost use Rattle.md_top.specs.Workers.{CanGoOn, WentOn};
 ghost use Rattle.md_words.specs.Shown.{shown_command, shown_run};
 
 use crate::ending::Ending;
@@ -7,7 +8,7 @@ use crate::reading::{read_cart, read_inputs};
 use crate::run_on::write_all;
 use crate::segment::power_on;
 use crate::text::Text;
-use crate::workers::Workers;
+use md_machine::Machine;
 use md_outer::Depot;
 use md_word::NoMemory;
 use md_words::{CommandWords, RunWords};
@@ -16,19 +17,21 @@ use std::alloc::Global;
 /// The last cycle to which a run may go.
 const LAST_CYCLE: u64 = 549_755_813_888;
 
-/// Does what the words ask for, up to what is to be put.
-pub(crate) fn perform<W: Workers, D: Depot>(
+/// Does what the words ask for, up to what is to be put. `go_on` makes each segment of a run.
+pub(crate) fn perform<F: Fn(&mut Machine, u64), D: Depot>(
     alloc: Global,
-    workers: &W,
+    go_on: &F,
     command: &CommandWords<'_>,
     depot: &mut D,
 ) -> Ending
+    requires may { (m : _) (to : ℕ) → CanGoOn m.now to → F.pre go_on.now m to }
+    requires goes { (m : _) (to : ℕ) (after : _) → F.post go_on.now m to tt after → WentOn m.now to after.now }
     ensures cause { HasCause D.told (Some (shown_command command.now)) (D.state depot.old) (D.state depot.new) result }
     ensures files { D.told → LeavesFiles (Some (shown_command command.now)) (D.state depot.old).files (D.state depot.new).files result }
 {
     match command {
         CommandWords::Info(rom) => show_header(alloc, rom, depot),
-        CommandWords::Run(run) => run_cart(alloc, workers, run, depot),
+        CommandWords::Run(run) => run_cart(alloc, go_on, run, depot),
     }
 }
 
@@ -47,14 +50,16 @@ fn show_header<D: Depot>(alloc: Global, rom: &str, depot: &mut D) -> Ending
     }
 }
 
-/// Has the workers run the cartridge that the words name, with the recording if they name one, and
-/// writes the outputs that they ask for.
-fn run_cart<W: Workers, D: Depot>(
+/// Runs the cartridge that the words name, with the recording if they name one, and writes the
+/// outputs that they ask for.
+fn run_cart<F: Fn(&mut Machine, u64), D: Depot>(
     alloc: Global,
-    workers: &W,
+    go_on: &F,
     run: &RunWords<'_>,
     depot: &mut D,
 ) -> Ending
+    requires may { (m : _) (to : ℕ) → CanGoOn m.now to → F.pre go_on.now m to }
+    requires goes { (m : _) (to : ℕ) (after : _) → F.post go_on.now m to tt after → WentOn m.now to after.now }
     ensures cause { RunEnds D.told (shown_run run.now) (D.state depot.old) (D.state depot.new) result }
     ensures files { D.told → RunFiles (shown_run run.now) (D.state depot.old).files (D.state depot.new).files result }
 {
@@ -69,7 +74,7 @@ fn run_cart<W: Workers, D: Depot>(
         return Ending::Behind;
     }
     match power_on(alloc, inputs) {
-        Ok(course) => write_all(alloc, workers, run, depot, course),
+        Ok(course) => write_all(alloc, go_on, run, depot, course),
         Err(NoMemory) => Ending::Memory,
     }
 }

@@ -1,4 +1,4 @@
-ghost use Rattle.std.specs.Prelude.{◌≡◌, ◌≤◌, ◌<◌, ◌%◌, [], OnOk, OnErr, IfErr};
+ghost use Rattle.std.specs.Prelude.{◌≡◌, ℕ, ◌≤◌, ◌<◌, ◌%◌, [], OnOk, OnErr, IfErr};
 ghost use Rattle.md_outer.specs.Outside.{Files, GoesOn};
 ghost use Rattle.md_top.specs.Courses.{IsUnderway, inputs_in, cycle_of};
 ghost use Rattle.md_top.specs.Endings.{HoldsUntil, RunCause, RunLeaves, count_of_frames, pairs_of};
@@ -6,6 +6,7 @@ ghost use Rattle.md_top.specs.Limits.{IsEnd, last_cycle, segment_cycles};
 ghost use Rattle.md_top.specs.Limits as limits;
 ghost use Rattle.md_top.specs.Outputs.{AreBegun, Holds, IsWriteFault, LeavesParts, nothing};
 ghost use Rattle.md_top.specs.Runs.{pieces_of};
+ghost use Rattle.md_top.specs.Workers.{CanGoOn, WentOn};
 ghost use Rattle.md_words.specs.Shown.{shown_run};
 
 use crate::course::Course;
@@ -13,8 +14,8 @@ use crate::ending::Ending;
 use crate::output::{append_all, append_sound, begin_all};
 use crate::outputs::Outputs;
 use crate::segment::advance;
-use crate::workers::Workers;
 use md_files::wav_head;
+use md_machine::Machine;
 use md_outer::Depot;
 use md_word::clock::FRAME;
 use md_words::RunWords;
@@ -26,14 +27,17 @@ const FINISHED: u64 = 766_080;
 /// The most cycles of a segment.
 const SEGMENT: u64 = 896_040;
 
-/// Begins the outputs of a run at power-on, has the workers run to its end, and writes what it makes.
-pub(crate) fn write_all<W: Workers, D: Depot>(
+/// Begins the outputs of a run at power-on, runs to its end, and writes what it makes. `go_on` makes
+/// each segment.
+pub(crate) fn write_all<F: Fn(&mut Machine, u64), D: Depot>(
     alloc: Global,
-    workers: &W,
+    go_on: &F,
     run: &RunWords<'_>,
     depot: &mut D,
     course: Course,
 ) -> Ending
+    requires may { (m : _) (to : ℕ) → CanGoOn m.now to → F.pre go_on.now m to }
+    requires goes { (m : _) (to : ℕ) (after : _) → F.post go_on.now m to tt after → WentOn m.now to after.now }
     requires end { IsEnd run.now.cycles }
     requires start { cycle_of course ≡ 0 }
     requires underway { IsUnderway course }
@@ -46,7 +50,7 @@ pub(crate) fn write_all<W: Workers, D: Depot>(
         Err(ending) => return ending,
     };
     match append_head(run, &outputs, depot, &mut course) {
-        Ok(()) => run_on(workers, run, &outputs, depot, course),
+        Ok(()) => run_on(go_on, run, &outputs, depot, course),
         Err(ending) => ending,
     }
 }
@@ -101,13 +105,15 @@ fn segment_end(at: u64, end: u64) -> u64
 }
 
 /// Runs on for a segment, and appends what it makes.
-fn run_segment<W: Workers, D: Depot>(
-    workers: &W,
+fn run_segment<F: Fn(&mut Machine, u64), D: Depot>(
+    go_on: &F,
     run: &RunWords<'_>,
     outputs: &Outputs,
     depot: &mut D,
     course: &mut Course,
 ) -> Result<(), Ending>
+    requires may { (m : _) (to : ℕ) → CanGoOn m.now to → F.pre go_on.now m to }
+    requires goes { (m : _) (to : ℕ) (after : _) → F.post go_on.now m to tt after → WentOn m.now to after.now }
     requires end { IsEnd run.now.cycles }
     requires before { cycle_of course.old < run.now.cycles }
     requires whole { cycle_of course.old % segment_cycles ≡ 0 }
@@ -126,7 +132,7 @@ fn run_segment<W: Workers, D: Depot>(
     ensures goes_on { GoesOn (D.state depot.old) (D.state depot.new) }
 {
     let end = segment_end(course.machine.at(), run.cycles);
-    advance(workers, course, end);
+    advance(go_on, course, end);
     append_all(
         run,
         outputs,
@@ -138,13 +144,15 @@ fn run_segment<W: Workers, D: Depot>(
 }
 
 /// Runs from power-on to the end in as few segments as reach it, and appends what each makes.
-fn run_on<W: Workers, D: Depot>(
-    workers: &W,
+fn run_on<F: Fn(&mut Machine, u64), D: Depot>(
+    go_on: &F,
     run: &RunWords<'_>,
     outputs: &Outputs,
     depot: &mut D,
     course: Course,
 ) -> Ending
+    requires may { (m : _) (to : ℕ) → CanGoOn m.now to → F.pre go_on.now m to }
+    requires goes { (m : _) (to : ℕ) (after : _) → F.post go_on.now m to tt after → WentOn m.now to after.now }
     requires end { IsEnd run.now.cycles }
     requires start { cycle_of course ≡ 0 }
     requires underway { IsUnderway course }
@@ -156,7 +164,7 @@ fn run_on<W: Workers, D: Depot>(
 {
     let mut course = course;
     'segments: while course.machine.at() < run.cycles {
-        if let Err(ending) = run_segment(workers, run, outputs, depot, &mut course) {
+        if let Err(ending) = run_segment(go_on, run, outputs, depot, &mut course) {
             return ending;
         }
     }

@@ -1,12 +1,12 @@
-ghost use Rattle.std.specs.Prelude.{◌≡◌, ◌+◌, ◌<◌, ◌≤◌, ◌++◌, [], length, IfOk, IfSome, None, Some};
+ghost use Rattle.std.specs.Prelude.{◌≡◌, ℕ, ◌+◌, ◌<◌, ◌≤◌, ◌++◌, [], length, IfOk, IfSome, None, Some};
 ghost use Rattle.md_machine.specs.Outputs.{frames_bytes, journal_bytes, sound_bytes};
 ghost use Rattle.md_top.specs.Courses.{IsUnderway, inputs_in, cycle_of};
 ghost use Rattle.md_top.specs.Limits.{last_cycle, segment_cycles};
 ghost use Rattle.md_top.specs.Runs.{FewEvents, entries_to, media_to};
+ghost use Rattle.md_top.specs.Workers.{CanGoOn, WentOn};
 
 use crate::course::Course;
 use crate::inputs::Inputs;
-use crate::workers::Workers;
 use md_machine::{Machine, laws};
 use md_word::NoMemory;
 use std::alloc::Global;
@@ -43,8 +43,11 @@ pub(crate) fn power_on(alloc: Global, inputs: Inputs) -> Result<Course, NoMemory
     })
 }
 
-/// Has the workers bring a run to the cycle `to`, at most a segment on, and holds what it made.
-pub(crate) fn advance<W: Workers>(workers: &W, course: &mut Course, to: u64)
+/// Brings a run to the cycle `to`, at most a segment on, and holds what it made. `go_on` makes the
+/// segment.
+pub(crate) fn advance<F: Fn(&mut Machine, u64)>(go_on: &F, course: &mut Course, to: u64)
+    requires may { (m : _) (to : ℕ) → CanGoOn m.now to → F.pre go_on.now m to }
+    requires goes { (m : _) (to : ℕ) (after : _) → F.post go_on.now m to tt after → WentOn m.now to after.now }
     requires underway { IsUnderway course.old }
     requires later { cycle_of course.old < to }
     requires near { to ≤ cycle_of course.old + segment_cycles }
@@ -59,7 +62,7 @@ pub(crate) fn advance<W: Workers>(workers: &W, course: &mut Course, to: u64)
     ensures records { journal_bytes (entries_to (inputs_in course.old) to)
         ≡ journal_bytes (entries_to (inputs_in course.old) (cycle_of course.old)) ++ course.new.records.items }
 {
-    workers.make_segment(&mut course.machine, to);
+    go_on(&mut course.machine, to);
     course.frames.clear();
     course.machine.drain_frames(&mut course.frames);
     course.pairs.clear();

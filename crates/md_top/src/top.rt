@@ -1,11 +1,12 @@
-ghost use Rattle.std.specs.Prelude.{◌≡◌, None, Some, map, string_bytes};
+ghost use Rattle.std.specs.Prelude.{◌≡◌, ℕ, ◌≤◌, None, Some, map, string_bytes};
 ghost use Rattle.md_top.specs.Answers.{Answers, Causes};
+ghost use Rattle.md_top.specs.Workers.{CanGoOn, WentOn};
 ghost use Rattle.md_words.specs.Shown.{shown_command};
 ghost use Rattle.md_words.specs.Words.{command_of};
 
 use crate::perform::perform;
 use crate::report::{refuse, report};
-use crate::workers::{OneWorker, SeveralWorkers, Workers};
+use md_machine::Machine;
 use md_outer::{Depot, Gate, Sink};
 use md_words::{CommandWords, read_words};
 use std::alloc::Global;
@@ -33,8 +34,14 @@ pub fn drive_one<D: Depot, S: Sink>(
     ensures causes { Causes D.told (command_of (map string_bytes words.now.items))
         (D.state depot.old) (D.state depot.new) (S.state out.old) (S.state out.new) result }
 {
+    let alone = |machine: &mut Machine, to: u64|
+        requires can { CanGoOn machine.old to }
+        ensures went { WentOn machine.old to machine.new }
+    {
+        machine.alone(to);
+    };
     match read_words(alloc, words.as_slice()) {
-        Ok(Some(command)) => obey(alloc, &OneWorker, &command, depot, out),
+        Ok(Some(command)) => obey(alloc, &alone, &command, depot, out),
         Ok(None) => refuse(out, 2, "refused: usage\n", "", ""),
         Err(_) => refuse(out, 10, "refused: memory\n", "", ""),
     }
@@ -63,13 +70,15 @@ pub fn drive<D: Depot, S: Sink, G: Gate, Rt: Threads + Wait + Sync>(
         Ok(Some(command)) => {
             let number = command.workers();
             if number > 1 {
-                obey(
-                    alloc,
-                    &SeveralWorkers { rt, number, gate },
-                    &command,
-                    depot,
-                    out,
-                )
+                let together = |machine: &mut Machine, to: u64|
+                    requires some { 1 ≤ number }
+                    requires few { number ≤ 5 }
+                    requires can { CanGoOn machine.old to }
+                    ensures went { WentOn machine.old to machine.new }
+                {
+                    machine.segment(rt, to, number, gate);
+                };
+                obey(alloc, &together, &command, depot, out)
             } else {
                 drive_one(alloc, words, depot, out)
             }
@@ -79,19 +88,21 @@ pub fn drive<D: Depot, S: Sink, G: Gate, Rt: Threads + Wait + Sync>(
     }
 }
 
-/// Does what a command asks for, its run by these workers, and reports what it comes to.
-fn obey<W: Workers, D: Depot, S: Sink>(
+/// Does what a command asks for, and reports what it comes to. `go_on` makes each segment of a run.
+fn obey<F: Fn(&mut Machine, u64), D: Depot, S: Sink>(
     alloc: Global,
-    workers: &W,
+    go_on: &F,
     command: &CommandWords<'_>,
     depot: &mut D,
     out: &mut S,
 ) -> u8
+    requires may { (m : _) (to : ℕ) → CanGoOn m.now to → F.pre go_on.now m to }
+    requires goes { (m : _) (to : ℕ) (after : _) → F.post go_on.now m to tt after → WentOn m.now to after.now }
     ensures answer { Answers D.told S.told (Some (shown_command command.now))
         (D.state depot.old) (D.state depot.new) (S.state out.old) (S.state out.new) result }
     ensures causes { Causes D.told (Some (shown_command command.now))
         (D.state depot.old) (D.state depot.new) (S.state out.old) (S.state out.new) result }
 {
-    let ending = perform(alloc, workers, command, depot);
+    let ending = perform(alloc, go_on, command, depot);
     report(command, ending, out)
 }

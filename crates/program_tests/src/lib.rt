@@ -2,8 +2,16 @@
 #![tactic(auto)]
 
 #[cfg(test)]
+mod meeting;
+#[cfg(test)]
 mod program;
 #[cfg(test)]
 mod recordings;
 #[cfg(test)]
+mod refusals;
+#[cfg(test)]
+mod runs;
+#[cfg(test)]
 mod words;
+#[cfg(test)]
+mod workers;

@@ -1,32 +1,8 @@
-use crate::program::{idle, words_of, write_at};
+use crate::runs::{Cart, Fails, IDLE, answer, words_of, write_at};
 use md_outer::{MemDepot, MemSink};
 use md_top::drive_one;
 use std::alloc::{AllocError, Global};
 use std::test::Fail;
-
-/// A file of these bytes.
-fn file(alloc: Global, name: &str, bytes: &[u8]) -> Result<(String, Vec<u8>), AllocError> {
-    let mut held = Vec::new(alloc);
-    held.extend_from_slice(bytes)?;
-    Ok((String::from_str(alloc, name)?, held))
-}
-
-/// What a run with the recording `P` of the cartridge `Z` answers, whose fetches of these numbers fail.
-fn answer(
-    alloc: Global,
-    words: &str,
-    cart: Vec<u8>,
-    recording: &[u8],
-    bad_reads: Vec<u64>,
-) -> Result<(u8, MemDepot, MemSink), AllocError> {
-    let cart = (String::from_str(alloc, "Z")?, cart);
-    let files = Vec::from_array(alloc, [cart, file(alloc, "P", recording)?])?;
-    let mut depot = MemDepot::new(alloc, files, 1 << 16, bad_reads, Vec::new(alloc))?;
-    let mut out = MemSink::new(alloc, 1 << 16, Vec::new(alloc))?;
-    let words = words_of(alloc, words)?;
-    let status = drive_one(alloc, &words, &mut depot, &mut out);
-    Ok((status, depot, out))
-}
 
 /// The bytes of recordings, and the lines of a run to cycle 5 with them, in which line 0 begins. A place
 /// is that of the first byte that no recording has there behind the bytes before it.
@@ -57,46 +33,49 @@ const RECORDINGS: [(&[u8], u8, &str); 10] = [
 
 const LINES: &str = "cycles 0 to 5\nsamples 0\naccesses 1\n";
 
+/// Whether a recording gives that status and line, and with a refusal no file is begun.
+fn is_told(alloc: Global, recording: &[u8], wanted: u8, line: &str) -> Result<bool, AllocError> {
+    let words = "run Z --cycles 5 --in P --sound W";
+    let (status, depot, out) = answer(alloc, words, &IDLE, recording, Fails::Nothing)?;
+    let begun = depot.file("W").is_some();
+    Ok(status == wanted && out.bytes() == line.as_bytes() && begun == (wanted == 0))
+}
+
 #[test]
 fn recordings_are_read_or_refused_at_their_place(rt: HostRuntime) -> Result<(), Fail> {
-    let alloc = rt.alloc();
-    let words = "run Z --cycles 5 --in P --sound W";
     for (recording, wanted, line) in RECORDINGS {
-        let (status, depot, out) = answer(alloc, words, idle(alloc)?, recording, Vec::new(alloc))?;
-        assert!(rt;
-            status == wanted && out.bytes() == line.as_bytes(),
-            "{line}"
-        );
-        assert_eq!(rt; depot.file("W").is_none(), wanted == 6, "{line}");
+        assert!(rt; is_told(rt.alloc(), recording, wanted, line)?, "{line}");
     }
-    // The longest recording, and one that is a byte longer.
-    let mut longest = vec![in alloc; 0u8; 4_194_316]?;
-    write_at(&mut longest, 0, b"MDREC001\0\x10\0\0");
-    let (status, _, out) = answer(alloc, words, idle(alloc)?, &longest, Vec::new(alloc))?;
-    assert!(rt; status == 0 && out.bytes() == LINES.as_bytes());
-    let mut longer = longest;
-    longer.push(0)?;
-    let (status, depot, out) = answer(alloc, words, idle(alloc)?, &longer, Vec::new(alloc))?;
-    assert!(rt; status == 14 && out.bytes() == b"refused: P is too long\n".as_slice());
-    assert!(rt; depot.file("W").is_none());
     Ok(())
 }
+
+#[test]
+fn a_recording_has_a_greatest_length(rt: HostRuntime) -> Result<(), Fail> {
+    let alloc = rt.alloc();
+    let mut longest = vec![in alloc; 0u8; 4_194_316]?;
+    write_at(&mut longest, 0, b"MDREC001\0\x10\0\0");
+    assert!(rt; is_told(alloc, &longest, 0, LINES)?);
+    longest.push(0)?;
+    assert!(rt; is_told(alloc, &longest, 14, "refused: P is too long\n")?);
+    Ok(())
+}
+
+const INPUTS: [(&str, &[u8]); 3] = [
+    ("S", b"SEGA"),
+    ("G", b"MDREC001\0\0\0\0"),
+    ("P", b"MDREC002\0\0\0\0"),
+];
 
 /// A depot with a cartridge `Z`, one `S` that is short, a recording `G`, one `P` that goes wrong at its
 /// eighth byte, and a file `Q` that is too long as either.
 fn inputs(alloc: Global) -> Result<MemDepot, AllocError> {
-    let long = (
-        String::from_str(alloc, "Q")?,
-        vec![in alloc; 0u8; 4_194_317]?,
-    );
-    let files = [
-        (String::from_str(alloc, "Z")?, idle(alloc)?),
-        file(alloc, "S", b"SEGA")?,
-        file(alloc, "G", b"MDREC001\0\0\0\0")?,
-        file(alloc, "P", b"MDREC002\0\0\0\0")?,
-        long,
-    ];
-    let files = Vec::from_array(alloc, files)?;
+    let mut files = Vec::new(alloc);
+    for (name, bytes) in INPUTS {
+        files.push((String::from_str(alloc, name)?, bytes.to_vec(alloc)?))?;
+    }
+    files.push((String::from_str(alloc, "Z")?, IDLE.image(alloc)?))?;
+    let long = vec![in alloc; 0u8; 4_194_317]?;
+    files.push((String::from_str(alloc, "Q")?, long))?;
     MemDepot::new(alloc, files, 1 << 16, Vec::new(alloc), Vec::new(alloc))
 }
 
@@ -126,53 +105,41 @@ const REFUSALS: [(&str, u8, &str); 13] = [
     ),
 ];
 
-#[test]
-fn refusals_stand_in_their_order(rt: HostRuntime) -> Result<(), Fail> {
-    let alloc = rt.alloc();
-    for (text, wanted, line) in REFUSALS {
-        let mut depot = inputs(alloc)?;
-        let mut out = MemSink::new(alloc, 1 << 16, Vec::new(alloc))?;
-        let mut words = words_of(alloc, text)?;
-        words.push(String::from_str(alloc, "--sound=W")?)?;
-        let status = drive_one(alloc, &words, &mut depot, &mut out);
-        assert!(rt;
-            status == wanted && out.bytes() == line.as_bytes(),
-            "{text}"
-        );
-        assert!(rt; depot.file("W").is_none(), "{text}");
-    }
-    Ok(())
+/// Whether the words are refused so, and no file is begun.
+fn is_refused(alloc: Global, text: &str, wanted: u8, line: &str) -> Result<bool, AllocError> {
+    let mut depot = inputs(alloc)?;
+    let mut out = MemSink::new(alloc, 1 << 16, Vec::new(alloc))?;
+    let mut words = words_of(alloc, text)?;
+    words.push(String::from_str(alloc, "--sound=W")?)?;
+    let status = drive_one(alloc, &words, &mut depot, &mut out);
+    Ok(status == wanted && out.bytes() == line.as_bytes() && depot.file("W").is_none())
 }
 
-/// The lines where a fetch fails: that of the cartridge, that of the recording, and none.
-const FETCHES: [(u64, u8, &str); 3] = [
-    (0, 3, "fault: reading Z\n"),
-    (1, 3, "fault: reading P\n"),
-    (2, 0, LINES),
-];
-
 #[test]
-fn each_failing_fetch(rt: HostRuntime) -> Result<(), Fail> {
-    let alloc = rt.alloc();
-    for (fetch, wanted, line) in FETCHES {
-        let bad = Vec::from_array(alloc, [fetch])?;
-        let words = "run Z --cycles 5 --in P";
-        let (status, _, out) = answer(alloc, words, idle(alloc)?, b"MDREC001\0\0\0\0", bad)?;
-        assert!(rt;
-            status == wanted && out.bytes() == line.as_bytes(),
-            "{fetch}"
-        );
+fn refusals_stand_in_their_order(rt: HostRuntime) -> Result<(), Fail> {
+    for (text, wanted, line) in REFUSALS {
+        assert!(rt; is_refused(rt.alloc(), text, wanted, line)?, "{text}");
     }
     Ok(())
 }
 
 /// examples/pads, whose branches are relative: a tone while B is held on pad 1.
-const PADS: [u8; 64] = [
-    0x41, 0xf9, 0x00, 0xc0, 0x00, 0x11, 0x43, 0xf9, 0x00, 0xa1, 0x00, 0x03, 0x13, 0xfc, 0x00, 0x40,
-    0x00, 0xa1, 0x00, 0x09, 0x12, 0xbc, 0x00, 0x40, 0x10, 0xbc, 0x00, 0x8e, 0x10, 0xbc, 0x00, 0x0f,
-    0x10, 0xbc, 0x00, 0x9f, 0x72, 0x10, 0x10, 0x11, 0x02, 0x00, 0x00, 0x10, 0xb2, 0x00, 0x67, 0xf6,
-    0x12, 0x00, 0x66, 0x06, 0x10, 0xbc, 0x00, 0x90, 0x60, 0xec, 0x10, 0xbc, 0x00, 0x9f, 0x60, 0xe6,
-];
+const PADS: Cart = Cart {
+    length: 512,
+    patches: &[
+        (4, &[0, 0, 0x01, 0xc0]),
+        (
+            0x1c0,
+            &[
+                0x41, 0xf9, 0x00, 0xc0, 0x00, 0x11, 0x43, 0xf9, 0x00, 0xa1, 0x00, 0x03, 0x13, 0xfc,
+                0x00, 0x40, 0x00, 0xa1, 0x00, 0x09, 0x12, 0xbc, 0x00, 0x40, 0x10, 0xbc, 0x00, 0x8e,
+                0x10, 0xbc, 0x00, 0x0f, 0x10, 0xbc, 0x00, 0x9f, 0x72, 0x10, 0x10, 0x11, 0x02, 0x00,
+                0x00, 0x10, 0xb2, 0x00, 0x67, 0xf6, 0x12, 0x00, 0x66, 0x06, 0x10, 0xbc, 0x00, 0x90,
+                0x60, 0xec, 0x10, 0xbc, 0x00, 0x9f, 0x60, 0xe6,
+            ],
+        ),
+    ],
+};
 
 /// The first and the last pair of a sound file that are not silent, and how many pairs it has.
 fn sounding(sound: &[u8]) -> (usize, usize, usize) {
@@ -196,18 +163,18 @@ const HEARD: [(&str, usize, usize); 2] = [
     ("run Z --cycles 1792080 --sound W", usize::MAX, 0),
 ];
 
+/// Whether a sound is heard from one pair to another.
+fn is_heard(alloc: Global, words: &str, first: usize, last: usize) -> Result<bool, AllocError> {
+    let recording = b"MDREC001\0\0\0\x01\0\x10\0\0";
+    let (status, depot, _) = answer(alloc, words, &PADS, recording, Fails::Nothing)?;
+    let sound = depot.file("W").unwrap_or(&[]);
+    Ok(status == 0 && sounding(sound) == (first, last, 1_776))
+}
+
 #[test]
 fn a_tone_while_a_recorded_button_is_held(rt: HostRuntime) -> Result<(), Fail> {
-    let alloc = rt.alloc();
     for (words, first, last) in HEARD {
-        let mut cart = idle(alloc)?;
-        write_at(&mut cart, 4, &[0, 0, 0x01, 0xc0]);
-        write_at(&mut cart, 0x1c0, &PADS);
-        let recording = b"MDREC001\0\0\0\x01\0\x10\0\0";
-        let (status, depot, _) = answer(alloc, words, cart, recording, Vec::new(alloc))?;
-        assert_eq!(rt; status, 0, "{words}");
-        let sound = depot.file("W").unwrap_or(&[]);
-        assert!(rt; sounding(sound) == (first, last, 1_776), "{words}");
+        assert!(rt; is_heard(rt.alloc(), words, first, last)?, "{words}");
     }
     Ok(())
 }

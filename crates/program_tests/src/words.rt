@@ -1,4 +1,4 @@
-use crate::program::words_of;
+use crate::runs::words_of;
 use md_words::{CommandWords, read_words};
 use std::alloc::{AllocError, Global};
 use std::test::Fail;
@@ -9,18 +9,19 @@ fn name_of(name: Option<&str>) -> &str {
 }
 
 /// What was read, as a text: the cartridge, and of a run its count and the names of the recording, of
-/// the sound file and of the journal.
+/// the sound file and of the journal, and how many workers make it.
 fn told(alloc: Global, read: Option<CommandWords<'_>>) -> Result<String, AllocError> {
     match read {
         None => String::from_str(alloc, "refused"),
         Some(CommandWords::Info(rom)) => format!(in alloc; "{rom}"),
         Some(CommandWords::Run(run)) => format!(in alloc;
-            "{} {} {} {} {}",
+            "{} {} {} {} {} {}",
             run.rom,
             run.cycles,
             name_of(run.recording),
             name_of(run.sound),
-            name_of(run.journal)
+            name_of(run.journal),
+            run.workers
         ),
     }
 }
@@ -28,36 +29,47 @@ fn told(alloc: Global, read: Option<CommandWords<'_>>) -> Result<String, AllocEr
 // Worked out by the rules: options in any order among the other words, each at most once, as two
 // words or with `=`; behind `--` no options; names that are not empty, begin with no hyphen and are
 // pairwise different; numbers of 1 to 20 digits below 2^64.
-const READ: [(&str, &str); 20] = [
+const READ: [(&str, &str); 25] = [
     ("info Z", "Z"),
     ("info -- Z", "Z"),
     ("info info", "info"),
-    ("run Z --cycles 5", "Z 5 - - -"),
-    ("run --cycles 5 Z", "Z 5 - - -"),
-    ("run Z --cycles=5", "Z 5 - - -"),
-    ("run --cycles 5 -- Z", "Z 5 - - -"),
-    ("run Z --cycles 5 --", "Z 5 - - -"),
-    ("run run --cycles 5", "run 5 - - -"),
-    ("run 5 --cycles 6", "5 6 - - -"),
-    ("run Z --cycles 5 --sound W --journal J", "Z 5 - W J"),
-    ("run --sound W Z --journal J --cycles 5", "Z 5 - W J"),
-    ("run --journal=J --sound=W --cycles=5 Z", "Z 5 - W J"),
-    ("run Z --cycles 5 --sound W=V", "Z 5 - W=V -"),
-    ("run Z --cycles 5 --journal=J=-K", "Z 5 - - J=-K"),
-    ("run Z --cycles 5 --in P", "Z 5 P - -"),
-    ("run --in=P --cycles 5 Z --sound W", "Z 5 P W -"),
+    ("run Z --cycles 5", "Z 5 - - - 1"),
+    ("run --cycles 5 Z", "Z 5 - - - 1"),
+    ("run Z --cycles=5", "Z 5 - - - 1"),
+    ("run --cycles 5 -- Z", "Z 5 - - - 1"),
+    ("run Z --cycles 5 --", "Z 5 - - - 1"),
+    ("run run --cycles 5", "run 5 - - - 1"),
+    ("run 5 --cycles 6", "5 6 - - - 1"),
+    ("run Z --cycles 5 --sound W --journal J", "Z 5 - W J 1"),
+    ("run --sound W Z --journal J --cycles 5", "Z 5 - W J 1"),
+    ("run --journal=J --sound=W --cycles=5 Z", "Z 5 - W J 1"),
+    ("run Z --cycles 5 --sound W=V", "Z 5 - W=V - 1"),
+    ("run Z --cycles 5 --journal=J=-K", "Z 5 - - J=-K 1"),
+    ("run Z --cycles 5 --in P", "Z 5 P - - 1"),
+    ("run --in=P --cycles 5 Z --sound W", "Z 5 P W - 1"),
     (
         "run Z --journal J --in in --cycles 5 --sound W",
-        "Z 5 in W J",
+        "Z 5 in W J 1",
     ),
-    ("run Z --cycles 00000000000000000005", "Z 5 - - -"),
+    ("run Z --cycles 00000000000000000005", "Z 5 - - - 1"),
     (
         "run Z --cycles 18446744073709551615",
-        "Z 18446744073709551615 - - -",
+        "Z 18446744073709551615 - - - 1",
+    ),
+    ("run Z --cycles 5 --workers 1", "Z 5 - - - 1"),
+    ("run Z --cycles 5 --workers 5", "Z 5 - - - 5"),
+    ("run --workers=2 --cycles=5 Z", "Z 5 - - - 2"),
+    (
+        "run Z --workers 00000000000000000003 --sound W --cycles 5",
+        "Z 5 - W - 3",
+    ),
+    (
+        "run Z --cycles 4 --sound workers --workers 4",
+        "Z 4 - workers - 4",
     ),
 ];
 
-const REFUSED: [&str; 55] = [
+const REFUSED: [&str; 67] = [
     "",
     "walk Z",
     "RUN Z --cycles 5",
@@ -113,6 +125,18 @@ const REFUSED: [&str; 55] = [
     "run Z -c 5",
     "run Z --cycles 5 --help",
     "run Z --cycles 5 --version",
+    "run Z --cycles 5 --workers",
+    "run Z --cycles 5 --workers=",
+    "run Z --cycles 5 --workers 0",
+    "run Z --cycles 5 --workers 6",
+    "run Z --cycles 5 --workers 18446744073709551615",
+    "run Z --cycles 5 --workers 4294967297",
+    "run Z --cycles 5 --workers +2",
+    "run Z --cycles 5 --workers two",
+    "run Z --cycles 5 --workers 2 --workers 2",
+    "run Z --cycles 5 --worker 2",
+    "run Z --workers 2",
+    "info Z --workers 2",
 ];
 
 #[test]
