@@ -103,7 +103,7 @@ const RUNS: [Run; 13] = [
     Run {
         cart: IDLE,
         words: "run Z --cycles 16129 --sound W",
-        text: "cycles 0 to 16129\nsamples 16\naccesses 7\n",
+        text: "cycles 0 to 16129\nframes 0\nsamples 16\naccesses 7\n",
         lengths: (Some(108), None),
         pieces: &[("W", 4, &[0x64, 0, 0, 0]), ("W", 40, &[0x40, 0, 0, 0])],
         silent: true,
@@ -111,7 +111,7 @@ const RUNS: [Run; 13] = [
     Run {
         cart: IDLE,
         words: "run Z --cycles 16128 --sound W",
-        text: "cycles 0 to 16128\nsamples 0\naccesses 5\n",
+        text: "cycles 0 to 16128\nframes 0\nsamples 0\naccesses 5\n",
         lengths: (Some(44), None),
         pieces: &[],
         silent: true,
@@ -119,7 +119,7 @@ const RUNS: [Run; 13] = [
     Run {
         cart: IDLE,
         words: "run Z --cycles 00000000000000016129 --sound W",
-        text: "cycles 0 to 16129\nsamples 16\naccesses 7\n",
+        text: "cycles 0 to 16129\nframes 0\nsamples 16\naccesses 7\n",
         lengths: (Some(108), None),
         pieces: &[],
         silent: true,
@@ -127,7 +127,7 @@ const RUNS: [Run; 13] = [
     Run {
         cart: IDLE,
         words: "run Z --cycles 896040 --sound W --journal J",
-        text: "cycles 0 to 896040\nsamples 880\naccesses 372\n",
+        text: "cycles 0 to 896040\nframes 1\nsamples 880\naccesses 372\n",
         lengths: (Some(3564), Some(5952)),
         pieces: &[
             ("W", 4, &[0xe4, 0x0d, 0, 0]),
@@ -138,7 +138,7 @@ const RUNS: [Run; 13] = [
     Run {
         cart: IDLE,
         words: "run Z --cycles 1 --journal J",
-        text: "cycles 0 to 1\nsamples 0\naccesses 1\n",
+        text: "cycles 0 to 1\nframes 0\nsamples 0\naccesses 1\n",
         lengths: (None, Some(16)),
         pieces: &[("J", 0, b"\0\0\0\0\0\0\0\0\x02\x0a\0\0\0\0\0\0")],
         silent: true,
@@ -146,7 +146,7 @@ const RUNS: [Run; 13] = [
     Run {
         cart: IDLE,
         words: "run Z --cycles 2000000 --sound W --journal J",
-        text: "cycles 0 to 2000000\nsamples 1984\naccesses 833\n",
+        text: "cycles 0 to 2000000\nframes 2\nsamples 1984\naccesses 833\n",
         lengths: (Some(7980), Some(13328)),
         pieces: &[
             ("W", 4, &[0x24, 0x1f, 0, 0]),
@@ -163,7 +163,7 @@ const RUNS: [Run; 13] = [
     Run {
         cart: BEEP,
         words: "run Z --cycles 16129 --sound W",
-        text: "cycles 0 to 16129\nsamples 16\naccesses 8\n",
+        text: "cycles 0 to 16129\nframes 0\nsamples 16\naccesses 8\n",
         lengths: (Some(108), None),
         pieces: &[
             ("W", 4, &[0x64, 0, 0, 0]),
@@ -175,7 +175,7 @@ const RUNS: [Run; 13] = [
     Run {
         cart: BEEP,
         words: "run Z --cycles 16128 --sound W",
-        text: "cycles 0 to 16128\nsamples 0\naccesses 6\n",
+        text: "cycles 0 to 16128\nframes 0\nsamples 0\naccesses 6\n",
         lengths: (Some(44), None),
         pieces: &[],
         silent: true,
@@ -183,7 +183,7 @@ const RUNS: [Run; 13] = [
     Run {
         cart: COUNTER,
         words: "run Z --cycles 991284",
-        text: "cycles 0 to 991284\nsamples 976\naccesses 412\n",
+        text: "cycles 0 to 991284\nframes 1\nsamples 976\naccesses 412\n",
         lengths: (None, None),
         pieces: &[],
         silent: true,
@@ -191,7 +191,7 @@ const RUNS: [Run; 13] = [
     Run {
         cart: COUNTER,
         words: "run Z --cycles 991285 --sound W --journal J",
-        text: "cycles 0 to 991285\nsamples 976\naccesses 412\nhalted at 991284\n",
+        text: "cycles 0 to 991285\nframes 1\nsamples 976\naccesses 412\nhalted at 991284\n",
         lengths: (Some(3948), Some(6592)),
         pieces: &[],
         silent: true,
@@ -199,7 +199,7 @@ const RUNS: [Run; 13] = [
     Run {
         cart: HALTED,
         words: "run Z --cycles 896040",
-        text: "cycles 0 to 896040\nsamples 880\naccesses 372\nhalted at 0\n",
+        text: "cycles 0 to 896040\nframes 1\nsamples 880\naccesses 372\nhalted at 0\n",
         lengths: (None, None),
         pieces: &[],
         silent: true,
@@ -216,7 +216,7 @@ const RUNS: [Run; 13] = [
     Run {
         cart: IDLE,
         words: "run Z --cycles 16129 --workers 5 --sound W",
-        text: "cycles 0 to 16129\nsamples 16\naccesses 7\n",
+        text: "cycles 0 to 16129\nframes 0\nsamples 16\naccesses 7\n",
         lengths: (Some(108), None),
         pieces: &[],
         silent: true,

@@ -31,7 +31,7 @@ const RECORDINGS: [(&[u8], u8, &str); 10] = [
     (b"", 6, "refused: recording at 0\n"),
 ];
 
-const LINES: &str = "cycles 0 to 5\nsamples 0\naccesses 1\n";
+const LINES: &str = "cycles 0 to 5\nframes 0\nsamples 0\naccesses 1\n";
 
 /// Whether a recording gives that status and line, and with a refusal no file is begun.
 fn is_told(alloc: Global, recording: &[u8], wanted: u8, line: &str) -> Result<bool, AllocError> {

@@ -99,7 +99,7 @@ pub(crate) fn outside(
     let cart = (String::from_str(alloc, "Z")?, cart.image(alloc)?);
     let recording = (String::from_str(alloc, "P")?, recording.to_vec(alloc)?);
     let files = Vec::from_array(alloc, [cart, recording])?;
-    let depot = MemDepot::new(alloc, files, 1 << 16, fetches, writes)?;
+    let depot = MemDepot::new(alloc, files, 1 << 19, fetches, writes)?;
     Ok((depot, MemSink::new(alloc, 1 << 16, puts)?))
 }
 

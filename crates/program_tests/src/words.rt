@@ -9,16 +9,17 @@ fn name_of(name: Option<&str>) -> &str {
 }
 
 /// What was read, as a text: the cartridge, and of a run its count and the names of the recording, of
-/// the sound file and of the journal, and how many workers make it.
+/// the frames file, of the sound file and of the journal, and how many workers make it.
 fn told(alloc: Global, read: Option<CommandWords<'_>>) -> Result<String, AllocError> {
     match read {
         None => String::from_str(alloc, "refused"),
         Some(CommandWords::Info(rom)) => format!(in alloc; "{rom}"),
         Some(CommandWords::Run(run)) => format!(in alloc;
-            "{} {} {} {} {} {}",
+            "{} {} {} {} {} {} {}",
             run.rom,
             run.cycles,
             name_of(run.recording),
+            name_of(run.frames),
             name_of(run.sound),
             name_of(run.journal),
             run.workers
@@ -29,47 +30,52 @@ fn told(alloc: Global, read: Option<CommandWords<'_>>) -> Result<String, AllocEr
 // Worked out by the rules: options in any order among the other words, each at most once, as two
 // words or with `=`; behind `--` no options; names that are not empty, begin with no hyphen and are
 // pairwise different; numbers of 1 to 20 digits below 2^64.
-const READ: [(&str, &str); 25] = [
+const READ: [(&str, &str); 27] = [
     ("info Z", "Z"),
     ("info -- Z", "Z"),
     ("info info", "info"),
-    ("run Z --cycles 5", "Z 5 - - - 1"),
-    ("run --cycles 5 Z", "Z 5 - - - 1"),
-    ("run Z --cycles=5", "Z 5 - - - 1"),
-    ("run --cycles 5 -- Z", "Z 5 - - - 1"),
-    ("run Z --cycles 5 --", "Z 5 - - - 1"),
+    ("run Z --cycles 5", "Z 5 - - - - 1"),
+    ("run --cycles 5 Z", "Z 5 - - - - 1"),
+    ("run Z --cycles=5", "Z 5 - - - - 1"),
+    ("run --cycles 5 -- Z", "Z 5 - - - - 1"),
+    ("run Z --cycles 5 --", "Z 5 - - - - 1"),
     ("run run --cycles 5", "run 5 - - - 1"),
-    ("run 5 --cycles 6", "5 6 - - - 1"),
-    ("run Z --cycles 5 --sound W --journal J", "Z 5 - W J 1"),
-    ("run --sound W Z --journal J --cycles 5", "Z 5 - W J 1"),
-    ("run --journal=J --sound=W --cycles=5 Z", "Z 5 - W J 1"),
-    ("run Z --cycles 5 --sound W=V", "Z 5 - W=V - 1"),
-    ("run Z --cycles 5 --journal=J=-K", "Z 5 - - J=-K 1"),
-    ("run Z --cycles 5 --in P", "Z 5 P - - 1"),
-    ("run --in=P --cycles 5 Z --sound W", "Z 5 P W - 1"),
+    ("run 5 --cycles 6", "5 6 - - - - 1"),
+    ("run Z --cycles 5 --sound W --journal J", "Z 5 - - W J 1"),
+    ("run --sound W Z --journal J --cycles 5", "Z 5 - - W J 1"),
+    ("run --journal=J --sound=W --cycles=5 Z", "Z 5 - - W J 1"),
+    ("run Z --cycles 5 --sound W=V", "Z 5 - - W=V - 1"),
+    ("run Z --cycles 5 --journal=J=-K", "Z 5 - - - J=-K 1"),
+    ("run Z --cycles 5 --in P", "Z 5 P - - - 1"),
+    ("run --in=P --cycles 5 Z --sound W", "Z 5 P - W - 1"),
     (
         "run Z --journal J --in in --cycles 5 --sound W",
-        "Z 5 in W J 1",
+        "Z 5 in - W J 1",
     ),
-    ("run Z --cycles 00000000000000000005", "Z 5 - - - 1"),
+    ("run Z --cycles 5 --frames F", "Z 5 - F - - 1"),
+    (
+        "run --frames=F --journal J Z --in P --cycles 5 --sound W",
+        "Z 5 P F W J 1",
+    ),
+    ("run Z --cycles 00000000000000000005", "Z 5 - - - - 1"),
     (
         "run Z --cycles 18446744073709551615",
-        "Z 18446744073709551615 - - - 1",
+        "Z 18446744073709551615 - - - - 1",
     ),
-    ("run Z --cycles 5 --workers 1", "Z 5 - - - 1"),
-    ("run Z --cycles 5 --workers 5", "Z 5 - - - 5"),
-    ("run --workers=2 --cycles=5 Z", "Z 5 - - - 2"),
+    ("run Z --cycles 5 --workers 1", "Z 5 - - - - 1"),
+    ("run Z --cycles 5 --workers 5", "Z 5 - - - - 5"),
+    ("run --workers=2 --cycles=5 Z", "Z 5 - - - - 2"),
     (
         "run Z --workers 00000000000000000003 --sound W --cycles 5",
-        "Z 5 - W - 3",
+        "Z 5 - - W - 3",
     ),
     (
         "run Z --cycles 4 --sound workers --workers 4",
-        "Z 4 - workers - 4",
+        "Z 4 - - workers - 4",
     ),
 ];
 
-const REFUSED: [&str; 67] = [
+const REFUSED: [&str; 76] = [
     "",
     "walk Z",
     "RUN Z --cycles 5",
@@ -120,6 +126,15 @@ const REFUSED: [&str; 67] = [
     "run Z --cycles 5 -- --in P",
     "run Z --cycles 5 --i P",
     "info Z --in P",
+    "info Z --frames F",
+    "run Z --cycles 5 --frames",
+    "run Z --cycles 5 --frames=",
+    "run Z --cycles 5 --frames -F",
+    "run Z --cycles 5 --frames F --frames G",
+    "run Z --cycles 5 --frames Z",
+    "run Z --cycles 5 --in F --frames F",
+    "run Z --cycles 5 --frames F --sound F",
+    "run Z --cycles 5 --journal F --frames F",
     "run Z --cycle 5",
     "run Z --cycles 5 --sou=W",
     "run Z -c 5",

@@ -12,25 +12,25 @@ use std::thread::Threads;
 type Words = (&'static str, [&'static str; 5]);
 
 const FRAME: Words = (
-    "run Z --cycles 896040 --sound W --journal J",
+    "run Z --cycles 896040 --frames F --sound W --journal J",
     [
-        "run Z --cycles 896040 --sound W --journal J --workers 1",
-        "run Z --cycles 896040 --sound W --journal J --workers 2",
-        "run Z --cycles 896040 --sound W --journal J --workers 3",
-        "run Z --cycles 896040 --sound W --journal J --workers 4",
-        "run Z --cycles 896040 --sound W --journal J --workers 5",
+        "run Z --cycles 896040 --frames F --sound W --journal J --workers 1",
+        "run Z --cycles 896040 --frames F --sound W --journal J --workers 2",
+        "run Z --cycles 896040 --frames F --sound W --journal J --workers 3",
+        "run Z --cycles 896040 --frames F --sound W --journal J --workers 4",
+        "run Z --cycles 896040 --frames F --sound W --journal J --workers 5",
     ],
 );
 
 // Two segments.
 const FRAMES: Words = (
-    "run Z --cycles 1792080 --sound W --journal J",
+    "run Z --cycles 1792080 --frames F --sound W --journal J",
     [
-        "run Z --cycles 1792080 --sound W --journal J --workers 1",
-        "run Z --cycles 1792080 --sound W --journal J --workers 2",
-        "run Z --cycles 1792080 --sound W --journal J --workers 3",
-        "run Z --cycles 1792080 --sound W --journal J --workers 4",
-        "run Z --cycles 1792080 --sound W --journal J --workers 5",
+        "run Z --cycles 1792080 --frames F --sound W --journal J --workers 1",
+        "run Z --cycles 1792080 --frames F --sound W --journal J --workers 2",
+        "run Z --cycles 1792080 --frames F --sound W --journal J --workers 3",
+        "run Z --cycles 1792080 --frames F --sound W --journal J --workers 4",
+        "run Z --cycles 1792080 --frames F --sound W --journal J --workers 5",
     ],
 );
 
@@ -48,19 +48,10 @@ fn driven<R: Threads + Wait + Sync, G: Gate>(
     Ok((status, depot, out))
 }
 
-/// Whether two depots hold the same sound file and the same journal.
+/// Whether two depots hold the same frames, the same sound file and the same journal.
 fn are_alike(first: &MemDepot, second: &MemDepot) -> bool {
-    match (
-        first.file("W"),
-        second.file("W"),
-        first.file("J"),
-        second.file("J"),
-    ) {
-        (Some(sound), Some(other), Some(journal), Some(records)) => {
-            sound == other && journal == records
-        }
-        _ => false,
-    }
+    ["F", "W", "J"].iter().all(|name| first.file(name).is_some()
+        && first.file(name) == second.file(name))
 }
 
 /// How many numbers of workers write the files and put the lines that one writes and puts.
@@ -108,7 +99,9 @@ fn the_right_to_threads_changes_nothing(rt: HostRuntime) -> Result<(), Fail> {
     let words = "run Z --cycles 896040 --sound W";
     let (status, depot, out) = driven(&rt, rt.alloc(), words, &IDLE, &FreeGate)?;
     assert!(rt;
-        status == 0 && out.bytes() == b"cycles 0 to 896040\nsamples 880\naccesses 372\n".as_slice()
+        status == 0
+            && out.bytes()
+                == b"cycles 0 to 896040\nframes 1\nsamples 880\naccesses 372\n".as_slice()
     );
     assert_eq!(rt; depot.file("W").unwrap_or(&[]).len(), 3564);
     Ok(())
