@@ -4,10 +4,11 @@ built.
 
     bench/frames.py [FRAMES]
 
-It runs four cartridges for FRAMES frames of 896,040 cycles, 600 if not given, with one worker and
-with both outputs: `idle` is a branch to itself, `scale` and `chord` are those of examples, and
-`transfer` moves 7,500 bytes into the VDP's memory in the vertical blanking of each frame. Then it
-runs `chord` for a tenth of them with 1, 2, 3 and 5 workers. The times are those of the clock on the
+It runs five cartridges for FRAMES frames of 896,040 cycles, 600 if not given, with one worker and
+with sound and journal: `idle` is a branch to itself, `scale`, `chord` and `show` are those of
+examples, and `transfer` moves 7,500 bytes into the VDP's memory in the vertical blanking of each
+frame. Frames are drawn in each, and written in none. Then it runs `chord` for a tenth of them with
+1, 2, 3 and 5 workers. The times are those of the clock on the
 wall, the program's start and the writing of its files included; the switches are those of all its
 threads, those that wait and those that are made to.
 """
@@ -86,12 +87,14 @@ def main():
         sys.exit(f"{PROGRAM} is missing: run `rt ci` first")
     with tempfile.TemporaryDirectory() as name:
         folder = pathlib.Path(name)
-        sources = {"scale": TOP / "examples" / "scale" / "scale.src"}
-        sources["chord"] = TOP / "examples" / "chord" / "chord.src"
+        sources = {
+            example: TOP / "examples" / example / f"{example}.src"
+            for example in ("scale", "chord", "show")
+        }
         for cartridge, text in (("idle", IDLE), ("transfer", TRANSFER)):
             sources[cartridge] = folder / f"{cartridge}.src"
             sources[cartridge].write_text(text)
-        for cartridge in ("idle", "scale", "chord", "transfer"):
+        for cartridge in ("idle", "scale", "chord", "transfer", "show"):
             image = folder / f"{cartridge}.bin"
             build(sources[cartridge], image)
             measure(cartridge, image, frames, folder)

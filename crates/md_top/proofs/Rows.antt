@@ -104,11 +104,13 @@ run_behind told run old new Behind cause is = cause.0
 run_behind told run old new _ cause is = absurd (omega (arith, is))
 
 info_write_fault : (told : Type 0) (rom : List ℕ) (old new : DepotState) (ending : Ending) → InfoEnds told rom old new ending → status_of ending ≡ 4 → Rose old.write_faults new.write_faults
+info_write_fault told rom old new FramesFault cause is = absurd cause
 info_write_fault told rom old new SoundFault cause is = absurd cause
 info_write_fault told rom old new JournalFault cause is = absurd cause
 info_write_fault told rom old new _ cause is = absurd (omega (arith, is))
 
 run_write_fault : (told : Type 0) (run : Run) (old new : DepotState) (ending : Ending) → RunEnds told run old new ending → status_of ending ≡ 4 → Rose old.write_faults new.write_faults
+run_write_fault told run old new FramesFault cause is = cause.2.1
 run_write_fault told run old new SoundFault cause is = cause.2.1
 run_write_fault told run old new JournalFault cause is = cause.2.1
 run_write_fault told run old new _ cause is = absurd (omega (arith, is))
@@ -119,6 +121,7 @@ far_only : (told sink : Type 0) (run : Run) (old new : DepotState) (out out' : S
 far_only told sink run old new out out' status (Shown lines) cause reports far = absurd cause.1
 far_only told sink run old new out out' status (Done accesses halted) cause reports far = absurd (omega (arith, cause.0.1))
 far_only told sink run old new out out' status TooFar cause reports far = inl reports.0
+far_only told sink run old new out out' status FramesFault cause reports far = absurd (omega (arith, cause.0.1))
 far_only told sink run old new out out' status SoundFault cause reports far = absurd (omega (arith, cause.0.1))
 far_only told sink run old new out out' status JournalFault cause reports far = absurd (omega (arith, cause.0.1))
 far_only told sink run old new out out' status Memory cause reports far = inr reports.0

@@ -5,7 +5,7 @@ use Rattle.md_top.proofs.report.put_numbers.Goals as goal
 pub returns-in-Ok : goal.returns-in-Ok
 returns-in-Ok g c =
     puts_on g.S.Sink.told (number_line c.args.first.now c.args.number) (number_line c.args.second.now c.args.other) (g.S.Sink.state c.args.out.now) (g.S.Sink.state c.put_number.new.out)
-    (g.S.Sink.state c.put_number-2.new.out) c.put_number-2.result (c.in-Ok.ensures {u = tt}) c.put_number-2.ensures
+    (g.S.Sink.state c.put_number-in-Ok.new.out) c.put_number-in-Ok.result (c.in-Ok.ensures {u = tt}) c.put_number-in-Ok.ensures
 
 pub returns-in-Err : goal.returns-in-Err
 returns-in-Err g c =
