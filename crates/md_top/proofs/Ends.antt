@@ -2,7 +2,8 @@
 use Rattle.std.proofs.Common.{◌≡◌, ℕ, ◌^◌, ◌≤◌, List, Result, Ok, Err, Option, Some, None, subst, ◌∙◌, arith}
 use Rattle.std.specs.Prelude.{IfErr, IsSome, OnOk, OnErr}
 use Rattle.md_outer.specs.Outside.{DepotState, Files, GoesOn}
-use Rattle.md_top.specs.Endings.{HoldsUntil, RunCause, RunLeaves}
+use Rattle.md_top.specs.Endings.{HoldsUntil, RunCause, RunFiles, RunLeaves}
+use Rattle.md_top.specs.Inputs.{InputCause}
 use Rattle.md_top.specs.Outputs.{Adds, AddsParts, AreBegun, Holds, IsBegun, IsUnwritten, IsWriteFault, LeavesParts, Pieces, lengthened, nothing}
 use Rattle.md_top.specs.Runs.{FewEvents, pieces_of, pieces_until, sound_until}
 use Rattle.md_words.specs.Words.{Run}
@@ -93,6 +94,25 @@ unwritten-leaves inputs run first files old new SoundFault fault leaves = parts-
 unwritten-leaves inputs run first files old new JournalFault fault leaves = parts-longer run first files nothing (pieces_of inputs run.cycles) leaves (nothing-front (pieces_of inputs run.cycles))
 unwritten-leaves inputs run first files old new Memory fault leaves = leaves
 unwritten-leaves inputs run first files old new _ fault leaves = absurd fault
+
+-- no output is begun
+pub untouched : (run : Run) (old new : Files) → new ≡ old → LeavesParts run old new nothing
+untouched run old new same = record {
+  parts = record { frames = None; sound = None; journal = None };
+  frames = tt;
+  sound = tt;
+  journal = tt;
+  files = same;
+}
+
+pub refused-leaves : (told : Type 0) (run : Run) (old new : DepotState) (ending : Ending) → InputCause told run old new ending
+    → new.files ≡ old.files → RunFiles run old.files new.files ending
+refused-leaves told run old new (Done accesses halted) cause same = absurd cause
+refused-leaves told run old new FramesFault cause same = absurd cause
+refused-leaves told run old new SoundFault cause same = absurd cause
+refused-leaves told run old new JournalFault cause same = absurd cause
+refused-leaves told run old new Memory cause same = untouched run old.files new.files same
+refused-leaves told run old new _ cause same = same
 
 -- NUMBERS OF BEGUN OUTPUTS
 
