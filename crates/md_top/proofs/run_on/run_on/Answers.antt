@@ -36,23 +36,14 @@ segments-preserved g c =
     let after = c.run_segment.new.course in
     let same : inputs_in after ≡ inputs_in course = c.run_segment.ensures.inputs in (
       search rules,
-      (
-        search rules,
-        (
-          search rules,
-          (
-            search rules,
-            (
-              search rules,
-              (
-                search rules,
-                λ t first holds.
-                    subst (λ (given : Inputs). HoldsUntil given (shown_run c.args.run.now) first (g.D.Depot.state c.run_segment.new.depot).files (cycle_of after)) (sym same)
-                    (c.in_default.ensures.files t first (c.segments.invariant.6 t first
-                    (subst (λ (given : Inputs). HoldsUntil given (shown_run c.args.run.now) first (g.D.Depot.state c.args.depot.now).files 0) same holds))),
-              ),
-            ),
-          ),
-        ),
-      ),
+      search rules,
+      search rules,
+      search rules,
+      search rules,
+      search rules,
+      λ t first holds.
+          subst (λ (given : Inputs). HoldsUntil given (shown_run c.args.run.now) first (g.D.Depot.state c.run_segment.new.depot).files (cycle_of after)) (sym same)
+          (c.in_default.ensures.files t first
+          (c.segments.invariant.6 t first
+          (subst (λ (given : Inputs). HoldsUntil given (shown_run c.args.run.now) first (g.D.Depot.state c.args.depot.now).files 0) same holds))),
     )
