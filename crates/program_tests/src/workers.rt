@@ -81,12 +81,18 @@ fn every_number_of_workers_writes_the_same_files(rt: HostRuntime) -> Result<(), 
     Ok(())
 }
 
+const SEVERAL: [&str; 4] = [
+    "run Z --cycles 1792080 --workers 2",
+    "run Z --cycles 1792080 --workers 3",
+    "run Z --cycles 1792080 --workers 4",
+    "run Z --cycles 1792080 --workers 5",
+];
+
 // In each of two segments the first two chips wait for one another at the gate: workers that were run
 // one after the other would never meet there.
 #[test]
 fn several_workers_meet_in_each_segment(rt: HostRuntime) -> Result<(), Fail> {
-    let [_, several @ ..] = FRAMES.1;
-    for words in several {
+    for words in SEVERAL {
         let gate = Meeting::new();
         let (status, _, _) = driven(&rt, rt.alloc(), words, &IDLE, &gate)?;
         assert!(rt; status == 0 && gate.met(2), "{words}");
