@@ -1,4 +1,4 @@
-use Rattle.std.proofs.Common.{◌≡◌, List, [], ℕ, ◌++◌, ap, ◌∙◌, arith}
+use Rattle.std.proofs.Common.{◌≡◌, List, ℕ, ◌++◌, ap, ◌∙◌, arith}
 use Rattle.md_files.specs.Wav.{wav_head}
 use Rattle.md_top.specs.Courses.{inputs_in}
 use Rattle.md_top.specs.Outputs.{nothing}
