@@ -39,7 +39,7 @@ const READ: [(&str, &str); 27] = [
     ("run Z --cycles=5", "Z 5 - - - - 1"),
     ("run --cycles 5 -- Z", "Z 5 - - - - 1"),
     ("run Z --cycles 5 --", "Z 5 - - - - 1"),
-    ("run run --cycles 5", "run 5 - - - 1"),
+    ("run run --cycles 5", "run 5 - - - - 1"),
     ("run 5 --cycles 6", "5 6 - - - - 1"),
     ("run Z --cycles 5 --sound W --journal J", "Z 5 - - W J 1"),
     ("run --sound W Z --journal J --cycles 5", "Z 5 - - W J 1"),
