@@ -1,3 +1,4 @@
-pub mod Rows
-pub mod Lined
 mod Framed
+pub mod Lined
+pub mod Rows
+pub mod SavedLaws

@@ -1,4 +1,6 @@
-pub mod Picture
 pub mod Drawing
-pub mod Kept
 pub mod Frames
+pub mod Kept
+pub mod Picture
+pub mod Saved
+pub mod Spelling

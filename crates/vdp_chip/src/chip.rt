@@ -24,12 +24,12 @@ const DRAWING: u8 = 2;
 /// places of the events are this project's profile.
 #[derive(Drop)]
 pub struct ChipVdp {
-    next: u64,
-    view: Option<Box<LineView>>,
-    note: SpriteNote,
-    picture: Box<[u8; PICTURE]>,
-    aside: Box<[u8; PICTURE]>,
-    kept: Kept,
+    pub(crate) next: u64,
+    pub(crate) view: Option<Box<LineView>>,
+    pub(crate) note: SpriteNote,
+    pub(crate) picture: Box<[u8; PICTURE]>,
+    pub(crate) aside: Box<[u8; PICTURE]>,
+    pub(crate) kept: Kept,
 }
 
 impl Model for ChipVdp {
@@ -175,7 +175,7 @@ fn with_memory(
 }
 
 /// A picture without a row.
-fn black(alloc: Global) -> Result<Box<[u8; PICTURE]>, NoMemory>
+pub(crate) fn black(alloc: Global) -> Result<Box<[u8; PICTURE]>, NoMemory>
     ensures { IfOk result (λ picture. picture.value ≡ blank) }
 {
     match Box::new(alloc, [0; PICTURE]) {
@@ -185,7 +185,7 @@ fn black(alloc: Global) -> Result<Box<[u8; PICTURE]>, NoMemory>
 }
 
 /// A view of a VDP whose registers and memories are 0.
-fn empty_view(alloc: Global) -> Result<Box<LineView>, NoMemory> {
+pub(crate) fn empty_view(alloc: Global) -> Result<Box<LineView>, NoMemory> {
     let view = LineView {
         registers: [0; 24],
         vram: [0; 65536],

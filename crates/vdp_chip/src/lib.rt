@@ -6,5 +6,7 @@ mod chip;
 mod kept;
 pub mod laws;
 mod picture;
+mod saved;
+mod spelling;
 
 pub use chip::ChipVdp;

@@ -5,7 +5,7 @@ ghost use Rattle.vdp_chip.specs.Picture.{blank, picture_length, row_of, with_row
 use vdp_planes::{Dot, Scene, draw_plane, mix_dots};
 
 /// Bytes of a row: red, green and blue of 320 dots.
-const ROW: usize = 960;
+pub const ROW: usize = 960;
 
 /// Rows of the picture.
 pub const HEIGHT: u32 = 224;

@@ -12,7 +12,7 @@ const CLEAR: Dot = Dot {
 };
 
 /// Makes the event of the chip's next line, of this number, from the VDP as it stands.
-fn make_event(chip: &mut ChipVdp, vdp: &VdpState, line: u32) {
+pub(crate) fn make_event(chip: &mut ChipVdp, vdp: &VdpState, line: u32) {
     if !chip.has_view() || chip.next().key.cycle >= LAST_CYCLE {
         return;
     }

@@ -4,6 +4,8 @@
 #[cfg(test)]
 mod dma;
 #[cfg(test)]
+mod drawing;
+#[cfg(test)]
 mod frames;
 #[cfg(test)]
 mod lines;

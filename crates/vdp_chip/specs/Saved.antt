@@ -1,0 +1,56 @@
+-- What a saved state keeps of the drawing half of the VDP: its numbers, whatever they are, with their
+-- order, their sizes and their rules. What is finished is handed out before a state is kept, and the
+-- view is filled anew with each line. This project's profile.
+use Rattle.std.specs.Prelude.{ℕ, ◌-◌, ◌*◌, ◌%◌, ◌==◌, ◌&&◌, Bool, true, nat_le, nat_lt, List, [], ◌∷◌, drop, None}
+use Rattle.md_fields.specs.Fields.{Field, byte, quad, block}
+use Rattle.md_fields.specs.Padding.{are_zeros}
+use Rattle.md_word.specs.Clock.{line}
+use Rattle.md_word.specs.Coding.{flag_number}
+use Rattle.vdp_chip.specs.Drawing.{Drawing, undrawn_from}
+use Rattle.vdp_chip.specs.Picture.{picture_length, row_length}
+
+pub record DrawingNumbers : Type 0 where
+  pub next : ℕ
+  pub overflow : ℕ
+  pub collision : ℕ
+  pub picture : List ℕ
+
+-- what is kept of a chip: a flag is 0 or 1
+abbrev pub numbers_of : Drawing → DrawingNumbers
+numbers_of d = record {
+  next = d.next;
+  overflow = flag_number d.note.overflow;
+  collision = flag_number d.note.collision;
+  picture = d.picture;
+}
+
+-- the chip of which these numbers are kept
+abbrev pub drawing_of : DrawingNumbers → Drawing
+drawing_of n = record {
+  next = n.next;
+  note = record { overflow = n.overflow == 1; collision = n.collision == 1 };
+  has_view = true;
+  picture = n.picture;
+  frame = None;
+}
+
+-- the first event of a line from `at` on
+abbrev pub is_first : ℕ → ℕ → Bool
+is_first next at = (next % line == 0) && (nat_le at next && nat_lt (next - at) line)
+
+-- both are flags
+abbrev pub is_note : DrawingNumbers → Bool
+is_note n = nat_le n.overflow 1 && nat_le n.collision 1
+
+-- rows behind the line of the last cycle below `at` are not drawn
+abbrev pub is_picture : ℕ → List ℕ → Bool
+is_picture at picture = are_zeros (drop (row_length * undrawn_from at) picture)
+
+-- the fields in their order, and their rules, by the cycle of the state
+abbrev pub drawing_fields : ℕ → DrawingNumbers → List Field
+drawing_fields at n =
+    quad n.next (is_first n.next at)
+    ∷ byte n.overflow (is_note n)
+    ∷ byte n.collision true
+    ∷ block picture_length n.picture (is_picture at n.picture)
+    ∷ []

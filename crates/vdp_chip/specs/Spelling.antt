@@ -1,0 +1,30 @@
+-- The bytes of a saved state that keep the drawing half of the VDP. This project's profile.
+use Rattle.std.specs.Prelude.{◌≡◌, ℕ, true, None, List}
+use Rattle.md_fields.specs.Fields.{spelling}
+use Rattle.md_fields.specs.Items.{IsRefused, IsRight, Keeps}
+use Rattle.vdp_chip.specs.Drawing.{Drawing}
+use Rattle.vdp_chip.specs.Saved.{drawing_fields, numbers_of}
+
+-- how many bytes there are
+abbrev pub drawing_size : ℕ
+drawing_size = 215050
+
+-- the bytes that keep a chip; the rules, and so the cycle, have no part in them
+abbrev pub drawing_bytes : Drawing → List ℕ
+drawing_bytes d = spelling (drawing_fields 0 (numbers_of d))
+
+-- its view is here, and no frame waits to be handed out
+pub record IsDrained (d : Drawing) : Type 0 where
+  pub view : d.has_view ≡ true
+  pub frame : d.frame ≡ None
+
+-- the bytes of a state at a cycle keep the chip, whose rules hold
+pub record Spells (at : ℕ) (bytes : List ℕ) (d : Drawing) : Type 0 where
+  pub keeps : Keeps (drawing_fields at) bytes (numbers_of d)
+  pub right : IsRight (drawing_fields at) (numbers_of d)
+  pub drained : IsDrained d
+
+-- bytes of a state at a cycle that keep no chip are refused at this place: by their length, or by the
+-- first rule that fails
+abbrev pub GoesWrongAt : ℕ → List ℕ → ℕ → Type 0
+GoesWrongAt at bytes place = IsRefused drawing_size (drawing_fields at) bytes place

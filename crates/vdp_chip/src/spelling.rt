@@ -1,0 +1,88 @@
+ghost use Rattle.std.specs.Prelude.{◌≡◌, ◌≢◌, ◌+◌, ◌≤◌, ◌++◌, ◌↔◌, ℕ, length, vec_len, vec_capacity, IfOk, IsErrOf, Ok, Err};
+ghost use Rattle.vdp_chip.specs.Drawing.{Drawing, IsDrawing};
+ghost use Rattle.vdp_chip.specs.Picture.{picture_length};
+ghost use Rattle.vdp_chip.specs.Saved.{drawing_of, numbers_of};
+ghost use Rattle.vdp_chip.specs.Spelling.{GoesWrongAt, Spells, drawing_bytes, drawing_size};
+
+use crate::chip::{ChipVdp, black, empty_view};
+use crate::kept::Kept;
+use crate::picture::PICTURE;
+use crate::saved::SavedDrawing;
+use md_fields::put;
+use md_word::{NoMemory, Unspell};
+use std::alloc::Global;
+use vdp_planes::SpriteNote;
+
+impl ChipVdp {
+    /// What is kept of the chip.
+    fn saved(&self) -> SavedDrawing<'_>
+        ensures { result ≡ numbers_of self.now }
+    {
+        SavedDrawing {
+            next: self.next,
+            overflow: u8::from(self.note.overflow),
+            collision: u8::from(self.note.collision),
+            picture: &self.picture[..],
+        }
+    }
+
+    /// Appends the bytes of a saved state at a cycle that keep this chip, 215,050 in all. There is room
+    /// for them. A frame that waits to be handed out is not kept.
+    pub fn spell(&self, at: u64, into: &mut Vec<u8>)
+        requires { vec_len into.old + drawing_size ≤ vec_capacity into.old }
+        ensures bytes { into.new.items ≡ into.old.items ++ drawing_bytes self.now }
+        ensures length { vec_len into.new ≡ vec_len into.old + drawing_size }
+        ensures room { vec_capacity into.old ≤ vec_capacity into.new }
+    {
+        put(&self.saved().fields(at), into);
+    }
+
+    /// The chip that the bytes of a saved state at a cycle keep, with its view here and without a
+    /// frame. Bytes that are not 215,050 are refused at the lesser of the two lengths, others at the place
+    /// of the first field whose rule fails. The picture is copied.
+    pub fn unspell(alloc: Global, bytes: &[u8], at: u64) -> Result<ChipVdp, Unspell>
+        ensures found { IfOk result (λ d. Spells at bytes.now d) }
+        ensures only { (d : Drawing) → Spells at bytes.now d → result ≢ Err Unspell.NoMemory → result ≡ Ok d }
+        ensures rule { (place : ℕ) → IsErrOf result (Unspell.Rule place) ↔ GoesWrongAt at bytes.now place }
+    {
+        match SavedDrawing::checked(bytes, at) {
+            Ok(saved) => Ok(saved.chip(alloc)?),
+            Err(place) => Err(Unspell::Rule {
+                place: place as u64,
+            }),
+        }
+    }
+}
+
+impl<'a> SavedDrawing<'a> {
+    /// The chip of which these numbers are kept. The picture is copied.
+    fn chip(&self, alloc: Global) -> Result<ChipVdp, NoMemory>
+        requires { IsDrawing (drawing_of self.now) }
+        ensures { IfOk result (λ chip. chip ≡ drawing_of self.now) }
+    {
+        let view = empty_view(alloc)?;
+        let picture = copied(alloc, self.picture)?;
+        let aside = black(alloc)?;
+        Ok(ChipVdp {
+            next: self.next,
+            view: Some(view),
+            note: SpriteNote {
+                overflow: self.overflow == 1,
+                collision: self.collision == 1,
+            },
+            picture,
+            aside,
+            kept: Kept::Nowhere,
+        })
+    }
+}
+
+/// A picture of these bytes.
+fn copied(alloc: Global, bytes: &[u8]) -> Result<Box<[u8; PICTURE]>, NoMemory>
+    requires { length bytes.now ≡ picture_length }
+    ensures { IfOk result (λ picture. picture.value ≡ bytes.now) }
+{
+    let mut picture = Box::new(alloc, [0; PICTURE])?;
+    picture.copy_from_slice(bytes);
+    Ok(picture)
+}
