@@ -6,6 +6,8 @@ pub mod Fm
 pub mod Laws
 pub mod Lines
 pub mod Registers
+pub mod Saved
 pub mod Settled
+pub mod Spelling
 pub mod Video
 pub mod Z80Space

@@ -21,7 +21,7 @@ use Rattle.md_fields.proofs.Standing.{IsBytes-drop, IsBytes-take}
 use Rattle.stamped_writes.specs.Entries.{AreFit, entries_bytes}
 use Rattle.stamped_writes.specs.Keys.{is_kept}
 use Rattle.stamped_writes.proofs.Entries as entries
-use Rattle.stamped_writes.proofs.Tables.{first_behind, first_front, spelling_append}
+use Rattle.md_fields.proofs.Tables.{first_behind, first_front, spelling_append}
 use Rattle.fm_chip.specs.Port.{IsPort, Port}
 use Rattle.fm_chip.specs.PortSpelling.{PortGoesWrongAt, SavedPort, SpellsPort, are_right, at_most_2, are_writes, is_next, is_write, key_of, list_fields, number_fields, port_bytes, port_fields, port_from, port_with, saved_numbers, saved_port, saved_write, write_at, write_fields, write_from, writes_at, writes_from}
 use Rattle.fm_chip.specs.declared.saved_port.SavedPort.{SavedPort as Numbers}
@@ -243,13 +243,15 @@ rules_of at s right =
     let h10 = h9.1 in
     let h11 = h10.1 in
     let h12 = h11.1 in
-    let run_a = eqb-true s.numbers.run_a (s.numbers.control % 2) h6.0 in
-    let run_b = eqb-true s.numbers.run_b (s.numbers.control / 2 % 2) h8.0 in
+    let a = and_parts _ _ h6.0 in
+    let b = and_parts _ _ h8.0 in
+    let run_a = eqb-true s.numbers.run_a (s.numbers.control % 2) a.0 in
+    let run_b = eqb-true s.numbers.run_b (s.numbers.control / 2 % 2) b.0 in
     record {
       run_a = omega (arith, run_a);
-      next_a = h7.0;
+      next_a = a.1;
       run_b = omega (arith, run_b);
-      next_b = h9.0;
+      next_b = b.1;
       flag_a = leb-true s.numbers.flag_a 1 h10.0;
       flag_b = leb-true s.numbers.flag_b 1 h11.0;
       writes = h12.0;

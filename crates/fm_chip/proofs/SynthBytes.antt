@@ -5,17 +5,17 @@ use Rattle.std.specs.Int.{w16}
 use Rattle.std.proofs.lemmas.Int.{ints}
 use Rattle.std.proofs.lemmas.Bool.{and_parts, le-ltb, leb-true, lt-ltb, ltb-true}
 use Rattle.std.proofs.lemmas.List.Elements.{All-cons, All-get_or, All-nil}
-use Rattle.md_fields.specs.Fields.{AllHold, AreWithin, Field, first_wrong, holds_of, size_of, sizes}
+use Rattle.md_fields.specs.Fields.{AllHold, AreWithin, Field, first_wrong, holds_of, or_else, size_of, sizes}
 use Rattle.md_fields.specs.Items.{IsRight, Keeps}
 use Rattle.md_fields.specs.Places.{IsBytes, Stand, number_at}
 use Rattle.md_fields.proofs.Flags.{flag_again, flag_back}
 use Rattle.md_fields.proofs.Items.{all_hold, kept, not_both, one_place, same}
-use Rattle.stamped_writes.proofs.Tables.{within_both}
+use Rattle.md_fields.proofs.Tables.{first_append, within_both}
 use Rattle.fm_voice.specs.Channel.{IsLevel}
 use Rattle.fm_chip.specs.Channels.{IsChannel, channel_at}
 use Rattle.fm_chip.specs.Operators.{IsOperator}
 use Rattle.fm_chip.specs.Synth.{IsSynth, Synth}
-use Rattle.fm_chip.specs.SynthSpelling.{SpellsSynth, SynthGoesWrongAt, channel_from, fields1, fields2, fields3, fields4, fields5, fields6, four_at, four_fields, head_fields, is_output, last_at, last_before, last_fields, last_from, operator_at, operator_before, operator_from, or_else, output_of, saved_four, saved_last, saved_synth, synth_at, synth_fields, synth_from, word_of}
+use Rattle.fm_chip.specs.SynthSpelling.{SpellsSynth, SynthGoesWrongAt, channel_from, fields1, fields2, fields3, fields4, fields5, fields6, four_at, four_fields, head_fields, is_output, last_at, last_before, last_fields, last_from, operator_at, operator_before, operator_from, output_of, saved_four, saved_last, saved_synth, synth_at, synth_fields, synth_from, word_of}
 use Rattle.fm_chip.specs.declared.channels.Channel.{Channel}
 use Rattle.fm_chip.specs.declared.saved_operator.SavedFour.{SavedFour}
 use Rattle.fm_chip.specs.declared.saved_operator.SavedOperator.{SavedOperator}
@@ -216,17 +216,6 @@ is_level : (n : ℕ) → n < 2 ^ 16 → is_output n ≡ true → IsLevel (output
 is_level n fits e = grind (arith, ints, fits, e)
 
 -- ---- the first rule that fails, part by part
-
-either : (holds : Bool) (place : ℕ) (first next : Option ℕ) → cond holds (or_else first next) (Some place) ≡ or_else (cond holds first (Some place)) next
-either true place first next = refl
-either false place first next = refl
-
-first_append : (place : ℕ) (xs ys : List Field) → first_wrong place (xs ++ ys) ≡ or_else (first_wrong place xs) (first_wrong (place + sizes xs) ys)
-unfolding first_wrong sizes
-first_append place [] ys = ap (λ (p : ℕ). first_wrong p ys) (omega arith)
-first_append place (x ∷ xs) ys =
-    ap (λ (f : Option ℕ). cond (holds_of x) f (Some place)) (first_append (place + size_of x) xs ys ∙ ap (λ (p : ℕ). or_else (first_wrong (place + size_of x) xs) (first_wrong p ys)) (omega arith))
-    ∙ either (holds_of x) place (first_wrong (place + size_of x) xs) (first_wrong (place + (size_of x + sizes xs)) ys)
 
 pub four_size : (s : SavedFour) → sizes (four_fields s) ≡ 32
 unfolding sizes

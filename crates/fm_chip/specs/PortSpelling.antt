@@ -70,6 +70,10 @@ pub record SavedPort : Type 0 where
 abbrev pub is_next : ℕ → ℕ → ℕ → ℕ → Bool
 is_next at longest run next = if run == 1 then nat_le at next && nat_lt (next - at) longest else (next == 0)
 
+-- a timer runs where its bit of register 27 is set
+abbrev pub is_timer : ℕ → ℕ → ℕ → ℕ → ℕ → Bool
+is_timer at longest bit run next = (run == bit) && is_next at longest run next
+
 -- at most 1,024 writes, with keys that a port holds at the cycle, and zeros behind them
 abbrev pub are_right : ℕ → List SavedWrite → Bool
 are_right at ws = list_all is_write ws && are_kept at (map key_of ws)
@@ -78,8 +82,8 @@ abbrev pub are_writes : ℕ → ℕ → List ℕ → Bool
 are_writes at count entries =
     nat_le count 1024 && (are_right at (writes_at count entries) && are_zeros (drop (12 * count) entries))
 
--- the fields in their order, and their rules: a timer's run is its bit of register 27; count and writes are
--- one field, whose rule stands first
+-- the fields in their order, and their rules: a timer's run and next are one field, as count and writes
+-- are, and its rule stands first
 abbrev pub number_fields : ℕ → Numbers → List Field
 number_fields at s =
     byte s.first true
@@ -88,10 +92,10 @@ number_fields at s =
     ∷ byte s.low_a true
     ∷ byte s.number_b true
     ∷ byte s.control true
-    ∷ byte s.run_a (s.run_a == s.control % 2)
-    ∷ quad s.next_a (is_next at 1032192 s.run_a s.next_a)
-    ∷ byte s.run_b (s.run_b == s.control / 2 % 2)
-    ∷ quad s.next_b (is_next at 4128768 s.run_b s.next_b)
+    ∷ byte s.run_a (is_timer at 1032192 (s.control % 2) s.run_a s.next_a)
+    ∷ quad s.next_a true
+    ∷ byte s.run_b (is_timer at 4128768 (s.control / 2 % 2) s.run_b s.next_b)
+    ∷ quad s.next_b true
     ∷ byte s.flag_a (nat_le s.flag_a 1)
     ∷ byte s.flag_b (nat_le s.flag_b 1)
     ∷ []

@@ -201,8 +201,3 @@ pub record SpellsSynth (bytes : List ℕ) (s : Synth) : Type 0 where
 -- bytes that keep no chip are refused at this place
 abbrev pub SynthGoesWrongAt : List ℕ → ℕ → Type 0
 SynthGoesWrongAt bytes place = IsRefused 741 synth_fields bytes place
-
--- the first of two places, where there is one
-abbrev pub or_else : Option ℕ → Option ℕ → Option ℕ
-or_else None next = next
-or_else (Some place) next = Some place

@@ -3,10 +3,13 @@ ghost use Rattle.fm_chip.specs.Port as meaning;
 ghost use Rattle.fm_chip.specs.Port.{IsInOrder, IsPort, held_with, left_from, taken_below};
 ghost use Rattle.fm_chip.specs.Timers.{both_settled};
 ghost use Rattle.fm_chip.specs.Timers as timers;
+ghost use Rattle.std.specs.List.{list_all};
+ghost use Rattle.stamped_writes.specs.Keys.{is_before_next as before_next};
 
 use crate::timers::Timers;
 use crate::write::{FmList, FmWrite, RESET};
 use md_word::Key;
+use stamped_writes::is_before_next;
 use std::marker::Model;
 
 /// The FM chip's port: two latches of register numbers, the timers, and the writes that the synthesis
@@ -128,6 +131,16 @@ impl FmPort {
     {
         self.timers.settle(cycle);
         self.timers.status(cycle)
+    }
+
+    /// Whether each held write stands its processor's gap before the next event of that processor, at
+    /// least: the 68000's stands at `main`, the Z80's at `sub`.
+    pub fn is_before_next(&self, main: u64, sub: u64) -> bool
+        ensures { result ≡ list_all (λ w. before_next main sub w.key) self.now.writes }
+    {
+        self.writes
+            .iter()
+            .all(|write| is_before_next(&write.key, main, sub))
     }
 
     /// Empties `into` and moves the writes stamped below `cycle` there, in their order; the others

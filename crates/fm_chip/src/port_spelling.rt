@@ -14,9 +14,9 @@ use crate::saved_write::{SavedWrite, WRITE};
 use crate::timers::Timers;
 use crate::write::{FmList, FmWrite};
 use arrayvec::ArrayVec;
-use md_fields::{first_wrong, put, u16_at};
+use md_fields::{are_zeros, first_wrong, put, u16_at};
 use md_word::Unspell;
-use stamped_writes::{Earliest, are_zeros, put_count, put_zeros};
+use stamped_writes::{Earliest, put_count, put_zeros};
 use std::alloc::Global;
 
 /// How many writes a port holds, at most.
@@ -53,9 +53,9 @@ impl FmPort {
 
     /// The port that the bytes of a saved state at a cycle, of at most 2^50, keep. It takes no memory.
     /// Bytes that are not 12,316 are refused at the lesser of their number and 12,316, others at the place
-    /// of the first field whose rule fails: a timer's run is its bit of register 27, its next overflow
-    /// stands less than the longest period after the cycle, or is 0 where it stands still, and flags are
-    /// 0 or 1. Count and writes are refused at 26, where they are more than 1,024, where one is for no
+    /// of the first field whose rule fails: a timer's run is its bit of register 27, and its next overflow
+    /// stands less than the longest period after the cycle, or is 0 where it stands still (both are
+    /// refused at the run); flags are 0 or 1. Count and writes are refused at 26, where they are more than 1,024, where one is for no
     /// port, or a reset that is not the 68000's or has a register or a value, where their keys are none
     /// of the two processors', do not rise, stand below the last batch before the cycle or not below the
     /// cycle, or stand less than 28 cycles apart for the 68000 or 45 for the Z80, and where an unused

@@ -1,5 +1,5 @@
 ghost use Rattle.std.specs.Prelude.{◌≡◌, ◌+◌, ◌<◌, ◌≤◌, ◌^◌, ◌&&◌, ◌++◌, length, map, take, drop, vec_len, vec_capacity};
-ghost use Rattle.md_fields.specs.Fields.{AreSized, first_wrong as wrong_place, seen, sizes, spelling};
+ghost use Rattle.md_fields.specs.Fields.{AreSized, first_wrong as wrong_place, or_else, seen, sizes, spelling};
 ghost use Rattle.fm_chip.specs.Channels.{IsChannel};
 ghost use Rattle.fm_chip.specs.SynthSpelling as meaning;
 ghost use Rattle.fm_voice.specs.Channel.{IsLevel};
@@ -283,7 +283,7 @@ pub fn wrong_from(place: usize, fields: &[Field<'_>]) -> Option<usize>
 
 /// The first of two places, where there is one.
 pub fn first_of(place: Option<usize>, next: Option<usize>) -> Option<usize>
-    ensures { result ≡ meaning.or_else place next }
+    ensures { result ≡ or_else place next }
 {
     match place {
         Some(place) => Some(place),

@@ -2,7 +2,6 @@ pub mod Choices
 pub mod Fitting
 pub mod Kept
 pub mod Laws
-pub mod Refusals
 pub mod Resting
 pub mod SampleTimes
 pub mod SavedLaws

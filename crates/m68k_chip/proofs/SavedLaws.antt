@@ -3,6 +3,7 @@ use Rattle.std.proofs.Common.{◌≡◌, ℕ, zero, suc, ◌≤◌, Bool, true, 
 use Rattle.std.specs.Prelude.{bit_and}
 use Rattle.std.proofs.lemmas.Bool.{leb-true, eqb-true, and_parts}
 use Rattle.std.proofs.lemmas.List.{length-take}
+use Rattle.md_fields.specs.Distances.{is_soon}
 use Rattle.md_fields.specs.Fields.{AllHold, first_wrong}
 use Rattle.md_fields.specs.Padding.{are_zeros}
 use Rattle.md_fields.specs.Places.{Stand}
@@ -10,7 +11,7 @@ use Rattle.md_fields.proofs.Flags.{flag_again, flag_back}
 use Rattle.md_fields.proofs.Items.{all_hold, same_words}
 use Rattle.md_fields.proofs.Padding.{padded_again, padded_back}
 use Rattle.m68k_chip.specs.Numbers.{IsRegs, Numbers68, halted_number, numbers_of, since_of, stage_number, stage_of, state_from}
-use Rattle.m68k_chip.specs.Saved.{are_answers, are_words, chip_fields, fields_by, is_cause, is_cost, is_halted, is_since, is_soon, is_start}
+use Rattle.m68k_chip.specs.Saved.{are_answers, are_words, chip_fields, fields_by, is_cause, is_cost, is_halted, is_since, is_start}
 use Rattle.m68k_chip.specs.States.{State68}
 use Rattle.m68k_chip.specs.declared.stage.Stage.{Stage}
 use Rattle.m68k_chip.specs.declared.stage.Stage.TheVariants.{Sample, Access, Word}

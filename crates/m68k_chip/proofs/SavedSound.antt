@@ -12,7 +12,8 @@ use Rattle.m68k_exec.specs.declared.access.stop.Stop.TheVariants.{Ask, Odd}
 use Rattle.m68k_chip.specs.Events.{carried_out, step}
 use Rattle.m68k_chip.specs.Numbers.{Numbers68, stage_of, state_from}
 use Rattle.m68k_chip.specs.Resuming.{are_answered, asked_after, asked_in, asks_at, asks_more, fits_value, is_answer}
-use Rattle.m68k_chip.specs.Saved.{is_after, is_source}
+use Rattle.md_fields.specs.Distances.{is_after}
+use Rattle.m68k_chip.specs.Saved.{is_source}
 use Rattle.m68k_chip.specs.Sound.{FitsValue, IsAt, IsCause, IsChip68, IsCost, IsStarted, IsTransfer}
 use Rattle.m68k_chip.specs.States.{State68, none_left}
 use Rattle.m68k_chip.proofs.Fitting.{take-all}

@@ -1,19 +1,12 @@
 -- The fields of a saved state that keep the 68000: their order, their sizes and their rules. Of a rule
 -- on several fields the place is the last of them. This project's profile.
 use Rattle.std.specs.Prelude.{ℕ, ◌+◌, ◌-◌, ◌*◌, ◌%◌, ◌==◌, ◌&&◌, ◌||◌, Bool, true, not, nat_le, nat_lt, if◌then◌else◌, List, [], ◌∷◌, ◌++◌, drop, bit_and}
+use Rattle.md_fields.specs.Distances.{is_after, is_soon}
 use Rattle.md_fields.specs.Fields.{Field, byte, word, long, quad, words, block}
 use Rattle.md_fields.specs.Padding.{are_zeros}
 use Rattle.m68k_chip.specs.Events.{step}
 use Rattle.m68k_chip.specs.Numbers.{Numbers68, state_from}
 use Rattle.m68k_chip.specs.Resuming.{asks_more}
-
--- at most 2^20 cycles from `at` on
-abbrev pub is_soon : ℕ → ℕ → Bool
-is_soon next at = nat_le at next && nat_le (next - at) 0x10_0000
-
--- a number is so much above another
-abbrev pub is_after : ℕ → ℕ → ℕ → Bool
-is_after later earlier distance = nat_le earlier later && (later - earlier == distance)
 
 -- at an access the start is below `at`, else it is next
 abbrev pub is_start : ℕ → Numbers68 → Bool

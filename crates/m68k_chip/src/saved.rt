@@ -11,7 +11,7 @@ ghost use Rattle.m68k_chip.specs.States.{state_of};
 use crate::resuming::first_answers;
 use crate::sequencer::{STEP, Sequencer};
 use crate::stage::Stage;
-use md_fields::{Field, first_wrong, u8_at, u16_at, u32_at, u64_at, words_at};
+use md_fields::{Field, are_zero_words, first_wrong, is_after, is_soon, u8_at, u16_at, u32_at, u64_at, words_at};
 use md_word::{Regs, Request68, Transfer};
 use rom_header::Cart;
 use std::marker::Model;
@@ -21,9 +21,6 @@ pub const LENGTH: usize = 65_714;
 
 /// Where work RAM stands among them.
 pub const RAM: usize = 178;
-
-/// How far from the cycle of a saved state the next event can be.
-const FAR: u64 = 0x10_0000;
 
 /// The stages of an access and of a word of a transfer.
 const ACCESS: u8 = 1;
@@ -276,7 +273,7 @@ impl<'a> Saved68<'a> {
         ensures { result ≡ rules.are_answers self.now }
     {
         self.count <= ANSWERS
-            && (self.follows() && are_zeros(&self.answers[usize::from(self.count)..]))
+            && (self.follows() && are_zero_words(&self.answers[usize::from(self.count)..]))
     }
 
     fn are_words(&self) -> bool
@@ -381,28 +378,10 @@ fn stage_of(number: u8) -> Stage
     }
 }
 
-fn is_soon(next: u64, at: u64) -> bool
-    ensures { result ≡ rules.is_soon next at }
-{
-    at <= next && next - at <= FAR
-}
-
-fn is_after(later: u64, earlier: u64, distance: u64) -> bool
-    ensures { result ≡ rules.is_after later earlier distance }
-{
-    earlier <= later && later - earlier == distance
-}
-
 fn is_source(source: u32) -> bool
     ensures { result ≡ rules.is_source source }
 {
     source % 2 == 0 && source < BUS_END
-}
-
-fn are_zeros(numbers: &[u16]) -> bool
-    ensures { result ≡ padding.are_zeros numbers.now }
-{
-    numbers.iter().all(|number| *number == 0)
 }
 
 /// The answers, and 0 in the places that are not used.

@@ -1,4 +1,6 @@
 pub mod Flags
 pub mod Items
 pub mod Padding
+pub mod Refusals
 pub mod Standing
+pub mod Tables

@@ -60,7 +60,7 @@ words_stand (n ∷ ns) front rest w (suc k) lt =
     tail ∙ ap (λ (b : List ℕ). number_at w16 (length (front ++ to_be_bytes w16 n) + 2 * k) b) (append_assoc front (to_be_bytes w16 n) (flat_map (to_be_bytes w16) ns ++ rest)) ∙ ap (λ (i : ℕ). number_at w16 i (front ++ (flat_map (to_be_bytes w16) (n ∷ ns) ++ rest))) place
 
 -- the bytes of a field that stands at a place
-part : (f : Field) (place : ℕ) (bytes : List ℕ) → IsBytes bytes → place + size_of f ≤ length bytes → IsAt f place bytes → bytes_of f ≡ take (size_of f) (drop place bytes)
+pub part : (f : Field) (place : ℕ) (bytes : List ℕ) → IsBytes bytes → place + size_of f ≤ length bytes → IsAt f place bytes → bytes_of f ≡ take (size_of f) (drop place bytes)
 unfolding number_at
 part (byte n holds) place bytes fits room e = rw (drop_more bytes place 0 (omega (arith, room)), e) refl
 part (word n holds) place bytes fits room e = be_bytes_2 _ n (omega (arith, length-take 2 (drop place bytes), length-drop place bytes)) (IsBytes-take 2 _ (IsBytes-drop place bytes fits)) e
@@ -87,7 +87,7 @@ size_is (words count ns holds) w = words_size ns ∙ ap (λ (k : ℕ). 2 * k) w.
 size_is (block size b holds) w = w
 
 -- a field that is spelled behind a front stands there
-stands : (f : Field) (front rest : List ℕ) → IsWithin f → IsAt f (length front) (front ++ (bytes_of f ++ rest))
+pub stands : (f : Field) (front rest : List ℕ) → IsWithin f → IsAt f (length front) (front ++ (bytes_of f ++ rest))
 unfolding number_at
 stands (byte n holds) front rest w = sym (ap (λ (l : List ℕ). get_or l 0 0) (drop_at front (n ∷ rest) (length front) refl)) ∙ get_or-drop (length front) (front ++ (n ∷ rest)) 0 0 ∙ ap (λ (k : ℕ). get_or (front ++ (n ∷ rest)) k 0) (omega arith)
 stands (word n holds) front rest w = sym (ap (from_be_bytes w16) (ap (take 2) (drop_at front (to_be_bytes w16 n ++ rest) (length front) refl) ∙ take_at (to_be_bytes w16 n) rest 2 refl) ∙ from_be_bytes-to_be_bytes_2 n w)

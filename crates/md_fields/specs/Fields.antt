@@ -97,3 +97,8 @@ first_wrong place (field ∷ rest) = if holds_of field then first_wrong (place +
 unfoldable pub AllHold : List Field → Type 0
 AllHold [] = Unit {0}
 AllHold (field ∷ rest) = (holds_of field ≡ true) × AllHold rest
+
+-- the first of two places, where there is one
+abbrev pub or_else : Option ℕ → Option ℕ → Option ℕ
+or_else None next = next
+or_else (Some place) next = Some place

@@ -1,3 +1,4 @@
+pub mod Distances
 pub mod Fields
 pub mod Items
 pub mod Padding

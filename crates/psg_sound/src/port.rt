@@ -1,8 +1,11 @@
 ghost use Rattle.std.specs.Prelude.{◌≡◌, ◌<◌, []};
 ghost use Rattle.psg_sound.specs.Port.{IsPort, held_with, left_from, taken_below};
+ghost use Rattle.std.specs.List.{list_all};
+ghost use Rattle.stamped_writes.specs.Keys.{is_before_next as before_next};
 
 use crate::write::{PsgList, PsgWrite};
 use md_word::Key;
+use stamped_writes::is_before_next;
 use std::marker::Model;
 
 /// The PSG's port: the writes that its synthesis has not taken. Contracts see their list, at most
@@ -48,6 +51,16 @@ impl PsgPort {
         if !self.writes.is_full() {
             self.writes.push(PsgWrite { key, value });
         }
+    }
+
+    /// Whether each held write stands its processor's gap before the next event of that processor, at
+    /// least: the 68000's stands at `main`, the Z80's at `sub`.
+    pub fn is_before_next(&self, main: u64, sub: u64) -> bool
+        ensures { result ≡ list_all (λ w. before_next main sub w.key) self.now }
+    {
+        self.writes
+            .iter()
+            .all(|write| is_before_next(&write.key, main, sub))
     }
 
     /// Empties `into` and moves the writes stamped below `cycle` there, in their order; the others

@@ -10,9 +10,9 @@ use crate::saved_port::{MOST, WRITE, are_kept, put_writes, writes_at};
 use crate::saved_synth::{SavedSynth, tone_from};
 use crate::synth::PsgSynth;
 use crate::write::PsgList;
-use md_fields::{first_wrong, put, u16_at};
+use md_fields::{are_zeros, first_wrong, put, u16_at};
 use md_word::Unspell;
-use stamped_writes::{are_zeros, put_count, put_zeros};
+use stamped_writes::{put_count, put_zeros};
 use std::alloc::Global;
 
 /// How many bytes keep a port, and how many a synthesis.

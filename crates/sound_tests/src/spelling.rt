@@ -289,17 +289,17 @@ fn rules_of_the_psg(rt: HostRuntime) {
 }
 
 // Each rule of the FM chip's port broken once: a run that is not its bit of register 27, a next overflow
-// below 20,000 or too far, one of a timer that stands still, flags, a third port, a reset with a register
+// below 20,000 or too far, one of a timer that stands still (all at the timer's run), flags, a third port, a reset with a register
 // or by the Z80, keys as above, and an unused place.
 #[test]
 fn rules_of_the_fm_chips_port(rt: HostRuntime) {
     let rows = [
         ([NONE; 3], None),
         ([(6, 0); 3], Some(6)),
-        ([(14, 0x1f); 3], Some(7)),
-        ([(12, 0x10), (13, 0x0e), (14, 0x20)], Some(7)),
+        ([(14, 0x1f); 3], Some(6)),
+        ([(12, 0x10), (13, 0x0e), (14, 0x20)], Some(6)),
         ([(15, 1); 3], Some(15)),
-        ([(23, 1); 3], Some(16)),
+        ([(23, 1); 3], Some(15)),
         ([(24, 2); 3], Some(24)),
         ([(25, 2); 3], Some(25)),
         ([(49, 3); 3], Some(26)),

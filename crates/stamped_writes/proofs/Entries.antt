@@ -6,7 +6,7 @@ use Rattle.md_fields.specs.Places.{IsBytes, Stand}
 use Rattle.md_fields.proofs.Items.{within_there}
 use Rattle.md_fields.proofs.Standing.{long_as, spelled_from, stand_behind}
 use Rattle.stamped_writes.specs.Entries.{AreFit, entries_bytes, entries_from}
-use Rattle.stamped_writes.proofs.Tables.{spelling_append, within_append, within_both}
+use Rattle.md_fields.proofs.Tables.{spelling_append, within_append, within_both}
 
 -- what is left as one field
 abbrev left : List ℕ → List Field

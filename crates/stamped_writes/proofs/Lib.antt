@@ -3,7 +3,5 @@ pub mod Entries
 pub mod Filters
 pub mod Helds
 pub mod Orders
-pub mod Refusals
 pub mod Spaced
 pub mod Splits
-pub mod Tables

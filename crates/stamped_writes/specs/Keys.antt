@@ -31,6 +31,10 @@ are_spaced (key ∷ rest) = list_all (is_behind key) rest && are_spaced rest
 abbrev pub are_kept : ℕ → List Key → Bool
 are_kept at keys = list_all (is_kept at) keys && are_spaced keys
 
+-- a write stands its processor's gap before the next event of that processor, at least
+abbrev pub is_before_next : ℕ → ℕ → Key → Bool
+is_before_next main sub key = nat_le (key.cycle + gap key.chip) (if key.chip == 0 then main else sub)
+
 -- ---- the same key by key
 
 -- where no write was looked at

@@ -57,3 +57,16 @@ impl Earliest {
         }
     }
 }
+
+/// Whether a write with this key stands its processor's gap before the next event of that processor,
+/// at least: the 68000's next stands at `main`, the Z80's at `sub`.
+pub fn is_before_next(key: &Key, main: u64, sub: u64) -> bool
+    ensures { result ≡ meaning.is_before_next main sub key.now }
+{
+    let (next, gap) = if key.chip == 0 {
+        (main, MAIN_GAP)
+    } else {
+        (sub, SUB_GAP)
+    };
+    gap <= next && key.cycle <= next - gap
+}

@@ -5,5 +5,5 @@
 mod earliest;
 mod padding;
 
-pub use earliest::Earliest;
-pub use padding::{are_zeros, put_count, put_zeros};
+pub use earliest::{Earliest, is_before_next};
+pub use padding::{put_count, put_zeros};

@@ -1,6 +1,5 @@
 ghost use Rattle.std.specs.Prelude.{◌≡◌, ◌+◌, ◌≤◌, ◌++◌, replicate, vec_len, vec_capacity};
 ghost use Rattle.std.specs.Int.{w16, to_be_bytes};
-ghost use Rattle.md_fields.specs.Padding as padding;
 
 use md_fields::{Field, put};
 
@@ -29,11 +28,4 @@ pub fn put_zeros(count: usize, into: &mut Vec<u8>)
 {
     let zeros = [0; MOST];
     put(&[Field::Block(&zeros[..count], true)], into);
-}
-
-/// Whether all these bytes are 0, as those of places that hold no write.
-pub fn are_zeros(bytes: &[u8]) -> bool
-    ensures { result ≡ padding.are_zeros bytes.now }
-{
-    bytes.iter().all(|byte| *byte == 0)
 }

@@ -1,7 +1,6 @@
 ghost use Rattle.std.specs.Prelude.{◌≡◌, ◌^◌, ◌<◌, ℕ, length, map, IfErr, IfOk};
 ghost use Rattle.md_fields.specs.Fields.{AreSized, seen};
 ghost use Rattle.md_fields.specs.Items.{IsRefused, IsRight, Keeps};
-ghost use Rattle.md_fields.specs.Padding as padding;
 ghost use Rattle.md_fields.specs.Places.{Stand};
 ghost use Rattle.vdp_chip.specs.Drawing as drawing;
 ghost use Rattle.vdp_chip.specs.Picture.{picture_length};
@@ -10,7 +9,7 @@ ghost use Rattle.vdp_chip.specs.Saved.{drawing_fields};
 ghost use Rattle.vdp_chip.specs.Spelling.{drawing_size};
 
 use crate::picture::{PICTURE, ROW};
-use md_fields::{Field, first_wrong, u8_at, u64_at};
+use md_fields::{Field, are_zeros, first_wrong, u8_at, u64_at};
 use md_word::clock::LINE;
 use std::marker::Model;
 use vdp_time::line_of;
@@ -109,10 +108,4 @@ fn is_picture(at: u64, picture: &[u8]) -> bool
 {
     let drawn = ROW * undrawn_from(at) as usize;
     drawn >= PICTURE || are_zeros(&picture[drawn..])
-}
-
-fn are_zeros(bytes: &[u8]) -> bool
-    ensures { result ≡ padding.are_zeros bytes.now }
-{
-    bytes.iter().all(|byte| *byte == 0)
 }

@@ -1,4 +1,6 @@
-ghost use Rattle.std.specs.Prelude.{◌≡◌, ◌+◌, ◌*◌, ◌^◌, ◌<◌, ◌≤◌, ℕ, length};
+ghost use Rattle.std.specs.Prelude.{◌≡◌, ◌+◌, ◌*◌, ◌^◌, ◌<◌, ◌≤◌, ◌++◌, ℕ, List, length, vec_capacity, vec_len};
+ghost use Rattle.vdp_ports.specs.Dma.{with_rest};
+ghost use Rattle.vdp_ports.specs.Spelling.{vdp_bytes, vdp_size};
 ghost use Rattle.vdp_ports.specs.Vdp.{Vdp};
 ghost use Rattle.vdp_ports.specs.Pins.{HasSamePins};
 ghost use Rattle.vdp_ports.specs.Rules.{HasRules};
@@ -6,7 +8,7 @@ ghost use Rattle.vdp_ports.specs.Data.{transferred};
 ghost use Rattle.vdp_dma.specs.Settling as meaning;
 
 use vdp_ports::register::INCREMENT;
-use vdp_ports::{COPY, COPY_STEP, FILL_STEP, NO_DMA, VdpState, other_byte};
+use vdp_ports::{COPY, COPY_STEP, FILL_STEP, NO_DMA, Rest, VdpState, other_byte};
 
 /// Master cycles from one byte to the next.
 #[tactic(auto, unfolding(crate::specs::Settling::step))]
@@ -31,18 +33,28 @@ fn running(state: &VdpState, k: u32) -> u16
         % 0x1_0000) as u16
 }
 
-/// Puts byte k of what is left into VRAM.
+/// Byte k of what is left: its address, and its value over a memory.
 #[tactic(auto, unfolding(crate::specs::Settling::write))]
-fn put_one(state: &mut VdpState, k: u32)
-    ensures { state.new ≡ record state.old { vram = meaning.done state.old.vram (meaning.write state.old k state.old.vram) } }
+#[inline]
+fn write_of(state: &VdpState, k: u32, vram: &[u8; 65536]) -> (u16, u8)
+    ensures address { result.0 ≡ (meaning.write state.now k vram.now).address }
+    ensures byte { result.1 ≡ (meaning.write state.now k vram.now).byte }
 {
     let address = running(state, k);
     if state.dma_kind == COPY {
         let from = (u64::from(state.source) + u64::from(k)) % 0x1_0000;
-        state.vram[usize::from(address)] = state.vram[from as usize];
+        (address, vram[from as usize])
     } else {
-        state.vram[usize::from(other_byte(address))] = state.byte;
+        (other_byte(address), state.byte)
     }
+}
+
+/// Puts byte k of what is left into VRAM.
+fn put_one(state: &mut VdpState, k: u32)
+    ensures { state.new ≡ record state.old { vram = meaning.done state.old.vram (meaning.write state.old k state.old.vram) } }
+{
+    let (address, byte) = write_of(state, k, &state.vram);
+    state.vram[usize::from(address)] = byte;
 }
 
 /// How many of the bytes that are left are stamped below a cycle.
@@ -148,4 +160,65 @@ pub fn transfer_word(state: &mut VdpState, word: u16)
     ensures pins { HasSamePins state.old state.new }
 {
     state.transfer(word);
+}
+
+/// Puts the next bytes into a copy of VRAM.
+#[tactic(auto, unfolding(crate::specs::Settling::vram_after))]
+fn put_into(state: &VdpState, count: u32, vram: &mut [u8; 65536])
+    requires { vram.old ≡ state.now.vram }
+    ensures { vram.new ≡ meaning.vram_after state.now count }
+{
+    for k in 0..count {
+        let (address, byte) = write_of(state, k, vram);
+        vram[usize::from(address)] = byte;
+    }
+}
+
+/// What is left once the next bytes were put.
+#[tactic(auto, unfolding(crate::specs::Settling::advanced, crate::specs::Settling::moved, crate::specs::Settling::finished))]
+fn rest_after(state: &VdpState, count: u32) -> Rest
+    requires { state.now.next_stamp ≤ 2 ^ 50 }
+    ensures { (vram : List ℕ) → with_rest state.now vram result ≡ meaning.advanced count vram state.now }
+{
+    if count >= state.left {
+        return Rest {
+            dma_kind: NO_DMA,
+            byte: 0,
+            source: 0,
+            address: 0,
+            left: 0,
+            next_stamp: 0,
+        };
+    }
+    let source = if state.dma_kind == COPY {
+        ((u64::from(state.source) + u64::from(count)) % 0x1_0000) as u16
+    } else {
+        state.source
+    };
+    Rest {
+        source,
+        address: running(state, count),
+        left: state.left - count,
+        next_stamp: state.next_stamp + step(state) * u64::from(count),
+        ..state.rest()
+    }
+}
+
+/// Appends the bytes of a saved state at a cycle that keep this VDP, 65,812 in all, as once its fill or
+/// copy is settled to the cycle. There is room for them. The VDP stays as it is.
+pub fn spell(state: &VdpState, at: u64, into: &mut Vec<u8>)
+    requires cycle { at ≤ 2 ^ 50 }
+    requires room { vec_len into.old + vdp_size ≤ vec_capacity into.old }
+    ensures bytes { into.new.items ≡ into.old.items ++ vdp_bytes (meaning.settled at state.now) }
+    ensures length { vec_len into.new ≡ vec_len into.old + vdp_size }
+    ensures room { vec_capacity into.old ≤ vec_capacity into.new }
+{
+    let count = due(state, at);
+    if count == 0 {
+        state.spell(at, into);
+        return;
+    }
+    let mut vram = *state.vram;
+    put_into(state, count, &mut vram);
+    state.spell_with(&vram, rest_after(state, count), at, into);
 }

@@ -1,6 +1,5 @@
 pub mod ByCases
 pub mod Kept
-pub mod Refusals
 pub mod RuleLaws
 pub mod Same
 pub mod SavedLaws

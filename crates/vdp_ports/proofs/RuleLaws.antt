@@ -5,6 +5,7 @@ use Rattle.std.proofs.lemmas.Bool.{and_parts, eq-eqb, eqb-true, le-leb, leb-true
 use Rattle.std.specs.List.{AllByRecursion}
 use Rattle.std.proofs.lemmas.List.Elements.{All-from_get_or, recursion_from_All}
 use Rattle.std.proofs.lemmas.List.Sums.{AllPass-from_list_all, list_all-from_AllPass}
+use Rattle.md_fields.specs.Distances.{is_after}
 use Rattle.md_fields.specs.Fields.{AllHold, AreWithin}
 use Rattle.md_fields.specs.Items.{IsRight}
 use Rattle.md_fields.proofs.Items.{all_hold, none_wrong}
@@ -12,7 +13,7 @@ use Rattle.md_word.specs.Clock.{line}
 use Rattle.md_word.specs.Coding.{flag_number}
 use Rattle.vdp_ports.specs.Numbers.{numbers_of}
 use Rattle.vdp_ports.specs.Rules.{IsGoing, IsInterval}
-use Rattle.vdp_ports.specs.Saved.{have_only, is_after, vdp_fields}
+use Rattle.vdp_ports.specs.Saved.{have_only, vdp_fields}
 use Rattle.vdp_ports.specs.Spelling.{IsSettled, Spells, vdp_bytes}
 use Rattle.vdp_ports.specs.Vdp.{IsVdp, Vdp}
 use Rattle.vdp_ports.proofs.SavedLaws.{same_bytes}

@@ -1,7 +1,8 @@
 -- The start of a fill and of a copy. Genesis Technical Overview, DMA; the times are this project's
 -- profile.
-use Rattle.std.specs.Prelude.{ℕ, ◌+◌, ◌*◌, ◌%◌, ◌/◌, false}
+use Rattle.std.specs.Prelude.{ℕ, ◌+◌, ◌*◌, ◌%◌, ◌/◌, false, List}
 use Rattle.vdp_ports.specs.Vdp.{Vdp, register}
+use Rattle.vdp_ports.specs.declared.dma.Rest.{Rest}
 
 -- registers 19 and 20; 0 stands for all of the memory
 unfoldable pub length_of : Vdp → ℕ
@@ -39,4 +40,26 @@ copying cycle s = record s {
   left = length_of s;
   next_stamp = cycle + 34;
   a = end_of s;
+}
+
+-- what is left of a fill or copy, and a VDP with a memory and a rest
+abbrev pub rest_of : Vdp → Rest
+rest_of s = record {
+  dma_kind = s.dma_kind;
+  byte = s.byte;
+  source = s.source;
+  address = s.address;
+  left = s.left;
+  next_stamp = s.next_stamp;
+}
+
+abbrev pub with_rest : Vdp → List ℕ → Rest → Vdp
+with_rest s vram rest = record s {
+  vram = vram;
+  dma_kind = rest.dma_kind;
+  byte = rest.byte;
+  source = rest.source;
+  address = rest.address;
+  left = rest.left;
+  next_stamp = rest.next_stamp;
 }

@@ -2,6 +2,7 @@
 -- on several fields the place is the last of them. This project's profile.
 use Rattle.std.specs.Prelude.{ℕ, ◌-◌, ◌%◌, ◌==◌, ◌&&◌, ◌||◌, Bool, true, nat_le, nat_lt, if◌then◌else◌, List, [], ◌∷◌, bit_and}
 use Rattle.std.specs.List.{list_all}
+use Rattle.md_fields.specs.Distances.{is_after}
 use Rattle.md_fields.specs.Fields.{Field, byte, word, long, quad, words, block}
 use Rattle.md_word.specs.Clock.{line}
 use Rattle.vdp_ports.specs.Numbers.{VdpNumbers}
@@ -32,10 +33,6 @@ abbrev pub is_next_stamp : ℕ → VdpNumbers → Bool
 is_next_stamp at n =
     if n.dma_kind == 0 then n.next_stamp == 0
     else (nat_le at n.next_stamp && nat_le (n.next_stamp - at) (if n.dma_kind == 1 then 16 else 33))
-
--- a number is so much above another
-abbrev pub is_after : ℕ → ℕ → ℕ → Bool
-is_after later earlier distance = nat_le earlier later && (later - earlier == distance)
 
 -- an interrupt of the Z80 began with a line below `at`, and is a line long
 abbrev pub is_begun : ℕ → VdpNumbers → Bool

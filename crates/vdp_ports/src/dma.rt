@@ -16,7 +16,38 @@ pub const FILL_STEP: u64 = 17;
 /// Master cycles from one byte of a copy to the next.
 pub const COPY_STEP: u64 = 34;
 
+/// What is left of a fill or copy; all is 0 where neither goes on.
+#[derive(Clone, Copy)]
+pub struct Rest {
+    /// What goes on: `NO_DMA`, `FILL` or `COPY`.
+    pub dma_kind: u8,
+    /// What a fill puts.
+    pub byte: u8,
+    /// Where a copy reads next.
+    pub source: u16,
+    /// Where a fill or copy puts next.
+    pub address: u16,
+    /// How many of its bytes are left, at most 65,536.
+    pub left: u32,
+    /// The cycle that its next byte is stamped with.
+    pub next_stamp: u64,
+}
+
 impl VdpState {
+    /// What is left of its fill or copy.
+    pub fn rest(&self) -> Rest
+        ensures { result ≡ meaning.rest_of self.now }
+    {
+        Rest {
+            dma_kind: self.dma_kind,
+            byte: self.byte,
+            source: self.source,
+            address: self.address,
+            left: self.left,
+            next_stamp: self.next_stamp,
+        }
+    }
+
     /// The length of what starts, 1 to 65,536: a length of 0 stands for 65,536.
     #[tactic(auto, unfolding(crate::specs::Dma::length_of))]
     pub(crate) fn length(&self) -> u32

@@ -12,6 +12,6 @@ mod saved;
 mod spelling;
 mod state;
 
-pub use dma::{COPY, COPY_STEP, FILL, FILL_STEP, NO_DMA};
+pub use dma::{COPY, COPY_STEP, FILL, FILL_STEP, NO_DMA, Rest};
 pub use memory::other_byte;
 pub use state::VdpState;

@@ -2,15 +2,16 @@ ghost use Rattle.std.specs.Prelude.{◌≡◌, ℕ, length, map, IfErr, IfOk};
 ghost use Rattle.md_fields.specs.Fields.{AreSized, seen};
 ghost use Rattle.md_fields.specs.Items.{IsRefused, IsRight, Keeps};
 ghost use Rattle.md_fields.specs.Places.{Stand};
+ghost use Rattle.vdp_ports.specs.Dma.{with_rest};
 ghost use Rattle.vdp_ports.specs.Numbers.{numbers_of, vdp_of};
 ghost use Rattle.vdp_ports.specs.Saved as rules;
 ghost use Rattle.vdp_ports.specs.Saved.{vdp_fields};
 ghost use Rattle.vdp_ports.specs.Spelling.{vdp_size};
 
 use crate::data::{COLOUR, SCROLL};
-use crate::dma::{COPY, FILL, NO_DMA};
+use crate::dma::{COPY, FILL, NO_DMA, Rest};
 use crate::state::VdpState;
-use md_fields::{Field, first_wrong, u8_at, u16_at, u32_at, u64_at, words_at};
+use md_fields::{Field, first_wrong, is_after, u8_at, u16_at, u32_at, u64_at, words_at};
 use md_word::NoMemory;
 use md_word::clock::LINE;
 use std::alloc::Global;
@@ -97,21 +98,28 @@ impl<'a> SavedVdp<'a> {
     pub fn of(state: &'a VdpState) -> SavedVdp<'a>
         ensures { result ≡ numbers_of state.now }
     {
+        SavedVdp::with(state, &state.vram, state.rest())
+    }
+
+    /// What is kept of a VDP with this memory and this rest of a fill or copy.
+    pub fn with(state: &'a VdpState, vram: &'a [u8; 65536], rest: Rest) -> SavedVdp<'a>
+        ensures { result ≡ numbers_of (with_rest state.now vram.now rest) }
+    {
         SavedVdp {
             registers: &state.registers,
-            vram: state.vram.as_slice(),
+            vram,
             cram: state.cram,
             vsram: state.vsram,
             pending: u8::from(state.pending),
             code: state.code,
             a: state.a,
             armed: u8::from(state.armed),
-            dma_kind: state.dma_kind,
-            byte: state.byte,
-            source: state.source,
-            address: state.address,
-            left: state.left,
-            next_stamp: state.next_stamp,
+            dma_kind: rest.dma_kind,
+            byte: rest.byte,
+            source: rest.source,
+            address: rest.address,
+            left: rest.left,
+            next_stamp: rest.next_stamp,
             vertical: u8::from(state.vertical),
             horizontal: u8::from(state.horizontal),
             overflow: u8::from(state.overflow),
@@ -291,12 +299,6 @@ fn have_only(bits: u16, words: &[u16]) -> bool
     ensures { result ≡ rules.have_only bits words.now }
 {
     words.iter().all(|word| *word & bits == *word)
-}
-
-fn is_after(later: u64, earlier: u64, distance: u64) -> bool
-    ensures { result ≡ rules.is_after later earlier distance }
-{
-    earlier <= later && later - earlier == distance
 }
 
 /// The registers that stand in 24 bytes.

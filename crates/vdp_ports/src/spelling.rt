@@ -1,7 +1,9 @@
 ghost use Rattle.std.specs.Prelude.{◌≡◌, ◌≢◌, ◌+◌, ◌≤◌, ◌++◌, ◌↔◌, ℕ, vec_len, vec_capacity, IfOk, IsErrOf, Ok, Err};
+ghost use Rattle.vdp_ports.specs.Dma.{with_rest};
 ghost use Rattle.vdp_ports.specs.Spelling.{GoesWrongAt, IsSettled, Spells, vdp_bytes, vdp_size};
 ghost use Rattle.vdp_ports.specs.Vdp.{Vdp};
 
+use crate::dma::Rest;
 use crate::known::{known_dma, known_interval, known_memories, known_port};
 use crate::saved::SavedVdp;
 use crate::state::VdpState;
@@ -24,6 +26,17 @@ impl VdpState {
         known_dma(self);
         known_interval(self);
         put(&SavedVdp::of(self).fields(at), into);
+    }
+
+    /// Appends the bytes of a saved state that keep this VDP with another memory and another rest of a
+    /// fill or copy, as once it is settled.
+    pub fn spell_with(&self, vram: &[u8; 65536], rest: Rest, at: u64, into: &mut Vec<u8>)
+        requires { vec_len into.old + vdp_size ≤ vec_capacity into.old }
+        ensures bytes { into.new.items ≡ into.old.items ++ vdp_bytes (with_rest self.now vram.now rest) }
+        ensures length { vec_len into.new ≡ vec_len into.old + vdp_size }
+        ensures room { vec_capacity into.old ≤ vec_capacity into.new }
+    {
+        put(&SavedVdp::with(self, vram, rest).fields(at), into);
     }
 
     /// The VDP that the bytes of a saved state at a cycle keep. Bytes that are not 65,812 are refused at

@@ -4,6 +4,7 @@ use Rattle.std.specs.Prelude.{◌&&◌, ◌||◌}
 use Rattle.std.proofs.lemmas.Bool.{leb-true, eqb-true, and_parts}
 use Rattle.std.proofs.lemmas.List.{length-take}
 use Rattle.md_word.specs.declared.sub_bus.Request80.{Request80}
+use Rattle.md_fields.specs.Distances.{is_after}
 use Rattle.md_fields.specs.Fields.{AllHold, first_wrong}
 use Rattle.md_fields.specs.Padding.{are_zeros}
 use Rattle.md_fields.specs.Places.{Stand}
@@ -16,7 +17,8 @@ use Rattle.z80_decode.specs.declared.interrupt_mode.InterruptMode.TheVariants.{M
 use Rattle.z80_exec.specs.Sample.Samples.{Ended}
 use Rattle.z80_parcel.specs.Parcels.{IsStore, Store}
 use Rattle.z80_chip.specs.Events.{carried_out, first_step, step}
-use Rattle.z80_chip.specs.Saved.{Kept80, are_answers, asks_more, chip_fields, fields_by, is_access, is_after, is_bank_right, is_cause, is_holder, is_start, is_waiting, kept_of, mode_number, mode_of, need_of, numbers_of, stage_number, stage_of, state_from, store_fields}
+use Rattle.z80_parcel.specs.Spelling.{store_fields}
+use Rattle.z80_chip.specs.Saved.{Kept80, are_answers, asks_more, chip_fields, fields_by, is_access, is_bank_right, is_cause, is_holder, is_start, is_waiting, kept_of, mode_number, mode_of, need_of, numbers_of, stage_number, stage_of, state_from}
 use Rattle.z80_chip.specs.Sound.{IsAt, IsChip80}
 use Rattle.z80_chip.specs.States.{State80}
 use Rattle.z80_chip.specs.declared.saved.Saved80.{Saved80}

@@ -4,18 +4,19 @@ use Rattle.std.specs.Prelude.{◌&&◌}
 use Rattle.std.specs.Int.{w16}
 use Rattle.std.proofs.lemmas.Bool.{ltb-true, eqb-true}
 use Rattle.std.proofs.lemmas.List.{length-take, length-drop}
-use Rattle.md_fields.specs.Fields.{AllHold, AreSized, AreWithin, Field, first_wrong, sizes, spelling}
+use Rattle.md_fields.specs.Fields.{AllHold, AreSized, AreWithin, Field, first_wrong, or_else, sizes, spelling}
 use Rattle.md_fields.specs.Items.{IsRight, Keeps}
 use Rattle.md_fields.specs.Places.{IsBytes, Stand, number_at}
 use Rattle.md_fields.proofs.Items.{kept, same}
 use Rattle.md_fields.proofs.Standing.{long_as, long_as_sized}
 use Rattle.z80_parcel.specs.Parcels.{IsStore, Store}
-use Rattle.z80_chip.specs.Saved.{Kept80, asks_more, chip_fields, fields_by, is_bank_right, kept_of, number_fields, numbers_of, state_from, store_fields}
+use Rattle.z80_parcel.specs.Spelling.{store_fields}
+use Rattle.z80_chip.specs.Saved.{Kept80, asks_more, chip_fields, fields_by, is_bank_right, kept_of, number_fields, numbers_of, state_from}
 use Rattle.z80_chip.specs.Spelling.{GoesWrongAt, IsLength, IsRead, Spells, chip_bytes, spelled_size, store_at}
 use Rattle.z80_chip.specs.States.{State80}
 use Rattle.z80_chip.specs.declared.saved.Saved80.{Saved80}
 use Rattle.z80_chip.proofs.SavedLaws.{Rules, kept_back, only_one, rules_of, state_again}
-use Rattle.z80_chip.proofs.Tables.{first_append, none_of, or_else, spelling_append}
+use Rattle.md_fields.proofs.Tables.{first_append, none_of, spelling_append}
 
 -- ---- sizes
 

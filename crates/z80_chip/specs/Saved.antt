@@ -4,6 +4,7 @@ use Rattle.std.specs.Prelude.{ℕ, zero, suc, ◌+◌, ◌-◌, ◌*◌, ◌==�
 use Rattle.md_word.specs.Coding.{flag_number}
 use Rattle.md_word.specs.declared.sub_bus.Request80.{Request80}
 use Rattle.md_word.specs.declared.sub_bus.Request80.TheVariants as requests
+use Rattle.md_fields.specs.Distances.{is_after, is_soon}
 use Rattle.md_fields.specs.Fields.{Field, byte, word, quad, block}
 use Rattle.md_fields.specs.Padding.{are_zeros, padded}
 use Rattle.z80_decode.specs.declared.interrupt_mode.InterruptMode.{InterruptMode}
@@ -11,6 +12,7 @@ use Rattle.z80_decode.specs.declared.interrupt_mode.InterruptMode.TheVariants.{M
 use Rattle.z80_exec.specs.declared.regs80.Regs80.{Regs80}
 use Rattle.z80_exec.specs.Sample.Samples.{Ended}
 use Rattle.z80_parcel.specs.Parcels.{Store}
+use Rattle.z80_parcel.specs.Spelling.{store_fields}
 use Rattle.z80_chip.specs.Events.{carried_out, first_step, step}
 use Rattle.z80_chip.specs.States.{State80}
 use Rattle.z80_chip.specs.declared.need.Need.{Need}
@@ -112,14 +114,6 @@ state_from s store = record {
   store = store;
 }
 
--- at most 2^20 cycles from `at` on
-abbrev pub is_soon : ℕ → ℕ → Bool
-is_soon next at = nat_le at next && nat_le (next - at) 0x10_0000
-
--- a number is so much above another
-abbrev pub is_after : ℕ → ℕ → ℕ → Bool
-is_after later earlier distance = nat_le earlier later && (later - earlier == distance)
-
 -- at a sample start is next, at an access it is below `at`, and a yield or a take comes 60 cycles
 -- after it
 abbrev pub is_start : ℕ → Saved80 → Bool
@@ -220,11 +214,6 @@ number_fields at has s =
     ∷ block 4 s.answers true
     ∷ block 0 [] (is_holder has s)
     ∷ []
-
--- RAM and bank register, by whether RAM's rule holds
-abbrev pub store_fields : Bool → Option Store → List Field
-store_fields holds None = []
-store_fields holds (Some store) = block 0x2000 store.ram holds ∷ word store.bank (nat_lt store.bank 512) ∷ []
 
 abbrev pub fields_by : ℕ → Bool → Kept80 → List Field
 fields_by at holds k = number_fields at (is_some k.store) k.numbers ++ store_fields holds k.store

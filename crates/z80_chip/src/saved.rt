@@ -10,17 +10,11 @@ ghost use Rattle.z80_parcel.specs.Parcels.{store_of};
 use crate::sequencer::{FIRST_STEP, STEP, Sequencer};
 use crate::stage::Stage;
 use crate::waiting::first_answers;
-use md_fields::{Field, u8_at, u16_at, u64_at};
+use md_fields::{Field, are_zeros, is_after, is_soon, u8_at, u16_at, u64_at};
 use md_word::Parcel;
 use rom_header::Cart;
 use z80_decode::InterruptMode;
 use z80_exec::Regs80;
-
-/// How far from the cycle of a saved state the next event can be.
-const FAR: u64 = 0x10_0000;
-
-/// The bank register has nine bits.
-pub const BANKS: u16 = 512;
 
 /// The stage of an access.
 const ACCESS: u8 = 1;
@@ -264,14 +258,6 @@ impl Saved80 {
     }
 }
 
-/// RAM and bank register as fields.
-pub fn store_fields(ram: &[u8], bank: u16) -> [Field<'_>; 2]
-    requires { length ram.now ≡ 0x2000 }
-    ensures fields { map seen result ≡ rules.store_fields true (Some (record { ram = ram.now; bank = bank })) }
-{
-    [Field::Block(ram, true), Field::Word(bank, bank < BANKS)]
-}
-
 fn stage_number(stage: Stage) -> u8
     ensures { result ≡ rules.stage_number stage }
 {
@@ -312,24 +298,6 @@ fn mode_of(number: u8) -> InterruptMode
         1 => InterruptMode::Mode1,
         _ => InterruptMode::Mode2,
     }
-}
-
-fn is_soon(next: u64, at: u64) -> bool
-    ensures { result ≡ rules.is_soon next at }
-{
-    at <= next && next - at <= FAR
-}
-
-fn is_after(later: u64, earlier: u64, distance: u64) -> bool
-    ensures { result ≡ rules.is_after later earlier distance }
-{
-    earlier <= later && later - earlier == distance
-}
-
-fn are_zeros(bytes: &[u8]) -> bool
-    ensures { result ≡ padding.are_zeros bytes.now }
-{
-    bytes.iter().all(|byte| *byte == 0)
 }
 
 /// The answers, and 0 in the places that are not used.

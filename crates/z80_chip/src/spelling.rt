@@ -1,19 +1,17 @@
 ghost use Rattle.std.specs.Prelude.{◌≡◌, ◌≢◌, ◌+◌, ◌≤◌, ◌++◌, ℕ, List, length, true, option_map, is_some, vec_len, vec_capacity, IfErr, IfOk, IfSome, IsErrOf, Ok, Err};
-ghost use Rattle.md_fields.specs.Fields.{spelling};
-ghost use Rattle.z80_chip.specs.Saved.{store_fields as held_fields};
 ghost use Rattle.z80_chip.specs.Spelling.{GoesWrongAt, IsLength, IsRead, Spells, chip_bytes, spelled_size, store_at};
 ghost use Rattle.z80_chip.specs.States.{State80};
 ghost use Rattle.z80_parcel.specs.Parcels.{IsStore, store_of};
 
 use crate::chip::Chip80;
-use crate::saved::{BANKS, Saved80, store_fields};
+use crate::saved::Saved80;
 use md_fields::{first_wrong, put, u16_at};
 use md_word::{NoMemory, Parcel, Unspell};
 use rom_header::Cart;
 use std::alloc::Global;
 use std::sync::Arc;
 use z80_exec::Progress80;
-use z80_parcel::known;
+use z80_parcel::{BANKS, parcel_of, put_store};
 
 /// How many bytes of a saved state keep a Z80 without its RAM, and where its RAM stands else.
 const RAM: usize = 62;
@@ -75,19 +73,6 @@ impl Chip80 {
     }
 }
 
-/// Appends RAM and bank register, where they are there.
-fn put_store(parcel: &Option<Parcel>, into: &mut Vec<u8>)
-    requires { vec_len into.old + length (spelling (held_fields true (option_map store_of parcel.now))) ≤ vec_capacity into.old }
-    ensures bytes { into.new.items ≡ into.old.items ++ spelling (held_fields true (option_map store_of parcel.now)) }
-    ensures length { vec_len into.new ≡ vec_len into.old + length (spelling (held_fields true (option_map store_of parcel.now))) }
-    ensures room { vec_capacity into.old ≤ vec_capacity into.new }
-{
-    if let Some(parcel) = parcel {
-        known(parcel);
-        put(&store_fields(parcel.ram.as_slice(), parcel.bank), into);
-    }
-}
-
 /// The numbers that the bytes keep, where all rules hold but that of RAM, which is not looked at;
 /// else the place of the refusal.
 fn checked(bytes: &[u8], at: u64) -> Result<Saved80, usize>
@@ -117,10 +102,6 @@ fn parcel_at(alloc: Global, bytes: &[u8]) -> Result<Option<Parcel>, NoMemory>
     if bytes.len() == RAM {
         return Ok(None);
     }
-    let mut ram = Box::new(alloc, [0; 8192])?;
-    ram.copy_from_slice(&bytes[RAM..BANK]);
-    Ok(Some(Parcel {
-        ram,
-        bank: u16_at(bytes, BANK),
-    }))
+    let bank = u16_at(bytes, BANK);
+    Ok(Some(parcel_of(alloc, &bytes[RAM..BANK], bank)?))
 }

@@ -1,3 +1,4 @@
 pub mod Laws
 pub mod Parcels
 pub mod Requests
+pub mod Spelling

@@ -3,5 +3,7 @@
 
 pub mod laws;
 mod parcel;
+mod spelling;
 
 pub use parcel::{RAM_END, first, is_bank, known, read, shift, store, store_byte};
+pub use spelling::{BANKS, parcel_of, put_store};

@@ -1,5 +1,5 @@
 use Rattle.std.proofs.Common.{◌≡◌, ◌∙◌, Ok, ap, subst, sym}
-use Rattle.stamped_writes.proofs.Refusals.{told_right, told_wrong}
+use Rattle.md_fields.proofs.Refusals.{told_right, told_wrong}
 use Rattle.fm_chip.specs.Port.{IsPort}
 use Rattle.fm_chip.specs.PortSpelling.{PortGoesWrongAt, SpellsPort, port_with}
 use Rattle.fm_chip.specs.declared.timers.Timers.{Timers}

@@ -1,6 +1,6 @@
 use Rattle.std.proofs.Common.{◌≡◌, ◌∙◌, ◌++◌, ℕ, List, ap, sym, append_assoc}
 use Rattle.md_fields.specs.Fields.{Field, spelling}
-use Rattle.stamped_writes.proofs.Tables.{spelling_append}
+use Rattle.md_fields.proofs.Tables.{spelling_append}
 use Rattle.fm_chip.specs.SynthSpelling.{fields1, fields2, fields3, fields4, fields5, fields6, four_fields, head_fields, last_fields, synth_fields}
 use Rattle.fm_chip.proofs.saved_synth.SavedSynth.put.Goals as goal
 

@@ -1,5 +1,5 @@
 use Rattle.std.proofs.Common.{◌≡◌, ◌∙◌, ℕ, Option}
-use Rattle.fm_chip.specs.SynthSpelling.{or_else}
+use Rattle.md_fields.specs.Fields.{or_else}
 use Rattle.fm_chip.proofs.SynthBytes.{wrong_is}
 use Rattle.fm_chip.proofs.saved_synth.SavedSynth.wrong.Goals as goal
 

@@ -1,5 +1,5 @@
 use Rattle.std.proofs.Common.{◌∙◌, Ok, ap, subst, sym}
-use Rattle.stamped_writes.proofs.Refusals.{told_right, told_wrong}
+use Rattle.md_fields.proofs.Refusals.{told_right, told_wrong}
 use Rattle.fm_chip.specs.SynthSpelling.{SpellsSynth, SynthGoesWrongAt}
 use Rattle.fm_chip.proofs.SynthBytes.{read_only, read_sound, read_spells, right_nowhere, wrong_once}
 use Rattle.fm_chip.proofs.synth.FmSynth.unspell.Goals as goal

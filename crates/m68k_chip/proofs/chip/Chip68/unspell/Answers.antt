@@ -8,7 +8,7 @@ use Rattle.m68k_chip.specs.Sound.{IsChip68}
 use Rattle.m68k_chip.specs.Spelling.{GoesWrongAt, IsKept, Spells, ram_in}
 use Rattle.m68k_chip.specs.States.{State68, state_of}
 use Rattle.m68k_chip.proofs.Laws.{of}
-use Rattle.m68k_chip.proofs.Refusals.{no_rule, same_rule}
+use Rattle.md_fields.proofs.Refusals.{no_rule, same_rule}
 use Rattle.m68k_chip.proofs.SpellingLaws.{no_other, only_place, right_not_refused, spelled_long, spelled_sound}
 use Rattle.m68k_chip.proofs.chip.Chip68.unspell.Goals as goal
 

@@ -1,6 +1,6 @@
 use Rattle.std.proofs.Common.{Ok, ap}
 use Rattle.psg_sound.specs.PortSpelling.{PortGoesWrongAt}
-use Rattle.stamped_writes.proofs.Refusals.{told_right, told_wrong}
+use Rattle.md_fields.proofs.Refusals.{told_right, told_wrong}
 use Rattle.psg_sound.proofs.PortBytes.{port_sound, right_nowhere, spelled_once, wrong_once}
 use Rattle.psg_sound.proofs.port.PsgPort.unspell.Goals as goal
 

@@ -1,5 +1,5 @@
 use Rattle.std.proofs.Common.{◌≡◌, ◌∙◌, Ok, ap, subst, sym}
-use Rattle.stamped_writes.proofs.Refusals.{told_right, told_wrong}
+use Rattle.md_fields.proofs.Refusals.{told_right, told_wrong}
 use Rattle.psg_sound.specs.Synth.{IsSynth}
 use Rattle.psg_sound.specs.SynthSpelling.{SpellsSynth, SynthGoesWrongAt, synth_from}
 use Rattle.psg_sound.proofs.SynthBytes.{read_only, read_sound, read_spells, right_nowhere, wrong_once}

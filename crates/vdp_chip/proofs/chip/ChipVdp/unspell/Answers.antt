@@ -3,7 +3,7 @@ use Rattle.std.proofs.lemmas.Result.{err_from_is_err_and}
 use Rattle.md_word.specs.declared.unspell.Unspell.TheVariants.{Rule}
 use Rattle.vdp_chip.specs.Saved.{numbers_of}
 use Rattle.vdp_chip.specs.Spelling.{GoesWrongAt, Spells}
-use Rattle.vdp_ports.proofs.Refusals.{no_rule, same_rule}
+use Rattle.md_fields.proofs.Refusals.{no_rule, same_rule}
 use Rattle.vdp_chip.proofs.SavedLaws.{no_other, only_place, right_not_refused, sound, spells}
 use Rattle.vdp_chip.proofs.chip.ChipVdp.unspell.Goals as goal
 

@@ -3,7 +3,7 @@ use Rattle.std.proofs.lemmas.Result.{err_from_is_err_and}
 use Rattle.md_word.specs.declared.unspell.Unspell.TheVariants.{Rule}
 use Rattle.vdp_ports.specs.Numbers.{numbers_of, vdp_of}
 use Rattle.vdp_ports.specs.Spelling.{GoesWrongAt, IsSettled, Spells}
-use Rattle.vdp_ports.proofs.Refusals.{no_rule, same_rule}
+use Rattle.md_fields.proofs.Refusals.{no_rule, same_rule}
 use Rattle.vdp_ports.proofs.RuleLaws.{settled_from}
 use Rattle.vdp_ports.proofs.SavedLaws.{no_other, only_place, right_not_refused, spells}
 use Rattle.vdp_ports.proofs.state.VdpState.unspell.Goals as goal

@@ -3,7 +3,8 @@ use Rattle.std.specs.Prelude.{option_map}
 use Rattle.md_fields.specs.Fields.{sizes, spelling}
 use Rattle.md_fields.proofs.Standing.{long_as_sized}
 use Rattle.z80_parcel.specs.Parcels.{Store, store_of}
-use Rattle.z80_chip.specs.Saved.{number_fields, store_fields}
+use Rattle.z80_parcel.specs.Spelling.{store_fields}
+use Rattle.z80_chip.specs.Saved.{number_fields}
 use Rattle.z80_chip.specs.Sound.{Chip80Value}
 use Rattle.z80_chip.specs.Spelling.{chip_bytes, spelled_size}
 use Rattle.z80_chip.specs.States.{State80, state_of}

@@ -11,7 +11,7 @@ use Rattle.z80_chip.specs.Spelling.{GoesWrongAt, Spells, store_at}
 use Rattle.z80_chip.specs.States.{State80, state_of}
 use Rattle.z80_chip.specs.declared.saved.Saved80.{Saved80}
 use Rattle.z80_chip.proofs.Laws.{of}
-use Rattle.z80_chip.proofs.Refusals.{same_rule}
+use Rattle.md_fields.proofs.Refusals.{same_rule}
 use Rattle.z80_chip.proofs.SavedLaws.{count_few, sound}
 use Rattle.z80_chip.proofs.SpellingLaws.{answers_four, breaks_ram, no_other, only_place, read_keeps, read_of, read_right, read_rules, read_store, right_not_refused, spells}
 use Rattle.z80_chip.proofs.chip.Chip80.unspell.Goals as goal

@@ -1,6 +1,6 @@
 -- Tables of fields, one behind another.
 use Rattle.std.proofs.Common.{◌≡◌, ℕ, ◌+◌, Bool, true, false, cond, List, [], ◌∷◌, ◌++◌, Option, Some, None, refl, sym, ap, ◌∙◌, append_assoc, arith}
-use Rattle.md_fields.specs.Fields.{Field, bytes_of, first_wrong, holds_of, size_of, sizes, spelling}
+use Rattle.md_fields.specs.Fields.{AreWithin, Field, bytes_of, first_wrong, holds_of, or_else, size_of, sizes, spelling}
 
 -- the bytes of two tables are those of one behind those of the other
 pub spelling_append : (xs ys : List Field) → spelling (xs ++ ys) ≡ spelling xs ++ spelling ys
@@ -8,10 +8,16 @@ unfolding spelling
 spelling_append [] ys = refl
 spelling_append (x ∷ xs) ys = ap (λ (l : List ℕ). bytes_of x ++ l) (spelling_append xs ys) ∙ sym (append_assoc (bytes_of x) (spelling xs) (spelling ys))
 
--- the first of two places, where there is one
-abbrev pub or_else : Option ℕ → Option ℕ → Option ℕ
-or_else (Some place) next = Some place
-or_else None next = next
+-- what fits of two tables fits of each
+pub within_both : (xs ys : List Field) → AreWithin (xs ++ ys) → AreWithin xs × AreWithin ys
+unfolding AreWithin
+within_both [] ys w = (tt, w)
+within_both (x ∷ xs) ys w = let p = within_both xs ys w.1 in ((w.0, p.0), p.1)
+
+pub within_append : (xs ys : List Field) → AreWithin xs → AreWithin ys → AreWithin (xs ++ ys)
+unfolding AreWithin
+within_append [] ys v w = w
+within_append (x ∷ xs) ys v w = (v.0, within_append xs ys v.1 w)
 
 either : (holds : Bool) (place : ℕ) (first next : Option ℕ) → cond holds (or_else first next) (Some place) ≡ or_else (cond holds first (Some place)) next
 either true place first next = refl
@@ -24,6 +30,16 @@ first_append place [] ys = ap (λ (p : ℕ). first_wrong p ys) (omega arith)
 first_append place (x ∷ xs) ys =
     ap (λ (f : Option ℕ). cond (holds_of x) f (Some place)) (first_append (place + size_of x) xs ys ∙ ap (λ (p : ℕ). or_else (first_wrong (place + size_of x) xs) (first_wrong p ys)) (omega arith))
     ∙ either (holds_of x) place (first_wrong (place + size_of x) xs) (first_wrong (place + (size_of x + sizes xs)) ys)
+
+-- the first rule that fails of a table is that of the table with another behind it
+pub first_front : (place found : ℕ) (xs ys : List Field) → first_wrong place xs ≡ Some found → first_wrong place (xs ++ ys) ≡ Some found
+first_front place found xs ys e =
+    first_append place xs ys ∙ ap (λ (f : Option ℕ). or_else f (first_wrong (place + sizes xs) ys)) e
+
+-- where none fails it is that of the table behind
+pub first_behind : (place : ℕ) (xs ys : List Field) → first_wrong place xs ≡ None → first_wrong place (xs ++ ys) ≡ first_wrong (place + sizes xs) ys
+first_behind place xs ys e =
+    first_append place xs ys ∙ ap (λ (f : Option ℕ). or_else f (first_wrong (place + sizes xs) ys)) e
 
 first_none : (first next : Option ℕ) → or_else first next ≡ None → (first ≡ None) × (next ≡ None)
 first_none None next e = (refl, e)

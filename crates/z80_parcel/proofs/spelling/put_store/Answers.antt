@@ -3,12 +3,12 @@ use Rattle.std.specs.Prelude.{option_map}
 use Rattle.md_fields.specs.Fields.{spelling}
 use Rattle.md_word.specs.declared.sub_bus.Parcel.{Parcel}
 use Rattle.z80_parcel.specs.Parcels.{store_of}
-use Rattle.z80_chip.specs.Saved.{store_fields as held_fields}
-use Rattle.z80_chip.proofs.spelling.put_store.Goals as goal
+use Rattle.z80_parcel.specs.Spelling.{store_fields}
+use Rattle.z80_parcel.proofs.spelling.put_store.Goals as goal
 
-nothing : (parcel : Option Parcel) → parcel ≡ None → spelling (held_fields true (option_map store_of parcel)) ≡ []
+nothing : (parcel : Option Parcel) → parcel ≡ None → spelling (store_fields true (option_map store_of parcel)) ≡ []
 unfolding spelling
-nothing parcel e = ap (λ (p : Option Parcel). spelling (held_fields true (option_map store_of p))) e
+nothing parcel e = ap (λ (p : Option Parcel). spelling (store_fields true (option_map store_of p))) e
 
 pub returns-in_default-clause-bytes : goal.returns-in_default-clause-bytes
 returns-in_default-clause-bytes c = sym (ap (λ (l : List ℕ). c.args.into.now.items ++ l) (nothing c.args.parcel.now c.in_default.is) ∙ append-nil c.args.into.now.items)

@@ -1,0 +1,36 @@
+-- What a saved state keeps of the lines between the chips and of the pads: its numbers, whatever they
+-- are, with their order, their sizes and their rules. This project's profile.
+use Rattle.std.specs.Prelude.{ℕ, nat_le, nat_lt, true, List, [], ◌∷◌}
+use Rattle.md_fields.specs.Fields.{Field, byte, word, quad}
+use Rattle.md_word.specs.Coding.{flag_number}
+use Rattle.bus_shared.specs.Board.{Board}
+use Rattle.bus_shared.specs.declared.saved_lines.SavedLines.{SavedLines}
+
+-- what is kept of a board: a flag is 0 or 1
+abbrev pub lines_of : Board → SavedLines
+lines_of board = record {
+  request = flag_number board.request;
+  reset = flag_number board.reset;
+  resets = board.resets;
+  value1 = board.port1.value;
+  control1 = board.port1.control;
+  value2 = board.port2.value;
+  control2 = board.port2.control;
+  pads1 = board.pads.0;
+  pads2 = board.pads.1;
+}
+
+-- the fields in their order, and their rules, by the cycle of the state: a reset was written at most
+-- once a cycle, and a pad has eight buttons
+abbrev pub lines_fields : ℕ → SavedLines → List Field
+lines_fields at n =
+    byte n.request (nat_le n.request 1)
+    ∷ byte n.reset (nat_le n.reset 1)
+    ∷ quad n.resets (nat_le n.resets at)
+    ∷ byte n.value1 true
+    ∷ byte n.control1 true
+    ∷ byte n.value2 true
+    ∷ byte n.control2 true
+    ∷ word n.pads1 (nat_lt n.pads1 0x100)
+    ∷ word n.pads2 (nat_lt n.pads2 0x100)
+    ∷ []

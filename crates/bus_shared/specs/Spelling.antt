@@ -1,0 +1,113 @@
+-- The bytes of a saved state that keep the board: the Z80's RAM and its bank register where the bus has
+-- them, the VDP, the FM chip's port, the writes that the PSG's port holds, and the lines and the pads.
+-- The recording has no part in them. This project's profile.
+use Rattle.std.specs.Prelude.{◌≡◌, ◌⊎◌, ℕ, ◌+◌, ◌-◌, ◌<◌, ◌≤◌, min, Bool, true, false, List, ◌++◌, length, take, drop, Option, IfSome, is_some}
+use Rattle.std.specs.Int.{w16}
+use Rattle.fm_chip.specs.PortSpelling as fm_spelling
+use Rattle.md_fields.specs.Fields.{spelling}
+use Rattle.md_fields.specs.Items.{IsRefused, IsRight, Keeps}
+use Rattle.md_fields.specs.Places.{number_at}
+use Rattle.psg_sound.specs.PortSpelling as psg_spelling
+use Rattle.vdp_dma.specs.Settling.{settled}
+use Rattle.vdp_ports.specs.Spelling as vdp_spelling
+use Rattle.z80_parcel.specs.Parcels.{IsStore, Store}
+use Rattle.z80_parcel.specs.Spelling.{store_fields}
+use Rattle.bus_shared.specs.Board.{Board}
+use Rattle.bus_shared.specs.Saved.{lines_fields, lines_of}
+use Rattle.bus_shared.specs.declared.saved_lines.SavedLines.{SavedLines}
+
+-- the board with the bytes of fill and copy, and the overflows of the timers, made that stand below a
+-- cycle, as it is kept
+abbrev pub settled_board : ℕ → Board → Board
+settled_board at board = record board { vdp = settled at board.vdp; fm = fm_spelling.settled_port at board.fm }
+
+-- how many bytes keep RAM and bank register, and how many a board, by whether it has them
+abbrev pub store_size : Bool → ℕ
+store_size false = 0
+store_size true = 8194
+
+abbrev pub board_size : Bool → ℕ
+board_size false = 88388
+board_size true = 96582
+
+abbrev pub store_bytes : Option Store → List ℕ
+store_bytes store = spelling (store_fields true store)
+
+abbrev pub lines_bytes : SavedLines → List ℕ
+lines_bytes lines = spelling (lines_fields 0 lines)
+
+-- the bytes that keep a board; the rules, and so the cycle, have no part in them
+abbrev pub board_bytes : Board → List ℕ
+board_bytes board =
+    store_bytes board.store
+    ++ (vdp_spelling.vdp_bytes board.vdp
+    ++ (fm_spelling.port_bytes board.fm ++ (psg_spelling.port_bytes board.held ++ lines_bytes (lines_of board))))
+
+-- the bytes of a state at a cycle keep the board, whose rules hold part by part
+pub record Spells (at : ℕ) (bytes : List ℕ) (board : Board) : Type 0 where
+  pub all : bytes ≡ board_bytes board
+  pub store : IfSome board.store IsStore
+  pub vdp : vdp_spelling.Spells at (vdp_spelling.vdp_bytes board.vdp) board.vdp
+  pub fm : fm_spelling.SpellsPort at (fm_spelling.port_bytes board.fm) board.fm
+  pub held : psg_spelling.SpellsPort at (psg_spelling.port_bytes board.held) board.held
+  pub lines : Keeps (lines_fields at) (lines_bytes (lines_of board)) (lines_of board)
+  pub right : IsRight (lines_fields at) (lines_of board)
+
+-- ---- bytes that keep no board
+
+-- bytes cut into the parts of a board: what is too much for the others is RAM and bank register
+pub record Parts : Type 0 where
+  pub store : List ℕ
+  pub vdp : List ℕ
+  pub fm : List ℕ
+  pub held : List ℕ
+  pub lines : List ℕ
+
+abbrev pub store_length : List ℕ → ℕ
+store_length bytes = length bytes - 88388
+
+abbrev pub cut : List ℕ → Parts
+cut bytes =
+    let behind = drop (store_length bytes) bytes in
+    record {
+      store = take (store_length bytes) bytes;
+      vdp = take 65812 behind;
+      fm = take 12316 (drop 65812 behind);
+      held = take 10242 (drop 12316 (drop 65812 behind));
+      lines = drop 10242 (drop 12316 (drop 65812 behind));
+    }
+
+-- a bank register has nine bits
+abbrev pub StoreGoesWrongAt : List ℕ → ℕ → Type 0
+StoreGoesWrongAt bytes place = (0 < length bytes) × (512 ≤ number_at w16 8192 bytes) × (place ≡ 8192)
+
+abbrev pub LinesGoWrongAt : ℕ → List ℕ → ℕ → Type 0
+LinesGoWrongAt at bytes place = IsRefused 18 (lines_fields at) bytes place
+
+-- a part that begins at a place goes wrong, or it goes wrong nowhere and what stands behind it does
+abbrev pub GoesWrongFrom : ℕ → (ℕ → Type 0) → (ℕ → Type 0) → ℕ → Type 0
+GoesWrongFrom start Wrong Behind place =
+    ((p : ℕ) × Wrong p × (place ≡ start + p)) ⊎ (((p : ℕ) → Wrong p → ⊥) × Behind place)
+
+-- the first part that goes wrong does so at this place
+abbrev pub PortsGoWrongAt : ℕ → ℕ → Parts → ℕ → Type 0
+PortsGoWrongAt at start parts =
+    GoesWrongFrom start (fm_spelling.PortGoesWrongAt at parts.fm)
+    (GoesWrongFrom (start + 12316) (psg_spelling.PortGoesWrongAt at parts.held)
+    (λ place. (p : ℕ) × LinesGoWrongAt at parts.lines p × (place ≡ start + 22558 + p)))
+
+abbrev pub PartsGoWrongAt : ℕ → ℕ → Parts → ℕ → Type 0
+PartsGoWrongAt at start parts =
+    GoesWrongFrom 0 (StoreGoesWrongAt parts.store)
+    (GoesWrongFrom start (vdp_spelling.GoesWrongAt at parts.vdp) (PortsGoWrongAt at (start + 65812) parts))
+
+-- as many bytes as there can be
+abbrev pub IsLength : List ℕ → Type 0
+IsLength bytes = (length bytes ≡ 88388) ⊎ (length bytes ≡ 96582)
+
+-- bytes of a state at a cycle that keep no board are refused at this place: by their length, at the
+-- lesser one, or by the first part that goes wrong
+abbrev pub GoesWrongAt : ℕ → List ℕ → ℕ → Type 0
+GoesWrongAt at bytes place =
+    ((IsLength bytes → ⊥) × (place ≡ min (length bytes) 96582))
+    ⊎ (IsLength bytes × PartsGoWrongAt at (store_length bytes) (cut bytes) place)

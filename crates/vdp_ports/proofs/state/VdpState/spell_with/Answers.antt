@@ -1,0 +1,16 @@
+use Rattle.std.proofs.Common.{◌++◌, List, ℕ, ap, ◌∙◌, arith}
+use Rattle.md_fields.specs.Fields.{spelling, sizes}
+use Rattle.md_fields.proofs.Standing.{long_as_sized}
+use Rattle.vdp_ports.specs.Numbers.{VdpNumbers}
+use Rattle.vdp_ports.specs.Saved.{vdp_fields}
+use Rattle.vdp_ports.proofs.SavedLaws.{fields_size, same_bytes}
+use Rattle.vdp_ports.proofs.state.VdpState.spell_with.Goals as goal
+
+pub put-requires : goal.put-requires
+put-requires c = omega (arith, long_as_sized _ c.fields.ensures.sizes ∙ ap sizes c.fields.ensures.fields ∙ fields_size c.args.at c.with.result, c.requires)
+
+pub returns-clause-bytes : goal.returns-clause-bytes
+returns-clause-bytes c = c.put.ensures.bytes ∙ ap (λ (l : List ℕ). c.args.into.now.items ++ l) (ap spelling c.fields.ensures.fields ∙ same_bytes c.args.at 0 c.with.result ∙ ap (λ (n : VdpNumbers). spelling (vdp_fields 0 n)) c.with.ensures)
+
+pub returns-clause-length : goal.returns-clause-length
+returns-clause-length c = omega (arith, c.put.ensures.length, long_as_sized _ c.fields.ensures.sizes ∙ ap sizes c.fields.ensures.fields ∙ fields_size c.args.at c.with.result)
