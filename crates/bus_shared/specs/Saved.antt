@@ -1,8 +1,13 @@
 -- What a saved state keeps of the lines between the chips and of the pads: its numbers, whatever they
 -- are, with their order, their sizes and their rules. This project's profile.
-use Rattle.std.specs.Prelude.{ℕ, nat_le, nat_lt, true, List, [], ◌∷◌}
+use Rattle.std.specs.Prelude.{ℕ, ◌==◌, nat_le, nat_lt, true, List, [], ◌∷◌, Option}
 use Rattle.md_fields.specs.Fields.{Field, byte, word, quad}
 use Rattle.md_word.specs.Coding.{flag_number}
+use Rattle.fm_chip.specs.Port.{Port}
+use Rattle.md_pads.specs.Recording.{Frame}
+use Rattle.psg_sound.specs.declared.write.PsgWrite.{PsgWrite}
+use Rattle.vdp_ports.specs.Vdp.{Vdp}
+use Rattle.z80_parcel.specs.Parcels.{Store}
 use Rattle.bus_shared.specs.Board.{Board}
 use Rattle.bus_shared.specs.declared.saved_lines.SavedLines.{SavedLines}
 
@@ -18,6 +23,22 @@ lines_of board = record {
   control2 = board.port2.control;
   pads1 = board.pads.0;
   pads2 = board.pads.1;
+}
+
+-- the board of these parts
+abbrev pub board_from : List Frame → Option Store → Vdp → Port → List PsgWrite → SavedLines → Board
+board_from recording store vdp fm held n = record {
+  recording = recording;
+  pads = (n.pads1, n.pads2);
+  port1 = record { value = n.value1; control = n.control1 };
+  port2 = record { value = n.value2; control = n.control2 };
+  held = held;
+  fm = fm;
+  request = n.request == 1;
+  reset = n.reset == 1;
+  resets = n.resets;
+  store = store;
+  vdp = vdp;
 }
 
 -- the fields in their order, and their rules, by the cycle of the state: a reset was written at most

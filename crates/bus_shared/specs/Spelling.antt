@@ -7,6 +7,8 @@ use Rattle.fm_chip.specs.PortSpelling as fm_spelling
 use Rattle.md_fields.specs.Fields.{spelling}
 use Rattle.md_fields.specs.Items.{IsRefused, IsRight, Keeps}
 use Rattle.md_fields.specs.Places.{number_at}
+use Rattle.md_word.specs.declared.unspell.Unspell.{Unspell}
+use Rattle.md_word.specs.declared.unspell.Unspell.TheVariants.{Rule, NoMemory}
 use Rattle.psg_sound.specs.PortSpelling as psg_spelling
 use Rattle.vdp_dma.specs.Settling.{settled}
 use Rattle.vdp_ports.specs.Spelling as vdp_spelling
@@ -77,6 +79,11 @@ cut bytes =
       lines = drop 10242 (drop 12316 (drop 65812 behind));
     }
 
+-- the place of a refusal in what stands behind a start
+abbrev pub behind : ℕ → Unspell → Unspell
+behind start (Rule place) = Rule (start + place)
+behind start NoMemory = NoMemory
+
 -- a bank register has nine bits
 abbrev pub StoreGoesWrongAt : List ℕ → ℕ → Type 0
 StoreGoesWrongAt bytes place = (0 < length bytes) × (512 ≤ number_at w16 8192 bytes) × (place ≡ 8192)
@@ -89,17 +96,19 @@ abbrev pub GoesWrongFrom : ℕ → (ℕ → Type 0) → (ℕ → Type 0) → ℕ
 GoesWrongFrom start Wrong Behind place =
     ((p : ℕ) × Wrong p × (place ≡ start + p)) ⊎ (((p : ℕ) → Wrong p → ⊥) × Behind place)
 
--- the first part that goes wrong does so at this place
-abbrev pub PortsGoWrongAt : ℕ → ℕ → Parts → ℕ → Type 0
-PortsGoWrongAt at start parts =
-    GoesWrongFrom start (fm_spelling.PortGoesWrongAt at parts.fm)
-    (GoesWrongFrom (start + 12316) (psg_spelling.PortGoesWrongAt at parts.held)
-    (λ place. (p : ℕ) × LinesGoWrongAt at parts.lines p × (place ≡ start + 22558 + p)))
+-- the first of the two ports and the lines, which begin at a place, that goes wrong does so there
+abbrev pub PortsGoWrongAt : ℕ → ℕ → List ℕ → List ℕ → List ℕ → ℕ → Type 0
+PortsGoWrongAt at start fm held lines =
+    GoesWrongFrom start (fm_spelling.PortGoesWrongAt at fm)
+    (GoesWrongFrom (start + 12316) (psg_spelling.PortGoesWrongAt at held)
+    (GoesWrongFrom (start + 22558) (LinesGoWrongAt at lines) (λ place. ⊥)))
 
+-- the same of all parts, where RAM and bank register have so many bytes
 abbrev pub PartsGoWrongAt : ℕ → ℕ → Parts → ℕ → Type 0
 PartsGoWrongAt at start parts =
     GoesWrongFrom 0 (StoreGoesWrongAt parts.store)
-    (GoesWrongFrom start (vdp_spelling.GoesWrongAt at parts.vdp) (PortsGoWrongAt at (start + 65812) parts))
+    (GoesWrongFrom start (vdp_spelling.GoesWrongAt at parts.vdp)
+    (PortsGoWrongAt at (start + 65812) parts.fm parts.held parts.lines))
 
 -- as many bytes as there can be
 abbrev pub IsLength : List ℕ → Type 0

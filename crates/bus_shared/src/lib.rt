@@ -9,7 +9,9 @@ pub mod laws;
 mod port;
 mod register;
 mod request;
+mod saved_lines;
 mod shared;
+mod spelling;
 mod video;
 
 pub use port::VideoPort;

@@ -1,7 +1,8 @@
-ghost use Rattle.std.specs.Prelude.{◌≡◌, length, map, IfErr, IfOk};
+ghost use Rattle.std.specs.Prelude.{◌≡◌, ℕ, length, map, IfErr, IfOk};
 ghost use Rattle.md_fields.specs.Fields.{AreSized, seen};
 ghost use Rattle.md_fields.specs.Items.{IsRight, Keeps};
 ghost use Rattle.md_fields.specs.Places.{Stand};
+ghost use Rattle.bus_shared.specs.Board.{IsLatched};
 ghost use Rattle.bus_shared.specs.Saved.{lines_fields};
 ghost use Rattle.bus_shared.specs.Spelling.{LinesGoWrongAt};
 
@@ -91,7 +92,8 @@ impl SavedLines {
 
 /// A port with these latches.
 pub fn port_with(value: u8, control: u8) -> PadPort
-    ensures { result ≡ record { value = value; control = control } }
+    ensures value { result ≡ record { value = value; control = control } }
+    ensures latched { IsLatched result }
 {
     let mut port = PadPort::power_on();
     port.write_value(value);

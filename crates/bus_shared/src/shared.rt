@@ -61,17 +61,17 @@ const PADS_LINE: u64 = 224;
 /// What the chips share.
 #[derive(Drop)]
 pub struct Shared {
-    recording: Arc<Recording>,
-    pads: (u16, u16),
-    port1: PadPort,
-    port2: PadPort,
-    psg: Box<PsgPort>,
-    fm: Box<FmPort>,
-    request: bool,
-    reset: bool,
-    resets: u64,
-    parcel: Option<Parcel>,
-    vdp: Box<VdpState>,
+    pub(crate) recording: Arc<Recording>,
+    pub(crate) pads: (u16, u16),
+    pub(crate) port1: PadPort,
+    pub(crate) port2: PadPort,
+    pub(crate) psg: Box<PsgPort>,
+    pub(crate) fm: Box<FmPort>,
+    pub(crate) request: bool,
+    pub(crate) reset: bool,
+    pub(crate) resets: u64,
+    pub(crate) parcel: Option<Parcel>,
+    pub(crate) vdp: Box<VdpState>,
 }
 
 impl Model for Shared {

@@ -11,7 +11,9 @@ ghost use Rattle.m68k_chip.specs.States.{state_of};
 use crate::resuming::first_answers;
 use crate::sequencer::{STEP, Sequencer};
 use crate::stage::Stage;
-use md_fields::{Field, are_zero_words, first_wrong, is_after, is_soon, u8_at, u16_at, u32_at, u64_at, words_at};
+use md_fields::{
+    Field, are_zero_words, first_wrong, is_after, is_soon, u8_at, u16_at, u32_at, u64_at, words_at,
+};
 use md_word::{Regs, Request68, Transfer};
 use rom_header::Cart;
 use std::marker::Model;

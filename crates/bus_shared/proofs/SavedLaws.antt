@@ -1,0 +1,86 @@
+-- Laws of the lines and the pads as they are kept.
+use Rattle.std.proofs.Common.{◌≡◌, ℕ, ◌<◌, ◌≤◌, ◌^◌, true, List, [], ◌∷◌, ◌++◌, refl, sym, ap, ◌∙◌, append_assoc}
+use Rattle.std.specs.Int.{w64, to_be_bytes}
+use Rattle.std.proofs.lemmas.Bool.{leb-true, ltb-true}
+use Rattle.md_fields.specs.Fields.{AllHold, AreWithin, Field, byte, word, quad, sizes, spelling}
+use Rattle.md_fields.specs.Items.{IsRight, Keeps}
+use Rattle.md_fields.specs.Places.{Stand}
+use Rattle.md_word.specs.Coding.{flag_number}
+use Rattle.md_fields.proofs.Items.{all_hold, not_both, one_place, same}
+use Rattle.bus_shared.specs.Saved.{lines_fields}
+use Rattle.bus_shared.specs.Spelling.{LinesGoWrongAt, lines_bytes}
+use Rattle.bus_shared.specs.declared.saved_lines.SavedLines.{SavedLines}
+
+pub lines_size : (at : ℕ) (n : SavedLines) → sizes (lines_fields at n) ≡ 18
+unfolding sizes
+lines_size at n = refl
+
+-- the rules have no part in the bytes
+pub same_bytes : (at other : ℕ) (n : SavedLines) → spelling (lines_fields at n) ≡ spelling (lines_fields other n)
+unfolding spelling
+same_bytes at other n = refl
+
+-- the numbers that stand in bytes are the only ones
+pub only_one : (at : ℕ) (bytes : List ℕ) (s t : SavedLines) → Stand 0 (lines_fields at s) bytes → Stand 0 (lines_fields at t) bytes → s ≡ t
+unfolding Stand
+only_one at bytes s t p0 q0 =
+    let p1 = p0.1 in let q1 = q0.1 in
+    let p2 = p1.1 in let q2 = q1.1 in
+    let p3 = p2.1 in let q3 = q2.1 in
+    let p4 = p3.1 in let q4 = q3.1 in
+    let p5 = p4.1 in let q5 = q4.1 in
+    let p6 = p5.1 in let q6 = q5.1 in
+    let p7 = p6.1 in let q7 = q6.1 in
+    let p8 = p7.1 in let q8 = q7.1 in
+    λ i. record {
+      request = (p0.0 ∙ sym q0.0) i;
+      reset = (p1.0 ∙ sym q1.0) i;
+      resets = (p2.0 ∙ sym q2.0) i;
+      value1 = (p3.0 ∙ sym q3.0) i;
+      control1 = (p4.0 ∙ sym q4.0) i;
+      value2 = (p5.0 ∙ sym q5.0) i;
+      control2 = (p6.0 ∙ sym q6.0) i;
+      pads1 = (p7.0 ∙ sym q7.0) i;
+      pads2 = (p8.0 ∙ sym q8.0) i;
+    }
+
+-- the flags of right numbers
+pub record Flags (n : SavedLines) : Type 0 where
+  pub request : n.request ≤ 1
+  pub reset : n.reset ≤ 1
+
+pub flags_of : (at : ℕ) (n : SavedLines) → IsRight (lines_fields at) n → Flags n
+unfolding AllHold
+flags_of at n right =
+    let h0 = all_hold 0 (lines_fields at n) right in
+    let h1 = h0.1 in
+    record { request = leb-true n.request 1 h0.0; reset = leb-true n.reset 1 h1.0 }
+
+pub one_lines : (at : ℕ) (bytes : List ℕ) (s t : SavedLines) → Keeps (lines_fields at) bytes s → Keeps (lines_fields at) bytes t → s ≡ t
+one_lines at bytes s t p q = same (lines_fields at) bytes (only_one at bytes) s t p q
+
+pub lines_right : (at : ℕ) (bytes : List ℕ) (n : SavedLines) (place : ℕ) → Keeps (lines_fields at) bytes n → IsRight (lines_fields at) n → LinesGoWrongAt at bytes place → ⊥
+lines_right at bytes n place keeps right wrong = not_both (lines_fields at) bytes (only_one at bytes) 18 n place keeps right (lines_size at n) wrong
+
+pub lines_once : (at : ℕ) (bytes : List ℕ) (p q : ℕ) → LinesGoWrongAt at bytes p → LinesGoWrongAt at bytes q → p ≡ q
+lines_once at bytes p q a b = one_place (lines_fields at) bytes (only_one at bytes) 18 (lines_size at) p q a b
+
+-- the latches stand between the lines and the pads
+pub lines_are : (n : SavedLines)
+    → spelling (byte n.request true ∷ byte n.reset true ∷ quad n.resets true ∷ [])
+    ++ ((n.value1 ∷ n.control1 ∷ []) ++ ((n.value2 ∷ n.control2 ∷ []) ++ spelling (word n.pads1 true ∷ word n.pads2 true ∷ [])))
+    ≡ lines_bytes n
+unfolding spelling
+lines_are n =
+    ap (λ (l : List ℕ). n.request ∷ n.reset ∷ l)
+    (append_assoc (to_be_bytes w64 n.resets) [] (n.value1 ∷ n.control1 ∷ n.value2 ∷ n.control2 ∷ spelling (word n.pads1 true ∷ word n.pads2 true ∷ [])))
+
+-- what is appended four times, and five times
+pub four : (a h x y t i j k l : List ℕ) → i ≡ a ++ h → j ≡ i ++ x → k ≡ j ++ y → l ≡ k ++ t → l ≡ a ++ (h ++ (x ++ (y ++ t)))
+four a h x y t i j k l ei ej ek el =
+    el ∙ ap (λ (m : List ℕ). m ++ t) (ek ∙ ap (λ (m : List ℕ). m ++ y) (ej ∙ ap (λ (m : List ℕ). m ++ x) ei))
+    ∙ append_assoc ((a ++ h) ++ x) y t ∙ append_assoc (a ++ h) x (y ++ t) ∙ append_assoc a h (x ++ (y ++ t))
+
+pub five : (a g h x y t i j k l m : List ℕ) → i ≡ a ++ g → j ≡ i ++ h → k ≡ j ++ x → l ≡ k ++ y → m ≡ l ++ t → m ≡ a ++ (g ++ (h ++ (x ++ (y ++ t))))
+five a g h x y t i j k l m ei ej ek el em =
+    four i h x y t j k l m ej ek el em ∙ ap (λ (n : List ℕ). n ++ (h ++ (x ++ (y ++ t)))) ei ∙ append_assoc a g (h ++ (x ++ (y ++ t)))

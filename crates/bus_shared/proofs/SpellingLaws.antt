@@ -1,0 +1,392 @@
+-- Laws of the bytes that keep the board, and of those that keep none.
+use Rattle.std.proofs.Common.{◌≡◌, ℕ, ◌+◌, ◌-◌, ◌<◌, ◌≤◌, ◌^◌, Bool, true, false, eqb, List, [], ◌∷◌, ◌++◌, length, take, drop, Option, Some, None, Ok, is_some, IfSome, refl, sym, ap, subst, ◌∙◌, inl, inr, ◌⊎◌, arith}
+use Rattle.std.specs.Int.{w16}
+use Rattle.std.proofs.lemmas.List.{drop_at, length-append, length-take, take-append-drop, take_at}
+use Rattle.fm_chip.specs.Port as fm_ports
+use Rattle.fm_chip.specs.PortSpelling as fm_spelling
+use Rattle.fm_chip.proofs.PortBytes as fm_laws
+use Rattle.md_fields.specs.Fields.{AreSized, AreWithin, sizes, spelling}
+use Rattle.md_fields.specs.Items.{IsRight, Keeps}
+use Rattle.md_fields.specs.Places.{IsBytes, Stand, number_at}
+use Rattle.md_fields.proofs.Items.{refused_within, same}
+use Rattle.md_fields.proofs.Flags.{flag_again, flag_back}
+use Rattle.md_fields.proofs.Refusals.{failed}
+use Rattle.md_fields.proofs.Standing.{long_as, long_as_sized, spelled, stand}
+use Rattle.md_word.specs.Coding.{flag_number}
+use Rattle.md_word.specs.declared.unspell.Unspell.{Unspell}
+use Rattle.md_word.specs.declared.unspell.Unspell.TheVariants.{Rule, NoMemory}
+use Rattle.md_pads.specs.Recording.{Frame}
+use Rattle.psg_sound.specs.PortSpelling as psg_spelling
+use Rattle.psg_sound.specs.declared.write.PsgWrite.{PsgWrite}
+use Rattle.psg_sound.proofs.PortBytes as psg_laws
+use Rattle.vdp_ports.specs.Numbers.{numbers_of, vdp_of}
+use Rattle.vdp_ports.specs.Saved.{vdp_fields}
+use Rattle.vdp_ports.specs.Spelling as vdp_spelling
+use Rattle.vdp_ports.specs.Vdp.{Vdp}
+use Rattle.vdp_ports.proofs.SavedLaws as vdp_laws
+use Rattle.z80_parcel.specs.Parcels.{IsStore, Store}
+use Rattle.z80_parcel.specs.Spelling.{store_fields}
+use Rattle.bus_shared.specs.Board.{Board}
+use Rattle.bus_shared.specs.Saved.{board_from, lines_fields, lines_of}
+use Rattle.bus_shared.specs.Spelling.{GoesWrongAt, GoesWrongFrom, IsLength, LinesGoWrongAt, Parts, PartsGoWrongAt, PortsGoWrongAt, Spells, StoreGoesWrongAt, behind, board_bytes, board_size, cut, lines_bytes, store_bytes, store_length, store_size}
+use Rattle.bus_shared.specs.declared.saved_lines.SavedLines.{SavedLines}
+use Rattle.bus_shared.proofs.SavedLaws as lines_laws
+
+-- ---- the bytes of each part
+
+pub vdp_own : (at : ℕ) (bytes : List ℕ) (s : Vdp) → vdp_spelling.Spells at bytes s → bytes ≡ vdp_spelling.vdp_bytes s
+vdp_own at bytes s p = p.keeps.all ∙ vdp_laws.same_bytes at 0 (numbers_of s)
+
+pub fm_own : (at : ℕ) (bytes : List ℕ) (p : fm_ports.Port) → fm_spelling.SpellsPort at bytes p → bytes ≡ fm_spelling.port_bytes p
+unfolding spelling
+fm_own at bytes p spells = spells.keeps.all
+
+pub psg_own : (at : ℕ) (bytes : List ℕ) (ws : List PsgWrite) → psg_spelling.SpellsPort at bytes ws → bytes ≡ psg_spelling.port_bytes ws
+unfolding spelling
+psg_own at bytes ws spells = spells.keeps.all
+
+pub lines_own : (at : ℕ) (bytes : List ℕ) (n : SavedLines) → Keeps (lines_fields at) bytes n → bytes ≡ lines_bytes n
+lines_own at bytes n keeps = keeps.all ∙ lines_laws.same_bytes at 0 n
+
+-- ---- their lengths
+
+pub store_long : (store : Option Store) → IfSome store IsStore → length (store_bytes store) ≡ store_size (is_some store)
+unfolding sizes AreSized
+store_long None ok = long_as_sized (store_fields true None) tt
+store_long (Some store) ok = long_as_sized (store_fields true (Some store)) (ok.ram, (tt, tt))
+
+pub board_long : (has : Bool) → board_size has ≡ store_size has + 88388
+board_long true = refl
+board_long false = refl
+
+vdp_long : (at : ℕ) (bytes : List ℕ) (s : Vdp) → vdp_spelling.Spells at bytes s → length bytes ≡ 65812
+vdp_long at bytes s p = ap length p.keeps.all ∙ long_as (vdp_fields at (numbers_of s)) p.keeps.within ∙ vdp_laws.fields_size at (numbers_of s)
+
+fm_long : (at : ℕ) (bytes : List ℕ) (p : fm_ports.Port) → fm_spelling.SpellsPort at bytes p → length bytes ≡ 12316
+fm_long at bytes p spells =
+    ap length spells.keeps.all ∙ long_as (fm_spelling.port_fields at (fm_spelling.saved_port p)) spells.keeps.within ∙ fm_laws.port_size at (fm_spelling.saved_port p)
+
+psg_long : (at : ℕ) (bytes : List ℕ) (ws : List PsgWrite) → psg_spelling.SpellsPort at bytes ws → length bytes ≡ 10242
+psg_long at bytes ws spells =
+    ap length spells.keeps.all ∙ long_as (psg_spelling.port_fields at (psg_spelling.saved_port ws)) spells.keeps.within ∙ psg_laws.port_size at (psg_spelling.saved_port ws)
+
+lines_long : (at : ℕ) (bytes : List ℕ) (n : SavedLines) → Keeps (lines_fields at) bytes n → length bytes ≡ 18
+lines_long at bytes n keeps = ap length keeps.all ∙ long_as (lines_fields at n) keeps.within ∙ lines_laws.lines_size at n
+
+-- ---- bytes are cut into the parts that they are made of
+
+cut_of : (a b c d e : List ℕ) → length b ≡ 65812 → length c ≡ 12316 → length d ≡ 10242 → length e ≡ 18
+    → cut (a ++ (b ++ (c ++ (d ++ e)))) ≡ record { store = a; vdp = b; fm = c; held = d; lines = e }
+cut_of a b c d e lb lc ld le =
+    let rest = b ++ (c ++ (d ++ e)) in
+    let bytes = a ++ rest in
+    let n : length a ≡ store_length bytes =
+    omega (arith, length-append a rest, length-append b (c ++ (d ++ e)), length-append c (d ++ e), length-append d e, lb, lc, ld, le) in
+    let behind : drop (store_length bytes) bytes ≡ rest = drop_at a rest (store_length bytes) n in
+    let past_vdp : drop 65812 (drop (store_length bytes) bytes) ≡ c ++ (d ++ e) = ap (drop 65812) behind ∙ drop_at b (c ++ (d ++ e)) 65812 lb in
+    let past_fm : drop 12316 (drop 65812 (drop (store_length bytes) bytes)) ≡ d ++ e = ap (drop 12316) past_vdp ∙ drop_at c (d ++ e) 12316 lc in
+    λ i. record {
+      store = take_at a rest (store_length bytes) n i;
+      vdp = (ap (take 65812) behind ∙ take_at b (c ++ (d ++ e)) 65812 lb) i;
+      fm = (ap (take 12316) past_vdp ∙ take_at c (d ++ e) 12316 lc) i;
+      held = (ap (take 10242) past_fm ∙ take_at d e 10242 ld) i;
+      lines = (ap (drop 10242) past_fm ∙ drop_at d e 10242 ld) i;
+    }
+
+abbrev own : Board → Parts
+own board = record {
+  store = store_bytes board.store;
+  vdp = vdp_spelling.vdp_bytes board.vdp;
+  fm = fm_spelling.port_bytes board.fm;
+  held = psg_spelling.port_bytes board.held;
+  lines = lines_bytes (lines_of board);
+}
+
+cut_is : (at : ℕ) (bytes : List ℕ) (board : Board) → Spells at bytes board → cut bytes ≡ own board
+cut_is at bytes board p =
+    ap cut p.all
+    ∙ cut_of (store_bytes board.store) (vdp_spelling.vdp_bytes board.vdp) (fm_spelling.port_bytes board.fm) (psg_spelling.port_bytes board.held) (lines_bytes (lines_of board))
+    (vdp_long at _ board.vdp p.vdp) (fm_long at _ board.fm p.fm) (psg_long at _ board.held p.held) (lines_long at _ (lines_of board) p.lines)
+
+-- parts one behind the other are the bytes
+pub joined_again : (bytes : List ℕ) → (cut bytes).store ++ ((cut bytes).vdp ++ ((cut bytes).fm ++ ((cut bytes).held ++ (cut bytes).lines))) ≡ bytes
+joined_again bytes =
+    let n = store_length bytes in
+    let behind = drop n bytes in
+    let past_vdp = drop 65812 behind in
+    let past_fm = drop 12316 past_vdp in
+    ap (λ (l : List ℕ). take n bytes ++ (take 65812 behind ++ (take 12316 past_vdp ++ l))) (take-append-drop 10242 past_fm)
+    ∙ ap (λ (l : List ℕ). take n bytes ++ (take 65812 behind ++ l)) (take-append-drop 12316 past_vdp)
+    ∙ ap (λ (l : List ℕ). take n bytes ++ l) (take-append-drop 65812 behind)
+    ∙ take-append-drop n bytes
+
+length_by : (store : Option Store) (n : ℕ) → n ≡ store_size (is_some store) + 88388 → (n ≡ 88388) ⊎ (n ≡ 96582)
+length_by None n e = inl e
+length_by (Some store) n e = inr e
+
+is_length : (at : ℕ) (bytes : List ℕ) (board : Board) → Spells at bytes board → IsLength bytes
+is_length at bytes board p =
+    let a = store_bytes board.store in
+    let b = vdp_spelling.vdp_bytes board.vdp in
+    let c = fm_spelling.port_bytes board.fm in
+    let d = psg_spelling.port_bytes board.held in
+    let e = lines_bytes (lines_of board) in
+    length_by board.store (length bytes)
+    (ap length p.all
+    ∙ omega (
+      arith,
+      length-append a (b ++ (c ++ (d ++ e))),
+      length-append b (c ++ (d ++ e)),
+      length-append c (d ++ e),
+      length-append d e,
+      store_long board.store p.store,
+      vdp_long at b board.vdp p.vdp,
+      fm_long at c board.fm p.fm,
+      psg_long at d board.held p.held,
+      lines_long at e (lines_of board) p.lines,
+    ))
+
+-- ---- what is spelled is refused nowhere
+
+store_right : (store : Option Store) → IfSome store IsStore → (p : ℕ) → StoreGoesWrongAt (store_bytes store) p → ⊥
+unfolding Stand spelling AreWithin
+store_right None ok p wrong = absurd (omega (arith, wrong.0))
+store_right (Some store) ok p wrong =
+    let fs = store_fields true (Some store) in
+    let there : Stand 0 fs (spelling fs) = stand fs (spelling fs) (ok.ram, (omega (arith, ok.bank), tt)) refl in
+    absurd (omega (arith, there.1.0, wrong.1, ok.bank))
+
+none_here : (at start : ℕ) (bytes : List ℕ) (board : Board) (place : ℕ) → Spells at bytes board → PartsGoWrongAt at start (own board) place → ⊥
+none_here at start bytes board place p (inl w) = store_right board.store p.store w.0 w.1
+none_here at start bytes board place p (inr (none, inl w)) =
+    vdp_laws.right_not_refused at (vdp_spelling.vdp_bytes board.vdp) (numbers_of board.vdp) w.0 p.vdp.keeps p.vdp.right w.1
+none_here at start bytes board place p (inr (none, inr (no_vdp, inl w))) = fm_laws.right_nowhere at (fm_spelling.port_bytes board.fm) board.fm p.fm w.0 w.1
+none_here at start bytes board place p (inr (none, inr (no_vdp, inr (no_fm, inl w)))) =
+    psg_laws.right_nowhere at (psg_spelling.port_bytes board.held) board.held p.held w.0 w.1
+none_here at start bytes board place p (inr (none, inr (no_vdp, inr (no_fm, inr (no_psg, inl w))))) =
+    lines_laws.lines_right at (lines_bytes (lines_of board)) (lines_of board) w.0 p.lines p.right w.1
+none_here at start bytes board place p (inr (none, inr (no_vdp, inr (no_fm, inr (no_psg, inr w))))) = w.1
+
+pub right_nowhere : (at : ℕ) (bytes : List ℕ) (board : Board) → Spells at bytes board → (place : ℕ) → GoesWrongAt at bytes place → ⊥
+right_nowhere at bytes board p place (inl w) = w.0 (is_length at bytes board p)
+right_nowhere at bytes board p place (inr w) =
+    none_here at (store_length bytes) bytes board place p (subst (λ (parts : Parts). PartsGoWrongAt at (store_length bytes) parts place) (cut_is at bytes board p) w.1)
+
+-- ---- there is one place of a refusal
+
+from_once : (start : ℕ) (Wrong Behind : ℕ → Type 0) → ((a b : ℕ) → Wrong a → Wrong b → a ≡ b) → ((a b : ℕ) → Behind a → Behind b → a ≡ b)
+    → (p q : ℕ) → GoesWrongFrom start Wrong Behind p → GoesWrongFrom start Wrong Behind q → p ≡ q
+from_once start Wrong Behind once behind p q (inl x) (inl y) = x.2 ∙ ap (λ (n : ℕ). start + n) (once x.0 y.0 x.1 y.1) ∙ sym y.2
+from_once start Wrong Behind once behind p q (inl x) (inr y) = absurd (y.0 x.0 x.1)
+from_once start Wrong Behind once behind p q (inr x) (inl y) = absurd (x.0 y.0 y.1)
+from_once start Wrong Behind once behind p q (inr x) (inr y) = behind p q x.1 y.1
+
+store_once : (bytes : List ℕ) (p q : ℕ) → StoreGoesWrongAt bytes p → StoreGoesWrongAt bytes q → p ≡ q
+store_once bytes p q a b = a.2 ∙ sym b.2
+
+parts_once : (at start : ℕ) (parts : Parts) (p q : ℕ) → PartsGoWrongAt at start parts p → PartsGoWrongAt at start parts q → p ≡ q
+parts_once at start parts =
+    from_once 0 _ _ (store_once parts.store)
+    (from_once start _ _ (vdp_laws.only_place at parts.vdp)
+    (from_once (start + 65812) _ _ (fm_laws.wrong_once at parts.fm)
+    (from_once (start + 65812 + 12316) _ _ (psg_laws.wrong_once at parts.held)
+    (from_once (start + 65812 + 22558) _ _ (lines_laws.lines_once at parts.lines) (λ p q a b. absurd a)))))
+
+pub wrong_once : (at : ℕ) (bytes : List ℕ) (p q : ℕ) → GoesWrongAt at bytes p → GoesWrongAt at bytes q → p ≡ q
+wrong_once at bytes p q (inl a) (inl b) = a.1 ∙ sym b.1
+wrong_once at bytes p q (inl a) (inr b) = absurd (a.0 b.0)
+wrong_once at bytes p q (inr a) (inl b) = absurd (b.0 a.0)
+wrong_once at bytes p q (inr a) (inr b) = parts_once at (store_length bytes) (cut bytes) p q a.1 b.1
+
+-- ---- bytes keep one board over a recording
+
+vdp_once : (at : ℕ) (bytes : List ℕ) (s t : Vdp) → vdp_spelling.Spells at bytes s → vdp_spelling.Spells at bytes t → s ≡ t
+vdp_once at bytes s t p q = sym (vdp_laws.vdp_again s) ∙ vdp_laws.no_other at bytes (numbers_of s) t p.keeps q
+
+store_same : (s t : Option Store) → IfSome s IsStore → IfSome t IsStore → store_bytes s ≡ store_bytes t → s ≡ t
+unfolding Stand spelling AreWithin
+store_same None None p q e = refl
+store_same None (Some t) p q e = absurd (omega (arith, ap length e, store_long (Some t) q))
+store_same (Some s) None p q e = absurd (omega (arith, ap length e, store_long (Some s) p))
+store_same (Some s) (Some t) p q e =
+    let fs = store_fields true (Some s) in
+    let gs = store_fields true (Some t) in
+    let one : Stand 0 fs (spelling fs) = stand fs (spelling fs) (p.ram, (omega (arith, p.bank), tt)) refl in
+    let two : Stand 0 gs (spelling fs) = stand gs (spelling fs) (q.ram, (omega (arith, q.bank), tt)) (sym e) in
+    λ i. Some (record { ram = (one.0 ∙ sym two.0) i; bank = (one.1.0 ∙ sym two.1.0) i })
+
+flag_same : (a b : Bool) → eqb (flag_number a) 1 ≡ eqb (flag_number b) 1 → a ≡ b
+flag_same a b e = sym (flag_again a) ∙ e ∙ flag_again b
+
+pub spelled_once : (at : ℕ) (bytes : List ℕ) (s t : Board) → Spells at bytes s → Spells at bytes t → s.recording ≡ t.recording → s ≡ t
+spelled_once at bytes s t p q recording =
+    let parts : own s ≡ own t = sym (cut_is at bytes s p) ∙ cut_is at bytes t q in
+    let vdp = vdp_once at _ s.vdp t.vdp p.vdp (subst (λ (l : List ℕ). vdp_spelling.Spells at l t.vdp) (sym (ap (λ (x : Parts). x.vdp) parts)) q.vdp) in
+    let fm = fm_laws.spelled_once at _ s.fm t.fm p.fm (subst (λ (l : List ℕ). fm_spelling.SpellsPort at l t.fm) (sym (ap (λ (x : Parts). x.fm) parts)) q.fm) in
+    let held = psg_laws.spelled_once at _ s.held t.held p.held (subst (λ (l : List ℕ). psg_spelling.SpellsPort at l t.held) (sym (ap (λ (x : Parts). x.held) parts)) q.held) in
+    let store = store_same s.store t.store p.store q.store (ap (λ (x : Parts). x.store) parts) in
+    let lines : lines_of s ≡ lines_of t =
+    lines_laws.one_lines at _ (lines_of s) (lines_of t) p.lines (subst (λ (l : List ℕ). Keeps (lines_fields at) l (lines_of t)) (sym (ap (λ (x : Parts). x.lines) parts)) q.lines) in
+    let request = flag_same s.request t.request (ap (λ (n : SavedLines). eqb n.request 1) lines) in
+    let reset = flag_same s.reset t.reset (ap (λ (n : SavedLines). eqb n.reset 1) lines) in
+    λ i. record {
+      recording = recording i;
+      pads = (ap (λ (n : SavedLines). n.pads1) lines i, ap (λ (n : SavedLines). n.pads2) lines i);
+      port1 = record { value = ap (λ (n : SavedLines). n.value1) lines i; control = ap (λ (n : SavedLines). n.control1) lines i };
+      port2 = record { value = ap (λ (n : SavedLines). n.value2) lines i; control = ap (λ (n : SavedLines). n.control2) lines i };
+      held = held i;
+      fm = fm i;
+      request = request i;
+      reset = reset i;
+      resets = ap (λ (n : SavedLines). n.resets) lines i;
+      store = store i;
+      vdp = vdp i;
+    }
+
+-- ---- places are near
+
+pub vdp_near : (at : ℕ) (bytes : List ℕ) (place : ℕ) → vdp_spelling.GoesWrongAt at bytes place → place ≤ 65812
+vdp_near at bytes place wrong = refused_within (vdp_fields at) bytes 65812 (vdp_laws.fields_size at) place wrong
+
+pub psg_near : (at : ℕ) (bytes : List ℕ) (place : ℕ) → psg_spelling.PortGoesWrongAt at bytes place → place ≤ 10242
+psg_near at bytes place wrong = refused_within (psg_spelling.port_fields at) bytes 10242 (psg_laws.port_size at) place wrong
+
+-- ---- what stands in the bytes
+
+pub lines_back : (recording : List Frame) (store : Option Store) (vdp : Vdp) (fm : fm_ports.Port) (held : List PsgWrite) (n : SavedLines) → lines_laws.Flags n
+    → lines_of (board_from recording store vdp fm held n) ≡ n
+lines_back recording store vdp fm held n flags = λ i. record {
+  request = flag_back n.request flags.request i;
+  reset = flag_back n.reset flags.reset i;
+  resets = n.resets;
+  value1 = n.value1;
+  control1 = n.control1;
+  value2 = n.value2;
+  control2 = n.control2;
+  pads1 = n.pads1;
+  pads2 = n.pads2;
+}
+
+-- the parts of bytes that each keep a part of a board
+pub record AreKept (at : ℕ) (parts : Parts) (store : Option Store) (vdp : Vdp) (fm : fm_ports.Port) (held : List PsgWrite) (n : SavedLines) : Type 0 where
+  pub store_is : parts.store ≡ store_bytes store
+  pub store_fits : IfSome store IsStore
+  pub vdp_is : vdp_spelling.Spells at parts.vdp vdp
+  pub fm_is : fm_spelling.SpellsPort at parts.fm fm
+  pub held_is : psg_spelling.SpellsPort at parts.held held
+  pub lines_are : Keeps (lines_fields at) parts.lines n
+  pub lines_right : IsRight (lines_fields at) n
+
+pub whole : (at : ℕ) (bytes : List ℕ) (recording : List Frame) (store : Option Store) (vdp : Vdp) (fm : fm_ports.Port) (held : List PsgWrite) (n : SavedLines)
+    → AreKept at (cut bytes) store vdp fm held n → Spells at bytes (board_from recording store vdp fm held n)
+whole at bytes recording store vdp fm held n p =
+    let vdp_e = vdp_own at (cut bytes).vdp vdp p.vdp_is in
+    let fm_e = fm_own at (cut bytes).fm fm p.fm_is in
+    let held_e = psg_own at (cut bytes).held held p.held_is in
+    let back : n ≡ lines_of (board_from recording store vdp fm held n) = sym (lines_back recording store vdp fm held n (lines_laws.flags_of at n p.lines_right)) in
+    let lines_e : (cut bytes).lines ≡ lines_bytes (lines_of (board_from recording store vdp fm held n)) = lines_own at (cut bytes).lines n p.lines_are ∙ ap lines_bytes back in
+    let keeps : Keeps (lines_fields at) (lines_bytes (lines_of (board_from recording store vdp fm held n))) n = subst (λ (l : List ℕ). Keeps (lines_fields at) l n) lines_e p.lines_are in
+    record {
+      all = sym (joined_again bytes) ∙ (λ i. p.store_is i ++ (vdp_e i ++ (fm_e i ++ (held_e i ++ lines_e i))));
+      store = p.store_fits;
+      vdp = subst (λ (l : List ℕ). vdp_spelling.Spells at l vdp) vdp_e p.vdp_is;
+      fm = subst (λ (l : List ℕ). fm_spelling.SpellsPort at l fm) fm_e p.fm_is;
+      held = subst (λ (l : List ℕ). psg_spelling.SpellsPort at l held) held_e p.held_is;
+      lines = subst (λ (m : SavedLines). Keeps (lines_fields at) (lines_bytes (lines_of (board_from recording store vdp fm held n))) m) back keeps;
+      right = subst (λ (m : SavedLines). IsRight (lines_fields at) m) back p.lines_right;
+    }
+
+-- ---- the answers of the parts
+
+pub same_fault : {T : Type 0} (f g : Unspell) → failed {T = T} f ≡ failed g → f ≡ g
+same_fault f g e = cc
+
+pub ok_not : {T : Type 0} (value : T) (f : Unspell) → Ok value ≡ failed f → ⊥
+ok_not value f e = absurd cc
+
+pub no_memory_not : (place : ℕ) → NoMemory ≡ Rule place → ⊥
+no_memory_not place e = absurd cc
+
+pub place_is : (p q : ℕ) → Rule p ≡ Rule q → p ≡ q
+place_is p q e = cc
+
+-- a refusal behind a start is one of what stands there
+pub behind_rule : (start : ℕ) (fault : Unspell) (place : ℕ) → behind start fault ≡ Rule place → (p : ℕ) × (fault ≡ Rule p) × (place ≡ start + p)
+behind_rule start (Rule q) place e = (q, refl, sym (place_is (start + q) place e))
+behind_rule start NoMemory place e = absurd (no_memory_not place e)
+
+-- the ports in the bytes behind the VDP's
+abbrev pub PortsIn : ℕ → List ℕ → ℕ → Type 0
+PortsIn at bytes = PortsGoWrongAt at 0 (take 12316 bytes) (take 10242 (drop 12316 bytes)) (drop 10242 (drop 12316 bytes))
+
+moved_from : (start far begin : ℕ) → begin ≡ far + start → (Wrong Behind Later : ℕ → Type 0) → ((place : ℕ) → Behind place → Later (far + place)) → (place : ℕ)
+    → GoesWrongFrom start Wrong Behind place → GoesWrongFrom begin Wrong Later (far + place)
+moved_from start far begin e Wrong Behind Later later place (inl x) = inl (x.0, x.1, omega (arith, x.2, e))
+moved_from start far begin e Wrong Behind Later later place (inr x) = inr (x.0, later place x.1)
+
+abbrev LinesFrom : ℕ → ℕ → List ℕ → ℕ → Type 0
+LinesFrom at start lines = GoesWrongFrom (start + 22558) (LinesGoWrongAt at lines) (λ place. ⊥)
+
+abbrev HeldFrom : ℕ → ℕ → List ℕ → List ℕ → ℕ → Type 0
+HeldFrom at start held lines = GoesWrongFrom (start + 12316) (psg_spelling.PortGoesWrongAt at held) (LinesFrom at start lines)
+
+pub ports_behind : (at far : ℕ) (fm held lines : List ℕ) (place : ℕ) → PortsGoWrongAt at 0 fm held lines place → PortsGoWrongAt at far fm held lines (far + place)
+ports_behind at far fm held lines =
+    moved_from 0 far far (omega arith) (fm_spelling.PortGoesWrongAt at fm) (HeldFrom at 0 held lines) (HeldFrom at far held lines)
+    (moved_from (0 + 12316) far (far + 12316) (omega arith) (psg_spelling.PortGoesWrongAt at held) (LinesFrom at 0 lines) (LinesFrom at far lines)
+    (moved_from (0 + 22558) far (far + 22558) (omega arith) (LinesGoWrongAt at lines) (λ n. ⊥) (λ n. ⊥) (λ place no. no)))
+
+-- RAM and bank register
+pub held_found : (bytes ram : List ℕ) (bank : ℕ) (store : Store) → IsBytes bytes → length bytes ≡ 8194 → ram ≡ take 8192 bytes → bank ≡ number_at w16 8192 bytes → bank < 512
+    → store ≡ record { ram = ram; bank = bank } → (bytes ≡ store_bytes (Some store)) × IsStore store
+unfolding Stand
+held_found bytes ram bank store fits long front back nine is =
+    let parts : store ≡ record { ram = take 8192 bytes; bank = number_at w16 8192 bytes } = is ∙ (λ i. record { ram = front i; bank = back i }) in
+    let there : Stand 0 (store_fields true (Some (record { ram = take 8192 bytes; bank = number_at w16 8192 bytes }))) bytes = (refl, (refl, long)) in (
+      sym (spelled (store_fields true (Some (record { ram = take 8192 bytes; bank = number_at w16 8192 bytes }))) bytes fits there)
+          ∙ ap (λ (s : Store). store_bytes (Some s)) (sym parts),
+      subst IsStore (sym parts) (record { ram = omega (arith, length-take 8192 bytes, long); bank = omega (arith, back, nine) }),
+    )
+
+pub held_right : (bytes : List ℕ) (bank : ℕ) → bank ≡ number_at w16 8192 bytes → bank < 512 → (place : ℕ) → StoreGoesWrongAt bytes place → ⊥
+held_right bytes bank back nine place wrong = absurd (omega (arith, back, nine, wrong.1))
+
+pub held_wrong : (bytes : List ℕ) (bank place : ℕ) → length bytes ≡ 8194 → bank ≡ number_at w16 8192 bytes → 512 ≤ bank → place ≡ 8192 → StoreGoesWrongAt bytes place
+held_wrong bytes bank place long back more e = (omega (arith, long), omega (arith, back, more), e)
+
+-- no bytes keep no RAM
+pub empty_store : (bytes : List ℕ) → length bytes ≡ 0 → bytes ≡ store_bytes None
+unfolding spelling
+empty_store [] e = refl
+empty_store (b ∷ bytes) e = absurd (omega (arith, e))
+
+-- ---- refusals of each part are refusals of the whole
+
+pub vdp_exit : (at : ℕ) (bytes : List ℕ) (p place : ℕ) → IsLength bytes → ((q : ℕ) → StoreGoesWrongAt (cut bytes).store q → ⊥)
+    → vdp_spelling.GoesWrongAt at (cut bytes).vdp p → place ≡ store_length bytes + p → GoesWrongAt at bytes place
+vdp_exit at bytes p place long none wrong e = inr (long, inr (none, inl (p, wrong, e)))
+
+pub ports_exit : (at : ℕ) (bytes : List ℕ) (p place : ℕ) → IsLength bytes → ((q : ℕ) → StoreGoesWrongAt (cut bytes).store q → ⊥)
+    → ((q : ℕ) → vdp_spelling.GoesWrongAt at (cut bytes).vdp q → ⊥) → PortsIn at (drop 65812 (drop (store_length bytes) bytes)) p
+    → place ≡ store_length bytes + 65812 + p → GoesWrongAt at bytes place
+ports_exit at bytes p place long none no_vdp wrong e =
+    subst (GoesWrongAt at bytes) (sym e)
+    (inr (long, inr (none, inr (no_vdp, ports_behind at (store_length bytes + 65812) (cut bytes).fm (cut bytes).held (cut bytes).lines p wrong))))
+
+pub ports_near : (at : ℕ) (fm held lines : List ℕ) (place : ℕ) → PortsGoWrongAt at 0 fm held lines place → place ≤ 22576
+ports_near at fm held lines place (inl w) = omega (arith, w.2, refused_within (fm_spelling.port_fields at) fm 12316 (fm_laws.port_size at) w.0 w.1)
+ports_near at fm held lines place (inr (no_fm, inl w)) = omega (arith, w.2, psg_near at held w.0 w.1)
+ports_near at fm held lines place (inr (no_fm, inr (no_psg, inl w))) = omega (arith, w.2, refused_within (lines_fields at) lines 18 (lines_laws.lines_size at) w.0 w.1)
+ports_near at fm held lines place (inr (no_fm, inr (no_psg, inr w))) = absurd w.1
+
+-- ---- a refusal that is no want of memory
+
+pub fault_only : (at : ℕ) (bytes : List ℕ) (board : Board) → Spells at bytes board → (fault : Unspell)
+    → ((place : ℕ) → fault ≡ Rule place → GoesWrongAt at bytes place) → (fault ≡ NoMemory → ⊥) → ⊥
+fault_only at bytes board spells (Rule place) wrong memory = right_nowhere at bytes board spells place (wrong place refl)
+fault_only at bytes board spells NoMemory wrong memory = memory refl
+
+pub fault_refused : (at : ℕ) (bytes : List ℕ) (place : ℕ) → GoesWrongAt at bytes place → (fault : Unspell)
+    → ((p : ℕ) → fault ≡ Rule p → GoesWrongAt at bytes p) → (fault ≡ NoMemory → ⊥) → fault ≡ Rule place
+fault_refused at bytes place there (Rule p) wrong memory = ap (λ (q : ℕ). Rule q) (wrong_once at bytes p place (wrong p refl) there)
+fault_refused at bytes place there NoMemory wrong memory = absurd (memory refl)

@@ -1,0 +1,97 @@
+use Rattle.std.proofs.Common.{◌≡◌, ◌∙◌, ◌+◌, ◌++◌, List, ℕ, Option, is_some, length, ap, refl, sym, arith}
+use Rattle.std.specs.Prelude.{option_map}
+use Rattle.z80_parcel.specs.Parcels.{store_of}
+use Rattle.bus_shared.specs.Board.{Board}
+use Rattle.bus_shared.specs.Spelling.{board_bytes, board_size, settled_board, store_bytes}
+use Rattle.bus_shared.proofs.SavedLaws.{five}
+use Rattle.bus_shared.proofs.SpellingLaws.{board_long, store_long}
+use Rattle.bus_shared.proofs.shared.Shared.spell.Goals as goal
+
+pub put_store-requires : goal.put_store-requires
+put_store-requires c =
+    let store = option_map store_of c.self.inside.parcel in
+    omega (arith, c.requires.room, store_long store c.self.invariant.store, board_long (is_some store), ap (λ (b : Board). board_size (is_some b.store)) c.self.view_is)
+
+pub spell-requires-clause-room : goal.spell-requires-clause-room
+spell-requires-clause-room c =
+    let store = option_map store_of c.self.inside.parcel in
+    omega (
+      arith,
+      c.requires.room,
+      store_long store c.self.invariant.store,
+      board_long (is_some store),
+      ap (λ (b : Board). board_size (is_some b.store)) c.self.view_is,
+      c.put_store.ensures.length,
+      c.put_store.ensures.room,
+    )
+
+pub spell-requires-2-clause-room : goal.spell-requires-2-clause-room
+spell-requires-2-clause-room c =
+    let store = option_map store_of c.self.inside.parcel in
+    omega (
+      arith,
+      c.requires.room,
+      store_long store c.self.invariant.store,
+      board_long (is_some store),
+      ap (λ (b : Board). board_size (is_some b.store)) c.self.view_is,
+      c.put_store.ensures.length,
+      c.put_store.ensures.room,
+      c.spell.ensures.length,
+      c.spell.ensures.room,
+    )
+
+pub spell-requires-3 : goal.spell-requires-3
+spell-requires-3 c =
+    let store = option_map store_of c.self.inside.parcel in
+    omega (
+      arith,
+      c.requires.room,
+      store_long store c.self.invariant.store,
+      board_long (is_some store),
+      ap (λ (b : Board). board_size (is_some b.store)) c.self.view_is,
+      c.put_store.ensures.length,
+      c.put_store.ensures.room,
+      c.spell.ensures.length,
+      c.spell.ensures.room,
+      c.spell-2.ensures.length,
+      c.spell-2.ensures.room,
+    )
+
+pub put_lines-requires : goal.put_lines-requires
+put_lines-requires c =
+    let store = option_map store_of c.self.inside.parcel in
+    omega (
+      arith,
+      c.requires.room,
+      store_long store c.self.invariant.store,
+      board_long (is_some store),
+      ap (λ (b : Board). board_size (is_some b.store)) c.self.view_is,
+      c.put_store.ensures.length,
+      c.put_store.ensures.room,
+      c.spell.ensures.length,
+      c.spell.ensures.room,
+      c.spell-2.ensures.length,
+      c.spell-2.ensures.room,
+      c.spell-3.ensures.length,
+      c.spell-3.ensures.room,
+    )
+
+pub returns-clause-bytes : goal.returns-clause-bytes
+returns-clause-bytes c =
+    five c.args.into.now.items _ _ _ _ _ _ _ _ _ _ c.put_store.ensures.bytes c.spell.ensures.bytes c.spell-2.ensures.bytes c.spell-3.ensures.bytes c.put_lines.ensures.bytes
+    ∙ rw (c.deref.ensures, c.deref-2.ensures, c.deref-3.ensures, ← c.self.view_is) refl
+
+pub returns-clause-length : goal.returns-clause-length
+returns-clause-length c =
+    let store = option_map store_of c.self.inside.parcel in
+    omega (
+      arith,
+      store_long store c.self.invariant.store,
+      board_long (is_some store),
+      ap (λ (b : Board). board_size (is_some b.store)) c.self.view_is,
+      c.put_store.ensures.length,
+      c.spell.ensures.length,
+      c.spell-2.ensures.length,
+      c.spell-3.ensures.length,
+      c.put_lines.ensures.length,
+    )
