@@ -1,15 +1,15 @@
 -- How many samples and entries a run makes.
-use Rattle.std.proofs.Common.{◌≡◌, ℕ, zero, suc, ◌+◌, ◌-◌, ◌*◌, ◌/◌, ◌<◌, ◌≤◌, cond, Bool, true, false, List, [], ◌∷◌, length, length-append, refl, sym, ap, ◌∙◌, subst, arith, lit<, ◌++◌}
+use Rattle.std.proofs.Common.{◌≡◌, ◌⊎◌, inl, inr, ℕ, zero, suc, ◌+◌, ◌-◌, ◌*◌, ◌<◌, ◌≤◌, cond, Bool, true, false, List, [], ◌∷◌, length, length-append, refl, sym, ap, ◌∙◌, subst, arith, lit<, ◌++◌}
 use Rattle.std.specs.Prelude.{ℤ}
 use Rattle.md_word.specs.declared.event.Entry.{Entry}
 use Rattle.m68k_chip.specs.Events.{request_of}
 use Rattle.m68k_chip.specs.States.{next_of}
 use Rattle.z80_chip.specs.States.{next_of as sub_next_of}
-use Rattle.md_pads.specs.Recording.{Frame}
 use Rattle.bus_shared.specs.Accesses.{main_told}
-use Rattle.md_machine.specs.Console.{AllBelow, Console, IsQuiet, IsRunTo, fm_moved, rendered, journal, key_in, line_moved, main_moved, moved, sub_accessed, sub_moved, mover, power_on, psg_moved, ran, media, told}
+use Rattle.md_machine.specs.Console.{AllBelow, Console, IsQuiet, IsRunTo, fm_moved, rendered, journal, key_in, line_moved, main_moved, moved, sub_accessed, sub_moved, mover, psg_moved, ran, media, told}
 use Rattle.md_machine.specs.Media.{Media, joined, no_media}
 use Rattle.md_machine.specs.Movers.{mover-lt}
+use Rattle.md_machine.specs.Starts.{IsStart, Start, batches_below, first_batch}
 use Rattle.md_machine.proofs.Moves.{five-each}
 use Rattle.md_machine.proofs.Samples.{levels-long, sides-long}
 
@@ -23,7 +23,7 @@ record Beat (A : Type 0) : Type 0 where
   nothing : of no_media ≡ []
   more : (first second : Media) → of (joined first second) ≡ of first ++ of second
   next : Console → ℕ
-  first : (cart : List ℕ) (recording : List Frame) → next (power_on cart recording) ≡ 16128
+  first : (start : Start) → IsStart start → next start.console ≡ first_batch start.at
   batch : (z : Console) (i : ℕ) → i < 5 → Batch of next z i
   late : (z : Console) (end : ℕ) → IsQuiet end z → end ≤ next z
 
@@ -65,7 +65,7 @@ fm_beat = record {
   nothing = refl;
   more = λ first second. refl;
   next = λ m. m.fm_cycle;
-  first = λ cart recording. refl;
+  first = λ start is. is.fm;
   batch = fm-batch;
   late = fm-late;
 }
@@ -76,66 +76,101 @@ psg_beat = record {
   nothing = refl;
   more = λ first second. refl;
   next = λ m. m.psg_cycle;
-  first = λ cart recording. refl;
+  first = λ start is. is.psg;
   batch = psg-batch;
   late = psg-late;
 }
 
--- the batches of the first n moves
-record Batches {A : Type 0} (p : Beat A) (cart : List ℕ) (recording : List Frame) (end n : ℕ) : Type 0 where
+-- the batches of the first n moves from a start
+record Batches {A : Type 0} (p : Beat A) (start : Start) (end n : ℕ) : Type 0 where
   batches : ℕ
-  next : p.next (ran (power_on cart recording) n) ≡ 16128 * (batches + 1)
-  count : length (p.of (media (power_on cart recording) n)) ≡ 16 * batches
-  last : 16128 * batches < end
+  next : p.next (ran start.console n) ≡ 16128 * (batches_below start.at + batches + 1)
+  count : length (p.of (media start.console n)) ≡ 16 * batches
+  last : (batches ≡ 0) ⊎ (16128 * (batches_below start.at + batches) < end)
 
 -- the samples of one move more
 longer : {A : Type 0} (p : Beat A) (first second : Media) → length (p.of (joined first second)) ≡ length (p.of first) + length (p.of second)
 longer p first second = ap length (p.more first second) ∙ length-append (p.of first) (p.of second)
 
-batch-more : {A : Type 0} (p : Beat A) (cart : List ℕ) (recording : List Frame) (end n : ℕ) → Batches p cart recording end n
-    → (key_in (ran (power_on cart recording) n) (mover (ran (power_on cart recording) n))).cycle < end
-    → Batch p.of p.next (ran (power_on cart recording) n) (mover (ran (power_on cart recording) n)) → Batches p cart recording end (suc n)
+batch-more : {A : Type 0} (p : Beat A) (start : Start) (end n : ℕ) → Batches p start end n
+    → (key_in (ran start.console n) (mover (ran start.console n))).cycle < end
+    → Batch p.of p.next (ran start.console n) (mover (ran start.console n)) → Batches p start end (suc n)
 unfolding ran media
-batch-more p cart recording end n before below (made at next sixteen) = record {
+batch-more p start end n before below (made at next sixteen) = record {
   batches = before.batches + 1;
   next = omega (arith, next, before.next);
-  count = omega (arith, longer p (media (power_on cart recording) n) (rendered (ran (power_on cart recording) n) (mover (ran (power_on cart recording) n))), before.count, sixteen);
-  last = omega (arith, at, before.next, below);
+  count = omega (arith, longer p (media start.console n) (rendered (ran start.console n) (mover (ran start.console n))), before.count, sixteen);
+  last = inr (omega (arith, at, before.next, below));
 }
-batch-more p cart recording end n before below (none next silent) = record {
+batch-more p start end n before below (none next silent) = record {
   batches = before.batches;
   next = next ∙ before.next;
   count =
-      longer p (media (power_on cart recording) n) (rendered (ran (power_on cart recording) n) (mover (ran (power_on cart recording) n)))
-      ∙ ap (λ l. length (p.of (media (power_on cart recording) n)) + length l) silent ∙ omega (arith, before.count);
+      longer p (media start.console n) (rendered (ran start.console n) (mover (ran start.console n)))
+      ∙ ap (λ l. length (p.of (media start.console n)) + length l) silent ∙ omega (arith, before.count);
   last = before.last;
 }
 
-batches-to : {A : Type 0} (p : Beat A) (cart : List ℕ) (recording : List Frame) (end n : ℕ) → 1 ≤ end → AllBelow (power_on cart recording) end n → Batches p cart recording end n
+batches-to : {A : Type 0} (p : Beat A) (start : Start) (end n : ℕ) → IsStart start → AllBelow start.console end n → Batches p start end n
 unfolding ran media
-batches-to p cart recording end zero some below = record { batches = 0; next = p.first cart recording; count = ap length p.nothing; last = omega (arith, some) }
-batches-to p cart recording end (suc n) some below =
-    batch-more p cart recording end n (batches-to p cart recording end n some (λ k earlier. below k (omega arith))) (below n (omega arith))
-    (p.batch (ran (power_on cart recording) n) (mover (ran (power_on cart recording) n)) (mover-lt (ran (power_on cart recording) n)))
+batches-to p start end zero is below = record {
+  batches = 0;
+  next = p.first start is ∙ omega arith;
+  count = ap length p.nothing;
+  last = inl refl;
+}
+batches-to p start end (suc n) is below =
+    batch-more p start end n (batches-to p start end n is (λ k earlier. below k (omega arith))) (below n (omega arith))
+    (p.batch (ran start.console n) (mover (ran start.console n)) (mover-lt (ran start.console n)))
 
-counted : {A : Type 0} (p : Beat A) (cart : List ℕ) (recording : List Frame) (z : Console) (end : ℕ) (entries : List Entry) (sound : Media) → 1 ≤ end
-    → IsRunTo (power_on cart recording) end z entries sound → length (p.of sound) ≡ 16 * ((end - 1) / 16128)
-counted p cart recording z end entries sound some run =
-    let made : Batches p cart recording end run.moves = batches-to p cart recording end run.moves some run.below in
-    let late : end ≤ p.next z = p.late z end run.quiet in
-    let at : p.next z ≡ 16128 * (made.batches + 1) = ap p.next run.console ∙ made.next in
-    let first : (end - 1) / 16128 ≡ made.batches = omega (arith, late, at, made.last, some) in
-    ap (λ (s : Media). length (p.of s)) run.rendered_to ∙ made.count ∙ ap (λ k. 16 * k) (omega (arith, first))
+-- so many batches are those between the start and the end
+all_made : (before end batches : ℕ) → end ≤ 16128 * (before + batches + 1) → (batches ≡ 0) ⊎ (16128 * (before + batches) < end)
+    → batches ≡ batches_below end - before
+all_made before end batches late (inl nothing) = omega (arith, late, nothing)
+all_made before end batches late (inr last) = omega (arith, late, last)
 
-pub sides-counted : (cart : List ℕ) (recording : List Frame) (z : Console) (end : ℕ) (entries : List Entry) (sound : Media) → 1 ≤ end
-    → IsRunTo (power_on cart recording) end z entries sound → length sound.sides ≡ 16 * ((end - 1) / 16128)
+counted : {A : Type 0} (p : Beat A) (start : Start) (z : Console) (end : ℕ) (entries : List Entry) (sound : Media) → IsStart start
+    → IsRunTo start.console end z entries sound → length (p.of sound) ≡ 16 * (batches_below end - batches_below start.at)
+counted p start z end entries sound is run =
+    let made : Batches p start end run.moves = batches-to p start end run.moves is run.below in
+    let at : p.next z ≡ 16128 * (batches_below start.at + made.batches + 1) = ap p.next run.console ∙ made.next in
+    let late : end ≤ 16128 * (batches_below start.at + made.batches + 1) = subst (λ (n : ℕ). end ≤ n) at (p.late z end run.quiet) in
+    ap (λ (s : Media). length (p.of s)) run.rendered_to ∙ made.count
+    ∙ ap (λ k. 16 * k) (all_made (batches_below start.at) end made.batches late made.last)
+
+-- the next batch behind a run is the first from its end on
+next_first : (at end batches : ℕ) → at ≤ end → end ≤ 16128 * (batches_below at + batches + 1)
+    → (batches ≡ 0) ⊎ (16128 * (batches_below at + batches) < end) → 16128 * (batches_below at + batches + 1) ≡ first_batch end
+next_first at end batches later late (inl nothing) = omega (arith, later, late, nothing)
+next_first at end batches later late (inr last) = omega (arith, later, late, last)
+
+goes_on : {A : Type 0} (p : Beat A) (start : Start) (z : Console) (end : ℕ) (entries : List Entry) (sound : Media) → IsStart start → start.at ≤ end
+    → IsRunTo start.console end z entries sound → p.next z ≡ first_batch end
+goes_on p start z end entries sound is later run =
+    let made : Batches p start end run.moves = batches-to p start end run.moves is run.below in
+    let at : p.next z ≡ 16128 * (batches_below start.at + made.batches + 1) = ap p.next run.console ∙ made.next in
+    let late : end ≤ 16128 * (batches_below start.at + made.batches + 1) = subst (λ (n : ℕ). end ≤ n) at (p.late z end run.quiet) in
+    at ∙ next_first start.at end made.batches later late made.last
+
+pub sides-counted : (start : Start) (z : Console) (end : ℕ) (entries : List Entry) (sound : Media) → IsStart start
+    → IsRunTo start.console end z entries sound → length sound.sides ≡ 16 * (batches_below end - batches_below start.at)
 unfolding fm_beat
 sides-counted = counted fm_beat
 
-pub levels-counted : (cart : List ℕ) (recording : List Frame) (z : Console) (end : ℕ) (entries : List Entry) (sound : Media) → 1 ≤ end
-    → IsRunTo (power_on cart recording) end z entries sound → length sound.levels ≡ 16 * ((end - 1) / 16128)
+pub levels-counted : (start : Start) (z : Console) (end : ℕ) (entries : List Entry) (sound : Media) → IsStart start
+    → IsRunTo start.console end z entries sound → length sound.levels ≡ 16 * (batches_below end - batches_below start.at)
 unfolding psg_beat
 levels-counted = counted psg_beat
+
+pub fm-goes-on : (start : Start) (z : Console) (end : ℕ) (entries : List Entry) (sound : Media) → IsStart start → start.at ≤ end
+    → IsRunTo start.console end z entries sound → z.fm_cycle ≡ first_batch end
+unfolding fm_beat
+fm-goes-on = goes_on fm_beat
+
+pub psg-goes-on : (start : Start) (z : Console) (end : ℕ) (entries : List Entry) (sound : Media) → IsStart start → start.at ≤ end
+    → IsRunTo start.console end z entries sound → z.psg_cycle ≡ first_batch end
+unfolding psg_beat
+psg-goes-on = goes_on psg_beat
 
 -- a move gives one entry at most
 told-by : (b : Bool) (e : Entry) → length (cond b [] (e ∷ [])) ≤ 1

@@ -4,14 +4,14 @@ use Rattle.std.proofs.lemmas.Bool.Decides.{nat_tests}
 use Rattle.md_word.specs.declared.event.Entry.{Entry}
 use Rattle.m68k_chip.specs.States.{next_of}
 use Rattle.z80_chip.specs.States.{next_of as sub_next_of}
-use Rattle.md_pads.specs.Recording.{Frame}
 use Rattle.vdp_time.specs.Lines.{line_of}
 use Rattle.vdp_chip.specs.Drawing.{line_drawn}
 use Rattle.vdp_chip.specs.Picture.{finished, height}
-use Rattle.md_machine.specs.Console.{AllBelow, Console, IsRunTo, fm_moved, key_in, line_done, line_moved, main_moved, media, moved, mover, power_on, psg_moved, ran, rendered, sub_moved}
+use Rattle.md_machine.specs.Console.{AllBelow, Console, IsRunTo, fm_moved, key_in, line_done, line_moved, main_moved, media, moved, mover, psg_moved, ran, rendered, sub_moved}
 use Rattle.md_machine.specs.Lines.{drawn_from, frames_of}
 use Rattle.md_machine.specs.Media.{Media}
 use Rattle.md_machine.specs.Movers.{mover-lt}
+use Rattle.md_machine.specs.Starts.{IsStart, Start, first_line, frames_below}
 use Rattle.md_machine.proofs.Moves.{five-each}
 
 -- a move, by whether it is the event of a line
@@ -49,56 +49,87 @@ one-more false lines is =
     let same : 3420 * lines / 3420 ≡ lines = omega arith in
     omega (arith, subst (λ (n : ℕ). n % 262 ≡ 224 → ⊥) same other)
 
--- the lines of the first n moves
-record Lines (cart : List ℕ) (recording : List Frame) (end n : ℕ) : Type 0 where
+-- how many lines begin below a cycle
+abbrev lines_below : ℕ → ℕ
+lines_below at = (at + 3419) / 3420
+
+-- the lines of the first n moves from a start
+record Lines (start : Start) (end n : ℕ) : Type 0 where
   lines : ℕ
-  next : (ran (power_on cart recording) n).line ≡ 3420 * lines
-  count : length (media (power_on cart recording) n).frames ≡ (lines + 37) / 262
-  last : (lines ≡ 0) ⊎ (3420 * (lines - 1) < end)
+  later : lines_below start.at ≤ lines
+  next : (ran start.console n).line ≡ 3420 * lines
+  count : (lines_below start.at + 37) / 262 + length (media start.console n).frames ≡ (lines + 37) / 262
+  last : (lines ≡ lines_below start.at) ⊎ (3420 * (lines - 1) < end)
 
 longer : (m : Console) (n : ℕ) → length (media m (suc n)).frames ≡ length (media m n).frames + length (rendered (ran m n) (mover (ran m n))).frames
 unfolding media
 longer m n = length-append (media m n).frames (rendered (ran m n) (mover (ran m n))).frames
 
-line-more : (cart : List ℕ) (recording : List Frame) (end n : ℕ) → Lines cart recording end n
-    → (key_in (ran (power_on cart recording) n) (mover (ran (power_on cart recording) n))).cycle < end
-    → LineMove (ran (power_on cart recording) n) (mover (ran (power_on cart recording) n)) → Lines cart recording end (suc n)
+line-more : (start : Start) (end n : ℕ) → Lines start end n
+    → (key_in (ran start.console n) (mover (ran start.console n))).cycle < end
+    → LineMove (ran start.console n) (mover (ran start.console n)) → Lines start end (suc n)
 unfolding ran
-line-more cart recording end n before below (made at next one) =
-    let m : Console = power_on cart recording in
+line-more start end n before below (made at next one) =
+    let m : Console = start.console in
+    let first : ℕ = (lines_below start.at + 37) / 262 in
     let line : (ran m n).line ≡ 3420 * before.lines = before.next in
-    let long : length (media m (suc n)).frames ≡ (before.lines + 37) / 262 + cond (line_of (3420 * before.lines) == 224) 1 0 =
-    longer m n ∙ (λ i. before.count i + one i) ∙ ap (λ (c : ℕ). (before.lines + 37) / 262 + cond (line_of c == 224) 1 0) line in
+    let fresh : length (rendered (ran m n) (mover (ran m n))).frames ≡ cond (line_of (3420 * before.lines) == 224) 1 0 =
+    one ∙ ap (λ (c : ℕ). cond (line_of c == 224) 1 0) line in
     record {
       lines = before.lines + 1;
+      later = omega (arith, before.later);
       next = omega (arith, next, line);
-      count = long ∙ one-more (line_of (3420 * before.lines) == 224) before.lines refl;
+      count = omega (arith, longer m n, before.count, fresh, one-more (line_of (3420 * before.lines) == 224) before.lines refl);
       last = inr (omega (arith, at, line, below));
     }
-line-more cart recording end n before below (none next silent) = record {
+line-more start end n before below (none next silent) = record {
   lines = before.lines;
+  later = before.later;
   next = next ∙ before.next;
-  count = longer (power_on cart recording) n
-      ∙ ap (λ (l : List (List ℕ)). length (media (power_on cart recording) n).frames + length l) silent ∙ omega (arith, before.count);
+  count = omega (arith, longer start.console n, ap (λ (l : List (List ℕ)). length l) silent, before.count);
   last = before.last;
 }
 
-lines-to : (cart : List ℕ) (recording : List Frame) (end n : ℕ) → AllBelow (power_on cart recording) end n → Lines cart recording end n
+lines-to : (start : Start) (end n : ℕ) → IsStart start → AllBelow start.console end n → Lines start end n
 unfolding ran media
-lines-to cart recording end zero below = record { lines = 0; next = refl; count = refl; last = inl refl }
-lines-to cart recording end (suc n) below =
-    line-more cart recording end n (lines-to cart recording end n (λ k earlier. below k (omega arith))) (below n (omega arith))
-    (line-move (ran (power_on cart recording) n) (mover (ran (power_on cart recording) n)) (mover-lt (ran (power_on cart recording) n)))
+lines-to start end zero is below = record { lines = lines_below start.at; later = omega arith; next = is.line; count = omega arith; last = inl refl }
+lines-to start end (suc n) is below =
+    line-more start end n (lines-to start end n is (λ k earlier. below k (omega arith))) (below n (omega arith))
+    (line-move (ran start.console n) (mover (ran start.console n)) (mover-lt (ran start.console n)))
 
-counted : (end lines : ℕ) → end ≤ 3420 * lines → (lines ≡ 0) ⊎ (3420 * (lines - 1) < end) → (lines + 37) / 262 ≡ (end + (896040 - 766080 - 1)) / 896040
-counted end lines late (inl first) = omega (arith, late, first)
-counted end lines late (inr last) = omega (arith, late, last)
+-- the lines that begin below a cycle have as many lines 224 as begin below it
+lines_are : (end : ℕ) → (lines_below end + 37) / 262 ≡ frames_below end
+lines_are end = omega arith
 
-pub frames-counted : (cart : List ℕ) (recording : List Frame) (z : Console) (end : ℕ) (entries : List Entry) (output : Media)
-    → IsRunTo (power_on cart recording) end z entries output → length output.frames ≡ (end + (896040 - 766080 - 1)) / 896040
+counted : (at end lines : ℕ) → end ≤ 3420 * lines → lines_below at ≤ lines → (lines ≡ lines_below at) ⊎ (3420 * (lines - 1) < end)
+    → (lines + 37) / 262 - (lines_below at + 37) / 262 ≡ frames_below end - frames_below at
+counted at end lines late later (inl first) =
+    let within : lines_below end ≤ lines_below at = omega (arith, late, first) in
+    omega (arith, first, within, lines_are at, lines_are end)
+counted at end lines late later (inr last) =
+    let same : lines ≡ lines_below end = omega (arith, late, last) in
+    omega (arith, same, lines_are at, lines_are end)
+
+pub frames-counted : (start : Start) (z : Console) (end : ℕ) (entries : List Entry) (output : Media) → IsStart start
+    → IsRunTo start.console end z entries output → length output.frames ≡ frames_below end - frames_below start.at
 unfolding key_in
-frames-counted cart recording z end entries output run =
-    let made : Lines cart recording end run.moves = lines-to cart recording end run.moves run.below in
+frames-counted start z end entries output is run =
+    let made : Lines start end run.moves = lines-to start end run.moves is run.below in
     let late : end ≤ z.line = run.quiet 2 (lit< tt) in
     let at : z.line ≡ 3420 * made.lines = ap (λ (m : Console). m.line) run.console ∙ made.next in
-    ap (λ (m : Media). length m.frames) run.rendered_to ∙ made.count ∙ counted end made.lines (subst (λ (n : ℕ). end ≤ n) at late) made.last
+    let few : length (media start.console run.moves).frames ≡ (made.lines + 37) / 262 - (lines_below start.at + 37) / 262 = omega (arith, made.count) in
+    ap (λ (m : Media). length m.frames) run.rendered_to ∙ few ∙ counted start.at end made.lines (subst (λ (n : ℕ). end ≤ n) at late) made.later made.last
+
+-- the next line behind a run is the first from its end on
+next_first : (at end lines : ℕ) → at ≤ end → end ≤ 3420 * lines → (lines ≡ lines_below at) ⊎ (3420 * (lines - 1) < end) → 3420 * lines ≡ first_line end
+next_first at end lines later late (inl first) = omega (arith, later, late, first)
+next_first at end lines later late (inr last) = omega (arith, later, late, last)
+
+pub line-goes-on : (start : Start) (z : Console) (end : ℕ) (entries : List Entry) (output : Media) → IsStart start → start.at ≤ end
+    → IsRunTo start.console end z entries output → z.line ≡ first_line end
+unfolding key_in
+line-goes-on start z end entries output is later run =
+    let made : Lines start end run.moves = lines-to start end run.moves is run.below in
+    let late : end ≤ z.line = run.quiet 2 (lit< tt) in
+    let at : z.line ≡ 3420 * made.lines = ap (λ (m : Console). m.line) run.console ∙ made.next in
+    at ∙ next_first start.at end made.lines later (subst (λ (n : ℕ). end ≤ n) at late) made.last

@@ -123,7 +123,7 @@ each-made m zero movers = refl
 each-made m (suc n) movers = omega (arith, each-made m n movers, one-of (machines.mover five (run five m n)) (movers (run five m n)))
 
 pub moves-few : (m : Machine Chip Board) (from to n : ℕ) → Movers → ((i : ℕ) → i < 5 → made five m i n ≤ moves_left five to m i)
-    → all_moves_left five to m ≤ moves_within five (to - from) → n ≤ to + 5
+    → all_moves_left five to m ≤ moves_within five (to - from) → n ≤ to - from + 5
 unfolding total
 moves-few m from to n movers few all =
     omega (arith, each-made m n movers, few 0 (lit< tt), few 1 (lit< tt), few 2 (lit< tt), few 3 (lit< tt), few 4 (lit< tt))

@@ -16,4 +16,5 @@ pub mod Parts
 pub mod Pins
 pub mod Refinement
 pub mod Rules
+pub mod Starts
 pub mod VdpCode

@@ -8,9 +8,11 @@ ghost use Rattle.md_machine.specs.Console.{AllBelow, Console, IsRunTo, power_on,
 ghost use Rattle.md_machine.specs.Owners.{HasOneOwner};
 ghost use Rattle.md_machine.specs.Pads.{ShowsPads};
 ghost use Rattle.md_machine.specs.Rules.{five};
+ghost use Rattle.md_machine.specs.Starts.{IsStart, Start, batches_below, frames_below};
 ghost use Rattle.md_machine.specs.Media as outputs;
 ghost use Rattle.md_machine.specs.Media.{Media};
 
+use crate::machine::Machine;
 use crate::set::MdChips;
 use chip_core::laws;
 use rom_header::Cart;
@@ -23,29 +25,38 @@ pub fn joined()
         → IsRunTo m t z (entries ++ later_entries) (outputs.joined output later_output) }
 {}
 
-/// From power-on a run to a cycle makes 16 samples of each sound chip for each multiple of 16,128 cycles,
-/// from the first on, that lies below it.
+/// Power-on is a start, at cycle 0.
+pub fn power_on_is_start()
+    ensures { (cart : List ℕ) (recording : List Frame) → IsStart (record { at = 0; console = power_on cart recording }) }
+{}
+
+/// Where a run from a start ends, another may start.
+pub fn run_ends_at_start()
+    ensures { (start : Start) (z : Console) (end : ℕ) (entries : List Entry) (output : Media) → IsStart start → start.at ≤ end
+        → IsRunTo start.console end z entries output → IsStart (record { at = end; console = z }) }
+{}
+
+/// A run from a start to a cycle makes 16 samples of each sound chip for each multiple of 16,128
+/// cycles, from the first on, that lies between the two and below the end.
 pub fn samples_counted()
-    ensures sides { (cart : List ℕ) (recording : List Frame) (z : Console) (end : ℕ) (entries : List Entry) (output : Media) → 1 ≤ end
-        → IsRunTo (power_on cart recording) end z entries output → length output.sides ≡ 16 * ((end - 1) / 16128) }
-    ensures levels { (cart : List ℕ) (recording : List Frame) (z : Console) (end : ℕ) (entries : List Entry) (output : Media) → 1 ≤ end
-        → IsRunTo (power_on cart recording) end z entries output → length output.levels ≡ 16 * ((end - 1) / 16128) }
+    ensures sides { (start : Start) (z : Console) (end : ℕ) (entries : List Entry) (output : Media) → IsStart start
+        → IsRunTo start.console end z entries output → length output.sides ≡ 16 * (batches_below end - batches_below start.at) }
+    ensures levels { (start : Start) (z : Console) (end : ℕ) (entries : List Entry) (output : Media) → IsStart start
+        → IsRunTo start.console end z entries output → length output.levels ≡ 16 * (batches_below end - batches_below start.at) }
 {}
 
-/// From power-on a run to a cycle makes a frame for each cycle 766,080 + 896,040 n below it, at which line
-/// 224 of frame n begins.
+/// A run from a start to a cycle makes a frame for each cycle 766,080 + 896,040 n, at which line 224 of
+/// frame n begins, that lies between the two and below the end.
 pub fn frames_counted()
-    ensures { (cart : List ℕ) (recording : List Frame) (z : Console) (end : ℕ) (entries : List Entry) (output : Media)
-        → IsRunTo (power_on cart recording) end z entries output → length output.frames ≡ (end + (896040 - 766080 - 1)) / 896040 }
+    ensures { (start : Start) (z : Console) (end : ℕ) (entries : List Entry) (output : Media) → IsStart start
+        → IsRunTo start.console end z entries output → length output.frames ≡ frames_below end - frames_below start.at }
 {}
 
-/// From power-on there are never more events below a cycle than cycles and chips.
-pub fn few_events(cart: &Cart)
-    ensures { (recording : List Frame) (end n : ℕ) → end ≤ 2 ^ 50 → AllBelow (power_on cart.now recording) end n → n ≤ end + 5 }
+/// From a machine on there are never more events below a cycle than cycles up to it, and chips.
+pub fn few_events(machine: &Machine)
+    ensures { (end n : ℕ) → end ≤ 2 ^ 50 → AllBelow machine.now.console end n → n ≤ end - machine.now.at + 5 }
 {
-    cart.bytes();
-    laws::stages::<MdChips>();
-    laws::limits::<MdChips>();
+    machine.few_events();
 }
 
 /// How many events a list of enabled events of the five chips has at most, over so many cycles.

@@ -1,6 +1,6 @@
-ghost use Rattle.std.specs.Prelude.{◌≡◌, ◌≤◌, ◌<◌, ◌+◌, ◌*◌, ◌++◌, [], IfOk, length, vec_len, vec_capacity};
+ghost use Rattle.std.specs.Prelude.{◌≡◌, ℕ, ◌≤◌, ◌<◌, ◌+◌, ◌-◌, ◌*◌, ◌^◌, ◌++◌, [], IfOk, length, vec_len, vec_capacity};
 ghost use Rattle.std.specs.Arc.{arc_value};
-ghost use Rattle.md_machine.specs.Console.{IsRunTo, key_in, mover, power_on};
+ghost use Rattle.md_machine.specs.Console.{AllBelow, IsRunTo, key_in, mover, power_on};
 ghost use Rattle.md_machine.specs.Outputs.{frame_length, frames_bytes, journal_bytes, sound_bytes};
 ghost use Rattle.md_machine.specs.Refinement.{main_of};
 ghost use Rattle.md_machine.specs.Rules.{next};
@@ -84,6 +84,16 @@ impl Machine {
     {
         laws::stages::<MdChips>();
         least_key(self.chips.as_slice()).cycle
+    }
+
+    /// From here on there are never more events below a cycle than cycles up to it, and chips.
+    pub(crate) fn few_events(&self)
+        ensures { (end n : ℕ) → end ≤ 2 ^ 50 → AllBelow self.now.console end n → n ≤ end - self.now.at + 5 }
+    {
+        laws::stages::<MdChips>();
+        laws::limits::<MdChips>();
+        // what holds of each machine holds of its parts
+        let _ = &self.chips;
     }
 
     /// Brings the machine to the cycle `to`, at most a frame on. It waits for nobody.

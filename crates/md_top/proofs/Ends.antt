@@ -1,15 +1,16 @@
 -- How a run ends: what the outputs hold on the way, and why it stops.
-use Rattle.std.proofs.Common.{◌≡◌, ℕ, ◌^◌, ◌≤◌, List, Result, Ok, Err, Option, Some, None, subst, ◌∙◌, arith}
+use Rattle.std.proofs.Common.{◌≡◌, ℕ, ◌^◌, ◌<◌, ◌≤◌, List, Result, Ok, Err, Option, Some, None, subst, ◌∙◌, arith}
 use Rattle.std.specs.Prelude.{IfErr, IsSome, OnOk, OnErr}
 use Rattle.md_outer.specs.Outside.{DepotState, Files, GoesOn}
-use Rattle.md_top.specs.Endings.{HoldsUntil, RunCause, RunFiles, RunLeaves}
-use Rattle.md_top.specs.Inputs.{InputCause}
+use Rattle.md_top.specs.Endings.{HoldsUntil, RunCause, RunEnds, RunFiles, RunLeaves}
+use Rattle.md_top.specs.Inputs.{Begins, InputCause, MayBeginAt}
+use Rattle.md_top.specs.Limits.{IsEnd}
 use Rattle.md_top.specs.Outputs.{Adds, AddsParts, AreBegun, Holds, IsBegun, IsUnwritten, IsWriteFault, LeavesParts, Pieces, lengthened, nothing}
 use Rattle.md_top.specs.Runs.{FewEvents, pieces_of, pieces_until, sound_until}
+use Rattle.md_machine.specs.Starts.{IsStart, Start}
 use Rattle.md_words.specs.Words.{Run}
 use Rattle.md_top.specs.declared.ending.Ending.{Ending}
 use Rattle.md_top.specs.declared.ending.Ending.TheVariants.{Done, FramesFault, SoundFault, JournalFault, Memory}
-use Rattle.md_top.specs.declared.inputs.Inputs.{Inputs}
 use Rattle.md_top.specs.declared.outputs.Outputs.{Outputs}
 use Rattle.md_top.proofs.Puts.{rose_later}
 use Rattle.md_top.proofs.Segments.{pieces-first, pieces-grow}
@@ -31,69 +32,72 @@ both-err (Err e) f p q = f e p q
 
 -- WHAT THE OUTPUTS HOLD
 
-pub head-held : (run : Run) (inputs : Inputs) (first files : Files) (head : List ℕ) → FewEvents inputs → head ≡ sound_until inputs run.cycles 0
-    → Holds run first files (record nothing { sound = head }) → HoldsUntil inputs run first files 0
-head-held run inputs first files head few is holds = subst (Holds run first files) (pieces-first inputs run.cycles head few is) holds
+pub head-held : (run : Run) (start : Start) (first files : Files) (head : List ℕ) → IsStart start → FewEvents start → start.at ≤ 2 ^ 50
+    → head ≡ sound_until start run.cycles start.at
+    → Holds run first files (record nothing { sound = head }) → HoldsUntil start run first files start.at
+head-held run start first files head is few small same holds =
+    subst (Holds run first files) (pieces-first start run.cycles head is few small same) holds
 
-pub head-parts : (run : Run) (inputs : Inputs) (first files : Files) (head : List ℕ) → FewEvents inputs → run.cycles ≤ 2 ^ 50 → head ≡ sound_until inputs run.cycles 0
-    → LeavesParts run first files (record nothing { sound = head }) → LeavesParts run first files (pieces_of inputs run.cycles)
-head-parts run inputs first files head few small is leaves =
-    parts-longer run first files (pieces_until inputs run.cycles 0) (pieces_of inputs run.cycles)
-    (subst (LeavesParts run first files) (pieces-first inputs run.cycles head few is) leaves)
-    (pieces-grow inputs run.cycles 0 run.cycles few small (omega arith))
+pub head-parts : (run : Run) (start : Start) (first files : Files) (head : List ℕ) → IsStart start → FewEvents start → start.at ≤ run.cycles → run.cycles ≤ 2 ^ 50
+    → head ≡ sound_until start run.cycles start.at
+    → LeavesParts run first files (record nothing { sound = head }) → LeavesParts run first files (pieces_of start run.cycles)
+head-parts run start first files head is few within small same leaves =
+    parts-longer run first files (pieces_until start run.cycles start.at) (pieces_of start run.cycles)
+    (subst (LeavesParts run first files) (pieces-first start run.cycles head is few (omega (arith, within, small)) same) leaves)
+    (pieces-grow start run.cycles start.at run.cycles is few small within)
 
-pub segment-held : (run : Run) (inputs : Inputs) (first old new : Files) (at to : ℕ) (more : Pieces)
-    → lengthened (pieces_until inputs run.cycles at) more ≡ pieces_until inputs run.cycles to
-    → Adds run old new more → HoldsUntil inputs run first old at → HoldsUntil inputs run first new to
-segment-held run inputs first old new at to more is adds holds =
-    subst (Holds run first new) is (adds first (pieces_until inputs run.cycles at) holds)
+pub segment-held : (run : Run) (start : Start) (first old new : Files) (at to : ℕ) (more : Pieces)
+    → lengthened (pieces_until start run.cycles at) more ≡ pieces_until start run.cycles to
+    → Adds run old new more → HoldsUntil start run first old at → HoldsUntil start run first new to
+segment-held run start first old new at to more is adds holds =
+    subst (Holds run first new) is (adds first (pieces_until start run.cycles at) holds)
 
-pub segment-parts : (run : Run) (inputs : Inputs) (first old new : Files) (at to : ℕ) (more : Pieces) → FewEvents inputs → to ≤ run.cycles → run.cycles ≤ 2 ^ 50
-    → lengthened (pieces_until inputs run.cycles at) more ≡ pieces_until inputs run.cycles to
-    → AddsParts run old new more → HoldsUntil inputs run first old at → LeavesParts run first new (pieces_of inputs run.cycles)
-segment-parts run inputs first old new at to more few within small is adds holds =
-    parts-longer run first new (pieces_until inputs run.cycles to) (pieces_of inputs run.cycles)
-    (subst (LeavesParts run first new) is (adds first (pieces_until inputs run.cycles at) holds))
-    (pieces-grow inputs run.cycles to run.cycles few small within)
+pub segment-parts : (run : Run) (start : Start) (first old new : Files) (at to : ℕ) (more : Pieces) → IsStart start → FewEvents start → to ≤ run.cycles → run.cycles ≤ 2 ^ 50
+    → lengthened (pieces_until start run.cycles at) more ≡ pieces_until start run.cycles to
+    → AddsParts run old new more → HoldsUntil start run first old at → LeavesParts run first new (pieces_of start run.cycles)
+segment-parts run start first old new at to more from few within small is adds holds =
+    parts-longer run first new (pieces_until start run.cycles to) (pieces_of start run.cycles)
+    (subst (LeavesParts run first new) is (adds first (pieces_until start run.cycles at) holds))
+    (pieces-grow start run.cycles to run.cycles from few small within)
 
 -- WHY IT STOPS
 
-pub fault-cause : (inputs : Inputs) (run : Run) (old new : DepotState) (ending : Ending) → IsWriteFault run old new ending → RunCause inputs run old new ending
-fault-cause inputs run old new FramesFault fault = fault
-fault-cause inputs run old new SoundFault fault = fault
-fault-cause inputs run old new JournalFault fault = fault
-fault-cause inputs run old new _ fault = absurd fault
+pub fault-cause : (start : Start) (run : Run) (old new : DepotState) (ending : Ending) → IsWriteFault run old new ending → RunCause start run old new ending
+fault-cause start run old new FramesFault fault = fault
+fault-cause start run old new SoundFault fault = fault
+fault-cause start run old new JournalFault fault = fault
+fault-cause start run old new _ fault = absurd fault
 
-pub unwritten-cause : (inputs : Inputs) (run : Run) (old new : DepotState) (ending : Ending) → IsUnwritten run old new ending → RunCause inputs run old new ending
-unwritten-cause inputs run old new FramesFault fault = fault
-unwritten-cause inputs run old new SoundFault fault = fault
-unwritten-cause inputs run old new JournalFault fault = fault
-unwritten-cause inputs run old new Memory fault = tt
-unwritten-cause inputs run old new _ fault = absurd fault
+pub unwritten-cause : (start : Start) (run : Run) (old new : DepotState) (ending : Ending) → IsUnwritten run old new ending → RunCause start run old new ending
+unwritten-cause start run old new FramesFault fault = fault
+unwritten-cause start run old new SoundFault fault = fault
+unwritten-cause start run old new JournalFault fault = fault
+unwritten-cause start run old new Memory fault = tt
+unwritten-cause start run old new _ fault = absurd fault
 
 -- a cause from later on is one from before
-pub cause-before : (inputs : Inputs) (run : Run) (old mid new : DepotState) (ending : Ending) → GoesOn old mid → RunCause inputs run mid new ending → RunCause inputs run old new ending
-cause-before inputs run old mid new (Done accesses halted) on cause = cause
-cause-before inputs run old mid new Memory on cause = tt
-cause-before inputs run old mid new FramesFault on cause = (cause.0, rose_later old.write_faults mid.write_faults new.write_faults on.writes cause.1)
-cause-before inputs run old mid new SoundFault on cause = (cause.0, rose_later old.write_faults mid.write_faults new.write_faults on.writes cause.1)
-cause-before inputs run old mid new JournalFault on cause = (cause.0, rose_later old.write_faults mid.write_faults new.write_faults on.writes cause.1)
-cause-before inputs run old mid new _ on cause = absurd cause
+pub cause-before : (start : Start) (run : Run) (old mid new : DepotState) (ending : Ending) → GoesOn old mid → RunCause start run mid new ending → RunCause start run old new ending
+cause-before start run old mid new (Done from accesses halted) on cause = cause
+cause-before start run old mid new Memory on cause = tt
+cause-before start run old mid new FramesFault on cause = (cause.0, rose_later old.write_faults mid.write_faults new.write_faults on.writes cause.1)
+cause-before start run old mid new SoundFault on cause = (cause.0, rose_later old.write_faults mid.write_faults new.write_faults on.writes cause.1)
+cause-before start run old mid new JournalFault on cause = (cause.0, rose_later old.write_faults mid.write_faults new.write_faults on.writes cause.1)
+cause-before start run old mid new _ on cause = absurd cause
 
-pub fault-leaves : (inputs : Inputs) (run : Run) (first files : Files) (old new : DepotState) (ending : Ending) → IsWriteFault run old new ending
-    → LeavesParts run first files (pieces_of inputs run.cycles) → RunLeaves inputs run first files ending
-fault-leaves inputs run first files old new FramesFault fault leaves = leaves
-fault-leaves inputs run first files old new SoundFault fault leaves = leaves
-fault-leaves inputs run first files old new JournalFault fault leaves = leaves
-fault-leaves inputs run first files old new _ fault leaves = absurd fault
+pub fault-leaves : (start : Start) (run : Run) (first files : Files) (old new : DepotState) (ending : Ending) → IsWriteFault run old new ending
+    → LeavesParts run first files (pieces_of start run.cycles) → RunLeaves start run first files ending
+fault-leaves start run first files old new FramesFault fault leaves = leaves
+fault-leaves start run first files old new SoundFault fault leaves = leaves
+fault-leaves start run first files old new JournalFault fault leaves = leaves
+fault-leaves start run first files old new _ fault leaves = absurd fault
 
-pub unwritten-leaves : (inputs : Inputs) (run : Run) (first files : Files) (old new : DepotState) (ending : Ending) → IsUnwritten run old new ending
-    → LeavesParts run first files nothing → RunLeaves inputs run first files ending
-unwritten-leaves inputs run first files old new FramesFault fault leaves = parts-longer run first files nothing (pieces_of inputs run.cycles) leaves (nothing-front (pieces_of inputs run.cycles))
-unwritten-leaves inputs run first files old new SoundFault fault leaves = parts-longer run first files nothing (pieces_of inputs run.cycles) leaves (nothing-front (pieces_of inputs run.cycles))
-unwritten-leaves inputs run first files old new JournalFault fault leaves = parts-longer run first files nothing (pieces_of inputs run.cycles) leaves (nothing-front (pieces_of inputs run.cycles))
-unwritten-leaves inputs run first files old new Memory fault leaves = leaves
-unwritten-leaves inputs run first files old new _ fault leaves = absurd fault
+pub unwritten-leaves : (start : Start) (run : Run) (first files : Files) (old new : DepotState) (ending : Ending) → IsUnwritten run old new ending
+    → LeavesParts run first files nothing → RunLeaves start run first files ending
+unwritten-leaves start run first files old new FramesFault fault leaves = parts-longer run first files nothing (pieces_of start run.cycles) leaves (nothing-front (pieces_of start run.cycles))
+unwritten-leaves start run first files old new SoundFault fault leaves = parts-longer run first files nothing (pieces_of start run.cycles) leaves (nothing-front (pieces_of start run.cycles))
+unwritten-leaves start run first files old new JournalFault fault leaves = parts-longer run first files nothing (pieces_of start run.cycles) leaves (nothing-front (pieces_of start run.cycles))
+unwritten-leaves start run first files old new Memory fault leaves = leaves
+unwritten-leaves start run first files old new _ fault leaves = absurd fault
 
 -- no output is begun
 pub untouched : (run : Run) (old new : Files) → new ≡ old → LeavesParts run old new nothing
@@ -107,12 +111,34 @@ untouched run old new same = record {
 
 pub refused-leaves : (told : Type 0) (run : Run) (old new : DepotState) (ending : Ending) → InputCause told run old new ending
     → new.files ≡ old.files → RunFiles run old.files new.files ending
-refused-leaves told run old new (Done accesses halted) cause same = absurd cause
+refused-leaves told run old new (Done from accesses halted) cause same = absurd cause
 refused-leaves told run old new FramesFault cause same = absurd cause
 refused-leaves told run old new SoundFault cause same = absurd cause
 refused-leaves told run old new JournalFault cause same = absurd cause
 refused-leaves told run old new Memory cause same = untouched run old.files new.files same
 refused-leaves told run old new _ cause same = same
+
+-- a run that found its start
+pub run-ends : (told : Type 0) (run : Run) (start : Start) (old mid new : DepotState) (ending : Ending) → IsEnd run.cycles → MayBeginAt run start.at
+    → (told → Begins run old.files start) → start.at < run.cycles → GoesOn old mid → RunCause start run mid new ending → RunEnds told run old new ending
+run-ends told run start old mid new (Done from accesses halted) end may begins ahead on cause =
+    (end, cause.0 ∙ may, λ t. (start, begins t, ahead, cause))
+run-ends told run start old mid new Memory end may begins ahead on cause = tt
+run-ends told run start old mid new FramesFault end may begins ahead on cause =
+    (end, λ t. (start, begins t, ahead), cause-before start run old mid new FramesFault on cause)
+run-ends told run start old mid new SoundFault end may begins ahead on cause =
+    (end, λ t. (start, begins t, ahead), cause-before start run old mid new SoundFault on cause)
+run-ends told run start old mid new JournalFault end may begins ahead on cause =
+    (end, λ t. (start, begins t, ahead), cause-before start run old mid new JournalFault on cause)
+run-ends told run start old mid new _ end may begins ahead on cause = absurd cause
+
+pub run-leaves : (run : Run) (start : Start) (old new : Files) (ending : Ending) → Begins run old start → RunLeaves start run old new ending → RunFiles run old new ending
+run-leaves run start old new (Done from accesses halted) begins leaves = (start, begins, leaves)
+run-leaves run start old new FramesFault begins leaves = (start, begins, leaves)
+run-leaves run start old new SoundFault begins leaves = (start, begins, leaves)
+run-leaves run start old new JournalFault begins leaves = (start, begins, leaves)
+run-leaves run start old new Memory begins leaves = leaves
+run-leaves run start old new _ begins leaves = leaves
 
 -- NUMBERS OF BEGUN OUTPUTS
 

@@ -1,6 +1,6 @@
 -- The ending where neither a fault nor want of memory comes between.
-use Rattle.std.proofs.Common.{◌≡◌, ◌⊎◌, inl, inr, ℕ, ◌<◌, ◌≤◌, ◌==◌, Bool, true, false, cond, List, [], length, Option, Some, None, refl, sym, ap, ◌∙◌, arith}
-use Rattle.std.specs.Prelude.{IsSomeAnd, nat_lt, unwrap_or}
+use Rattle.std.proofs.Common.{◌≡◌, ◌⊎◌, inl, inr, ℕ, ◌<◌, ◌≤◌, Bool, true, false, cond, List, [], length, Option, Some, None, refl, sym, ap, ◌∙◌, arith}
+use Rattle.std.specs.Prelude.{IsSomeAnd, nat_le, nat_lt, unwrap_or}
 use Rattle.std.proofs.lemmas.Bool.Decides.{nat_tests}
 use Rattle.rom_header.specs.Cartridge.{fault_of, has_mark}
 use Rattle.rom_header.specs.declared.cart.CartFault.{CartFault}
@@ -8,22 +8,19 @@ use Rattle.rom_header.specs.declared.cart.CartFault.TheVariants as fault
 use Rattle.md_outer.specs.Outside.{DepotState, Files, Rose}
 use Rattle.md_pads.specs.Recording.{Frame, GoesWrongAt, Spells}
 use Rattle.md_top.specs.Endings.{accepted_ending, cart_ending, file_ending, recorded_ending, recording_ending, right_ending, run_ending, status_of, verdict_ending}
-use Rattle.md_top.specs.Inputs.{CartCause, HaveInputs, IsAccepted, IsJudged, IsVerdict, Recorded, RecordingCause, Records, Verdict, WrongAt, cart_limit, cart_of, recording_limit}
-use Rattle.md_top.specs.Limits.{IsEnd, last_cycle}
-use Rattle.md_top.specs.Runs.{entries_to, halted_in}
+use Rattle.md_top.specs.Inputs.{Begins, CartCause, IsAccepted, IsJudged, IsVerdict, Recorded, RecordingCause, Records, Verdict, WrongAt, cart_limit, cart_of, recording_limit}
+use Rattle.md_top.specs.Limits.{last_cycle}
+use Rattle.md_top.specs.Runs.{entries_from, halted_from, powered_on}
+use Rattle.md_machine.specs.Starts.{Start}
 use Rattle.md_words.specs.Words.{Run, RunCart}
 use Rattle.md_top.specs.declared.ending.Ending.{Ending}
 use Rattle.md_top.specs.declared.ending.Ending.TheVariants.{Done, TooFar, ReadFault, TooLong, Short, NoMark, RecordingFault, RecordingTooLong, RecordingWrong, Behind, Memory}
-use Rattle.md_top.specs.declared.inputs.Inputs.{Inputs}
 
 pub not_below : (limit n : ℕ) → n ≤ limit → nat_lt limit n ≡ false
 not_below limit n within = grind (arith, nat_tests)
 
 is_below : (limit n : ℕ) → limit < n → nat_lt limit n ≡ true
 is_below limit n above = grind (arith, nat_tests)
-
-is_some_cycle : (n : ℕ) → 1 ≤ n → (n == 0) ≡ false
-is_some_cycle n some = grind (arith, nat_tests)
 
 -- BEHIND THE CARTRIDGE'S FILE
 
@@ -128,27 +125,47 @@ pub right_behind_cart : (run : Run) (files : Files) (verdict : Verdict) → run.
     → right_ending (Some (RunCart run)) files verdict ≡ accepted_ending run files verdict
 right_behind_cart run files verdict near accepted = right_near run files verdict near ∙ right_accepted (files run.rom) (accepted_ending run files verdict) accepted
 
--- behind both inputs
-right_run : (run : Run) (files : Files) (verdict : Verdict) → run.cycles ≤ last_cycle → HaveInputs run files → IsJudged run.recording files verdict
-    → (found : Inputs) × (right_ending (Some (RunCart run)) files verdict ≡ run_ending found run.cycles)
-right_run run files verdict near (inputs, are) judged =
-    let found = right_recorded run.recording files verdict inputs.recording
-    (λ recording. run_ending (record { cart = cart_of run.rom files; recording = recording }) run.cycles) are.recording judged in
-    (record { cart = cart_of run.rom files; recording = found.0 }, right_behind_cart run files verdict near are.accepted ∙ found.1)
+-- behind both inputs: the run begins somewhere
+record Found (run : Run) (files : Files) (verdict : Verdict) (at : ℕ) : Type 0 where
+  start : Start
+  at_is : start.at ≡ at
+  right : right_ending (Some (RunCart run)) files verdict ≡ run_ending start run.cycles
 
-pub right_behind : (run : Run) (files : Files) (verdict : Verdict) → run.cycles ≡ 0 → HaveInputs run files → IsJudged run.recording files verdict
-    → status_of (right_ending (Some (RunCart run)) files verdict) ≡ 9
-right_behind run files verdict zero have judged =
-    let found = right_run run files verdict (omega (arith, zero)) have judged in
-    ap status_of found.1
-    ∙ ap (λ (n : ℕ). status_of (cond (n == 0) Behind (Done (length (entries_to found.0 n)) (halted_in found.0 n)))) zero
+right_run : (run : Run) (files : Files) (verdict : Verdict) (start : Start) → run.cycles ≤ last_cycle → Begins run files start → IsJudged run.recording files verdict
+    → Found run files verdict start.at
+right_run run files verdict start near begins judged =
+    let found = right_recorded run.recording files verdict begins.inputs.recording
+    (λ recording. run_ending (powered_on (record { cart = cart_of run.rom files; recording = recording })) run.cycles) begins.are.recording judged in
+    record {
+      start = powered_on (record { cart = cart_of run.rom files; recording = found.0 });
+      at_is = sym (ap (λ (s : Start). s.at) begins.start_is);
+      right = right_behind_cart run files verdict near begins.are.accepted ∙ found.1;
+    }
 
-pub right_done : (run : Run) (files : Files) (verdict : Verdict) → IsEnd run.cycles → HaveInputs run files → IsJudged run.recording files verdict
-    → status_of (right_ending (Some (RunCart run)) files verdict) ≡ 0
-right_done run files verdict end have judged =
-    let found = right_run run files verdict end.1 have judged in
-    ap status_of found.1
-    ∙ ap (λ (b : Bool). status_of (cond b Behind (Done (length (entries_to found.0 run.cycles)) (halted_in found.0 run.cycles)))) (is_some_cycle run.cycles end.0)
+-- a run whose end is not above its start, and one whose end is
+ended_by : (b : Bool) (start : Start) (end : ℕ) → status_of (cond b (Behind start.at) (Done start.at (length (entries_from start end)) (halted_from start end))) ≡ cond b 9 0
+ended_by true start end = refl
+ended_by false start end = refl
+
+is_behind : (end at : ℕ) → end ≤ at → nat_le end at ≡ true
+is_behind end at behind = grind (arith, nat_tests)
+
+is_ahead : (end at : ℕ) → at < end → nat_le end at ≡ false
+is_ahead end at ahead = grind (arith, nat_tests)
+
+pub right_behind : (run : Run) (files : Files) (verdict : Verdict) (start : Start) → run.cycles ≤ last_cycle → run.cycles ≤ start.at → Begins run files start
+    → IsJudged run.recording files verdict → status_of (right_ending (Some (RunCart run)) files verdict) ≡ 9
+right_behind run files verdict start near behind begins judged =
+    let found = right_run run files verdict start near begins judged in
+    ap status_of found.right ∙ ended_by (nat_le run.cycles found.start.at) found.start run.cycles
+    ∙ ap (λ (b : Bool). cond b 9 0) (is_behind run.cycles found.start.at (omega (arith, behind, found.at_is)))
+
+pub right_done : (run : Run) (files : Files) (verdict : Verdict) (start : Start) → run.cycles ≤ last_cycle → start.at < run.cycles → Begins run files start
+    → IsJudged run.recording files verdict → status_of (right_ending (Some (RunCart run)) files verdict) ≡ 0
+right_done run files verdict start near ahead begins judged =
+    let found = right_run run files verdict start near begins judged in
+    ap status_of found.right ∙ ended_by (nat_le run.cycles found.start.at) found.start run.cycles
+    ∙ ap (λ (b : Bool). cond b 9 0) (is_ahead run.cycles found.start.at (omega (arith, ahead, found.at_is)))
 
 -- the inputs that there are have a verdict
 file_judged : (file : Option (List ℕ)) (recording : List Frame) → IsSomeAnd file (λ bytes. (length bytes ≤ recording_limit) × Spells bytes recording)

@@ -6,10 +6,10 @@ use Rattle.std.proofs.lemmas.Slice.Eq.{bytes_eq-Decides}
 use Rattle.rom_header.specs.Header.{header_lines}
 use Rattle.md_outer.specs.Outside.{DepotState, Files, Rose, SinkState, bytes_of, with_file}
 use Rattle.md_pads.specs.Recording.{GoesWrongAt, IsSpelled}
-use Rattle.md_top.specs.Answers.{Answers, Causes, PutsAll, PutsOutput, PutsPart, Reports}
+use Rattle.md_top.specs.Answers.{Answers, Causes, IsBehind, PutsAll, PutsOutput, PutsPart, Reports}
 use Rattle.md_top.specs.Inputs.{IsAccepted, IsJudged, IsMissing, Recorded, RecordingCause, Verdict, cart_of, recording_limit}
 use Rattle.md_top.specs.Limits.{last_cycle}
-use Rattle.md_top.specs.Runs.{pieces_of}
+use Rattle.md_top.specs.Runs.{pieces_of, powered_on}
 use Rattle.md_top.specs.Endings.{HasCause, InfoEnds, LeavesFiles, RunEnds, RunFiles, accepted_ending, file_ending, right_ending, run_ending, status_of, text_of}
 use Rattle.md_top.specs.Outputs.{LeavesParts, Parts, Pieces, all_of, nothing, with_part, written}
 use Rattle.md_words.specs.Words.{Command, Info, Run, RunCart}
@@ -28,7 +28,7 @@ put_output told text out out' status (inr part) = inr (part.0, part.1.rose)
 reported : (sink : Type 0) (command : Option Command) (ending : Ending) (out out' : SinkState) (status : ℕ) → Reports sink command ending out out' status
     → (status ≡ status_of ending) ⊎ ((status ≡ 13) × Rose out.faults out'.faults)
 reported sink command (Shown lines) out out' status reports = put_output sink (text_of command (Shown lines)) out out' status reports
-reported sink command (Done accesses halted) out out' status reports = put_output sink (text_of command (Done accesses halted)) out out' status reports
+reported sink command (Done from accesses halted) out out' status reports = put_output sink (text_of command (Done from accesses halted)) out out' status reports
 reported sink command _ out out' status reports = inl reports.0
 
 -- a status other than 13 is the ending's
@@ -96,11 +96,11 @@ run_wrong told run old new (RecordingWrong place) cause is = wrong_recording tol
 run_wrong told run old new _ cause is = absurd (omega (arith, is))
 
 info_behind : (told : Type 0) (rom : List ℕ) (old new : DepotState) (ending : Ending) → InfoEnds told rom old new ending → status_of ending ≡ 9 → ⊥
-info_behind told rom old new Behind cause is = absurd cause
+info_behind told rom old new (Behind from) cause is = absurd cause
 info_behind told rom old new _ cause is = absurd (omega (arith, is))
 
-run_behind : (told : Type 0) (run : Run) (old new : DepotState) (ending : Ending) → RunEnds told run old new ending → status_of ending ≡ 9 → run.cycles ≡ 0
-run_behind told run old new Behind cause is = cause.0
+run_behind : (told : Type 0) (run : Run) (old new : DepotState) (ending : Ending) → RunEnds told run old new ending → status_of ending ≡ 9 → IsBehind told run old.files
+run_behind told run old new (Behind from) (near, behind, may, cause) is = (from, may, behind, cause)
 run_behind told run old new _ cause is = absurd (omega (arith, is))
 
 info_write_fault : (told : Type 0) (rom : List ℕ) (old new : DepotState) (ending : Ending) → InfoEnds told rom old new ending → status_of ending ≡ 4 → Rose old.write_faults new.write_faults
@@ -119,7 +119,7 @@ run_write_fault told run old new _ cause is = absurd (omega (arith, is))
 far_only : (told sink : Type 0) (run : Run) (old new : DepotState) (out out' : SinkState) (status : ℕ) (ending : Ending)
     → RunEnds told run old new ending → Reports sink (Some (RunCart run)) ending out out' status → last_cycle < run.cycles → (status ≡ 11) ⊎ (status ≡ 10)
 far_only told sink run old new out out' status (Shown lines) cause reports far = absurd cause.1
-far_only told sink run old new out out' status (Done accesses halted) cause reports far = absurd (omega (arith, cause.0.1))
+far_only told sink run old new out out' status (Done from accesses halted) cause reports far = absurd (omega (arith, cause.0.1))
 far_only told sink run old new out out' status TooFar cause reports far = inl reports.0
 far_only told sink run old new out out' status FramesFault cause reports far = absurd (omega (arith, cause.0.1))
 far_only told sink run old new out out' status SoundFault cause reports far = absurd (omega (arith, cause.0.1))
@@ -148,7 +148,7 @@ run_recorded : (told : Type 0) (run : Run) (old new : DepotState) (verdict : Ver
     → RecordingCause told run.recording old new ending → IsJudged run.recording old.files verdict → ¬ Rose old.read_faults new.read_faults → told
     → (status_of ending ≡ status_of (right_ending (Some (RunCart run)) old.files verdict)) ⊎ (status_of ending ≡ 10)
 run_recorded told run old new verdict ending near accepted cause is clean t =
-    same (recording_right told run.recording old new verdict (λ recording. run_ending (record { cart = cart_of run.rom old.files; recording = recording }) run.cycles) ending cause is clean t)
+    same (recording_right told run.recording old new verdict (λ recording. run_ending (powered_on (record { cart = cart_of run.rom old.files; recording = recording })) run.cycles) ending cause is clean t)
   where
     same : (status_of ending ≡ status_of (accepted_ending run old.files verdict)) ⊎ (status_of ending ≡ 10)
         → (status_of ending ≡ status_of (right_ending (Some (RunCart run)) old.files verdict)) ⊎ (status_of ending ≡ 10)
@@ -158,10 +158,11 @@ run_recorded told run old new verdict ending near accepted cause is clean t =
 run_right : (told : Type 0) (run : Run) (old new : DepotState) (verdict : Verdict) (ending : Ending) → RunEnds told run old new ending
     → IsJudged run.recording old.files verdict → ¬ Rose old.read_faults new.read_faults → ¬ Rose old.write_faults new.write_faults → told
     → (status_of ending ≡ status_of (right_ending (Some (RunCart run)) old.files verdict)) ⊎ (status_of ending ≡ 10)
-run_right told run old new verdict (Done accesses halted) (end, cause) is reads writes t =
-    let found = cause t in inl (sym (right_done run old.files verdict end (found.0, found.1) is))
+run_right told run old new verdict (Done from accesses halted) (end, may, cause) is reads writes t =
+    let found = cause t in inl (sym (right_done run old.files verdict found.0 end.1 found.2 found.1 is))
 run_right told run old new verdict TooFar cause is reads writes t = inl (sym (ap status_of (right_far run old.files verdict cause)))
-run_right told run old new verdict Behind (zero, cause) is reads writes t = inl (sym (right_behind run old.files verdict zero (cause t) is))
+run_right told run old new verdict (Behind from) (near, behind, may, cause) is reads writes t =
+    let found = cause t in inl (sym (right_behind run old.files verdict found.0 near (omega (arith, behind, found.2)) found.1 is))
 run_right told run old new verdict FramesFault cause is reads writes t = absurd (writes cause.2.1)
 run_right told run old new verdict SoundFault cause is reads writes t = absurd (writes cause.2.1)
 run_right told run old new verdict JournalFault cause is reads writes t = absurd (writes cause.2.1)
@@ -223,14 +224,14 @@ parts_other run old new whole leaves name no_frames no_sound no_journal =
 
 leaves_other : (run : Run) (old new : Files) (ending : Ending) → RunFiles run old new ending
     → (name : List ℕ) → run.frames ≢ Some name → run.sound ≢ Some name → run.journal ≢ Some name → new name ≡ old name
-leaves_other run old new (Done accesses halted) (inputs, are, leaves) name no_frames no_sound no_journal =
-    ap (λ (files : Files). files name) leaves ∙ written_other run old (all_of (pieces_of inputs run.cycles)) name no_frames no_sound no_journal
-leaves_other run old new FramesFault (inputs, are, leaves) name no_frames no_sound no_journal =
-    parts_other run old new (pieces_of inputs run.cycles) leaves name no_frames no_sound no_journal
-leaves_other run old new SoundFault (inputs, are, leaves) name no_frames no_sound no_journal =
-    parts_other run old new (pieces_of inputs run.cycles) leaves name no_frames no_sound no_journal
-leaves_other run old new JournalFault (inputs, are, leaves) name no_frames no_sound no_journal =
-    parts_other run old new (pieces_of inputs run.cycles) leaves name no_frames no_sound no_journal
+leaves_other run old new (Done from accesses halted) (start, begins, leaves) name no_frames no_sound no_journal =
+    ap (λ (files : Files). files name) leaves ∙ written_other run old (all_of (pieces_of start run.cycles)) name no_frames no_sound no_journal
+leaves_other run old new FramesFault (start, begins, leaves) name no_frames no_sound no_journal =
+    parts_other run old new (pieces_of start run.cycles) leaves name no_frames no_sound no_journal
+leaves_other run old new SoundFault (start, begins, leaves) name no_frames no_sound no_journal =
+    parts_other run old new (pieces_of start run.cycles) leaves name no_frames no_sound no_journal
+leaves_other run old new JournalFault (start, begins, leaves) name no_frames no_sound no_journal =
+    parts_other run old new (pieces_of start run.cycles) leaves name no_frames no_sound no_journal
 leaves_other run old new Memory leaves name no_frames no_sound no_journal = parts_other run old new nothing leaves name no_frames no_sound no_journal
 leaves_other run old new _ leaves name no_frames no_sound no_journal = ap (λ (files : Files). files name) leaves
 
@@ -311,12 +312,13 @@ causes_of told sink (RunCart run) old new out out' status ending cause leaves re
           exact_is status (status_of ending) (status_of (right_ending (Some (RunCart run)) old.files verdict)) by clean.puts
           (run_right told run old new verdict ending cause is clean.reads clean.writes t);
       complete = λ clean t ready.
-          let verdict = Recorded ready.1.0.recording in
-          let is = judged run.recording old.files ready.1.0.recording ready.1.1.recording in
+          let begins = ready.1.1 in
+          let verdict = Recorded begins.inputs.recording in
+          let is = judged run.recording old.files begins.inputs.recording begins.are.recording in
           ready_ends status (status_of (right_ending (Some (RunCart run)) old.files verdict))
           (exact_is status (status_of ending) (status_of (right_ending (Some (RunCart run)) old.files verdict)) by clean.puts
           (run_right told run old new verdict ending cause is clean.reads clean.writes t))
-          (right_done run old.files verdict ready.0 ready.1 is);
+          (right_done run old.files verdict ready.1.0 ready.0.1 ready.1.2 begins is);
       others = λ t. leaves_other run old.files new.files ending (leaves t);
     }
 

@@ -1,10 +1,11 @@
 -- What a call of the program answers.
 use Rattle.std.specs.Prelude.{◌≡◌, ◌≢◌, ◌⊎◌, ℕ, ◌<◌, ◌≤◌, List, ◌++◌, Option, Some, None, IsSomeAnd, IfSome, option_and_then}
-use Rattle.md_outer.specs.Outside.{DepotState, IsPrefix, Rose, SinkState, bytes_of}
+use Rattle.md_outer.specs.Outside.{DepotState, Files, IsPrefix, Rose, SinkState, bytes_of}
 use Rattle.md_pads.specs.Recording.{IsSpelled}
-use Rattle.md_top.specs.Inputs.{IsJudged, IsMissing, Verdict}
+use Rattle.md_top.specs.Inputs.{Begins, IsJudged, IsMissing, MayBeginAt, Verdict}
 use Rattle.md_top.specs.Limits.{last_cycle}
-use Rattle.md_words.specs.Words.{Command, frames_name, journal_name, recording_name, run_in, sound_name}
+use Rattle.md_machine.specs.Starts.{Start}
+use Rattle.md_words.specs.Words.{Command, Run, frames_name, journal_name, recording_name, run_in, sound_name}
 use Rattle.md_top.specs.Endings.{HasCause, IsReady, LeavesFiles, right_ending, status_of, text_of}
 use Rattle.md_top.specs.declared.ending.Ending.{Ending}
 use Rattle.md_top.specs.declared.ending.Ending.TheVariants.{Done, Shown}
@@ -26,7 +27,7 @@ PutsOutput told text old new status = ((status ≡ 0) × PutsAll told text old n
 -- the status, and what was put: a sink that fails changes the status of a command that ended well alone
 abbrev pub Reports : Type 0 → Option Command → Ending → SinkState → SinkState → ℕ → Type 0
 Reports told command (Shown lines) old new status = PutsOutput told (text_of command (Shown lines)) old new status
-Reports told command (Done accesses halted) old new status = PutsOutput told (text_of command (Done accesses halted)) old new status
+Reports told command (Done from accesses halted) old new status = PutsOutput told (text_of command (Done from accesses halted)) old new status
 Reports told command ending old new status =
     (status ≡ status_of ending) × (PutsAll told (text_of command ending) old new ⊎ PutsPart told (text_of command ending) old new)
 
@@ -43,6 +44,11 @@ pub record NoFaults (old new : DepotState) (out out' : SinkState) : Type 0 where
   pub writes : ¬ Rose old.write_faults new.write_faults
   pub puts : ¬ Rose out.faults out'.faults
 
+-- the end of a run is not above the cycle at which it begins
+abbrev pub IsBehind : Type 0 → Run → Files → Type 0
+IsBehind told run files =
+    (from : ℕ) × MayBeginAt run from × (run.cycles ≤ from) × (told → (start : Start) × Begins run files start × (from ≡ start.at))
+
 -- The same, answer by answer.
 pub record Causes (depot_told : Type 0) (command : Option Command) (old new : DepotState) (out out' : SinkState) (status : ℕ) : Type 0 where
   pub usage : status ≡ 2 → command ≡ None
@@ -51,7 +57,7 @@ pub record Causes (depot_told : Type 0) (command : Option Command) (old new : De
   pub far_refused : IsSomeAnd (option_and_then run_in command) (λ run. last_cycle < run.cycles) → (status ≡ 11) ⊎ (status ≡ 10)
   pub read_fault : status ≡ 3 → Rose old.read_faults new.read_faults ⊎ (depot_told × IsSomeAnd command (λ asked. IsMissing asked old.files))
   pub wrong : status ≡ 6 → IsSomeAnd (option_and_then recording_name command) (λ name. depot_told → ¬ IsSpelled (bytes_of old.files name))
-  pub behind : status ≡ 9 → IsSomeAnd (option_and_then run_in command) (λ run. run.cycles ≡ 0)
+  pub behind : status ≡ 9 → IsSomeAnd (option_and_then run_in command) (λ run. IsBehind depot_told run old.files)
   pub write_fault : status ≡ 4 → Rose old.write_faults new.write_faults
   pub out_fault : status ≡ 13 → Rose out.faults out'.faults
   -- each refusal comes exactly where it should, in this order; want of memory may come between

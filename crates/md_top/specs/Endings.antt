@@ -1,24 +1,24 @@
 -- What a command line can come to: its status, what is put, why it comes, and what the files hold
 -- then.
-use Rattle.std.specs.Prelude.{◌≡◌, ℕ, ◌+◌, ◌-◌, ◌*◌, ◌/◌, ◌%◌, ◌<◌, ◌≤◌, ◌==◌, nat_lt, if◌then◌else◌, List, [], ◌++◌, length, codes, decimal, Option, Some, None, unwrap_or}
+use Rattle.std.specs.Prelude.{◌≡◌, ℕ, ◌+◌, ◌-◌, ◌*◌, ◌/◌, ◌%◌, ◌<◌, ◌≤◌, nat_le, nat_lt, if◌then◌else◌, List, [], ◌++◌, length, codes, decimal, Option, Some, None, unwrap_or}
 use Rattle.rom_header.specs.Cartridge.{fault_of}
 use Rattle.rom_header.specs.Header.{header_lines}
 use Rattle.rom_header.specs.declared.cart.CartFault.{CartFault}
 use Rattle.md_outer.specs.Outside.{DepotState, Files}
 use Rattle.md_pads.specs.Recording.{Frame}
-use Rattle.md_top.specs.Inputs.{AreInputs, CartCause, HaveInputs, InputCause, IsAccepted, Recorded, Verdict, WrongAt, cart_limit, cart_of, recording_limit, refusal_of}
+use Rattle.md_machine.specs.Starts.{Start}
+use Rattle.md_top.specs.Inputs.{Begins, CanRun, CartCause, InputCause, IsAccepted, MayBeginAt, Recorded, Verdict, WrongAt, cart_limit, cart_of, recording_limit, refusal_of}
 use Rattle.md_top.specs.Limits.{IsEnd, last_cycle}
-use Rattle.md_top.specs.Runs.{entries_to, halted_in, pieces_of, pieces_until}
+use Rattle.md_top.specs.Runs.{entries_from, halted_from, pieces_of, pieces_until, powered_on}
 use Rattle.md_top.specs.Outputs.{Holds, IsUnwritten, LeavesParts, nothing}
 use Rattle.md_words.specs.Words.{Command, Info, Run, RunCart, end_of, frames_name, journal_name, recording_name, rom_of, sound_name}
 use Rattle.md_top.specs.declared.ending.Ending.{Ending}
 use Rattle.md_top.specs.declared.ending.Ending.TheVariants.{Shown, Done, Usage, TooFar, ReadFault, TooLong, Short, NoMark, RecordingFault, RecordingTooLong, RecordingWrong, Behind, FramesFault, SoundFault, JournalFault, Memory}
-use Rattle.md_top.specs.declared.inputs.Inputs.{Inputs}
 
 -- the status that the program ends with
 abbrev pub status_of : Ending → ℕ
 status_of (Shown lines) = 0
-status_of (Done accesses halted) = 0
+status_of (Done from accesses halted) = 0
 status_of Usage = 2
 status_of ReadFault = 3
 status_of RecordingFault = 3
@@ -28,23 +28,35 @@ status_of JournalFault = 4
 status_of Short = 5
 status_of NoMark = 5
 status_of (RecordingWrong place) = 6
-status_of Behind = 9
+status_of (Behind from) = 9
 status_of Memory = 10
 status_of TooFar = 11
 status_of TooLong = 14
 status_of RecordingTooLong = 14
 
--- the frames that a run finishes: one in each 896040 cycles, and one more behind the start of line 224
+-- the frames that are finished below a cycle: one in each 896040 cycles, and one more behind the start
+-- of line 224
 abbrev pub count_of_frames : ℕ → ℕ
 count_of_frames cycles = cycles / 896040 + (if nat_lt 766080 (cycles % 896040) then 1 else 0)
 
--- the pairs of a run: 16 for each multiple of 16128 from 16128 on that lies below its end
+-- the pairs that are made below a cycle: 16 for each multiple of 16128 from 16128 on that lies below it
 abbrev pub pairs_of : ℕ → ℕ
 pairs_of cycles = 16 * ((cycles - 1) / 16128)
+
+-- those of a run are finished or made below its end, and not below its start
+abbrev pub frames_between : ℕ → ℕ → ℕ
+frames_between from end = count_of_frames end - count_of_frames from
+
+abbrev pub pairs_between : ℕ → ℕ → ℕ
+pairs_between from end = pairs_of end - pairs_of from
 
 -- a line of a word and a number
 abbrev pub number_line : List ℕ → ℕ → List ℕ
 number_line word number = word ++ decimal number ++ codes "\n"
+
+-- a line of two words, each with a number
+abbrev pub numbers_line : List ℕ → ℕ → List ℕ → ℕ → List ℕ
+numbers_line word number second other = (word ++ decimal number) ++ number_line second other
 
 -- the line of a 68000 that is halted: the start of the instruction or exception that halted it
 abbrev pub halted_line : Option ℕ → List ℕ
@@ -52,19 +64,19 @@ halted_line None = []
 halted_line (Some since) = number_line (codes "halted at ") since
 
 -- how far a run went, and how much it made
-abbrev pub counts_of : ℕ → ℕ → List ℕ
-counts_of end accesses =
-    (number_line (codes "cycles 0 to ") end ++ number_line (codes "frames ") (count_of_frames end))
-    ++ (number_line (codes "samples ") (pairs_of end) ++ number_line (codes "accesses ") accesses)
+abbrev pub counts_of : ℕ → ℕ → ℕ → List ℕ
+counts_of from end accesses =
+    (numbers_line (codes "cycles ") from (codes " to ") end ++ number_line (codes "frames ") (frames_between from end))
+    ++ (number_line (codes "samples ") (pairs_between from end) ++ number_line (codes "accesses ") accesses)
 
--- what a run to a cycle puts that ends well
-abbrev pub lines_of : ℕ → ℕ → Option ℕ → List ℕ
-lines_of end accesses halted = counts_of end accesses ++ halted_line halted
+-- what a run from a cycle to another puts that ends well
+abbrev pub lines_of : ℕ → ℕ → ℕ → Option ℕ → List ℕ
+lines_of from end accesses halted = counts_of from end accesses ++ halted_line halted
 
 -- what is put: the output, or the one line of a refusal
 abbrev pub text_of : Option Command → Ending → List ℕ
 text_of (Some command) (Shown lines) = lines
-text_of (Some command) (Done accesses halted) = lines_of (end_of command) accesses halted
+text_of (Some command) (Done from accesses halted) = lines_of from (end_of command) accesses halted
 text_of (Some command) TooFar = codes "refused: cycle " ++ decimal (end_of command) ++ codes " is too far\n"
 text_of (Some command) ReadFault = codes "fault: reading " ++ rom_of command ++ codes "\n"
 text_of (Some command) TooLong = codes "refused: " ++ rom_of command ++ codes " is too long\n"
@@ -73,22 +85,23 @@ text_of (Some command) NoMark = codes "refused: cartridge: no mark\n"
 text_of (Some command) RecordingFault = codes "fault: reading " ++ unwrap_or (recording_name command) [] ++ codes "\n"
 text_of (Some command) RecordingTooLong = codes "refused: " ++ unwrap_or (recording_name command) [] ++ codes " is too long\n"
 text_of (Some command) (RecordingWrong place) = codes "refused: recording at " ++ decimal place ++ codes "\n"
-text_of (Some command) Behind = codes "refused: cycle " ++ decimal (end_of command) ++ codes " is not above 0\n"
+text_of (Some command) (Behind from) = numbers_line (codes "refused: cycle ") (end_of command) (codes " is not above ") from
 text_of (Some command) FramesFault = codes "fault: writing " ++ unwrap_or (frames_name command) [] ++ codes "\n"
 text_of (Some command) SoundFault = codes "fault: writing " ++ unwrap_or (sound_name command) [] ++ codes "\n"
 text_of (Some command) JournalFault = codes "fault: writing " ++ unwrap_or (journal_name command) [] ++ codes "\n"
 text_of command Memory = codes "refused: memory\n"
 text_of command ending = codes "refused: usage\n"
 
--- the inputs are there, and a run's end lies within the limits
+-- the inputs are there, and a run's end lies above its start and within the limits
 abbrev pub IsReady : Command → Files → Type 0
 IsReady (Info rom) files = IsAccepted (files rom)
-IsReady (RunCart run) files = IsEnd run.cycles × HaveInputs run files
+IsReady (RunCart run) files = IsEnd run.cycles × CanRun run files
 
--- why the run of these inputs ends, once it has begun
-abbrev pub RunCause : Inputs → Run → DepotState → DepotState → Ending → Type 0
-RunCause inputs run old new (Done accesses halted) = (accesses ≡ length (entries_to inputs run.cycles)) × (halted ≡ halted_in inputs run.cycles)
-RunCause inputs run old new ending = IsUnwritten run old new ending
+-- why a run from a start ends, once it has begun
+abbrev pub RunCause : Start → Run → DepotState → DepotState → Ending → Type 0
+RunCause start run old new (Done from accesses halted) =
+    (from ≡ start.at) × (accesses ≡ length (entries_from start run.cycles)) × (halted ≡ halted_from start run.cycles)
+RunCause start run old new ending = IsUnwritten run old new ending
 
 -- Why each may come. What a file holds is spoken of where the depot tells it. Each cause says that
 -- the earlier ones do not stand.
@@ -102,12 +115,15 @@ InfoEnds told rom old new ending = CartCause told rom old new ending
 abbrev pub RunEnds : Type 0 → Run → DepotState → DepotState → Ending → Type 0
 RunEnds told run old new Memory = Unit {0}
 RunEnds told run old new TooFar = last_cycle < run.cycles
-RunEnds told run old new Behind = (run.cycles ≡ 0) × (told → HaveInputs run old.files)
-RunEnds told run old new (Done accesses halted) =
-    IsEnd run.cycles × (told → (inputs : Inputs) × AreInputs run old.files inputs × RunCause inputs run old new (Done accesses halted))
-RunEnds told run old new FramesFault = IsEnd run.cycles × (told → HaveInputs run old.files) × IsUnwritten run old new FramesFault
-RunEnds told run old new SoundFault = IsEnd run.cycles × (told → HaveInputs run old.files) × IsUnwritten run old new SoundFault
-RunEnds told run old new JournalFault = IsEnd run.cycles × (told → HaveInputs run old.files) × IsUnwritten run old new JournalFault
+RunEnds told run old new (Behind from) =
+    (run.cycles ≤ last_cycle) × (run.cycles ≤ from) × MayBeginAt run from
+    × (told → (start : Start) × Begins run old.files start × (from ≡ start.at))
+RunEnds told run old new (Done from accesses halted) =
+    IsEnd run.cycles × MayBeginAt run from
+    × (told → (start : Start) × Begins run old.files start × (start.at < run.cycles) × RunCause start run old new (Done from accesses halted))
+RunEnds told run old new FramesFault = IsEnd run.cycles × (told → CanRun run old.files) × IsUnwritten run old new FramesFault
+RunEnds told run old new SoundFault = IsEnd run.cycles × (told → CanRun run old.files) × IsUnwritten run old new SoundFault
+RunEnds told run old new JournalFault = IsEnd run.cycles × (told → CanRun run old.files) × IsUnwritten run old new JournalFault
 RunEnds told run old new ending = (run.cycles ≤ last_cycle) × InputCause told run old new ending
 
 abbrev pub HasCause : Type 0 → Option Command → DepotState → DepotState → Ending → Type 0
@@ -117,29 +133,29 @@ HasCause told None old new ending = ⊥
 HasCause told (Some (Info rom)) old new ending = InfoEnds told rom old new ending
 HasCause told (Some (RunCart run)) old new ending = RunEnds told run old new ending
 
--- the outputs hold what the run of these inputs made below a cycle
-abbrev pub HoldsUntil : Inputs → Run → Files → Files → ℕ → Type 0
-HoldsUntil inputs run old new at = Holds run old new (pieces_until inputs run.cycles at)
+-- the outputs hold what the run from a start made below a cycle
+abbrev pub HoldsUntil : Start → Run → Files → Files → ℕ → Type 0
+HoldsUntil start run old new at = Holds run old new (pieces_until start run.cycles at)
 
--- what the files hold once the run of these inputs has ended
-abbrev pub RunLeaves : Inputs → Run → Files → Files → Ending → Type 0
-RunLeaves inputs run old new (Done accesses halted) = HoldsUntil inputs run old new run.cycles
-RunLeaves inputs run old new FramesFault = LeavesParts run old new (pieces_of inputs run.cycles)
-RunLeaves inputs run old new SoundFault = LeavesParts run old new (pieces_of inputs run.cycles)
-RunLeaves inputs run old new JournalFault = LeavesParts run old new (pieces_of inputs run.cycles)
-RunLeaves inputs run old new Memory = LeavesParts run old new nothing
-RunLeaves inputs run old new ending = new ≡ old
+-- what the files hold once the run from a start has ended
+abbrev pub RunLeaves : Start → Run → Files → Files → Ending → Type 0
+RunLeaves start run old new (Done from accesses halted) = HoldsUntil start run old new run.cycles
+RunLeaves start run old new FramesFault = LeavesParts run old new (pieces_of start run.cycles)
+RunLeaves start run old new SoundFault = LeavesParts run old new (pieces_of start run.cycles)
+RunLeaves start run old new JournalFault = LeavesParts run old new (pieces_of start run.cycles)
+RunLeaves start run old new Memory = LeavesParts run old new nothing
+RunLeaves start run old new ending = new ≡ old
 
--- what the files hold once a run has ended that found its inputs in them
-abbrev pub InputsLeave : Run → Files → Files → Ending → Type 0
-InputsLeave run old new ending = (inputs : Inputs) × AreInputs run old inputs × RunLeaves inputs run old new ending
+-- what the files hold once a run has ended that found its start in them
+abbrev pub StartLeaves : Run → Files → Files → Ending → Type 0
+StartLeaves run old new ending = (start : Start) × Begins run old start × RunLeaves start run old new ending
 
 -- what the files hold once a run has ended, or was refused
 abbrev pub RunFiles : Run → Files → Files → Ending → Type 0
-RunFiles run old new (Done accesses halted) = InputsLeave run old new (Done accesses halted)
-RunFiles run old new FramesFault = InputsLeave run old new FramesFault
-RunFiles run old new SoundFault = InputsLeave run old new SoundFault
-RunFiles run old new JournalFault = InputsLeave run old new JournalFault
+RunFiles run old new (Done from accesses halted) = StartLeaves run old new (Done from accesses halted)
+RunFiles run old new FramesFault = StartLeaves run old new FramesFault
+RunFiles run old new SoundFault = StartLeaves run old new SoundFault
+RunFiles run old new JournalFault = StartLeaves run old new JournalFault
 RunFiles run old new Memory = LeavesParts run old new nothing
 RunFiles run old new ending = new ≡ old
 
@@ -177,13 +193,15 @@ recorded_ending None files verdict ready = ready []
 recorded_ending (Some name) files verdict ready = recording_ending (files name) verdict ready
 
 -- behind the inputs of a run
-abbrev pub run_ending : Inputs → ℕ → Ending
-run_ending inputs end = if end == 0 then Behind else Done (length (entries_to inputs end)) (halted_in inputs end)
+abbrev pub run_ending : Start → ℕ → Ending
+run_ending start end =
+    if nat_le end start.at then Behind start.at else Done start.at (length (entries_from start end)) (halted_from start end)
 
 -- behind the accepted cartridge of a run
 abbrev pub accepted_ending : Run → Files → Verdict → Ending
 accepted_ending run files verdict =
-    recorded_ending run.recording files verdict (λ recording. run_ending (record { cart = cart_of run.rom files; recording = recording }) run.cycles)
+    recorded_ending run.recording files verdict
+    (λ recording. run_ending (powered_on (record { cart = cart_of run.rom files; recording = recording })) run.cycles)
 
 -- what a command line comes to, with these files and this verdict on the recording that it names
 abbrev pub right_ending : Option Command → Files → Verdict → Ending

@@ -13,6 +13,6 @@ segment_cycles = 896040
 abbrev pub segment_end : ℕ → ℕ → ℕ
 segment_end at end = min (at + segment_cycles) end
 
--- a run that begins at power-on may end at the cycle
+-- a run may end at the cycle, wherever below it begins
 abbrev pub IsEnd : ℕ → Type 0
 IsEnd end = (1 ≤ end) × (end ≤ last_cycle)

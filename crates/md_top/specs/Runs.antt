@@ -1,65 +1,67 @@
--- A run of the machine from power-on, which always moves the chip of least key.
-use Rattle.std.specs.Prelude.{ℕ, ◌+◌, ◌^◌, ◌≤◌, nat_le, Bool, List, ◌++◌, length, Option}
+-- A run of the machine from a start, which always moves the chip of least key.
+use Rattle.std.specs.Prelude.{ℕ, ◌+◌, ◌-◌, ◌^◌, ◌≤◌, nat_le, Bool, List, ◌++◌, length, Option}
 use Rattle.md_word.specs.declared.event.Entry.{Entry}
 use Rattle.md_files.specs.Wav.{wav_head}
 use Rattle.md_machine.specs.Console.{AllBelow, Console, journal, key_in, media, mover, power_on, ran}
 use Rattle.md_machine.specs.Media.{Media}
 use Rattle.md_machine.specs.Outputs.{frames_bytes, journal_bytes, sound_bytes}
+use Rattle.md_machine.specs.Starts.{Start}
 use Rattle.md_top.specs.Least.{least}
 use Rattle.md_top.specs.Outputs.{Pieces}
 use Rattle.md_top.specs.declared.inputs.Inputs.{Inputs}
 
--- the machine at power-on, with the cartridge and the recording of a run
-abbrev pub started : Inputs → Console
-started inputs = power_on inputs.cart inputs.recording
+-- power-on, with the cartridge and the recording of a run
+abbrev pub powered_on : Inputs → Start
+powered_on inputs = record { at = 0; console = power_on inputs.cart inputs.recording }
 
 -- no next event stands below the cycle: the least one does not
 abbrev pub is_quiet : ℕ → Console → Bool
 is_quiet end machine = nat_le end (key_in machine (mover machine)).cycle
 
--- How many moves make all events below the cycle: the least number that leaves none. There are
--- never more such events than cycles and chips.
-unfoldable pub moves_to : Inputs → ℕ → ℕ
-moves_to inputs end = least (λ n. is_quiet end (ran (started inputs) n)) (end + 5)
+-- How many moves make all events below the cycle: the least number that leaves none. From a start
+-- there are never more such events than cycles and chips.
+unfoldable pub moves_from : Start → ℕ → ℕ
+moves_from start end = least (λ n. is_quiet end (ran start.console n)) (end - start.at + 5)
 
 -- the machine after all events below the cycle
-abbrev pub run_to : Inputs → ℕ → Console
-run_to inputs end = ran (started inputs) (moves_to inputs end)
+abbrev pub run_from : Start → ℕ → Console
+run_from start end = ran start.console (moves_from start end)
 
 -- the start of the instruction or exception that halted the 68000 below the cycle, if one did
-unfoldable pub halted_in : Inputs → ℕ → Option ℕ
-halted_in inputs end = (run_to inputs end).main.halted
+unfoldable pub halted_from : Start → ℕ → Option ℕ
+halted_from start end = (run_from start end).main.halted
 
--- the entries of the accesses below the cycle
-unfoldable pub entries_to : Inputs → ℕ → List Entry
-entries_to inputs end = journal (started inputs) (moves_to inputs end)
+-- the entries of the accesses from the start on that stand below the cycle
+unfoldable pub entries_from : Start → ℕ → List Entry
+entries_from start end = journal start.console (moves_from start end)
 
--- the frames that were finished below the cycle, and the samples of the sound chips
-unfoldable pub media_to : Inputs → ℕ → Media
-media_to inputs end = media (started inputs) (moves_to inputs end)
+-- the frames that were finished from the start on and below the cycle, and the samples of the sound
+-- chips
+unfoldable pub media_from : Start → ℕ → Media
+media_from start end = media start.console (moves_from start end)
 
 -- the sound file of a run to the cycle `end`, as far as the cycle `at`: a head for all samples of
 -- the run, and the pairs of those below `at`
-unfoldable pub sound_until : Inputs → ℕ → ℕ → List ℕ
-sound_until inputs end at = wav_head (length (media_to inputs end).levels) ++ sound_bytes (media_to inputs at)
+unfoldable pub sound_until : Start → ℕ → ℕ → List ℕ
+sound_until start end at = wav_head (length (media_from start end).levels) ++ sound_bytes (media_from start at)
 
 -- the frames file of a run to the cycle
-unfoldable pub frames_to : Inputs → ℕ → List ℕ
-frames_to inputs end = frames_bytes (media_to inputs end).frames
+unfoldable pub frames_to : Start → ℕ → List ℕ
+frames_to start end = frames_bytes (media_from start end).frames
 
 -- the journal of a run to the cycle
-unfoldable pub journal_of : Inputs → ℕ → List ℕ
-journal_of inputs end = journal_bytes (entries_to inputs end)
+unfoldable pub journal_to : Start → ℕ → List ℕ
+journal_to start end = journal_bytes (entries_from start end)
 
 -- the outputs of a run to the cycle `end`, as far as the cycle `at`
-abbrev pub pieces_until : Inputs → ℕ → ℕ → Pieces
-pieces_until inputs end at =
-    record { frames = frames_to inputs at; sound = sound_until inputs end at; journal = journal_of inputs at }
+abbrev pub pieces_until : Start → ℕ → ℕ → Pieces
+pieces_until start end at =
+    record { frames = frames_to start at; sound = sound_until start end at; journal = journal_to start at }
 
 -- the outputs of a run to the cycle
-abbrev pub pieces_of : Inputs → ℕ → Pieces
-pieces_of inputs end = pieces_until inputs end end
+abbrev pub pieces_of : Start → ℕ → Pieces
+pieces_of start end = pieces_until start end end
 
--- there are never more events below a cycle than cycles and chips
-abbrev pub FewEvents : Inputs → Type 0
-FewEvents inputs = (end n : ℕ) → end ≤ 2 ^ 50 → AllBelow (started inputs) end n → n ≤ end + 5
+-- from the start on there are never more events below a cycle than cycles up to it, and chips
+abbrev pub FewEvents : Start → Type 0
+FewEvents start = (end n : ℕ) → end ≤ 2 ^ 50 → AllBelow start.console end n → n ≤ end - start.at + 5

@@ -5,9 +5,15 @@ use crate::text::Text;
 pub(crate) enum Ending {
     /// The lines of a cartridge's header.
     Shown(Text),
-    /// The run ended well, with so many accesses. Where the 68000 is halted, the start of what
-    /// halted it.
-    Done(u64, Option<u64>),
+    /// The run ended well.
+    Done {
+        /// The cycle at which it began.
+        from: u64,
+        /// How many accesses were made.
+        accesses: u64,
+        /// Where the 68000 is halted, the start of what halted it.
+        halted: Option<u64>,
+    },
     /// The words ask for nothing that there is.
     Usage,
     /// The run's end lies behind the last cycle.
@@ -26,8 +32,8 @@ pub(crate) enum Ending {
     RecordingTooLong,
     /// The recording's file spells no recording, and goes wrong at this byte.
     RecordingWrong(u64),
-    /// The run's end is not above the cycle at which it begins.
-    Behind,
+    /// The run's end is not above this cycle, at which it begins.
+    Behind(u64),
     /// The frames file could not be written.
     FramesFault,
     /// The sound file could not be written.

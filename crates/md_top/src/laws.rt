@@ -1,40 +1,42 @@
 //! Laws of the definitions that the contracts cite, each on a call that does nothing else.
-ghost use Rattle.std.specs.Prelude.{◌≡◌, ◌≤◌, ◌<◌, ◌^◌, true, length};
-ghost use Rattle.md_top.specs.Endings.{count_of_frames, pairs_of};
+ghost use Rattle.std.specs.Prelude.{◌≡◌, ◌<◌, ◌^◌, true, length};
+ghost use Rattle.md_machine.specs.Starts.{IsStart};
+ghost use Rattle.md_top.specs.Courses.{start_at};
+ghost use Rattle.md_top.specs.Endings.{frames_between, pairs_between};
 ghost use Rattle.md_top.specs.Inputs.{IsVerdict, Verdict};
-ghost use Rattle.md_top.specs.Runs.{is_quiet, media_to, run_to};
+ghost use Rattle.md_top.specs.Runs.{is_quiet, media_from, run_from};
 
-use md_machine::laws;
+use md_machine::{Machine, laws};
 use md_pads::Recording;
-use rom_header::Cart;
 use std::alloc::Global;
 
-/// The machine of a cartridge and a recording after a run to the cycle `end` has no event left below
-/// it.
-pub fn run_is_complete(cart: &Cart, recording: &Recording, end: u64)
+/// A machine after a run from where it is to the cycle `end` has no event left below it.
+pub fn run_is_complete(machine: &Machine, end: u64)
     requires { end < 2 ^ 40 }
-    ensures { is_quiet end (run_to (record { cart = cart.now; recording = recording.now }) end) ≡ true }
+    ensures { is_quiet end (run_from (start_at machine.now) end) ≡ true }
 {
-    laws::few_events(cart);
+    laws::few_events(machine);
 }
 
-/// A run to the cycle `end` has 16 pairs for each multiple of 16,128 cycles below it, from the
-/// first on.
-pub fn pairs_are_counted(cart: &Cart, recording: &Recording, end: u64)
-    requires some { 1 ≤ end }
+/// A run from where a machine is to the cycle `end` has 16 pairs for each multiple of 16,128 cycles
+/// between the two and below the end, from the first on.
+pub fn pairs_are_counted(machine: &Machine, end: u64)
+    requires start { IsStart (start_at machine.now) }
     requires near { end < 2 ^ 40 }
-    ensures { length (media_to (record { cart = cart.now; recording = recording.now }) end).levels ≡ pairs_of end }
+    ensures { length (media_from (start_at machine.now) end).levels ≡ pairs_between machine.now.at end }
 {
-    laws::few_events(cart);
+    laws::few_events(machine);
     laws::samples_counted();
 }
 
-/// A run to the cycle `end` has a frame for each start of a line 224 below it.
-pub fn frames_are_counted(cart: &Cart, recording: &Recording, end: u64)
-    requires { end < 2 ^ 40 }
-    ensures { length (media_to (record { cart = cart.now; recording = recording.now }) end).frames ≡ count_of_frames end }
+/// A run from where a machine is to the cycle `end` has a frame for each start of a line 224 between
+/// the two and below the end.
+pub fn frames_are_counted(machine: &Machine, end: u64)
+    requires start { IsStart (start_at machine.now) }
+    requires near { end < 2 ^ 40 }
+    ensures { length (media_from (start_at machine.now) end).frames ≡ frames_between machine.now.at end }
 {
-    laws::few_events(cart);
+    laws::few_events(machine);
     laws::frames_counted();
 }
 

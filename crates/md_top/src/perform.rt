@@ -70,11 +70,13 @@ fn run_cart<F: Fn(&mut Machine, u64), D: Depot>(
         Ok(inputs) => inputs,
         Err(ending) => return ending,
     };
-    if run.cycles == 0 {
-        return Ending::Behind;
+    let course = match power_on(alloc, inputs) {
+        Ok(course) => course,
+        Err(NoMemory) => return Ending::Memory,
+    };
+    let from = course.machine.at();
+    if run.cycles <= from {
+        return Ending::Behind(from);
     }
-    match power_on(alloc, inputs) {
-        Ok(course) => write_all(alloc, go_on, run, depot, course),
-        Err(NoMemory) => Ending::Memory,
-    }
+    write_all(alloc, go_on, run, depot, course)
 }

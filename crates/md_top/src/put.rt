@@ -4,7 +4,7 @@ ghost use Rattle.md_outer.specs.Outside.{PutsText};
 use md_outer::{Failed, Sink};
 
 /// Puts a text and bytes behind it.
-fn put_two<S: Sink>(out: &mut S, first: &str, second: &[u8]) -> Result<(), Failed>
+pub(crate) fn put_two<S: Sink>(out: &mut S, first: &str, second: &[u8]) -> Result<(), Failed>
     ensures { PutsText S.told (first.now ++ second.now) (S.state out.old) (S.state out.new) result }
 {
     match out.put(first.as_bytes()) {

@@ -2,12 +2,12 @@ ghost use Rattle.std.specs.Prelude.{◌≡◌, ◌⊎◌, ◌++◌, [], Some, On
 ghost use Rattle.std.specs.Option.{option_copied};
 ghost use Rattle.md_outer.specs.Outside.{PutsText};
 ghost use Rattle.md_top.specs.Answers.{PutsAll, PutsOutput, PutsPart, Reports};
-ghost use Rattle.md_top.specs.Endings.{counts_of, halted_line, lines_of, number_line};
+ghost use Rattle.md_top.specs.Endings.{counts_of, frames_between, halted_line, lines_of, number_line, numbers_line};
 ghost use Rattle.md_words.specs.Shown.{shown_command};
 
 use crate::ending::Ending;
-use crate::put::put_three;
-use crate::run_on::{count_frames, count_pairs};
+use crate::put::{put_three, put_two};
+use crate::run_on::{frames_between, pairs_between};
 use itoa::Buffer;
 use md_outer::{Failed, Sink};
 use md_words::CommandWords;
@@ -18,12 +18,11 @@ pub(crate) fn report<S: Sink>(command: &CommandWords<'_>, ending: Ending, out: &
 {
     match ending {
         Ending::Shown(lines) => status_of(out.put(lines.bytes())),
-        Ending::Done(accesses, halted) => status_of(put_lines(
-            out,
-            command.end(),
+        Ending::Done {
+            from,
             accesses,
             halted,
-        )),
+        } => status_of(put_lines(out, from, command.end(), accesses, halted)),
         Ending::Usage => refuse(out, 2, "refused: usage\n", "", ""),
         Ending::TooFar => refuse_cycle(out, 11, command.end(), " is too far\n"),
         Ending::ReadFault => refuse(out, 3, "fault: reading ", command.rom(), "\n"),
@@ -39,7 +38,7 @@ pub(crate) fn report<S: Sink>(command: &CommandWords<'_>, ending: Ending, out: &
             " is too long\n",
         ),
         Ending::RecordingWrong(place) => refuse_place(out, place),
-        Ending::Behind => refuse_cycle(out, 9, command.end(), " is not above 0\n"),
+        Ending::Behind(from) => refuse_behind(out, command.end(), from),
         Ending::FramesFault => refuse_file(out, 4, "fault: writing ", command.frames(), "\n"),
         Ending::SoundFault => refuse_file(out, 4, "fault: writing ", command.sound(), "\n"),
         Ending::JournalFault => refuse_file(out, 4, "fault: writing ", command.journal(), "\n"),
@@ -79,6 +78,16 @@ fn refuse_cycle<S: Sink>(out: &mut S, status: u8, cycle: u64, why: &str) -> u8
     refuse(out, status, "refused: cycle ", digits.format(cycle), why)
 }
 
+/// Refuses the end of a run that is not above the cycle at which it begins.
+fn refuse_behind<S: Sink>(out: &mut S, end: u64, from: u64) -> u8
+    ensures status { result ≡ 9 }
+    ensures put { let line = numbers_line (codes "refused: cycle ") end (codes " is not above ") from in
+        PutsAll S.told line (S.state out.old) (S.state out.new) ⊎ PutsPart S.told line (S.state out.old) (S.state out.new) }
+{
+    let _ = put_numbers(out, "refused: cycle ", end, " is not above ", from);
+    9
+}
+
 /// Refuses a recording that goes wrong at this byte.
 fn refuse_place<S: Sink>(out: &mut S, place: u64) -> u8
     ensures status { result ≡ 6 }
@@ -110,13 +119,14 @@ fn refuse_file<S: Sink>(
 /// Puts the lines of a run that ends well.
 fn put_lines<S: Sink>(
     out: &mut S,
+    from: u64,
     end: u64,
     accesses: u64,
     halted: Option<u64>,
 ) -> Result<(), Failed>
-    ensures { PutsText S.told (lines_of end accesses halted) (S.state out.old) (S.state out.new) result }
+    ensures { PutsText S.told (lines_of from end accesses halted) (S.state out.old) (S.state out.new) result }
 {
-    match put_counts(out, end, accesses) {
+    match put_counts(out, from, end, accesses) {
         Ok(()) => put_halted(out, halted),
         Err(failed) => Err(failed),
     }
@@ -133,16 +143,38 @@ fn put_halted<S: Sink>(out: &mut S, halted: Option<u64>) -> Result<(), Failed>
 }
 
 /// Puts how far a run went, and how much it made.
-fn put_counts<S: Sink>(out: &mut S, end: u64, accesses: u64) -> Result<(), Failed>
-    ensures { PutsText S.told (counts_of end accesses) (S.state out.old) (S.state out.new) result }
+fn put_counts<S: Sink>(out: &mut S, from: u64, end: u64, accesses: u64) -> Result<(), Failed>
+    ensures { PutsText S.told (counts_of from end accesses) (S.state out.old) (S.state out.new) result }
 {
-    match put_numbers(out, "cycles 0 to ", end, "frames ", count_frames(end)) {
-        Ok(()) => put_numbers(out, "samples ", count_pairs(end), "accesses ", accesses),
+    match put_course(out, from, end) {
+        Ok(()) => put_made(out, pairs_between(from, end), accesses),
         Err(failed) => Err(failed),
     }
 }
 
-/// Puts two lines, each of a word and a number.
+/// Puts the cycles from which to which a run went, and how many frames it finished.
+fn put_course<S: Sink>(out: &mut S, from: u64, end: u64) -> Result<(), Failed>
+    ensures { PutsText S.told (numbers_line (codes "cycles ") from (codes " to ") end
+        ++ number_line (codes "frames ") (frames_between from end)) (S.state out.old) (S.state out.new) result }
+{
+    match put_numbers(out, "cycles ", from, " to ", end) {
+        Ok(()) => put_number(out, "frames ", frames_between(from, end)),
+        Err(failed) => Err(failed),
+    }
+}
+
+/// Puts how many samples and accesses a run made.
+fn put_made<S: Sink>(out: &mut S, samples: u64, accesses: u64) -> Result<(), Failed>
+    ensures { PutsText S.told (number_line (codes "samples ") samples ++ number_line (codes "accesses ") accesses)
+        (S.state out.old) (S.state out.new) result }
+{
+    match put_number(out, "samples ", samples) {
+        Ok(()) => put_number(out, "accesses ", accesses),
+        Err(failed) => Err(failed),
+    }
+}
+
+/// Puts a line of two words, each with a number.
 fn put_numbers<S: Sink>(
     out: &mut S,
     first: &str,
@@ -150,9 +182,10 @@ fn put_numbers<S: Sink>(
     second: &str,
     other: u64,
 ) -> Result<(), Failed>
-    ensures { PutsText S.told (number_line first.now number ++ number_line second.now other) (S.state out.old) (S.state out.new) result }
+    ensures { PutsText S.told (numbers_line first.now number second.now other) (S.state out.old) (S.state out.new) result }
 {
-    match put_number(out, first, number) {
+    let mut digits = Buffer::new();
+    match put_two(out, first, digits.format(number).as_bytes()) {
         Ok(()) => put_number(out, second, other),
         Err(failed) => Err(failed),
     }

@@ -1,7 +1,8 @@
-ghost use Rattle.std.specs.Prelude.{◌≡◌, ℕ, ◌≤◌, ◌<◌, ◌%◌, [], OnOk, OnErr, IfErr};
+ghost use Rattle.std.specs.Prelude.{◌≡◌, ℕ, ◌≤◌, ◌<◌, OnOk, OnErr, IfErr};
 ghost use Rattle.md_outer.specs.Outside.{Files, GoesOn};
-ghost use Rattle.md_top.specs.Courses.{IsUnderway, inputs_in, cycle_of};
-ghost use Rattle.md_top.specs.Endings.{HoldsUntil, RunCause, RunLeaves, count_of_frames, pairs_of};
+ghost use Rattle.md_machine.specs.Starts.{Start};
+ghost use Rattle.md_top.specs.Courses.{CameFrom, IsAtStart, IsUnderway, cycle_of, start_in};
+ghost use Rattle.md_top.specs.Endings.{HoldsUntil, RunCause, RunLeaves, count_of_frames, frames_between, pairs_between, pairs_of};
 ghost use Rattle.md_top.specs.Limits.{IsEnd, last_cycle, segment_cycles};
 ghost use Rattle.md_top.specs.Limits as limits;
 ghost use Rattle.md_top.specs.Outputs.{AreBegun, Holds, IsWriteFault, LeavesParts, nothing};
@@ -27,8 +28,8 @@ const FINISHED: u64 = 766_080;
 /// The most cycles of a segment.
 const SEGMENT: u64 = 896_040;
 
-/// Begins the outputs of a run at power-on, runs to its end, and writes what it makes. `go_on` makes
-/// each segment.
+/// Begins the outputs of a run, runs it from its start to its end, and writes what it makes. `go_on`
+/// makes each segment.
 pub(crate) fn write_all<F: Fn(&mut Machine, u64), D: Depot>(
     alloc: Global,
     go_on: &F,
@@ -39,10 +40,10 @@ pub(crate) fn write_all<F: Fn(&mut Machine, u64), D: Depot>(
     requires may { (m : _) (to : ℕ) → CanGoOn m.now to → F.pre go_on.now m to }
     requires goes { (m : _) (to : ℕ) (after : _) → F.post go_on.now m to tt after → WentOn m.now to after.now }
     requires end { IsEnd run.now.cycles }
-    requires start { cycle_of course ≡ 0 }
-    requires underway { IsUnderway course }
-    ensures cause { RunCause (inputs_in course) (shown_run run.now) (D.state depot.old) (D.state depot.new) result }
-    ensures files { D.told → RunLeaves (inputs_in course) (shown_run run.now) (D.state depot.old).files (D.state depot.new).files result }
+    requires before { cycle_of course < run.now.cycles }
+    requires start { IsAtStart course }
+    ensures cause { RunCause (start_in course) (shown_run run.now) (D.state depot.old) (D.state depot.new) result }
+    ensures files { D.told → RunLeaves (start_in course) (shown_run run.now) (D.state depot.old).files (D.state depot.new).files result }
 {
     let mut course = course;
     let outputs = match begin_all(alloc, run, depot) {
@@ -55,19 +56,33 @@ pub(crate) fn write_all<F: Fn(&mut Machine, u64), D: Depot>(
     }
 }
 
-/// How many frames a run finishes.
-pub(crate) fn count_frames(cycles: u64) -> u64
+/// How many frames are finished below a cycle.
+fn count_frames(cycles: u64) -> u64
     ensures { result ≡ count_of_frames cycles }
 {
     let last = if cycles % FRAME > FINISHED { 1 } else { 0 };
     cycles / FRAME + last
 }
 
-/// How many pairs of samples a run has.
-pub(crate) fn count_pairs(cycles: u64) -> u64
+/// How many frames a run from a cycle to another finishes.
+pub(crate) fn frames_between(from: u64, end: u64) -> u64
+    ensures { result ≡ frames_between from end }
+{
+    count_frames(end).saturating_sub(count_frames(from))
+}
+
+/// How many pairs of samples are made below a cycle.
+fn count_pairs(cycles: u64) -> u64
     ensures { result ≡ pairs_of cycles }
 {
     16 * (cycles.saturating_sub(1) / 16_128)
+}
+
+/// How many pairs of samples a run from a cycle to another has.
+pub(crate) fn pairs_between(from: u64, end: u64) -> u64
+    ensures { result ≡ pairs_between from end }
+{
+    count_pairs(end).saturating_sub(count_pairs(from))
 }
 
 /// Appends the head of the sound file, whose sizes are those of the whole run.
@@ -78,21 +93,22 @@ fn append_head<D: Depot>(
     course: &mut Course,
 ) -> Result<(), Ending>
     requires end { IsEnd run.now.cycles }
-    requires start { cycle_of course.old ≡ 0 }
-    requires underway { IsUnderway course.old }
+    requires before { cycle_of course.old < run.now.cycles }
+    requires start { IsAtStart course.old }
     requires begun { AreBegun (shown_run run.now) (D.state depot.old).begun outputs.now }
     ensures machine { course.new.machine ≡ course.old.machine }
     ensures accesses { course.new.accesses ≡ course.old.accesses }
     ensures files { OnOk result (D.told → (first : Files) → Holds (shown_run run.now) first (D.state depot.old).files nothing
-        → HoldsUntil (inputs_in course.old) (shown_run run.now) first (D.state depot.new).files 0) }
+        → HoldsUntil (start_in course.old) (shown_run run.now) first (D.state depot.new).files (cycle_of course.old)) }
     ensures err { IfErr result (IsWriteFault (shown_run run.now) (D.state depot.old) (D.state depot.new)) }
     ensures err_files { OnErr result (D.told → (first : Files) → Holds (shown_run run.now) first (D.state depot.old).files nothing
         → LeavesParts (shown_run run.now) first (D.state depot.new).files
-        (pieces_of (inputs_in course.old) run.now.cycles)) }
+        (pieces_of (start_in course.old) run.now.cycles)) }
     ensures goes_on { GoesOn (D.state depot.old) (D.state depot.new) }
 {
     course.pairs.clear();
-    wav_head(count_pairs(run.cycles) as u32, &mut course.pairs);
+    let pairs = pairs_between(course.machine.at(), run.cycles);
+    wav_head(pairs as u32, &mut course.pairs);
     append_sound(run, outputs, depot, course.pairs.as_slice())
 }
 
@@ -116,19 +132,17 @@ fn run_segment<F: Fn(&mut Machine, u64), D: Depot>(
     requires goes { (m : _) (to : ℕ) (after : _) → F.post go_on.now m to tt after → WentOn m.now to after.now }
     requires end { IsEnd run.now.cycles }
     requires before { cycle_of course.old < run.now.cycles }
-    requires whole { cycle_of course.old % segment_cycles ≡ 0 }
     requires underway { IsUnderway course.old }
     requires begun { AreBegun (shown_run run.now) (D.state depot.old).begun outputs.now }
-    ensures inputs { inputs_in course.new ≡ inputs_in course.old }
     ensures cycle { OnOk result (cycle_of course.new ≡ limits.segment_end (cycle_of course.old) run.now.cycles) }
-    ensures underway { OnOk result (IsUnderway course.new) }
-    ensures files { OnOk result (D.told → (first : Files)
-        → HoldsUntil (inputs_in course.old) (shown_run run.now) first (D.state depot.old).files (cycle_of course.old)
-        → HoldsUntil (inputs_in course.old) (shown_run run.now) first (D.state depot.new).files (cycle_of course.new)) }
+    ensures underway { OnOk result ((start : Start) → CameFrom start course.old → CameFrom start course.new) }
+    ensures files { OnOk result (D.told → (start : Start) (first : Files) → CameFrom start course.old
+        → HoldsUntil start (shown_run run.now) first (D.state depot.old).files (cycle_of course.old)
+        → HoldsUntil start (shown_run run.now) first (D.state depot.new).files (cycle_of course.new)) }
     ensures err { IfErr result (IsWriteFault (shown_run run.now) (D.state depot.old) (D.state depot.new)) }
-    ensures err_files { IfErr result (λ ending. D.told → (first : Files)
-        → HoldsUntil (inputs_in course.old) (shown_run run.now) first (D.state depot.old).files (cycle_of course.old)
-        → RunLeaves (inputs_in course.old) (shown_run run.now) first (D.state depot.new).files ending) }
+    ensures err_files { IfErr result (λ ending. D.told → (start : Start) (first : Files) → CameFrom start course.old
+        → HoldsUntil start (shown_run run.now) first (D.state depot.old).files (cycle_of course.old)
+        → RunLeaves start (shown_run run.now) first (D.state depot.new).files ending) }
     ensures goes_on { GoesOn (D.state depot.old) (D.state depot.new) }
 {
     let end = segment_end(course.machine.at(), run.cycles);
@@ -143,7 +157,7 @@ fn run_segment<F: Fn(&mut Machine, u64), D: Depot>(
     )
 }
 
-/// Runs from power-on to the end in as few segments as reach it, and appends what each makes.
+/// Runs from its start to the end in as few segments as reach it, and appends what each makes.
 fn run_on<F: Fn(&mut Machine, u64), D: Depot>(
     go_on: &F,
     run: &RunWords<'_>,
@@ -154,19 +168,24 @@ fn run_on<F: Fn(&mut Machine, u64), D: Depot>(
     requires may { (m : _) (to : ℕ) → CanGoOn m.now to → F.pre go_on.now m to }
     requires goes { (m : _) (to : ℕ) (after : _) → F.post go_on.now m to tt after → WentOn m.now to after.now }
     requires end { IsEnd run.now.cycles }
-    requires start { cycle_of course ≡ 0 }
-    requires underway { IsUnderway course }
+    requires before { cycle_of course < run.now.cycles }
+    requires start { IsAtStart course }
     requires begun { AreBegun (shown_run run.now) (D.state depot.old).begun outputs.now }
-    ensures cause { RunCause (inputs_in course) (shown_run run.now) (D.state depot.old) (D.state depot.new) result }
+    ensures cause { RunCause (start_in course) (shown_run run.now) (D.state depot.old) (D.state depot.new) result }
     ensures files { D.told → (first : Files)
-        → HoldsUntil (inputs_in course) (shown_run run.now) first (D.state depot.old).files 0
-        → RunLeaves (inputs_in course) (shown_run run.now) first (D.state depot.new).files result }
+        → HoldsUntil (start_in course) (shown_run run.now) first (D.state depot.old).files (cycle_of course)
+        → RunLeaves (start_in course) (shown_run run.now) first (D.state depot.new).files result }
 {
+    let from = course.machine.at();
     let mut course = course;
     'segments: while course.machine.at() < run.cycles {
         if let Err(ending) = run_segment(go_on, run, outputs, depot, &mut course) {
             return ending;
         }
     }
-    Ending::Done(course.accesses, course.machine.main_chip().halted())
+    Ending::Done {
+        from,
+        accesses: course.accesses,
+        halted: course.machine.main_chip().halted(),
+    }
 }

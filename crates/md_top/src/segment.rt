@@ -1,8 +1,9 @@
-ghost use Rattle.std.specs.Prelude.{◌≡◌, ℕ, ◌+◌, ◌<◌, ◌≤◌, ◌++◌, [], length, IfOk, IfSome, None, Some};
+ghost use Rattle.std.specs.Prelude.{◌≡◌, ℕ, ◌+◌, ◌<◌, ◌≤◌, ◌++◌, IfOk};
 ghost use Rattle.md_machine.specs.Outputs.{frames_bytes, journal_bytes, sound_bytes};
-ghost use Rattle.md_top.specs.Courses.{IsUnderway, inputs_in, cycle_of};
+ghost use Rattle.md_machine.specs.Starts.{Start};
+ghost use Rattle.md_top.specs.Courses.{CameFrom, IsAtStart, IsUnderway, cycle_of, start_in};
 ghost use Rattle.md_top.specs.Limits.{last_cycle, segment_cycles};
-ghost use Rattle.md_top.specs.Runs.{FewEvents, entries_to, media_to};
+ghost use Rattle.md_top.specs.Runs.{entries_from, media_from, powered_on};
 ghost use Rattle.md_top.specs.Workers.{CanGoOn, WentOn};
 
 use crate::course::Course;
@@ -23,14 +24,14 @@ const MOST_RECORDS: usize = 16 * 52_500;
 
 /// The run of these inputs at power-on. All memory that it ever needs is taken here.
 pub(crate) fn power_on(alloc: Global, inputs: Inputs) -> Result<Course, NoMemory>
-    ensures inputs { IfOk result (λ course. inputs_in course ≡ inputs) }
-    ensures start { IfOk result (λ course. cycle_of course ≡ 0) }
-    ensures underway { IfOk result IsUnderway }
+    ensures start { IfOk result (λ course. start_in course ≡ powered_on inputs) }
+    ensures underway { IfOk result IsAtStart }
 {
-    laws::few_events(&inputs.cart);
+    laws::power_on_is_start();
     let cart = Arc::new(alloc, inputs.cart)?;
     let recording = Arc::new(alloc, inputs.recording)?;
     let machine = Machine::power_on(alloc, cart, recording)?;
+    laws::few_events(&machine);
     let frames = Vec::with_capacity(alloc, FRAME)?;
     let pairs = Vec::with_capacity(alloc, MOST_PAIRS)?;
     let records = Vec::with_capacity(alloc, MOST_RECORDS)?;
@@ -52,15 +53,14 @@ pub(crate) fn advance<F: Fn(&mut Machine, u64)>(go_on: &F, course: &mut Course, 
     requires later { cycle_of course.old < to }
     requires near { to ≤ cycle_of course.old + segment_cycles }
     requires far { to ≤ last_cycle }
-    ensures inputs { inputs_in course.new ≡ inputs_in course.old }
     ensures cycle { cycle_of course.new ≡ to }
-    ensures underway { IsUnderway course.new }
-    ensures frames { frames_bytes (media_to (inputs_in course.old) to).frames
-        ≡ frames_bytes (media_to (inputs_in course.old) (cycle_of course.old)).frames ++ course.new.frames.items }
-    ensures pairs { sound_bytes (media_to (inputs_in course.old) to)
-        ≡ sound_bytes (media_to (inputs_in course.old) (cycle_of course.old)) ++ course.new.pairs.items }
-    ensures records { journal_bytes (entries_to (inputs_in course.old) to)
-        ≡ journal_bytes (entries_to (inputs_in course.old) (cycle_of course.old)) ++ course.new.records.items }
+    ensures underway { (start : Start) → CameFrom start course.old → CameFrom start course.new }
+    ensures frames { (start : Start) → CameFrom start course.old → frames_bytes (media_from start to).frames
+        ≡ frames_bytes (media_from start (cycle_of course.old)).frames ++ course.new.frames.items }
+    ensures pairs { (start : Start) → CameFrom start course.old → sound_bytes (media_from start to)
+        ≡ sound_bytes (media_from start (cycle_of course.old)) ++ course.new.pairs.items }
+    ensures records { (start : Start) → CameFrom start course.old → journal_bytes (entries_from start to)
+        ≡ journal_bytes (entries_from start (cycle_of course.old)) ++ course.new.records.items }
 {
     go_on(&mut course.machine, to);
     course.frames.clear();

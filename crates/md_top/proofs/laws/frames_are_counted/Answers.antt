@@ -1,8 +1,10 @@
-use Rattle.std.proofs.Common.{◌≡◌, ℕ, ◌+◌, ◌-◌, ◌/◌, ◌%◌, ◌∙◌, ◌<◌, ◌≤◌, cond, Bool, true, false, refl, arith}
+use Rattle.std.proofs.Common.{◌≡◌, ℕ, ◌+◌, ◌-◌, ◌/◌, ◌%◌, ◌∙◌, ◌<◌, ◌≤◌, cond, Bool, true, false, refl, ap, arith}
 use Rattle.std.specs.Prelude.{nat_lt}
 use Rattle.std.proofs.lemmas.Bool.Decides.{nat_tests}
-use Rattle.md_top.specs.Runs.{entries_to, media_to, run_to}
-use Rattle.md_top.specs.declared.inputs.Inputs.{Inputs}
+use Rattle.md_machine.specs.Starts.{Start, frames_below}
+use Rattle.md_top.specs.Courses.{start_at}
+use Rattle.md_top.specs.Endings.{count_of_frames, frames_between}
+use Rattle.md_top.specs.Runs.{entries_from, media_from, run_from}
 use Rattle.md_top.proofs.LeastRuns.{run-made}
 use Rattle.md_top.proofs.laws.frames_are_counted.Goals as goal
 
@@ -10,9 +12,13 @@ whole_frames : (b : Bool) (end : ℕ) → nat_lt 766080 (end % 896040) ≡ b →
 whole_frames true end is = let late : 766080 < end % 896040 = grind (arith, nat_tests) in omega (arith, late)
 whole_frames false end is = let early : end % 896040 ≤ 766080 = grind (arith, nat_tests) in omega (arith, early)
 
+counted : (at end : ℕ) → frames_below end - frames_below at ≡ frames_between at end
+counted at end = ap (λ (n : ℕ). n - frames_below at) (whole_frames (nat_lt 766080 (end % 896040)) end refl)
+    ∙ ap (λ (n : ℕ). count_of_frames end - n) (whole_frames (nat_lt 766080 (at % 896040)) at refl)
+
 pub returns : goal.returns
 returns c =
-    let inputs : Inputs = record { cart = c.args.cart.now; recording = c.args.recording.now } in
-    c.frames_counted.ensures c.args.cart.now c.args.recording.now (run_to inputs c.args.end) c.args.end (entries_to inputs c.args.end) (media_to inputs c.args.end)
-    (run-made inputs c.args.end (c.few_events.ensures c.args.recording.now) (omega (arith, c.requires)))
-    ∙ whole_frames (nat_lt 766080 (c.args.end % 896040)) c.args.end refl
+    let start : Start = start_at c.args.machine.now in
+    c.frames_counted.ensures start (run_from start c.args.end) c.args.end (entries_from start c.args.end) (media_from start c.args.end)
+    c.requires.start (run-made start c.args.end c.few_events.ensures (omega (arith, c.requires.near)))
+    ∙ counted start.at c.args.end

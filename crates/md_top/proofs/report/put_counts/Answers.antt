@@ -1,18 +1,15 @@
 use Rattle.std.specs.Prelude.{◌++◌, codes}
-use Rattle.md_top.specs.Endings.{count_of_frames, number_line, pairs_of}
+use Rattle.md_top.specs.Endings.{frames_between, number_line, numbers_line, pairs_between}
 use Rattle.md_top.proofs.Puts.{puts_on, puts_stop}
 use Rattle.md_top.proofs.report.put_counts.Goals as goal
 
 pub returns-in-Ok : goal.returns-in-Ok
 returns-in-Ok g c =
-    puts_on g.S.Sink.told (number_line (codes "cycles 0 to ") c.args.end ++ number_line (codes "frames ") (count_of_frames c.args.end))
-    (number_line (codes "samples ") (pairs_of c.args.end) ++ number_line (codes "accesses ") c.args.accesses)
-    (g.S.Sink.state c.args.out.now) (g.S.Sink.state c.put_numbers.new.out) (g.S.Sink.state c.put_numbers-in-Ok.new.out) c.put_numbers-in-Ok.result
-    (rw c.count_frames.ensures at (c.in-Ok.ensures {u = tt})) (rw c.count_pairs.ensures at c.put_numbers-in-Ok.ensures)
+    puts_on g.S.Sink.told (numbers_line (codes "cycles ") c.args.from (codes " to ") c.args.end ++ number_line (codes "frames ") (frames_between c.args.from c.args.end)) (number_line (codes "samples ") (pairs_between c.args.from c.args.end) ++ number_line (codes "accesses ") c.args.accesses) (g.S.Sink.state c.args.out.now)
+    (g.S.Sink.state c.put_course.new.out) (g.S.Sink.state c.put_made.new.out) c.put_made.result
+    (c.in-Ok.ensures {u = tt}) (rw c.pairs_between.ensures at c.put_made.ensures)
 
 pub returns-in-Err : goal.returns-in-Err
 returns-in-Err g c =
-    puts_stop g.S.Sink.told (number_line (codes "cycles 0 to ") c.args.end ++ number_line (codes "frames ") (count_of_frames c.args.end))
-    (number_line (codes "samples ") (pairs_of c.args.end) ++ number_line (codes "accesses ") c.args.accesses)
-    (g.S.Sink.state c.args.out.now) (g.S.Sink.state c.put_numbers.new.out) c.in-Err.failed c.in-Err.failed
-    (rw c.count_frames.ensures at (c.in-Err.ensures {u = tt}))
+    puts_stop g.S.Sink.told (numbers_line (codes "cycles ") c.args.from (codes " to ") c.args.end ++ number_line (codes "frames ") (frames_between c.args.from c.args.end)) (number_line (codes "samples ") (pairs_between c.args.from c.args.end) ++ number_line (codes "accesses ") c.args.accesses) (g.S.Sink.state c.args.out.now)
+    (g.S.Sink.state c.put_course.new.out) c.in-Err.failed c.in-Err.failed (c.in-Err.ensures {u = tt})

@@ -1,6 +1,8 @@
 use Rattle.std.proofs.Common.{◌≡◌, List, ℕ, ◌++◌, ap, ◌∙◌, arith}
 use Rattle.md_files.specs.Wav.{wav_head}
-use Rattle.md_top.specs.Courses.{inputs_in}
+use Rattle.md_machine.specs.Starts.{Start}
+use Rattle.md_top.specs.Courses.{start_in}
+use Rattle.md_top.specs.Endings.{pairs_between}
 use Rattle.md_top.specs.Outputs.{nothing}
 use Rattle.md_top.specs.Runs.{sound_until}
 use Rattle.md_words.specs.Shown.{shown_run}
@@ -10,22 +12,28 @@ use Rattle.md_top.proofs.run_on.append_head.Goals as goal
 
 pub returns-clause-files : goal.returns-clause-files
 returns-clause-files g c =
-    let head : c.as_slice.result.now ≡ sound_until (inputs_in c.args.course.now) c.args.run.now.cycles 0 =
-    c.as_slice.ensures.value ∙ c.wav_head.ensures.bytes ∙ ap (λ (l : List ℕ). l ++ wav_head c.count_pairs.result) c.clear.ensures.items
-    ∙ ap wav_head c.count_pairs.ensures ∙ head-first (inputs_in c.args.course.now) c.args.run.now.cycles c.requires.underway.few c.requires.end in
+    let start : Start = start_in c.args.course.now in
+    let end : ℕ = c.args.run.now.cycles in
+    let head : c.as_slice.result.now ≡ sound_until start end start.at =
+    c.as_slice.ensures.value ∙ c.wav_head.ensures.bytes ∙ ap (λ (l : List ℕ). l ++ wav_head c.pairs_between-pairs.result) c.clear.ensures.items
+    ∙ ap wav_head c.pairs_between-pairs.ensures ∙ ap (λ (from : ℕ). wav_head (pairs_between from end)) c.at.ensures
+    ∙ head-first start end c.requires.start.from c.requires.start.few (omega (arith, c.requires.before, c.requires.end.1)) c.requires.end in
     on-ok c.append_sound.result
     (λ adds t first holds.
-    head-held (shown_run c.args.run.now) (inputs_in c.args.course.now) first (g.D.Depot.state c.append_sound.new.depot).files c.as_slice.result.now c.requires.underway.few head
-    (adds t first nothing holds))
+    head-held (shown_run c.args.run.now) start first (g.D.Depot.state c.append_sound.new.depot).files c.as_slice.result.now c.requires.start.from c.requires.start.few
+    (omega (arith, c.requires.before, c.requires.end.1)) head (adds t first nothing holds))
     c.append_sound.ensures.files
 
 pub returns-clause-err_files : goal.returns-clause-err_files
 returns-clause-err_files g c =
-    let head : c.as_slice.result.now ≡ sound_until (inputs_in c.args.course.now) c.args.run.now.cycles 0 =
-    c.as_slice.ensures.value ∙ c.wav_head.ensures.bytes ∙ ap (λ (l : List ℕ). l ++ wav_head c.count_pairs.result) c.clear.ensures.items
-    ∙ ap wav_head c.count_pairs.ensures ∙ head-first (inputs_in c.args.course.now) c.args.run.now.cycles c.requires.underway.few c.requires.end in
+    let start : Start = start_in c.args.course.now in
+    let end : ℕ = c.args.run.now.cycles in
+    let head : c.as_slice.result.now ≡ sound_until start end start.at =
+    c.as_slice.ensures.value ∙ c.wav_head.ensures.bytes ∙ ap (λ (l : List ℕ). l ++ wav_head c.pairs_between-pairs.result) c.clear.ensures.items
+    ∙ ap wav_head c.pairs_between-pairs.ensures ∙ ap (λ (from : ℕ). wav_head (pairs_between from end)) c.at.ensures
+    ∙ head-first start end c.requires.start.from c.requires.start.few (omega (arith, c.requires.before, c.requires.end.1)) c.requires.end in
     on-err c.append_sound.result
     (λ adds t first holds.
-    head-parts (shown_run c.args.run.now) (inputs_in c.args.course.now) first (g.D.Depot.state c.append_sound.new.depot).files c.as_slice.result.now c.requires.underway.few
-    (omega (arith, c.requires.end.1)) head (adds t first nothing holds))
+    head-parts (shown_run c.args.run.now) start first (g.D.Depot.state c.append_sound.new.depot).files c.as_slice.result.now c.requires.start.from c.requires.start.few
+    (omega (arith, c.requires.before)) (omega (arith, c.requires.end.1)) head (adds t first nothing holds))
     c.append_sound.ensures.err_files

@@ -1,8 +1,7 @@
-use Rattle.std.proofs.Common.{◌≡◌, ◌-◌, ◌%◌, ◌<◌, ◌≤◌}
+use Rattle.std.proofs.Common.{◌-◌, ◌≤◌}
 use Rattle.md_outer.specs.Outside.{Files, GoesOn}
-use Rattle.md_top.specs.Courses.{IsUnderway, inputs_in, cycle_of}
+use Rattle.md_top.specs.Courses.{CameFrom, cycle_of, start_in}
 use Rattle.md_top.specs.Endings.{HoldsUntil}
-use Rattle.md_top.specs.Limits.{segment_cycles}
 use Rattle.md_top.specs.Outputs.{AreBegun}
 use Rattle.md_words.specs.Shown.{shown_run}
 use Rattle.md_top.proofs.run_on.run_on.Given as goal
@@ -10,14 +9,13 @@ use Rattle.md_top.proofs.run_on.run_on.Given as goal
 -- the run stands at the end of a segment, and the outputs hold what it made
 abbrev pub invariant-segments : goal.invariant-segments
 invariant-segments g l =
-    (inputs_in l.course ≡ inputs_in l.initial.course)
-    × (cycle_of l.course ≤ l.run.cycles)
-    × (cycle_of l.course < l.run.cycles → cycle_of l.course % segment_cycles ≡ 0)
-    × IsUnderway l.course
+    (cycle_of l.course ≤ l.run.cycles)
+    × CameFrom (start_in l.initial.course) l.course
     × AreBegun (shown_run l.run) (g.D.Depot.state l.depot).begun l.outputs
     × GoesOn (g.D.Depot.state l.initial.depot) (g.D.Depot.state l.depot)
-    × (g.D.Depot.told → (first : Files) → HoldsUntil (inputs_in l.course) (shown_run l.run) first (g.D.Depot.state l.initial.depot).files 0
-    → HoldsUntil (inputs_in l.course) (shown_run l.run) first (g.D.Depot.state l.depot).files (cycle_of l.course))
+    × (g.D.Depot.told → (first : Files)
+    → HoldsUntil (start_in l.initial.course) (shown_run l.run) first (g.D.Depot.state l.initial.depot).files (cycle_of l.initial.course)
+    → HoldsUntil (start_in l.initial.course) (shown_run l.run) first (g.D.Depot.state l.depot).files (cycle_of l.course))
 
 abbrev pub decreases-segments : goal.decreases-segments
 decreases-segments g l = l.run.cycles - cycle_of l.course

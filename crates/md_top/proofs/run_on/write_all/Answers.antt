@@ -1,24 +1,22 @@
 use Rattle.std.proofs.Common.{◌≡◌, ap, subst, sym}
 use Rattle.md_outer.specs.Outside.{Files}
-use Rattle.md_machine.specs.Machines.{MachineValue}
-use Rattle.md_top.specs.Courses.{inputs_in, inputs_of}
+use Rattle.md_machine.specs.Starts.{Start}
+use Rattle.md_top.specs.Courses.{start_at, start_in}
 use Rattle.md_top.specs.Endings.{HoldsUntil, RunLeaves}
-use Rattle.md_top.specs.declared.inputs.Inputs.{Inputs}
 use Rattle.md_words.specs.Shown.{shown_run}
 use Rattle.md_top.proofs.Ends.{unwritten-leaves}
 use Rattle.md_top.proofs.run_on.write_all.Goals as goal
 
 pub returns-in-Err-clause-files : goal.returns-in-Err-clause-files
 returns-in-Err-clause-files g c = λ t.
-    unwritten-leaves (inputs_in c.args.course) (shown_run c.args.run.now) (g.D.Depot.state c.args.depot.now).files (g.D.Depot.state c.begin_all.new.depot).files
+    unwritten-leaves (start_in c.args.course) (shown_run c.args.run.now) (g.D.Depot.state c.args.depot.now).files (g.D.Depot.state c.begin_all.new.depot).files
     (g.D.Depot.state c.args.depot.now) (g.D.Depot.state c.begin_all.new.depot) c.in-Err.ending c.in-Err.ensures.err (c.in-Err.ensures.err_files t)
 
 pub returns-in-Ok-append_head-clause-files : goal.returns-in-Ok-append_head-clause-files
 returns-in-Ok-append_head-clause-files g c = λ t.
     let first : Files = (g.D.Depot.state c.args.depot.now).files in
-    let same : inputs_in c.append_head.new.course ≡ inputs_in c.args.course =
-    ap (λ (m : MachineValue). inputs_of m.console) c.append_head.ensures.machine in
-    subst (λ (given : Inputs). RunLeaves given (shown_run c.args.run.now) first (g.D.Depot.state c.run_on.new.depot).files c.run_on.result) same
+    let same : start_in c.append_head.new.course ≡ start_in c.args.course = ap start_at c.append_head.ensures.machine in
+    subst (λ (start : Start). RunLeaves start (shown_run c.args.run.now) first (g.D.Depot.state c.run_on.new.depot).files c.run_on.result) same
     (c.run_on.ensures.files t first
-    (subst (λ (given : Inputs). HoldsUntil given (shown_run c.args.run.now) first (g.D.Depot.state c.append_head.new.depot).files 0) (sym same)
+    (subst (λ (start : Start). HoldsUntil start (shown_run c.args.run.now) first (g.D.Depot.state c.append_head.new.depot).files start.at) (sym same)
     (c.in-Ok-append_head.ensures.files t first (c.in-Ok.ensures.files t))))

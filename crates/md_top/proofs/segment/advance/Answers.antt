@@ -1,23 +1,26 @@
-use Rattle.std.proofs.Common.{◌≡◌, ℕ, ◌+◌, ◌/◌, ◌≤◌, List, [], ◌++◌, length, length-append, sym, ap, ◌∙◌, arith}
+use Rattle.std.proofs.Common.{◌≡◌, ℕ, ◌+◌, ◌-◌, ◌/◌, ◌≤◌, List, [], ◌++◌, length, length-append, sym, ap, ◌∙◌, arith}
 use Rattle.md_machine.specs.Machines.{MachineValue}
 use Rattle.md_machine.specs.Outputs.{frames_bytes, journal_bytes, sound_bytes}
 use Rattle.md_machine.specs.Media.{Media, no_media}
-use Rattle.md_top.specs.Courses.{cycle_of, inputs_in, inputs_of}
-use Rattle.md_top.specs.Runs.{entries_to, media_to}
+use Rattle.md_machine.specs.Starts.{Start}
+use Rattle.md_top.specs.Courses.{CameFrom, cycle_of}
+use Rattle.md_top.specs.Runs.{entries_from, media_from}
 use Rattle.md_top.specs.Workers.{WentOn}
 use Rattle.md_top.proofs.Segments.{Segment, came-to, few-entries, frames_bytes-append, journal_bytes-append, paired, segment, sound_bytes-append}
 use Rattle.md_top.proofs.segment.advance.Goals as goal
 
 pub overflow_add-course : goal.overflow_add-course
 overflow_add-course g c =
+    let start : Start = c.requires.underway.0 in
+    let came : CameFrom start c.args.course.now = c.requires.underway.1 in
     let went : WentOn c.args.course.now.machine c.args.to c.go_on.new.arg2 = c.requires.goes _ c.args.to _ c.go_on.ensures in
-    let few : length (entries_to (inputs_in c.args.course.now) (cycle_of c.args.course.now)) ≤ cycle_of c.args.course.now + 5 =
-    few-entries (inputs_in c.args.course.now) (cycle_of c.args.course.now) c.args.course.now.machine.console c.requires.underway.few
-    (omega (arith, c.requires.later, c.requires.far)) c.requires.underway.run in
+    let few : length (entries_from start (cycle_of c.args.course.now)) ≤ cycle_of c.args.course.now - start.at + 5 =
+    few-entries start (cycle_of c.args.course.now) c.args.course.now.machine.console came.few
+    (omega (arith, c.requires.later, c.requires.far)) came.run in
     omega (
       arith,
       few,
-      c.requires.underway.counted,
+      came.counted,
       c.requires.later,
       c.requires.far,
       c.len.ensures,
@@ -28,16 +31,6 @@ overflow_add-course g c =
       went.entries,
     )
 
-pub returns-clause-inputs : goal.returns-clause-inputs
-returns-clause-inputs g c =
-    let went : WentOn c.args.course.now.machine c.args.to c.go_on.new.arg2 = c.requires.goes _ c.args.to _ c.go_on.ensures in
-    let made : Segment (inputs_in c.args.course.now) (cycle_of c.args.course.now) c.args.to c.go_on.new.arg2 =
-    segment (inputs_in c.args.course.now) (cycle_of c.args.course.now) c.args.to c.args.course.now.machine.console c.go_on.new.arg2 c.requires.underway.few
-    (omega (arith, c.requires.far)) (omega (arith, c.requires.later)) c.requires.underway.run went.run in
-    ap (λ (m : MachineValue). inputs_of m.console) (c.drain_entries.ensures.machine ∙ ap (λ (m : MachineValue). record m { entries = [] })
-    (c.drain_pairs.ensures.machine ∙ ap (λ (m : MachineValue). record m { media = record m.media { sides = []; levels = [] } }) c.drain_frames.ensures.machine))
-    ∙ made.same_inputs
-
 pub returns-clause-cycle : goal.returns-clause-cycle
 returns-clause-cycle g c =
     let went : WentOn c.args.course.now.machine c.args.to c.go_on.new.arg2 = c.requires.goes _ c.args.to _ c.go_on.ensures in
@@ -45,24 +38,24 @@ returns-clause-cycle g c =
     ∙ ap (λ (m : MachineValue). m.at) c.drain_frames.ensures.machine ∙ went.at
 
 pub returns-clause-underway : goal.returns-clause-underway
-returns-clause-underway g c =
+returns-clause-underway g c = λ start came.
     let went : WentOn c.args.course.now.machine c.args.to c.go_on.new.arg2 = c.requires.goes _ c.args.to _ c.go_on.ensures in
-    let made : Segment (inputs_in c.args.course.now) (cycle_of c.args.course.now) c.args.to c.go_on.new.arg2 =
-    segment (inputs_in c.args.course.now) (cycle_of c.args.course.now) c.args.to c.args.course.now.machine.console c.go_on.new.arg2 c.requires.underway.few
-    (omega (arith, c.requires.far)) (omega (arith, c.requires.later)) c.requires.underway.run went.run in
+    let made : Segment start (cycle_of c.args.course.now) c.args.to c.go_on.new.arg2 =
+    segment start (cycle_of c.args.course.now) c.args.to c.args.course.now.machine.console c.go_on.new.arg2 came.few
+    (omega (arith, c.requires.far)) (omega (arith, c.requires.later)) came.run went.run in
     let after : c.drain_entries.new.self ≡ record { at = c.args.to; console = c.go_on.new.arg2.console; entries = []; media = no_media } =
     c.drain_entries.ensures.machine ∙ ap (λ (m : MachineValue). record m { entries = [] })
     (c.drain_pairs.ensures.machine ∙ ap (λ (m : MachineValue). record m { media = record m.media { sides = []; levels = [] } }) c.drain_frames.ensures.machine)
     ∙ ap (λ (at : ℕ). record { at = at; console = c.go_on.new.arg2.console; entries = []; media = no_media }) went.at in
-    let more : length (entries_to (inputs_in c.args.course.now) c.args.to)
-    ≡ length (entries_to (inputs_in c.args.course.now) (cycle_of c.args.course.now)) + length c.go_on.new.arg2.entries =
-    ap length made.entries ∙ length-append (entries_to (inputs_in c.args.course.now) (cycle_of c.args.course.now)) c.go_on.new.arg2.entries in
-    came-to (inputs_in c.args.course.now) (cycle_of c.args.course.now) c.args.to (c.args.course.now.accesses + c.len.result / 16) c.go_on.new.arg2 c.drain_entries.new.self
-    c.requires.underway.few made after
+    let more : length (entries_from start c.args.to)
+    ≡ length (entries_from start (cycle_of c.args.course.now)) + length c.go_on.new.arg2.entries =
+    ap length made.entries ∙ length-append (entries_from start (cycle_of c.args.course.now)) c.go_on.new.arg2.entries in
+    came-to start (cycle_of c.args.course.now) c.args.to (c.args.course.now.accesses + c.len.result / 16) c.go_on.new.arg2 c.drain_entries.new.self
+    came.from came.few (omega (arith, came.later, c.requires.later)) made after
     (omega (
       arith,
       more,
-      c.requires.underway.counted,
+      came.counted,
       c.len.ensures,
       c.drain_entries.ensures.length,
       c.clear-3.ensures.len,
@@ -71,39 +64,39 @@ returns-clause-underway g c =
     ))
 
 pub returns-clause-frames : goal.returns-clause-frames
-returns-clause-frames g c =
+returns-clause-frames g c = λ start came.
     let went : WentOn c.args.course.now.machine c.args.to c.go_on.new.arg2 = c.requires.goes _ c.args.to _ c.go_on.ensures in
-    let made : Segment (inputs_in c.args.course.now) (cycle_of c.args.course.now) c.args.to c.go_on.new.arg2 =
-    segment (inputs_in c.args.course.now) (cycle_of c.args.course.now) c.args.to c.args.course.now.machine.console c.go_on.new.arg2 c.requires.underway.few
-    (omega (arith, c.requires.far)) (omega (arith, c.requires.later)) c.requires.underway.run went.run in
+    let made : Segment start (cycle_of c.args.course.now) c.args.to c.go_on.new.arg2 =
+    segment start (cycle_of c.args.course.now) c.args.to c.args.course.now.machine.console c.go_on.new.arg2 came.few
+    (omega (arith, c.requires.far)) (omega (arith, c.requires.later)) came.run went.run in
     let piece : c.drain_frames.new.into.items ≡ frames_bytes c.go_on.new.arg2.media.frames =
     c.drain_frames.ensures.bytes ∙ ap (λ (l : List ℕ). l ++ frames_bytes c.go_on.new.arg2.media.frames) c.clear.ensures.items in
     ap (λ (m : Media). frames_bytes m.frames) made.output
-    ∙ frames_bytes-append (media_to (inputs_in c.args.course.now) (cycle_of c.args.course.now)).frames c.go_on.new.arg2.media.frames
-    ∙ ap (λ (l : List ℕ). frames_bytes (media_to (inputs_in c.args.course.now) (cycle_of c.args.course.now)).frames ++ l) (sym piece)
+    ∙ frames_bytes-append (media_from start (cycle_of c.args.course.now)).frames c.go_on.new.arg2.media.frames
+    ∙ ap (λ (l : List ℕ). frames_bytes (media_from start (cycle_of c.args.course.now)).frames ++ l) (sym piece)
 
 pub returns-clause-pairs : goal.returns-clause-pairs
 unfolding sound_bytes
-returns-clause-pairs g c =
+returns-clause-pairs g c = λ start came.
     let went : WentOn c.args.course.now.machine c.args.to c.go_on.new.arg2 = c.requires.goes _ c.args.to _ c.go_on.ensures in
-    let made : Segment (inputs_in c.args.course.now) (cycle_of c.args.course.now) c.args.to c.go_on.new.arg2 =
-    segment (inputs_in c.args.course.now) (cycle_of c.args.course.now) c.args.to c.args.course.now.machine.console c.go_on.new.arg2 c.requires.underway.few
-    (omega (arith, c.requires.far)) (omega (arith, c.requires.later)) c.requires.underway.run went.run in
+    let made : Segment start (cycle_of c.args.course.now) c.args.to c.go_on.new.arg2 =
+    segment start (cycle_of c.args.course.now) c.args.to c.args.course.now.machine.console c.go_on.new.arg2 came.few
+    (omega (arith, c.requires.far)) (omega (arith, c.requires.later)) came.run went.run in
     let piece : c.drain_pairs.new.into.items ≡ sound_bytes c.go_on.new.arg2.media =
     c.drain_pairs.ensures.bytes ∙ ap (λ (l : List ℕ). l ++ sound_bytes c.drain_frames.new.self.media) c.clear-2.ensures.items
     ∙ ap (λ (m : MachineValue). sound_bytes m.media) c.drain_frames.ensures.machine in
-    ap sound_bytes made.output ∙ sound_bytes-append (media_to (inputs_in c.args.course.now) (cycle_of c.args.course.now)) c.go_on.new.arg2.media
-    (paired (inputs_in c.args.course.now) (cycle_of c.args.course.now) c.requires.underway.few (omega (arith, c.requires.later, c.requires.far)))
-    ∙ ap (λ (l : List ℕ). sound_bytes (media_to (inputs_in c.args.course.now) (cycle_of c.args.course.now)) ++ l) (sym piece)
+    ap sound_bytes made.output ∙ sound_bytes-append (media_from start (cycle_of c.args.course.now)) c.go_on.new.arg2.media
+    (paired start (cycle_of c.args.course.now) came.from came.few (omega (arith, c.requires.later, c.requires.far)))
+    ∙ ap (λ (l : List ℕ). sound_bytes (media_from start (cycle_of c.args.course.now)) ++ l) (sym piece)
 
 pub returns-clause-records : goal.returns-clause-records
-returns-clause-records g c =
+returns-clause-records g c = λ start came.
     let went : WentOn c.args.course.now.machine c.args.to c.go_on.new.arg2 = c.requires.goes _ c.args.to _ c.go_on.ensures in
-    let made : Segment (inputs_in c.args.course.now) (cycle_of c.args.course.now) c.args.to c.go_on.new.arg2 =
-    segment (inputs_in c.args.course.now) (cycle_of c.args.course.now) c.args.to c.args.course.now.machine.console c.go_on.new.arg2 c.requires.underway.few
-    (omega (arith, c.requires.far)) (omega (arith, c.requires.later)) c.requires.underway.run went.run in
+    let made : Segment start (cycle_of c.args.course.now) c.args.to c.go_on.new.arg2 =
+    segment start (cycle_of c.args.course.now) c.args.to c.args.course.now.machine.console c.go_on.new.arg2 came.few
+    (omega (arith, c.requires.far)) (omega (arith, c.requires.later)) came.run went.run in
     let piece : c.drain_entries.new.into.items ≡ journal_bytes c.go_on.new.arg2.entries =
     c.drain_entries.ensures.bytes ∙ ap (λ (l : List ℕ). l ++ journal_bytes c.drain_pairs.new.self.entries) c.clear-3.ensures.items
     ∙ ap (λ (m : MachineValue). journal_bytes m.entries) c.drain_pairs.ensures.machine ∙ ap (λ (m : MachineValue). journal_bytes m.entries) c.drain_frames.ensures.machine in
-    ap journal_bytes made.entries ∙ journal_bytes-append (entries_to (inputs_in c.args.course.now) (cycle_of c.args.course.now)) c.go_on.new.arg2.entries
-    ∙ ap (λ (l : List ℕ). journal_bytes (entries_to (inputs_in c.args.course.now) (cycle_of c.args.course.now)) ++ l) (sym piece)
+    ap journal_bytes made.entries ∙ journal_bytes-append (entries_from start (cycle_of c.args.course.now)) c.go_on.new.arg2.entries
+    ∙ ap (λ (l : List ℕ). journal_bytes (entries_from start (cycle_of c.args.course.now)) ++ l) (sym piece)

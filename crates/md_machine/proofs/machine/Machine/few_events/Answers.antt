@@ -1,0 +1,25 @@
+use Rattle.std.proofs.Common.{vec_capacity, ℕ, ◌≤◌, ◌+◌, ◌-◌, ◌^◌, subst, arith}
+use Rattle.chip_core.specs.Cores.{CoreValue, machine_of}
+use Rattle.chip_core.specs.Machines.{AllBelow, IsSound, Machine}
+use Rattle.md_machine.specs.Console as consoles
+use Rattle.md_machine.specs.Machines.{MachineValue, core_in}
+use Rattle.bus_shared.specs.Board.{Board, IsBoard}
+use Rattle.md_machine.specs.Refinement.{console}
+use Rattle.md_machine.specs.Rules.{IsChip, five}
+use Rattle.md_machine.specs.declared.chips.Chip.{Chip}
+use Rattle.md_machine.proofs.Segments.{below-lift, moves-few}
+use Rattle.md_machine.proofs.machine.Machine.few_events.Goals as goal
+
+pub returns : goal.returns
+returns c =
+    let m = c.self.inside in
+    let core : CoreValue Chip Board = core_in m.shared m.chips.items m.bounds.items m.journal.items (vec_capacity m.journal) in
+    let first : Machine Chip Board = machine_of five core in
+    let sound : IsSound five IsChip IsBoard first = c.stages.ensures.core core c.self.invariant.sound in
+    let few : (end n : ℕ) → end ≤ 2 ^ 50 → consoles.AllBelow (console first) end n → n ≤ end - m.at + 5 = λ end n small below.
+    (let lower : AllBelow five first end n =
+    below-lift first end n (λ k earlier. c.stages.ensures.sound first end k (omega arith) sound earlier) c.stages.ensures.mover below in
+    moves-few first m.at end n c.stages.ensures.mover
+    (λ i known. c.limits.ensures.made first end n i (omega arith) sound lower known)
+    (c.limits.ensures.within first m.at end (omega arith) c.self.invariant.quiet)) in
+    subst (λ (v : MachineValue). (end n : ℕ) → end ≤ 2 ^ 50 → consoles.AllBelow v.console end n → n ≤ end - v.at + 5) c.self.view_is few

@@ -1,0 +1,30 @@
+-- Where a run may begin: at power-on, or where a saved state was kept.
+use Rattle.std.specs.Prelude.{◌≡◌, ℕ, ◌+◌, ◌-◌, ◌*◌, ◌/◌}
+use Rattle.md_machine.specs.Console.{Console, IsQuiet}
+
+-- the first event of a line, and the first batch of samples, from a cycle on
+abbrev pub first_line : ℕ → ℕ
+first_line at = 3420 * ((at + 3419) / 3420)
+
+abbrev pub first_batch : ℕ → ℕ
+first_batch at = 16128 * ((at - 1) / 16128 + 1)
+
+-- a cycle, and the machine at it
+pub record Start : Type 0 where
+  pub at : ℕ
+  pub console : Console
+
+-- no event stands below the cycle, and lines and batches come at their next multiples
+pub record IsStart (start : Start) : Type 0 where
+  pub quiet : IsQuiet start.at start.console
+  pub line : start.console.line ≡ first_line start.at
+  pub fm : start.console.fm_cycle ≡ first_batch start.at
+  pub psg : start.console.psg_cycle ≡ first_batch start.at
+
+-- how many batches of samples stand below a cycle: one at each multiple of 16128, from the first on
+abbrev pub batches_below : ℕ → ℕ
+batches_below end = (end - 1) / 16128
+
+-- how many starts of a line 224 stand below a cycle: one at each 766080 + 896040 n
+abbrev pub frames_below : ℕ → ℕ
+frames_below end = (end + (896040 - 766080 - 1)) / 896040
