@@ -1,3 +1,10 @@
 pub mod Apart
+pub mod Commands
 pub mod Digits
+pub mod Lookups
+pub mod Looks
+pub mod Parsed
+pub mod Rows
 pub mod Simple
+pub mod Turns
+pub mod Walks

@@ -1,12 +1,11 @@
--- How the words of a run are read, word for word, and lists of words on which this and `clap` agree.
--- This project's profile.
-use Rattle.std.specs.Prelude.{ℕ, ◌==◌, zero, suc, Bool, true, false, ◌&&◌, not, if◌then◌else◌, List, [], ◌∷◌, ◌++◌, map, find, codes, Option, Some, None, option_and_then}
-use Rattle.std.specs.List.{flat_map, list_any}
+-- What words behind a command's own word give: options in any order among the positional words. This
+-- project's profile.
+use Rattle.std.specs.Prelude.{◌==◌, Bool, true, false, ◌&&◌, not, if◌then◌else◌, List, [], ◌∷◌, find, codes, Option, Some, None, option_and_then}
+use Rattle.std.specs.List.{list_any}
 use Rattle.std.specs.Option.{option_map}
 use Rattle.std.specs.Str.{bytes_eq}
 use Rattle.clap.specs.Lexer.{long_of}
 use Rattle.clap.specs.Walk.{Text}
-use Rattle.md_words.specs.Words.{Run, run_given, values_by}
 
 -- an argument: its name and its value
 abbrev pub Argument : Type 0
@@ -66,32 +65,7 @@ are_single (argument ∷ arguments) = not (list_any (λ other. has_name argument
 abbrev pub value_in : List Argument → Text → Option Text
 value_in arguments name = option_map (λ argument. argument.1) (find (λ argument. has_name name argument.0) arguments)
 
--- the run of these arguments
-abbrev pub run_of_arguments : List Argument → Option Run
-run_of_arguments arguments = if are_single arguments then run_given (values_by (value_in arguments)) else None
-
--- the names of the options of a run
-abbrev pub option_names : List Text
-option_names = codes "cycles" ∷ codes "in" ∷ codes "frames" ∷ codes "sound" ∷ codes "journal" ∷ codes "workers" ∷ []
-
--- the run that words ask for
-abbrev pub given_run : List Text → Option Run
-given_run words = option_and_then run_of_arguments (given (codes "rom" ∷ []) option_names between words)
-
--- LISTS OF WORDS
-
--- words of each kind: a name, a number, options with and without a value and with an empty one, the
--- word that ends the options, hyphens, no letter, and the front of an option's name
-abbrev pub sample_words : List Text
-sample_words =
-    codes "W" ∷ codes "5" ∷ codes "--cycles" ∷ codes "--cycles=5" ∷ codes "--sound" ∷ codes "--in=W" ∷ codes "--sound=" ∷ codes "--"
-    ∷ codes "-" ∷ codes "-x" ∷ [] ∷ codes "--cycle=5" ∷ []
-
--- all lists of so many of them
-abbrev pub sample_lists : ℕ → List (List Text)
-sample_lists zero = [] ∷ []
-sample_lists (suc n) = flat_map (λ words. map (λ word. word ∷ words) sample_words) (sample_lists n)
-
--- all lists of one to four of them: 22,620
-abbrev pub samples : List (List Text)
-samples = sample_lists 1 ++ sample_lists 2 ++ sample_lists 3 ++ sample_lists 4
+-- the same, where no argument stands twice
+abbrev pub given_once : List Text → List Text → List Text → Option (List Argument)
+given_once positionals options words =
+    option_and_then (λ arguments. if are_single arguments then Some arguments else None) (given positionals options between words)

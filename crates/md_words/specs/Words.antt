@@ -5,8 +5,8 @@ use Rattle.std.specs.List.{list_all}
 use Rattle.std.specs.Option.{option_map}
 use Rattle.std.specs.Str.{bytes_eq}
 use Rattle.std.specs.Str.Parse.{digits_value}
-use Rattle.clap.specs.Walk.{Row, Text, first_of}
-use Rattle.md_words.specs.Parse.{info_app, parse_of, run_app}
+use Rattle.clap.specs.Walk.{Text}
+use Rattle.md_words.specs.Given.{given_once, value_in}
 
 -- a run of a cartridge from power-on: the cartridge's name, the cycle of its end, the name of the
 -- recording, if one is given, those of the frames file, of the sound file and of the journal, each if it
@@ -134,12 +134,15 @@ abbrev pub info_from : Option Text → Option Text
 info_from (Some rom) = if is_name rom then Some rom else None
 info_from None = None
 
+abbrev pub info_by : (Text → Option Text) → Option Text
+info_by value = info_from (value (codes "rom"))
+
 abbrev pub info_of : List Text → Option Text
-info_of words = option_and_then (λ rows. info_from (first_of (codes "rom") rows)) (parse_of info_app words)
+info_of words = option_and_then (λ arguments. info_by (value_in arguments)) (given_once (codes "rom" ∷ []) [] words)
 
 -- the run of the cartridge of this name, with this cycle of its end and this number of workers
-abbrev pub run_by : Values → Option Text → Option ℕ → Option ℕ → Option Run
-run_by values (Some rom) (Some end) (Some workers) =
+abbrev pub run_from : Values → Option Text → Option ℕ → Option ℕ → Option Run
+run_from values (Some rom) (Some end) (Some workers) =
     Some
     (record {
       rom = rom;
@@ -150,19 +153,23 @@ run_by values (Some rom) (Some end) (Some workers) =
       journal = values.journal;
       workers = workers;
     })
-run_by values rom end workers = None
+run_from values rom end workers = None
 
 -- `run` has the name of a cartridge and `--cycles N`, with `--in P`, `--frames F`, `--sound W`,
 -- `--journal J` and `--workers K` if wanted
 abbrev pub run_given : Values → Option Run
 run_given values =
-    if are_names (names_of values) then run_by values values.rom (option_and_then number_of values.cycles) (workers_of values.workers) else None
+    if are_names (names_of values) then run_from values values.rom (option_and_then number_of values.cycles) (workers_of values.workers) else None
 
-abbrev pub run_with : List Row → Option Run
-run_with rows = run_given (values_by (λ name. first_of name rows))
+abbrev pub run_by : (Text → Option Text) → Option Run
+run_by value = run_given (values_by value)
+
+-- the names of the options of a run
+abbrev pub run_options : List Text
+run_options = codes "cycles" ∷ codes "in" ∷ codes "frames" ∷ codes "sound" ∷ codes "journal" ∷ codes "workers" ∷ []
 
 abbrev pub run_of : List Text → Option Run
-run_of words = option_and_then run_with (parse_of run_app words)
+run_of words = option_and_then (λ arguments. run_by (value_in arguments)) (given_once (codes "rom" ∷ []) run_options words)
 
 -- the first word chooses the command
 abbrev pub command_of : List Text → Option Command

@@ -3,7 +3,6 @@
 
 mod building;
 mod command_words;
-pub mod laws;
 mod names;
 mod numbers;
 mod parse;

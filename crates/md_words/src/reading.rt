@@ -1,7 +1,8 @@
 ghost use Rattle.std.specs.Prelude.{◌≡◌, IfOk, map, option_and_then, string_bytes};
 ghost use Rattle.std.specs.Option.{option_copied, option_map};
 ghost use Rattle.clap.specs.Matches.{found_of};
-ghost use Rattle.clap.specs.Walk.{first_of, rows_of};
+ghost use Rattle.clap.specs.Walk.{rows_of};
+ghost use Rattle.md_words.specs.Parse.{found_by};
 ghost use Rattle.md_words.specs.Shown.{shown_command, shown_run, shown_values};
 ghost use Rattle.md_words.specs.Words as meaning;
 
@@ -49,7 +50,6 @@ pub fn read_words<'a>(
 }
 
 /// Reads the words of `info` behind its command.
-#[tactic(auto, using(crate::proofs::Simple::info_is_simple))]
 fn read_info<'a>(alloc: Global, words: &'a [String]) -> Result<Option<&'a str>, AllocError>
     ensures { IfOk result (λ rom. option_copied rom ≡ meaning.info_of (map string_bytes words.now)) }
 {
@@ -71,7 +71,6 @@ fn name_given(word: Option<&str>) -> Option<&str>
 }
 
 /// Reads the words of a run behind its command.
-#[tactic(auto, using(crate::proofs::Simple::run_is_simple))]
 fn read_run<'a>(alloc: Global, words: &'a [String]) -> Result<Option<RunWords<'a>>, AllocError>
     ensures { IfOk result (λ run. option_map shown_run run ≡ meaning.run_of (map string_bytes words.now)) }
 {
@@ -84,14 +83,14 @@ fn read_run<'a>(alloc: Global, words: &'a [String]) -> Result<Option<RunWords<'a
 
 /// The run that the matches have.
 fn run_chosen<'a>(matches: &ArgMatches<'a>) -> Option<RunWords<'a>>
-    ensures { option_map shown_run result ≡ meaning.run_with (rows_of (found_of matches.now)) }
+    ensures { option_map shown_run result ≡ meaning.run_by (found_by (rows_of (found_of matches.now))) }
 {
     run_given(&values_of(matches))
 }
 
 /// What the matches have for each argument of a run.
 fn values_of<'a>(matches: &ArgMatches<'a>) -> RunValues<'a>
-    ensures { shown_values result ≡ meaning.values_by (λ name. first_of name (rows_of (found_of matches.now))) }
+    ensures { shown_values result ≡ meaning.values_by (found_by (rows_of (found_of matches.now))) }
 {
     RunValues {
         rom: value(matches, "rom"),
@@ -106,7 +105,7 @@ fn values_of<'a>(matches: &ArgMatches<'a>) -> RunValues<'a>
 
 /// The value of an argument, if it has one.
 fn value<'a>(matches: &ArgMatches<'a>, name: &str) -> Option<&'a str>
-    ensures { option_copied result ≡ first_of name.now (rows_of (found_of matches.now)) }
+    ensures { option_copied result ≡ found_by (rows_of (found_of matches.now)) name.now }
 {
     matches.get_str(name)
 }
