@@ -11,7 +11,7 @@ use Rattle.md_words.specs.Given.{Argument, value_in}
 use Rattle.md_words.specs.Parse.{info_app, info_parsed, parse_of, run_app, run_parsed}
 use Rattle.md_words.specs.Words.{Values, info_by, info_of, run_by, run_from, run_of, run_options, values_by, workers_of}
 use Rattle.md_words.proofs.Lookups.{AreFound, are_found, option_rule, word_rule}
-use Rattle.md_words.proofs.Parsed.{means, parsed}
+use Rattle.md_words.proofs.Parsed.{means, options_have_none, parsed}
 use Rattle.md_words.proofs.Rows.{given_is, row}
 use Rattle.md_words.proofs.Turns.{lacks}
 use Rattle.md_words.proofs.Walks.{AreTexts}
@@ -86,4 +86,4 @@ run_found = are_found run_rules run_arguments (λ name. refl) (refl, (refl, (ref
 pub run_means : (words : List Text) → AreTexts words → run_parsed words ≡ run_of words
 run_means words texts =
     ap (option_and_then _) (run_parse_is words)
-    ∙ means (codes "run") run_rules (codes "rom" ∷ []) run_options run_found (λ letter. refl) (refl, refl, refl) (refl, (refl, (refl, (refl, (refl, (refl, (refl, tt))))))) run_by run_wants words texts
+    ∙ means (codes "run") run_rules (codes "rom" ∷ []) run_options run_found (λ letter. refl) (refl, refl, refl) (refl, options_have_none run_arguments) run_by run_wants words texts

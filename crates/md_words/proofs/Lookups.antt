@@ -90,7 +90,7 @@ listed_among (option ∷ options) name = go (is_named name option) (listed_among
 pub some≢none : {X : Type 0} (x : X) → Some x ≡ None → ⊥
 some≢none x is = true≢false (ap (λ o. is_some o) is)
 
-some_is : {X : Type 0} (x y : X) → Some x ≡ Some y → x ≡ y
+pub some_is : {X : Type 0} (x y : X) → Some x ≡ Some y → x ≡ y
 some_is x y is = ap (λ o. elim o as (λ _. _) [ Some z ↦ z | None ↦ x ]) is
 
 -- the option that is found has the name and its own argument

@@ -7,7 +7,7 @@ use Rattle.clap.specs.Faults.{check_fault, defaults_fault, level_fault, settle_f
 use Rattle.clap.specs.Walk.{Row, Rule, Text, arg_by_short, has_row, idle, is_empty, nothing_held, rows_after, settled, walk, walk_from, with_default}
 use Rattle.md_words.specs.Given.{Argument, are_single, between, given, given_once, value_in}
 use Rattle.md_words.specs.Parse.{found_by}
-use Rattle.md_words.proofs.Lookups.{AreFound}
+use Rattle.md_words.proofs.Lookups.{AreFound, option_rule}
 use Rattle.md_words.proofs.Rows.{found_is, put_single, row}
 use Rattle.md_words.proofs.Turns.{at, complete, fine_both, if_fine, lacks, outcome, shape}
 use Rattle.md_words.proofs.Walks.{AreLeft, AreTexts, both, taken}
@@ -16,6 +16,10 @@ use Rattle.md_words.proofs.Walks.{AreLeft, AreTexts, both, taken}
 abbrev pub HaveNone : List Rule → Type 0
 HaveNone [] = Unit {0}
 HaveNone (rule ∷ rules) = (rule.defaults ≡ []) × HaveNone rules
+
+pub options_have_none : (options : List (Text × Bool)) → HaveNone (map option_rule options)
+options_have_none [] = tt
+options_have_none (option ∷ options) = (refl, options_have_none options)
 
 same_both : {X : Type 0} (b : Bool) (x : X) → cond b x x ≡ x
 same_both true x = refl

@@ -74,7 +74,7 @@ name_swap name other =
     let back = bytes_eq-Decides name other in
     same_from_decides (has_name name other) (has_name other name) (bytes_eq-Decides other name) ((λ is. sym (back.0 is)), (λ is. back.1 (sym is)))
 
-not_true : (b : Bool) → not b ≡ true → b ≡ false
+pub not_true : (b : Bool) → not b ≡ true → b ≡ false
 not_true true is = absurd (true≢false (sym is))
 not_true false is = refl
 

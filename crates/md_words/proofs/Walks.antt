@@ -1,11 +1,11 @@
 -- What `clap` finds in words is what they give, word for word.
 use Rattle.std.proofs.Common.{◌≡◌, ◌∙◌, refl, ap, ℕ, ◌+◌, Bool, true, false, cond, codes, ⊎_elim, List, [], ◌∷◌, min, Option, Some, None}
-use Rattle.std.specs.List.{list_any}
 use Rattle.std.specs.Str.{IsUtf8, bytes_eq}
 use Rattle.clap.specs.Faults.{settle_fault, walk_fault}
 use Rattle.clap.specs.Lexer.{long_of, usize_max}
 use Rattle.clap.specs.Walk.{Row, Rule, Text, Waiting, arg_by_id, arg_by_index, arg_by_short, has_row, idle, option, settled_rows}
-use Rattle.md_words.specs.Given.{Argument, between, ended, given, has_name, is_marked, value_of, with_value}
+use Rattle.md_words.specs.Given.{Argument, between, ended, given, is_marked, value_of, with_value}
+use Rattle.md_words.proofs.Gives.{given_end, given_no_value, given_open, given_option, given_short, given_stray, given_unknown, given_value, given_word}
 use Rattle.md_words.proofs.Lookups.{AreFound, IsKnown, IsUnknown, single, word_rule}
 use Rattle.md_words.proofs.Looks.{IsShort, plain_word, short_word}
 use Rattle.md_words.proofs.Turns as turns
@@ -15,41 +15,6 @@ use Rattle.md_words.proofs.Turns.{added, added_once, at, complete, fine_none, he
 abbrev pub AreTexts : List Text → Type 0
 AreTexts [] = Unit {0}
 AreTexts (word ∷ words) = IsUtf8 word × AreTexts words
-
--- ---- what one more word gives
-
-module _ (options left : List Text) (word : Text) (words : List Text) where
-  given_end : bytes_eq word (codes "--") ≡ true → given left options ended words ≡ given left options between (word ∷ words)
-  given_end is = rw (is) refl
-
-  given_option : (name value : Text) → bytes_eq word (codes "--") ≡ false → is_marked word ≡ true → long_of word ≡ Some (name, Some value) → list_any (has_name name) options ≡ true
-      → with_value name value (given left options between words) ≡ given left options between (word ∷ words)
-  given_option name value no_end marked long listed = rw (no_end, marked, long, listed) refl
-
-  given_open : (name : Text) → bytes_eq word (codes "--") ≡ false → is_marked word ≡ true → long_of word ≡ Some (name, None) → list_any (has_name name) options ≡ true
-      → given left options (value_of name) words ≡ given left options between (word ∷ words)
-  given_open name no_end marked long listed = rw (no_end, marked, long, listed) refl
-
-  given_unknown : (name : Text) (value : Option Text) → bytes_eq word (codes "--") ≡ false → is_marked word ≡ true → long_of word ≡ Some (name, value)
-      → list_any (has_name name) options ≡ false → None ≡ given left options between (word ∷ words)
-  given_unknown name None no_end marked long listed = rw (no_end, marked, long, listed) refl
-  given_unknown name (Some value) no_end marked long listed = rw (no_end, marked, long, listed) refl
-
-  given_short : bytes_eq word (codes "--") ≡ false → is_marked word ≡ true → long_of word ≡ None → None ≡ given left options between (word ∷ words)
-  given_short no_end marked long = rw (no_end, marked, long) refl
-
-  given_word : (name : Text) → bytes_eq word (codes "--") ≡ false → is_marked word ≡ false
-      → with_value name word (given left options between words) ≡ given (name ∷ left) options between (word ∷ words)
-  given_word name no_end unmarked = rw (no_end, unmarked) refl
-
-  given_stray : bytes_eq word (codes "--") ≡ false → is_marked word ≡ false → None ≡ given [] options between (word ∷ words)
-  given_stray no_end unmarked = rw (no_end, unmarked) refl
-
-  given_value : (name : Text) → is_marked word ≡ false → with_value name word (given left options between words) ≡ given left options (value_of name) (word ∷ words)
-  given_value name unmarked = rw (unmarked) refl
-
-  given_no_value : (name : Text) → is_marked word ≡ true → None ≡ given left options (value_of name) (word ∷ words)
-  given_no_value name marked = rw (marked) refl
 
 module _ (rules : List Rule) where
   -- the rows after these arguments

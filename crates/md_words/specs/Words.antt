@@ -6,7 +6,7 @@ use Rattle.std.specs.Option.{option_map}
 use Rattle.std.specs.Str.{bytes_eq}
 use Rattle.std.specs.Str.Parse.{digits_value}
 use Rattle.clap.specs.Walk.{Text}
-use Rattle.md_words.specs.Given.{given_once, value_in}
+use Rattle.md_words.specs.Given.{Argument, are_single, given_once, value_in}
 
 -- a run of a cartridge from power-on: the cartridge's name, the cycle of its end, the name of the
 -- recording, if one is given, those of the frames file, of the sound file and of the journal, each if it
@@ -168,6 +168,10 @@ run_by value = run_given (values_by value)
 abbrev pub run_options : List Text
 run_options = codes "cycles" ∷ codes "in" ∷ codes "frames" ∷ codes "sound" ∷ codes "journal" ∷ codes "workers" ∷ []
 
+-- the run of these arguments, where none stands twice
+abbrev pub run_of_arguments : List Argument → Option Run
+run_of_arguments arguments = if are_single arguments then run_by (value_in arguments) else None
+
 abbrev pub run_of : List Text → Option Run
 run_of words = option_and_then (λ arguments. run_by (value_in arguments)) (given_once (codes "rom" ∷ []) run_options words)
 
@@ -178,3 +182,7 @@ command_of (command ∷ words) =
     if bytes_eq command (codes "info") then option_map Info (info_of words)
     else if bytes_eq command (codes "run") then option_map RunCart (run_of words)
     else None
+
+-- the run but for the number of its workers
+abbrev pub but_workers : Run → Run
+but_workers run = record run { workers = 1 }

@@ -3,6 +3,7 @@
 
 mod building;
 mod command_words;
+pub mod laws;
 mod names;
 mod numbers;
 mod parse;
