@@ -1,2 +1,15 @@
+pub mod Alike
+pub mod Apart
+pub mod Commands
 pub mod Digits
+pub mod Gives
+pub mod Lookups
+pub mod Looks
+pub mod Orders
+pub mod Parsed
+pub mod Rows
 pub mod Simple
+pub mod Spellings
+pub mod Tails
+pub mod Turns
+pub mod Walks

@@ -1,4 +1,5 @@
 pub mod Given
 pub mod Parse
 pub mod Shown
+pub mod Spelled
 pub mod Words

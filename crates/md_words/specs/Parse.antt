@@ -1,8 +1,10 @@
--- The commands that `clap` reads: what stands behind the command's own word. This project's profile.
-use Rattle.std.specs.Prelude.{◌∷◌, [], List, Option, Some, None, true, fold, codes, if◌then◌else◌}
-use Rattle.clap.specs.Walk.{Row, Rule, Text, is_empty}
+-- How `clap` reads what stands behind a command's own word: the commands that it is given, and what is made
+-- of the values that it finds.
+use Rattle.std.specs.Prelude.{◌∷◌, [], List, Option, Some, None, true, fold, codes, if◌then◌else◌, option_and_then}
+use Rattle.clap.specs.Walk.{Row, Rule, Text, first_of, is_empty}
 use Rattle.clap.specs.Simple.{App, matches_of, new_app, new_rule, with_rule}
 use Rattle.clap.specs.Faults.{fault_of}
+use Rattle.md_words.specs.Words.{Run, info_by, run_by}
 
 -- what a simple command makes of the words: the rows that it finds, or none where it refuses them
 abbrev pub parse_of : App → List Text → Option (List Row)
@@ -35,3 +37,13 @@ run_app =
     fold with_rule (bare (codes "run"))
     (required (positional (codes "rom")) ∷ required (option (codes "cycles")) ∷ option (codes "in") ∷ option (codes "frames") ∷ option (codes "sound")
     ∷ option (codes "journal") ∷ option (codes "workers") ∷ [])
+
+-- the value that was found for an argument
+abbrev pub found_by : List Row → Text → Option Text
+found_by rows name = first_of name rows
+
+abbrev pub info_parsed : List Text → Option Text
+info_parsed words = option_and_then (λ rows. info_by (found_by rows)) (parse_of info_app words)
+
+abbrev pub run_parsed : List Text → Option Run
+run_parsed words = option_and_then (λ rows. run_by (found_by rows)) (parse_of run_app words)

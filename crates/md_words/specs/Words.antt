@@ -5,8 +5,8 @@ use Rattle.std.specs.List.{list_all}
 use Rattle.std.specs.Option.{option_map}
 use Rattle.std.specs.Str.{bytes_eq}
 use Rattle.std.specs.Str.Parse.{digits_value}
-use Rattle.clap.specs.Walk.{Row, Text, first_of}
-use Rattle.md_words.specs.Parse.{info_app, parse_of, run_app}
+use Rattle.clap.specs.Walk.{Text}
+use Rattle.md_words.specs.Given.{Argument, are_single, given_once, value_in}
 
 -- a run of a cartridge from power-on: the cartridge's name, the cycle of its end, the name of the
 -- recording, if one is given, those of the frames file, of the sound file and of the journal, each if it
@@ -97,46 +97,83 @@ abbrev pub differ : Option (List ℕ) → Option (List ℕ) → Bool
 differ (Some first) (Some second) = not (bytes_eq first second)
 differ first second = true
 
--- the names are names, and pairwise different
-abbrev pub are_names : List ℕ → Option (List ℕ) → Option (List ℕ) → Option (List ℕ) → Option (List ℕ) → Bool
-are_names rom recording frames sound journal =
-    is_name rom && is_optional_name recording && is_optional_name frames && is_optional_name sound && is_optional_name journal
-    && differ (Some rom) recording && differ (Some rom) frames && differ (Some rom) sound && differ (Some rom) journal
-    && differ recording frames && differ recording sound && differ recording journal
-    && differ frames sound && differ frames journal && differ sound journal
+-- what is given for each argument of a run
+pub record Values : Type 0 where
+  pub rom : Option Text
+  pub cycles : Option Text
+  pub recording : Option Text
+  pub frames : Option Text
+  pub sound : Option Text
+  pub journal : Option Text
+  pub workers : Option Text
+
+-- the same, by the names of the arguments
+abbrev pub values_by : (Text → Option Text) → Values
+values_by value =
+    record {
+      rom = value (codes "rom");
+      cycles = value (codes "cycles");
+      recording = value (codes "in");
+      frames = value (codes "frames");
+      sound = value (codes "sound");
+      journal = value (codes "journal");
+      workers = value (codes "workers");
+    }
+
+-- what is given for names of files
+abbrev pub names_of : Values → List (Option Text)
+names_of values = values.rom ∷ values.recording ∷ values.frames ∷ values.sound ∷ values.journal ∷ []
+
+-- they can be names, and no two are the same
+abbrev pub are_names : List (Option Text) → Bool
+are_names [] = true
+are_names (name ∷ names) = is_optional_name name && list_all (differ name) names && are_names names
 
 -- `info` has the name of a cartridge
 abbrev pub info_from : Option Text → Option Text
 info_from (Some rom) = if is_name rom then Some rom else None
 info_from None = None
 
+abbrev pub info_by : (Text → Option Text) → Option Text
+info_by value = info_from (value (codes "rom"))
+
 abbrev pub info_of : List Text → Option Text
-info_of words = option_and_then (λ rows. info_from (first_of (codes "rom") rows)) (parse_of info_app words)
+info_of words = option_and_then (λ arguments. info_by (value_in arguments)) (given_once (codes "rom" ∷ []) [] words)
 
--- the run of these names, this cycle of its end and this number of workers
-abbrev pub run_by : Text → Option Text → Option Text → Option Text → Option Text → Option ℕ → Option ℕ → Option Run
-run_by rom recording frames sound journal (Some end) (Some workers) =
-    Some (record { rom = rom; cycles = end; recording = recording; frames = frames; sound = sound; journal = journal; workers = workers })
-run_by rom recording frames sound journal end workers = None
-
--- the run of these names and these two counts
-abbrev pub run_from : Text → Text → Option Text → Option Text → Option Text → Option Text → Option Text → Option Run
-run_from rom count recording frames sound journal workers =
-    if are_names rom recording frames sound journal then run_by rom recording frames sound journal (number_of count) (workers_of workers) else None
+-- the run of the cartridge of this name, with this cycle of its end and this number of workers
+abbrev pub run_from : Values → Option Text → Option ℕ → Option ℕ → Option Run
+run_from values (Some rom) (Some end) (Some workers) =
+    Some
+    (record {
+      rom = rom;
+      cycles = end;
+      recording = values.recording;
+      frames = values.frames;
+      sound = values.sound;
+      journal = values.journal;
+      workers = workers;
+    })
+run_from values rom end workers = None
 
 -- `run` has the name of a cartridge and `--cycles N`, with `--in P`, `--frames F`, `--sound W`,
 -- `--journal J` and `--workers K` if wanted
-abbrev pub run_given : Option Text → Option Text → Option Text → Option Text → Option Text → Option Text → Option Text → Option Run
-run_given (Some rom) (Some count) recording frames sound journal workers = run_from rom count recording frames sound journal workers
-run_given rom count recording frames sound journal workers = None
+abbrev pub run_given : Values → Option Run
+run_given values =
+    if are_names (names_of values) then run_from values values.rom (option_and_then number_of values.cycles) (workers_of values.workers) else None
 
-abbrev pub run_with : List Row → Option Run
-run_with rows =
-    run_given (first_of (codes "rom") rows) (first_of (codes "cycles") rows) (first_of (codes "in") rows) (first_of (codes "frames") rows)
-    (first_of (codes "sound") rows) (first_of (codes "journal") rows) (first_of (codes "workers") rows)
+abbrev pub run_by : (Text → Option Text) → Option Run
+run_by value = run_given (values_by value)
+
+-- the names of the options of a run
+abbrev pub run_options : List Text
+run_options = codes "cycles" ∷ codes "in" ∷ codes "frames" ∷ codes "sound" ∷ codes "journal" ∷ codes "workers" ∷ []
+
+-- the run of these arguments, where none stands twice
+abbrev pub run_of_arguments : List Argument → Option Run
+run_of_arguments arguments = if are_single arguments then run_by (value_in arguments) else None
 
 abbrev pub run_of : List Text → Option Run
-run_of words = option_and_then run_with (parse_of run_app words)
+run_of words = option_and_then (λ arguments. run_by (value_in arguments)) (given_once (codes "rom" ∷ []) run_options words)
 
 -- the first word chooses the command
 abbrev pub command_of : List Text → Option Command
@@ -145,3 +182,7 @@ command_of (command ∷ words) =
     if bytes_eq command (codes "info") then option_map Info (info_of words)
     else if bytes_eq command (codes "run") then option_map RunCart (run_of words)
     else None
+
+-- the run but for the number of its workers
+abbrev pub but_workers : Run → Run
+but_workers run = record run { workers = 1 }
