@@ -119,6 +119,13 @@ impl Chip68 {
         }
     }
 
+    /// The cartridge.
+    pub fn cart(&self) -> &Cart
+        ensures { result.now ≡ self.now.cart }
+    {
+        &self.cart
+    }
+
     /// Where the processor is halted, the start of the instruction or exception that halted it.
     pub fn halted(&self) -> Option<u64>
         ensures { result ≡ self.now.state.halted }

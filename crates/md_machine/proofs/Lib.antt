@@ -1,5 +1,6 @@
 pub mod Advances
 pub mod Appended
+pub mod Assembled
 pub mod Counts
 pub mod FrameCounts
 pub mod Frames

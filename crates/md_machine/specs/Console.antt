@@ -1,8 +1,9 @@
 -- The machine as one record, with each memory once, and what a move of each chip changes.
-use Rattle.std.specs.Prelude.{◌≡◌, ℕ, zero, suc, ◌+◌, ◌-◌, ◌*◌, ◌/◌, ◌<◌, ◌≤◌, ◌==◌, cond, true, List, [], ◌∷◌, ◌++◌, length, None}
+use Rattle.std.specs.Prelude.{◌≡◌, ℕ, zero, suc, ◌+◌, ◌-◌, ◌*◌, ◌/◌, ◌<◌, ◌≤◌, ◌==◌, ◌&&◌, cond, true, List, [], ◌∷◌, ◌++◌, length, Option, None}
 use Rattle.md_word.specs.declared.event.Entry.{Entry}
 use Rattle.md_word.specs.declared.key.Key.{Key}
 use Rattle.chip_core.specs.Machines.{least_below}
+use Rattle.m68k_chip.specs.Cases.{begins_at, case_of}
 use Rattle.m68k_chip.specs.Events.{answered, begun, request_of}
 use Rattle.m68k_chip.specs.States.{State68, next_of}
 use Rattle.m68k_chip.specs.States as states
@@ -168,6 +169,11 @@ rendered m i = record {
 -- the chip of least key
 unfoldable pub mover : Console → ℕ
 mover m = least_below (key_in m) 5
+
+-- the address of the instruction that the event of least key begins, if it begins one
+abbrev pub begins_in : Console → Option ℕ
+begins_in m =
+    cond ((mover m == 0) && (next_of m.main).sample) (begins_at (case_of m.main (level_of m.shared)) m.main.regs.pc) None
 
 -- the machine after n moves, each by the chip of least key
 unfoldable pub ran : Console → ℕ → Console

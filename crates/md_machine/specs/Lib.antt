@@ -1,3 +1,4 @@
+pub mod Assembled
 pub mod Code
 pub mod Console
 pub mod Drained

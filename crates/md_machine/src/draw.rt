@@ -57,6 +57,16 @@ impl DrawChip {
         })
     }
 
+    /// A drawing half between two events, of which no frame is kept.
+    pub(crate) fn new(chip: ChipVdp) -> DrawChip
+        requires { chip.has_view ≡ true }
+        ensures { result ≡ record { chip = record chip { frame = None }; view = None } }
+    {
+        let mut chip = chip;
+        chip.drop_frame();
+        DrawChip { chip, view: None }
+    }
+
     #[tactic(auto, using(crate::specs::LineLaws::is_drawn))]
     pub(crate) fn next(&self) -> Next
         ensures value { result ≡ next_of self.now.chip }
@@ -111,6 +121,12 @@ impl DrawChip {
                 entry
             }
         }
+    }
+
+    pub(crate) fn chip(&self) -> &ChipVdp
+        ensures { result.now ≡ self.now.chip }
+    {
+        &self.chip
     }
 
     /// The frame that was finished last and not dropped.

@@ -40,12 +40,25 @@ impl FmChip {
     pub(crate) fn power_on(alloc: Global) -> Result<FmChip, NoMemory>
         ensures { IfOk result (λ chip. chip ≡ record { synth = at_power_on; cycle = 16128; taken = []; samples = [] }) }
     {
+        FmChip::new(alloc, FmSynth::power_on(), BATCH)
+    }
+
+    /// A synthesis whose next batch stands at a cycle, and which took and kept nothing.
+    pub(crate) fn new(alloc: Global, synth: FmSynth, cycle: u64) -> Result<FmChip, NoMemory>
+        ensures { IfOk result (λ chip. chip ≡ record { synth = synth; cycle = cycle; taken = []; samples = [] }) }
+    {
         Ok(FmChip {
-            synth: Box::new(alloc, FmSynth::power_on())?,
-            cycle: BATCH,
+            synth: Box::new(alloc, synth)?,
+            cycle,
             taken: Some(Box::new(alloc, FmList::new())?),
             samples: Box::new(alloc, ArrayVec::new())?,
         })
+    }
+
+    pub(crate) fn synth(&self) -> &FmSynth
+        ensures { result.now ≡ self.now.synth }
+    {
+        &self.synth
     }
 
     pub(crate) fn next(&self) -> Next

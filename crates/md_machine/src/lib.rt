@@ -12,10 +12,12 @@ mod least;
 mod machine;
 mod main_chip;
 mod main_events;
+mod parts;
 mod pins;
 mod psg_chip;
 mod runs;
 mod set;
+mod shown;
 mod sub_chip;
 
 pub use first::first_core;

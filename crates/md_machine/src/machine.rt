@@ -14,7 +14,6 @@ use crate::runs::{run_alone, run_workers, taken};
 use crate::set::MdChips;
 use bus_shared::Shared;
 use chip_core::laws;
-use m68k_chip::Chip68;
 use md_outer::Gate;
 use md_pads::Recording;
 use md_word::{Entry, Key, NoMemory};
@@ -25,16 +24,16 @@ use std::sync::{Arc, Wait};
 use std::thread::Threads;
 
 /// The entries of a frame at most.
-const MOST_ENTRIES: usize = 52_500;
+pub(crate) const MOST_ENTRIES: usize = 52_500;
 
 /// A Mega Drive: five chips and the board that they share.
 #[derive(Drop)]
 pub struct Machine {
-    at: u64,
-    shared: Option<Shared>,
-    chips: Vec<Chip>,
-    bounds: Vec<Key>,
-    journal: Vec<Entry>,
+    pub(crate) at: u64,
+    pub(crate) shared: Option<Shared>,
+    pub(crate) chips: Vec<Chip>,
+    pub(crate) bounds: Vec<Key>,
+    pub(crate) journal: Vec<Entry>,
 }
 
 impl Model for Machine {
@@ -159,13 +158,6 @@ impl Machine {
         }
     }
 
-    /// The 68000.
-    pub fn main_chip(&self) -> &Chip68
-        ensures { result.now ≡ record { cart = self.now.console.cart; state = self.now.console.main } }
-    {
-        main_in(&self.chips[0])
-    }
-
     /// Appends the journal's records of the accesses since the machine was last drained.
     pub fn drain_entries(&mut self, into: &mut Vec<u8>)
         requires { vec_len into.old + 16 * length self.old.entries ≤ vec_capacity into.old }
@@ -222,17 +214,5 @@ impl Machine {
         ensures { self.new ≡ record self.old { media = record self.old.media { levels = [] } } }
     {
         silence(&mut self.chips[4]);
-    }
-}
-
-/// The 68000 of the chip whose number is 0.
-#[tactic(auto, unfolding(m68k_chip::specs::States::next_of, z80_chip::specs::States::next_of))]
-fn main_in(chip: &Chip) -> &Chip68
-    requires { (next chip.now).key.chip ≡ 0 }
-    ensures { result.now ≡ (main_of chip.now).chip }
-{
-    match chip {
-        Chip::Main(main) => &main.chip,
-        Chip::Sub(_) | Chip::Line(_) | Chip::Fm(_) | Chip::Psg(_) => unreachable!(),
     }
 }

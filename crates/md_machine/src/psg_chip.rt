@@ -39,12 +39,25 @@ impl PsgChip {
     pub(crate) fn power_on(alloc: Global) -> Result<PsgChip, NoMemory>
         ensures { IfOk result (λ chip. chip ≡ record { synth = at_power_on; cycle = 16128; taken = []; samples = [] }) }
     {
+        PsgChip::new(alloc, PsgSynth::power_on(), BATCH)
+    }
+
+    /// A synthesis whose next batch stands at a cycle, and which took and kept nothing.
+    pub(crate) fn new(alloc: Global, synth: PsgSynth, cycle: u64) -> Result<PsgChip, NoMemory>
+        ensures { IfOk result (λ chip. chip ≡ record { synth = synth; cycle = cycle; taken = []; samples = [] }) }
+    {
         Ok(PsgChip {
-            synth: PsgSynth::power_on(),
-            cycle: BATCH,
+            synth,
+            cycle,
             taken: Some(Box::new(alloc, PsgList::new())?),
             samples: Box::new(alloc, ArrayVec::new())?,
         })
+    }
+
+    pub(crate) fn synth(&self) -> &PsgSynth
+        ensures { result.now ≡ self.now.synth }
+    {
+        &self.synth
     }
 
     pub(crate) fn next(&self) -> Next

@@ -1,0 +1,55 @@
+-- A machine that is put together from its parts, as a saved state keeps them.
+use Rattle.std.specs.Prelude.{ℕ, List, [], ◌∷◌, None}
+use Rattle.md_word.specs.declared.key.Key.{Key}
+use Rattle.chip_core.specs.Cores.{key_in}
+use Rattle.m68k_chip.specs.Sound.{Chip68Value}
+use Rattle.z80_chip.specs.Sound.{Chip80Value}
+use Rattle.vdp_chip.specs.Drawing.{Drawing}
+use Rattle.fm_chip.specs.Synth as fm_synths
+use Rattle.psg_sound.specs.Synth.{Synth}
+use Rattle.bus_shared.specs.Board.{Board}
+use Rattle.md_machine.specs.Console.{Console}
+use Rattle.md_machine.specs.Rules.{five}
+use Rattle.md_machine.specs.Starts.{first_batch}
+use Rattle.md_machine.specs.declared.chips.Chip.{Chip}
+use Rattle.md_machine.specs.declared.chips.Chip.TheVariants.{Main, Sub, Line, Fm, Psg}
+
+-- the parts of a machine, at a cycle
+pub record Assembly : Type 0 where
+  pub at : ℕ
+  pub main : Chip68Value
+  pub sub : Chip80Value
+  pub draw : Drawing
+  pub fm : fm_synths.Synth
+  pub psg : Synth
+
+-- the five chips: no answer is kept, no view is away, no write was taken and no sample or frame is
+-- kept; batches come next at their first multiple
+abbrev pub chips_of : Assembly → List Chip
+chips_of parts =
+    Main (record { chip = parts.main; answer = None })
+    ∷ Sub (record { chip = parts.sub; answer = None })
+    ∷ Line (record { chip = record parts.draw { frame = None }; view = None })
+    ∷ Fm (record { synth = parts.fm; cycle = first_batch parts.at; taken = []; samples = [] })
+    ∷ Psg (record { synth = parts.psg; cycle = first_batch parts.at; taken = []; samples = [] })
+    ∷ []
+
+-- each chip's bound is its key
+abbrev pub bounds_of : List Chip → List Key
+bounds_of chips = key_in five chips 0 ∷ key_in five chips 1 ∷ key_in five chips 2 ∷ key_in five chips 3 ∷ key_in five chips 4 ∷ []
+
+-- the machine of these parts over a board
+abbrev pub assembled : Assembly → Board → Console
+assembled parts board = record {
+  cart = parts.main.cart;
+  main = parts.main.state;
+  sub = parts.sub;
+  note = parts.draw.note;
+  picture = parts.draw.picture;
+  line = parts.draw.next;
+  fm_cycle = first_batch parts.at;
+  psg_cycle = first_batch parts.at;
+  fm = parts.fm;
+  psg = parts.psg;
+  shared = board;
+}

@@ -1,0 +1,133 @@
+ghost use Rattle.std.specs.Prelude.{◌≡◌, ◌≤◌, ◌<◌, ℕ, [], IfOk, length, true};
+ghost use Rattle.m68k_chip.specs.States.{next_of};
+ghost use Rattle.z80_chip.specs.States.{next_of as sub_next_of};
+ghost use Rattle.chip_core.specs.Cores.{chip_in, key_in};
+ghost use Rattle.md_machine.specs.Assembled as assembly;
+ghost use Rattle.md_machine.specs.Media.{no_media};
+ghost use Rattle.md_machine.specs.Rules.{IsChip, five};
+ghost use Rattle.md_machine.specs.Starts.{first_batch as batch_from};
+
+use crate::chips::Chip;
+use crate::draw::DrawChip;
+use crate::fm::FmChip;
+use crate::machine::{MOST_ENTRIES, Machine};
+use crate::main_chip::MainChip;
+use crate::psg_chip::PsgChip;
+use crate::set::MdChips;
+use crate::sub_chip::SubChip;
+use bus_shared::Shared;
+use chip_core::ChipSet;
+use fm_chip::FmSynth;
+use m68k_chip::Chip68;
+use md_word::clock::BATCH;
+use md_word::{Key, NoMemory};
+use psg_sound::PsgSynth;
+use std::alloc::Global;
+use vdp_chip::ChipVdp;
+use z80_chip::Chip80;
+
+impl Machine {
+    /// The machine at a cycle that these parts make: chips without an answer that waits, the drawing
+    /// half with its view, and the board. Its batches of samples come next at the first multiple of
+    /// 16,128 from `at` on, at 16,128 where `at` is 0. It holds no output: a finished frame is dropped,
+    /// whose picture stays. All memory that it ever needs is taken here.
+    pub fn from_parts(
+        alloc: Global,
+        at: u64,
+        shared: Shared,
+        main: Chip68,
+        sub: Chip80,
+        draw: ChipVdp,
+        fm: FmSynth,
+        psg: PsgSynth,
+    ) -> Result<Machine, NoMemory>
+        requires view { draw.has_view ≡ true }
+        requires main { at ≤ (next_of main.state).key.cycle }
+        requires sub { at ≤ (sub_next_of sub.state).key.cycle }
+        requires line { at ≤ draw.next }
+        requires far { at ≤ 549755813888 }
+        ensures { IfOk result (λ machine. machine ≡ record {
+          at = at;
+          console = assembly.assembled (record { at = at; main = main; sub = sub; draw = draw; fm = fm; psg = psg }) shared;
+          entries = [];
+          media = no_media;
+        }) }
+    {
+        shared.known();
+        let chips = chips_of(alloc, at, main, sub, draw, fm, psg)?;
+        let bounds = bounds_of(alloc, chips.as_slice())?;
+        let journal = Vec::with_capacity(alloc, MOST_ENTRIES)?;
+        Ok(Machine {
+            at,
+            shared: Some(shared),
+            chips,
+            bounds,
+            journal,
+        })
+    }
+}
+
+/// The five chips of these parts.
+fn chips_of(
+    alloc: Global,
+    at: u64,
+    main: Chip68,
+    sub: Chip80,
+    draw: ChipVdp,
+    fm: FmSynth,
+    psg: PsgSynth,
+) -> Result<Vec<Chip>, NoMemory>
+    requires view { draw.has_view ≡ true }
+    requires far { at ≤ 549755813888 }
+    ensures { IfOk result (λ chips. chips.items ≡ assembly.chips_of (record { at = at; main = main; sub = sub; draw = draw; fm = fm; psg = psg })) }
+{
+    let batch = first_batch(at);
+    let chips = [
+        Chip::Main(MainChip {
+            chip: main,
+            answer: None,
+        }),
+        Chip::Sub(SubChip {
+            chip: sub,
+            answer: None,
+        }),
+        Chip::Line(DrawChip::new(draw)),
+        Chip::Fm(FmChip::new(alloc, fm, batch)?),
+        Chip::Psg(PsgChip::new(alloc, psg, batch)?),
+    ];
+    Ok(Vec::from_array(alloc, chips)?)
+}
+
+/// The first batch from a cycle on.
+fn first_batch(at: u64) -> u64
+    requires { at ≤ 549755813888 }
+    ensures { result ≡ batch_from at }
+{
+    BATCH * (at.saturating_sub(1) / BATCH + 1)
+}
+
+/// The bound of each chip: the key of its next event.
+fn bounds_of(alloc: Global, chips: &[Chip]) -> Result<Vec<Key>, NoMemory>
+    requires { length chips.now ≡ 5 }
+    ensures bounds { IfOk result (λ bounds. bounds.items ≡ assembly.bounds_of chips.now) }
+    ensures sound { IfOk result (λ bounds. (i : ℕ) → i < 5 → IsChip (chip_in five chips.now i)) }
+{
+    let bounds = [
+        key_at(chips, 0),
+        key_at(chips, 1),
+        key_at(chips, 2),
+        key_at(chips, 3),
+        key_at(chips, 4),
+    ];
+    Ok(Vec::from_array(alloc, bounds)?)
+}
+
+/// The key of the next event of a chip.
+fn key_at(chips: &[Chip], number: usize) -> Key
+    requires number { number < 5 }
+    requires length { length chips.now ≡ 5 }
+    ensures key { result ≡ key_in five chips.now number }
+    ensures sound { IsChip (chip_in five chips.now number) }
+{
+    MdChips::next(&chips[number]).key
+}

@@ -1,0 +1,155 @@
+ghost use Rattle.std.specs.Prelude.{◌≡◌, IsSome, unwrap_or};
+ghost use Rattle.bus_shared.specs.Board.{power_on};
+ghost use Rattle.md_machine.specs.Console.{begins_in};
+ghost use Rattle.md_machine.specs.Refinement.{draw_of, fm_of, main_of, psg_of, sub_of};
+ghost use Rattle.md_machine.specs.Rules.{next};
+
+use crate::chips::Chip;
+use crate::least::least_key;
+use crate::machine::Machine;
+use crate::set::MdChips;
+use bus_shared::{Shared, pins68};
+use chip_core::laws;
+use fm_chip::FmSynth;
+use m68k_chip::Chip68;
+use psg_sound::PsgSynth;
+use rom_header::Cart;
+use vdp_chip::ChipVdp;
+use z80_chip::Chip80;
+
+impl Machine {
+    /// The 68000.
+    pub fn main_chip(&self) -> &Chip68
+        ensures { result.now ≡ record { cart = self.now.console.cart; state = self.now.console.main } }
+    {
+        main_in(&self.chips[0])
+    }
+
+    /// The Z80.
+    pub fn sub_chip(&self) -> &Chip80
+        ensures { result.now ≡ self.now.console.sub }
+    {
+        sub_in(&self.chips[1])
+    }
+
+    /// The drawing half of the VDP.
+    pub fn draw_chip(&self) -> &ChipVdp
+        ensures next { result.now.next ≡ self.now.console.line }
+        ensures note { result.now.note ≡ self.now.console.note }
+        ensures picture { result.now.picture ≡ self.now.console.picture }
+    {
+        draw_in(&self.chips[2])
+    }
+
+    /// The FM synthesis.
+    pub fn fm(&self) -> &FmSynth
+        ensures { result.now ≡ self.now.console.fm }
+    {
+        fm_in(&self.chips[3])
+    }
+
+    /// The PSG's synthesis.
+    pub fn psg(&self) -> &PsgSynth
+        ensures { result.now ≡ self.now.console.psg }
+    {
+        psg_in(&self.chips[4])
+    }
+
+    /// What the chips share.
+    pub fn shared(&self) -> &Shared
+        ensures { result.now ≡ self.now.console.shared }
+    {
+        board_in(&self.shared)
+    }
+
+    /// The cartridge.
+    pub fn cart(&self) -> &Cart
+        ensures { result.now ≡ self.now.console.cart }
+    {
+        self.main_chip().cart()
+    }
+
+    /// The address of the instruction that the event of least key begins. There is none exactly where
+    /// that event begins no instruction.
+    pub fn begins(&self) -> Option<u32>
+        ensures { result ≡ begins_in self.now.console }
+    {
+        laws::stages::<MdChips>();
+        let main = self.main_chip();
+        if least_key(self.chips.as_slice()).chip == 0 && main.next().sample {
+            return main.begins(pins68(self.shared()));
+        }
+        None
+    }
+}
+
+/// The board of a machine.
+fn board_in(shared: &Option<Shared>) -> &Shared
+    requires { IsSome shared.now }
+    ensures { result.now ≡ unwrap_or shared.now (power_on []) }
+{
+    match shared {
+        Some(shared) => shared,
+        None => unreachable!(),
+    }
+}
+
+/// The 68000, of the chip whose number is 0.
+#[tactic(auto, unfolding(m68k_chip::specs::States::next_of, z80_chip::specs::States::next_of))]
+fn main_in(chip: &Chip) -> &Chip68
+    requires { (next chip.now).key.chip ≡ 0 }
+    ensures { result.now ≡ (main_of chip.now).chip }
+{
+    match chip {
+        Chip::Main(main) => &main.chip,
+        Chip::Sub(_) | Chip::Line(_) | Chip::Fm(_) | Chip::Psg(_) => unreachable!(),
+    }
+}
+
+/// The Z80, of the chip whose number is 1.
+#[tactic(auto, unfolding(m68k_chip::specs::States::next_of, z80_chip::specs::States::next_of))]
+fn sub_in(chip: &Chip) -> &Chip80
+    requires { (next chip.now).key.chip ≡ 1 }
+    ensures { result.now ≡ (sub_of chip.now).chip }
+{
+    match chip {
+        Chip::Sub(sub) => &sub.chip,
+        Chip::Main(_) | Chip::Line(_) | Chip::Fm(_) | Chip::Psg(_) => unreachable!(),
+    }
+}
+
+/// The drawing half of the VDP, of the chip whose number is 2.
+#[tactic(auto, unfolding(m68k_chip::specs::States::next_of, z80_chip::specs::States::next_of))]
+fn draw_in(chip: &Chip) -> &ChipVdp
+    requires { (next chip.now).key.chip ≡ 2 }
+    ensures { result.now ≡ (draw_of chip.now).chip }
+{
+    match chip {
+        Chip::Line(draw) => draw.chip(),
+        Chip::Main(_) | Chip::Sub(_) | Chip::Fm(_) | Chip::Psg(_) => unreachable!(),
+    }
+}
+
+/// The FM synthesis, of the chip whose number is 3.
+#[tactic(auto, unfolding(m68k_chip::specs::States::next_of, z80_chip::specs::States::next_of))]
+fn fm_in(chip: &Chip) -> &FmSynth
+    requires { (next chip.now).key.chip ≡ 3 }
+    ensures { result.now ≡ (fm_of chip.now).synth }
+{
+    match chip {
+        Chip::Fm(fm) => fm.synth(),
+        Chip::Main(_) | Chip::Sub(_) | Chip::Line(_) | Chip::Psg(_) => unreachable!(),
+    }
+}
+
+/// The PSG's synthesis, of the chip whose number is 4.
+#[tactic(auto, unfolding(m68k_chip::specs::States::next_of, z80_chip::specs::States::next_of))]
+fn psg_in(chip: &Chip) -> &PsgSynth
+    requires { (next chip.now).key.chip ≡ 4 }
+    ensures { result.now ≡ (psg_of chip.now).synth }
+{
+    match chip {
+        Chip::Psg(psg) => psg.synth(),
+        Chip::Main(_) | Chip::Sub(_) | Chip::Line(_) | Chip::Fm(_) => unreachable!(),
+    }
+}
