@@ -1,11 +1,10 @@
 -- Laws of the lines and the pads as they are kept.
-use Rattle.std.proofs.Common.{◌≡◌, ℕ, ◌<◌, ◌≤◌, ◌^◌, true, List, [], ◌∷◌, ◌++◌, refl, sym, ap, ◌∙◌, append_assoc}
+use Rattle.std.proofs.Common.{◌≡◌, ℕ, ◌≤◌, true, List, [], ◌∷◌, ◌++◌, refl, sym, ap, ◌∙◌, append_assoc}
 use Rattle.std.specs.Int.{w64, to_be_bytes}
-use Rattle.std.proofs.lemmas.Bool.{leb-true, ltb-true}
-use Rattle.md_fields.specs.Fields.{AllHold, AreWithin, Field, byte, word, quad, sizes, spelling}
+use Rattle.std.proofs.lemmas.Bool.{leb-true}
+use Rattle.md_fields.specs.Fields.{AllHold, byte, word, quad, sizes, spelling}
 use Rattle.md_fields.specs.Items.{IsRight, Keeps}
 use Rattle.md_fields.specs.Places.{Stand}
-use Rattle.md_word.specs.Coding.{flag_number}
 use Rattle.md_fields.proofs.Items.{all_hold, not_both, one_place, same}
 use Rattle.bus_shared.specs.Saved.{lines_fields}
 use Rattle.bus_shared.specs.Spelling.{LinesGoWrongAt, lines_bytes}

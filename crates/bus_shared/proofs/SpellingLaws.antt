@@ -1,5 +1,5 @@
 -- Laws of the bytes that keep the board, and of those that keep none.
-use Rattle.std.proofs.Common.{◌≡◌, ℕ, ◌+◌, ◌-◌, ◌<◌, ◌≤◌, ◌^◌, Bool, true, false, eqb, List, [], ◌∷◌, ◌++◌, length, take, drop, Option, Some, None, Ok, is_some, IfSome, refl, sym, ap, subst, ◌∙◌, inl, inr, ◌⊎◌, arith}
+use Rattle.std.proofs.Common.{◌≡◌, ℕ, ◌+◌, ◌<◌, ◌≤◌, Bool, true, false, eqb, List, [], ◌∷◌, ◌++◌, length, take, drop, Option, Some, None, Ok, is_some, IfSome, refl, sym, ap, subst, ◌∙◌, inl, inr, ◌⊎◌, arith}
 use Rattle.std.specs.Int.{w16}
 use Rattle.std.proofs.lemmas.List.{drop_at, length-append, length-take, take-append-drop, take_at}
 use Rattle.fm_chip.specs.Port as fm_ports
@@ -8,7 +8,7 @@ use Rattle.fm_chip.proofs.PortBytes as fm_laws
 use Rattle.md_fields.specs.Fields.{AreSized, AreWithin, sizes, spelling}
 use Rattle.md_fields.specs.Items.{IsRight, Keeps}
 use Rattle.md_fields.specs.Places.{IsBytes, Stand, number_at}
-use Rattle.md_fields.proofs.Items.{refused_within, same}
+use Rattle.md_fields.proofs.Items.{refused_within}
 use Rattle.md_fields.proofs.Flags.{flag_again, flag_back}
 use Rattle.md_fields.proofs.Refusals.{failed}
 use Rattle.md_fields.proofs.Standing.{long_as, long_as_sized, spelled, stand}
@@ -19,7 +19,7 @@ use Rattle.md_pads.specs.Recording.{Frame}
 use Rattle.psg_sound.specs.PortSpelling as psg_spelling
 use Rattle.psg_sound.specs.declared.write.PsgWrite.{PsgWrite}
 use Rattle.psg_sound.proofs.PortBytes as psg_laws
-use Rattle.vdp_ports.specs.Numbers.{numbers_of, vdp_of}
+use Rattle.vdp_ports.specs.Numbers.{numbers_of}
 use Rattle.vdp_ports.specs.Saved.{vdp_fields}
 use Rattle.vdp_ports.specs.Spelling as vdp_spelling
 use Rattle.vdp_ports.specs.Vdp.{Vdp}
@@ -28,7 +28,7 @@ use Rattle.z80_parcel.specs.Parcels.{IsStore, Store}
 use Rattle.z80_parcel.specs.Spelling.{store_fields}
 use Rattle.bus_shared.specs.Board.{Board}
 use Rattle.bus_shared.specs.Saved.{board_from, lines_fields, lines_of}
-use Rattle.bus_shared.specs.Spelling.{GoesWrongAt, GoesWrongFrom, IsLength, LinesGoWrongAt, Parts, PartsGoWrongAt, PortsGoWrongAt, Spells, StoreGoesWrongAt, behind, board_bytes, board_size, cut, lines_bytes, store_bytes, store_length, store_size}
+use Rattle.bus_shared.specs.Spelling.{GoesWrongAt, GoesWrongFrom, IsLength, LinesGoWrongAt, Parts, PartsGoWrongAt, PortsGoWrongAt, Spells, StoreGoesWrongAt, behind, board_size, cut, lines_bytes, store_bytes, store_length, store_size}
 use Rattle.bus_shared.specs.declared.saved_lines.SavedLines.{SavedLines}
 use Rattle.bus_shared.proofs.SavedLaws as lines_laws
 

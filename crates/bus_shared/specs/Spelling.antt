@@ -1,7 +1,7 @@
 -- The bytes of a saved state that keep the board: the Z80's RAM and its bank register where the bus has
 -- them, the VDP, the FM chip's port, the writes that the PSG's port holds, and the lines and the pads.
 -- The recording has no part in them. This project's profile.
-use Rattle.std.specs.Prelude.{◌≡◌, ◌⊎◌, ℕ, ◌+◌, ◌-◌, ◌<◌, ◌≤◌, min, Bool, true, false, List, ◌++◌, length, take, drop, Option, IfSome, is_some}
+use Rattle.std.specs.Prelude.{◌≡◌, ◌⊎◌, ℕ, ◌+◌, ◌-◌, ◌<◌, ◌≤◌, min, Bool, true, false, List, ◌++◌, length, take, drop, Option, IfSome}
 use Rattle.std.specs.Int.{w16}
 use Rattle.fm_chip.specs.PortSpelling as fm_spelling
 use Rattle.md_fields.specs.Fields.{spelling}

@@ -1,6 +1,6 @@
 -- The bytes of a saved state that keep the synthesis: registers, latches, oscillator, the envelopes'
 -- counter, the operators channel by channel, and the last outputs of each channel. This project's profile.
-use Rattle.std.specs.Prelude.{ℕ, ◌+◌, ◌-◌, ◌==◌, nat_le, nat_lt, true, Bool, ◌&&◌, ◌||◌, Option, Some, None, if◌then◌else◌, ℤ, pos, negsuc, List, [], ◌∷◌, ◌++◌, take, drop, slice_index, slice_index_or}
+use Rattle.std.specs.Prelude.{ℕ, ◌+◌, ◌-◌, ◌==◌, nat_le, nat_lt, true, Bool, ◌&&◌, ◌||◌, if◌then◌else◌, ℤ, pos, negsuc, List, [], ◌∷◌, ◌++◌, take, drop, slice_index, slice_index_or}
 use Rattle.std.specs.Int.{w16, w32}
 use Rattle.md_word.specs.Coding.{flag_number}
 use Rattle.md_fields.specs.Fields.{Field, byte, word, long, block, spelling}

@@ -1,5 +1,5 @@
 -- One answer more.
-use Rattle.std.proofs.Common.{◌≡◌, ℕ, zero, suc, ◌+◌, ◌<◌, ◌≤◌, ◌⊎◌, inl, inr, List, [], ◌∷◌, ◌++◌, length, take, slice_index, Err, Result, refl, sym, ap, subst, ◌∙◌, length-append, append-nil, arith, lit<}
+use Rattle.std.proofs.Common.{◌≡◌, ℕ, zero, suc, ◌+◌, ◌<◌, ◌≤◌, ◌⊎◌, inl, inr, List, [], ◌∷◌, ◌++◌, length, take, slice_index, refl, sym, ap, subst, ◌∙◌, length-append, arith}
 use Rattle.md_word.specs.declared.main_bus.Request68.{Request68}
 use Rattle.m68k_chip.specs.Sound.{AreFit, Asks, FitsValue}
 use Rattle.m68k_chip.specs.States.{State68}

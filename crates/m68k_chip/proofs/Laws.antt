@@ -1,33 +1,30 @@
 -- What holds of the 68000 as a chip: its states are sound, and its events are at least 28 cycles apart.
-use Rattle.std.proofs.Common.{◌≡◌, ℕ, ◌+◌, ◌-◌, ◌*◌, ◌/◌, ◌%◌, ◌^◌, ◌<◌, ◌≤◌, ◌==◌, ◌⊎◌, inl, inr, Bool, true, false, List, [], ◌∷◌, ◌++◌, length, slice_index, slice_set, Option, Some, None, IfSome, is_some, IsTrue, Result, Ok, Err, refl, sym, ap, subst, ◌∙◌, length-append, arith, lit<, lit≤}
-use Rattle.std.specs.Prelude.{if◌then◌else◌, ◌||◌, nat_le, nat_lt, replicate}
+use Rattle.std.proofs.Common.{◌≡◌, ℕ, ◌+◌, ◌-◌, ◌*◌, ◌%◌, ◌^◌, ◌<◌, ◌≤◌, ◌==◌, ◌⊎◌, inl, inr, Bool, true, false, List, [], ◌∷◌, ◌++◌, length, Option, Some, None, IfSome, is_some, IsTrue, Result, Ok, Err, refl, sym, ap, subst, ◌∙◌, length-append, arith}
+use Rattle.std.specs.Prelude.{if◌then◌else◌, ◌||◌, nat_le, nat_lt}
 use Rattle.std.proofs.Math.ListN.{length-set, length-replicate}
 use Rattle.std.proofs.lemmas.Bool.Decides.{nat_tests}
 use Rattle.md_word.specs.declared.main_bus.Answer68.{Answer68}
 use Rattle.md_word.specs.declared.main_bus.Request68.{Request68}
-use Rattle.md_word.specs.declared.main_bus.Request68.TheVariants as requests
 use Rattle.md_word.specs.declared.main_bus.Transfer.{Transfer}
 use Rattle.rom_header.specs.Cartridge.{IsImage}
-use Rattle.m68k_exec.specs.Access.Memory.{Memory, ram_after, stored, word_at}
+use Rattle.m68k_exec.specs.Access.Memory.{ram_after, stored}
 use Rattle.m68k_exec.specs.Laws.{SameBelow}
 use Rattle.m68k_exec.specs.Sample.Bounds.{IsStatus}
-use Rattle.m68k_exec.specs.Sample.Samples.{Ended, sampled}
+use Rattle.m68k_exec.specs.Sample.Samples.{Ended}
 use Rattle.m68k_exec.specs.declared.access.stop.Stop.{Stop}
 use Rattle.m68k_exec.specs.declared.access.stop.Stop.TheVariants.{Ask, Odd}
 use Rattle.m68k_exec.proofs.Bounds.KeepsSamples.{status_kept}
 use Rattle.m68k_exec.proofs.Bounds.Spends.{never_odd, waits}
 use Rattle.m68k_exec.proofs.Later.Samples as later
-use Rattle.m68k_time.specs.Clocks.{clocks_of}
 use Rattle.m68k_chip.specs.Cases.{case_of, cause_of, mask_of}
-use Rattle.m68k_chip.specs.Events.{answered, answered_at, asking, at_sample, at_word, begun, begun_with, came_to, carried_out, end_of, left_by, next_source, request_at, request_in, request_of, rested, waited, went_on, with_started, word_moved}
-use Rattle.m68k_chip.specs.Sound.{AreFit, Asks, Chip68Value, Fits, FitsCost, FitsValue, IsAsking, IsAt, IsBetween, IsCause, IsChip68, IsCost, IsStarted, IsTransfer}
-use Rattle.m68k_chip.specs.States.{State68, is_sample, long_in, next_of, none_left, power_on}
-use Rattle.m68k_chip.specs.declared.case.Case.{Case}
+use Rattle.m68k_chip.specs.Events.{answered, answered_at, at_sample, at_word, begun, begun_with, came_to, carried_out, end_of, left_by, next_source, request_at, request_in, request_of, waited, went_on, with_started}
+use Rattle.m68k_chip.specs.Sound.{AreFit, Asks, Chip68Value, Fits, FitsValue, IsAsking, IsAt, IsBetween, IsCause, IsChip68, IsCost, IsStarted, IsTransfer}
+use Rattle.m68k_chip.specs.States.{State68, is_sample, next_of, none_left, power_on}
 use Rattle.m68k_chip.specs.declared.case.Case.TheVariants.{Halted, Trace, Interrupt, Stopped, Instruction}
 use Rattle.m68k_chip.specs.declared.stage.Stage.{Stage}
 use Rattle.m68k_chip.specs.declared.stage.Stage.TheVariants.{Sample, Access, Word}
 use Rattle.m68k_chip.proofs.Fitting.{fit-more, read-first}
-use Rattle.m68k_chip.proofs.Resting.{Rests, raised, rested-later, rested-ok}
+use Rattle.m68k_chip.proofs.Resting.{raised, rested-later, rested-ok}
 use Rattle.m68k_chip.proofs.SampleTimes.{suffices}
 
 abbrev pub of : List ℕ → State68 → Chip68Value

@@ -1,12 +1,12 @@
 -- The request that a step tells is the one that waits.
-use Rattle.std.proofs.Common.{◌≡◌, ℕ, ◌+◌, ◌-◌, ◌==◌, Bool, true, false, List, Result, Ok, Err, refl, sym, ap, subst, ◌∙◌}
+use Rattle.std.proofs.Common.{◌≡◌, ℕ, ◌-◌, ◌==◌, Bool, true, false, List, Result, Ok, Err, refl, sym, ap, subst, ◌∙◌}
 use Rattle.std.specs.Prelude.{if◌then◌else◌, nat_le}
 use Rattle.md_word.specs.declared.main_bus.Request68.{Request68}
 use Rattle.m68k_exec.specs.Sample.Samples.{Ended}
 use Rattle.m68k_exec.specs.declared.access.stop.Stop.{Stop}
 use Rattle.m68k_exec.specs.declared.access.stop.Stop.TheVariants.{Ask, Odd}
 use Rattle.m68k_exec.proofs.Bounds.Spends.{never_odd}
-use Rattle.m68k_chip.specs.Events.{asking, at_sample, at_word, came_to, carried_out, end_of, left_by, next_source, waited, went_on, word_moved}
+use Rattle.m68k_chip.specs.Events.{at_sample, at_word, came_to, carried_out, left_by, next_source, waited, went_on, word_moved}
 use Rattle.m68k_chip.specs.Held.{IsWaiting}
 use Rattle.m68k_chip.specs.States.{State68, none_left}
 use Rattle.m68k_chip.specs.Steps.{IsTold}

@@ -1,6 +1,6 @@
 -- The fields of a saved state that keep the 68000: their order, their sizes and their rules. Of a rule
 -- on several fields the place is the last of them. This project's profile.
-use Rattle.std.specs.Prelude.{ℕ, ◌+◌, ◌-◌, ◌*◌, ◌%◌, ◌==◌, ◌&&◌, ◌||◌, Bool, true, not, nat_le, nat_lt, if◌then◌else◌, List, [], ◌∷◌, ◌++◌, drop, bit_and}
+use Rattle.std.specs.Prelude.{ℕ, ◌+◌, ◌*◌, ◌%◌, ◌==◌, ◌&&◌, ◌||◌, Bool, true, not, nat_le, nat_lt, if◌then◌else◌, List, [], ◌∷◌, ◌++◌, drop, bit_and}
 use Rattle.md_fields.specs.Distances.{is_after, is_soon}
 use Rattle.md_fields.specs.Fields.{Field, byte, word, long, quad, words, block}
 use Rattle.md_fields.specs.Padding.{are_zeros}

@@ -1,5 +1,5 @@
 -- The bytes of a saved state that keep the Z80's RAM and its bank register. This project's profile.
-use Rattle.std.specs.Prelude.{ℕ, Bool, nat_lt, List, [], ◌∷◌, Option, Some, None}
+use Rattle.std.specs.Prelude.{Bool, nat_lt, List, [], ◌∷◌, Option, Some, None}
 use Rattle.md_fields.specs.Fields.{Field, block, word}
 use Rattle.z80_parcel.specs.Parcels.{Store}
 

@@ -1,4 +1,4 @@
-use Rattle.std.proofs.Common.{◌≡◌, ◌∙◌, ◌+◌, ◌≤◌, ℕ, List, take, drop, Err, ap, sym, subst, inl, inr, arith}
+use Rattle.std.proofs.Common.{◌∙◌, ℕ, List, take, drop, Err, ap, sym, subst, inl, inr, arith}
 use Rattle.md_word.specs.declared.unspell.Unspell.TheVariants.{Rule}
 use Rattle.md_fields.proofs.Items.{refused_within}
 use Rattle.fm_chip.specs.PortSpelling.{PortGoesWrongAt}

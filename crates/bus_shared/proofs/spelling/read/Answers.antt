@@ -1,10 +1,9 @@
-use Rattle.std.proofs.Common.{◌≡◌, ◌∙◌, ◌+◌, ◌≤◌, ℕ, List, length, take, drop, Err, ap, sym, subst, inl, inr, arith}
+use Rattle.std.proofs.Common.{◌≡◌, ◌∙◌, ◌+◌, ℕ, List, length, take, drop, Err, ap, sym, subst, inl, inr, arith}
 use Rattle.std.proofs.lemmas.Result.{err_from_is_err_and}
 use Rattle.std.specs.Prelude.{option_map}
 use Rattle.std.specs.Arc.{arc_value}
 use Rattle.md_word.specs.declared.unspell.Unspell.TheVariants.{Rule}
 use Rattle.md_fields.specs.Items.{Keeps}
-use Rattle.md_fields.proofs.Items.{refused_within}
 use Rattle.md_fields.proofs.Refusals.{no_rule}
 use Rattle.fm_chip.specs.PortSpelling as fm_spelling
 use Rattle.psg_sound.specs.PortSpelling as psg_spelling
@@ -12,7 +11,7 @@ use Rattle.vdp_ports.specs.Spelling as vdp_spelling
 use Rattle.z80_parcel.specs.Parcels.{store_of}
 use Rattle.bus_shared.specs.Board.{Board}
 use Rattle.bus_shared.specs.Saved.{lines_fields}
-use Rattle.bus_shared.specs.Spelling.{IsLength, Spells, StoreGoesWrongAt, cut, store_bytes, store_length}
+use Rattle.bus_shared.specs.Spelling.{IsLength, Spells, StoreGoesWrongAt, cut, store_length}
 use Rattle.bus_shared.proofs.SpellingLaws.{PortsIn, behind_rule, ok_not, ports_exit, ports_near, same_fault, vdp_exit, vdp_near, whole}
 use Rattle.bus_shared.proofs.spelling.read.Goals as goal
 use Rattle.bus_shared.proofs.spelling.read.Goals.{else-bytes-ne-SHORT-via-then-bytes-ne-SHORT+else-bytes-ne-LONG, else-bytes-ne-SHORT-via-else-bytes-ne-SHORT}

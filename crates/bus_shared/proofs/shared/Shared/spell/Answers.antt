@@ -1,8 +1,8 @@
-use Rattle.std.proofs.Common.{◌≡◌, ◌∙◌, ◌+◌, ◌++◌, List, ℕ, Option, is_some, length, ap, refl, sym, arith}
+use Rattle.std.proofs.Common.{◌∙◌, is_some, ap, refl, arith}
 use Rattle.std.specs.Prelude.{option_map}
 use Rattle.z80_parcel.specs.Parcels.{store_of}
 use Rattle.bus_shared.specs.Board.{Board}
-use Rattle.bus_shared.specs.Spelling.{board_bytes, board_size, settled_board, store_bytes}
+use Rattle.bus_shared.specs.Spelling.{board_size}
 use Rattle.bus_shared.proofs.SavedLaws.{five}
 use Rattle.bus_shared.proofs.SpellingLaws.{board_long, store_long}
 use Rattle.bus_shared.proofs.shared.Shared.spell.Goals as goal

@@ -1,7 +1,4 @@
-use Rattle.std.proofs.Common.{◌≡◌, ◌∙◌, Ok, Err, ap, sym}
-use Rattle.std.specs.Prelude.{◌≢◌}
-use Rattle.md_word.specs.declared.unspell.Unspell.{Unspell}
-use Rattle.md_word.specs.declared.unspell.Unspell.TheVariants.{Rule, NoMemory}
+use Rattle.std.proofs.Common.{◌∙◌, Ok, Err, ap, sym}
 use Rattle.bus_shared.proofs.SpellingLaws.{fault_only, fault_refused, right_nowhere, spelled_once}
 use Rattle.bus_shared.proofs.shared.Shared.unspell.Goals as goal
 

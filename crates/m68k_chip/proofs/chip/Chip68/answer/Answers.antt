@@ -1,4 +1,3 @@
-use Rattle.std.proofs.Common.{◌∙◌}
 use Rattle.m68k_chip.specs.States.{state_of}
 use Rattle.m68k_chip.proofs.Kept.{after_answer}
 use Rattle.m68k_chip.proofs.Laws.{few-answers}

@@ -1,4 +1,4 @@
-use Rattle.std.proofs.Common.{◌≡◌, true, ap, ◌∙◌}
+use Rattle.std.proofs.Common.{ap, ◌∙◌}
 use Rattle.m68k_chip.specs.Sound.{Chip68Value}
 use Rattle.m68k_chip.specs.States.{next_of, state_of}
 use Rattle.m68k_chip.proofs.Kept.{after_sample}

@@ -1,4 +1,4 @@
-use Rattle.std.proofs.Common.{◌≡◌, ℕ, List, Option, None, Some, ◌∙◌, ap, sym, subst}
+use Rattle.std.proofs.Common.{◌∙◌, ap, sym}
 use Rattle.m68k_chip.specs.Cases.{cause_of}
 use Rattle.m68k_chip.specs.Events.{begun, begun_with}
 use Rattle.m68k_chip.specs.States.{state_of}

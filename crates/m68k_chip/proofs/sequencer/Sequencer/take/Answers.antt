@@ -1,4 +1,4 @@
-use Rattle.std.proofs.Common.{◌≡◌, ◌<◌, ◌^◌, ℕ, List, [], ◌∷◌, ◌++◌, ◌∙◌, ap, sym, subst, arith}
+use Rattle.std.proofs.Common.{ℕ, List, [], ◌∷◌, ◌++◌, ◌∙◌, ap, arith}
 use Rattle.m68k_chip.specs.Events.{went_on, with_started}
 use Rattle.m68k_chip.specs.States.{State68, state_of}
 use Rattle.m68k_chip.proofs.Laws.{started-rest}
