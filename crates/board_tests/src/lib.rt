@@ -7,4 +7,6 @@ mod board;
 #[cfg(test)]
 mod fm;
 #[cfg(test)]
+mod spelling;
+#[cfg(test)]
 mod video;
