@@ -81,8 +81,16 @@ impl Machine {
     pub fn least(&self) -> u64
         ensures { result ≡ (key_in self.now.console (mover self.now.console)).cycle }
     {
+        self.first_key().cycle
+    }
+
+    /// The key of the next event, which is the least.
+    pub(crate) fn first_key(&self) -> Key
+        ensures key { result ≡ key_in self.now.console (mover self.now.console) }
+        ensures chip { result.chip ≡ mover self.now.console }
+    {
         laws::stages::<MdChips>();
-        least_key(self.chips.as_slice()).cycle
+        least_key(self.chips.as_slice())
     }
 
     /// From here on there are never more events below a cycle than cycles up to it, and chips.

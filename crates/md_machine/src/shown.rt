@@ -1,15 +1,15 @@
-ghost use Rattle.std.specs.Prelude.{◌≡◌, IsSome, unwrap_or};
+ghost use Rattle.std.specs.Prelude.{◌≡◌, ◌&&◌, cond, [], IsSome, None, unwrap_or};
+ghost use Rattle.m68k_chip.specs.Cases.{begins_at, case_of};
+ghost use Rattle.m68k_chip.specs.States.{next_of};
+ghost use Rattle.bus_shared.specs.Accesses.{level_of};
 ghost use Rattle.bus_shared.specs.Board.{power_on};
 ghost use Rattle.md_machine.specs.Console.{begins_in};
 ghost use Rattle.md_machine.specs.Refinement.{draw_of, fm_of, main_of, psg_of, sub_of};
 ghost use Rattle.md_machine.specs.Rules.{next};
 
 use crate::chips::Chip;
-use crate::least::least_key;
 use crate::machine::Machine;
-use crate::set::MdChips;
 use bus_shared::{Shared, pins68};
-use chip_core::laws;
 use fm_chip::FmSynth;
 use m68k_chip::Chip68;
 use psg_sound::PsgSynth;
@@ -74,11 +74,19 @@ impl Machine {
     pub fn begins(&self) -> Option<u32>
         ensures { result ≡ begins_in self.now.console }
     {
-        laws::stages::<MdChips>();
-        let main = self.main_chip();
-        if least_key(self.chips.as_slice()).chip == 0 && main.next().sample {
-            return main.begins(pins68(self.shared()));
-        }
+        let is_first = self.first_key().chip == 0;
+        begun(is_first, self.main_chip(), self.shared())
+    }
+}
+
+/// The address of the instruction that the 68000 begins with its next event, where that is the next of
+/// the machine and begins one.
+fn begun(is_first: bool, main: &Chip68, shared: &Shared) -> Option<u32>
+    ensures { result ≡ cond (is_first && (next_of main.now.state).sample) (begins_at (case_of main.now.state (level_of shared.now)) main.now.state.regs.pc) None }
+{
+    if is_first && main.next().sample {
+        main.begins(pins68(shared))
+    } else {
         None
     }
 }

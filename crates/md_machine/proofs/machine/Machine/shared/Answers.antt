@@ -1,0 +1,8 @@
+use Rattle.std.proofs.Common.{ap, ◌∙◌}
+use Rattle.md_machine.specs.Machines.{MachineValue}
+use Rattle.md_machine.specs.Refinement.{console}
+use Rattle.md_machine.proofs.machine.Machine.shared.Goals as goal
+
+pub returns : goal.returns
+unfolding console
+returns c = c.board_in.ensures ∙ ap (λ (v : MachineValue). v.console.shared) c.self.view_is
