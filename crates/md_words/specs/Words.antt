@@ -176,7 +176,7 @@ abbrev pub run_of : List Text → Option Run
 run_of words = option_and_then run_of_arguments (given (codes "rom" ∷ []) run_options between words)
 
 -- the first word chooses the command
-abbrev pub command_of : List Text → Option Command
+unfoldable pub command_of : List Text → Option Command
 command_of [] = None
 command_of (command ∷ words) =
     if bytes_eq command (codes "info") then option_map Info (info_of words)
