@@ -11,7 +11,7 @@ use Rattle.md_words.specs.Words.{Run, Values, are_names, but_workers, names_of, 
 use Rattle.md_words.proofs.Gives.{given_open, given_option, given_value}
 use Rattle.md_words.proofs.Rows.{not_true, stands}
 use Rattle.md_words.proofs.Spellings.{left_of, readable_among, run_readable}
-use Rattle.md_words.proofs.Tails.{Alike, Stays, alike_meant, alike_stays, behind, meant, refused_here, run_meant}
+use Rattle.md_words.proofs.Tails.{Alike, Stays, alike_meant, alike_stays, behind, meant, refused_here}
 
 -- ---- an option and its value in two words, and in one
 
@@ -34,10 +34,8 @@ written_here name value after listed unmarked free between =
 pub written_alike : (before after : List Text) (name value : Text) → list_any (has_name name) run_options ≡ true → is_marked value ≡ false
     → run_of (before ++ (words_of (apart name value) ++ after)) ≡ run_of (before ++ (words_of (joined name value) ++ after))
 written_alike before after name value listed unmarked =
-    run_meant (before ++ (words_of (apart name value) ++ after))
-    ∙ alike_meant _ _
+    alike_meant _ _
     (behind run_options Alike alike_stays (words_of (apart name value) ++ after) (words_of (joined name value) ++ after) (written_here name value after listed unmarked) before true between)
-    ∙ sym (run_meant (before ++ (words_of (joined name value) ++ after)))
 
 -- ---- another value of one argument
 
@@ -187,7 +185,5 @@ module _ (count other : Text) (fits : IsSome (workers_of (Some count))) (other_f
   pub but_workers_alike : (before after : List Text)
       → option_map but_workers (run_of (before ++ (words_of (joined workers count) ++ after))) ≡ option_map but_workers (run_of (before ++ (words_of (joined workers other) ++ after)))
   but_workers_alike before after =
-      ap (option_map but_workers) (run_meant (before ++ (words_of (joined workers count) ++ after)))
-      ∙ nearly_meant _ _
+      nearly_meant _ _
       (behind run_options Nearly nearly_stays (words_of (joined workers count) ++ after) (words_of (joined workers other) ++ after) (workers_here after) before true between)
-      ∙ ap (option_map but_workers) (sym (run_meant (before ++ (words_of (joined workers other) ++ after))))

@@ -5,7 +5,7 @@ use Rattle.std.proofs.lemmas.Bool.{eqb-true}
 use Rattle.clap.specs.Kinds.{Kinds, check_kinds, or_else}
 use Rattle.clap.specs.Faults.{check_fault, defaults_fault, level_fault, settle_fault, walk_fault}
 use Rattle.clap.specs.Walk.{Row, Rule, Text, arg_by_short, has_row, idle, is_empty, nothing_held, rows_after, settled, walk, walk_from, with_default}
-use Rattle.md_words.specs.Given.{Argument, are_single, between, given, given_once, value_in}
+use Rattle.md_words.specs.Given.{Argument, are_single, between, given, meant_by, value_in}
 use Rattle.md_words.specs.Parse.{found_by}
 use Rattle.md_words.proofs.Lookups.{AreFound, option_rule}
 use Rattle.md_words.proofs.Rows.{found_is, put_single, row}
@@ -86,20 +86,16 @@ module _ (command : Text) (rules : List Rule) (positionals options : List Text) 
     of_complete arguments false is = ap meaning (λ i name. found_is arguments name i)
 
     of_single : (arguments : List Argument) (b : Bool)
-        → option_and_then (λ rows. meaning (found_by rows)) (cond b (complete rules (map row arguments)) None)
-        ≡ option_and_then (λ given. meaning (value_in given)) (cond b (Some arguments) None)
+        → option_and_then (λ rows. meaning (found_by rows)) (cond b (complete rules (map row arguments)) None) ≡ cond b (meaning (value_in arguments)) None
     of_single arguments true = of_complete arguments (lacks rules (map row arguments)) refl
     of_single arguments false = refl
 
-    of_taken : (given : Option (List Argument))
-        → option_and_then (λ rows. meaning (found_by rows)) (taken rules given [])
-        ≡ option_and_then (λ arguments. meaning (value_in arguments)) (option_and_then (λ arguments. cond (are_single arguments) (Some arguments) None) given)
+    of_taken : (given : Option (List Argument)) → option_and_then (λ rows. meaning (found_by rows)) (taken rules given []) ≡ option_and_then (meant_by meaning) given
     of_taken None = refl
     of_taken (Some arguments) =
         ap (option_and_then (λ rows. meaning (found_by rows))) (put_single rules [] refl arguments) ∙ of_single arguments (are_single arguments)
 
     -- `clap` reads the words as they are meant
     pub means : (words : List Text) → AreTexts words
-        → option_and_then (λ rows. meaning (found_by rows)) (parsed command rules words)
-        ≡ option_and_then (λ arguments. meaning (value_in arguments)) (given_once positionals options words)
+        → option_and_then (λ rows. meaning (found_by rows)) (parsed command rules words) ≡ option_and_then (meant_by meaning) (given positionals options between words)
     means words texts = ap (option_and_then (λ rows. meaning (found_by rows))) (rows_given words texts) ∙ of_taken (given positionals options between words)

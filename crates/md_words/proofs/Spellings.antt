@@ -7,9 +7,9 @@ use Rattle.std.proofs.lemmas.Bool.{and_left, and_parts, and_right, not_from_true
 use Rattle.std.proofs.lemmas.Slice.Eq.{bytes_eq-Decides}
 use Rattle.clap.specs.Lexer.{has_byte, long_of, name_and_value}
 use Rattle.clap.specs.Walk.{Text}
-use Rattle.md_words.specs.Given.{Argument, are_single, between, given, given_once, has_name, value_in, with_value}
+use Rattle.md_words.specs.Given.{Argument, are_single, between, given, has_name, with_value}
 use Rattle.md_words.specs.Spelled.{AreWritten, Written, all_words, apart, argument_of, joined, rom}
-use Rattle.md_words.specs.Words.{run_by, run_of, run_of_arguments, run_options}
+use Rattle.md_words.specs.Words.{run_of, run_of_arguments, run_options}
 use Rattle.md_words.proofs.Gives.{given_open, given_option, given_stray, given_value, given_word}
 use Rattle.md_words.proofs.Looks.{plain_word}
 use Rattle.md_words.proofs.Rows.{not_true, stands}
@@ -133,39 +133,26 @@ module _ (options : List Text) (readable : AreReadable options) where
       ∙ ap (with_value (codes "rom") name) (given_written false written are.1) ∙ with_cond (codes "rom") name (fits false written) (map argument_of written)
   given_written false (rom name ∷ written) are = sym (given_stray options [] name (all_words written) (plain_word name are.0).no_end are.0)
 
-  -- a second name of the cartridge stands twice
-  fits_no_other : (written : List Written) → fits false written ≡ false → stands (codes "rom") (map argument_of written) ≡ true
-  fits_no_other [] many = absurd (true≢false many)
-  fits_no_other (apart name value ∷ written) many = or_right _ _ (fits_no_other written many)
-  fits_no_other (joined name value ∷ written) many = or_right _ _ (fits_no_other written many)
-  fits_no_other (rom name ∷ written) many = refl
+-- a second name of the cartridge stands twice
+fits_no_other : (written : List Written) → fits false written ≡ false → stands (codes "rom") (map argument_of written) ≡ true
+fits_no_other [] many = absurd (true≢false many)
+fits_no_other (apart name value ∷ written) many = or_right _ _ (fits_no_other written many)
+fits_no_other (joined name value ∷ written) many = or_right _ _ (fits_no_other written many)
+fits_no_other (rom name ∷ written) many = refl
 
-  fits_single : (written : List Written) → fits true written ≡ false → are_single (map argument_of written) ≡ false
-  fits_single [] many = absurd (true≢false many)
-  fits_single (apart name value ∷ written) many = and_right _ _ (fits_single written many)
-  fits_single (joined name value ∷ written) many = and_right _ _ (fits_single written many)
-  fits_single (rom name ∷ written) many = and_left _ _ (not_from_true _ (fits_no_other written many))
-
-  pub once_written : (written : List Written) → AreWritten options written
-      → given_once (codes "rom" ∷ []) options (all_words written) ≡ cond (are_single (map argument_of written)) (Some (map argument_of written)) None
-  once_written written are =
-      ap (option_and_then (λ arguments. cond (are_single arguments) (Some arguments) None)) (given_written true written are) ∙ go (fits true written) refl
-    where
-      go : (b : Bool) → fits true written ≡ b
-          → option_and_then (λ arguments. cond (are_single arguments) (Some arguments) None) (cond b (Some (map argument_of written)) None)
-          ≡ cond (are_single (map argument_of written)) (Some (map argument_of written)) None
-      go true is = refl
-      go false is = rw (fits_single written is) refl
+fits_single : (written : List Written) → fits true written ≡ false → are_single (map argument_of written) ≡ false
+fits_single [] many = absurd (true≢false many)
+fits_single (apart name value ∷ written) many = and_right _ _ (fits_single written many)
+fits_single (joined name value ∷ written) many = and_right _ _ (fits_single written many)
+fits_single (rom name ∷ written) many = and_left _ _ (not_from_true _ (fits_no_other written many))
 
 pub run_readable : AreReadable run_options
 run_readable = are_readable run_options refl
 
 -- a run that is written is the run of its arguments
 pub run_written : (written : List Written) → AreWritten run_options written → run_of (all_words written) ≡ run_of_arguments (map argument_of written)
-run_written written are =
-    ap (option_and_then (λ arguments. run_by (value_in arguments))) (once_written run_options run_readable written are) ∙ go (are_single (map argument_of written))
+run_written written are = ap (option_and_then run_of_arguments) (given_written run_options run_readable true written are) ∙ go (fits true written) refl
   where
-    go : (b : Bool)
-        → option_and_then (λ arguments. run_by (value_in arguments)) (cond b (Some (map argument_of written)) None) ≡ cond b (run_by (value_in (map argument_of written))) None
-    go true = refl
-    go false = refl
+    go : (b : Bool) → fits true written ≡ b → option_and_then run_of_arguments (cond b (Some (map argument_of written)) None) ≡ run_of_arguments (map argument_of written)
+    go true is = refl
+    go false is = rw (fits_single written is) refl

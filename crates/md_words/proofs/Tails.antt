@@ -9,7 +9,7 @@ use Rattle.std.proofs.lemmas.Slice.Eq.{bytes_eq-Decides}
 use Rattle.clap.specs.Lexer.{long_of}
 use Rattle.clap.specs.Walk.{Text}
 use Rattle.md_words.specs.Given.{Argument, Place, are_single, between, ended, given, has_name, is_marked, option_word, value_in, value_of, with_value}
-use Rattle.md_words.specs.Words.{Run, is_name, run_by, run_of, run_of_arguments, run_options}
+use Rattle.md_words.specs.Words.{Run, is_name, run_by, run_of_arguments}
 use Rattle.md_words.proofs.Rows.{not_true, stands}
 use Rattle.md_words.proofs.Spellings.{left_of}
 
@@ -107,19 +107,6 @@ refused_meant (Some arguments) refused = go (are_single arguments) refl
         let found = refused_name arguments single refused in
         no_run (value_in arguments) found.0 found.1.0 found.1.1
     go false single = refl
-
-pub run_meant : (words : List Text) → run_of words ≡ meant (given (codes "rom" ∷ []) run_options between words)
-run_meant words = go (given (codes "rom" ∷ []) run_options between words)
-  where
-    go : (given : Option (List Argument))
-        → option_and_then (λ arguments. run_by (value_in arguments)) (option_and_then (λ arguments. cond (are_single arguments) (Some arguments) None) given)
-        ≡ option_and_then run_of_arguments given
-    go None = refl
-    go (Some arguments) = by (are_single arguments)
-      where
-        by : (b : Bool) → option_and_then (λ arguments. run_by (value_in arguments)) (cond b (Some arguments) None) ≡ cond b (run_by (value_in arguments)) None
-        by true = refl
-        by false = refl
 
 -- the same, or refused both
 abbrev pub Alike : Option (List Argument) → Option (List Argument) → Type 0

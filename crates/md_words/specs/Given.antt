@@ -1,6 +1,6 @@
 -- What words behind a command's own word give: options in any order among the positional words. This
 -- project's profile.
-use Rattle.std.specs.Prelude.{◌==◌, Bool, true, false, ◌&&◌, not, if◌then◌else◌, List, [], ◌∷◌, find, codes, Option, Some, None, option_and_then}
+use Rattle.std.specs.Prelude.{◌==◌, Bool, true, false, ◌&&◌, not, if◌then◌else◌, List, [], ◌∷◌, find, codes, Option, Some, None}
 use Rattle.std.specs.List.{list_any}
 use Rattle.std.specs.Option.{option_map}
 use Rattle.std.specs.Str.{bytes_eq}
@@ -65,7 +65,6 @@ are_single (argument ∷ arguments) = not (list_any (λ other. has_name argument
 abbrev pub value_in : List Argument → Text → Option Text
 value_in arguments name = option_map (λ argument. argument.1) (find (λ argument. has_name name argument.0) arguments)
 
--- the same, where no argument stands twice
-abbrev pub given_once : List Text → List Text → List Text → Option (List Argument)
-given_once positionals options words =
-    option_and_then (λ arguments. if are_single arguments then Some arguments else None) (given positionals options between words)
+-- what is made of the arguments' values, where none stands twice
+abbrev pub meant_by : {X : Type 0} → ((Text → Option Text) → Option X) → List Argument → Option X
+meant_by meaning arguments = if are_single arguments then meaning (value_in arguments) else None

@@ -6,7 +6,7 @@ use Rattle.std.specs.Option.{option_map}
 use Rattle.std.specs.Str.{bytes_eq}
 use Rattle.std.specs.Str.Parse.{digits_value}
 use Rattle.clap.specs.Walk.{Text}
-use Rattle.md_words.specs.Given.{Argument, are_single, given_once, value_in}
+use Rattle.md_words.specs.Given.{Argument, between, given, meant_by}
 
 -- a run of a cartridge from power-on: the cartridge's name, the cycle of its end, the name of the
 -- recording, if one is given, those of the frames file, of the sound file and of the journal, each if it
@@ -138,7 +138,7 @@ abbrev pub info_by : (Text → Option Text) → Option Text
 info_by value = info_from (value (codes "rom"))
 
 abbrev pub info_of : List Text → Option Text
-info_of words = option_and_then (λ arguments. info_by (value_in arguments)) (given_once (codes "rom" ∷ []) [] words)
+info_of words = option_and_then (meant_by info_by) (given (codes "rom" ∷ []) [] between words)
 
 -- the run of the cartridge of this name, with this cycle of its end and this number of workers
 abbrev pub run_from : Values → Option Text → Option ℕ → Option ℕ → Option Run
@@ -168,15 +168,15 @@ run_by value = run_given (values_by value)
 abbrev pub run_options : List Text
 run_options = codes "cycles" ∷ codes "in" ∷ codes "frames" ∷ codes "sound" ∷ codes "journal" ∷ codes "workers" ∷ []
 
--- the run of these arguments, where none stands twice
+-- the run of these arguments
 abbrev pub run_of_arguments : List Argument → Option Run
-run_of_arguments arguments = if are_single arguments then run_by (value_in arguments) else None
+run_of_arguments = meant_by run_by
 
 abbrev pub run_of : List Text → Option Run
-run_of words = option_and_then (λ arguments. run_by (value_in arguments)) (given_once (codes "rom" ∷ []) run_options words)
+run_of words = option_and_then run_of_arguments (given (codes "rom" ∷ []) run_options between words)
 
 -- the first word chooses the command
-abbrev pub command_of : List Text → Option Command
+unfoldable pub command_of : List Text → Option Command
 command_of [] = None
 command_of (command ∷ words) =
     if bytes_eq command (codes "info") then option_map Info (info_of words)

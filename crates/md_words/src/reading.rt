@@ -23,6 +23,7 @@ use std::alloc::{AllocError, Global};
 /// `--journal J` and `--workers K` where they are wanted. Options stand in any order among the other
 /// words, each at most once, as two words or as `--name=value`; `--` ends the options. Names are not empty, do not begin with a hyphen, and
 /// are pairwise different. Numbers are 1 to 20 decimal digits with a value below 2^64; K is 1 to 5.
+#[tactic(auto, unfolding(crate::specs::Words::command_of))]
 pub fn read_words<'a>(
     alloc: Global,
     words: &'a [String],

@@ -75,7 +75,7 @@ const READ: [(&str, &str); 27] = [
     ),
 ];
 
-const REFUSED: [&str; 76] = [
+const REFUSED: [&str; 80] = [
     "",
     "walk Z",
     "RUN Z --cycles 5",
@@ -136,6 +136,10 @@ const REFUSED: [&str; 76] = [
     "run Z --cycles 5 --frames F --sound F",
     "run Z --cycles 5 --journal F --frames F",
     "run Z --cycle 5",
+    "run Z --=5",
+    "run Z --cycles -",
+    "run Z --cycles=5=",
+    "run Z --cycles 5 -",
     "run Z --cycles 5 --sou=W",
     "run Z -c 5",
     "run Z --cycles 5 --help",
