@@ -1,7 +1,8 @@
 // The bytes of a saved state that keep the board, worked out by hand from the order and the sizes of its
-// parts: the VDP 0, the FM chip's port 65,812, the PSG's 78,128, request 88,370, reset 88,371, resets
-// 88,372, latches 88,380, pads 88,384 and 88,386; where the bus has the Z80's RAM, that and the bank
-// register at 8,192 stand in front, so that all others come 8,194 later.
+// parts: the VDP at 0, the FM chip's port at 65,812, the PSG's at 78,128, the bus request, the reset and
+// its count at 88,370, 88,371 and 88,372, the latches at 88,380, the pads at 88,384 and 88,386; where the
+// bus has the Z80's RAM, that and the bank register, at 8,192, stand in front, so that all others come
+// 8,194 later.
 use bus_shared::{Request, Shared, carry_out};
 use md_pads::Recording;
 use md_word::{Key, Request68, Unspell};

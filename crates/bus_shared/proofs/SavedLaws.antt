@@ -32,7 +32,7 @@ only_one at bytes s t p0 q0 =
     let p7 = p6.1 in let q7 = q6.1 in
     let p8 = p7.1 in let q8 = q7.1 in
     λ i. record {
-      request = (p0.0 ∙ sym q0.0) i;
+      bus_request = (p0.0 ∙ sym q0.0) i;
       reset = (p1.0 ∙ sym q1.0) i;
       resets = (p2.0 ∙ sym q2.0) i;
       value1 = (p3.0 ∙ sym q3.0) i;
@@ -45,7 +45,7 @@ only_one at bytes s t p0 q0 =
 
 -- the flags of right numbers
 pub record Flags (n : SavedLines) : Type 0 where
-  pub request : n.request ≤ 1
+  pub bus_request : n.bus_request ≤ 1
   pub reset : n.reset ≤ 1
 
 pub flags_of : (at : ℕ) (n : SavedLines) → IsRight (lines_fields at) n → Flags n
@@ -53,7 +53,7 @@ unfolding AllHold
 flags_of at n right =
     let h0 = all_hold 0 (lines_fields at n) right in
     let h1 = h0.1 in
-    record { request = leb-true n.request 1 h0.0; reset = leb-true n.reset 1 h1.0 }
+    record { bus_request = leb-true n.bus_request 1 h0.0; reset = leb-true n.reset 1 h1.0 }
 
 pub one_lines : (at : ℕ) (bytes : List ℕ) (s t : SavedLines) → Keeps (lines_fields at) bytes s → Keeps (lines_fields at) bytes t → s ≡ t
 one_lines at bytes s t p q = same (lines_fields at) bytes (only_one at bytes) s t p q
@@ -66,7 +66,7 @@ lines_once at bytes p q a b = one_place (lines_fields at) bytes (only_one at byt
 
 -- the latches stand between the lines and the pads
 pub lines_are : (n : SavedLines)
-    → spelling (byte n.request true ∷ byte n.reset true ∷ quad n.resets true ∷ [])
+    → spelling (byte n.bus_request true ∷ byte n.reset true ∷ quad n.resets true ∷ [])
     ++ ((n.value1 ∷ n.control1 ∷ []) ++ ((n.value2 ∷ n.control2 ∷ []) ++ spelling (word n.pads1 true ∷ word n.pads2 true ∷ [])))
     ≡ lines_bytes n
 unfolding spelling

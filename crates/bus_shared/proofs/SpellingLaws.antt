@@ -227,7 +227,7 @@ spelled_once at bytes s t p q recording =
     let store = store_same s.store t.store p.store q.store (ap (λ (x : Parts). x.store) parts) in
     let lines : lines_of s ≡ lines_of t =
     lines_laws.one_lines at _ (lines_of s) (lines_of t) p.lines (subst (λ (l : List ℕ). Keeps (lines_fields at) l (lines_of t)) (sym (ap (λ (x : Parts). x.lines) parts)) q.lines) in
-    let request = flag_same s.request t.request (ap (λ (n : SavedLines). eqb n.request 1) lines) in
+    let request = flag_same s.request t.request (ap (λ (n : SavedLines). eqb n.bus_request 1) lines) in
     let reset = flag_same s.reset t.reset (ap (λ (n : SavedLines). eqb n.reset 1) lines) in
     λ i. record {
       recording = recording i;
@@ -256,7 +256,7 @@ psg_near at bytes place wrong = refused_within (psg_spelling.port_fields at) byt
 pub lines_back : (recording : List Frame) (store : Option Store) (vdp : Vdp) (fm : fm_ports.Port) (held : List PsgWrite) (n : SavedLines) → lines_laws.Flags n
     → lines_of (board_from recording store vdp fm held n) ≡ n
 lines_back recording store vdp fm held n flags = λ i. record {
-  request = flag_back n.request flags.request i;
+  bus_request = flag_back n.bus_request flags.bus_request i;
   reset = flag_back n.reset flags.reset i;
   resets = n.resets;
   value1 = n.value1;

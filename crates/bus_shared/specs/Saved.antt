@@ -14,7 +14,7 @@ use Rattle.bus_shared.specs.declared.saved_lines.SavedLines.{SavedLines}
 -- what is kept of a board: a flag is 0 or 1
 abbrev pub lines_of : Board → SavedLines
 lines_of board = record {
-  request = flag_number board.request;
+  bus_request = flag_number board.request;
   reset = flag_number board.reset;
   resets = board.resets;
   value1 = board.port1.value;
@@ -34,7 +34,7 @@ board_from recording store vdp fm held n = record {
   port2 = record { value = n.value2; control = n.control2 };
   held = held;
   fm = fm;
-  request = n.request == 1;
+  request = n.bus_request == 1;
   reset = n.reset == 1;
   resets = n.resets;
   store = store;
@@ -45,7 +45,7 @@ board_from recording store vdp fm held n = record {
 -- once a cycle, and a pad has eight buttons
 abbrev pub lines_fields : ℕ → SavedLines → List Field
 lines_fields at n =
-    byte n.request (nat_le n.request 1)
+    byte n.bus_request (nat_le n.bus_request 1)
     ∷ byte n.reset (nat_le n.reset 1)
     ∷ quad n.resets (nat_le n.resets at)
     ∷ byte n.value1 true

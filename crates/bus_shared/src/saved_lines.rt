@@ -20,7 +20,7 @@ const WORDS: u16 = 0x100;
 #[derive(Clone, Copy)]
 pub struct SavedLines {
     /// Whether the Z80's bus is requested.
-    pub request: u8,
+    pub bus_request: u8,
     /// Whether the Z80's reset is held.
     pub reset: u8,
     /// How often it was.
@@ -43,7 +43,7 @@ impl SavedLines {
         ensures { (at : ℕ) → Stand 0 (lines_fields at result) bytes.now }
     {
         SavedLines {
-            request: u8_at(bytes, 0),
+            bus_request: u8_at(bytes, 0),
             reset: u8_at(bytes, 1),
             resets: u64_at(bytes, 2),
             value1: u8_at(bytes, 10),
@@ -62,7 +62,7 @@ impl SavedLines {
         ensures sizes { AreSized (map seen result) }
     {
         [
-            Field::Byte(self.request, self.request <= 1),
+            Field::Byte(self.bus_request, self.bus_request <= 1),
             Field::Byte(self.reset, self.reset <= 1),
             Field::Quad(self.resets, self.resets <= at),
             Field::Byte(self.value1, true),

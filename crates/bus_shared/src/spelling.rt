@@ -178,7 +178,7 @@ fn board_of(
         port2: port_with(lines.value2, lines.control2),
         psg: Box::new(alloc, psg)?,
         fm: Box::new(alloc, fm)?,
-        request: lines.request == 1,
+        request: lines.bus_request == 1,
         reset: lines.reset == 1,
         resets: lines.resets,
         parcel,

@@ -170,7 +170,7 @@ rendered m i = record {
 unfoldable pub mover : Console → ℕ
 mover m = least_below (key_in m) 5
 
--- the address of the instruction that the event of least key begins, if it begins one
+-- where the next move is a sample of the 68000 that begins an instruction, its address
 abbrev pub begins_in : Console → Option ℕ
 begins_in m =
     cond ((mover m == 0) && (next_of m.main).sample) (begins_at (case_of m.main (level_of m.shared)) m.main.regs.pc) None

@@ -69,8 +69,7 @@ impl Machine {
         self.main_chip().cart()
     }
 
-    /// The address of the instruction that the event of least key begins. There is none exactly where
-    /// that event begins no instruction.
+    /// Where the next event is a sample of the 68000 that begins an instruction, its address; else none.
     pub fn begins(&self) -> Option<u32>
         ensures { result ≡ begins_in self.now.console }
     {

@@ -11,7 +11,7 @@ pub returns-clause-bytes : goal.returns-clause-bytes
 returns-clause-bytes c =
     let s = c.self.inside in
     let n : SavedLines = record {
-      request = flag_number s.request;
+      bus_request = flag_number s.request;
       reset = flag_number s.reset;
       resets = s.resets;
       value1 = s.port1.value;
