@@ -71,7 +71,7 @@ pub lines_are : (n : SavedLines)
     ≡ lines_bytes n
 unfolding spelling
 lines_are n =
-    ap (λ (l : List ℕ). n.request ∷ n.reset ∷ l)
+    ap (λ (l : List ℕ). n.bus_request ∷ n.reset ∷ l)
     (append_assoc (to_be_bytes w64 n.resets) [] (n.value1 ∷ n.control1 ∷ n.value2 ∷ n.control2 ∷ spelling (word n.pads1 true ∷ word n.pads2 true ∷ [])))
 
 -- what is appended four times, and five times
