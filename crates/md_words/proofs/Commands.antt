@@ -26,7 +26,7 @@ rom = word_rule (codes "rom") 1
 -- the options of a run, and whether each has to be there
 abbrev run_arguments : List (Text × Bool)
 run_arguments =
-    (codes "cycles", true) ∷ (codes "in", false) ∷ (codes "frames", false) ∷ (codes "sound", false) ∷ (codes "journal", false) ∷ (codes "workers", false) ∷ []
+    (codes "cycles", true) ∷ (codes "in", false) ∷ (codes "load", false) ∷ (codes "save", false) ∷ (codes "frames", false) ∷ (codes "sound", false) ∷ (codes "journal", false) ∷ (codes "workers", false) ∷ []
 
 abbrev run_rules : List Rule
 run_rules = rom ∷ map option_rule run_arguments
@@ -81,7 +81,7 @@ unfolding run_app
 run_parse_is words = ap (λ kinds. cond (is_empty kinds) (Some (rows_after run_rules [] words)) None) (leaf_fault (built run_app) nothing_held words refl)
 
 run_found : AreFound run_rules run_options
-run_found = are_found run_rules run_arguments (λ name. refl) (refl, (refl, (refl, (refl, (refl, (refl, tt))))))
+run_found = are_found run_rules run_arguments (λ name. refl) (refl, (refl, (refl, (refl, (refl, (refl, (refl, (refl, tt))))))))
 
 pub run_means : (words : List Text) → AreTexts words → run_parsed words ≡ run_of words
 run_means words texts =
