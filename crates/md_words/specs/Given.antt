@@ -72,7 +72,7 @@ run_of_arguments arguments = if are_single arguments then run_given (values_by (
 
 -- the names of the options of a run
 abbrev pub option_names : List Text
-option_names = codes "cycles" ∷ codes "in" ∷ codes "frames" ∷ codes "sound" ∷ codes "journal" ∷ codes "workers" ∷ []
+option_names = codes "cycles" ∷ codes "in" ∷ codes "load" ∷ codes "save" ∷ codes "frames" ∷ codes "sound" ∷ codes "journal" ∷ codes "workers" ∷ []
 
 -- the run that words ask for
 abbrev pub given_run : List Text → Option Run

@@ -8,13 +8,15 @@ use Rattle.std.specs.Str.Parse.{digits_value}
 use Rattle.clap.specs.Walk.{Row, Text, first_of}
 use Rattle.md_words.specs.Parse.{info_app, parse_of, run_app}
 
--- a run of a cartridge from power-on: the cartridge's name, the cycle of its end, the name of the
--- recording, if one is given, those of the frames file, of the sound file and of the journal, each if it
--- is asked for, and how many workers make it
+-- a run of a cartridge, from power-on or from a saved state: the cartridge's name, the cycle of its end, the name of the
+-- recording and that of the saved state, each if one is given, those of the state to save, of the frames
+-- file, of the sound file and of the journal, each if it is asked for, and how many workers make it
 pub record Run : Type 0 where
   pub rom : List ℕ
   pub cycles : ℕ
   pub recording : Option (List ℕ)
+  pub load : Option (List ℕ)
+  pub save : Option (List ℕ)
   pub frames : Option (List ℕ)
   pub sound : Option (List ℕ)
   pub journal : Option (List ℕ)
@@ -44,6 +46,16 @@ end_of (RunCart run) = run.cycles
 abbrev pub recording_name : Command → Option (List ℕ)
 recording_name (Info rom) = None
 recording_name (RunCart run) = run.recording
+
+-- the name of the saved state to go on from, if one is given
+abbrev pub load_name : Command → Option (List ℕ)
+load_name (Info rom) = None
+load_name (RunCart run) = run.load
+
+-- the name of the state to save, if it is asked for
+abbrev pub save_name : Command → Option (List ℕ)
+save_name (Info rom) = None
+save_name (RunCart run) = run.save
 
 -- the name of the frames file, if one is asked for
 abbrev pub frames_name : Command → Option (List ℕ)
@@ -102,6 +114,8 @@ pub record Values : Type 0 where
   pub rom : Option Text
   pub cycles : Option Text
   pub recording : Option Text
+  pub load : Option Text
+  pub save : Option Text
   pub frames : Option Text
   pub sound : Option Text
   pub journal : Option Text
@@ -114,6 +128,8 @@ values_by value =
       rom = value (codes "rom");
       cycles = value (codes "cycles");
       recording = value (codes "in");
+      load = value (codes "load");
+      save = value (codes "save");
       frames = value (codes "frames");
       sound = value (codes "sound");
       journal = value (codes "journal");
@@ -122,7 +138,7 @@ values_by value =
 
 -- what is given for names of files
 abbrev pub names_of : Values → List (Option Text)
-names_of values = values.rom ∷ values.recording ∷ values.frames ∷ values.sound ∷ values.journal ∷ []
+names_of values = values.rom ∷ values.recording ∷ values.load ∷ values.save ∷ values.frames ∷ values.sound ∷ values.journal ∷ []
 
 -- they can be names, and no two are the same
 abbrev pub are_names : List (Option Text) → Bool
@@ -145,6 +161,8 @@ run_by values (Some rom) (Some end) (Some workers) =
       rom = rom;
       cycles = end;
       recording = values.recording;
+      load = values.load;
+      save = values.save;
       frames = values.frames;
       sound = values.sound;
       journal = values.journal;
@@ -152,8 +170,8 @@ run_by values (Some rom) (Some end) (Some workers) =
     })
 run_by values rom end workers = None
 
--- `run` has the name of a cartridge and `--cycles N`, with `--in P`, `--frames F`, `--sound W`,
--- `--journal J` and `--workers K` if wanted
+-- `run` has the name of a cartridge and `--cycles N`, with `--in P`, `--load S`, `--save S`, `--frames F`,
+-- `--sound W`, `--journal J` and `--workers K` if wanted
 abbrev pub run_given : Values → Option Run
 run_given values =
     if are_names (names_of values) then run_by values values.rom (option_and_then number_of values.cycles) (workers_of values.workers) else None

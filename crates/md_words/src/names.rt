@@ -9,6 +9,9 @@ use crate::run_values::RunValues;
 /// Whether what is given for names of files can be names, and no two are the same.
 pub(crate) fn have_names(values: &RunValues<'_>) -> bool
     ensures names { result ≡ meaning.are_names (meaning.names_of (shown_values values.now)) }
+    ensures save_and_frames { result ≡ true → meaning.differ (option_copied values.now.save) (option_copied values.now.frames) ≡ true }
+    ensures save_and_sound { result ≡ true → meaning.differ (option_copied values.now.save) (option_copied values.now.sound) ≡ true }
+    ensures save_and_journal { result ≡ true → meaning.differ (option_copied values.now.save) (option_copied values.now.journal) ≡ true }
     ensures frames_and_sound { result ≡ true → meaning.differ (option_copied values.now.frames) (option_copied values.now.sound) ≡ true }
     ensures frames_and_journal { result ≡ true → meaning.differ (option_copied values.now.frames) (option_copied values.now.journal) ≡ true }
     ensures sound_and_journal { result ≡ true → meaning.differ (option_copied values.now.sound) (option_copied values.now.journal) ≡ true }
@@ -16,6 +19,8 @@ pub(crate) fn have_names(values: &RunValues<'_>) -> bool
     are_names(&[
         values.rom,
         values.recording,
+        values.load,
+        values.save,
         values.frames,
         values.sound,
         values.journal,

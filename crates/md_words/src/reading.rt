@@ -18,10 +18,10 @@ use std::alloc::{AllocError, Global};
 /// Reads the words of the command line, those behind the program's name; none: they ask for nothing
 /// that there is.
 ///
-/// They are `info ROM`, or `run ROM --cycles N` with `--in P`, `--frames F`, `--sound W`,
-/// `--journal J` and `--workers K` where they are wanted. Options stand in any order among the other
-/// words, each at most once, as two words or as `--name=value`; `--` ends the options. Names are not empty, do not begin with a hyphen, and
-/// are pairwise different. Numbers are 1 to 20 decimal digits with a value below 2^64; K is 1 to 5.
+/// They are `info ROM`, or `run ROM --cycles N` with `--in P`, `--load S`, `--save S`, `--frames F`,
+/// `--sound W`, `--journal J` and `--workers K` where they are wanted. Options stand in any order among
+/// the other words, each at most once, as two words or as `--name=value`; `--` ends the options. Names
+/// are not empty, do not begin with a hyphen, and are pairwise different. Numbers are 1 to 20 decimal digits with a value below 2^64; K is 1 to 5.
 pub fn read_words<'a>(
     alloc: Global,
     words: &'a [String],
@@ -97,6 +97,8 @@ fn values_of<'a>(matches: &ArgMatches<'a>) -> RunValues<'a>
         rom: value(matches, "rom"),
         cycles: value(matches, "cycles"),
         recording: value(matches, "in"),
+        load: value(matches, "load"),
+        save: value(matches, "save"),
         frames: value(matches, "frames"),
         sound: value(matches, "sound"),
         journal: value(matches, "journal"),
@@ -127,6 +129,8 @@ fn run_given<'a>(values: &RunValues<'a>) -> Option<RunWords<'a>>
             rom,
             cycles,
             recording: values.recording,
+            load: values.load,
+            save: values.save,
             frames: values.frames,
             sound: values.sound,
             journal: values.journal,

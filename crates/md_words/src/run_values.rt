@@ -4,6 +4,8 @@ pub(crate) struct RunValues<'a> {
     pub(crate) rom: Option<&'a str>,
     pub(crate) cycles: Option<&'a str>,
     pub(crate) recording: Option<&'a str>,
+    pub(crate) load: Option<&'a str>,
+    pub(crate) save: Option<&'a str>,
     pub(crate) frames: Option<&'a str>,
     pub(crate) sound: Option<&'a str>,
     pub(crate) journal: Option<&'a str>,
