@@ -6,42 +6,56 @@ use Rattle.std.specs.Option.{option_map}
 use Rattle.std.specs.Str.{bytes_eq}
 use Rattle.clap.specs.Lexer.{long_of}
 use Rattle.clap.specs.Walk.{Text}
-use Rattle.md_words.specs.Words.{Run, run_given}
+use Rattle.md_words.specs.Words.{Run, run_given, values_by}
 
--- an argument: an option's name, or no letter for the positional word, and its value
+-- an argument: its name and its value
 abbrev pub Argument : Type 0
 Argument = Text × Text
+
+-- how the next word is read: as an option or as a positional word, as the value of the option of this
+-- name, or, behind `--`, as a positional word whatever it looks like
+pub data Place : Type 0 where
+  between : Place
+  value_of : Text → Place
+  ended : Place
 
 -- one more argument in front of those behind it
 abbrev pub with_value : Text → Text → Option (List Argument) → Option (List Argument)
 with_value name value = option_map (λ arguments. (name, value) ∷ arguments)
 
--- the word begins with a hyphen
-abbrev pub has_hyphen : Text → Bool
-has_hyphen [] = false
-has_hyphen (first ∷ rest) = first == 45
+-- the word looks like an option: it begins with a hyphen, and is not that hyphen alone
+abbrev pub is_marked : Text → Bool
+is_marked (first ∷ second ∷ rest) = first == 45
+is_marked word = false
 
 abbrev pub has_name : Text → Text → Bool
 has_name name other = bytes_eq other name
 
 -- an option and its value in one word, or an option whose value is the next word
 abbrev pub option_word : List Text → Option (Text × Option Text) → Option (List Argument) → (Text → Option (List Argument)) → Option (List Argument)
-option_word names (Some (name, Some value)) behind waiting = if list_any (has_name name) names then with_value name value behind else None
-option_word names (Some (name, None)) behind waiting = if list_any (has_name name) names then waiting name else None
-option_word names None behind waiting = None
+option_word options (Some (name, Some value)) behind waiting = if list_any (has_name name) options then with_value name value behind else None
+option_word options (Some (name, None)) behind waiting = if list_any (has_name name) options then waiting name else None
+option_word options None behind waiting = None
 
--- The arguments that words give, where these are the options' names. Behind `--` all words are
--- positional, and an option that waits takes the next word.
-abbrev pub given : List Text → Bool → Option Text → List Text → Option (List Argument)
-given names ended (Some name) [] = None
-given names ended None [] = Some []
-given names true (Some name) (word ∷ words) = None
-given names true None (word ∷ words) = with_value [] word (given names true None words)
-given names false (Some name) (word ∷ words) = if has_hyphen word then None else with_value name word (given names false None words)
-given names false None (word ∷ words) =
-    if bytes_eq word (codes "--") then given names true None words
-    else if has_hyphen word then option_word names (long_of word) (given names false None words) (λ name. given names false (Some name) words)
-    else with_value [] word (given names false None words)
+-- a positional word is the value of the first of the names that are left
+abbrev pub positional_word : List Text → Text → (List Text → Option (List Argument)) → Option (List Argument)
+positional_word [] word behind = None
+positional_word (name ∷ left) word behind = with_value name word (behind left)
+
+-- The arguments that words give in their order, where these are the names of the positional words and
+-- those of the options; none where the words are refused.
+abbrev pub given : List Text → List Text → Place → List Text → Option (List Argument)
+given positionals options between [] = Some []
+given positionals options ended [] = Some []
+given positionals options (value_of name) [] = None
+given positionals options ended (word ∷ words) = positional_word positionals word (λ left. given left options ended words)
+given positionals options (value_of name) (word ∷ words) =
+    if is_marked word then None else with_value name word (given positionals options between words)
+given positionals options between (word ∷ words) =
+    if bytes_eq word (codes "--") then given positionals options ended words
+    else if is_marked word
+    then option_word options (long_of word) (given positionals options between words) (λ name. given positionals options (value_of name) words)
+    else positional_word positionals word (λ left. given left options between words)
 
 -- no argument stands twice
 abbrev pub are_single : List Argument → Bool
@@ -49,25 +63,20 @@ are_single [] = true
 are_single (argument ∷ arguments) = not (list_any (λ other. has_name argument.0 other.0) arguments) && are_single arguments
 
 -- the value of an argument
-abbrev pub value_of : Text → List Argument → Option Text
-value_of name arguments = option_map (λ argument. argument.1) (find (λ argument. has_name name argument.0) arguments)
+abbrev pub value_in : List Argument → Text → Option Text
+value_in arguments name = option_map (λ argument. argument.1) (find (λ argument. has_name name argument.0) arguments)
 
 -- the run of these arguments
 abbrev pub run_of_arguments : List Argument → Option Run
-run_of_arguments arguments =
-    if are_single arguments
-    then
-    run_given (value_of [] arguments) (value_of (codes "cycles") arguments) (value_of (codes "in") arguments) (value_of (codes "frames") arguments)
-    (value_of (codes "sound") arguments) (value_of (codes "journal") arguments) (value_of (codes "workers") arguments)
-    else None
+run_of_arguments arguments = if are_single arguments then run_given (values_by (value_in arguments)) else None
 
 -- the names of the options of a run
 abbrev pub option_names : List Text
-option_names = codes "cycles" ∷ codes "in" ∷ codes "frames" ∷ codes "sound" ∷ codes "journal" ∷ codes "workers" ∷ []
+option_names = codes "cycles" ∷ codes "in" ∷ codes "load" ∷ codes "save" ∷ codes "frames" ∷ codes "sound" ∷ codes "journal" ∷ codes "workers" ∷ []
 
 -- the run that words ask for
 abbrev pub given_run : List Text → Option Run
-given_run words = option_and_then run_of_arguments (given option_names false None words)
+given_run words = option_and_then run_of_arguments (given (codes "rom" ∷ []) option_names between words)
 
 -- LISTS OF WORDS
 

@@ -28,10 +28,10 @@ bare name = record (new_app name) { top = record (new_app name).top { no_binary_
 unfoldable pub info_app : App
 info_app = fold with_rule (bare (codes "info")) (required (positional (codes "rom")) ∷ [])
 
--- `run ROM --cycles N`, with `--in P`, `--frames F`, `--sound W`, `--journal J` and `--workers K` if
+-- `run ROM --cycles N`, with `--in P`, `--load S`, `--save S`, `--frames F`, `--sound W`, `--journal J` and `--workers K` if
 -- wanted
 unfoldable pub run_app : App
 run_app =
     fold with_rule (bare (codes "run"))
-    (required (positional (codes "rom")) ∷ required (option (codes "cycles")) ∷ option (codes "in") ∷ option (codes "frames") ∷ option (codes "sound")
+    (required (positional (codes "rom")) ∷ required (option (codes "cycles")) ∷ option (codes "in") ∷ option (codes "load") ∷ option (codes "save") ∷ option (codes "frames") ∷ option (codes "sound")
     ∷ option (codes "journal") ∷ option (codes "workers") ∷ [])

@@ -1,9 +1,10 @@
 -- What the reader of the words found, as the definition's command.
 use Rattle.std.specs.Option.{option_copied}
 use Rattle.md_words.specs.Words as words
-use Rattle.md_words.specs.Words.{Command, Run, RunCart}
+use Rattle.md_words.specs.Words.{Command, Run, RunCart, Values}
 use Rattle.md_words.specs.declared.command_words.CommandWords.{CommandWords}
 use Rattle.md_words.specs.declared.command_words.CommandWords.TheVariants as read
+use Rattle.md_words.specs.declared.run_values.RunValues.{RunValues}
 use Rattle.md_words.specs.declared.run_words.RunWords.{RunWords}
 
 -- the run that words were read as
@@ -13,10 +14,27 @@ shown_run run =
       rom = run.rom.now;
       cycles = run.cycles;
       recording = option_copied run.recording;
+      load = option_copied run.load;
+      save = option_copied run.save;
       frames = option_copied run.frames;
       sound = option_copied run.sound;
       journal = option_copied run.journal;
       workers = run.workers;
+    }
+
+-- what is given for the arguments
+abbrev pub shown_values : RunValues → Values
+shown_values values =
+    record {
+      rom = option_copied values.rom;
+      cycles = option_copied values.cycles;
+      recording = option_copied values.recording;
+      load = option_copied values.load;
+      save = option_copied values.save;
+      frames = option_copied values.frames;
+      sound = option_copied values.sound;
+      journal = option_copied values.journal;
+      workers = option_copied values.workers;
     }
 
 -- the command that words were read as

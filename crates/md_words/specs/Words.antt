@@ -8,13 +8,15 @@ use Rattle.std.specs.Str.Parse.{digits_value}
 use Rattle.clap.specs.Walk.{Row, Text, first_of}
 use Rattle.md_words.specs.Parse.{info_app, parse_of, run_app}
 
--- a run of a cartridge from power-on: the cartridge's name, the cycle of its end, the name of the
--- recording, if one is given, those of the frames file, of the sound file and of the journal, each if it
--- is asked for, and how many workers make it
+-- a run of a cartridge, from power-on or from a saved state: the cartridge's name, the cycle of its end, the name of the
+-- recording and that of the saved state, each if one is given, those of the state to save, of the frames
+-- file, of the sound file and of the journal, each if it is asked for, and how many workers make it
 pub record Run : Type 0 where
   pub rom : List ℕ
   pub cycles : ℕ
   pub recording : Option (List ℕ)
+  pub load : Option (List ℕ)
+  pub save : Option (List ℕ)
   pub frames : Option (List ℕ)
   pub sound : Option (List ℕ)
   pub journal : Option (List ℕ)
@@ -44,6 +46,16 @@ end_of (RunCart run) = run.cycles
 abbrev pub recording_name : Command → Option (List ℕ)
 recording_name (Info rom) = None
 recording_name (RunCart run) = run.recording
+
+-- the name of the saved state to go on from, if one is given
+abbrev pub load_name : Command → Option (List ℕ)
+load_name (Info rom) = None
+load_name (RunCart run) = run.load
+
+-- the name of the state to save, if it is asked for
+abbrev pub save_name : Command → Option (List ℕ)
+save_name (Info rom) = None
+save_name (RunCart run) = run.save
 
 -- the name of the frames file, if one is asked for
 abbrev pub frames_name : Command → Option (List ℕ)
@@ -97,13 +109,41 @@ abbrev pub differ : Option (List ℕ) → Option (List ℕ) → Bool
 differ (Some first) (Some second) = not (bytes_eq first second)
 differ first second = true
 
--- the names are names, and pairwise different
-abbrev pub are_names : List ℕ → Option (List ℕ) → Option (List ℕ) → Option (List ℕ) → Option (List ℕ) → Bool
-are_names rom recording frames sound journal =
-    is_name rom && is_optional_name recording && is_optional_name frames && is_optional_name sound && is_optional_name journal
-    && differ (Some rom) recording && differ (Some rom) frames && differ (Some rom) sound && differ (Some rom) journal
-    && differ recording frames && differ recording sound && differ recording journal
-    && differ frames sound && differ frames journal && differ sound journal
+-- what is given for each argument of a run
+pub record Values : Type 0 where
+  pub rom : Option Text
+  pub cycles : Option Text
+  pub recording : Option Text
+  pub load : Option Text
+  pub save : Option Text
+  pub frames : Option Text
+  pub sound : Option Text
+  pub journal : Option Text
+  pub workers : Option Text
+
+-- the same, by the names of the arguments
+abbrev pub values_by : (Text → Option Text) → Values
+values_by value =
+    record {
+      rom = value (codes "rom");
+      cycles = value (codes "cycles");
+      recording = value (codes "in");
+      load = value (codes "load");
+      save = value (codes "save");
+      frames = value (codes "frames");
+      sound = value (codes "sound");
+      journal = value (codes "journal");
+      workers = value (codes "workers");
+    }
+
+-- what is given for names of files
+abbrev pub names_of : Values → List (Option Text)
+names_of values = values.rom ∷ values.recording ∷ values.load ∷ values.save ∷ values.frames ∷ values.sound ∷ values.journal ∷ []
+
+-- they can be names, and no two are the same
+abbrev pub are_names : List (Option Text) → Bool
+are_names [] = true
+are_names (name ∷ names) = is_optional_name name && list_all (differ name) names && are_names names
 
 -- `info` has the name of a cartridge
 abbrev pub info_from : Option Text → Option Text
@@ -113,27 +153,31 @@ info_from None = None
 abbrev pub info_of : List Text → Option Text
 info_of words = option_and_then (λ rows. info_from (first_of (codes "rom") rows)) (parse_of info_app words)
 
--- the run of these names, this cycle of its end and this number of workers
-abbrev pub run_by : Text → Option Text → Option Text → Option Text → Option Text → Option ℕ → Option ℕ → Option Run
-run_by rom recording frames sound journal (Some end) (Some workers) =
-    Some (record { rom = rom; cycles = end; recording = recording; frames = frames; sound = sound; journal = journal; workers = workers })
-run_by rom recording frames sound journal end workers = None
+-- the run of the cartridge of this name, with this cycle of its end and this number of workers
+abbrev pub run_by : Values → Option Text → Option ℕ → Option ℕ → Option Run
+run_by values (Some rom) (Some end) (Some workers) =
+    Some
+    (record {
+      rom = rom;
+      cycles = end;
+      recording = values.recording;
+      load = values.load;
+      save = values.save;
+      frames = values.frames;
+      sound = values.sound;
+      journal = values.journal;
+      workers = workers;
+    })
+run_by values rom end workers = None
 
--- the run of these names and these two counts
-abbrev pub run_from : Text → Text → Option Text → Option Text → Option Text → Option Text → Option Text → Option Run
-run_from rom count recording frames sound journal workers =
-    if are_names rom recording frames sound journal then run_by rom recording frames sound journal (number_of count) (workers_of workers) else None
-
--- `run` has the name of a cartridge and `--cycles N`, with `--in P`, `--frames F`, `--sound W`,
--- `--journal J` and `--workers K` if wanted
-abbrev pub run_given : Option Text → Option Text → Option Text → Option Text → Option Text → Option Text → Option Text → Option Run
-run_given (Some rom) (Some count) recording frames sound journal workers = run_from rom count recording frames sound journal workers
-run_given rom count recording frames sound journal workers = None
+-- `run` has the name of a cartridge and `--cycles N`, with `--in P`, `--load S`, `--save S`, `--frames F`,
+-- `--sound W`, `--journal J` and `--workers K` if wanted
+abbrev pub run_given : Values → Option Run
+run_given values =
+    if are_names (names_of values) then run_by values values.rom (option_and_then number_of values.cycles) (workers_of values.workers) else None
 
 abbrev pub run_with : List Row → Option Run
-run_with rows =
-    run_given (first_of (codes "rom") rows) (first_of (codes "cycles") rows) (first_of (codes "in") rows) (first_of (codes "frames") rows)
-    (first_of (codes "sound") rows) (first_of (codes "journal") rows) (first_of (codes "workers") rows)
+run_with rows = run_given (values_by (λ name. first_of name rows))
 
 abbrev pub run_of : List Text → Option Run
 run_of words = option_and_then run_with (parse_of run_app words)

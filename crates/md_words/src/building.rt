@@ -13,14 +13,17 @@ pub(crate) fn info_command<'a>(alloc: Global) -> Result<Command<'a>, AllocError>
     with_wanted_word(bare(alloc, "info"), alloc, "rom")
 }
 
-/// The command `run ROM --cycles N --in P --frames F --sound W --journal J --workers K`, behind its word.
+/// The command `run ROM --cycles N --in P --load S --save S --frames F --sound W --journal J --workers K`,
+/// behind its word.
 pub(crate) fn run_command<'a>(alloc: Global) -> Result<Command<'a>, AllocError>
     ensures { IfOk result (λ command. app_of command ≡ meaning.run_app) }
 {
     let rom = with_wanted_word(bare(alloc, "run"), alloc, "rom")?;
     let cycles = with_wanted_option(rom, alloc, "cycles")?;
     let recording = with_option(cycles, alloc, "in")?;
-    let frames = with_option(recording, alloc, "frames")?;
+    let load = with_option(recording, alloc, "load")?;
+    let save = with_option(load, alloc, "save")?;
+    let frames = with_option(save, alloc, "frames")?;
     let sound = with_option(frames, alloc, "sound")?;
     let journal = with_option(sound, alloc, "journal")?;
     let workers = with_option(journal, alloc, "workers")?;

@@ -1,7 +1,7 @@
 ghost use Rattle.std.specs.Prelude.{◌≡◌, ◌≤◌};
 ghost use Rattle.std.specs.Option.{option_copied};
 ghost use Rattle.md_words.specs.Shown.{shown_command};
-ghost use Rattle.md_words.specs.Words.{end_of, frames_name, journal_name, recording_name, rom_of, sound_name, workers_in};
+ghost use Rattle.md_words.specs.Words.{end_of, frames_name, journal_name, load_name, recording_name, rom_of, save_name, sound_name, workers_in};
 
 use crate::run_words::RunWords;
 
@@ -42,6 +42,26 @@ impl<'a> CommandWords<'a> {
         match self {
             CommandWords::Info(_) => None,
             CommandWords::Run(run) => run.recording,
+        }
+    }
+
+    /// The name of the saved state to go on from, if one is given.
+    pub fn load(&self) -> Option<&'a str>
+        ensures { option_copied result ≡ load_name (shown_command self.now) }
+    {
+        match self {
+            CommandWords::Info(_) => None,
+            CommandWords::Run(run) => run.load,
+        }
+    }
+
+    /// The name of the state to save, if it is asked for.
+    pub fn save(&self) -> Option<&'a str>
+        ensures { option_copied result ≡ save_name (shown_command self.now) }
+    {
+        match self {
+            CommandWords::Info(_) => None,
+            CommandWords::Run(run) => run.save,
         }
     }
 

@@ -8,6 +8,7 @@ mod names;
 mod numbers;
 mod parse;
 mod reading;
+mod run_values;
 mod run_words;
 
 pub use command_words::CommandWords;

@@ -1,35 +1,50 @@
-ghost use Rattle.std.specs.Prelude.{◌≡◌, true};
+ghost use Rattle.std.specs.Prelude.{◌≡◌, map, true};
+ghost use Rattle.std.specs.List.{list_all};
 ghost use Rattle.std.specs.Option.{option_copied};
+ghost use Rattle.md_words.specs.Shown.{shown_values};
 ghost use Rattle.md_words.specs.Words as meaning;
 
-/// Whether the names can be names, and are pairwise different.
-pub(crate) fn are_names(
-    rom: &str,
-    recording: Option<&str>,
-    frames: Option<&str>,
-    sound: Option<&str>,
-    journal: Option<&str>,
-) -> bool
-    ensures names { result ≡ meaning.are_names rom.now (option_copied recording.entry) (option_copied frames.entry) (option_copied sound.entry) (option_copied journal.entry) }
-    ensures frames_and_sound { result ≡ true → meaning.differ (option_copied frames.entry) (option_copied sound.entry) ≡ true }
-    ensures frames_and_journal { result ≡ true → meaning.differ (option_copied frames.entry) (option_copied journal.entry) ≡ true }
-    ensures sound_and_journal { result ≡ true → meaning.differ (option_copied sound.entry) (option_copied journal.entry) ≡ true }
+use crate::run_values::RunValues;
+
+/// Whether what is given for names of files can be names, and no two are the same.
+pub(crate) fn have_names(values: &RunValues<'_>) -> bool
+    ensures names { result ≡ meaning.are_names (meaning.names_of (shown_values values.now)) }
+    ensures save_and_frames { result ≡ true → meaning.differ (option_copied values.now.save) (option_copied values.now.frames) ≡ true }
+    ensures save_and_sound { result ≡ true → meaning.differ (option_copied values.now.save) (option_copied values.now.sound) ≡ true }
+    ensures save_and_journal { result ≡ true → meaning.differ (option_copied values.now.save) (option_copied values.now.journal) ≡ true }
+    ensures frames_and_sound { result ≡ true → meaning.differ (option_copied values.now.frames) (option_copied values.now.sound) ≡ true }
+    ensures frames_and_journal { result ≡ true → meaning.differ (option_copied values.now.frames) (option_copied values.now.journal) ≡ true }
+    ensures sound_and_journal { result ≡ true → meaning.differ (option_copied values.now.sound) (option_copied values.now.journal) ≡ true }
 {
-    is_name(rom)
-        && is_optional_name(recording)
-        && is_optional_name(frames)
-        && is_optional_name(sound)
-        && is_optional_name(journal)
-        && differ(Some(rom), recording)
-        && differ(Some(rom), frames)
-        && differ(Some(rom), sound)
-        && differ(Some(rom), journal)
-        && differ(recording, frames)
-        && differ(recording, sound)
-        && differ(recording, journal)
-        && differ(frames, sound)
-        && differ(frames, journal)
-        && differ(sound, journal)
+    are_names(&[
+        values.rom,
+        values.recording,
+        values.load,
+        values.save,
+        values.frames,
+        values.sound,
+        values.journal,
+    ])
+}
+
+fn are_names(names: &[Option<&str>]) -> bool
+    ensures { result ≡ meaning.are_names (map option_copied names.now) }
+{
+    match names {
+        [] => true,
+        [name, rest @ ..] => {
+            is_optional_name(*name) && differs_from_all(*name, rest) && are_names(rest)
+        }
+    }
+}
+
+fn differs_from_all(name: Option<&str>, others: &[Option<&str>]) -> bool
+    ensures { result ≡ list_all (meaning.differ (option_copied name.entry)) (map option_copied others.now) }
+{
+    match others {
+        [] => true,
+        [other, rest @ ..] => differ(name, *other) && differs_from_all(name, rest),
+    }
 }
 
 /// Whether the value of an option can be a name.

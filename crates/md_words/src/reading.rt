@@ -1,15 +1,16 @@
-ghost use Rattle.std.specs.Prelude.{◌≡◌, IfOk, map, string_bytes};
+ghost use Rattle.std.specs.Prelude.{◌≡◌, IfOk, map, option_and_then, string_bytes};
 ghost use Rattle.std.specs.Option.{option_copied, option_map};
 ghost use Rattle.clap.specs.Matches.{found_of};
 ghost use Rattle.clap.specs.Walk.{first_of, rows_of};
-ghost use Rattle.md_words.specs.Shown.{shown_command, shown_run};
+ghost use Rattle.md_words.specs.Shown.{shown_command, shown_run, shown_values};
 ghost use Rattle.md_words.specs.Words as meaning;
 
 use crate::building::{info_command, run_command};
 use crate::command_words::CommandWords;
-use crate::names::{are_names, is_name};
+use crate::names::{have_names, is_name};
 use crate::numbers::{read_number, read_workers};
 use crate::parse::parse;
+use crate::run_values::RunValues;
 use crate::run_words::RunWords;
 use clap::ArgMatches;
 use std::alloc::{AllocError, Global};
@@ -17,10 +18,10 @@ use std::alloc::{AllocError, Global};
 /// Reads the words of the command line, those behind the program's name; none: they ask for nothing
 /// that there is.
 ///
-/// They are `info ROM`, or `run ROM --cycles N` with `--in P`, `--frames F`, `--sound W`,
-/// `--journal J` and `--workers K` where they are wanted. Options stand in any order among the other
-/// words, each at most once, as two words or as `--name=value`; `--` ends the options. Names are not empty, do not begin with a hyphen, and
-/// are pairwise different. Numbers are 1 to 20 decimal digits with a value below 2^64; K is 1 to 5.
+/// They are `info ROM`, or `run ROM --cycles N` with `--in P`, `--load S`, `--save S`, `--frames F`,
+/// `--sound W`, `--journal J` and `--workers K` where they are wanted. Options stand in any order among
+/// the other words, each at most once, as two words or as `--name=value`; `--` ends the options. Names
+/// are not empty, do not begin with a hyphen, and are pairwise different. Numbers are 1 to 20 decimal digits with a value below 2^64; K is 1 to 5.
 pub fn read_words<'a>(
     alloc: Global,
     words: &'a [String],
@@ -85,15 +86,24 @@ fn read_run<'a>(alloc: Global, words: &'a [String]) -> Result<Option<RunWords<'a
 fn run_chosen<'a>(matches: &ArgMatches<'a>) -> Option<RunWords<'a>>
     ensures { option_map shown_run result ≡ meaning.run_with (rows_of (found_of matches.now)) }
 {
-    run_given(
-        value(matches, "rom"),
-        value(matches, "cycles"),
-        value(matches, "in"),
-        value(matches, "frames"),
-        value(matches, "sound"),
-        value(matches, "journal"),
-        value(matches, "workers"),
-    )
+    run_given(&values_of(matches))
+}
+
+/// What the matches have for each argument of a run.
+fn values_of<'a>(matches: &ArgMatches<'a>) -> RunValues<'a>
+    ensures { shown_values result ≡ meaning.values_by (λ name. first_of name (rows_of (found_of matches.now))) }
+{
+    RunValues {
+        rom: value(matches, "rom"),
+        cycles: value(matches, "cycles"),
+        recording: value(matches, "in"),
+        load: value(matches, "load"),
+        save: value(matches, "save"),
+        frames: value(matches, "frames"),
+        sound: value(matches, "sound"),
+        journal: value(matches, "journal"),
+        workers: value(matches, "workers"),
+    }
 }
 
 /// The value of an argument, if it has one.
@@ -103,53 +113,39 @@ fn value<'a>(matches: &ArgMatches<'a>, name: &str) -> Option<&'a str>
     matches.get_str(name)
 }
 
-/// The run of these values, if those that it needs are there.
-fn run_given<'a>(
-    rom: Option<&'a str>,
-    count: Option<&'a str>,
-    recording: Option<&'a str>,
-    frames: Option<&'a str>,
-    sound: Option<&'a str>,
-    journal: Option<&'a str>,
-    workers: Option<&str>,
-) -> Option<RunWords<'a>>
-    ensures { option_map shown_run result ≡ meaning.run_given (option_copied rom.entry) (option_copied count.entry)
-        (option_copied recording.entry) (option_copied frames.entry) (option_copied sound.entry) (option_copied journal.entry) (option_copied workers.entry) }
+/// The run of these values, if those that it needs are there and all can be read.
+fn run_given<'a>(values: &RunValues<'a>) -> Option<RunWords<'a>>
+    ensures { option_map shown_run result ≡ meaning.run_given (shown_values values.now) }
 {
-    match (rom, count) {
-        (Some(rom), Some(count)) => run_from(
-            rom, count, recording, frames, sound, journal, workers,
-        ),
+    if !have_names(values) {
+        return None;
+    }
+    match (
+        values.rom,
+        count(values.cycles),
+        read_workers(values.workers),
+    ) {
+        (Some(rom), Some(cycles), Some(workers)) => Some(RunWords {
+            rom,
+            cycles,
+            recording: values.recording,
+            load: values.load,
+            save: values.save,
+            frames: values.frames,
+            sound: values.sound,
+            journal: values.journal,
+            workers,
+        }),
         _ => None,
     }
 }
 
-/// The run of these names and these two counts.
-fn run_from<'a>(
-    rom: &'a str,
-    count: &str,
-    recording: Option<&'a str>,
-    frames: Option<&'a str>,
-    sound: Option<&'a str>,
-    journal: Option<&'a str>,
-    workers: Option<&str>,
-) -> Option<RunWords<'a>>
-    ensures { option_map shown_run result ≡ meaning.run_from rom.now count.now (option_copied recording.entry)
-        (option_copied frames.entry) (option_copied sound.entry) (option_copied journal.entry) (option_copied workers.entry) }
+/// A number that has to be there.
+fn count(word: Option<&str>) -> Option<u64>
+    ensures { result ≡ option_and_then meaning.number_of (option_copied word.entry) }
 {
-    if !are_names(rom, recording, frames, sound, journal) {
-        return None;
-    }
-    match (read_number(count), read_workers(workers)) {
-        (Some(cycles), Some(workers)) => Some(RunWords {
-            rom,
-            cycles,
-            recording,
-            frames,
-            sound,
-            journal,
-            workers,
-        }),
-        _ => None,
+    match word {
+        Some(word) => read_number(word),
+        None => None,
     }
 }
