@@ -3,14 +3,15 @@ use Rattle.std.proofs.Common.{◌≡◌, ℕ, ◌^◌, ◌<◌, ◌≤◌, List,
 use Rattle.std.specs.Prelude.{IfErr, IsSome, OnOk, OnErr}
 use Rattle.md_outer.specs.Outside.{DepotState, Files, GoesOn}
 use Rattle.md_top.specs.Endings.{HoldsUntil, RunCause, RunEnds, RunFiles, RunLeaves}
-use Rattle.md_top.specs.Inputs.{Begins, InputCause, MayBeginAt}
-use Rattle.md_top.specs.Limits.{IsEnd}
+use Rattle.md_top.specs.Inputs.{InputCause}
+use Rattle.md_top.specs.Limits.{IsEnd, last_cycle}
+use Rattle.md_top.specs.Loads.{Begins, LoadCause, MayBeginAt}
 use Rattle.md_top.specs.Outputs.{Adds, AddsParts, AreBegun, Holds, IsBegun, IsUnwritten, IsWriteFault, LeavesParts, Pieces, lengthened, nothing}
 use Rattle.md_top.specs.Runs.{FewEvents, pieces_of, pieces_until, sound_until}
 use Rattle.md_machine.specs.Starts.{IsStart, Start}
 use Rattle.md_words.specs.Words.{Run}
 use Rattle.md_top.specs.declared.ending.Ending.{Ending}
-use Rattle.md_top.specs.declared.ending.Ending.TheVariants.{Done, FramesFault, SoundFault, JournalFault, Memory}
+use Rattle.md_top.specs.declared.ending.Ending.TheVariants.{Done, FramesFault, SoundFault, JournalFault, StateFault, StateTooLong, StateWrong, OtherCart, Memory}
 use Rattle.md_top.specs.declared.outputs.Outputs.{Outputs}
 use Rattle.md_top.proofs.Puts.{rose_later}
 use Rattle.md_top.proofs.Segments.{pieces-first, pieces-grow}
@@ -122,7 +123,7 @@ refused-leaves told run old new _ cause same = same
 pub run-ends : (told : Type 0) (run : Run) (start : Start) (old mid new : DepotState) (ending : Ending) → IsEnd run.cycles → MayBeginAt run start.at
     → (told → Begins run old.files start) → start.at < run.cycles → GoesOn old mid → RunCause start run mid new ending → RunEnds told run old new ending
 run-ends told run start old mid new (Done from accesses halted) end may begins ahead on cause =
-    (end, cause.0 ∙ may, λ t. (start, begins t, ahead, cause))
+    (end, (λ none. cause.0 ∙ may none), λ t. (start, begins t, ahead, cause))
 run-ends told run start old mid new Memory end may begins ahead on cause = tt
 run-ends told run start old mid new FramesFault end may begins ahead on cause =
     (end, λ t. (start, begins t, ahead), cause-before start run old mid new FramesFault on cause)
@@ -139,6 +140,24 @@ run-leaves run start old new SoundFault begins leaves = (start, begins, leaves)
 run-leaves run start old new JournalFault begins leaves = (start, begins, leaves)
 run-leaves run start old new Memory begins leaves = leaves
 run-leaves run start old new _ begins leaves = leaves
+
+-- a run that found no machine
+pub load-ends : (told : Type 0) (run : Run) (old new : DepotState) (ending : Ending) → run.cycles ≤ last_cycle → LoadCause told run old new ending → RunEnds told run old new ending
+load-ends told run old new StateFault near cause = (near, cause)
+load-ends told run old new StateTooLong near cause = (near, cause)
+load-ends told run old new (StateWrong place) near cause = (near, cause)
+load-ends told run old new (OtherCart kept given) near cause = (near, cause)
+load-ends told run old new Memory near cause = tt
+load-ends told run old new _ near cause = absurd cause.2
+
+pub load-leaves : (told : Type 0) (run : Run) (old new : DepotState) (ending : Ending) → LoadCause told run old new ending
+    → new.files ≡ old.files → RunFiles run old.files new.files ending
+load-leaves told run old new Memory cause same = untouched run old.files new.files same
+load-leaves told run old new StateFault cause same = same
+load-leaves told run old new StateTooLong cause same = same
+load-leaves told run old new (StateWrong place) cause same = same
+load-leaves told run old new (OtherCart kept given) cause same = same
+load-leaves told run old new _ cause same = absurd cause.2
 
 -- NUMBERS OF BEGUN OUTPUTS
 

@@ -5,6 +5,7 @@ mod course;
 mod ending;
 mod inputs;
 pub mod laws;
+mod loading;
 mod output;
 mod outputs;
 mod perform;
