@@ -1,6 +1,6 @@
 -- What reading a saved state comes to.
 use Rattle.std.proofs.Common.{◌≡◌, ◌≢◌, ◌⊎◌, inl, inr, ℕ, ◌<◌, ◌≤◌, List, [], length, Option, Some, None, Result, Ok, Err, refl, sym, ap, ◌∙◌, subst, ◌↔◌}
-use Rattle.std.specs.Prelude.{IfOk, IsErrOf, IsSomeAnd}
+use Rattle.std.specs.Prelude.{IsErrOf, IsSomeAnd}
 use Rattle.md_outer.specs.Outside.{DepotState, Files, GoesOn, Rose}
 use Rattle.md_machine.specs.Machines.{MachineValue}
 use Rattle.md_machine.specs.Media.{no_media}
@@ -10,7 +10,7 @@ use Rattle.save_state.specs.States.{IsState}
 use Rattle.save_state.specs.declared.fault.StateFault.{StateFault}
 use Rattle.save_state.specs.declared.fault.StateFault.TheVariants as fault
 use Rattle.md_top.specs.Courses.{start_at}
-use Rattle.md_top.specs.Loads.{BeginsWith, IsFound, IsFoundIn, IsRefused, IsStateVerdict, Keeps, OfOther, StateCause, StateVerdict, StateWrongAt, state_limit}
+use Rattle.md_top.specs.Loads.{IsFound, IsFoundIn, IsRefused, IsStateVerdict, Keeps, OfOther, StateCause, StateVerdict, StateWrongAt, state_limit}
 use Rattle.md_top.specs.declared.ending.Ending.{Ending}
 use Rattle.md_top.specs.declared.ending.Ending.TheVariants.{StateFault as Unread, StateTooLong, StateWrong, OtherCart, Memory}
 use Rattle.md_top.specs.declared.inputs.Inputs.{Inputs}

@@ -1,3 +1,4 @@
+pub mod Appends
 pub mod Carts
 pub mod Ends
 pub mod Fetched

@@ -1,23 +1,22 @@
 -- The answers one by one, from the answer as a whole.
-use Rattle.std.proofs.Common.{◌≡◌, ◌≢◌, ◌⊎◌, inl, inr, ℕ, ◌<◌, ◌≤◌, Bool, true, false, List, [], length, Option, Some, None, refl, sym, ap, ◌∙◌, arith}
-use Rattle.std.specs.Prelude.{IsSomeAnd, codes, unwrap_or}
+use Rattle.std.proofs.Common.{◌≡◌, ◌≢◌, ◌⊎◌, inl, inr, ℕ, ◌≤◌, Bool, true, false, List, [], Option, Some, None, refl, sym, ap, ◌∙◌, arith}
+use Rattle.std.specs.Prelude.{codes}
 use Rattle.std.specs.Str.{bytes_eq}
 use Rattle.std.proofs.lemmas.Slice.Eq.{bytes_eq-Decides}
 use Rattle.rom_header.specs.Header.{header_lines}
-use Rattle.md_outer.specs.Outside.{DepotState, Files, Rose, SinkState, bytes_of, with_file}
-use Rattle.md_pads.specs.Recording.{GoesWrongAt, IsSpelled}
-use Rattle.md_top.specs.Answers.{Answers, Causes, IsBehind, PutsAll, PutsOutput, PutsPart, Reports}
-use Rattle.md_top.specs.Inputs.{IsAccepted, IsJudged, IsMissing, Recorded, RecordingCause, Verdict, cart_of, recording_limit}
+use Rattle.md_outer.specs.Outside.{DepotState, Files, Rose, SinkState, with_file}
+use Rattle.md_top.specs.Answers.{Answers, Causes, PutsAll, PutsPart, Reports}
+use Rattle.md_top.specs.Inputs.{IsAccepted, IsJudged, Recorded, RecordingCause, Verdict, cart_of}
 use Rattle.md_top.specs.Limits.{last_cycle}
-use Rattle.md_top.specs.Loads.{IsLoadFound, IsStateJudged, Keeps, OfOther, StateVerdict, StateWrongAt}
-use Rattle.md_top.specs.Runs.{pieces_of, powered_on}
-use Rattle.md_top.specs.Endings.{HasCause, InfoEnds, LeavesFiles, RunEnds, RunFiles, accepted_ending, file_ending, loaded_ending, right_ending, status_of, text_of}
+use Rattle.md_top.specs.Loads.{IsStateJudged, Keeps, StateVerdict, StateWrongAt}
+use Rattle.md_top.specs.Runs.{pieces_of, pieces_until}
+use Rattle.md_top.specs.Endings.{HasCause, InfoEnds, LeavesFiles, RunEnds, RunFiles, accepted_ending, file_ending, loaded_ending, right_ending, status_of}
 use Rattle.md_top.specs.Outputs.{LeavesParts, Parts, Pieces, all_of, nothing, with_part, written}
 use Rattle.md_words.specs.Words.{Command, Info, Run, RunCart}
 use Rattle.md_top.specs.declared.ending.Ending.{Ending}
-use Rattle.md_top.specs.declared.ending.Ending.TheVariants.{Shown, Done, Usage, TooFar, ReadFault, RecordingFault, RecordingTooLong, RecordingWrong, StateFault, StateTooLong, StateWrong, OtherCart, Behind, FramesFault, SoundFault, JournalFault, Memory}
+use Rattle.md_top.specs.declared.ending.Ending.TheVariants.{Shown, Done, Usage, TooFar, RecordingFault, RecordingTooLong, RecordingWrong, StateFault, StateTooLong, StateWrong, OtherCart, Behind, FramesFault, SoundFault, JournalFault, SaveFault, Unsaved, Memory}
 use Rattle.md_top.proofs.Right.{cart_right, recording_judged, recording_right, right_accepted, right_behind, right_behind_cart, right_done, right_far, right_load, right_near, state_judged}
-use Rattle.md_top.proofs.Statuses.{put_output, reported, of_ending, info_usage, run_usage, info_far, run_far, missing_cart, missing_recording, missing_state, info_read_fault, run_read_fault, info_wrong, not_spelled, wrong_recording, run_wrong, info_state, run_state, info_other, run_other, info_behind, run_behind, info_write_fault, run_write_fault, far_only}
+use Rattle.md_top.proofs.Statuses.{reported, of_ending, info_usage, run_usage, info_far, run_far, info_read_fault, run_read_fault, info_wrong, run_wrong, info_state, run_state, info_other, run_other, info_behind, run_behind, info_write_fault, run_write_fault, far_only}
 
 -- WITHOUT A FAULT
 
@@ -58,6 +57,8 @@ run_right told run old new verdict state (Behind from) (near, behind, may, cause
 run_right told run old new verdict state FramesFault cause is judged reads writes t = absurd (writes cause.2.1)
 run_right told run old new verdict state SoundFault cause is judged reads writes t = absurd (writes cause.2.1)
 run_right told run old new verdict state JournalFault cause is judged reads writes t = absurd (writes cause.2.1)
+run_right told run old new verdict state SaveFault cause is judged reads writes t = absurd (writes cause.2.1)
+run_right told run old new verdict state Unsaved cause is judged reads writes t = inr refl
 run_right told run old new verdict state RecordingFault (near, (accepted, cause)) is judged reads writes t = run_recorded told run old new verdict state RecordingFault near (accepted t) cause is reads t
 run_right told run old new verdict state RecordingTooLong (near, (accepted, cause)) is judged reads writes t = run_recorded told run old new verdict state RecordingTooLong near (accepted t) cause is reads t
 run_right told run old new verdict state (RecordingWrong place) (near, (accepted, cause)) is judged reads writes t =
@@ -108,30 +109,35 @@ part_other files output None name differ = refl
 part_other files None (Some bytes) name differ = refl
 part_other files (Some output) (Some bytes) name differ = with_other files output bytes name (λ same. differ (ap Some same))
 
-written_other : (run : Run) (old : Files) (parts : Parts) (name : List ℕ) → run.frames ≢ Some name → run.sound ≢ Some name → run.journal ≢ Some name
+written_other : (run : Run) (old : Files) (parts : Parts) (name : List ℕ) → run.frames ≢ Some name → run.sound ≢ Some name → run.journal ≢ Some name → run.save ≢ Some name
     → written run old parts name ≡ old name
-written_other run old parts name no_frames no_sound no_journal =
-    part_other (with_part (with_part old run.frames parts.frames) run.sound parts.sound) run.journal parts.journal name no_journal
+written_other run old parts name no_frames no_sound no_journal no_save =
+    part_other (with_part (with_part (with_part old run.frames parts.frames) run.sound parts.sound) run.journal parts.journal) run.save parts.state name no_save
+    ∙ part_other (with_part (with_part old run.frames parts.frames) run.sound parts.sound) run.journal parts.journal name no_journal
     ∙ part_other (with_part old run.frames parts.frames) run.sound parts.sound name no_sound
     ∙ part_other old run.frames parts.frames name no_frames
 
 parts_other : (run : Run) (old new : Files) (whole : Pieces) → LeavesParts run old new whole
-    → (name : List ℕ) → run.frames ≢ Some name → run.sound ≢ Some name → run.journal ≢ Some name → new name ≡ old name
-parts_other run old new whole leaves name no_frames no_sound no_journal =
-    ap (λ (files : Files). files name) leaves.files ∙ written_other run old leaves.parts name no_frames no_sound no_journal
+    → (name : List ℕ) → run.frames ≢ Some name → run.sound ≢ Some name → run.journal ≢ Some name → run.save ≢ Some name → new name ≡ old name
+parts_other run old new whole leaves name no_frames no_sound no_journal no_save =
+    ap (λ (files : Files). files name) leaves.files ∙ written_other run old leaves.parts name no_frames no_sound no_journal no_save
 
 leaves_other : (run : Run) (old new : Files) (ending : Ending) → RunFiles run old new ending
-    → (name : List ℕ) → run.frames ≢ Some name → run.sound ≢ Some name → run.journal ≢ Some name → new name ≡ old name
-leaves_other run old new (Done from accesses halted) (start, begins, leaves) name no_frames no_sound no_journal =
-    ap (λ (files : Files). files name) leaves ∙ written_other run old (all_of (pieces_of start run.cycles)) name no_frames no_sound no_journal
-leaves_other run old new FramesFault (start, begins, leaves) name no_frames no_sound no_journal =
-    parts_other run old new (pieces_of start run.cycles) leaves name no_frames no_sound no_journal
-leaves_other run old new SoundFault (start, begins, leaves) name no_frames no_sound no_journal =
-    parts_other run old new (pieces_of start run.cycles) leaves name no_frames no_sound no_journal
-leaves_other run old new JournalFault (start, begins, leaves) name no_frames no_sound no_journal =
-    parts_other run old new (pieces_of start run.cycles) leaves name no_frames no_sound no_journal
-leaves_other run old new Memory leaves name no_frames no_sound no_journal = parts_other run old new nothing leaves name no_frames no_sound no_journal
-leaves_other run old new _ leaves name no_frames no_sound no_journal = ap (λ (files : Files). files name) leaves
+    → (name : List ℕ) → run.frames ≢ Some name → run.sound ≢ Some name → run.journal ≢ Some name → run.save ≢ Some name → new name ≡ old name
+leaves_other run old new (Done from accesses halted) (start, begins, leaves) name no_frames no_sound no_journal no_save =
+    ap (λ (files : Files). files name) leaves ∙ written_other run old (all_of (pieces_of start run.cycles)) name no_frames no_sound no_journal no_save
+leaves_other run old new FramesFault (start, begins, leaves) name no_frames no_sound no_journal no_save =
+    parts_other run old new (pieces_of start run.cycles) leaves name no_frames no_sound no_journal no_save
+leaves_other run old new SoundFault (start, begins, leaves) name no_frames no_sound no_journal no_save =
+    parts_other run old new (pieces_of start run.cycles) leaves name no_frames no_sound no_journal no_save
+leaves_other run old new JournalFault (start, begins, leaves) name no_frames no_sound no_journal no_save =
+    parts_other run old new (pieces_of start run.cycles) leaves name no_frames no_sound no_journal no_save
+leaves_other run old new SaveFault (start, begins, leaves) name no_frames no_sound no_journal no_save =
+    parts_other run old new (pieces_of start run.cycles) leaves name no_frames no_sound no_journal no_save
+leaves_other run old new Unsaved (start, begins, leaves) name no_frames no_sound no_journal no_save =
+    ap (λ (files : Files). files name) leaves ∙ written_other run old (all_of (pieces_until start run.cycles run.cycles)) name no_frames no_sound no_journal no_save
+leaves_other run old new Memory leaves name no_frames no_sound no_journal no_save = parts_other run old new nothing leaves name no_frames no_sound no_journal no_save
+leaves_other run old new _ leaves name no_frames no_sound no_journal no_save = ap (λ (files : Files). files name) leaves
 
 -- ALL OF THEM
 
@@ -198,7 +204,7 @@ causes_of told sink (Info rom) old new out out' status ending cause leaves repor
           (exact_is status (status_of ending) (status_of (right_ending (Some (Info rom)) old.files (Recorded []) (StateWrongAt 0))) by clean.puts
           (info_right told rom old new (Recorded []) (StateWrongAt 0) ending cause clean.reads t))
           (ap status_of (right_accepted (old.files rom) (Shown (header_lines (cart_of rom old.files))) ready));
-      others = λ t name no_frames no_sound no_journal. ap (λ (files : Files). files name) (leaves t);
+      others = λ t name no_frames no_sound no_journal no_save. ap (λ (files : Files). files name) (leaves t);
     }
 causes_of told sink (RunCart run) old new out out' status ending cause leaves reports =
     let by = reported sink (Some (RunCart run)) ending out out' status reports in
@@ -239,7 +245,14 @@ memory_cause told (Some (RunCart run)) old = tt
 memory_leaves : (command : Option Command) (files : Files) → LeavesFiles command files files Memory
 memory_leaves None files = refl
 memory_leaves (Some (Info rom)) files = refl
-memory_leaves (Some (RunCart run)) files = record { parts = record { frames = None; sound = None; journal = None }; frames = tt; sound = tt; journal = tt; files = refl }
+memory_leaves (Some (RunCart run)) files = record {
+  parts = record { frames = None; sound = None; journal = None; state = None };
+  frames = tt;
+  sound = tt;
+  journal = tt;
+  state = tt;
+  files = refl;
+}
 
 memory_reports : (sink : Type 0) (command : Option Command) (out out' : SinkState) (status : ℕ) → status ≡ 10
     → PutsAll sink (codes "refused: memory\n") out out' ⊎ PutsPart sink (codes "refused: memory\n") out out' → Reports sink command Memory out out' status

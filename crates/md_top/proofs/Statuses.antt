@@ -1,21 +1,16 @@
 -- What a status tells of the ending.
-use Rattle.std.proofs.Common.{◌≡◌, ◌≢◌, ◌⊎◌, inl, inr, ℕ, ◌<◌, ◌≤◌, Bool, true, false, List, [], length, Option, Some, None, refl, sym, ap, ◌∙◌, arith}
-use Rattle.std.specs.Prelude.{IsSomeAnd, codes, unwrap_or}
-use Rattle.std.specs.Str.{bytes_eq}
-use Rattle.std.proofs.lemmas.Slice.Eq.{bytes_eq-Decides}
-use Rattle.rom_header.specs.Header.{header_lines}
-use Rattle.md_outer.specs.Outside.{DepotState, Files, Rose, SinkState, bytes_of, with_file}
+use Rattle.std.proofs.Common.{◌≡◌, ◌⊎◌, inl, inr, ℕ, ◌<◌, ◌≤◌, List, [], length, Option, Some, None, sym, ◌∙◌, arith}
+use Rattle.std.specs.Prelude.{IsSomeAnd, unwrap_or}
+use Rattle.md_outer.specs.Outside.{DepotState, Files, Rose, SinkState, bytes_of}
 use Rattle.md_pads.specs.Recording.{GoesWrongAt, IsSpelled}
-use Rattle.md_top.specs.Answers.{Answers, Causes, IsBehind, PutsAll, PutsOutput, PutsPart, Reports}
-use Rattle.md_top.specs.Inputs.{IsAccepted, IsJudged, IsMissing, Recorded, RecordingCause, Verdict, cart_of, recording_limit}
+use Rattle.md_top.specs.Answers.{IsBehind, PutsOutput, Reports}
+use Rattle.md_top.specs.Inputs.{IsMissing, RecordingCause, recording_limit}
 use Rattle.md_top.specs.Limits.{last_cycle}
 use Rattle.md_top.specs.Loads.{IsLoadFound, OfOther, StateWrongAt}
-use Rattle.md_top.specs.Runs.{pieces_of, powered_on}
-use Rattle.md_top.specs.Endings.{HasCause, InfoEnds, LeavesFiles, RunEnds, RunFiles, accepted_ending, file_ending, right_ending, run_ending, status_of, text_of}
-use Rattle.md_top.specs.Outputs.{LeavesParts, Parts, Pieces, all_of, nothing, with_part, written}
+use Rattle.md_top.specs.Endings.{InfoEnds, RunEnds, status_of, text_of}
 use Rattle.md_words.specs.Words.{Command, Info, Run, RunCart}
 use Rattle.md_top.specs.declared.ending.Ending.{Ending}
-use Rattle.md_top.specs.declared.ending.Ending.TheVariants.{Shown, Done, Usage, TooFar, ReadFault, RecordingFault, RecordingTooLong, RecordingWrong, StateFault, StateTooLong, StateWrong, OtherCart, Behind, FramesFault, SoundFault, JournalFault, Memory}
+use Rattle.md_top.specs.declared.ending.Ending.TheVariants.{Shown, Done, Usage, TooFar, ReadFault, RecordingFault, RecordingWrong, StateFault, StateWrong, OtherCart, Behind, FramesFault, SoundFault, JournalFault, SaveFault, Unsaved, Memory}
 
 -- the status is the ending's, but where the sink failed within an output
 pub put_output : (told : Type 0) (text : List ℕ) (out out' : SinkState) (status : ℕ) → PutsOutput told text out out' status
@@ -132,12 +127,14 @@ pub info_write_fault : (told : Type 0) (rom : List ℕ) (old new : DepotState) (
 info_write_fault told rom old new FramesFault cause is = absurd cause
 info_write_fault told rom old new SoundFault cause is = absurd cause
 info_write_fault told rom old new JournalFault cause is = absurd cause
+info_write_fault told rom old new SaveFault cause is = absurd cause
 info_write_fault told rom old new _ cause is = absurd (omega (arith, is))
 
 pub run_write_fault : (told : Type 0) (run : Run) (old new : DepotState) (ending : Ending) → RunEnds told run old new ending → status_of ending ≡ 4 → Rose old.write_faults new.write_faults
 run_write_fault told run old new FramesFault cause is = cause.2.1
 run_write_fault told run old new SoundFault cause is = cause.2.1
 run_write_fault told run old new JournalFault cause is = cause.2.1
+run_write_fault told run old new SaveFault cause is = cause.2.1
 run_write_fault told run old new _ cause is = absurd (omega (arith, is))
 
 -- where the end is too far no other ending comes
@@ -149,5 +146,7 @@ far_only told sink run old new out out' status TooFar cause reports far = inl re
 far_only told sink run old new out out' status FramesFault cause reports far = absurd (omega (arith, cause.0.1))
 far_only told sink run old new out out' status SoundFault cause reports far = absurd (omega (arith, cause.0.1))
 far_only told sink run old new out out' status JournalFault cause reports far = absurd (omega (arith, cause.0.1))
+far_only told sink run old new out out' status SaveFault cause reports far = absurd (omega (arith, cause.0.1))
+far_only told sink run old new out out' status Unsaved cause reports far = absurd (omega (arith, cause.0.1))
 far_only told sink run old new out out' status Memory cause reports far = inr reports.0
 far_only told sink run old new out out' status _ cause reports far = absurd (omega (arith, cause.0))

@@ -1,6 +1,6 @@
 -- What a command line can come to: its status, what is put, why it comes, and what the files hold
 -- then.
-use Rattle.std.specs.Prelude.{◌≡◌, ℕ, ◌+◌, ◌-◌, ◌*◌, ◌/◌, ◌%◌, ◌<◌, ◌≤◌, nat_le, nat_lt, if◌then◌else◌, List, [], ◌++◌, length, codes, decimal, Option, Some, None, unwrap_or}
+use Rattle.std.specs.Prelude.{◌≡◌, ℕ, ◌+◌, ◌-◌, ◌*◌, ◌/◌, ◌%◌, ◌<◌, ◌≤◌, nat_le, nat_lt, if◌then◌else◌, List, [], ◌++◌, length, codes, decimal, Option, Some, None, IsSome, unwrap_or}
 use Rattle.rom_header.specs.Cartridge.{fault_of}
 use Rattle.rom_header.specs.Header.{header_lines}
 use Rattle.rom_header.specs.declared.cart.CartFault.{CartFault}
@@ -13,10 +13,10 @@ use Rattle.md_top.specs.Limits.{IsEnd, last_cycle}
 use Rattle.md_top.specs.Loads.{Begins, CanRun, Keeps, LoadCause, MayBeginAt, OfOther, StateVerdict, StateWrongAt, state_limit}
 use Rattle.md_top.specs.Runs.{entries_from, halted_from, pieces_of, pieces_until, powered_on}
 use Rattle.md_top.specs.Outputs.{Holds, IsUnwritten, LeavesParts, nothing}
-use Rattle.md_words.specs.Words.{Command, Info, Run, RunCart, end_of, frames_name, journal_name, load_name, recording_name, rom_of, sound_name}
+use Rattle.md_words.specs.Words.{Command, Info, Run, RunCart, end_of, frames_name, journal_name, load_name, recording_name, rom_of, save_name, sound_name}
 use Rattle.md_top.specs.declared.ending.Ending.{Ending}
 use Rattle.md_top.specs.declared.inputs.Inputs.{Inputs}
-use Rattle.md_top.specs.declared.ending.Ending.TheVariants.{Shown, Done, Usage, TooFar, ReadFault, TooLong, Short, NoMark, RecordingFault, RecordingTooLong, RecordingWrong, StateFault, StateTooLong, StateWrong, OtherCart, Behind, FramesFault, SoundFault, JournalFault, Memory}
+use Rattle.md_top.specs.declared.ending.Ending.TheVariants.{Shown, Done, Usage, TooFar, ReadFault, TooLong, Short, NoMark, RecordingFault, RecordingTooLong, RecordingWrong, StateFault, StateTooLong, StateWrong, OtherCart, Behind, FramesFault, SoundFault, JournalFault, SaveFault, Unsaved, Memory}
 
 -- the status that the program ends with
 abbrev pub status_of : Ending → ℕ
@@ -29,6 +29,7 @@ status_of StateFault = 3
 status_of FramesFault = 4
 status_of SoundFault = 4
 status_of JournalFault = 4
+status_of SaveFault = 4
 status_of Short = 5
 status_of NoMark = 5
 status_of (RecordingWrong place) = 6
@@ -36,6 +37,7 @@ status_of (StateWrong place) = 7
 status_of (OtherCart kept given) = 8
 status_of (Behind from) = 9
 status_of Memory = 10
+status_of Unsaved = 10
 status_of TooFar = 11
 status_of TooLong = 14
 status_of RecordingTooLong = 14
@@ -106,6 +108,8 @@ text_of (Some command) (Behind from) = numbers_line (codes "refused: cycle ") (e
 text_of (Some command) FramesFault = codes "fault: writing " ++ unwrap_or (frames_name command) [] ++ codes "\n"
 text_of (Some command) SoundFault = codes "fault: writing " ++ unwrap_or (sound_name command) [] ++ codes "\n"
 text_of (Some command) JournalFault = codes "fault: writing " ++ unwrap_or (journal_name command) [] ++ codes "\n"
+text_of (Some command) SaveFault = codes "fault: writing " ++ unwrap_or (save_name command) [] ++ codes "\n"
+text_of (Some command) Unsaved = codes "refused: memory\n"
 text_of command Memory = codes "refused: memory\n"
 text_of command ending = codes "refused: usage\n"
 
@@ -118,6 +122,7 @@ IsReady (RunCart run) files = IsEnd run.cycles × CanRun run files
 abbrev pub RunCause : Start → Run → DepotState → DepotState → Ending → Type 0
 RunCause start run old new (Done from accesses halted) =
     (from ≡ start.at) × (accesses ≡ length (entries_from start run.cycles)) × (halted ≡ halted_from start run.cycles)
+RunCause start run old new Unsaved = IsSome run.save
 RunCause start run old new ending = IsUnwritten run old new ending
 
 -- Why each may come. What a file holds is spoken of where the depot tells it. Each cause says that
@@ -141,6 +146,8 @@ RunEnds told run old new (Done from accesses halted) =
 RunEnds told run old new FramesFault = IsEnd run.cycles × (told → CanRun run old.files) × IsUnwritten run old new FramesFault
 RunEnds told run old new SoundFault = IsEnd run.cycles × (told → CanRun run old.files) × IsUnwritten run old new SoundFault
 RunEnds told run old new JournalFault = IsEnd run.cycles × (told → CanRun run old.files) × IsUnwritten run old new JournalFault
+RunEnds told run old new SaveFault = IsEnd run.cycles × (told → CanRun run old.files) × IsUnwritten run old new SaveFault
+RunEnds told run old new Unsaved = IsEnd run.cycles × (told → CanRun run old.files) × IsSome run.save
 RunEnds told run old new StateFault = (run.cycles ≤ last_cycle) × LoadCause told run old new StateFault
 RunEnds told run old new StateTooLong = (run.cycles ≤ last_cycle) × LoadCause told run old new StateTooLong
 RunEnds told run old new (StateWrong place) = (run.cycles ≤ last_cycle) × LoadCause told run old new (StateWrong place)
@@ -160,10 +167,12 @@ HoldsUntil start run old new at = Holds run old new (pieces_until start run.cycl
 
 -- what the files hold once the run from a start has ended
 abbrev pub RunLeaves : Start → Run → Files → Files → Ending → Type 0
-RunLeaves start run old new (Done from accesses halted) = HoldsUntil start run old new run.cycles
+RunLeaves start run old new (Done from accesses halted) = Holds run old new (pieces_of start run.cycles)
+RunLeaves start run old new Unsaved = HoldsUntil start run old new run.cycles
 RunLeaves start run old new FramesFault = LeavesParts run old new (pieces_of start run.cycles)
 RunLeaves start run old new SoundFault = LeavesParts run old new (pieces_of start run.cycles)
 RunLeaves start run old new JournalFault = LeavesParts run old new (pieces_of start run.cycles)
+RunLeaves start run old new SaveFault = LeavesParts run old new (pieces_of start run.cycles)
 RunLeaves start run old new Memory = LeavesParts run old new nothing
 RunLeaves start run old new ending = new ≡ old
 
@@ -177,6 +186,8 @@ RunFiles run old new (Done from accesses halted) = StartLeaves run old new (Done
 RunFiles run old new FramesFault = StartLeaves run old new FramesFault
 RunFiles run old new SoundFault = StartLeaves run old new SoundFault
 RunFiles run old new JournalFault = StartLeaves run old new JournalFault
+RunFiles run old new SaveFault = StartLeaves run old new SaveFault
+RunFiles run old new Unsaved = StartLeaves run old new Unsaved
 RunFiles run old new Memory = LeavesParts run old new nothing
 RunFiles run old new ending = new ≡ old
 

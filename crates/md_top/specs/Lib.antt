@@ -7,4 +7,5 @@ pub mod Limits
 pub mod Loads
 pub mod Outputs
 pub mod Runs
+pub mod Saves
 pub mod Workers

@@ -12,9 +12,9 @@ use Rattle.md_top.specs.declared.ending.Ending.{Ending}
 use Rattle.md_top.specs.declared.ending.Ending.TheVariants.{StateFault, StateTooLong, StateWrong, OtherCart, Memory}
 use Rattle.md_top.specs.declared.inputs.Inputs.{Inputs}
 
--- the greatest length of a saved state's file: that of a state
+-- the greatest length of a saved state's file
 abbrev pub state_limit : ℕ
-state_limit = 378240
+state_limit = 2097152
 
 -- what the bytes of a saved state's file are found to be: a machine at a cycle, a state of another
 -- cartridge with both digests, or wrong at a place

@@ -53,5 +53,9 @@ pub(crate) enum Ending {
     SoundFault,
     /// The journal could not be written.
     JournalFault,
+    /// The state's file could not be written.
+    SaveFault,
+    /// Memory was wanting for the state that is to be saved, behind a run that ended well.
+    Unsaved,
     Memory,
 }

@@ -13,6 +13,7 @@ mod put;
 mod reading;
 mod report;
 mod run_on;
+mod saving;
 mod segment;
 mod text;
 mod top;

@@ -17,8 +17,8 @@ use save_state::{StateFault, read};
 use std::alloc::Global;
 use std::sync::Arc;
 
-/// The greatest length of a saved state's file: that of a state.
-const LONGEST_STATE: u64 = 378_240;
+/// The greatest length of a saved state's file.
+const LONGEST_STATE: u64 = 2_097_152;
 
 /// The machine with which a run with these inputs begins: that of the saved state of this name, or
 /// where none is named that at power-on.

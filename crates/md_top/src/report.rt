@@ -50,7 +50,8 @@ pub(crate) fn report<S: Sink>(command: &CommandWords<'_>, ending: Ending, out: &
         Ending::FramesFault => refuse_file(out, 4, "fault: writing ", command.frames(), "\n"),
         Ending::SoundFault => refuse_file(out, 4, "fault: writing ", command.sound(), "\n"),
         Ending::JournalFault => refuse_file(out, 4, "fault: writing ", command.journal(), "\n"),
-        Ending::Memory => refuse(out, 10, "refused: memory\n", "", ""),
+        Ending::SaveFault => refuse_file(out, 4, "fault: writing ", command.save(), "\n"),
+        Ending::Unsaved | Ending::Memory => refuse(out, 10, "refused: memory\n", "", ""),
     }
 }
 
