@@ -1,19 +1,21 @@
 -- How a run ends: what the outputs hold on the way, and why it stops.
-use Rattle.std.proofs.Common.{◌≡◌, ℕ, ◌^◌, ◌<◌, ◌≤◌, List, Result, Ok, Err, Option, Some, None, subst, ◌∙◌, arith}
+use Rattle.std.proofs.Common.{◌≡◌, ℕ, ◌^◌, ◌<◌, ◌≤◌, List, Result, Ok, Err, Option, Some, None, append-nil, subst, sym, ◌∙◌, arith}
 use Rattle.std.specs.Prelude.{IfErr, IsSome, OnOk, OnErr}
 use Rattle.md_outer.specs.Outside.{DepotState, Files, GoesOn}
 use Rattle.md_top.specs.Endings.{HoldsUntil, RunCause, RunEnds, RunFiles, RunLeaves}
-use Rattle.md_top.specs.Inputs.{Begins, InputCause, MayBeginAt}
-use Rattle.md_top.specs.Limits.{IsEnd}
+use Rattle.md_top.specs.Inputs.{InputCause}
+use Rattle.md_top.specs.Limits.{IsEnd, last_cycle}
+use Rattle.md_top.specs.Loads.{Begins, LoadCause, MayBeginAt}
 use Rattle.md_top.specs.Outputs.{Adds, AddsParts, AreBegun, Holds, IsBegun, IsUnwritten, IsWriteFault, LeavesParts, Pieces, lengthened, nothing}
-use Rattle.md_top.specs.Runs.{FewEvents, pieces_of, pieces_until, sound_until}
+use Rattle.md_top.specs.Runs.{FewEvents, frames_to, journal_to, pieces_of, pieces_until, sound_until, state_to}
+use Rattle.md_top.specs.Saves.{IsNotSaved, LeavesState}
 use Rattle.md_machine.specs.Starts.{IsStart, Start}
 use Rattle.md_words.specs.Words.{Run}
 use Rattle.md_top.specs.declared.ending.Ending.{Ending}
-use Rattle.md_top.specs.declared.ending.Ending.TheVariants.{Done, FramesFault, SoundFault, JournalFault, Memory}
+use Rattle.md_top.specs.declared.ending.Ending.TheVariants.{Done, FramesFault, SoundFault, JournalFault, StateFault, StateTooLong, StateWrong, OtherCart, SaveFault, Unsaved, Memory}
 use Rattle.md_top.specs.declared.outputs.Outputs.{Outputs}
 use Rattle.md_top.proofs.Puts.{rose_later}
-use Rattle.md_top.proofs.Segments.{pieces-first, pieces-grow}
+use Rattle.md_top.proofs.Segments.{pieces-first, pieces-front}
 use Rattle.md_top.proofs.Writes.{nothing-front, parts-longer}
 
 -- RESULTS
@@ -44,7 +46,7 @@ pub head-parts : (run : Run) (start : Start) (first files : Files) (head : List 
 head-parts run start first files head is few within small same leaves =
     parts-longer run first files (pieces_until start run.cycles start.at) (pieces_of start run.cycles)
     (subst (LeavesParts run first files) (pieces-first start run.cycles head is few (omega (arith, within, small)) same) leaves)
-    (pieces-grow start run.cycles start.at run.cycles is few small within)
+    (pieces-front start run.cycles start.at is few small within)
 
 pub segment-held : (run : Run) (start : Start) (first old new : Files) (at to : ℕ) (more : Pieces)
     → lengthened (pieces_until start run.cycles at) more ≡ pieces_until start run.cycles to
@@ -58,7 +60,43 @@ pub segment-parts : (run : Run) (start : Start) (first old new : Files) (at to :
 segment-parts run start first old new at to more from few within small is adds holds =
     parts-longer run first new (pieces_until start run.cycles to) (pieces_of start run.cycles)
     (subst (LeavesParts run first new) is (adds first (pieces_until start run.cycles at) holds))
-    (pieces-grow start run.cycles to run.cycles from few small within)
+    (pieces-front start run.cycles to from few small within)
+
+-- the state behind the last segment
+with-state : (start : Start) (end : ℕ) (state : List ℕ) → state ≡ state_to start end → lengthened (pieces_until start end end) (record nothing { state = state }) ≡ pieces_of start end
+with-state start end state is = λ i. record {
+  frames = append-nil (frames_to start end) i;
+  sound = append-nil (sound_until start end end) i;
+  journal = append-nil (journal_to start end) i;
+  state = is i;
+}
+
+pub state-held : (run : Run) (start : Start) (first old new : Files) (state : List ℕ) → state ≡ state_to start run.cycles
+    → Adds run old new (record nothing { state = state }) → HoldsUntil start run first old run.cycles → Holds run first new (pieces_of start run.cycles)
+state-held run start first old new state is adds holds =
+    subst (Holds run first new) (with-state start run.cycles state is) (adds first (pieces_until start run.cycles run.cycles) holds)
+
+state-parts : (run : Run) (start : Start) (first old new : Files) (state : List ℕ) → state ≡ state_to start run.cycles
+    → AddsParts run old new (record nothing { state = state }) → HoldsUntil start run first old run.cycles → LeavesParts run first new (pieces_of start run.cycles)
+state-parts run start first old new state is adds holds =
+    subst (LeavesParts run first new) (with-state start run.cycles state is) (adds first (pieces_until start run.cycles run.cycles) holds)
+
+pub unsaved-leaves : (run : Run) (start : Start) (first : Files) (old new : DepotState) (state : List ℕ) (ending : Ending) → state ≡ state_to start run.cycles
+    → IsNotSaved run old new ending → LeavesState run old.files new.files state ending → HoldsUntil start run first old.files run.cycles → RunLeaves start run first new.files ending
+unsaved-leaves run start first old new state Unsaved is cause same holds = subst (λ (files : Files). HoldsUntil start run first files run.cycles) (sym same) holds
+unsaved-leaves run start first old new state FramesFault is cause adds holds = state-parts run start first old.files new.files state is adds holds
+unsaved-leaves run start first old new state SoundFault is cause adds holds = state-parts run start first old.files new.files state is adds holds
+unsaved-leaves run start first old new state JournalFault is cause adds holds = state-parts run start first old.files new.files state is adds holds
+unsaved-leaves run start first old new state SaveFault is cause adds holds = state-parts run start first old.files new.files state is adds holds
+unsaved-leaves run start first old new state _ is cause adds holds = absurd cause
+
+pub fault-state : (run : Run) (old new : DepotState) (first files : Files) (state : List ℕ) (ending : Ending) → IsWriteFault run old new ending
+    → AddsParts run first files (record nothing { state = state }) → LeavesState run first files state ending
+fault-state run old new first files state FramesFault fault adds = adds
+fault-state run old new first files state SoundFault fault adds = adds
+fault-state run old new first files state JournalFault fault adds = adds
+fault-state run old new first files state SaveFault fault adds = adds
+fault-state run old new first files state _ fault adds = absurd fault
 
 -- WHY IT STOPS
 
@@ -66,12 +104,14 @@ pub fault-cause : (start : Start) (run : Run) (old new : DepotState) (ending : E
 fault-cause start run old new FramesFault fault = fault
 fault-cause start run old new SoundFault fault = fault
 fault-cause start run old new JournalFault fault = fault
+fault-cause start run old new SaveFault fault = fault
 fault-cause start run old new _ fault = absurd fault
 
 pub unwritten-cause : (start : Start) (run : Run) (old new : DepotState) (ending : Ending) → IsUnwritten run old new ending → RunCause start run old new ending
 unwritten-cause start run old new FramesFault fault = fault
 unwritten-cause start run old new SoundFault fault = fault
 unwritten-cause start run old new JournalFault fault = fault
+unwritten-cause start run old new SaveFault fault = fault
 unwritten-cause start run old new Memory fault = tt
 unwritten-cause start run old new _ fault = absurd fault
 
@@ -81,14 +121,26 @@ cause-before start run old mid new (Done from accesses halted) on cause = cause
 cause-before start run old mid new Memory on cause = tt
 cause-before start run old mid new FramesFault on cause = (cause.0, rose_later old.write_faults mid.write_faults new.write_faults on.writes cause.1)
 cause-before start run old mid new SoundFault on cause = (cause.0, rose_later old.write_faults mid.write_faults new.write_faults on.writes cause.1)
+cause-before start run old mid new SaveFault on cause = (cause.0, rose_later old.write_faults mid.write_faults new.write_faults on.writes cause.1)
+cause-before start run old mid new Unsaved on cause = cause
 cause-before start run old mid new JournalFault on cause = (cause.0, rose_later old.write_faults mid.write_faults new.write_faults on.writes cause.1)
 cause-before start run old mid new _ on cause = absurd cause
+
+-- it was not saved
+pub unsaved-cause : (start : Start) (run : Run) (old mid new : DepotState) (ending : Ending) → GoesOn old mid → IsNotSaved run mid new ending → RunCause start run old new ending
+unsaved-cause start run old mid new Unsaved on cause = cause
+unsaved-cause start run old mid new FramesFault on cause = cause-before start run old mid new FramesFault on cause
+unsaved-cause start run old mid new SoundFault on cause = cause-before start run old mid new SoundFault on cause
+unsaved-cause start run old mid new JournalFault on cause = cause-before start run old mid new JournalFault on cause
+unsaved-cause start run old mid new SaveFault on cause = cause-before start run old mid new SaveFault on cause
+unsaved-cause start run old mid new _ on cause = absurd cause
 
 pub fault-leaves : (start : Start) (run : Run) (first files : Files) (old new : DepotState) (ending : Ending) → IsWriteFault run old new ending
     → LeavesParts run first files (pieces_of start run.cycles) → RunLeaves start run first files ending
 fault-leaves start run first files old new FramesFault fault leaves = leaves
 fault-leaves start run first files old new SoundFault fault leaves = leaves
 fault-leaves start run first files old new JournalFault fault leaves = leaves
+fault-leaves start run first files old new SaveFault fault leaves = leaves
 fault-leaves start run first files old new _ fault leaves = absurd fault
 
 pub unwritten-leaves : (start : Start) (run : Run) (first files : Files) (old new : DepotState) (ending : Ending) → IsUnwritten run old new ending
@@ -96,16 +148,18 @@ pub unwritten-leaves : (start : Start) (run : Run) (first files : Files) (old ne
 unwritten-leaves start run first files old new FramesFault fault leaves = parts-longer run first files nothing (pieces_of start run.cycles) leaves (nothing-front (pieces_of start run.cycles))
 unwritten-leaves start run first files old new SoundFault fault leaves = parts-longer run first files nothing (pieces_of start run.cycles) leaves (nothing-front (pieces_of start run.cycles))
 unwritten-leaves start run first files old new JournalFault fault leaves = parts-longer run first files nothing (pieces_of start run.cycles) leaves (nothing-front (pieces_of start run.cycles))
+unwritten-leaves start run first files old new SaveFault fault leaves = parts-longer run first files nothing (pieces_of start run.cycles) leaves (nothing-front (pieces_of start run.cycles))
 unwritten-leaves start run first files old new Memory fault leaves = leaves
 unwritten-leaves start run first files old new _ fault leaves = absurd fault
 
 -- no output is begun
 pub untouched : (run : Run) (old new : Files) → new ≡ old → LeavesParts run old new nothing
 untouched run old new same = record {
-  parts = record { frames = None; sound = None; journal = None };
+  parts = record { frames = None; sound = None; journal = None; state = None };
   frames = tt;
   sound = tt;
   journal = tt;
+  state = tt;
   files = same;
 }
 
@@ -115,6 +169,8 @@ refused-leaves told run old new (Done from accesses halted) cause same = absurd 
 refused-leaves told run old new FramesFault cause same = absurd cause
 refused-leaves told run old new SoundFault cause same = absurd cause
 refused-leaves told run old new JournalFault cause same = absurd cause
+refused-leaves told run old new SaveFault cause same = absurd cause
+refused-leaves told run old new Unsaved cause same = absurd cause
 refused-leaves told run old new Memory cause same = untouched run old.files new.files same
 refused-leaves told run old new _ cause same = same
 
@@ -122,7 +178,7 @@ refused-leaves told run old new _ cause same = same
 pub run-ends : (told : Type 0) (run : Run) (start : Start) (old mid new : DepotState) (ending : Ending) → IsEnd run.cycles → MayBeginAt run start.at
     → (told → Begins run old.files start) → start.at < run.cycles → GoesOn old mid → RunCause start run mid new ending → RunEnds told run old new ending
 run-ends told run start old mid new (Done from accesses halted) end may begins ahead on cause =
-    (end, cause.0 ∙ may, λ t. (start, begins t, ahead, cause))
+    (end, (λ none. cause.0 ∙ may none), λ t. (start, begins t, ahead, cause))
 run-ends told run start old mid new Memory end may begins ahead on cause = tt
 run-ends told run start old mid new FramesFault end may begins ahead on cause =
     (end, λ t. (start, begins t, ahead), cause-before start run old mid new FramesFault on cause)
@@ -130,6 +186,9 @@ run-ends told run start old mid new SoundFault end may begins ahead on cause =
     (end, λ t. (start, begins t, ahead), cause-before start run old mid new SoundFault on cause)
 run-ends told run start old mid new JournalFault end may begins ahead on cause =
     (end, λ t. (start, begins t, ahead), cause-before start run old mid new JournalFault on cause)
+run-ends told run start old mid new SaveFault end may begins ahead on cause =
+    (end, λ t. (start, begins t, ahead), cause-before start run old mid new SaveFault on cause)
+run-ends told run start old mid new Unsaved end may begins ahead on cause = (end, λ t. (start, begins t, ahead), cause)
 run-ends told run start old mid new _ end may begins ahead on cause = absurd cause
 
 pub run-leaves : (run : Run) (start : Start) (old new : Files) (ending : Ending) → Begins run old start → RunLeaves start run old new ending → RunFiles run old new ending
@@ -137,8 +196,28 @@ run-leaves run start old new (Done from accesses halted) begins leaves = (start,
 run-leaves run start old new FramesFault begins leaves = (start, begins, leaves)
 run-leaves run start old new SoundFault begins leaves = (start, begins, leaves)
 run-leaves run start old new JournalFault begins leaves = (start, begins, leaves)
+run-leaves run start old new SaveFault begins leaves = (start, begins, leaves)
+run-leaves run start old new Unsaved begins leaves = (start, begins, leaves)
 run-leaves run start old new Memory begins leaves = leaves
 run-leaves run start old new _ begins leaves = leaves
+
+-- a run that found no machine
+pub load-ends : (told : Type 0) (run : Run) (old new : DepotState) (ending : Ending) → run.cycles ≤ last_cycle → LoadCause told run old new ending → RunEnds told run old new ending
+load-ends told run old new StateFault near cause = (near, cause)
+load-ends told run old new StateTooLong near cause = (near, cause)
+load-ends told run old new (StateWrong place) near cause = (near, cause)
+load-ends told run old new (OtherCart kept given) near cause = (near, cause)
+load-ends told run old new Memory near cause = tt
+load-ends told run old new _ near cause = absurd cause.2
+
+pub load-leaves : (told : Type 0) (run : Run) (old new : DepotState) (ending : Ending) → LoadCause told run old new ending
+    → new.files ≡ old.files → RunFiles run old.files new.files ending
+load-leaves told run old new Memory cause same = untouched run old.files new.files same
+load-leaves told run old new StateFault cause same = same
+load-leaves told run old new StateTooLong cause same = same
+load-leaves told run old new (StateWrong place) cause same = same
+load-leaves told run old new (OtherCart kept given) cause same = same
+load-leaves told run old new _ cause same = absurd cause.2
 
 -- NUMBERS OF BEGUN OUTPUTS
 
@@ -154,6 +233,7 @@ begun-on run old new outputs on begun = record {
   frames = begun-one old new outputs.frames run.frames on begun.frames;
   sound = begun-one old new outputs.sound run.sound on begun.sound;
   journal = begun-one old new outputs.journal run.journal on begun.journal;
+  save = begun-one old new outputs.save run.save on begun.save;
 }
 
 pub goes-far : (old mid new : DepotState) → GoesOn old mid → GoesOn mid new → GoesOn old new

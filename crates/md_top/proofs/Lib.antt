@@ -1,6 +1,8 @@
+pub mod Appends
 pub mod Carts
 pub mod Ends
 pub mod Fetched
+pub mod Kept
 pub mod Least
 pub mod LeastRuns
 pub mod Named
@@ -8,4 +10,5 @@ pub mod Puts
 pub mod Right
 pub mod Rows
 pub mod Segments
+pub mod Statuses
 pub mod Writes

@@ -1,5 +1,5 @@
 -- The ending where neither a fault nor want of memory comes between.
-use Rattle.std.proofs.Common.{◌≡◌, ◌⊎◌, inl, inr, ℕ, ◌<◌, ◌≤◌, Bool, true, false, cond, List, [], length, Option, Some, None, refl, sym, ap, ◌∙◌, arith}
+use Rattle.std.proofs.Common.{◌≡◌, ◌⊎◌, inl, inr, ℕ, ◌<◌, ◌≤◌, Bool, true, false, cond, List, [], length, Option, Some, None, refl, sym, ap, subst, ◌∙◌, arith}
 use Rattle.std.specs.Prelude.{IsSomeAnd, nat_le, nat_lt, unwrap_or}
 use Rattle.std.proofs.lemmas.Bool.Decides.{nat_tests}
 use Rattle.rom_header.specs.Cartridge.{fault_of, has_mark}
@@ -7,14 +7,17 @@ use Rattle.rom_header.specs.declared.cart.CartFault.{CartFault}
 use Rattle.rom_header.specs.declared.cart.CartFault.TheVariants as fault
 use Rattle.md_outer.specs.Outside.{DepotState, Files, Rose}
 use Rattle.md_pads.specs.Recording.{Frame, GoesWrongAt, Spells}
-use Rattle.md_top.specs.Endings.{accepted_ending, cart_ending, file_ending, recorded_ending, recording_ending, right_ending, run_ending, status_of, verdict_ending}
-use Rattle.md_top.specs.Inputs.{Begins, CartCause, IsAccepted, IsJudged, IsVerdict, Recorded, RecordingCause, Records, Verdict, WrongAt, cart_limit, cart_of, recording_limit}
+use Rattle.md_top.specs.Endings.{accepted_ending, cart_ending, file_ending, kept_ending, loaded_ending, recorded_ending, recording_ending, right_ending, run_ending, state_ending, status_of, verdict_ending}
+use Rattle.md_top.specs.Inputs.{AreInputs, CartCause, IsAccepted, IsJudged, IsVerdict, Recorded, RecordingCause, Records, Verdict, WrongAt, cart_limit, cart_of, recording_limit}
 use Rattle.md_top.specs.Limits.{last_cycle}
+use Rattle.md_top.specs.Loads.{Begins, BeginsWith, IsFoundIn, IsLoadJudged, IsStateJudged, IsStateVerdict, Keeps, LoadCause, OfOther, StateCause, StateVerdict, StateWrongAt, inputs_by, recording_by, state_limit}
 use Rattle.md_top.specs.Runs.{entries_from, halted_from, powered_on}
 use Rattle.md_machine.specs.Starts.{Start}
 use Rattle.md_words.specs.Words.{Run, RunCart}
 use Rattle.md_top.specs.declared.ending.Ending.{Ending}
-use Rattle.md_top.specs.declared.ending.Ending.TheVariants.{Done, TooFar, ReadFault, TooLong, Short, NoMark, RecordingFault, RecordingTooLong, RecordingWrong, Behind, Memory}
+use Rattle.md_top.specs.declared.ending.Ending.TheVariants.{Done, TooFar, ReadFault, TooLong, Short, NoMark, RecordingFault, RecordingTooLong, RecordingWrong, StateFault, StateTooLong, StateWrong, OtherCart, Behind, Memory}
+use Rattle.md_top.specs.declared.inputs.Inputs.{Inputs}
+use Rattle.md_pads.proofs.Whole.{one_recording}
 
 pub not_below : (limit n : ℕ) → n ≤ limit → nat_lt limit n ≡ false
 not_below limit n within = grind (arith, nat_tests)
@@ -68,17 +71,31 @@ cart_right told rom old new rest _ cause clean t = absurd cause
 
 -- BEHIND THE RECORDING'S FILE
 
+-- the recording is the one that the verdict tells
+file_recording : (file : Option (List ℕ)) (verdict : Verdict) (recording : List Frame) (name : List ℕ)
+    → IsSomeAnd file (λ bytes. (length bytes ≤ recording_limit) × Spells bytes recording) → IsVerdict (unwrap_or file []) verdict
+    → recording ≡ recording_by (Some name) verdict
+file_recording None verdict recording name is judged = absurd is
+file_recording (Some bytes) (Recorded found) recording name (within, spells) judged = one_recording bytes recording found spells judged
+file_recording (Some bytes) (WrongAt place) recording name (within, spells) judged = absurd (judged.none (recording, spells))
+
+recording_same : (name : Option (List ℕ)) (files : Files) (verdict : Verdict) (recording : List Frame) → Records name files recording → IsJudged name files verdict
+    → recording ≡ recording_by name verdict
+recording_same None files verdict recording is judged = is
+recording_same (Some name) files verdict recording is judged = file_recording (files name) verdict recording name is judged
+
 file_recorded : (file : Option (List ℕ)) (verdict : Verdict) (recording : List Frame) (ready : List Frame → Ending)
     → IsSomeAnd file (λ bytes. (length bytes ≤ recording_limit) × Spells bytes recording) → IsVerdict (unwrap_or file []) verdict
-    → (found : List Frame) × (recording_ending file verdict ready ≡ ready found)
+    → recording_ending file verdict ready ≡ ready recording
 file_recorded None verdict recording ready is judged = absurd is
 file_recorded (Some bytes) (Recorded found) recording ready (within, spells) judged =
-    (found, ap (λ (long : Bool). cond long RecordingTooLong (ready found)) (not_below recording_limit (length bytes) within))
+    ap (λ (long : Bool). cond long RecordingTooLong (ready found)) (not_below recording_limit (length bytes) within)
+    ∙ ap ready (one_recording bytes found recording judged spells)
 file_recorded (Some bytes) (WrongAt place) recording ready (within, spells) judged = absurd (judged.none (recording, spells))
 
 right_recorded : (name : Option (List ℕ)) (files : Files) (verdict : Verdict) (recording : List Frame) (ready : List Frame → Ending)
-    → Records name files recording → IsJudged name files verdict → (found : List Frame) × (recorded_ending name files verdict ready ≡ ready found)
-right_recorded None files verdict recording ready is judged = ([], refl)
+    → Records name files recording → IsJudged name files verdict → recorded_ending name files verdict ready ≡ ready recording
+right_recorded None files verdict recording ready is judged = ap ready (sym is)
 right_recorded (Some name) files verdict recording ready is judged = file_recorded (files name) verdict recording ready is judged
 
 file_long : (file : Option (List ℕ)) (verdict : Verdict) (ready : List Frame → Ending) → IsSomeAnd file (λ bytes. recording_limit < length bytes)
@@ -110,42 +127,90 @@ recording_right told (Some name) old new verdict ready (RecordingWrong place) ca
 recording_right told (Some name) old new verdict ready Memory cause judged clean t = inr refl
 recording_right told (Some name) old new verdict ready _ cause judged clean t = absurd cause
 
--- OF A RUN
-
-pub right_far : (run : Run) (files : Files) (verdict : Verdict) → last_cycle < run.cycles → right_ending (Some (RunCart run)) files verdict ≡ TooFar
-right_far run files verdict far =
-    ap (λ (b : Bool). cond b TooFar (file_ending (files run.rom) (accepted_ending run files verdict))) (is_below last_cycle run.cycles far)
-
-pub right_near : (run : Run) (files : Files) (verdict : Verdict) → run.cycles ≤ last_cycle
-    → right_ending (Some (RunCart run)) files verdict ≡ file_ending (files run.rom) (accepted_ending run files verdict)
-right_near run files verdict near =
-    ap (λ (b : Bool). cond b TooFar (file_ending (files run.rom) (accepted_ending run files verdict))) (not_below last_cycle run.cycles near)
-
-pub right_behind_cart : (run : Run) (files : Files) (verdict : Verdict) → run.cycles ≤ last_cycle → IsAccepted (files run.rom)
-    → right_ending (Some (RunCart run)) files verdict ≡ accepted_ending run files verdict
-right_behind_cart run files verdict near accepted = right_near run files verdict near ∙ right_accepted (files run.rom) (accepted_ending run files verdict) accepted
-
--- behind both inputs: the run begins somewhere
-record Found (run : Run) (files : Files) (verdict : Verdict) (at : ℕ) : Type 0 where
-  start : Start
-  at_is : start.at ≡ at
-  right : right_ending (Some (RunCart run)) files verdict ≡ run_ending start run.cycles
-
-right_run : (run : Run) (files : Files) (verdict : Verdict) (start : Start) → run.cycles ≤ last_cycle → Begins run files start → IsJudged run.recording files verdict
-    → Found run files verdict start.at
-right_run run files verdict start near begins judged =
-    let found = right_recorded run.recording files verdict begins.inputs.recording
-    (λ recording. run_ending (powered_on (record { cart = cart_of run.rom files; recording = recording })) run.cycles) begins.are.recording judged in
-    record {
-      start = powered_on (record { cart = cart_of run.rom files; recording = found.0 });
-      at_is = sym (ap (λ (s : Start). s.at) begins.start_is);
-      right = right_behind_cart run files verdict near begins.are.accepted ∙ found.1;
-    }
+-- BEHIND THE SAVED STATE'S FILE
 
 -- a run whose end is not above its start, and one whose end is
 ended_by : (b : Bool) (start : Start) (end : ℕ) → status_of (cond b (Behind start.at) (Done start.at (length (entries_from start end)) (halted_from start end))) ≡ cond b 9 0
 ended_by true start end = refl
 ended_by false start end = refl
+
+run_status : (start : Start) (end : ℕ) → status_of (run_ending start end) ≡ cond (nat_le end start.at) 9 0
+run_status start end = ended_by (nat_le end start.at) start end
+
+file_kept : (file : Option (List ℕ)) (inputs : Inputs) (verdict state : StateVerdict) (end : ℕ) → IsFoundIn file inputs verdict
+    → IsStateVerdict inputs (unwrap_or file []) state → state_ending file state end ≡ kept_ending verdict end
+file_kept None inputs verdict state end found judged = absurd found
+file_kept (Some bytes) inputs verdict state end (within, found) judged =
+    ap (λ (long : Bool). cond long StateTooLong (kept_ending state end)) (not_below state_limit (length bytes) within)
+    ∙ ap (λ (s : StateVerdict). kept_ending s end) (found.one state judged)
+
+file_state_long : (file : Option (List ℕ)) (state : StateVerdict) (end : ℕ) → IsSomeAnd file (λ bytes. state_limit < length bytes) → state_ending file state end ≡ StateTooLong
+file_state_long None state end long = absurd long
+file_state_long (Some bytes) state end long =
+    ap (λ (too_long : Bool). cond too_long StateTooLong (kept_ending state end)) (is_below state_limit (length bytes) long)
+
+-- where a run begins
+loaded_run : (load : Option (List ℕ)) (files : Files) (inputs : Inputs) (state : StateVerdict) (start : Start) (end : ℕ) → BeginsWith load files inputs start
+    → IsLoadJudged load inputs files state → status_of (loaded_ending load files state inputs end) ≡ cond (nat_le end start.at) 9 0
+loaded_run None files inputs state start end begins judged =
+    run_status (powered_on inputs) end ∙ ap (λ (s : Start). cond (nat_le end s.at) 9 0) (sym begins)
+loaded_run (Some name) files inputs state start end begins judged =
+    ap status_of (file_kept (files name) inputs (Keeps start) state end begins judged) ∙ run_status start end
+
+-- or why it does not
+load_right : (told : Type 0) (load : Option (List ℕ)) (inputs : Inputs) (old new : DepotState) (state : StateVerdict) (end : ℕ) (ending : Ending)
+    → StateCause told load inputs old new ending → IsLoadJudged load inputs old.files state → ¬ Rose old.read_faults new.read_faults → told
+    → (status_of ending ≡ status_of (loaded_ending load old.files state inputs end)) ⊎ (status_of ending ≡ 10)
+load_right told None inputs old new state end StateFault cause judged clean t = absurd cause
+load_right told None inputs old new state end StateTooLong cause judged clean t = absurd cause
+load_right told None inputs old new state end (StateWrong place) cause judged clean t = absurd cause
+load_right told None inputs old new state end (OtherCart kept given) cause judged clean t = absurd cause
+load_right told None inputs old new state end Memory cause judged clean t = inr refl
+load_right told None inputs old new state end _ cause judged clean t = absurd cause
+load_right told (Some name) inputs old new state end StateFault (inl rose) judged clean t = absurd (clean rose)
+load_right told (Some name) inputs old new state end StateFault (inr missing) judged clean t =
+    inl (sym (ap (λ (file : Option (List ℕ)). status_of (state_ending file state end)) missing.1))
+load_right told (Some name) inputs old new state end StateTooLong cause judged clean t = inl (sym (ap status_of (file_state_long (old.files name) state end (cause t))))
+load_right told (Some name) inputs old new state end (StateWrong place) cause judged clean t =
+    inl (sym (ap status_of (file_kept (old.files name) inputs (StateWrongAt place) state end (cause t) judged)))
+load_right told (Some name) inputs old new state end (OtherCart kept given) cause judged clean t =
+    inl (sym (ap status_of (file_kept (old.files name) inputs (OfOther kept given) state end (cause t) judged)))
+load_right told (Some name) inputs old new state end Memory cause judged clean t = inr refl
+load_right told (Some name) inputs old new state end _ cause judged clean t = absurd cause
+
+-- OF A RUN
+
+pub right_far : (run : Run) (files : Files) (verdict : Verdict) (state : StateVerdict) → last_cycle < run.cycles → right_ending (Some (RunCart run)) files verdict state ≡ TooFar
+right_far run files verdict state far =
+    ap (λ (b : Bool). cond b TooFar (file_ending (files run.rom) (accepted_ending run files verdict state))) (is_below last_cycle run.cycles far)
+
+pub right_near : (run : Run) (files : Files) (verdict : Verdict) (state : StateVerdict) → run.cycles ≤ last_cycle
+    → right_ending (Some (RunCart run)) files verdict state ≡ file_ending (files run.rom) (accepted_ending run files verdict state)
+right_near run files verdict state near =
+    ap (λ (b : Bool). cond b TooFar (file_ending (files run.rom) (accepted_ending run files verdict state))) (not_below last_cycle run.cycles near)
+
+pub right_behind_cart : (run : Run) (files : Files) (verdict : Verdict) (state : StateVerdict) → run.cycles ≤ last_cycle → IsAccepted (files run.rom)
+    → right_ending (Some (RunCart run)) files verdict state ≡ accepted_ending run files verdict state
+right_behind_cart run files verdict state near accepted = right_near run files verdict state near ∙ right_accepted (files run.rom) (accepted_ending run files verdict state) accepted
+
+-- behind both inputs: they are those that the verdict on the recording tells
+inputs_same : (run : Run) (files : Files) (verdict : Verdict) (inputs : Inputs) → AreInputs run files inputs → IsJudged run.recording files verdict
+    → inputs ≡ inputs_by run files verdict
+inputs_same run files verdict inputs are is = λ i. record { cart = are.cart i; recording = recording_same run.recording files verdict inputs.recording are.recording is i }
+
+-- behind both inputs
+right_inputs : (run : Run) (files : Files) (verdict : Verdict) (state : StateVerdict) (inputs : Inputs) → run.cycles ≤ last_cycle → AreInputs run files inputs
+    → IsJudged run.recording files verdict → right_ending (Some (RunCart run)) files verdict state ≡ loaded_ending run.load files state inputs run.cycles
+right_inputs run files verdict state inputs near are is =
+    right_behind_cart run files verdict state near are.accepted
+    ∙ right_recorded run.recording files verdict inputs.recording
+    (λ recording. loaded_ending run.load files state (record { cart = cart_of run.rom files; recording = recording }) run.cycles) are.recording is
+    ∙ ap (λ (cart : List ℕ). loaded_ending run.load files state (record { cart = cart; recording = inputs.recording }) run.cycles) (sym are.cart)
+
+judged_inputs : (run : Run) (files : Files) (verdict : Verdict) (state : StateVerdict) (inputs : Inputs) → AreInputs run files inputs → IsJudged run.recording files verdict
+    → IsStateJudged (Some run) files verdict state → IsLoadJudged run.load inputs files state
+judged_inputs run files verdict state inputs are is judged =
+    subst (λ (given : Inputs). IsLoadJudged run.load given files state) (sym (inputs_same run files verdict inputs are is)) judged
 
 is_behind : (end at : ℕ) → end ≤ at → nat_le end at ≡ true
 is_behind end at behind = grind (arith, nat_tests)
@@ -153,19 +218,33 @@ is_behind end at behind = grind (arith, nat_tests)
 is_ahead : (end at : ℕ) → at < end → nat_le end at ≡ false
 is_ahead end at ahead = grind (arith, nat_tests)
 
-pub right_behind : (run : Run) (files : Files) (verdict : Verdict) (start : Start) → run.cycles ≤ last_cycle → run.cycles ≤ start.at → Begins run files start
-    → IsJudged run.recording files verdict → status_of (right_ending (Some (RunCart run)) files verdict) ≡ 9
-right_behind run files verdict start near behind begins judged =
-    let found = right_run run files verdict start near begins judged in
-    ap status_of found.right ∙ ended_by (nat_le run.cycles found.start.at) found.start run.cycles
-    ∙ ap (λ (b : Bool). cond b 9 0) (is_behind run.cycles found.start.at (omega (arith, behind, found.at_is)))
+right_run : (run : Run) (files : Files) (verdict : Verdict) (state : StateVerdict) (start : Start) → run.cycles ≤ last_cycle → Begins run files start
+    → IsJudged run.recording files verdict → IsStateJudged (Some run) files verdict state
+    → status_of (right_ending (Some (RunCart run)) files verdict state) ≡ cond (nat_le run.cycles start.at) 9 0
+right_run run files verdict state start near begins is judged =
+    ap status_of (right_inputs run files verdict state begins.inputs near begins.are is)
+    ∙ loaded_run run.load files begins.inputs state start run.cycles begins.with (judged_inputs run files verdict state begins.inputs begins.are is judged)
 
-pub right_done : (run : Run) (files : Files) (verdict : Verdict) (start : Start) → run.cycles ≤ last_cycle → start.at < run.cycles → Begins run files start
-    → IsJudged run.recording files verdict → status_of (right_ending (Some (RunCart run)) files verdict) ≡ 0
-right_done run files verdict start near ahead begins judged =
-    let found = right_run run files verdict start near begins judged in
-    ap status_of found.right ∙ ended_by (nat_le run.cycles found.start.at) found.start run.cycles
-    ∙ ap (λ (b : Bool). cond b 9 0) (is_ahead run.cycles found.start.at (omega (arith, ahead, found.at_is)))
+pub right_behind : (run : Run) (files : Files) (verdict : Verdict) (state : StateVerdict) (start : Start) → run.cycles ≤ last_cycle → run.cycles ≤ start.at → Begins run files start
+    → IsJudged run.recording files verdict → IsStateJudged (Some run) files verdict state → status_of (right_ending (Some (RunCart run)) files verdict state) ≡ 9
+right_behind run files verdict state start near behind begins is judged =
+    right_run run files verdict state start near begins is judged ∙ ap (λ (b : Bool). cond b 9 0) (is_behind run.cycles start.at behind)
+
+pub right_done : (run : Run) (files : Files) (verdict : Verdict) (state : StateVerdict) (start : Start) → run.cycles ≤ last_cycle → start.at < run.cycles → Begins run files start
+    → IsJudged run.recording files verdict → IsStateJudged (Some run) files verdict state → status_of (right_ending (Some (RunCart run)) files verdict state) ≡ 0
+right_done run files verdict state start near ahead begins is judged =
+    right_run run files verdict state start near begins is judged ∙ ap (λ (b : Bool). cond b 9 0) (is_ahead run.cycles start.at ahead)
+
+pub right_load : (told : Type 0) (run : Run) (old new : DepotState) (verdict : Verdict) (state : StateVerdict) (ending : Ending) → run.cycles ≤ last_cycle
+    → LoadCause told run old new ending → IsJudged run.recording old.files verdict → IsStateJudged (Some run) old.files verdict state
+    → ¬ Rose old.read_faults new.read_faults → told → (status_of ending ≡ status_of (right_ending (Some (RunCart run)) old.files verdict state)) ⊎ (status_of ending ≡ 10)
+right_load told run old new verdict state ending near (inputs, are, cause) is judged clean t =
+    same (load_right told run.load inputs old new state run.cycles ending cause (judged_inputs run old.files verdict state inputs (are t) is judged) clean t)
+  where
+    same : (status_of ending ≡ status_of (loaded_ending run.load old.files state inputs run.cycles)) ⊎ (status_of ending ≡ 10)
+        → (status_of ending ≡ status_of (right_ending (Some (RunCart run)) old.files verdict state)) ⊎ (status_of ending ≡ 10)
+    same (inl right) = inl (right ∙ sym (ap status_of (right_inputs run old.files verdict state inputs near (are t) is)))
+    same (inr memory) = inr memory
 
 -- the inputs that there are have a verdict
 file_judged : (file : Option (List ℕ)) (recording : List Frame) → IsSomeAnd file (λ bytes. (length bytes ≤ recording_limit) × Spells bytes recording)
@@ -173,6 +252,22 @@ file_judged : (file : Option (List ℕ)) (recording : List Frame) → IsSomeAnd 
 file_judged None recording is = absurd is
 file_judged (Some bytes) recording is = is.1
 
-pub judged : (name : Option (List ℕ)) (files : Files) (recording : List Frame) → Records name files recording → IsJudged name files (Recorded recording)
-judged None files recording is = tt
-judged (Some name) files recording is = file_judged (files name) recording is
+pub recording_judged : (name : Option (List ℕ)) (files : Files) (recording : List Frame) → Records name files recording → IsJudged name files (Recorded recording)
+recording_judged None files recording is = tt
+recording_judged (Some name) files recording is = file_judged (files name) recording is
+
+-- and so has the saved state with which a run begins
+file_state : (file : Option (List ℕ)) (inputs : Inputs) (start : Start) → IsFoundIn file inputs (Keeps start) → IsStateVerdict inputs (unwrap_or file []) (Keeps start)
+file_state None inputs start found = absurd found
+file_state (Some bytes) inputs start found = found.1.is
+
+load_judged : (load : Option (List ℕ)) (files : Files) (inputs : Inputs) (start : Start) → BeginsWith load files inputs start → IsLoadJudged load inputs files (Keeps start)
+load_judged None files inputs start begins = tt
+load_judged (Some name) files inputs start begins = file_state (files name) inputs start begins
+
+pub state_judged : (run : Run) (files : Files) (inputs : Inputs) (start : Start) → AreInputs run files inputs → BeginsWith run.load files inputs start
+    → IsStateJudged (Some run) files (Recorded inputs.recording) (Keeps start)
+state_judged run files inputs start are begins =
+    subst (λ (given : Inputs). IsLoadJudged run.load given files (Keeps start))
+    (inputs_same run files (Recorded inputs.recording) inputs are (recording_judged run.recording files inputs.recording are.recording))
+    (load_judged run.load files inputs start begins)

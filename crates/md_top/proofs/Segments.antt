@@ -12,13 +12,14 @@ use Rattle.md_machine.specs.Outputs.{frame_bytes, frames_bytes, journal_bytes, m
 use Rattle.md_machine.specs.Media.{Media, joined, no_media}
 use Rattle.md_machine.specs.Movers.{mover-lt}
 use Rattle.md_machine.specs.Starts.{IsStart, Start, batches_below}
+use Rattle.save_state.specs.States.{state_bytes}
 use Rattle.md_machine.proofs.Counts.{entries-few, levels-counted, sides-counted}
 use Rattle.md_machine.proofs.Joined.{run-joined}
 use Rattle.md_top.specs.Courses.{CameTo}
 use Rattle.md_top.specs.Endings.{pairs_between}
 use Rattle.md_top.specs.Limits.{IsEnd}
 use Rattle.md_top.specs.Outputs.{Pieces, lengthened, nothing}
-use Rattle.md_top.specs.Runs.{FewEvents, entries_from, frames_to, halted_from, journal_to, media_from, moves_from, pieces_until, run_from, sound_until}
+use Rattle.md_top.specs.Runs.{FewEvents, entries_from, frames_to, halted_from, journal_to, media_from, moves_from, pieces_of, pieces_until, run_from, sound_until, state_to}
 use Rattle.md_top.proofs.Writes.{AreFront}
 use Rattle.md_top.proofs.LeastRuns.{Found, Later, later, moves-found, run-found, run-made}
 
@@ -120,11 +121,12 @@ journal-grows start s t few small within =
     let more : Later start s t = later start s t few small within in
     (journal_bytes more.entries, sym (journal_bytes-append (entries_from start s) more.entries) ∙ ap journal_bytes (sym more.more_entries))
 
-pub pieces-grow : (start : Start) (end s t : ℕ) → IsStart start → FewEvents start → t ≤ 2 ^ 50 → s ≤ t → AreFront (pieces_until start end s) (pieces_until start end t)
-pieces-grow start end s t is few small within = record {
-  frames = frames-grow start s t few small within;
-  sound = sound-grows start end s t is few small within;
-  journal = journal-grows start s t few small within;
+pub pieces-front : (start : Start) (end s : ℕ) → IsStart start → FewEvents start → end ≤ 2 ^ 50 → s ≤ end → AreFront (pieces_until start end s) (pieces_of start end)
+pieces-front start end s is few small within = record {
+  frames = frames-grow start s end few small within;
+  sound = sound-grows start end s end is few small within;
+  journal = journal-grows start s end few small within;
+  state = (state_to start end, refl);
 }
 
 -- a machine at its start, with nothing made
@@ -168,13 +170,14 @@ journal-next : (start : Start) (at to : ℕ) (records : List ℕ) → journal_by
 unfolding journal_to
 journal-next start at to records is = sym is
 
-pub pieces-next : (start : Start) (end at to : ℕ) (more : Pieces) → frames_bytes (media_from start to).frames ≡ frames_bytes (media_from start at).frames ++ more.frames
+pub pieces-next : (start : Start) (end at to : ℕ) (more : Pieces) → more.state ≡ [] → frames_bytes (media_from start to).frames ≡ frames_bytes (media_from start at).frames ++ more.frames
     → sound_bytes (media_from start to) ≡ sound_bytes (media_from start at) ++ more.sound → journal_bytes (entries_from start to) ≡ journal_bytes (entries_from start at) ++ more.journal
     → lengthened (pieces_until start end at) more ≡ pieces_until start end to
-pieces-next start end at to more frames sound journal = λ i. record {
+pieces-next start end at to more none frames sound journal = λ i. record {
   frames = frames-next start at to more.frames frames i;
   sound = sound-next start end at to more.sound sound i;
   journal = journal-next start at to more.journal journal i;
+  state = none i;
 }
 
 -- the outputs before the first segment: the head, and nothing else
@@ -199,9 +202,14 @@ journal-first start is few small = ap journal_bytes (no-entries start is few sma
 pub pieces-first : (start : Start) (end : ℕ) (head : List ℕ) → IsStart start → FewEvents start → start.at ≤ 2 ^ 50 → head ≡ sound_until start end start.at
     → record nothing { sound = head } ≡ pieces_until start end start.at
 pieces-first start end head is few small same =
-    λ i. record { frames = sym (frames-first start is few small) i; sound = same i; journal = sym (journal-first start is few small) i }
+    λ i. record { frames = sym (frames-first start is few small) i; sound = same i; journal = sym (journal-first start is few small) i; state = [] }
 
 -- whether the 68000 of a run is halted
 pub halted-found : (start : Start) (machine : MachineValue) (accesses : ℕ) → CameTo start machine accesses → machine.at ≤ 2 ^ 50 → machine.console.main.halted ≡ halted_from start machine.at
 unfolding halted_from
 halted-found start machine accesses came small = ap (λ (m : Console). m.main.halted) (run-found start machine.at came.few small came.run).console
+
+-- the state to which a run came
+pub state-found : (start : Start) (machine : MachineValue) (accesses : ℕ) → CameTo start machine accesses → machine.at ≤ 2 ^ 50 → state_bytes machine.at machine.console ≡ state_to start machine.at
+unfolding state_to
+state-found start machine accesses came small = ap (state_bytes machine.at) (run-found start machine.at came.few small came.run).console

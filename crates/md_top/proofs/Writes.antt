@@ -5,7 +5,7 @@ use Rattle.std.specs.Str.{bytes_eq}
 use Rattle.std.proofs.lemmas.Slice.Eq.{bytes_eq-Decides}
 use mathlib.Core.Path.{fun_ext}
 use Rattle.md_outer.specs.Outside.{Files, IsPrefix, bytes_of, with_file}
-use Rattle.md_top.specs.Outputs.{Adds, AddsParts, Holds, IsPartOf, LeavesParts, Pieces, all_of, lengthened, nothing, with_part, written}
+use Rattle.md_top.specs.Outputs.{Holds, IsPartOf, LeavesParts, Pieces, all_of, lengthened, nothing, with_part, written}
 use Rattle.md_words.specs.Words.{Run, differ}
 
 -- FILES
@@ -72,11 +72,11 @@ part-longer base files new output name held piece is holds appended =
     subst (λ (o : Option (List ℕ)). new ≡ with_part base o (Some (held ++ piece))) (sym is) (file-longer base files new name held piece held' appended)
 
 -- an output that is not asked for holds what one likes
-part-unasked : (base : Files) (output : Option (List ℕ)) (x y : List ℕ) → output ≡ None → with_part base output (Some x) ≡ with_part base output (Some y)
+pub part-unasked : (base : Files) (output : Option (List ℕ)) (x y : List ℕ) → output ≡ None → with_part base output (Some x) ≡ with_part base output (Some y)
 part-unasked base output x y is =
     ap (λ (o : Option (List ℕ)). with_part base o (Some x)) is ∙ sym (ap (λ (o : Option (List ℕ)). with_part base o (Some y)) is)
 
-named : (output : Option (List ℕ)) → IsSome output → (name : List ℕ) × (output ≡ Some name)
+pub named : (output : Option (List ℕ)) → IsSome output → (name : List ℕ) × (output ≡ Some name)
 named None some = absurd (clash (sym some))
 named (Some name) some = (name, refl)
 
@@ -85,52 +85,80 @@ pub record Apart (run : Run) : Type 0 where
   pub frames_sound : differ run.frames run.sound ≡ true
   pub frames_journal : differ run.frames run.journal ≡ true
   pub sound_journal : differ run.sound run.journal ≡ true
+  pub frames_save : differ run.frames run.save ≡ true
+  pub sound_save : differ run.sound run.save ≡ true
+  pub journal_save : differ run.journal run.save ≡ true
 
 -- each output may be written last
 abbrev but_frames : Run → Files → Pieces → Files
-but_frames run first held = with_part (with_part first run.sound (Some held.sound)) run.journal (Some held.journal)
+but_frames run first held =
+    with_part (with_part (with_part first run.sound (Some held.sound)) run.journal (Some held.journal)) run.save (Some held.state)
 
 abbrev but_sound : Run → Files → Pieces → Files
-but_sound run first held = with_part (with_part first run.frames (Some held.frames)) run.journal (Some held.journal)
+but_sound run first held =
+    with_part (with_part (with_part first run.frames (Some held.frames)) run.journal (Some held.journal)) run.save (Some held.state)
+
+abbrev but_journal : Run → Files → Pieces → Files
+but_journal run first held =
+    with_part (with_part (with_part first run.frames (Some held.frames)) run.sound (Some held.sound)) run.save (Some held.state)
+
+abbrev pub but_state : Run → Files → Pieces → Files
+but_state run first held =
+    with_part (with_part (with_part first run.frames (Some held.frames)) run.sound (Some held.sound)) run.journal (Some held.journal)
 
 frames-last : (run : Run) → Apart run → (first : Files) (held : Pieces) → written run first (all_of held) ≡ with_part (but_frames run first held) run.frames (Some held.frames)
 frames-last run apart first held =
-    ap (λ (files : Files). with_part files run.journal (Some held.journal)) (part-comm first run.frames run.sound (Some held.frames) (Some held.sound) apart.frames_sound)
-    ∙ part-comm (with_part first run.sound (Some held.sound)) run.frames run.journal (Some held.frames) (Some held.journal) apart.frames_journal
+    ap (λ (files : Files). with_part (with_part files run.journal (Some held.journal)) run.save (Some held.state))
+    (part-comm first run.frames run.sound (Some held.frames) (Some held.sound) apart.frames_sound)
+    ∙ ap (λ (files : Files). with_part files run.save (Some held.state))
+    (part-comm (with_part first run.sound (Some held.sound)) run.frames run.journal (Some held.frames) (Some held.journal) apart.frames_journal)
+    ∙ part-comm (with_part (with_part first run.sound (Some held.sound)) run.journal (Some held.journal)) run.frames run.save (Some held.frames) (Some held.state) apart.frames_save
 
 sound-last : (run : Run) → Apart run → (first : Files) (held : Pieces) → written run first (all_of held) ≡ with_part (but_sound run first held) run.sound (Some held.sound)
 sound-last run apart first held =
-    part-comm (with_part first run.frames (Some held.frames)) run.sound run.journal (Some held.sound) (Some held.journal) apart.sound_journal
+    ap (λ (files : Files). with_part files run.save (Some held.state))
+    (part-comm (with_part first run.frames (Some held.frames)) run.sound run.journal (Some held.sound) (Some held.journal) apart.sound_journal)
+    ∙ part-comm (with_part (with_part first run.frames (Some held.frames)) run.journal (Some held.journal)) run.sound run.save (Some held.sound) (Some held.state) apart.sound_save
 
-frames-longer : (run : Run) → Apart run → (first files new : Files) (held : Pieces) (name piece : List ℕ) → run.frames ≡ Some name → Holds run first files held
+journal-last : (run : Run) → Apart run → (first : Files) (held : Pieces) → written run first (all_of held) ≡ with_part (but_journal run first held) run.journal (Some held.journal)
+journal-last run apart first held =
+    part-comm (with_part (with_part first run.frames (Some held.frames)) run.sound (Some held.sound)) run.journal run.save (Some held.journal) (Some held.state) apart.journal_save
+
+pub frames-longer : (run : Run) → Apart run → (first files new : Files) (held : Pieces) (name piece : List ℕ) → run.frames ≡ Some name → Holds run first files held
     → new ≡ with_file files name (bytes_of files name ++ piece) → Holds run first new (record held { frames = held.frames ++ piece })
 frames-longer run apart first files new held name piece is holds appended =
     part-longer (but_frames run first held) files new run.frames name held.frames piece is (holds ∙ frames-last run apart first held) appended
     ∙ sym (frames-last run apart first (record held { frames = held.frames ++ piece }))
 
-sound-longer : (run : Run) → Apart run → (first files new : Files) (held : Pieces) (name piece : List ℕ) → run.sound ≡ Some name → Holds run first files held
+pub sound-longer : (run : Run) → Apart run → (first files new : Files) (held : Pieces) (name piece : List ℕ) → run.sound ≡ Some name → Holds run first files held
     → new ≡ with_file files name (bytes_of files name ++ piece) → Holds run first new (record held { sound = held.sound ++ piece })
 sound-longer run apart first files new held name piece is holds appended =
     part-longer (but_sound run first held) files new run.sound name held.sound piece is (holds ∙ sound-last run apart first held) appended
     ∙ sym (sound-last run apart first (record held { sound = held.sound ++ piece }))
 
-journal-longer : (run : Run) (first files new : Files) (held : Pieces) (name piece : List ℕ) → run.journal ≡ Some name → Holds run first files held
+pub journal-longer : (run : Run) → Apart run → (first files new : Files) (held : Pieces) (name piece : List ℕ) → run.journal ≡ Some name → Holds run first files held
     → new ≡ with_file files name (bytes_of files name ++ piece) → Holds run first new (record held { journal = held.journal ++ piece })
-journal-longer run first files new held name piece is holds appended =
-    part-longer (with_part (with_part first run.frames (Some held.frames)) run.sound (Some held.sound)) files new run.journal name held.journal piece is holds appended
+journal-longer run apart first files new held name piece is holds appended =
+    part-longer (but_journal run first held) files new run.journal name held.journal piece is (holds ∙ journal-last run apart first held) appended
+    ∙ sym (journal-last run apart first (record held { journal = held.journal ++ piece }))
+
+pub state-longer : (run : Run) (first files new : Files) (held : Pieces) (name piece : List ℕ) → run.save ≡ Some name → Holds run first files held
+    → new ≡ with_file files name (bytes_of files name ++ piece) → Holds run first new (record held { state = held.state ++ piece })
+state-longer run first files new held name piece is holds appended =
+    part-longer (but_state run first held) files new run.save name held.state piece is holds appended
 
 -- a piece of one output alone
-only-frames : (held : Pieces) (piece : List ℕ) → record held { frames = held.frames ++ piece } ≡ lengthened held (record nothing { frames = piece })
-only-frames held piece =
-    λ i. record { frames = held.frames ++ piece; sound = sym (append-nil held.sound) i; journal = sym (append-nil held.journal) i }
+pub only-frames : (held : Pieces) (piece : List ℕ) → record held { frames = held.frames ++ piece } ≡ lengthened held (record nothing { frames = piece })
+only-frames held piece = λ i. record { frames = held.frames ++ piece; sound = sym (append-nil held.sound) i; journal = sym (append-nil held.journal) i; state = sym (append-nil held.state) i }
 
-only-sound : (held : Pieces) (piece : List ℕ) → record held { sound = held.sound ++ piece } ≡ lengthened held (record nothing { sound = piece })
-only-sound held piece =
-    λ i. record { frames = sym (append-nil held.frames) i; sound = held.sound ++ piece; journal = sym (append-nil held.journal) i }
+pub only-sound : (held : Pieces) (piece : List ℕ) → record held { sound = held.sound ++ piece } ≡ lengthened held (record nothing { sound = piece })
+only-sound held piece = λ i. record { frames = sym (append-nil held.frames) i; sound = held.sound ++ piece; journal = sym (append-nil held.journal) i; state = sym (append-nil held.state) i }
 
-only-journal : (held : Pieces) (piece : List ℕ) → record held { journal = held.journal ++ piece } ≡ lengthened held (record nothing { journal = piece })
-only-journal held piece =
-    λ i. record { frames = sym (append-nil held.frames) i; sound = sym (append-nil held.sound) i; journal = held.journal ++ piece }
+pub only-journal : (held : Pieces) (piece : List ℕ) → record held { journal = held.journal ++ piece } ≡ lengthened held (record nothing { journal = piece })
+only-journal held piece = λ i. record { frames = sym (append-nil held.frames) i; sound = sym (append-nil held.sound) i; journal = held.journal ++ piece; state = sym (append-nil held.state) i }
+
+pub only-state : (held : Pieces) (piece : List ℕ) → record held { state = held.state ++ piece } ≡ lengthened held (record nothing { state = piece })
+only-state held piece = λ i. record { frames = sym (append-nil held.frames) i; sound = sym (append-nil held.sound) i; journal = sym (append-nil held.journal) i; state = held.state ++ piece }
 
 -- PARTS
 
@@ -140,7 +168,7 @@ prefix-self l = ([], append-nil l)
 pub prefix-append : (front l more : List ℕ) → IsPrefix l more → IsPrefix (front ++ l) (front ++ more)
 prefix-append front l more is = (is.0, append_assoc front l is.0 ∙ ap (λ (x : List ℕ). front ++ x) is.1)
 
-prefix-more : (l more : List ℕ) → IsPrefix l (l ++ more)
+pub prefix-more : (l more : List ℕ) → IsPrefix l (l ++ more)
 prefix-more l more = (more, refl)
 
 pub prefix-trans : (a b c : List ℕ) → IsPrefix a b → IsPrefix b c → IsPrefix a c
@@ -152,17 +180,20 @@ pub record AreFront (front whole : Pieces) : Type 0 where
   pub frames : IsPrefix front.frames whole.frames
   pub sound : IsPrefix front.sound whole.sound
   pub journal : IsPrefix front.journal whole.journal
+  pub state : IsPrefix front.state whole.state
 
 pub nothing-front : (whole : Pieces) → AreFront nothing whole
-nothing-front whole = record { frames = (whole.frames, refl); sound = (whole.sound, refl); journal = (whole.journal, refl) }
+nothing-front whole =
+    record { frames = (whole.frames, refl); sound = (whole.sound, refl); journal = (whole.journal, refl); state = (whole.state, refl) }
 
 -- the outputs hold their bytes, and so parts of longer ones
-parts : (run : Run) (first files : Files) (held whole : Pieces) → Holds run first files held → AreFront held whole → LeavesParts run first files whole
+pub parts : (run : Run) (first files : Files) (held whole : Pieces) → Holds run first files held → AreFront held whole → LeavesParts run first files whole
 parts run first files held whole holds front = record {
   parts = all_of held;
   frames = front.frames;
   sound = front.sound;
   journal = front.journal;
+  state = front.state;
   files = holds;
 }
 
@@ -177,148 +208,6 @@ parts-longer run first files whole longer leaves front = record {
   frames = part-of leaves.parts.frames whole.frames longer.frames front.frames leaves.frames;
   sound = part-of leaves.parts.sound whole.sound longer.sound front.sound leaves.sound;
   journal = part-of leaves.parts.journal whole.journal longer.journal front.journal leaves.journal;
+  state = part-of leaves.parts.state whole.state longer.state front.state leaves.state;
   files = leaves.files;
 }
-
--- APPENDS
-
--- the file of an output's number was lengthened by a piece, or by a part of one
-abbrev Appended : (ℕ → Option (List ℕ)) → ℕ → Files → Files → List ℕ → Type 0
-Appended begun file old new piece = (name : List ℕ) → begun file ≡ Some name → new ≡ with_file old name (bytes_of old name ++ piece)
-
-abbrev AppendedPart : (ℕ → Option (List ℕ)) → ℕ → Files → Files → List ℕ → Type 0
-AppendedPart begun file old new piece =
-    (name : List ℕ) → begun file ≡ Some name → (part : List ℕ) × IsPrefix part piece × (new ≡ with_file old name (bytes_of old name ++ part))
-
--- to the frames file
-pub adds-frames : (run : Run) → Apart run → (begun : ℕ → Option (List ℕ)) (file : ℕ) (old new : Files) (piece : List ℕ)
-    → IsSome run.frames × (begun file ≡ run.frames) → Appended begun file old new piece → Adds run old new (record nothing { frames = piece })
-adds-frames run apart begun file old new piece (some, is) appended first held holds =
-    let name = named run.frames some in
-    subst (Holds run first new) (only-frames held piece) (frames-longer run apart first old new held name.0 piece name.1 holds (appended name.0 (is ∙ name.1)))
-
-pub parts-frames : (run : Run) → Apart run → (begun : ℕ → Option (List ℕ)) (file : ℕ) (old new : Files) (piece : List ℕ)
-    → IsSome run.frames × (begun file ≡ run.frames) → AppendedPart begun file old new piece → AddsParts run old new (record nothing { frames = piece })
-parts-frames run apart begun file old new piece (some, is) appended first held holds =
-    let name = named run.frames some in
-    let part = appended name.0 (is ∙ name.1) in
-    parts run first new (record held { frames = held.frames ++ part.0 }) (lengthened held (record nothing { frames = piece }))
-    (frames-longer run apart first old new held name.0 part.0 name.1 holds part.2)
-    (record { frames = prefix-append held.frames part.0 piece part.1; sound = prefix-more held.sound []; journal = prefix-more held.journal [] })
-
-pub adds-no_frames : (run : Run) (files : Files) (piece : List ℕ) → run.frames ≡ None → Adds run files files (record nothing { frames = piece })
-adds-no_frames run files piece is first held holds =
-    subst (Holds run first files) (only-frames held piece)
-    (holds ∙ ap (λ (base : Files). with_part (with_part base run.sound (Some held.sound)) run.journal (Some held.journal))
-    (part-unasked first run.frames held.frames (held.frames ++ piece) is))
-
--- to the sound file
-pub adds-sound : (run : Run) → Apart run → (begun : ℕ → Option (List ℕ)) (file : ℕ) (old new : Files) (piece : List ℕ)
-    → IsSome run.sound × (begun file ≡ run.sound) → Appended begun file old new piece → Adds run old new (record nothing { sound = piece })
-adds-sound run apart begun file old new piece (some, is) appended first held holds =
-    let name = named run.sound some in
-    subst (Holds run first new) (only-sound held piece) (sound-longer run apart first old new held name.0 piece name.1 holds (appended name.0 (is ∙ name.1)))
-
-pub parts-sound : (run : Run) → Apart run → (begun : ℕ → Option (List ℕ)) (file : ℕ) (old new : Files) (piece : List ℕ)
-    → IsSome run.sound × (begun file ≡ run.sound) → AppendedPart begun file old new piece → AddsParts run old new (record nothing { sound = piece })
-parts-sound run apart begun file old new piece (some, is) appended first held holds =
-    let name = named run.sound some in
-    let part = appended name.0 (is ∙ name.1) in
-    parts run first new (record held { sound = held.sound ++ part.0 }) (lengthened held (record nothing { sound = piece }))
-    (sound-longer run apart first old new held name.0 part.0 name.1 holds part.2)
-    (record { frames = prefix-more held.frames []; sound = prefix-append held.sound part.0 piece part.1; journal = prefix-more held.journal [] })
-
-pub adds-no_sound : (run : Run) (files : Files) (piece : List ℕ) → run.sound ≡ None → Adds run files files (record nothing { sound = piece })
-adds-no_sound run files piece is first held holds =
-    subst (Holds run first files) (only-sound held piece)
-    (holds ∙ ap (λ (base : Files). with_part base run.journal (Some held.journal))
-    (part-unasked (with_part first run.frames (Some held.frames)) run.sound held.sound (held.sound ++ piece) is))
-
--- and to the journal
-pub adds-journal : (run : Run) (begun : ℕ → Option (List ℕ)) (file : ℕ) (old new : Files) (piece : List ℕ)
-    → IsSome run.journal × (begun file ≡ run.journal) → Appended begun file old new piece → Adds run old new (record nothing { journal = piece })
-adds-journal run begun file old new piece (some, is) appended first held holds =
-    let name = named run.journal some in
-    subst (Holds run first new) (only-journal held piece) (journal-longer run first old new held name.0 piece name.1 holds (appended name.0 (is ∙ name.1)))
-
-pub parts-journal : (run : Run) (begun : ℕ → Option (List ℕ)) (file : ℕ) (old new : Files) (piece : List ℕ)
-    → IsSome run.journal × (begun file ≡ run.journal) → AppendedPart begun file old new piece → AddsParts run old new (record nothing { journal = piece })
-parts-journal run begun file old new piece (some, is) appended first held holds =
-    let name = named run.journal some in
-    let part = appended name.0 (is ∙ name.1) in
-    parts run first new (record held { journal = held.journal ++ part.0 }) (lengthened held (record nothing { journal = piece }))
-    (journal-longer run first old new held name.0 part.0 name.1 holds part.2)
-    (record { frames = prefix-more held.frames []; sound = prefix-more held.sound []; journal = prefix-append held.journal part.0 piece part.1 })
-
-pub adds-no_journal : (run : Run) (files : Files) (piece : List ℕ) → run.journal ≡ None → Adds run files files (record nothing { journal = piece })
-adds-no_journal run files piece is first held holds =
-    subst (Holds run first files) (only-journal held piece)
-    (holds ∙ part-unasked (with_part (with_part first run.frames (Some held.frames)) run.sound (Some held.sound)) run.journal held.journal (held.journal ++ piece) is)
-
--- PIECES BEHIND PIECES
-
-lengthened-assoc : (held more rest : Pieces) → lengthened (lengthened held more) rest ≡ lengthened held (lengthened more rest)
-lengthened-assoc held more rest = λ i. record {
-  frames = append_assoc held.frames more.frames rest.frames i;
-  sound = append_assoc held.sound more.sound rest.sound i;
-  journal = append_assoc held.journal more.journal rest.journal i;
-}
-
--- a second piece behind one that was appended
-adds-on : (run : Run) (old mid new : Files) (more rest : Pieces) → Adds run old mid more → Adds run mid new rest → Adds run old new (lengthened more rest)
-adds-on run old mid new more rest one two first held holds =
-    subst (Holds run first new) (lengthened-assoc held more rest) (two first (lengthened held more) (one first held holds))
-
-parts-on : (run : Run) (old mid new : Files) (more rest : Pieces) → Adds run old mid more → AddsParts run mid new rest → AddsParts run old new (lengthened more rest)
-parts-on run old mid new more rest one two first held holds =
-    subst (LeavesParts run first new) (lengthened-assoc held more rest) (two first (lengthened held more) (one first held holds))
-
-front-longer : (more rest : Pieces) → AreFront more (lengthened more rest)
-front-longer more rest = record { frames = prefix-more more.frames rest.frames; sound = prefix-more more.sound rest.sound; journal = prefix-more more.journal rest.journal }
-
--- no second piece behind a part of one
-parts-stop : (run : Run) (old new : Files) (more rest : Pieces) → AddsParts run old new more → AddsParts run old new (lengthened more rest)
-parts-stop run old new more rest one first held holds =
-    subst (LeavesParts run first new) (lengthened-assoc held more rest)
-    (parts-longer run first new (lengthened held more) (lengthened (lengthened held more) rest) (one first held holds) (front-longer (lengthened held more) rest))
-
--- the pieces of a segment
-sound-and-journal : (sound journal : List ℕ) → lengthened (record nothing { sound = sound }) (record nothing { journal = journal }) ≡ record nothing { sound = sound; journal = journal }
-sound-and-journal sound journal = λ i. record { frames = []; sound = append-nil sound i; journal = journal }
-
-frames-and-records : (frames sound journal : List ℕ)
-    → lengthened (record nothing { frames = frames }) (record nothing { sound = sound; journal = journal }) ≡ record { frames = frames; sound = sound; journal = journal }
-frames-and-records frames sound journal = λ i. record { frames = append-nil frames i; sound = sound; journal = journal }
-
-pub adds-records : (run : Run) (old mid new : Files) (sound journal : List ℕ) → Adds run old mid (record nothing { sound = sound })
-    → Adds run mid new (record nothing { journal = journal }) → Adds run old new (record nothing { sound = sound; journal = journal })
-adds-records run old mid new sound journal one two =
-    subst (Adds run old new) (sound-and-journal sound journal) (adds-on run old mid new (record nothing { sound = sound }) (record nothing { journal = journal }) one two)
-
-pub parts-records : (run : Run) (old mid new : Files) (sound journal : List ℕ) → Adds run old mid (record nothing { sound = sound })
-    → AddsParts run mid new (record nothing { journal = journal }) → AddsParts run old new (record nothing { sound = sound; journal = journal })
-parts-records run old mid new sound journal one two =
-    subst (AddsParts run old new) (sound-and-journal sound journal) (parts-on run old mid new (record nothing { sound = sound }) (record nothing { journal = journal }) one two)
-
-pub stop-records : (run : Run) (old new : Files) (sound journal : List ℕ) → AddsParts run old new (record nothing { sound = sound })
-    → AddsParts run old new (record nothing { sound = sound; journal = journal })
-stop-records run old new sound journal one =
-    subst (AddsParts run old new) (sound-and-journal sound journal) (parts-stop run old new (record nothing { sound = sound }) (record nothing { journal = journal }) one)
-
-pub adds-all : (run : Run) (old mid new : Files) (frames sound journal : List ℕ) → Adds run old mid (record nothing { frames = frames })
-    → Adds run mid new (record nothing { sound = sound; journal = journal }) → Adds run old new (record { frames = frames; sound = sound; journal = journal })
-adds-all run old mid new frames sound journal one two =
-    subst (Adds run old new) (frames-and-records frames sound journal)
-    (adds-on run old mid new (record nothing { frames = frames }) (record nothing { sound = sound; journal = journal }) one two)
-
-pub parts-all : (run : Run) (old mid new : Files) (frames sound journal : List ℕ) → Adds run old mid (record nothing { frames = frames })
-    → AddsParts run mid new (record nothing { sound = sound; journal = journal }) → AddsParts run old new (record { frames = frames; sound = sound; journal = journal })
-parts-all run old mid new frames sound journal one two =
-    subst (AddsParts run old new) (frames-and-records frames sound journal)
-    (parts-on run old mid new (record nothing { frames = frames }) (record nothing { sound = sound; journal = journal }) one two)
-
-pub stop-all : (run : Run) (old new : Files) (frames sound journal : List ℕ) → AddsParts run old new (record nothing { frames = frames })
-    → AddsParts run old new (record { frames = frames; sound = sound; journal = journal })
-stop-all run old new frames sound journal one =
-    subst (AddsParts run old new) (frames-and-records frames sound journal)
-    (parts-stop run old new (record nothing { frames = frames }) (record nothing { sound = sound; journal = journal }) one)

@@ -2,10 +2,11 @@
 use Rattle.std.specs.Prelude.{◌≡◌, ◌≢◌, ◌⊎◌, ℕ, ◌<◌, ◌≤◌, List, ◌++◌, Option, Some, None, IsSomeAnd, IfSome, option_and_then}
 use Rattle.md_outer.specs.Outside.{DepotState, Files, IsPrefix, Rose, SinkState, bytes_of}
 use Rattle.md_pads.specs.Recording.{IsSpelled}
-use Rattle.md_top.specs.Inputs.{Begins, IsJudged, IsMissing, MayBeginAt, Verdict}
+use Rattle.md_top.specs.Inputs.{IsJudged, IsMissing, Verdict}
 use Rattle.md_top.specs.Limits.{last_cycle}
+use Rattle.md_top.specs.Loads.{Begins, IsLoadFound, IsStateJudged, MayBeginAt, OfOther, StateVerdict, StateWrongAt}
 use Rattle.md_machine.specs.Starts.{Start}
-use Rattle.md_words.specs.Words.{Command, Run, frames_name, journal_name, recording_name, run_in, sound_name}
+use Rattle.md_words.specs.Words.{Command, Run, frames_name, journal_name, recording_name, run_in, save_name, sound_name}
 use Rattle.md_top.specs.Endings.{HasCause, IsReady, LeavesFiles, right_ending, status_of, text_of}
 use Rattle.md_top.specs.declared.ending.Ending.{Ending}
 use Rattle.md_top.specs.declared.ending.Ending.TheVariants.{Done, Shown}
@@ -57,13 +58,16 @@ pub record Causes (depot_told : Type 0) (command : Option Command) (old new : De
   pub far_refused : IsSomeAnd (option_and_then run_in command) (λ run. last_cycle < run.cycles) → (status ≡ 11) ⊎ (status ≡ 10)
   pub read_fault : status ≡ 3 → Rose old.read_faults new.read_faults ⊎ (depot_told × IsSomeAnd command (λ asked. IsMissing asked old.files))
   pub wrong : status ≡ 6 → IsSomeAnd (option_and_then recording_name command) (λ name. depot_told → ¬ IsSpelled (bytes_of old.files name))
+  pub state_wrong : status ≡ 7 → IsSomeAnd (option_and_then run_in command) (λ run. (place : ℕ) × IsLoadFound depot_told run old.files (StateWrongAt place))
+  pub other_cart : status ≡ 8 → IsSomeAnd (option_and_then run_in command) (λ run. (kept : List ℕ) × (given : List ℕ) × IsLoadFound depot_told run old.files (OfOther kept given))
   pub behind : status ≡ 9 → IsSomeAnd (option_and_then run_in command) (λ run. IsBehind depot_told run old.files)
   pub write_fault : status ≡ 4 → Rose old.write_faults new.write_faults
   pub out_fault : status ≡ 13 → Rose out.faults out'.faults
   -- each refusal comes exactly where it should, in this order; want of memory may come between
   pub exact : NoFaults old new out out' → depot_told → (verdict : Verdict) → IsJudged (option_and_then recording_name command) old.files verdict
-      → (status ≡ status_of (right_ending command old.files verdict)) ⊎ (status ≡ 10)
+      → (state : StateVerdict) → IsStateJudged (option_and_then run_in command) old.files verdict state
+      → (status ≡ status_of (right_ending command old.files verdict state)) ⊎ (status ≡ 10)
   -- where nothing is wrong the command ends well, or memory is wanting
   pub complete : NoFaults old new out out' → depot_told → IsSomeAnd command (λ asked. IsReady asked old.files) → (status ≡ 0) ⊎ (status ≡ 10)
   -- no file but the outputs changes
-  pub others : depot_told → IfSome command (λ asked. (name : List ℕ) → frames_name asked ≢ Some name → sound_name asked ≢ Some name → journal_name asked ≢ Some name → new.files name ≡ old.files name)
+  pub others : depot_told → IfSome command (λ asked. (name : List ℕ) → frames_name asked ≢ Some name → sound_name asked ≢ Some name → journal_name asked ≢ Some name → save_name asked ≢ Some name → new.files name ≡ old.files name)

@@ -19,6 +19,12 @@ start_in course = start_at course.machine
 abbrev pub cycle_of : Course → ℕ
 cycle_of course = course.machine.at
 
+-- a machine with which a run may begin: it is a start, and was drained
+pub record IsFresh (machine : MachineValue) : Type 0 where
+  pub from : IsStart (start_at machine)
+  pub entries : machine.entries ≡ []
+  pub media : machine.media ≡ no_media
+
 -- a machine came from a start to its cycle with so many accesses, and its records were drained
 pub record CameTo (start : Start) (machine : MachineValue) (accesses : ℕ) : Type 0 where
   pub from : IsStart start

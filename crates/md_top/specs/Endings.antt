@@ -1,19 +1,22 @@
 -- What a command line can come to: its status, what is put, why it comes, and what the files hold
 -- then.
-use Rattle.std.specs.Prelude.{◌≡◌, ℕ, ◌+◌, ◌-◌, ◌*◌, ◌/◌, ◌%◌, ◌<◌, ◌≤◌, nat_le, nat_lt, if◌then◌else◌, List, [], ◌++◌, length, codes, decimal, Option, Some, None, unwrap_or}
+use Rattle.std.specs.Prelude.{◌≡◌, ℕ, ◌+◌, ◌-◌, ◌*◌, ◌/◌, ◌%◌, ◌<◌, ◌≤◌, nat_le, nat_lt, if◌then◌else◌, List, [], ◌++◌, length, codes, decimal, Option, Some, None, IsSome, unwrap_or}
 use Rattle.rom_header.specs.Cartridge.{fault_of}
 use Rattle.rom_header.specs.Header.{header_lines}
 use Rattle.rom_header.specs.declared.cart.CartFault.{CartFault}
+use Rattle.hex.specs.Hex.{encode_lower}
 use Rattle.md_outer.specs.Outside.{DepotState, Files}
 use Rattle.md_pads.specs.Recording.{Frame}
 use Rattle.md_machine.specs.Starts.{Start}
-use Rattle.md_top.specs.Inputs.{Begins, CanRun, CartCause, InputCause, IsAccepted, MayBeginAt, Recorded, Verdict, WrongAt, cart_limit, cart_of, recording_limit, refusal_of}
+use Rattle.md_top.specs.Inputs.{CartCause, InputCause, IsAccepted, Recorded, Verdict, WrongAt, cart_limit, cart_of, recording_limit, refusal_of}
 use Rattle.md_top.specs.Limits.{IsEnd, last_cycle}
+use Rattle.md_top.specs.Loads.{Begins, CanRun, Keeps, LoadCause, MayBeginAt, OfOther, StateVerdict, StateWrongAt, state_limit}
 use Rattle.md_top.specs.Runs.{entries_from, halted_from, pieces_of, pieces_until, powered_on}
 use Rattle.md_top.specs.Outputs.{Holds, IsUnwritten, LeavesParts, nothing}
-use Rattle.md_words.specs.Words.{Command, Info, Run, RunCart, end_of, frames_name, journal_name, recording_name, rom_of, sound_name}
+use Rattle.md_words.specs.Words.{Command, Info, Run, RunCart, end_of, frames_name, journal_name, load_name, recording_name, rom_of, save_name, sound_name}
 use Rattle.md_top.specs.declared.ending.Ending.{Ending}
-use Rattle.md_top.specs.declared.ending.Ending.TheVariants.{Shown, Done, Usage, TooFar, ReadFault, TooLong, Short, NoMark, RecordingFault, RecordingTooLong, RecordingWrong, Behind, FramesFault, SoundFault, JournalFault, Memory}
+use Rattle.md_top.specs.declared.inputs.Inputs.{Inputs}
+use Rattle.md_top.specs.declared.ending.Ending.TheVariants.{Shown, Done, Usage, TooFar, ReadFault, TooLong, Short, NoMark, RecordingFault, RecordingTooLong, RecordingWrong, StateFault, StateTooLong, StateWrong, OtherCart, Behind, FramesFault, SoundFault, JournalFault, SaveFault, Unsaved, Memory}
 
 -- the status that the program ends with
 abbrev pub status_of : Ending → ℕ
@@ -22,17 +25,23 @@ status_of (Done from accesses halted) = 0
 status_of Usage = 2
 status_of ReadFault = 3
 status_of RecordingFault = 3
+status_of StateFault = 3
 status_of FramesFault = 4
 status_of SoundFault = 4
 status_of JournalFault = 4
+status_of SaveFault = 4
 status_of Short = 5
 status_of NoMark = 5
 status_of (RecordingWrong place) = 6
+status_of (StateWrong place) = 7
+status_of (OtherCart kept given) = 8
 status_of (Behind from) = 9
 status_of Memory = 10
+status_of Unsaved = 10
 status_of TooFar = 11
 status_of TooLong = 14
 status_of RecordingTooLong = 14
+status_of StateTooLong = 14
 
 -- the frames that are finished below a cycle: one in each 896040 cycles, and one more behind the start
 -- of line 224
@@ -57,6 +66,12 @@ number_line word number = word ++ decimal number ++ codes "\n"
 -- a line of two words, each with a number
 abbrev pub numbers_line : List ℕ → ℕ → List ℕ → ℕ → List ℕ
 numbers_line word number second other = (word ++ decimal number) ++ number_line second other
+
+-- the line of a saved state of another cartridge: the digest that it keeps, and that of the cartridge
+-- that is named, in hexadecimal
+abbrev pub carts_line : List ℕ → List ℕ → List ℕ
+carts_line kept given =
+    (codes "refused: state of another cartridge " ++ encode_lower kept ++ codes " ") ++ (encode_lower given ++ codes "\n")
 
 -- the line of a 68000 that is halted: the start of the instruction or exception that halted it
 abbrev pub halted_line : Option ℕ → List ℕ
@@ -85,10 +100,16 @@ text_of (Some command) NoMark = codes "refused: cartridge: no mark\n"
 text_of (Some command) RecordingFault = codes "fault: reading " ++ unwrap_or (recording_name command) [] ++ codes "\n"
 text_of (Some command) RecordingTooLong = codes "refused: " ++ unwrap_or (recording_name command) [] ++ codes " is too long\n"
 text_of (Some command) (RecordingWrong place) = codes "refused: recording at " ++ decimal place ++ codes "\n"
+text_of (Some command) StateFault = codes "fault: reading " ++ unwrap_or (load_name command) [] ++ codes "\n"
+text_of (Some command) StateTooLong = codes "refused: " ++ unwrap_or (load_name command) [] ++ codes " is too long\n"
+text_of (Some command) (StateWrong place) = codes "refused: state at " ++ decimal place ++ codes "\n"
+text_of (Some command) (OtherCart kept given) = carts_line kept given
 text_of (Some command) (Behind from) = numbers_line (codes "refused: cycle ") (end_of command) (codes " is not above ") from
 text_of (Some command) FramesFault = codes "fault: writing " ++ unwrap_or (frames_name command) [] ++ codes "\n"
 text_of (Some command) SoundFault = codes "fault: writing " ++ unwrap_or (sound_name command) [] ++ codes "\n"
 text_of (Some command) JournalFault = codes "fault: writing " ++ unwrap_or (journal_name command) [] ++ codes "\n"
+text_of (Some command) SaveFault = codes "fault: writing " ++ unwrap_or (save_name command) [] ++ codes "\n"
+text_of (Some command) Unsaved = codes "refused: memory\n"
 text_of command Memory = codes "refused: memory\n"
 text_of command ending = codes "refused: usage\n"
 
@@ -101,6 +122,7 @@ IsReady (RunCart run) files = IsEnd run.cycles × CanRun run files
 abbrev pub RunCause : Start → Run → DepotState → DepotState → Ending → Type 0
 RunCause start run old new (Done from accesses halted) =
     (from ≡ start.at) × (accesses ≡ length (entries_from start run.cycles)) × (halted ≡ halted_from start run.cycles)
+RunCause start run old new Unsaved = IsSome run.save
 RunCause start run old new ending = IsUnwritten run old new ending
 
 -- Why each may come. What a file holds is spoken of where the depot tells it. Each cause says that
@@ -124,6 +146,12 @@ RunEnds told run old new (Done from accesses halted) =
 RunEnds told run old new FramesFault = IsEnd run.cycles × (told → CanRun run old.files) × IsUnwritten run old new FramesFault
 RunEnds told run old new SoundFault = IsEnd run.cycles × (told → CanRun run old.files) × IsUnwritten run old new SoundFault
 RunEnds told run old new JournalFault = IsEnd run.cycles × (told → CanRun run old.files) × IsUnwritten run old new JournalFault
+RunEnds told run old new SaveFault = IsEnd run.cycles × (told → CanRun run old.files) × IsUnwritten run old new SaveFault
+RunEnds told run old new Unsaved = IsEnd run.cycles × (told → CanRun run old.files) × IsSome run.save
+RunEnds told run old new StateFault = (run.cycles ≤ last_cycle) × LoadCause told run old new StateFault
+RunEnds told run old new StateTooLong = (run.cycles ≤ last_cycle) × LoadCause told run old new StateTooLong
+RunEnds told run old new (StateWrong place) = (run.cycles ≤ last_cycle) × LoadCause told run old new (StateWrong place)
+RunEnds told run old new (OtherCart kept given) = (run.cycles ≤ last_cycle) × LoadCause told run old new (OtherCart kept given)
 RunEnds told run old new ending = (run.cycles ≤ last_cycle) × InputCause told run old new ending
 
 abbrev pub HasCause : Type 0 → Option Command → DepotState → DepotState → Ending → Type 0
@@ -139,10 +167,12 @@ HoldsUntil start run old new at = Holds run old new (pieces_until start run.cycl
 
 -- what the files hold once the run from a start has ended
 abbrev pub RunLeaves : Start → Run → Files → Files → Ending → Type 0
-RunLeaves start run old new (Done from accesses halted) = HoldsUntil start run old new run.cycles
+RunLeaves start run old new (Done from accesses halted) = Holds run old new (pieces_of start run.cycles)
+RunLeaves start run old new Unsaved = HoldsUntil start run old new run.cycles
 RunLeaves start run old new FramesFault = LeavesParts run old new (pieces_of start run.cycles)
 RunLeaves start run old new SoundFault = LeavesParts run old new (pieces_of start run.cycles)
 RunLeaves start run old new JournalFault = LeavesParts run old new (pieces_of start run.cycles)
+RunLeaves start run old new SaveFault = LeavesParts run old new (pieces_of start run.cycles)
 RunLeaves start run old new Memory = LeavesParts run old new nothing
 RunLeaves start run old new ending = new ≡ old
 
@@ -156,6 +186,8 @@ RunFiles run old new (Done from accesses halted) = StartLeaves run old new (Done
 RunFiles run old new FramesFault = StartLeaves run old new FramesFault
 RunFiles run old new SoundFault = StartLeaves run old new SoundFault
 RunFiles run old new JournalFault = StartLeaves run old new JournalFault
+RunFiles run old new SaveFault = StartLeaves run old new SaveFault
+RunFiles run old new Unsaved = StartLeaves run old new Unsaved
 RunFiles run old new Memory = LeavesParts run old new nothing
 RunFiles run old new ending = new ≡ old
 
@@ -192,20 +224,37 @@ abbrev pub recorded_ending : Option (List ℕ) → Files → Verdict → (List F
 recorded_ending None files verdict ready = ready []
 recorded_ending (Some name) files verdict ready = recording_ending (files name) verdict ready
 
--- behind the inputs of a run
+-- where a run begins
 abbrev pub run_ending : Start → ℕ → Ending
 run_ending start end =
     if nat_le end start.at then Behind start.at else Done start.at (length (entries_from start end)) (halted_from start end)
 
--- behind the accepted cartridge of a run
-abbrev pub accepted_ending : Run → Files → Verdict → Ending
-accepted_ending run files verdict =
-    recorded_ending run.recording files verdict
-    (λ recording. run_ending (powered_on (record { cart = cart_of run.rom files; recording = recording })) run.cycles)
+-- behind a saved state that the verdict is on
+abbrev pub kept_ending : StateVerdict → ℕ → Ending
+kept_ending (StateWrongAt place) end = StateWrong place
+kept_ending (OfOther kept given) end = OtherCart kept given
+kept_ending (Keeps start) end = run_ending start end
 
--- what a command line comes to, with these files and this verdict on the recording that it names
-abbrev pub right_ending : Option Command → Files → Verdict → Ending
-right_ending None files verdict = Usage
-right_ending (Some (Info rom)) files verdict = file_ending (files rom) (Shown (header_lines (cart_of rom files)))
-right_ending (Some (RunCart run)) files verdict =
-    if nat_lt last_cycle run.cycles then TooFar else file_ending (files run.rom) (accepted_ending run files verdict)
+-- behind the saved state's file
+abbrev pub state_ending : Option (List ℕ) → StateVerdict → ℕ → Ending
+state_ending None state end = StateFault
+state_ending (Some bytes) state end = if nat_lt state_limit (length bytes) then StateTooLong else kept_ending state end
+
+-- behind the inputs of a run, with the saved state of this name, if one is named
+abbrev pub loaded_ending : Option (List ℕ) → Files → StateVerdict → Inputs → ℕ → Ending
+loaded_ending None files state inputs end = run_ending (powered_on inputs) end
+loaded_ending (Some name) files state inputs end = state_ending (files name) state end
+
+-- behind the accepted cartridge of a run
+abbrev pub accepted_ending : Run → Files → Verdict → StateVerdict → Ending
+accepted_ending run files verdict state =
+    recorded_ending run.recording files verdict
+    (λ recording. loaded_ending run.load files state (record { cart = cart_of run.rom files; recording = recording }) run.cycles)
+
+-- what a command line comes to, with these files and these verdicts on the recording and on the saved
+-- state that it names
+abbrev pub right_ending : Option Command → Files → Verdict → StateVerdict → Ending
+right_ending None files verdict state = Usage
+right_ending (Some (Info rom)) files verdict state = file_ending (files rom) (Shown (header_lines (cart_of rom files)))
+right_ending (Some (RunCart run)) files verdict state =
+    if nat_lt last_cycle run.cycles then TooFar else file_ending (files run.rom) (accepted_ending run files verdict state)

@@ -5,9 +5,7 @@ use Rattle.rom_header.specs.declared.cart.CartFault.{CartFault}
 use Rattle.rom_header.specs.declared.cart.CartFault.TheVariants as fault
 use Rattle.md_outer.specs.Outside.{DepotState, Files, Rose, bytes_of}
 use Rattle.md_pads.specs.Recording.{Frame, GoesWrongAt, Spells}
-use Rattle.md_machine.specs.Starts.{Start}
-use Rattle.md_words.specs.Words.{Command, Run, recording_name, rom_of}
-use Rattle.md_top.specs.Runs.{powered_on}
+use Rattle.md_words.specs.Words.{Command, Run, load_name, recording_name, rom_of}
 use Rattle.md_top.specs.declared.ending.Ending.{Ending}
 use Rattle.md_top.specs.declared.ending.Ending.TheVariants.{ReadFault, TooLong, Short, NoMark, RecordingFault, RecordingTooLong, RecordingWrong, Memory}
 use Rattle.md_top.specs.declared.inputs.Inputs.{Inputs}
@@ -88,19 +86,9 @@ pub record AreInputs (run : Run) (files : Files) (inputs : Inputs) : Type 0 wher
   pub cart : inputs.cart ≡ cart_of run.rom files
   pub recording : Records run.recording files inputs.recording
 
--- a run begins there, with the inputs that its files hold: at power-on
-pub record Begins (run : Run) (files : Files) (start : Start) : Type 0 where
-  pub inputs : Inputs
-  pub are : AreInputs run files inputs
-  pub start_is : start ≡ powered_on inputs
-
--- whatever its files hold, a run may begin at the cycle
-abbrev pub MayBeginAt : Run → ℕ → Type 0
-MayBeginAt run at = at ≡ 0
-
--- the files hold what a run begins with, and its end is above the cycle at which it begins
-abbrev pub CanRun : Run → Files → Type 0
-CanRun run files = (start : Start) × Begins run files start × (start.at < run.cycles)
+-- the files hold the inputs of a run
+abbrev pub HaveInputs : Run → Files → Type 0
+HaveInputs run files = (inputs : Inputs) × AreInputs run files inputs
 
 -- why the inputs of a run are not there
 abbrev pub InputCause : Type 0 → Run → DepotState → DepotState → Ending → Type 0
@@ -111,4 +99,6 @@ InputCause told run old new ending = CartCause told run.rom old new ending
 
 -- an input of the command is not held
 abbrev pub IsMissing : Command → Files → Type 0
-IsMissing command files = (files (rom_of command) ≡ None) ⊎ IsSomeAnd (recording_name command) (λ name. files name ≡ None)
+IsMissing command files =
+    (files (rom_of command) ≡ None)
+    ⊎ (IsSomeAnd (recording_name command) (λ name. files name ≡ None) ⊎ IsSomeAnd (load_name command) (λ name. files name ≡ None))

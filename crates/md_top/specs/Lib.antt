@@ -4,6 +4,8 @@ pub mod Endings
 pub mod Inputs
 pub mod Least
 pub mod Limits
+pub mod Loads
 pub mod Outputs
 pub mod Runs
+pub mod Saves
 pub mod Workers

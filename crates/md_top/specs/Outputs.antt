@@ -3,17 +3,18 @@ use Rattle.std.specs.Prelude.{◌≡◌, ℕ, List, [], ◌++◌, Option, Some, 
 use Rattle.md_outer.specs.Outside.{DepotState, Files, IsPrefix, Rose, with_file}
 use Rattle.md_words.specs.Words.{Run}
 use Rattle.md_top.specs.declared.ending.Ending.{Ending}
-use Rattle.md_top.specs.declared.ending.Ending.TheVariants.{FramesFault, SoundFault, JournalFault, Memory}
+use Rattle.md_top.specs.declared.ending.Ending.TheVariants.{FramesFault, SoundFault, JournalFault, SaveFault, Memory}
 use Rattle.md_top.specs.declared.outputs.Outputs.{Outputs}
 
--- bytes of the three outputs
+-- bytes of the four outputs
 pub record Pieces : Type 0 where
   pub frames : List ℕ
   pub sound : List ℕ
   pub journal : List ℕ
+  pub state : List ℕ
 
 abbrev pub nothing : Pieces
-nothing = record { frames = []; sound = []; journal = [] }
+nothing = record { frames = []; sound = []; journal = []; state = [] }
 
 -- bytes, and behind them more
 abbrev pub lengthened : Pieces → Pieces → Pieces
@@ -21,17 +22,20 @@ lengthened held more = record {
   frames = held.frames ++ more.frames;
   sound = held.sound ++ more.sound;
   journal = held.journal ++ more.journal;
+  state = held.state ++ more.state;
 }
 
--- the bytes of those of the three outputs that are begun
+-- the bytes of those of the four outputs that are begun
 pub record Parts : Type 0 where
   pub frames : Option (List ℕ)
   pub sound : Option (List ℕ)
   pub journal : Option (List ℕ)
+  pub state : Option (List ℕ)
 
 -- all are begun
 abbrev pub all_of : Pieces → Parts
-all_of held = record { frames = Some held.frames; sound = Some held.sound; journal = Some held.journal }
+all_of held =
+    record { frames = Some held.frames; sound = Some held.sound; journal = Some held.journal; state = Some held.state }
 
 -- an output that is asked for and begun holds these bytes
 abbrev pub with_part : Files → Option (List ℕ) → Option (List ℕ) → Files
@@ -42,7 +46,8 @@ with_part files None (Some bytes) = files
 -- the outputs of a run, each where it is asked for and begun; all other files stay
 abbrev pub written : Run → Files → Parts → Files
 written run files parts =
-    with_part (with_part (with_part files run.frames parts.frames) run.sound parts.sound) run.journal parts.journal
+    with_part (with_part (with_part (with_part files run.frames parts.frames) run.sound parts.sound) run.journal parts.journal)
+    run.save parts.state
 
 -- the outputs are begun, and hold these bytes
 abbrev pub Holds : Run → Files → Files → Pieces → Type 0
@@ -59,6 +64,7 @@ pub record LeavesParts (run : Run) (old new : Files) (whole : Pieces) : Type 0 w
   pub frames : IsPartOf parts.frames whole.frames
   pub sound : IsPartOf parts.sound whole.sound
   pub journal : IsPartOf parts.journal whole.journal
+  pub state : IsPartOf parts.state whole.state
   pub files : new ≡ written run old parts
 
 -- an output that is asked for could not be written: a count of faults rose
@@ -66,6 +72,7 @@ abbrev pub IsWriteFault : Run → DepotState → DepotState → Ending → Type 
 IsWriteFault run old new FramesFault = IsSome run.frames × Rose old.write_faults new.write_faults
 IsWriteFault run old new SoundFault = IsSome run.sound × Rose old.write_faults new.write_faults
 IsWriteFault run old new JournalFault = IsSome run.journal × Rose old.write_faults new.write_faults
+IsWriteFault run old new SaveFault = IsSome run.save × Rose old.write_faults new.write_faults
 IsWriteFault run old new ending = ⊥
 
 -- or memory was wanting
@@ -83,6 +90,7 @@ pub record AreBegun (run : Run) (begun : ℕ → Option (List ℕ)) (outputs : O
   pub frames : IsBegun begun outputs.frames run.frames
   pub sound : IsBegun begun outputs.sound run.sound
   pub journal : IsBegun begun outputs.journal run.journal
+  pub save : IsBegun begun outputs.save run.save
 
 -- whatever the outputs held before, they hold these pieces behind it
 abbrev pub Adds : Run → Files → Files → Pieces → Type 0

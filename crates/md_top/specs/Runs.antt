@@ -1,11 +1,12 @@
 -- A run of the machine from a start, which always moves the chip of least key.
-use Rattle.std.specs.Prelude.{ℕ, ◌+◌, ◌-◌, ◌^◌, ◌≤◌, nat_le, Bool, List, ◌++◌, length, Option}
+use Rattle.std.specs.Prelude.{ℕ, ◌+◌, ◌-◌, ◌^◌, ◌≤◌, nat_le, Bool, List, [], ◌++◌, length, Option}
 use Rattle.md_word.specs.declared.event.Entry.{Entry}
 use Rattle.md_files.specs.Wav.{wav_head}
 use Rattle.md_machine.specs.Console.{AllBelow, Console, journal, key_in, media, mover, power_on, ran}
 use Rattle.md_machine.specs.Media.{Media}
 use Rattle.md_machine.specs.Outputs.{frames_bytes, journal_bytes, sound_bytes}
 use Rattle.md_machine.specs.Starts.{Start}
+use Rattle.save_state.specs.States.{state_bytes}
 use Rattle.md_top.specs.Least.{least}
 use Rattle.md_top.specs.Outputs.{Pieces}
 use Rattle.md_top.specs.declared.inputs.Inputs.{Inputs}
@@ -56,11 +57,15 @@ journal_to start end = journal_bytes (entries_from start end)
 -- the outputs of a run to the cycle `end`, as far as the cycle `at`
 abbrev pub pieces_until : Start → ℕ → ℕ → Pieces
 pieces_until start end at =
-    record { frames = frames_to start at; sound = sound_until start end at; journal = journal_to start at }
+    record { frames = frames_to start at; sound = sound_until start end at; journal = journal_to start at; state = [] }
 
--- the outputs of a run to the cycle
+-- the saved state at the end of a run to the cycle
+unfoldable pub state_to : Start → ℕ → List ℕ
+state_to start end = state_bytes end (run_from start end)
+
+-- the outputs of a run to the cycle: the state comes behind all others
 abbrev pub pieces_of : Start → ℕ → Pieces
-pieces_of start end = pieces_until start end end
+pieces_of start end = record (pieces_until start end end) { state = state_to start end }
 
 -- from the start on there are never more events below a cycle than cycles up to it, and chips
 abbrev pub FewEvents : Start → Type 0

@@ -32,6 +32,19 @@ pub(crate) enum Ending {
     RecordingTooLong,
     /// The recording's file spells no recording, and goes wrong at this byte.
     RecordingWrong(u64),
+    /// The saved state's file could not be read.
+    StateFault,
+    /// The saved state's file is longer than its limit.
+    StateTooLong,
+    /// The saved state's file keeps no machine, and goes wrong at this byte.
+    StateWrong(u64),
+    /// The saved state is one of another cartridge.
+    OtherCart {
+        /// The SHA-256 of the cartridge's image that it keeps.
+        kept: [u8; 32],
+        /// That of the image of the cartridge that is named.
+        given: [u8; 32],
+    },
     /// The run's end is not above this cycle, at which it begins.
     Behind(u64),
     /// The frames file could not be written.
@@ -40,5 +53,9 @@ pub(crate) enum Ending {
     SoundFault,
     /// The journal could not be written.
     JournalFault,
+    /// The state's file could not be written.
+    SaveFault,
+    /// Memory was wanting for the state that is to be saved, behind a run that ended well.
+    Unsaved,
     Memory,
 }

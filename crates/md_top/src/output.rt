@@ -32,13 +32,19 @@ pub(crate) fn begin_all<D: Depot>(
         Err(Begin::Failed) => return Err(Ending::SoundFault),
         Err(Begin::NoMemory) => return Err(Ending::Memory),
     };
-    match begin(alloc, run.journal, depot) {
-        Ok(journal) => Ok(Outputs {
+    let journal = match begin(alloc, run.journal, depot) {
+        Ok(journal) => journal,
+        Err(Begin::Failed) => return Err(Ending::JournalFault),
+        Err(Begin::NoMemory) => return Err(Ending::Memory),
+    };
+    match begin(alloc, run.save, depot) {
+        Ok(save) => Ok(Outputs {
             frames,
             sound,
             journal,
+            save,
         }),
-        Err(Begin::Failed) => Err(Ending::JournalFault),
+        Err(Begin::Failed) => Err(Ending::SaveFault),
         Err(Begin::NoMemory) => Err(Ending::Memory),
     }
 }
@@ -126,6 +132,28 @@ fn append_journal<D: Depot>(
     }
 }
 
+/// Appends a piece to the state's file, if it is asked for.
+pub(crate) fn append_state<D: Depot>(
+    run: &RunWords<'_>,
+    outputs: &Outputs,
+    depot: &mut D,
+    piece: &[u8],
+) -> Result<(), Ending>
+    requires begun { AreBegun (shown_run run.now) (D.state depot.old).begun outputs.now }
+    ensures files { OnOk result (D.told → Adds (shown_run run.now) (D.state depot.old).files (D.state depot.new).files (record nothing { state = piece.now })) }
+    ensures err { IfErr result (IsWriteFault (shown_run run.now) (D.state depot.old) (D.state depot.new)) }
+    ensures err_files { OnErr result (D.told → AddsParts (shown_run run.now) (D.state depot.old).files (D.state depot.new).files (record nothing { state = piece.now })) }
+    ensures goes_on { GoesOn (D.state depot.old) (D.state depot.new) }
+{
+    match outputs.save {
+        Some(file) => match depot.append(file, piece) {
+            Ok(()) => Ok(()),
+            Err(Failed) => Err(Ending::SaveFault),
+        },
+        None => Ok(()),
+    }
+}
+
 /// Appends a segment's pairs to the sound file and its records to the journal.
 fn append_records<D: Depot>(
     run: &RunWords<'_>,
@@ -156,9 +184,9 @@ pub(crate) fn append_all<D: Depot>(
     records: &[u8],
 ) -> Result<(), Ending>
     requires begun { AreBegun (shown_run run.now) (D.state depot.old).begun outputs.now }
-    ensures files { OnOk result (D.told → Adds (shown_run run.now) (D.state depot.old).files (D.state depot.new).files (record { frames = frames.now; sound = pairs.now; journal = records.now })) }
+    ensures files { OnOk result (D.told → Adds (shown_run run.now) (D.state depot.old).files (D.state depot.new).files (record nothing { frames = frames.now; sound = pairs.now; journal = records.now })) }
     ensures err { IfErr result (IsWriteFault (shown_run run.now) (D.state depot.old) (D.state depot.new)) }
-    ensures err_files { OnErr result (D.told → AddsParts (shown_run run.now) (D.state depot.old).files (D.state depot.new).files (record { frames = frames.now; sound = pairs.now; journal = records.now })) }
+    ensures err_files { OnErr result (D.told → AddsParts (shown_run run.now) (D.state depot.old).files (D.state depot.new).files (record nothing { frames = frames.now; sound = pairs.now; journal = records.now })) }
     ensures goes_on { GoesOn (D.state depot.old) (D.state depot.new) }
 {
     match append_frames(run, outputs, depot, frames) {

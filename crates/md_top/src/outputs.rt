@@ -7,4 +7,6 @@ pub(crate) struct Outputs {
     pub sound: Option<u32>,
     /// The journal, if one is asked for.
     pub journal: Option<u32>,
+    /// The state's file, if one is asked for.
+    pub save: Option<u32>,
 }

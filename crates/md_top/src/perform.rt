@@ -4,9 +4,10 @@ ghost use Rattle.md_top.specs.Workers.{CanGoOn, WentOn};
 ghost use Rattle.md_words.specs.Shown.{shown_command, shown_run};
 
 use crate::ending::Ending;
+use crate::loading::first_machine;
 use crate::reading::{read_cart, read_inputs};
 use crate::run_on::write_all;
-use crate::segment::power_on;
+use crate::segment::begin;
 use crate::text::Text;
 use md_machine::Machine;
 use md_outer::Depot;
@@ -50,8 +51,8 @@ fn show_header<D: Depot>(alloc: Global, rom: &str, depot: &mut D) -> Ending
     }
 }
 
-/// Runs the cartridge that the words name, with the recording if they name one, and writes the
-/// outputs that they ask for.
+/// Runs the cartridge that the words name, with the recording and from the saved state if they name
+/// them, and writes the outputs that they ask for.
 fn run_cart<F: Fn(&mut Machine, u64), D: Depot>(
     alloc: Global,
     go_on: &F,
@@ -70,13 +71,16 @@ fn run_cart<F: Fn(&mut Machine, u64), D: Depot>(
         Ok(inputs) => inputs,
         Err(ending) => return ending,
     };
-    let course = match power_on(alloc, inputs) {
-        Ok(course) => course,
-        Err(NoMemory) => return Ending::Memory,
+    let machine = match first_machine(alloc, run.load, inputs, depot) {
+        Ok(machine) => machine,
+        Err(ending) => return ending,
     };
-    let from = course.machine.at();
+    let from = machine.at();
     if run.cycles <= from {
         return Ending::Behind(from);
     }
-    write_all(alloc, go_on, run, depot, course)
+    match begin(alloc, machine) {
+        Ok(course) => write_all(alloc, go_on, run, depot, course),
+        Err(NoMemory) => Ending::Memory,
+    }
 }

@@ -1,13 +1,15 @@
 ghost use Rattle.std.specs.Prelude.{◌≡◌, ◌⊎◌, ◌++◌, [], Some, OnOk, OnErr, codes, decimal, unwrap_or};
 ghost use Rattle.std.specs.Option.{option_copied};
+ghost use Rattle.hex.specs.Hex.{encode_lower};
 ghost use Rattle.md_outer.specs.Outside.{PutsText};
 ghost use Rattle.md_top.specs.Answers.{PutsAll, PutsOutput, PutsPart, Reports};
-ghost use Rattle.md_top.specs.Endings.{counts_of, frames_between, halted_line, lines_of, number_line, numbers_line};
+ghost use Rattle.md_top.specs.Endings.{carts_line, counts_of, frames_between, halted_line, lines_of, number_line, numbers_line};
 ghost use Rattle.md_words.specs.Shown.{shown_command};
 
 use crate::ending::Ending;
 use crate::put::{put_three, put_two};
 use crate::run_on::{frames_between, pairs_between};
+use hex::encode_to_slice;
 use itoa::Buffer;
 use md_outer::{Failed, Sink};
 use md_words::CommandWords;
@@ -37,12 +39,19 @@ pub(crate) fn report<S: Sink>(command: &CommandWords<'_>, ending: Ending, out: &
             command.recording(),
             " is too long\n",
         ),
-        Ending::RecordingWrong(place) => refuse_place(out, place),
+        Ending::RecordingWrong(place) => refuse_place(out, 6, "refused: recording at ", place),
+        Ending::StateFault => refuse_file(out, 3, "fault: reading ", command.load(), "\n"),
+        Ending::StateTooLong => {
+            refuse_file(out, 14, "refused: ", command.load(), " is too long\n")
+        }
+        Ending::StateWrong(place) => refuse_place(out, 7, "refused: state at ", place),
+        Ending::OtherCart { kept, given } => refuse_other(out, &kept, &given),
         Ending::Behind(from) => refuse_behind(out, command.end(), from),
         Ending::FramesFault => refuse_file(out, 4, "fault: writing ", command.frames(), "\n"),
         Ending::SoundFault => refuse_file(out, 4, "fault: writing ", command.sound(), "\n"),
         Ending::JournalFault => refuse_file(out, 4, "fault: writing ", command.journal(), "\n"),
-        Ending::Memory => refuse(out, 10, "refused: memory\n", "", ""),
+        Ending::SaveFault => refuse_file(out, 4, "fault: writing ", command.save(), "\n"),
+        Ending::Unsaved | Ending::Memory => refuse(out, 10, "refused: memory\n", "", ""),
     }
 }
 
@@ -88,14 +97,52 @@ fn refuse_behind<S: Sink>(out: &mut S, end: u64, from: u64) -> u8
     9
 }
 
-/// Refuses a recording that goes wrong at this byte.
-fn refuse_place<S: Sink>(out: &mut S, place: u64) -> u8
-    ensures status { result ≡ 6 }
-    ensures put { let line = codes "refused: recording at " ++ decimal place ++ codes "\n" in
+/// Refuses an input that goes wrong at this byte.
+fn refuse_place<S: Sink>(out: &mut S, status: u8, before: &str, place: u64) -> u8
+    ensures status { result ≡ status }
+    ensures put { let line = before.now ++ decimal place ++ codes "\n" in
         PutsAll S.told line (S.state out.old) (S.state out.new) ⊎ PutsPart S.told line (S.state out.old) (S.state out.new) }
 {
     let mut digits = Buffer::new();
-    refuse(out, 6, "refused: recording at ", digits.format(place), "\n")
+    refuse(out, status, before, digits.format(place), "\n")
+}
+
+/// Refuses a saved state of another cartridge, by both digests.
+fn refuse_other<S: Sink>(out: &mut S, kept: &[u8; 32], given: &[u8; 32]) -> u8
+    ensures status { result ≡ 8 }
+    ensures put { let line = carts_line kept.now given.now in
+        PutsAll S.told line (S.state out.old) (S.state out.new) ⊎ PutsPart S.told line (S.state out.old) (S.state out.new) }
+{
+    let _ = put_digests(out, kept, given);
+    8
+}
+
+/// Puts the line of a saved state of another cartridge.
+fn put_digests<S: Sink>(out: &mut S, kept: &[u8; 32], given: &[u8; 32]) -> Result<(), Failed>
+    ensures { PutsText S.told (carts_line kept.now given.now) (S.state out.old) (S.state out.new) result }
+{
+    let first = hexadecimal(kept);
+    match put_three(out, "refused: state of another cartridge ", &first, " ") {
+        Ok(()) => put_digest(out, given),
+        Err(failed) => Err(failed),
+    }
+}
+
+/// Puts a digest and the end of its line.
+fn put_digest<S: Sink>(out: &mut S, digest: &[u8; 32]) -> Result<(), Failed>
+    ensures { PutsText S.told (encode_lower digest.now ++ codes "\n") (S.state out.old) (S.state out.new) result }
+{
+    let digits = hexadecimal(digest);
+    put_three(out, "", &digits, "\n")
+}
+
+/// A digest in hexadecimal.
+fn hexadecimal(digest: &[u8; 32]) -> [u8; 64]
+    ensures { result ≡ encode_lower digest.now }
+{
+    let mut digits = [0; 64];
+    let _ = encode_to_slice(digest.as_slice(), &mut digits);
+    digits
 }
 
 /// Refuses the file of an option, by its name.

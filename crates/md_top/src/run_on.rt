@@ -14,6 +14,7 @@ use crate::course::Course;
 use crate::ending::Ending;
 use crate::output::{append_all, append_sound, begin_all};
 use crate::outputs::Outputs;
+use crate::saving::save;
 use crate::segment::advance;
 use md_files::wav_head;
 use md_machine::Machine;
@@ -51,7 +52,7 @@ pub(crate) fn write_all<F: Fn(&mut Machine, u64), D: Depot>(
         Err(ending) => return ending,
     };
     match append_head(run, &outputs, depot, &mut course) {
-        Ok(()) => run_on(go_on, run, &outputs, depot, course),
+        Ok(()) => run_on(alloc, go_on, run, &outputs, depot, course),
         Err(ending) => ending,
     }
 }
@@ -157,8 +158,10 @@ fn run_segment<F: Fn(&mut Machine, u64), D: Depot>(
     )
 }
 
-/// Runs from its start to the end in as few segments as reach it, and appends what each makes.
+/// Runs from its start to the end in as few segments as reach it, appends what each makes, and saves
+/// the state that it comes to, if it is asked for.
 fn run_on<F: Fn(&mut Machine, u64), D: Depot>(
+    alloc: Global,
     go_on: &F,
     run: &RunWords<'_>,
     outputs: &Outputs,
@@ -183,9 +186,12 @@ fn run_on<F: Fn(&mut Machine, u64), D: Depot>(
             return ending;
         }
     }
-    Ending::Done {
-        from,
-        accesses: course.accesses,
-        halted: course.machine.main_chip().halted(),
+    match save(alloc, run, outputs, depot, &course.machine) {
+        Ok(()) => Ending::Done {
+            from,
+            accesses: course.accesses,
+            halted: course.machine.main_chip().halted(),
+        },
+        Err(ending) => ending,
     }
 }

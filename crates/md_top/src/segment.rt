@@ -1,17 +1,15 @@
 ghost use Rattle.std.specs.Prelude.{◌≡◌, ℕ, ◌+◌, ◌<◌, ◌≤◌, ◌++◌, IfOk};
 ghost use Rattle.md_machine.specs.Outputs.{frames_bytes, journal_bytes, sound_bytes};
 ghost use Rattle.md_machine.specs.Starts.{Start};
-ghost use Rattle.md_top.specs.Courses.{CameFrom, IsAtStart, IsUnderway, cycle_of, start_in};
+ghost use Rattle.md_top.specs.Courses.{CameFrom, IsAtStart, IsFresh, IsUnderway, cycle_of, start_at, start_in};
 ghost use Rattle.md_top.specs.Limits.{last_cycle, segment_cycles};
-ghost use Rattle.md_top.specs.Runs.{entries_from, media_from, powered_on};
+ghost use Rattle.md_top.specs.Runs.{entries_from, media_from};
 ghost use Rattle.md_top.specs.Workers.{CanGoOn, WentOn};
 
 use crate::course::Course;
-use crate::inputs::Inputs;
 use md_machine::{Machine, laws};
 use md_word::NoMemory;
 use std::alloc::Global;
-use std::sync::Arc;
 
 /// The bytes of a segment's frame.
 const FRAME: usize = 215_055;
@@ -22,15 +20,13 @@ const MOST_PAIRS: usize = 4 * 896;
 /// The bytes of a segment's records at most.
 const MOST_RECORDS: usize = 16 * 52_500;
 
-/// The run of these inputs at power-on. All memory that it ever needs is taken here.
-pub(crate) fn power_on(alloc: Global, inputs: Inputs) -> Result<Course, NoMemory>
-    ensures start { IfOk result (λ course. start_in course ≡ powered_on inputs) }
+/// The run of a machine at its start. All memory that it ever needs is taken here.
+pub(crate) fn begin(alloc: Global, machine: Machine) -> Result<Course, NoMemory>
+    requires fresh { IsFresh machine }
+    requires near { machine.at ≤ last_cycle }
+    ensures start { IfOk result (λ course. start_in course ≡ start_at machine) }
     ensures underway { IfOk result IsAtStart }
 {
-    laws::power_on_is_start();
-    let cart = Arc::new(alloc, inputs.cart)?;
-    let recording = Arc::new(alloc, inputs.recording)?;
-    let machine = Machine::power_on(alloc, cart, recording)?;
     laws::few_events(&machine);
     let frames = Vec::with_capacity(alloc, FRAME)?;
     let pairs = Vec::with_capacity(alloc, MOST_PAIRS)?;

@@ -1,6 +1,6 @@
 use Rattle.md_words.specs.Shown.{shown_run}
 use Rattle.md_top.proofs.Ends.{on-err, on-ok}
-use Rattle.md_top.proofs.Writes.{adds-all, parts-all, stop-all}
+use Rattle.md_top.proofs.Appends.{adds-all, parts-all, stop-all}
 use Rattle.md_top.proofs.output.append_all.Goals as goal
 
 pub returns-in-Ok-clause-files : goal.returns-in-Ok-clause-files

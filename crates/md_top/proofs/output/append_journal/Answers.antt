@@ -1,15 +1,16 @@
 use Rattle.md_words.specs.Shown.{shown_run}
-use Rattle.md_top.proofs.Writes.{adds-journal, adds-no_journal, parts-journal}
+use Rattle.md_top.proofs.Named.{outputs_apart}
+use Rattle.md_top.proofs.Appends.{adds-journal, adds-no_journal, parts-journal}
 use Rattle.md_top.proofs.output.append_journal.Goals as goal
 
 pub returns-in-Ok-clause-files : goal.returns-in-Ok-clause-files
 returns-in-Ok-clause-files g c = λ t.
-    adds-journal (shown_run c.args.run.now) (g.D.Depot.state c.args.depot.now).begun c.in-Some.file (g.D.Depot.state c.args.depot.now).files (g.D.Depot.state c.append.new.self).files c.args.piece.now
+    adds-journal (shown_run c.args.run.now) (outputs_apart c.args.run.now) (g.D.Depot.state c.args.depot.now).begun c.in-Some.file (g.D.Depot.state c.args.depot.now).files (g.D.Depot.state c.append.new.self).files c.args.piece.now
     (rw c.in-Some.is at c.requires.begun.journal) (c.in-Ok.ensures.appended t)
 
 pub returns-in-Err-clause-err_files : goal.returns-in-Err-clause-err_files
 returns-in-Err-clause-err_files g c = λ t.
-    parts-journal (shown_run c.args.run.now) (g.D.Depot.state c.args.depot.now).begun c.in-Some.file (g.D.Depot.state c.args.depot.now).files (g.D.Depot.state c.append.new.self).files c.args.piece.now
+    parts-journal (shown_run c.args.run.now) (outputs_apart c.args.run.now) (g.D.Depot.state c.args.depot.now).begun c.in-Some.file (g.D.Depot.state c.args.depot.now).files (g.D.Depot.state c.append.new.self).files c.args.piece.now
     (rw c.in-Some.is at c.requires.begun.journal) (c.in-Err.ensures.part t)
 
 pub returns-in-None-clause-files : goal.returns-in-None-clause-files

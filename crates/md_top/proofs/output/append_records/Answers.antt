@@ -1,6 +1,6 @@
 use Rattle.md_words.specs.Shown.{shown_run}
 use Rattle.md_top.proofs.Ends.{on-err, on-ok}
-use Rattle.md_top.proofs.Writes.{adds-records, parts-records, stop-records}
+use Rattle.md_top.proofs.Appends.{adds-records, parts-records, stop-records}
 use Rattle.md_top.proofs.output.append_records.Goals as goal
 
 pub returns-in-Ok-clause-files : goal.returns-in-Ok-clause-files

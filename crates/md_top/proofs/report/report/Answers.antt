@@ -19,3 +19,14 @@ pub returns-in-RecordingTooLong : goal.returns-in-RecordingTooLong
 returns-in-RecordingTooLong g c =
     rw c.in-RecordingTooLong.is
     (c.refuse_file-in-RecordingTooLong.ensures.status, rw c.recording-in-RecordingTooLong.ensures at c.refuse_file-in-RecordingTooLong.ensures.put)
+
+pub returns-in-StateFault : goal.returns-in-StateFault
+returns-in-StateFault g c =
+    rw c.in-StateFault.is (c.refuse_file-in-StateFault.ensures.status, rw c.load.ensures at c.refuse_file-in-StateFault.ensures.put)
+
+pub returns-in-StateTooLong : goal.returns-in-StateTooLong
+returns-in-StateTooLong g c =
+    rw c.in-StateTooLong.is (c.refuse_file-in-StateTooLong.ensures.status, rw c.load-in-StateTooLong.ensures at c.refuse_file-in-StateTooLong.ensures.put)
+
+pub returns-in-StateWrong : goal.returns-in-StateWrong
+returns-in-StateWrong g c = rw c.in-StateWrong.is (c.refuse_place-in-StateWrong.ensures.status, c.refuse_place-in-StateWrong.ensures.put)

@@ -2,16 +2,31 @@ use Rattle.std.proofs.Common.{rules, ◌≡◌, ℕ, length, ap, subst, ◌∙�
 use Rattle.md_machine.specs.Starts.{Start}
 use Rattle.md_top.specs.Courses.{cycle_of, start_in}
 use Rattle.md_top.specs.Endings.{HoldsUntil}
-use Rattle.md_top.specs.Runs.{entries_from, halted_from}
+use Rattle.md_top.specs.Runs.{entries_from, halted_from, state_to}
 use Rattle.md_words.specs.Shown.{shown_run}
-use Rattle.md_top.proofs.Segments.{halted-found}
+use Rattle.save_state.specs.States.{state_bytes}
+use Rattle.md_top.proofs.Ends.{state-held, unsaved-leaves}
+use Rattle.md_top.proofs.Segments.{halted-found, state-found}
 use Rattle.md_top.proofs.run_on.run_on.Goals as goal
 
 pub run_segment-requires-clause-underway : goal.run_segment-requires-clause-underway
 run_segment-requires-clause-underway g c = (start_in c.args.course, c.segments.invariant.1)
 
-pub returns-clause-cause : goal.returns-clause-cause
-returns-clause-cause g c =
+pub segments-preserved : goal.segments-preserved
+segments-preserved g c = (
+  search rules,
+  c.in_default.ensures.underway (start_in c.args.course) c.segments.invariant.1,
+  search rules,
+  search rules,
+  λ t first holds. c.in_default.ensures.files t (start_in c.args.course) first c.segments.invariant.1 (c.segments.invariant.4 t first holds),
+)
+
+pub returns-in-Err-clause-files : goal.returns-in-Err-clause-files
+returns-in-Err-clause-files g c = λ t first holds.
+    c.in-Err.ensures.err_files t (start_in c.args.course) first c.segments.invariant.1 (c.segments.invariant.4 t first holds)
+
+pub returns-in-Ok-clause-cause : goal.returns-in-Ok-clause-cause
+returns-in-Ok-clause-cause g c =
     let course = c.segments.course in
     let start : Start = start_in c.args.course in
     let at : cycle_of course ≡ c.args.run.now.cycles = omega (arith, c.segments.invariant.0, c.segments-test.false, c.at.ensures) in
@@ -23,18 +38,26 @@ returns-clause-cause g c =
           ∙ ap (λ (n : ℕ). halted_from start n) at,
     )
 
+pub returns-in-Ok-clause-files : goal.returns-in-Ok-clause-files
+returns-in-Ok-clause-files g c = λ t first holds.
+    let course = c.segments.course in
+    let start : Start = start_in c.args.course in
+    let at : cycle_of course ≡ c.args.run.now.cycles = omega (arith, c.segments.invariant.0, c.segments-test.false, c.at.ensures) in
+    let held : HoldsUntil start (shown_run c.args.run.now) first (g.D.Depot.state c.segments.depot).files c.args.run.now.cycles =
+    subst (λ (n : ℕ). HoldsUntil start (shown_run c.args.run.now) first (g.D.Depot.state c.segments.depot).files n) at (c.segments.invariant.4 t first holds) in
+    state-held (shown_run c.args.run.now) start first (g.D.Depot.state c.segments.depot).files (g.D.Depot.state c.save.new.depot).files
+    (state_bytes course.machine.at course.machine.console)
+    (state-found start course.machine course.accesses c.segments.invariant.1 (omega (arith, at, c.requires.end.1)) ∙ ap (state_to start) at)
+    (c.in-Ok.ensures.files t) held
+
 pub returns-clause-files : goal.returns-clause-files
 returns-clause-files g c = λ t first holds.
     let course = c.segments.course in
+    let start : Start = start_in c.args.course in
     let at : cycle_of course ≡ c.args.run.now.cycles = omega (arith, c.segments.invariant.0, c.segments-test.false, c.at.ensures) in
-    subst (λ (n : ℕ). HoldsUntil (start_in c.args.course) (shown_run c.args.run.now) first (g.D.Depot.state c.segments.depot).files n) at
-    (c.segments.invariant.4 t first holds)
-
-pub segments-preserved : goal.segments-preserved
-segments-preserved g c = (
-  search rules,
-  c.in_default.ensures.underway (start_in c.args.course) c.segments.invariant.1,
-  search rules,
-  search rules,
-  λ t first holds. c.in_default.ensures.files t (start_in c.args.course) first c.segments.invariant.1 (c.segments.invariant.4 t first holds),
-)
+    let held : HoldsUntil start (shown_run c.args.run.now) first (g.D.Depot.state c.segments.depot).files c.args.run.now.cycles =
+    subst (λ (n : ℕ). HoldsUntil start (shown_run c.args.run.now) first (g.D.Depot.state c.segments.depot).files n) at (c.segments.invariant.4 t first holds) in
+    unsaved-leaves (shown_run c.args.run.now) start first (g.D.Depot.state c.segments.depot) (g.D.Depot.state c.save.new.depot)
+    (state_bytes course.machine.at course.machine.console) c.in-Err-save.ending
+    (state-found start course.machine course.accesses c.segments.invariant.1 (omega (arith, at, c.requires.end.1)) ∙ ap (state_to start) at)
+    c.in-Err-save.ensures.err (c.in-Err-save.ensures.err_files t) held

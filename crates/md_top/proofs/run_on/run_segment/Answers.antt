@@ -1,8 +1,8 @@
-use Rattle.std.proofs.Common.{◌≡◌, ℕ, sym, subst, arith}
+use Rattle.std.proofs.Common.{◌≡◌, ℕ, refl, sym, subst, arith}
 use Rattle.md_machine.specs.Starts.{Start}
 use Rattle.md_top.specs.Courses.{CameFrom, cycle_of}
 use Rattle.md_top.specs.Endings.{HoldsUntil}
-use Rattle.md_top.specs.Outputs.{Pieces, lengthened}
+use Rattle.md_top.specs.Outputs.{Pieces, lengthened, nothing}
 use Rattle.md_top.specs.Runs.{pieces_until}
 use Rattle.md_words.specs.Shown.{shown_run}
 use Rattle.md_top.proofs.Ends.{both-err, fault-leaves, on-ok, segment-held, segment-parts}
@@ -11,10 +11,10 @@ use Rattle.md_top.proofs.run_on.run_segment.Goals as goal
 
 pub returns-clause-files : goal.returns-clause-files
 returns-clause-files g c =
-    let more : Pieces = record { frames = c.as_slice.result.now; sound = c.as_slice-2.result.now; journal = c.as_slice-3.result.now } in
+    let more : Pieces = record nothing { frames = c.as_slice.result.now; sound = c.as_slice-2.result.now; journal = c.as_slice-3.result.now } in
     let next : (start : Start) → CameFrom start c.args.course.now
     → lengthened (pieces_until start c.args.run.now.cycles (cycle_of c.args.course.now)) more ≡ pieces_until start c.args.run.now.cycles c.segment_end-end.result = λ start came.
-    pieces-next start c.args.run.now.cycles (cycle_of c.args.course.now) c.segment_end-end.result more
+    pieces-next start c.args.run.now.cycles (cycle_of c.args.course.now) c.segment_end-end.result more refl
     (rw c.as_slice.ensures.value (c.advance.ensures.frames start came)) (rw c.as_slice-2.ensures.value (c.advance.ensures.pairs start came))
     (rw c.as_slice-3.ensures.value (c.advance.ensures.records start came)) in
     on-ok c.append_all.result
@@ -26,10 +26,10 @@ returns-clause-files g c =
 
 pub returns-clause-err_files : goal.returns-clause-err_files
 returns-clause-err_files g c =
-    let more : Pieces = record { frames = c.as_slice.result.now; sound = c.as_slice-2.result.now; journal = c.as_slice-3.result.now } in
+    let more : Pieces = record nothing { frames = c.as_slice.result.now; sound = c.as_slice-2.result.now; journal = c.as_slice-3.result.now } in
     let next : (start : Start) → CameFrom start c.args.course.now
     → lengthened (pieces_until start c.args.run.now.cycles (cycle_of c.args.course.now)) more ≡ pieces_until start c.args.run.now.cycles c.segment_end-end.result = λ start came.
-    pieces-next start c.args.run.now.cycles (cycle_of c.args.course.now) c.segment_end-end.result more
+    pieces-next start c.args.run.now.cycles (cycle_of c.args.course.now) c.segment_end-end.result more refl
     (rw c.as_slice.ensures.value (c.advance.ensures.frames start came)) (rw c.as_slice-2.ensures.value (c.advance.ensures.pairs start came))
     (rw c.as_slice-3.ensures.value (c.advance.ensures.records start came)) in
     both-err c.append_all.result

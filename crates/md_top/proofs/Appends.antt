@@ -1,0 +1,202 @@
+-- What the outputs hold behind appends.
+use Rattle.std.proofs.Common.{◌≡◌, ℕ, List, [], ◌++◌, Option, Some, None, refl, sym, ap, subst, ◌∙◌, append-nil, append_assoc}
+use Rattle.std.specs.Prelude.{IsSome}
+use Rattle.md_outer.specs.Outside.{Files, IsPrefix, bytes_of, with_file}
+use Rattle.md_top.specs.Outputs.{Adds, AddsParts, Holds, LeavesParts, Pieces, lengthened, nothing, with_part}
+use Rattle.md_words.specs.Words.{Run}
+use Rattle.md_top.proofs.Writes.{Apart, AreFront, but_state, frames-longer, journal-longer, named, only-frames, only-journal, only-sound, only-state, part-unasked, parts, parts-longer, prefix-append, prefix-more, sound-longer, state-longer}
+
+-- APPENDS
+
+-- the file of an output's number was lengthened by a piece, or by a part of one
+abbrev Appended : (ℕ → Option (List ℕ)) → ℕ → Files → Files → List ℕ → Type 0
+Appended begun file old new piece = (name : List ℕ) → begun file ≡ Some name → new ≡ with_file old name (bytes_of old name ++ piece)
+
+abbrev AppendedPart : (ℕ → Option (List ℕ)) → ℕ → Files → Files → List ℕ → Type 0
+AppendedPart begun file old new piece =
+    (name : List ℕ) → begun file ≡ Some name → (part : List ℕ) × IsPrefix part piece × (new ≡ with_file old name (bytes_of old name ++ part))
+
+-- to the frames file
+pub adds-frames : (run : Run) → Apart run → (begun : ℕ → Option (List ℕ)) (file : ℕ) (old new : Files) (piece : List ℕ)
+    → IsSome run.frames × (begun file ≡ run.frames) → Appended begun file old new piece → Adds run old new (record nothing { frames = piece })
+adds-frames run apart begun file old new piece (some, is) appended first held holds =
+    let name = named run.frames some in
+    subst (Holds run first new) (only-frames held piece) (frames-longer run apart first old new held name.0 piece name.1 holds (appended name.0 (is ∙ name.1)))
+
+pub parts-frames : (run : Run) → Apart run → (begun : ℕ → Option (List ℕ)) (file : ℕ) (old new : Files) (piece : List ℕ)
+    → IsSome run.frames × (begun file ≡ run.frames) → AppendedPart begun file old new piece → AddsParts run old new (record nothing { frames = piece })
+parts-frames run apart begun file old new piece (some, is) appended first held holds =
+    let name = named run.frames some in
+    let part = appended name.0 (is ∙ name.1) in
+    parts run first new (record held { frames = held.frames ++ part.0 }) (lengthened held (record nothing { frames = piece }))
+    (frames-longer run apart first old new held name.0 part.0 name.1 holds part.2)
+    (record { frames = prefix-append held.frames part.0 piece part.1; sound = prefix-more held.sound []; journal = prefix-more held.journal []; state = prefix-more held.state [] })
+
+pub adds-no_frames : (run : Run) (files : Files) (piece : List ℕ) → run.frames ≡ None → Adds run files files (record nothing { frames = piece })
+adds-no_frames run files piece is first held holds =
+    subst (Holds run first files) (only-frames held piece)
+    (holds ∙ ap (λ (base : Files). with_part (with_part (with_part base run.sound (Some held.sound)) run.journal (Some held.journal)) run.save (Some held.state))
+    (part-unasked first run.frames held.frames (held.frames ++ piece) is))
+
+-- to the sound file
+pub adds-sound : (run : Run) → Apart run → (begun : ℕ → Option (List ℕ)) (file : ℕ) (old new : Files) (piece : List ℕ)
+    → IsSome run.sound × (begun file ≡ run.sound) → Appended begun file old new piece → Adds run old new (record nothing { sound = piece })
+adds-sound run apart begun file old new piece (some, is) appended first held holds =
+    let name = named run.sound some in
+    subst (Holds run first new) (only-sound held piece) (sound-longer run apart first old new held name.0 piece name.1 holds (appended name.0 (is ∙ name.1)))
+
+pub parts-sound : (run : Run) → Apart run → (begun : ℕ → Option (List ℕ)) (file : ℕ) (old new : Files) (piece : List ℕ)
+    → IsSome run.sound × (begun file ≡ run.sound) → AppendedPart begun file old new piece → AddsParts run old new (record nothing { sound = piece })
+parts-sound run apart begun file old new piece (some, is) appended first held holds =
+    let name = named run.sound some in
+    let part = appended name.0 (is ∙ name.1) in
+    parts run first new (record held { sound = held.sound ++ part.0 }) (lengthened held (record nothing { sound = piece }))
+    (sound-longer run apart first old new held name.0 part.0 name.1 holds part.2)
+    (record { frames = prefix-more held.frames []; sound = prefix-append held.sound part.0 piece part.1; journal = prefix-more held.journal []; state = prefix-more held.state [] })
+
+pub adds-no_sound : (run : Run) (files : Files) (piece : List ℕ) → run.sound ≡ None → Adds run files files (record nothing { sound = piece })
+adds-no_sound run files piece is first held holds =
+    subst (Holds run first files) (only-sound held piece)
+    (holds ∙ ap (λ (base : Files). with_part (with_part base run.journal (Some held.journal)) run.save (Some held.state))
+    (part-unasked (with_part first run.frames (Some held.frames)) run.sound held.sound (held.sound ++ piece) is))
+
+-- to the journal
+pub adds-journal : (run : Run) → Apart run → (begun : ℕ → Option (List ℕ)) (file : ℕ) (old new : Files) (piece : List ℕ)
+    → IsSome run.journal × (begun file ≡ run.journal) → Appended begun file old new piece → Adds run old new (record nothing { journal = piece })
+adds-journal run apart begun file old new piece (some, is) appended first held holds =
+    let name = named run.journal some in
+    subst (Holds run first new) (only-journal held piece) (journal-longer run apart first old new held name.0 piece name.1 holds (appended name.0 (is ∙ name.1)))
+
+pub parts-journal : (run : Run) → Apart run → (begun : ℕ → Option (List ℕ)) (file : ℕ) (old new : Files) (piece : List ℕ)
+    → IsSome run.journal × (begun file ≡ run.journal) → AppendedPart begun file old new piece → AddsParts run old new (record nothing { journal = piece })
+parts-journal run apart begun file old new piece (some, is) appended first held holds =
+    let name = named run.journal some in
+    let part = appended name.0 (is ∙ name.1) in
+    parts run first new (record held { journal = held.journal ++ part.0 }) (lengthened held (record nothing { journal = piece }))
+    (journal-longer run apart first old new held name.0 part.0 name.1 holds part.2)
+    (record { frames = prefix-more held.frames []; sound = prefix-more held.sound []; journal = prefix-append held.journal part.0 piece part.1; state = prefix-more held.state [] })
+
+pub adds-no_journal : (run : Run) (files : Files) (piece : List ℕ) → run.journal ≡ None → Adds run files files (record nothing { journal = piece })
+adds-no_journal run files piece is first held holds =
+    subst (Holds run first files) (only-journal held piece)
+    (holds ∙ ap (λ (base : Files). with_part base run.save (Some held.state))
+    (part-unasked (with_part (with_part first run.frames (Some held.frames)) run.sound (Some held.sound)) run.journal held.journal (held.journal ++ piece) is))
+
+-- and to the saved state
+pub adds-state : (run : Run) (begun : ℕ → Option (List ℕ)) (file : ℕ) (old new : Files) (piece : List ℕ)
+    → IsSome run.save × (begun file ≡ run.save) → Appended begun file old new piece → Adds run old new (record nothing { state = piece })
+adds-state run begun file old new piece (some, is) appended first held holds =
+    let name = named run.save some in
+    subst (Holds run first new) (only-state held piece) (state-longer run first old new held name.0 piece name.1 holds (appended name.0 (is ∙ name.1)))
+
+pub parts-state : (run : Run) (begun : ℕ → Option (List ℕ)) (file : ℕ) (old new : Files) (piece : List ℕ)
+    → IsSome run.save × (begun file ≡ run.save) → AppendedPart begun file old new piece → AddsParts run old new (record nothing { state = piece })
+parts-state run begun file old new piece (some, is) appended first held holds =
+    let name = named run.save some in
+    let part = appended name.0 (is ∙ name.1) in
+    parts run first new (record held { state = held.state ++ part.0 }) (lengthened held (record nothing { state = piece }))
+    (state-longer run first old new held name.0 part.0 name.1 holds part.2)
+    (record { frames = prefix-more held.frames []; sound = prefix-more held.sound []; journal = prefix-more held.journal []; state = prefix-append held.state part.0 piece part.1 })
+
+pub adds-no_state : (run : Run) (files : Files) (piece : List ℕ) → run.save ≡ None → Adds run files files (record nothing { state = piece })
+adds-no_state run files piece is first held holds =
+    subst (Holds run first files) (only-state held piece)
+    (holds ∙ part-unasked (but_state run first held) run.save held.state (held.state ++ piece) is)
+
+-- PIECES BEHIND PIECES
+
+lengthened-assoc : (held more rest : Pieces) → lengthened (lengthened held more) rest ≡ lengthened held (lengthened more rest)
+lengthened-assoc held more rest = λ i. record {
+  frames = append_assoc held.frames more.frames rest.frames i;
+  sound = append_assoc held.sound more.sound rest.sound i;
+  journal = append_assoc held.journal more.journal rest.journal i;
+  state = append_assoc held.state more.state rest.state i;
+}
+
+-- a second piece behind one that was appended
+pub adds-on : (run : Run) (old mid new : Files) (more rest : Pieces) → Adds run old mid more → Adds run mid new rest → Adds run old new (lengthened more rest)
+adds-on run old mid new more rest one two first held holds =
+    subst (Holds run first new) (lengthened-assoc held more rest) (two first (lengthened held more) (one first held holds))
+
+pub parts-on : (run : Run) (old mid new : Files) (more rest : Pieces) → Adds run old mid more → AddsParts run mid new rest → AddsParts run old new (lengthened more rest)
+parts-on run old mid new more rest one two first held holds =
+    subst (LeavesParts run first new) (lengthened-assoc held more rest) (two first (lengthened held more) (one first held holds))
+
+front-longer : (more rest : Pieces) → AreFront more (lengthened more rest)
+front-longer more rest = record { frames = prefix-more more.frames rest.frames; sound = prefix-more more.sound rest.sound; journal = prefix-more more.journal rest.journal; state = prefix-more more.state rest.state }
+
+-- no second piece behind a part of one
+pub parts-stop : (run : Run) (old new : Files) (more rest : Pieces) → AddsParts run old new more → AddsParts run old new (lengthened more rest)
+parts-stop run old new more rest one first held holds =
+    subst (LeavesParts run first new) (lengthened-assoc held more rest)
+    (parts-longer run first new (lengthened held more) (lengthened (lengthened held more) rest) (one first held holds) (front-longer (lengthened held more) rest))
+
+-- the pieces of a segment
+sound-and-journal : (sound journal : List ℕ) → lengthened (record nothing { sound = sound }) (record nothing { journal = journal }) ≡ record nothing { sound = sound; journal = journal }
+sound-and-journal sound journal = λ i. record { frames = []; sound = append-nil sound i; journal = journal; state = [] }
+
+frames-and-records : (frames sound journal : List ℕ)
+    → lengthened (record nothing { frames = frames }) (record nothing { sound = sound; journal = journal }) ≡ record nothing { frames = frames; sound = sound; journal = journal }
+frames-and-records frames sound journal = λ i. record { frames = append-nil frames i; sound = sound; journal = journal; state = [] }
+
+pub adds-records : (run : Run) (old mid new : Files) (sound journal : List ℕ) → Adds run old mid (record nothing { sound = sound })
+    → Adds run mid new (record nothing { journal = journal }) → Adds run old new (record nothing { sound = sound; journal = journal })
+adds-records run old mid new sound journal one two =
+    subst (Adds run old new) (sound-and-journal sound journal) (adds-on run old mid new (record nothing { sound = sound }) (record nothing { journal = journal }) one two)
+
+pub parts-records : (run : Run) (old mid new : Files) (sound journal : List ℕ) → Adds run old mid (record nothing { sound = sound })
+    → AddsParts run mid new (record nothing { journal = journal }) → AddsParts run old new (record nothing { sound = sound; journal = journal })
+parts-records run old mid new sound journal one two =
+    subst (AddsParts run old new) (sound-and-journal sound journal) (parts-on run old mid new (record nothing { sound = sound }) (record nothing { journal = journal }) one two)
+
+pub stop-records : (run : Run) (old new : Files) (sound journal : List ℕ) → AddsParts run old new (record nothing { sound = sound })
+    → AddsParts run old new (record nothing { sound = sound; journal = journal })
+stop-records run old new sound journal one =
+    subst (AddsParts run old new) (sound-and-journal sound journal) (parts-stop run old new (record nothing { sound = sound }) (record nothing { journal = journal }) one)
+
+pub adds-all : (run : Run) (old mid new : Files) (frames sound journal : List ℕ) → Adds run old mid (record nothing { frames = frames })
+    → Adds run mid new (record nothing { sound = sound; journal = journal }) → Adds run old new (record nothing { frames = frames; sound = sound; journal = journal })
+adds-all run old mid new frames sound journal one two =
+    subst (Adds run old new) (frames-and-records frames sound journal)
+    (adds-on run old mid new (record nothing { frames = frames }) (record nothing { sound = sound; journal = journal }) one two)
+
+pub parts-all : (run : Run) (old mid new : Files) (frames sound journal : List ℕ) → Adds run old mid (record nothing { frames = frames })
+    → AddsParts run mid new (record nothing { sound = sound; journal = journal }) → AddsParts run old new (record nothing { frames = frames; sound = sound; journal = journal })
+parts-all run old mid new frames sound journal one two =
+    subst (AddsParts run old new) (frames-and-records frames sound journal)
+    (parts-on run old mid new (record nothing { frames = frames }) (record nothing { sound = sound; journal = journal }) one two)
+
+pub stop-all : (run : Run) (old new : Files) (frames sound journal : List ℕ) → AddsParts run old new (record nothing { frames = frames })
+    → AddsParts run old new (record nothing { frames = frames; sound = sound; journal = journal })
+stop-all run old new frames sound journal one =
+    subst (AddsParts run old new) (frames-and-records frames sound journal)
+    (parts-stop run old new (record nothing { frames = frames }) (record nothing { sound = sound; journal = journal }) one)
+
+-- pieces of a state
+state-pieces : (front piece : List ℕ) → lengthened (record nothing { state = front }) (record nothing { state = piece }) ≡ record nothing { state = front ++ piece }
+state-pieces front piece = refl
+
+pub adds-state_on : (run : Run) (old mid new : Files) (front piece : List ℕ) → Adds run old mid (record nothing { state = front })
+    → Adds run mid new (record nothing { state = piece }) → Adds run old new (record nothing { state = front ++ piece })
+adds-state_on run old mid new front piece one two =
+    subst (Adds run old new) (state-pieces front piece) (adds-on run old mid new (record nothing { state = front }) (record nothing { state = piece }) one two)
+
+pub parts-state_on : (run : Run) (old mid new : Files) (front piece : List ℕ) → Adds run old mid (record nothing { state = front })
+    → AddsParts run mid new (record nothing { state = piece }) → AddsParts run old new (record nothing { state = front ++ piece })
+parts-state_on run old mid new front piece one two =
+    subst (AddsParts run old new) (state-pieces front piece) (parts-on run old mid new (record nothing { state = front }) (record nothing { state = piece }) one two)
+
+-- a part of the first of two pieces is a part of both
+pub parts-state_front : (run : Run) (old new : Files) (front rest : List ℕ) → AddsParts run old new (record nothing { state = front })
+    → AddsParts run old new (record nothing { state = front ++ rest })
+parts-state_front run old new front rest one =
+    subst (AddsParts run old new) (state-pieces front rest) (parts-stop run old new (record nothing { state = front }) (record nothing { state = rest }) one)
+
+-- nothing was appended
+pub adds-nothing : (run : Run) (files : Files) → Adds run files files nothing
+adds-nothing run files first held holds = subst (Holds run first files) (λ i. record {
+  frames = sym (append-nil held.frames) i;
+  sound = sym (append-nil held.sound) i;
+  journal = sym (append-nil held.journal) i;
+  state = sym (append-nil held.state) i;
+}) holds

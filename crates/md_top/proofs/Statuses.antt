@@ -1,0 +1,152 @@
+-- What a status tells of the ending.
+use Rattle.std.proofs.Common.{◌≡◌, ◌⊎◌, inl, inr, ℕ, ◌<◌, ◌≤◌, List, [], length, Option, Some, None, sym, ◌∙◌, arith}
+use Rattle.std.specs.Prelude.{IsSomeAnd, unwrap_or}
+use Rattle.md_outer.specs.Outside.{DepotState, Files, Rose, SinkState, bytes_of}
+use Rattle.md_pads.specs.Recording.{GoesWrongAt, IsSpelled}
+use Rattle.md_top.specs.Answers.{IsBehind, PutsOutput, Reports}
+use Rattle.md_top.specs.Inputs.{IsMissing, RecordingCause, recording_limit}
+use Rattle.md_top.specs.Limits.{last_cycle}
+use Rattle.md_top.specs.Loads.{IsLoadFound, OfOther, StateWrongAt}
+use Rattle.md_top.specs.Endings.{InfoEnds, RunEnds, status_of, text_of}
+use Rattle.md_words.specs.Words.{Command, Info, Run, RunCart}
+use Rattle.md_top.specs.declared.ending.Ending.{Ending}
+use Rattle.md_top.specs.declared.ending.Ending.TheVariants.{Shown, Done, Usage, TooFar, ReadFault, RecordingFault, RecordingWrong, StateFault, StateWrong, OtherCart, Behind, FramesFault, SoundFault, JournalFault, SaveFault, Unsaved, Memory}
+
+-- the status is the ending's, but where the sink failed within an output
+pub put_output : (told : Type 0) (text : List ℕ) (out out' : SinkState) (status : ℕ) → PutsOutput told text out out' status
+    → (status ≡ 0) ⊎ ((status ≡ 13) × Rose out.faults out'.faults)
+put_output told text out out' status (inl put) = inl put.0
+put_output told text out out' status (inr part) = inr (part.0, part.1.rose)
+
+pub reported : (sink : Type 0) (command : Option Command) (ending : Ending) (out out' : SinkState) (status : ℕ) → Reports sink command ending out out' status
+    → (status ≡ status_of ending) ⊎ ((status ≡ 13) × Rose out.faults out'.faults)
+reported sink command (Shown lines) out out' status reports = put_output sink (text_of command (Shown lines)) out out' status reports
+reported sink command (Done from accesses halted) out out' status reports = put_output sink (text_of command (Done from accesses halted)) out out' status reports
+reported sink command _ out out' status reports = inl reports.0
+
+-- a status other than 13 is the ending's
+pub of_ending : (status of n : ℕ) {P : Type 0} → (status ≡ of) ⊎ ((status ≡ 13) × P) → status ≡ n → (n ≡ 13 → ⊥) → of ≡ n
+of_ending status of n (inl same) is other = sym same ∙ is
+of_ending status of n (inr (out, rose)) is other = absurd (other (sym is ∙ out))
+
+-- why a command may end with each status
+pub info_usage : (told : Type 0) (rom : List ℕ) (old new : DepotState) (ending : Ending) → InfoEnds told rom old new ending → status_of ending ≡ 2 → ⊥
+info_usage told rom old new Usage cause is = absurd cause
+info_usage told rom old new _ cause is = absurd (omega (arith, is))
+
+pub run_usage : (told : Type 0) (run : Run) (old new : DepotState) (ending : Ending) → RunEnds told run old new ending → status_of ending ≡ 2 → ⊥
+run_usage told run old new Usage cause is = absurd cause.1
+run_usage told run old new _ cause is = absurd (omega (arith, is))
+
+pub info_far : (told : Type 0) (rom : List ℕ) (old new : DepotState) (ending : Ending) → InfoEnds told rom old new ending → status_of ending ≡ 11 → ⊥
+info_far told rom old new TooFar cause is = absurd cause
+info_far told rom old new _ cause is = absurd (omega (arith, is))
+
+pub run_far : (told : Type 0) (run : Run) (old new : DepotState) (ending : Ending) → RunEnds told run old new ending → status_of ending ≡ 11 → last_cycle < run.cycles
+run_far told run old new TooFar cause is = cause
+run_far told run old new _ cause is = absurd (omega (arith, is))
+
+-- a file that is missing is an input's
+pub missing_cart : (told : Type 0) (command : Command) (files : Files) {P Q : Type 0} → (Q → IsMissing command files) → P ⊎ (told × Q) → P ⊎ (told × IsMissing command files)
+missing_cart told command files which (inl rose) = inl rose
+missing_cart told command files which (inr (t, none)) = inr (t, which none)
+
+pub missing_recording : (told : Type 0) (name : Option (List ℕ)) (old new : DepotState) → RecordingCause told name old new RecordingFault
+    → Rose old.read_faults new.read_faults ⊎ (told × IsSomeAnd name (λ name. old.files name ≡ None))
+missing_recording told None old new cause = absurd cause
+missing_recording told (Some name) old new cause = cause
+
+pub missing_state : (told : Type 0) (name : Option (List ℕ)) (old new : DepotState)
+    → IsSomeAnd name (λ name. Rose old.read_faults new.read_faults ⊎ (told × (old.files name ≡ None)))
+    → Rose old.read_faults new.read_faults ⊎ (told × IsSomeAnd name (λ name. old.files name ≡ None))
+missing_state told None old new cause = absurd cause
+missing_state told (Some name) old new cause = cause
+
+pub info_read_fault : (told : Type 0) (rom : List ℕ) (old new : DepotState) (ending : Ending) → InfoEnds told rom old new ending → status_of ending ≡ 3
+    → Rose old.read_faults new.read_faults ⊎ (told × IsMissing (Info rom) old.files)
+info_read_fault told rom old new ReadFault cause is = missing_cart told (Info rom) old.files inl cause
+info_read_fault told rom old new RecordingFault cause is = absurd cause
+info_read_fault told rom old new StateFault cause is = absurd cause
+info_read_fault told rom old new _ cause is = absurd (omega (arith, is))
+
+pub run_read_fault : (told : Type 0) (run : Run) (old new : DepotState) (ending : Ending) → RunEnds told run old new ending → status_of ending ≡ 3
+    → Rose old.read_faults new.read_faults ⊎ (told × IsMissing (RunCart run) old.files)
+run_read_fault told run old new ReadFault cause is = missing_cart told (RunCart run) old.files inl cause.1
+run_read_fault told run old new RecordingFault cause is =
+    missing_cart told (RunCart run) old.files (λ none. inr (inl none)) (missing_recording told run.recording old new cause.1.1)
+run_read_fault told run old new StateFault cause is =
+    missing_cart told (RunCart run) old.files (λ none. inr (inr none)) (missing_state told run.load old new cause.1.2)
+run_read_fault told run old new _ cause is = absurd (omega (arith, is))
+
+pub info_wrong : (told : Type 0) (rom : List ℕ) (old new : DepotState) (ending : Ending) → InfoEnds told rom old new ending → status_of ending ≡ 6 → ⊥
+info_wrong told rom old new (RecordingWrong place) cause is = absurd cause
+info_wrong told rom old new _ cause is = absurd (omega (arith, is))
+
+-- a file that goes wrong spells no recording
+pub not_spelled : (file : Option (List ℕ)) (place : ℕ) → IsSomeAnd file (λ bytes. (length bytes ≤ recording_limit) × GoesWrongAt bytes place) → ¬ IsSpelled (unwrap_or file [])
+not_spelled None place wrong = absurd wrong
+not_spelled (Some bytes) place wrong = wrong.1.none
+
+pub wrong_recording : (told : Type 0) (name : Option (List ℕ)) (old new : DepotState) (place : ℕ) → RecordingCause told name old new (RecordingWrong place)
+    → IsSomeAnd name (λ name. told → ¬ IsSpelled (bytes_of old.files name))
+wrong_recording told None old new place cause = absurd cause
+wrong_recording told (Some name) old new place cause = λ t. not_spelled (old.files name) place (cause t)
+
+pub run_wrong : (told : Type 0) (run : Run) (old new : DepotState) (ending : Ending) → RunEnds told run old new ending → status_of ending ≡ 6
+    → IsSomeAnd run.recording (λ name. told → ¬ IsSpelled (bytes_of old.files name))
+run_wrong told run old new (RecordingWrong place) cause is = wrong_recording told run.recording old new place cause.1.1
+run_wrong told run old new _ cause is = absurd (omega (arith, is))
+
+pub info_state : (told : Type 0) (rom : List ℕ) (old new : DepotState) (ending : Ending) → InfoEnds told rom old new ending → status_of ending ≡ 7 → ⊥
+info_state told rom old new (StateWrong place) cause is = absurd cause
+info_state told rom old new _ cause is = absurd (omega (arith, is))
+
+pub run_state : (told : Type 0) (run : Run) (old new : DepotState) (ending : Ending) → RunEnds told run old new ending → status_of ending ≡ 7
+    → (place : ℕ) × IsLoadFound told run old.files (StateWrongAt place)
+run_state told run old new (StateWrong place) (near, cause) is = (place, cause)
+run_state told run old new _ cause is = absurd (omega (arith, is))
+
+pub info_other : (told : Type 0) (rom : List ℕ) (old new : DepotState) (ending : Ending) → InfoEnds told rom old new ending → status_of ending ≡ 8 → ⊥
+info_other told rom old new (OtherCart kept given) cause is = absurd cause
+info_other told rom old new _ cause is = absurd (omega (arith, is))
+
+pub run_other : (told : Type 0) (run : Run) (old new : DepotState) (ending : Ending) → RunEnds told run old new ending → status_of ending ≡ 8
+    → (kept : List ℕ) × (given : List ℕ) × IsLoadFound told run old.files (OfOther kept given)
+run_other told run old new (OtherCart kept given) (near, cause) is = (kept, given, cause)
+run_other told run old new _ cause is = absurd (omega (arith, is))
+
+pub info_behind : (told : Type 0) (rom : List ℕ) (old new : DepotState) (ending : Ending) → InfoEnds told rom old new ending → status_of ending ≡ 9 → ⊥
+info_behind told rom old new (Behind from) cause is = absurd cause
+info_behind told rom old new _ cause is = absurd (omega (arith, is))
+
+pub run_behind : (told : Type 0) (run : Run) (old new : DepotState) (ending : Ending) → RunEnds told run old new ending → status_of ending ≡ 9 → IsBehind told run old.files
+run_behind told run old new (Behind from) (near, behind, may, cause) is = (from, may, behind, cause)
+run_behind told run old new _ cause is = absurd (omega (arith, is))
+
+pub info_write_fault : (told : Type 0) (rom : List ℕ) (old new : DepotState) (ending : Ending) → InfoEnds told rom old new ending → status_of ending ≡ 4 → Rose old.write_faults new.write_faults
+info_write_fault told rom old new FramesFault cause is = absurd cause
+info_write_fault told rom old new SoundFault cause is = absurd cause
+info_write_fault told rom old new JournalFault cause is = absurd cause
+info_write_fault told rom old new SaveFault cause is = absurd cause
+info_write_fault told rom old new _ cause is = absurd (omega (arith, is))
+
+pub run_write_fault : (told : Type 0) (run : Run) (old new : DepotState) (ending : Ending) → RunEnds told run old new ending → status_of ending ≡ 4 → Rose old.write_faults new.write_faults
+run_write_fault told run old new FramesFault cause is = cause.2.1
+run_write_fault told run old new SoundFault cause is = cause.2.1
+run_write_fault told run old new JournalFault cause is = cause.2.1
+run_write_fault told run old new SaveFault cause is = cause.2.1
+run_write_fault told run old new _ cause is = absurd (omega (arith, is))
+
+-- where the end is too far no other ending comes
+pub far_only : (told sink : Type 0) (run : Run) (old new : DepotState) (out out' : SinkState) (status : ℕ) (ending : Ending)
+    → RunEnds told run old new ending → Reports sink (Some (RunCart run)) ending out out' status → last_cycle < run.cycles → (status ≡ 11) ⊎ (status ≡ 10)
+far_only told sink run old new out out' status (Shown lines) cause reports far = absurd cause.1
+far_only told sink run old new out out' status (Done from accesses halted) cause reports far = absurd (omega (arith, cause.0.1))
+far_only told sink run old new out out' status TooFar cause reports far = inl reports.0
+far_only told sink run old new out out' status FramesFault cause reports far = absurd (omega (arith, cause.0.1))
+far_only told sink run old new out out' status SoundFault cause reports far = absurd (omega (arith, cause.0.1))
+far_only told sink run old new out out' status JournalFault cause reports far = absurd (omega (arith, cause.0.1))
+far_only told sink run old new out out' status SaveFault cause reports far = absurd (omega (arith, cause.0.1))
+far_only told sink run old new out out' status Unsaved cause reports far = absurd (omega (arith, cause.0.1))
+far_only told sink run old new out out' status Memory cause reports far = inr reports.0
+far_only told sink run old new out out' status _ cause reports far = absurd (omega (arith, cause.0))

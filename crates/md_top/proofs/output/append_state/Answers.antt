@@ -1,0 +1,17 @@
+use Rattle.md_words.specs.Shown.{shown_run}
+use Rattle.md_top.proofs.Appends.{adds-state, adds-no_state, parts-state}
+use Rattle.md_top.proofs.output.append_state.Goals as goal
+
+pub returns-in-Ok-clause-files : goal.returns-in-Ok-clause-files
+returns-in-Ok-clause-files g c = λ t.
+    adds-state (shown_run c.args.run.now) (g.D.Depot.state c.args.depot.now).begun c.in-Some.file (g.D.Depot.state c.args.depot.now).files (g.D.Depot.state c.append.new.self).files c.args.piece.now
+    (rw c.in-Some.is at c.requires.begun.save) (c.in-Ok.ensures.appended t)
+
+pub returns-in-Err-clause-err_files : goal.returns-in-Err-clause-err_files
+returns-in-Err-clause-err_files g c = λ t.
+    parts-state (shown_run c.args.run.now) (g.D.Depot.state c.args.depot.now).begun c.in-Some.file (g.D.Depot.state c.args.depot.now).files (g.D.Depot.state c.append.new.self).files c.args.piece.now
+    (rw c.in-Some.is at c.requires.begun.save) (c.in-Err.ensures.part t)
+
+pub returns-in-None-clause-files : goal.returns-in-None-clause-files
+returns-in-None-clause-files g c = λ t.
+    adds-no_state (shown_run c.args.run.now) (g.D.Depot.state c.args.depot.now).files c.args.piece.now (rw c.in-None.is at c.requires.begun.save)

@@ -1,0 +1,101 @@
+-- Where a run begins: at power-on, or where a saved state was kept, and why that is not read.
+use Rattle.std.specs.Prelude.{◌≡◌, ◌⊎◌, ℕ, ◌<◌, ◌≤◌, List, [], length, Option, Some, None, IsSomeAnd}
+use Rattle.md_outer.specs.Outside.{DepotState, Files, Rose, bytes_of}
+use Rattle.md_pads.specs.Recording.{Frame}
+use Rattle.md_machine.specs.Starts.{Start}
+use Rattle.save_state.specs.Faults.{IsOtherCart, IsWrongAt}
+use Rattle.save_state.specs.States.{IsState}
+use Rattle.md_words.specs.Words.{Run}
+use Rattle.md_top.specs.Inputs.{AreInputs, Recorded, Verdict, cart_of}
+use Rattle.md_top.specs.Runs.{powered_on}
+use Rattle.md_top.specs.declared.ending.Ending.{Ending}
+use Rattle.md_top.specs.declared.ending.Ending.TheVariants.{StateFault, StateTooLong, StateWrong, OtherCart, Memory}
+use Rattle.md_top.specs.declared.inputs.Inputs.{Inputs}
+
+-- the greatest length of a saved state's file
+abbrev pub state_limit : ℕ
+state_limit = 2097152
+
+-- what the bytes of a saved state's file are found to be: a machine at a cycle, a state of another
+-- cartridge with both digests, or wrong at a place
+pub data StateVerdict : Type 0 where
+  Keeps : Start → StateVerdict
+  OfOther : List ℕ → List ℕ → StateVerdict
+  StateWrongAt : ℕ → StateVerdict
+
+-- with the inputs of a run the bytes are so
+abbrev pub IsStateVerdict : Inputs → List ℕ → StateVerdict → Type 0
+IsStateVerdict inputs bytes (Keeps start) = IsState inputs.cart bytes start × (start.console.shared.recording ≡ inputs.recording)
+IsStateVerdict inputs bytes (OfOther kept given) = IsOtherCart inputs.cart bytes kept given
+IsStateVerdict inputs bytes (StateWrongAt place) = IsWrongAt inputs.cart bytes place
+
+-- and are nothing else
+pub record IsFound (inputs : Inputs) (bytes : List ℕ) (verdict : StateVerdict) : Type 0 where
+  pub is : IsStateVerdict inputs bytes verdict
+  pub one : (other : StateVerdict) → IsStateVerdict inputs bytes other → other ≡ verdict
+
+-- a file is held, within its limit and found to be so
+abbrev pub IsFoundIn : Option (List ℕ) → Inputs → StateVerdict → Type 0
+IsFoundIn file inputs verdict = IsSomeAnd file (λ bytes. (length bytes ≤ state_limit) × IsFound inputs bytes verdict)
+
+-- a run with these inputs begins there: at power-on where no state is named, and else at what it keeps
+abbrev pub BeginsWith : Option (List ℕ) → Files → Inputs → Start → Type 0
+BeginsWith None files inputs start = start ≡ powered_on inputs
+BeginsWith (Some name) files inputs start = IsFoundIn (files name) inputs (Keeps start)
+
+-- a run begins there, with the inputs that its files hold
+pub record Begins (run : Run) (files : Files) (start : Start) : Type 0 where
+  pub inputs : Inputs
+  pub are : AreInputs run files inputs
+  pub with : BeginsWith run.load files inputs start
+
+-- whatever its files hold, a run may begin at the cycle: without a saved state it begins at 0
+abbrev pub MayBeginAt : Run → ℕ → Type 0
+MayBeginAt run at = run.load ≡ None → at ≡ 0
+
+-- the files hold what a run begins with, and its end is above the cycle at which it begins
+abbrev pub CanRun : Run → Files → Type 0
+CanRun run files = (start : Start) × Begins run files start × (start.at < run.cycles)
+
+-- why no machine is made of these inputs and the saved state of this name
+abbrev pub StateCause : Type 0 → Option (List ℕ) → Inputs → DepotState → DepotState → Ending → Type 0
+StateCause told load inputs old new StateFault = IsSomeAnd load (λ name. Rose old.read_faults new.read_faults ⊎ (told × (old.files name ≡ None)))
+StateCause told load inputs old new StateTooLong = IsSomeAnd load (λ name. told → IsSomeAnd (old.files name) (λ bytes. state_limit < length bytes))
+StateCause told load inputs old new (StateWrong place) = IsSomeAnd load (λ name. told → IsFoundIn (old.files name) inputs (StateWrongAt place))
+StateCause told load inputs old new (OtherCart kept given) = IsSomeAnd load (λ name. told → IsFoundIn (old.files name) inputs (OfOther kept given))
+StateCause told load inputs old new Memory = Unit {0}
+StateCause told load inputs old new ending = ⊥
+
+-- why the bytes of a saved state's file keep no machine for these inputs
+abbrev pub IsRefused : Inputs → List ℕ → Ending → Type 0
+IsRefused inputs bytes (StateWrong place) = IsFound inputs bytes (StateWrongAt place)
+IsRefused inputs bytes (OtherCart kept given) = IsFound inputs bytes (OfOther kept given)
+IsRefused inputs bytes Memory = Unit {0}
+IsRefused inputs bytes ending = ⊥
+
+-- why a run has no machine, with some inputs, which are those that its files hold
+abbrev pub LoadCause : Type 0 → Run → DepotState → DepotState → Ending → Type 0
+LoadCause told run old new ending = (inputs : Inputs) × (told → AreInputs run old.files inputs) × StateCause told run.load inputs old new ending
+
+-- a saved state is named, and its bytes are found to be so
+abbrev pub IsLoadFound : Type 0 → Run → Files → StateVerdict → Type 0
+IsLoadFound told run files verdict =
+    (inputs : Inputs) × (told → AreInputs run files inputs) × IsSomeAnd run.load (λ name. told → IsFoundIn (files name) inputs verdict)
+
+-- the inputs of a run by a verdict on its recording: none, if it goes wrong
+abbrev pub recording_by : Option (List ℕ) → Verdict → List Frame
+recording_by (Some name) (Recorded recording) = recording
+recording_by name verdict = []
+
+abbrev pub inputs_by : Run → Files → Verdict → Inputs
+inputs_by run files verdict = record { cart = cart_of run.rom files; recording = recording_by run.recording verdict }
+
+-- with these inputs the bytes of the saved state of this name are so, if one is named
+abbrev pub IsLoadJudged : Option (List ℕ) → Inputs → Files → StateVerdict → Type 0
+IsLoadJudged None inputs files state = Unit {0}
+IsLoadJudged (Some name) inputs files state = IsStateVerdict inputs (bytes_of files name) state
+
+-- the bytes of the saved state of a run are so, if one is named
+abbrev pub IsStateJudged : Option Run → Files → Verdict → StateVerdict → Type 0
+IsStateJudged None files verdict state = Unit {0}
+IsStateJudged (Some run) files verdict state = IsLoadJudged run.load (inputs_by run files verdict) files state

@@ -1,0 +1,103 @@
+ghost use Rattle.std.specs.Prelude.{◌≡◌, Some, None, IfOk, IfErr};
+ghost use Rattle.std.specs.Arc.{arc_value};
+ghost use Rattle.std.specs.Option.{option_copied};
+ghost use Rattle.md_outer.specs.Outside.{GoesOn};
+ghost use Rattle.md_top.specs.Courses.{IsFresh, start_at};
+ghost use Rattle.md_top.specs.Loads.{BeginsWith, IsFound, IsRefused, Keeps, StateCause};
+ghost use Rattle.md_top.specs.Runs.{powered_on};
+
+use crate::ending::Ending;
+use crate::inputs::Inputs;
+use md_machine::{Machine, laws};
+use md_outer::{Depot, Fetch};
+use md_pads::Recording;
+use md_word::NoMemory;
+use rom_header::Cart;
+use save_state::{StateFault, read};
+use std::alloc::Global;
+use std::sync::Arc;
+
+/// The greatest length of a saved state's file.
+const LONGEST_STATE: u64 = 2_097_152;
+
+/// The machine with which a run with these inputs begins: that of the saved state of this name, or
+/// where none is named that at power-on.
+pub(crate) fn first_machine<D: Depot>(
+    alloc: Global,
+    load: Option<&str>,
+    inputs: Inputs,
+    depot: &mut D,
+) -> Result<Machine, Ending>
+    ensures begins { IfOk result (λ machine. D.told → BeginsWith (option_copied load.entry) (D.state depot.old).files inputs (start_at machine)) }
+    ensures at { IfOk result (λ machine. option_copied load.entry ≡ None → machine.at ≡ 0) }
+    ensures fresh { IfOk result IsFresh }
+    ensures err { IfErr result (StateCause D.told (option_copied load.entry) inputs (D.state depot.old) (D.state depot.new)) }
+    ensures files { D.told → (D.state depot.new).files ≡ (D.state depot.old).files }
+    ensures goes_on { GoesOn (D.state depot.old) (D.state depot.new) }
+{
+    match load {
+        Some(name) => load_machine(alloc, name, inputs, depot),
+        None => match power_on(alloc, inputs) {
+            Ok(machine) => Ok(machine),
+            Err(NoMemory) => Err(Ending::Memory),
+        },
+    }
+}
+
+/// Fetches the saved state of this name and reads it.
+fn load_machine<D: Depot>(
+    alloc: Global,
+    name: &str,
+    inputs: Inputs,
+    depot: &mut D,
+) -> Result<Machine, Ending>
+    ensures begins { IfOk result (λ machine. D.told → BeginsWith (Some name.now) (D.state depot.old).files inputs (start_at machine)) }
+    ensures fresh { IfOk result IsFresh }
+    ensures err { IfErr result (StateCause D.told (Some name.now) inputs (D.state depot.old) (D.state depot.new)) }
+    ensures files { D.told → (D.state depot.new).files ≡ (D.state depot.old).files }
+    ensures goes_on { GoesOn (D.state depot.old) (D.state depot.new) }
+{
+    match depot.fetch(alloc, name, LONGEST_STATE) {
+        Ok(bytes) => kept_machine(alloc, bytes.as_slice(), inputs),
+        Err(Fetch::Failed) => Err(Ending::StateFault),
+        Err(Fetch::TooLong) => Err(Ending::StateTooLong),
+        Err(Fetch::NoMemory) => Err(Ending::Memory),
+    }
+}
+
+/// The machine that the bytes of a saved state keep.
+fn kept_machine(alloc: Global, bytes: &[u8], inputs: Inputs) -> Result<Machine, Ending>
+    ensures found { IfOk result (λ machine. IsFound inputs bytes.now (Keeps (start_at machine))) }
+    ensures fresh { IfOk result IsFresh }
+    ensures err { IfErr result (IsRefused inputs bytes.now) }
+{
+    let (cart, recording) = match shared(alloc, inputs) {
+        Ok(both) => both,
+        Err(NoMemory) => return Err(Ending::Memory),
+    };
+    match read(alloc, bytes, cart, recording) {
+        Ok(machine) => Ok(machine),
+        Err(StateFault::Form { place }) => Err(Ending::StateWrong(place)),
+        Err(StateFault::OtherCart { kept, given }) => Err(Ending::OtherCart { kept, given }),
+        Err(StateFault::NoMemory) => Err(Ending::Memory),
+    }
+}
+
+/// The machine of these inputs at power-on.
+fn power_on(alloc: Global, inputs: Inputs) -> Result<Machine, NoMemory>
+    ensures start { IfOk result (λ machine. start_at machine ≡ powered_on inputs) }
+    ensures fresh { IfOk result IsFresh }
+{
+    laws::power_on_is_start();
+    let (cart, recording) = shared(alloc, inputs)?;
+    Machine::power_on(alloc, cart, recording)
+}
+
+/// The inputs, each to be held by several owners.
+fn shared(alloc: Global, inputs: Inputs) -> Result<(Arc<Cart>, Arc<Recording>), NoMemory>
+    ensures { IfOk result (λ both. record { cart = arc_value both.0; recording = arc_value both.1 } ≡ inputs) }
+{
+    let cart = Arc::new(alloc, inputs.cart)?;
+    let recording = Arc::new(alloc, inputs.recording)?;
+    Ok((cart, recording))
+}
