@@ -1,0 +1,204 @@
+-- Each item as its reader reads it.
+use Rattle.std.proofs.Common.{◌≡◌, ◌≢◌, ℕ, ◌<◌, ◌≤◌, leb, eqb, arith, Bool, true, false, ◌==◌, List, [], ◌∷◌, refl, sym, ap, subst, ◌∙◌, inl, inr, Result, Ok}
+use Rattle.std.specs.Result.{IfOk}
+use Rattle.md_word.specs.declared.unspell.Unspell.{Unspell}
+use Rattle.md_word.specs.declared.unspell.Unspell.TheVariants.{Rule, NoMemory}
+use Rattle.m68k_chip.specs.Sound.{Chip68Value}
+use Rattle.m68k_chip.specs.Spelling as main
+use Rattle.m68k_chip.specs.States.{State68}
+use Rattle.z80_chip.specs.Sound.{Chip80Value}
+use Rattle.z80_chip.specs.Spelling as sub
+use Rattle.z80_chip.specs.States.{State80}
+use Rattle.save_state.specs.declared.layout.Part.{Part}
+use Rattle.md_fields.specs.Places.{number_at}
+use Rattle.md_machine.specs.Starts.{first_batch}
+use Rattle.md_pads.specs.Recording.{Frame}
+use Rattle.bus_shared.specs.Board.{Board}
+use Rattle.bus_shared.specs.Spelling as shared
+use Rattle.vdp_chip.specs.Drawing.{Drawing}
+use Rattle.vdp_chip.specs.Spelling as drawing
+use Rattle.fm_chip.specs.Synth as fm_synths
+use Rattle.fm_chip.specs.SynthSpelling as fm
+use Rattle.psg_sound.specs.Synth as psg_synths
+use Rattle.psg_sound.specs.SynthSpelling as psg
+use Rattle.fm_chip.specs.Port.{Port}
+use Rattle.fm_chip.specs.PortSpelling as fm_port
+use Rattle.fm_chip.proofs.PortBytes.{spelled_once as fm_once}
+use Rattle.psg_sound.specs.PortSpelling as psg_port
+use Rattle.psg_sound.specs.declared.write.PsgWrite.{PsgWrite}
+use Rattle.psg_sound.proofs.PortBytes.{spelled_once as psg_once}
+use Rattle.save_state.specs.Items.{at_of, main_next, sub_next, holder_in, stage_of, seen_resets, resets_of, resets_place, fm_writes_place, main_bytes, sub_bytes, shared_bytes, drawing_bytes, IsMain, MainFails, IsSub, SubFails, chip_fails, holder_fails, IsShared, SharedFails, board_fails, resets_fail, IsPicture, DrawingFails, HasLateFm, IsFm, FmFails, synth_fails, next_fails, writes_fail, HasLatePsg, IsPsg, PsgFails, psg_synth_fails, psg_next_fails, psg_writes_fail}
+use Rattle.save_state.specs.Joining.{Reads, FailsIn, placed, with_rule, Either}
+use Rattle.save_state.specs.Layout.{main_part, holder_part, drawing_part, fm_port_part, fm_part, fm_next_part, psg_part, psg_next_part, psg_port_part, part_of, sub_parts, shared_parts, gathered, are_ordered}
+use Rattle.save_state.specs.States.{is_holder, are_fm_early, are_psg_early}
+use Rattle.std.specs.Int.{w64}
+use Rattle.std.proofs.lemmas.Bool.{leb-false, eqb-false, lt-leb, ne_eqb}
+use Rattle.save_state.proofs.Places.{yes}
+use Rattle.md_fields.proofs.Refusals.{failed}
+use Rattle.save_state.proofs.Joins.{item, said, ruled, Ruled, Breaks}
+
+no : (b : Bool) → b ≡ true → ¬ (b ≡ false)
+no b t f = cc
+
+shared_ordered : (has : Bool) → are_ordered 0 (shared_parts has) ≡ true
+shared_ordered true = refl
+shared_ordered false = refl
+
+-- where they cannot differ, numbers are the same
+equal : (a b : ℕ) → ¬ (a ≢ b) → a ≡ b
+equal a b h = grind (arith, h)
+
+sub_ordered : (has : Bool) → are_ordered 0 (sub_parts has) ≡ true
+sub_ordered true = refl
+sub_ordered false = refl
+
+-- ---- the 68000
+
+abbrev MainKept : List ℕ → ℕ → List ℕ → Chip68Value → Type 0
+MainKept cart at bytes chip = (chip.cart ≡ cart) × main.Spells cart at bytes chip.state
+
+pub main_read : (cart bytes : List ℕ) (at : ℕ) (part : List ℕ) (answer read : Result Chip68Value Unspell) → read ≡ placed (main_part ∷ []) answer → at ≡ at_of bytes → part ≡ main_bytes bytes → IfOk answer (MainKept cart at part) → ((state : State68) → main.Spells cart at part state → answer ≢ failed NoMemory → answer ≡ Ok (record { cart = cart; state = state })) → ((p : ℕ) → answer ≡ failed (Rule p) → main.GoesWrongAt cart at part p) → ((p : ℕ) → main.GoesWrongAt cart at part p → answer ≡ failed (Rule p)) → Reads (IsMain cart bytes) (MainFails cart bytes) read
+main_read cart bytes at part answer read r e f found only rule wrong =
+    subst (Reads (IsMain cart bytes) (MainFails cart bytes)) (sym r) (
+    said (MainKept cart (at_of bytes) (main_bytes bytes)) (IsMain cart bytes) (MainFails cart bytes) (MainFails cart bytes) (placed (main_part ∷ []) answer)
+    (λ x k. record { image = k.0; spells = k.1 }) (λ x k. (k.image, k.spells)) (λ p h. h) (λ p h. h)
+    (item (MainKept cart) (main.GoesWrongAt cart) (main_part ∷ []) (main_part ∷ []) at (at_of bytes) part (main_bytes bytes) answer refl refl e f found
+    (λ x k n. only x.state k.1 n ∙ (λ i. Ok (record { cart = sym k.0 i; state = x.state }))) rule (λ p h n. wrong p h)))
+
+-- ---- the Z80
+
+abbrev SubKept : List ℕ → ℕ → List ℕ → Chip80Value → Type 0
+SubKept cart at bytes chip = (chip.cart ≡ cart) × sub.Spells cart at bytes chip.state
+
+pub sub_read : (cart bytes : List ℕ) (at : ℕ) (parts : List Part) (part : List ℕ) (has holds : Bool) (answer chip read : Result Chip80Value Unspell) → chip ≡ placed parts answer → read ≡ with_rule chip holds holder_part.place → has ≡ (holder_in bytes == 0) → holds ≡ is_holder (holder_in bytes) (stage_of bytes) → at ≡ at_of bytes → parts ≡ sub_parts has → part ≡ gathered parts bytes → IfOk answer (SubKept cart at part) → ((state : State80) → sub.Spells cart at part state → answer ≢ failed NoMemory → answer ≡ Ok (record { cart = cart; state = state })) → ((p : ℕ) → answer ≡ failed (Rule p) → sub.GoesWrongAt cart at part p) → ((p : ℕ) → sub.GoesWrongAt cart at part p → answer ≢ failed NoMemory → answer ≡ failed (Rule p)) → Reads (IsSub cart bytes) (SubFails cart bytes) read
+sub_read cart bytes at parts part has holds answer chip read r s h b e g f found only rule wrong =
+    subst (Reads (IsSub cart bytes) (SubFails cart bytes)) (sym (s ∙ ap (λ (a : Result Chip80Value Unspell). with_rule a holds holder_part.place) r)) (
+    said (Ruled (SubKept cart (at_of bytes) (sub_bytes bytes)) Broken) (IsSub cart bytes)
+    (Either (FailsIn (sub_parts (holder_in bytes == 0)) (sub.GoesWrongAt cart (at_of bytes) (sub_bytes bytes))) (Breaks holder_part.place Broken)) (SubFails cart bytes)
+    (with_rule (placed parts answer) holds holder_part.place)
+    (λ x k. record { image = k.0.0; spells = k.0.1; holder = yes (is_holder (holder_in bytes) (stage_of bytes)) k.1 })
+    (λ x k. ((k.image, k.spells), no (is_holder (holder_in bytes) (stage_of bytes)) k.holder))
+    (λ p w. elim w [ inl q ↦ chip_fails q | inr q ↦ holder_fails q.0 q.1 ])
+    (λ p w. elim w [ chip_fails q ↦ inl q | holder_fails q t ↦ inr (q, t) ])
+    (ruled (SubKept cart (at_of bytes) (sub_bytes bytes)) (FailsIn (sub_parts (holder_in bytes == 0)) (sub.GoesWrongAt cart (at_of bytes) (sub_bytes bytes))) (placed parts answer) holds holder_part.place Broken (λ q. sym b ∙ q) (λ q. b ∙ q)
+    (item (SubKept cart) (sub.GoesWrongAt cart) (sub_parts (holder_in bytes == 0)) parts at (at_of bytes) part (sub_bytes bytes) answer whole (sub_ordered (holder_in bytes == 0)) e (f ∙ ap (λ (ps : List Part). gathered ps bytes) whole) found
+    (λ x k n. only x.state k.1 n ∙ (λ i. Ok (record { cart = sym k.0 i; state = x.state }))) rule wrong))) where
+      Broken : Type 0
+      Broken = is_holder (holder_in bytes) (stage_of bytes) ≡ false
+
+      whole : parts ≡ sub_parts (holder_in bytes == 0)
+      whole = g ∙ ap sub_parts h
+
+-- ---- the board
+
+abbrev SharedKept : List Frame → ℕ → List ℕ → Board → Type 0
+SharedKept recording at bytes board = shared.Spells at bytes board × (board.recording ≡ recording)
+
+not_below : (a b : ℕ) → ¬ (b < a) → a ≤ b
+not_below a b h = grind (arith, h)
+
+pub shared_read : (recording : List Frame) (bytes : List ℕ) (at : ℕ) (parts : List Part) (part : List ℕ) (has : Bool) (seen resets : ℕ) (answer board read : Result Board Unspell) → board ≡ placed parts answer → read ≡ with_rule board (leb seen resets) resets_place → has ≡ (holder_in bytes == 1) → seen ≡ seen_resets bytes → resets ≡ resets_of bytes → at ≡ at_of bytes → parts ≡ shared_parts has → part ≡ gathered parts bytes → IfOk answer (SharedKept recording at part) → ((b : Board) → shared.Spells at part b → b.recording ≡ recording → answer ≢ failed NoMemory → answer ≡ Ok b) → ((p : ℕ) → answer ≡ failed (Rule p) → shared.GoesWrongAt at part p) → ((p : ℕ) → shared.GoesWrongAt at part p → answer ≢ failed NoMemory → answer ≡ failed (Rule p)) → Reads (IsShared recording bytes) (SharedFails bytes) read
+shared_read recording bytes at parts part has seen resets answer board read r s h a b e g f found only rule wrong =
+    subst (Reads (IsShared recording bytes) (SharedFails bytes)) (sym (s ∙ ap (λ (x : Result Board Unspell). with_rule x (leb seen resets) resets_place) r)) (
+    said (Ruled (SharedKept recording (at_of bytes) (shared_bytes bytes)) Broken) (IsShared recording bytes)
+    (Either (FailsIn (shared_parts (holder_in bytes == 1)) (shared.GoesWrongAt (at_of bytes) (shared_bytes bytes))) (Breaks resets_place Broken)) (SharedFails bytes)
+    (with_rule (placed parts answer) (leb seen resets) resets_place)
+    (λ x k. record { pads = k.0.1; spells = k.0.0; resets = not_below (seen_resets bytes) (resets_of bytes) k.1 })
+    (λ x k. ((k.spells, k.pads), λ t. omega (arith, t, k.resets)))
+    (λ p w. elim w [ inl q ↦ board_fails q | inr q ↦ resets_fail q.0 q.1 ])
+    (λ p w. elim w [ board_fails q ↦ inl q | resets_fail q t ↦ inr (q, t) ])
+    (ruled (SharedKept recording (at_of bytes) (shared_bytes bytes)) (FailsIn (shared_parts (holder_in bytes == 1)) (shared.GoesWrongAt (at_of bytes) (shared_bytes bytes))) (placed parts answer) (leb seen resets) resets_place Broken (λ q. omega (arith, a, b, leb-false seen resets q)) (λ q. lt-leb seen resets (omega (arith, a, b, q)))
+    (item (SharedKept recording) shared.GoesWrongAt (shared_parts (holder_in bytes == 1)) parts at (at_of bytes) part (shared_bytes bytes) answer whole (shared_ordered (holder_in bytes == 1)) e (f ∙ ap (λ (ps : List Part). gathered ps bytes) whole) found
+    (λ x k n. only x k.0 k.1 n) rule wrong))) where
+      Broken : Type 0
+      Broken = resets_of bytes < seen_resets bytes
+
+      whole : parts ≡ shared_parts (holder_in bytes == 1)
+      whole = g ∙ ap shared_parts h
+
+-- ---- the drawing half of the VDP
+
+pub drawing_read : (bytes : List ℕ) (at : ℕ) (part : List ℕ) (answer read : Result Drawing Unspell) → read ≡ placed (drawing_part ∷ []) answer → at ≡ at_of bytes → part ≡ drawing_bytes bytes → IfOk answer (drawing.Spells at part) → ((d : Drawing) → drawing.Spells at part d → answer ≢ failed NoMemory → answer ≡ Ok d) → ((p : ℕ) → answer ≡ failed (Rule p) → drawing.GoesWrongAt at part p) → ((p : ℕ) → drawing.GoesWrongAt at part p → answer ≡ failed (Rule p)) → Reads (IsPicture bytes) (DrawingFails bytes) read
+drawing_read bytes at part answer read r e f found only rule wrong =
+    subst (Reads (IsPicture bytes) (DrawingFails bytes)) (sym r) (
+    item drawing.Spells drawing.GoesWrongAt (drawing_part ∷ []) (drawing_part ∷ []) at (at_of bytes) part (drawing_bytes bytes) answer refl refl e f found only rule (λ p h n. wrong p h))
+
+-- ---- the sound chips
+
+pub fm_read : (bytes : List ℕ) (at : ℕ) (part : List ℕ) (next batch : ℕ) (early : Bool) (answer synth timed read : Result fm_synths.Synth Unspell) → synth ≡ placed (fm_part ∷ []) answer → timed ≡ with_rule synth (eqb next batch) fm_next_part.place → read ≡ with_rule timed early fm_writes_place → at ≡ at_of bytes → part ≡ part_of fm_part bytes → next ≡ number_at w64 fm_next_part.place bytes → batch ≡ first_batch at → (early ≡ false → HasLateFm bytes) → (HasLateFm bytes → early ≡ false) → IfOk answer (fm.SpellsSynth part) → ((s : fm_synths.Synth) → fm.SpellsSynth part s → answer ≡ Ok s) → ((p : ℕ) → answer ≡ failed (Rule p) → fm.SynthGoesWrongAt part p) → ((p : ℕ) → fm.SynthGoesWrongAt part p → answer ≡ failed (Rule p)) → Reads (IsFm bytes) (FmFails bytes) read
+fm_read bytes at part next batch early answer synth timed read r s t e f n b late told found only rule wrong =
+    subst (Reads (IsFm bytes) (FmFails bytes)) (sym (t ∙ ap (λ (x : Result fm_synths.Synth Unspell). with_rule x early fm_writes_place) (s ∙ ap (λ (x : Result fm_synths.Synth Unspell). with_rule x (eqb next batch) fm_next_part.place) r))) (
+    said (Ruled (Ruled (fm.SpellsSynth (part_of fm_part bytes)) Broken) (HasLateFm bytes)) (IsFm bytes)
+    (Either (Either (FailsIn (fm_part ∷ []) (fm.SynthGoesWrongAt (part_of fm_part bytes))) (Breaks fm_next_part.place Broken)) (Breaks fm_writes_place (HasLateFm bytes))) (FmFails bytes)
+    (with_rule (with_rule (placed (fm_part ∷ []) answer) (eqb next batch) fm_next_part.place) early fm_writes_place)
+    (λ x k. record { spells = k.0.0; next = equal (number_at w64 fm_next_part.place bytes) (first_batch (at_of bytes)) k.0.1; writes = k.1 })
+    (λ x k. ((k.spells, λ q. q k.next), k.writes))
+    (λ p w. elim w [ inl q ↦ (elim q [ inl u ↦ synth_fails u | inr u ↦ next_fails u.0 u.1 ]) | inr q ↦ writes_fail q.0 q.1 ])
+    (λ p w. elim w [ synth_fails q ↦ inl (inl q) | next_fails q u ↦ inl (inr (q, u)) | writes_fail q u ↦ inr (q, u) ])
+    (ruled (Ruled (fm.SpellsSynth (part_of fm_part bytes)) Broken) (Either (FailsIn (fm_part ∷ []) (fm.SynthGoesWrongAt (part_of fm_part bytes))) (Breaks fm_next_part.place Broken)) (with_rule (placed (fm_part ∷ []) answer) (eqb next batch) fm_next_part.place) early fm_writes_place (HasLateFm bytes) late told
+    (ruled (fm.SpellsSynth (part_of fm_part bytes)) (FailsIn (fm_part ∷ []) (fm.SynthGoesWrongAt (part_of fm_part bytes))) (placed (fm_part ∷ []) answer) (eqb next batch) fm_next_part.place Broken
+    (λ q u. eqb-false next batch q (n ∙ u ∙ sym there)) (λ q. ne_eqb next batch (λ u. q (sym n ∙ u ∙ there)))
+    (item (λ a. fm.SpellsSynth) (λ a. fm.SynthGoesWrongAt) (fm_part ∷ []) (fm_part ∷ []) at (at_of bytes) part (part_of fm_part bytes) answer refl refl e f found (λ x k m. only x k) rule (λ p h m. wrong p h))))) where
+      Broken : Type 0
+      Broken = number_at w64 fm_next_part.place bytes ≢ first_batch (at_of bytes)
+
+      there : batch ≡ first_batch (at_of bytes)
+      there = b ∙ ap first_batch e
+
+pub psg_read : (bytes : List ℕ) (at : ℕ) (part : List ℕ) (next batch : ℕ) (early : Bool) (answer synth timed read : Result psg_synths.Synth Unspell) → synth ≡ placed (psg_part ∷ []) answer → timed ≡ with_rule synth (eqb next batch) psg_next_part.place → read ≡ with_rule timed early psg_port_part.place → at ≡ at_of bytes → part ≡ part_of psg_part bytes → next ≡ number_at w64 psg_next_part.place bytes → batch ≡ first_batch at → (early ≡ false → HasLatePsg bytes) → (HasLatePsg bytes → early ≡ false) → IfOk answer (psg.SpellsSynth part) → ((s : psg_synths.Synth) → psg.SpellsSynth part s → answer ≡ Ok s) → ((p : ℕ) → answer ≡ failed (Rule p) → psg.SynthGoesWrongAt part p) → ((p : ℕ) → psg.SynthGoesWrongAt part p → answer ≡ failed (Rule p)) → Reads (IsPsg bytes) (PsgFails bytes) read
+psg_read bytes at part next batch early answer synth timed read r s t e f n b late told found only rule wrong =
+    subst (Reads (IsPsg bytes) (PsgFails bytes)) (sym (t ∙ ap (λ (x : Result psg_synths.Synth Unspell). with_rule x early psg_port_part.place) (s ∙ ap (λ (x : Result psg_synths.Synth Unspell). with_rule x (eqb next batch) psg_next_part.place) r))) (
+    said (Ruled (Ruled (psg.SpellsSynth (part_of psg_part bytes)) Broken) (HasLatePsg bytes)) (IsPsg bytes)
+    (Either (Either (FailsIn (psg_part ∷ []) (psg.SynthGoesWrongAt (part_of psg_part bytes))) (Breaks psg_next_part.place Broken)) (Breaks psg_port_part.place (HasLatePsg bytes))) (PsgFails bytes)
+    (with_rule (with_rule (placed (psg_part ∷ []) answer) (eqb next batch) psg_next_part.place) early psg_port_part.place)
+    (λ x k. record { spells = k.0.0; next = equal (number_at w64 psg_next_part.place bytes) (first_batch (at_of bytes)) k.0.1; writes = k.1 })
+    (λ x k. ((k.spells, λ q. q k.next), k.writes))
+    (λ p w. elim w [ inl q ↦ (elim q [ inl u ↦ psg_synth_fails u | inr u ↦ psg_next_fails u.0 u.1 ]) | inr q ↦ psg_writes_fail q.0 q.1 ])
+    (λ p w. elim w [ psg_synth_fails q ↦ inl (inl q) | psg_next_fails q u ↦ inl (inr (q, u)) | psg_writes_fail q u ↦ inr (q, u) ])
+    (ruled (Ruled (psg.SpellsSynth (part_of psg_part bytes)) Broken) (Either (FailsIn (psg_part ∷ []) (psg.SynthGoesWrongAt (part_of psg_part bytes))) (Breaks psg_next_part.place Broken)) (with_rule (placed (psg_part ∷ []) answer) (eqb next batch) psg_next_part.place) early psg_port_part.place (HasLatePsg bytes) late told
+    (ruled (psg.SpellsSynth (part_of psg_part bytes)) (FailsIn (psg_part ∷ []) (psg.SynthGoesWrongAt (part_of psg_part bytes))) (placed (psg_part ∷ []) answer) (eqb next batch) psg_next_part.place Broken
+    (λ q u. eqb-false next batch q (n ∙ u ∙ sym there)) (λ q. ne_eqb next batch (λ u. q (sym n ∙ u ∙ there)))
+    (item (λ a. psg.SpellsSynth) (λ a. psg.SynthGoesWrongAt) (psg_part ∷ []) (psg_part ∷ []) at (at_of bytes) part (part_of psg_part bytes) answer refl refl e f found (λ x k m. only x k) rule (λ p h m. wrong p h))))) where
+      Broken : Type 0
+      Broken = number_at w64 psg_next_part.place bytes ≢ first_batch (at_of bytes)
+
+      there : batch ≡ first_batch (at_of bytes)
+      there = b ∙ ap first_batch e
+
+-- ---- the writes that the ports hold
+
+pub fm_is_late : (bytes : List ℕ) (at : ℕ) (part : List ℕ) (port : Port) (main sub : ℕ) (early : Bool) → at ≡ at_of bytes → part ≡ part_of fm_port_part bytes → main ≡ main_next bytes → sub ≡ sub_next bytes → early ≡ are_fm_early main sub port → fm_port.SpellsPort at part port → early ≡ false → HasLateFm bytes
+fm_is_late bytes at part port main sub early e f m s t p late = record {
+  port = port;
+  spells = subst (λ (l : List ℕ). fm_port.SpellsPort (at_of bytes) l port) f (subst (λ (a : ℕ). fm_port.SpellsPort a part port) e p);
+  late = (λ i. are_fm_early (sym m i) (sym s i) port) ∙ sym t ∙ late;
+}
+
+pub fm_told : (bytes : List ℕ) (at : ℕ) (part : List ℕ) (port : Port) (main sub : ℕ) (early : Bool) → at ≡ at_of bytes → part ≡ part_of fm_port_part bytes → main ≡ main_next bytes → sub ≡ sub_next bytes → early ≡ are_fm_early main sub port → fm_port.SpellsPort at part port → HasLateFm bytes → early ≡ false
+fm_told bytes at part port main sub early e f m s t p h =
+    let there = subst (λ (l : List ℕ). fm_port.SpellsPort (at_of bytes) l port) f (subst (λ (a : ℕ). fm_port.SpellsPort a part port) e p) in
+    t ∙ (λ i. are_fm_early (m i) (s i) (fm_once (at_of bytes) (part_of fm_port_part bytes) port h.port there h.spells i)) ∙ h.late
+
+pub fm_none : (bytes : List ℕ) (at : ℕ) (part : List ℕ) (answer : Result Port Unspell) (fault : Unspell) → at ≡ at_of bytes → part ≡ part_of fm_port_part bytes → answer ≡ failed fault → ((port : Port) → fm_port.SpellsPort at part port → answer ≡ Ok port) → HasLateFm bytes → true ≡ false
+fm_none bytes at part answer fault e f r only h =
+    let there = subst (λ (l : List ℕ). fm_port.SpellsPort at l h.port) (sym f) (subst (λ (a : ℕ). fm_port.SpellsPort a (part_of fm_port_part bytes) h.port) (sym e) h.spells) in
+    let ok : answer ≡ Ok h.port = only h.port there in
+    absurd cc
+
+pub psg_is_late : (bytes : List ℕ) (at : ℕ) (part : List ℕ) (port : List PsgWrite) (main sub : ℕ) (early : Bool) → at ≡ at_of bytes → part ≡ part_of psg_port_part bytes → main ≡ main_next bytes → sub ≡ sub_next bytes → early ≡ are_psg_early main sub port → psg_port.SpellsPort at part port → early ≡ false → HasLatePsg bytes
+psg_is_late bytes at part port main sub early e f m s t p late = record {
+  port = port;
+  spells = subst (λ (l : List ℕ). psg_port.SpellsPort (at_of bytes) l port) f (subst (λ (a : ℕ). psg_port.SpellsPort a part port) e p);
+  late = (λ i. are_psg_early (sym m i) (sym s i) port) ∙ sym t ∙ late;
+}
+
+pub psg_told : (bytes : List ℕ) (at : ℕ) (part : List ℕ) (port : List PsgWrite) (main sub : ℕ) (early : Bool) → at ≡ at_of bytes → part ≡ part_of psg_port_part bytes → main ≡ main_next bytes → sub ≡ sub_next bytes → early ≡ are_psg_early main sub port → psg_port.SpellsPort at part port → HasLatePsg bytes → early ≡ false
+psg_told bytes at part port main sub early e f m s t p h =
+    let there = subst (λ (l : List ℕ). psg_port.SpellsPort (at_of bytes) l port) f (subst (λ (a : ℕ). psg_port.SpellsPort a part port) e p) in
+    t ∙ (λ i. are_psg_early (m i) (s i) (psg_once (at_of bytes) (part_of psg_port_part bytes) port h.port there h.spells i)) ∙ h.late
+
+pub psg_none : (bytes : List ℕ) (at : ℕ) (part : List ℕ) (answer : Result (List PsgWrite) Unspell) (fault : Unspell) → at ≡ at_of bytes → part ≡ part_of psg_port_part bytes → answer ≡ failed fault → ((port : List PsgWrite) → psg_port.SpellsPort at part port → answer ≡ Ok port) → HasLatePsg bytes → true ≡ false
+psg_none bytes at part answer fault e f r only h =
+    let there = subst (λ (l : List ℕ). psg_port.SpellsPort at l h.port) (sym f) (subst (λ (a : ℕ). psg_port.SpellsPort a (part_of psg_port_part bytes) h.port) (sym e) h.spells) in
+    let ok : answer ≡ Ok h.port = only h.port there in
+    absurd cc

@@ -1,0 +1,11 @@
+pub mod Gathered
+pub mod ItemLaws
+pub mod Joins
+pub mod KeptLaws
+pub mod MachineLaws
+pub mod Parts
+pub mod Places
+pub mod ReadLaws
+pub mod Standing
+pub mod WholeLaws
+pub mod WriteLaws

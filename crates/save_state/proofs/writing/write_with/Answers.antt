@@ -1,0 +1,64 @@
+use Rattle.std.proofs.Common.{◌≡◌, ◌++◌, ◌∷◌, [], ℕ, Bool, List, length, drop, sym, ap, subst, ◌∙◌, arith, is_some}
+use Rattle.std.specs.Int.{w64, to_be_bytes}
+use Rattle.m68k_chip.specs.Sound.{Chip68Value}
+use Rattle.m68k_chip.specs.Spelling as main
+use Rattle.z80_chip.specs.Sound.{Chip80Value, IsChip80}
+use Rattle.z80_chip.specs.Spelling as sub
+use Rattle.fm_chip.specs.Synth as fm_synths
+use Rattle.fm_chip.specs.SynthSpelling as fm
+use Rattle.psg_sound.specs.Synth as psg_synths
+use Rattle.psg_sound.specs.SynthSpelling as psg
+use Rattle.bus_shared.specs.Board.{Board, IsBoard}
+use Rattle.bus_shared.specs.Spelling as shared
+use Rattle.md_machine.specs.Starts as starts
+use Rattle.save_state.specs.States.{mark}
+use Rattle.save_state.proofs.WriteLaws.{rest_long, numbers_cut, board_cut, store_cut, written, holder_byte}
+use Rattle.save_state.proofs.writing.write_with.Goals as goal
+
+long_rest : (board rest items : List ℕ) (has : Bool) (b b2 m : Board) → has ≡ is_some b.store → b ≡ m → b2 ≡ m → board ≡ items → length items ≡ shared.board_size (is_some b2.store) → rest ≡ drop (shared.store_size has) board → length rest ≡ 88388
+long_rest board rest items has b b2 m h e f g long r = rest_long board rest has (is_some b2.store) (h ∙ ap (λ (x : Board). is_some x.store) (e ∙ sym f)) (ap length g ∙ long) r
+
+pub of-requires-3 : goal.of-requires-3
+of-requires-3 c =
+    omega (arith, long_rest c.as_slice.result.now c.behind_store-rest.result.now c.in_ok-board.board.items c.has_store-has.result c.shared.result.now c.shared-2.result.now c.args.machine.now.console.shared c.has_store-has.ensures c.shared.ensures c.shared-2.ensures c.as_slice.ensures.value c.in_ok-board.ensures.long c.behind_store-rest.ensures)
+
+pub of-requires-4 : goal.of-requires-4
+of-requires-4 c =
+    omega (arith, long_rest c.as_slice.result.now c.behind_store-rest.result.now c.in_ok-board.board.items c.has_store-has.result c.shared.result.now c.shared-2.result.now c.args.machine.now.console.shared c.has_store-has.ensures c.shared.ensures c.shared-2.ensures c.as_slice.ensures.value c.in_ok-board.ensures.long c.behind_store-rest.ensures)
+
+pub of-requires-5 : goal.of-requires-5
+of-requires-5 c =
+    omega (arith, long_rest c.as_slice.result.now c.behind_store-rest.result.now c.in_ok-board.board.items c.has_store-has.result c.shared.result.now c.shared-2.result.now c.args.machine.now.console.shared c.has_store-has.ensures c.shared.ensures c.shared-2.ensures c.as_slice.ensures.value c.in_ok-board.ensures.long c.behind_store-rest.ensures)
+
+pub returns : goal.returns
+returns c =
+    let m = c.args.machine.now.console in
+    let at = c.args.machine.now.at in
+    let has : c.has_store-has.result ≡ is_some m.shared.store = c.has_store-has.ensures ∙ ap (λ (b : Board). is_some b.store) c.shared.ensures in
+    let sub_is : c.as_slice-3.result.now ≡ sub.chip_bytes m.sub.state = c.as_slice-3.ensures.value ∙ c.in_ok-sub.ensures.bytes ∙ ap (λ (x : Chip80Value). sub.chip_bytes x.state) c.sub_chip.ensures in
+    let sub_long : length c.as_slice-3.result.now ≡ sub.spelled_size (is_some m.sub.state.store) = ap length c.as_slice-3.ensures.value ∙ c.in_ok-sub.ensures.long ∙ ap (λ (x : Chip80Value). sub.spelled_size (is_some x.state.store)) c.sub_chip.ensures in
+    let sub_ok : IsChip80 m.sub = subst IsChip80 c.sub_chip.ensures c.sub_bytes.ensures.sound in
+    let cut = numbers_cut c.as_slice-3.result.now m.sub.state sub_ok.store sub_is sub_long in
+    let same_sub : c.as_slice-4.result.now ≡ c.as_slice-3.result.now = c.as_slice-4.ensures.value ∙ sym c.as_slice-3.ensures.value in
+    let board_ok : IsBoard m.shared = subst IsBoard c.shared-2.ensures c.board_bytes.ensures.sound in
+    let board_is : c.as_slice.result.now ≡ shared.board_bytes (shared.settled_board at m.shared) = c.as_slice.ensures.value ∙ c.in_ok-board.ensures.bytes ∙ (λ i. shared.board_bytes (shared.settled_board (c.at-at.ensures i) (c.shared-2.ensures i))) in
+    let board_long : length c.as_slice.result.now ≡ shared.board_size (is_some m.shared.store) = ap length c.as_slice.ensures.value ∙ c.in_ok-board.ensures.long ∙ ap (λ (b : Board). shared.board_size (is_some b.store)) c.shared-2.ensures in
+    let same_board : c.as_slice-5.result.now ≡ c.as_slice.result.now = c.as_slice-5.ensures.value ∙ sym c.as_slice.ensures.value in
+    let parts = board_cut at m.shared c.as_slice.result.now c.behind_store-rest.result.now c.has_store-has.result board_ok has board_is board_long c.behind_store-rest.ensures in
+    written at m c.args.digest.now c.of.result.now (c.from.result ∷ []) c.store_in.result.now c.of-2.result.now c.as_slice-6.result.now c.of-3.result.now c.to_be_bytes-batch.result c.of-4.result.now c.of-5.result.now c.draw_chip.result.now
+    c.append.new.into.items c.append-2.new.into.items c.append-3.new.into.items c.append-4.new.into.items
+    c.requires.digest
+    (c.of.ensures ∙ cut.0)
+    (holder_byte m c.has_store-has.result c.from.result has c.from.ensures)
+    (c.store_in.ensures ∙ store_cut at m c.as_slice-4.result.now c.as_slice-5.result.now c.has_store-has.result board_ok has (ap (drop 62) same_sub ∙ cut.1) (same_board ∙ board_is))
+    (c.of-2.ensures ∙ parts.video)
+    (c.as_slice-6.ensures.value ∙ c.in_ok-drawing.ensures)
+    c.draw_chip.ensures.next c.draw_chip.ensures.note c.draw_chip.ensures.picture
+    (c.of-3.ensures ∙ parts.fm_port)
+    (c.to_be_bytes-batch.ensures ∙ ap (to_be_bytes w64) (c.first_batch.ensures ∙ ap starts.first_batch c.at-at.ensures))
+    (c.of-4.ensures ∙ parts.psg_port)
+    (c.of-5.ensures ∙ parts.lines)
+    (c.in_ok-append.ensures ∙ (λ i. c.in_ok-bytes.ensures.items i ++ (mark ++ (c.args.digest.now ++ ((c.to_be_bytes.ensures ∙ ap (to_be_bytes w64) c.at-at.ensures) i ++ (c.as_slice-2.ensures.value ∙ c.in_ok-main.ensures ∙ ap (λ (x : Chip68Value). main.chip_bytes x.state) c.main_chip.ensures) i)))))
+    c.in_ok-append-2.ensures
+    (c.in_ok-append-3.ensures ∙ (λ i. c.append-2.new.into.items ++ (c.as_slice-6.result.now ++ (c.of-3.result.now ++ (c.to_be_bytes-batch.result ++ (c.as_slice-7.ensures.value ∙ c.in_ok-fm.ensures ∙ ap (λ (x : fm_synths.Synth). fm.synth_bytes x) c.fm.ensures) i)))))
+    (c.in_ok-append-4.ensures ∙ (λ i. c.append-3.new.into.items ++ (c.to_be_bytes-batch.result ++ (c.of-4.result.now ++ ((c.as_slice-8.ensures.value ∙ c.in_ok-psg.ensures ∙ ap (λ (x : psg_synths.Synth). psg.synth_bytes x) c.psg.ensures) i ++ c.of-5.result.now)))))

@@ -1,0 +1,62 @@
+-- Where bytes that are no saved state of a cartridge go wrong. This project's profile.
+use Rattle.std.specs.Prelude.{◌≡◌, ◌≢◌, ℕ, ◌≤◌, min, ◌⊎◌, List, [], length}
+use Rattle.sha2.specs.Sha256.{sha256}
+use Rattle.md_pads.specs.Recording.{Frame}
+use Rattle.md_machine.specs.Console.{drawing_in}
+use Rattle.md_machine.specs.Machines.{MachineValue}
+use Rattle.md_machine.specs.Media.{no_media}
+use Rattle.md_machine.specs.Starts.{first_batch}
+use Rattle.save_state.specs.Joining.{IsLeast}
+use Rattle.save_state.specs.Layout.{part_of, at_part, digest_part, mark_part, state_size}
+use Rattle.save_state.specs.Items.{at_of, IsMain, MainFails, IsSub, SubFails, IsShared, SharedFails, IsPicture, DrawingFails, IsFm, FmFails, IsPsg, PsgFails}
+use Rattle.save_state.specs.States.{mark, last_cycle}
+
+-- a field at this place breaks its rule
+pub data FailsAt (cart bytes : List ℕ) (place : ℕ) : Type 0 where
+  at_fails : place ≡ at_part.place → ¬ ((1 ≤ at_of bytes) × (at_of bytes ≤ last_cycle)) → FailsAt cart bytes place
+  main_fails : MainFails cart bytes place → FailsAt cart bytes place
+  sub_fails : SubFails cart bytes place → FailsAt cart bytes place
+  shared_fails : SharedFails bytes place → FailsAt cart bytes place
+  drawing_fails : DrawingFails bytes place → FailsAt cart bytes place
+  fm_fails : FmFails bytes place → FailsAt cart bytes place
+  psg_fails : PsgFails bytes place → FailsAt cart bytes place
+
+-- the first place at which a field breaks its rule
+abbrev pub IsFirstFault : List ℕ → List ℕ → ℕ → Type 0
+IsFirstFault cart bytes place = IsLeast (FailsAt cart bytes) place
+
+-- as many bytes as a state has, with its mark before them
+pub record HasForm (bytes : List ℕ) : Type 0 where
+  pub long : length bytes ≡ state_size
+  pub mark : part_of mark_part bytes ≡ mark
+
+-- the bytes are refused at this place: by their length, by their mark, or, where they are of this
+-- cartridge, by a field
+abbrev pub IsWrongAt : List ℕ → List ℕ → ℕ → Type 0
+IsWrongAt cart bytes place =
+    ((length bytes ≢ state_size) × (place ≡ min (length bytes) state_size))
+    ⊎ (((length bytes ≡ state_size) × (part_of mark_part bytes ≢ mark) × (place ≡ 0))
+    ⊎ (HasForm bytes × (part_of digest_part bytes ≡ sha256 cart) × IsFirstFault cart bytes place))
+
+-- the bytes have the form of a state, and keep another digest than the cartridge's
+pub record IsOtherCart (cart bytes kept given : List ℕ) : Type 0 where
+  pub form : HasForm bytes
+  pub kept_is : kept ≡ part_of digest_part bytes
+  pub given_is : given ≡ sha256 cart
+  pub differ : kept ≢ given
+
+-- the parts behind the digest keep this machine, with nothing made that waits to be drained
+pub record IsMachineOf (cart : List ℕ) (recording : List Frame) (bytes : List ℕ) (m : MachineValue) : Type 0 where
+  pub at : m.at ≡ at_of bytes
+  pub begun : 1 ≤ m.at
+  pub near : m.at ≤ last_cycle
+  pub main : IsMain cart bytes (record { cart = m.console.cart; state = m.console.main })
+  pub sub : IsSub cart bytes m.console.sub
+  pub shared : IsShared recording bytes m.console.shared
+  pub drawing : IsPicture bytes (drawing_in m.console)
+  pub fm_cycle : m.console.fm_cycle ≡ first_batch m.at
+  pub psg_cycle : m.console.psg_cycle ≡ first_batch m.at
+  pub fm : IsFm bytes m.console.fm
+  pub psg : IsPsg bytes m.console.psg
+  pub entries : m.entries ≡ []
+  pub media : m.media ≡ no_media

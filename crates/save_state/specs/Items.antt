@@ -1,0 +1,147 @@
+-- The items of a saved state: what its bytes keep of each, and where they fail, with the rules that
+-- an item shares with those before it. This project's profile.
+use Rattle.std.specs.Prelude.{◌≡◌, ◌≢◌, ℕ, ◌+◌, ◌<◌, ◌≤◌, ◌==◌, true, false, List, [], ◌∷◌, slice_index}
+use Rattle.std.specs.Int.{w64}
+use Rattle.md_fields.specs.Places.{number_at}
+use Rattle.md_pads.specs.Recording.{Frame}
+use Rattle.m68k_chip.specs.Sound.{Chip68Value}
+use Rattle.m68k_chip.specs.Spelling as main
+use Rattle.z80_chip.specs.Sound.{Chip80Value}
+use Rattle.z80_chip.specs.Spelling as sub
+use Rattle.vdp_chip.specs.Drawing.{Drawing}
+use Rattle.vdp_chip.specs.Spelling as drawing
+use Rattle.fm_chip.specs.Port.{Port}
+use Rattle.fm_chip.specs.PortSpelling as fm_port
+use Rattle.fm_chip.specs.Synth as fm_synths
+use Rattle.fm_chip.specs.SynthSpelling as fm
+use Rattle.psg_sound.specs.PortSpelling as psg_port
+use Rattle.psg_sound.specs.Synth as psg_synths
+use Rattle.psg_sound.specs.SynthSpelling as psg
+use Rattle.psg_sound.specs.declared.write.PsgWrite.{PsgWrite}
+use Rattle.bus_shared.specs.Board.{Board}
+use Rattle.bus_shared.specs.Spelling as shared
+use Rattle.md_machine.specs.Starts.{first_batch}
+use Rattle.save_state.specs.Joining.{FailsIn}
+use Rattle.save_state.specs.Layout.{part_of, gathered, sub_parts, shared_parts, at_part, main_part, sub_part, holder_part, drawing_part, fm_port_part, fm_next_part, fm_part, psg_next_part, psg_port_part, psg_part, board_part}
+use Rattle.save_state.specs.States.{is_holder, are_fm_early, are_psg_early}
+
+-- ---- numbers of the bytes that several items look at
+
+-- the cycle
+abbrev pub at_of : List ℕ → ℕ
+at_of bytes = number_at w64 at_part.place bytes
+
+-- the next events of the 68000 and of the Z80, with which their parts begin
+abbrev pub main_next : List ℕ → ℕ
+main_next bytes = number_at w64 main_part.place bytes
+
+abbrev pub sub_next : List ℕ → ℕ
+sub_next bytes = number_at w64 sub_part.place bytes
+
+-- the number of the Z80's stage, and how many resets it has seen
+abbrev pub stage_of : List ℕ → ℕ
+stage_of bytes = slice_index bytes (sub_part.place + 8)
+
+abbrev pub seen_resets : List ℕ → ℕ
+seen_resets bytes = number_at w64 (sub_part.place + 48) bytes
+
+-- who has the Z80's RAM
+abbrev pub holder_in : List ℕ → ℕ
+holder_in bytes = slice_index bytes holder_part.place
+
+-- where the count of resets stands, and it
+abbrev pub resets_place : ℕ
+resets_place = board_part.place + 2
+
+abbrev pub resets_of : List ℕ → ℕ
+resets_of bytes = number_at w64 resets_place bytes
+
+-- where the counts of the sound chips' writes stand
+abbrev pub fm_writes_place : ℕ
+fm_writes_place = fm_port_part.place + 26
+
+-- ---- the 68000
+
+abbrev pub main_bytes : List ℕ → List ℕ
+main_bytes bytes = part_of main_part bytes
+
+pub record IsMain (cart bytes : List ℕ) (chip : Chip68Value) : Type 0 where
+  pub image : chip.cart ≡ cart
+  pub spells : main.Spells cart (at_of bytes) (main_bytes bytes) chip.state
+
+abbrev pub MainFails : List ℕ → List ℕ → ℕ → Type 0
+MainFails cart bytes place = FailsIn (main_part ∷ []) (main.GoesWrongAt cart (at_of bytes) (main_bytes bytes)) place
+
+-- ---- the Z80, with its RAM where the holder is 0
+
+abbrev pub sub_bytes : List ℕ → List ℕ
+sub_bytes bytes = gathered (sub_parts (holder_in bytes == 0)) bytes
+
+pub record IsSub (cart bytes : List ℕ) (chip : Chip80Value) : Type 0 where
+  pub image : chip.cart ≡ cart
+  pub spells : sub.Spells cart (at_of bytes) (sub_bytes bytes) chip.state
+  pub holder : is_holder (holder_in bytes) (stage_of bytes) ≡ true
+
+pub data SubFails (cart bytes : List ℕ) (place : ℕ) : Type 0 where
+  chip_fails : FailsIn (sub_parts (holder_in bytes == 0)) (sub.GoesWrongAt cart (at_of bytes) (sub_bytes bytes)) place → SubFails cart bytes place
+  holder_fails : place ≡ holder_part.place → is_holder (holder_in bytes) (stage_of bytes) ≡ false → SubFails cart bytes place
+
+-- ---- the board, with the Z80's RAM where the holder is 1
+
+abbrev pub shared_bytes : List ℕ → List ℕ
+shared_bytes bytes = gathered (shared_parts (holder_in bytes == 1)) bytes
+
+pub record IsShared (recording : List Frame) (bytes : List ℕ) (board : Board) : Type 0 where
+  pub pads : board.recording ≡ recording
+  pub spells : shared.Spells (at_of bytes) (shared_bytes bytes) board
+  pub resets : seen_resets bytes ≤ resets_of bytes
+
+pub data SharedFails (bytes : List ℕ) (place : ℕ) : Type 0 where
+  board_fails : FailsIn (shared_parts (holder_in bytes == 1)) (shared.GoesWrongAt (at_of bytes) (shared_bytes bytes)) place → SharedFails bytes place
+  resets_fail : place ≡ resets_place → resets_of bytes < seen_resets bytes → SharedFails bytes place
+
+-- ---- the drawing half of the VDP
+
+abbrev pub drawing_bytes : List ℕ → List ℕ
+drawing_bytes bytes = part_of drawing_part bytes
+
+abbrev pub IsPicture : List ℕ → Drawing → Type 0
+IsPicture bytes d = drawing.Spells (at_of bytes) (drawing_bytes bytes) d
+
+abbrev pub DrawingFails : List ℕ → ℕ → Type 0
+DrawingFails bytes place = FailsIn (drawing_part ∷ []) (drawing.GoesWrongAt (at_of bytes) (drawing_bytes bytes)) place
+
+-- ---- the FM chip: its synthesis, its next batch, and the writes that its port holds
+
+-- the port that the bytes keep holds a write too near to the next event of its processor
+pub record HasLateFm (bytes : List ℕ) : Type 0 where
+  pub port : Port
+  pub spells : fm_port.SpellsPort (at_of bytes) (part_of fm_port_part bytes) port
+  pub late : are_fm_early (main_next bytes) (sub_next bytes) port ≡ false
+
+pub record IsFm (bytes : List ℕ) (synth : fm_synths.Synth) : Type 0 where
+  pub spells : fm.SpellsSynth (part_of fm_part bytes) synth
+  pub next : number_at w64 fm_next_part.place bytes ≡ first_batch (at_of bytes)
+  pub writes : ¬ HasLateFm bytes
+
+pub data FmFails (bytes : List ℕ) (place : ℕ) : Type 0 where
+  synth_fails : FailsIn (fm_part ∷ []) (fm.SynthGoesWrongAt (part_of fm_part bytes)) place → FmFails bytes place
+  next_fails : place ≡ fm_next_part.place → number_at w64 fm_next_part.place bytes ≢ first_batch (at_of bytes) → FmFails bytes place
+  writes_fail : place ≡ fm_writes_place → HasLateFm bytes → FmFails bytes place
+
+-- ---- the PSG alike
+
+pub record HasLatePsg (bytes : List ℕ) : Type 0 where
+  pub port : List PsgWrite
+  pub spells : psg_port.SpellsPort (at_of bytes) (part_of psg_port_part bytes) port
+  pub late : are_psg_early (main_next bytes) (sub_next bytes) port ≡ false
+
+pub record IsPsg (bytes : List ℕ) (synth : psg_synths.Synth) : Type 0 where
+  pub spells : psg.SpellsSynth (part_of psg_part bytes) synth
+  pub next : number_at w64 psg_next_part.place bytes ≡ first_batch (at_of bytes)
+  pub writes : ¬ HasLatePsg bytes
+
+pub data PsgFails (bytes : List ℕ) (place : ℕ) : Type 0 where
+  psg_synth_fails : FailsIn (psg_part ∷ []) (psg.SynthGoesWrongAt (part_of psg_part bytes)) place → PsgFails bytes place
+  psg_next_fails : place ≡ psg_next_part.place → number_at w64 psg_next_part.place bytes ≢ first_batch (at_of bytes) → PsgFails bytes place
+  psg_writes_fail : place ≡ psg_port_part.place → HasLatePsg bytes → PsgFails bytes place

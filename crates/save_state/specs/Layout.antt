@@ -1,0 +1,106 @@
+-- Where the parts of a saved state stand. This project's profile.
+use Rattle.std.specs.Prelude.{ℕ, ◌+◌, ◌-◌, ◌&&◌, Bool, nat_le, nat_lt, min, if◌then◌else◌, List, [], ◌∷◌, ◌++◌, take, drop, sum, slice_index}
+use Rattle.save_state.specs.declared.layout.Part.{Part}
+
+-- how many bytes each part has, in their order; nothing stands between them
+abbrev pub layout : List ℕ
+layout =
+    -- the mark, the digest of the cartridge, and the cycle
+    8 ∷ 32 ∷ 8 ∷
+    -- the 68000
+    65714 ∷
+    -- the Z80's numbers, who has its RAM, and RAM with the bank register
+    62 ∷ 1 ∷ 8194 ∷
+    -- the VDP, and its drawing half
+    65812 ∷ 215050 ∷
+    -- the FM chip: its port, its next batch, and its synthesis
+    12316 ∷ 8 ∷ 741 ∷
+    -- the PSG: its next batch, its port, and its synthesis
+    8 ∷ 10242 ∷ 26 ∷
+    -- the board's lines and pads
+    18 ∷ []
+
+-- how many bytes a saved state has
+abbrev pub state_size : ℕ
+state_size = sum layout
+
+-- a part by its number
+abbrev pub part : ℕ → Part
+part n = record { place = sum (take n layout); size = slice_index layout n }
+
+abbrev pub mark_part : Part
+mark_part = part 0
+
+abbrev pub digest_part : Part
+digest_part = part 1
+
+abbrev pub at_part : Part
+at_part = part 2
+
+abbrev pub main_part : Part
+main_part = part 3
+
+abbrev pub sub_part : Part
+sub_part = part 4
+
+abbrev pub holder_part : Part
+holder_part = part 5
+
+abbrev pub store_part : Part
+store_part = part 6
+
+abbrev pub video_part : Part
+video_part = part 7
+
+abbrev pub drawing_part : Part
+drawing_part = part 8
+
+abbrev pub fm_port_part : Part
+fm_port_part = part 9
+
+abbrev pub fm_next_part : Part
+fm_next_part = part 10
+
+abbrev pub fm_part : Part
+fm_part = part 11
+
+abbrev pub psg_next_part : Part
+psg_next_part = part 12
+
+abbrev pub psg_port_part : Part
+psg_port_part = part 13
+
+abbrev pub psg_part : Part
+psg_part = part 14
+
+abbrev pub board_part : Part
+board_part = part 15
+
+-- the Z80 has its RAM behind its numbers, where the bus has not
+abbrev pub sub_parts : Bool → List Part
+sub_parts has = sub_part ∷ (if has then store_part ∷ [] else [])
+
+-- what the bus keeps stands in five parts, in four where it has no RAM
+abbrev pub shared_parts : Bool → List Part
+shared_parts has =
+    (if has then store_part ∷ [] else []) ++ (video_part ∷ fm_port_part ∷ psg_port_part ∷ board_part ∷ [])
+
+-- the bytes of a part
+abbrev pub part_of : Part → List ℕ → List ℕ
+part_of p bytes = take p.size (drop p.place bytes)
+
+-- the bytes of parts, one after another
+abbrev pub gathered : List Part → List ℕ → List ℕ
+gathered [] bytes = []
+gathered (p ∷ ps) bytes = part_of p bytes ++ gathered ps bytes
+
+-- where a place of the gathered bytes stands; the end of them is the end of the last part
+abbrev pub place_of : List Part → ℕ → ℕ
+place_of [] n = 0
+place_of (p ∷ []) n = p.place + min n p.size
+place_of (p ∷ (q ∷ ps)) n = if nat_lt n p.size then p.place + n else place_of (q ∷ ps) (n - p.size)
+
+-- each part stands behind the one before it, and within the state
+abbrev pub are_ordered : ℕ → List Part → Bool
+are_ordered from [] = nat_le from state_size
+are_ordered from (p ∷ ps) = nat_le from p.place && are_ordered (p.place + p.size) ps

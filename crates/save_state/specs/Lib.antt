@@ -1,0 +1,7 @@
+pub mod Faults
+pub mod Items
+pub mod Joining
+pub mod Layout
+pub mod Pieces
+pub mod Refusals
+pub mod States

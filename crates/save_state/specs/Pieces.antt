@@ -1,0 +1,46 @@
+-- The items of a state together, and the machine that they make.
+use Rattle.std.specs.Prelude.{ℕ, List, []}
+use Rattle.md_pads.specs.Recording.{Frame}
+use Rattle.m68k_chip.specs.Sound.{Chip68Value}
+use Rattle.z80_chip.specs.Sound.{Chip80Value}
+use Rattle.vdp_chip.specs.Drawing.{Drawing}
+use Rattle.fm_chip.specs.Synth as fm_synths
+use Rattle.psg_sound.specs.Synth as psg_synths
+use Rattle.bus_shared.specs.Board.{Board}
+use Rattle.md_machine.specs.Machines.{MachineValue}
+use Rattle.md_machine.specs.Media.{no_media}
+use Rattle.md_machine.specs.Starts.{first_batch}
+use Rattle.save_state.specs.Items.{IsMain, MainFails, IsSub, SubFails, IsShared, SharedFails, IsPicture, DrawingFails, IsFm, FmFails, IsPsg, PsgFails}
+use Rattle.save_state.specs.Joining.{Both, Either}
+
+abbrev pub Pieces : Type 0
+Pieces = (Chip68Value × Chip80Value) × ((Board × Drawing) × (fm_synths.Synth × psg_synths.Synth))
+
+abbrev pub Kept : List ℕ → List Frame → List ℕ → Pieces → Type 0
+Kept cart recording bytes =
+    Both (Both (IsMain cart bytes) (IsSub cart bytes)) (Both (Both (IsShared recording bytes) (IsPicture bytes)) (Both (IsFm bytes) (IsPsg bytes)))
+
+abbrev pub Fails : List ℕ → List ℕ → ℕ → Type 0
+Fails cart bytes =
+    Either (Either (MainFails cart bytes) (SubFails cart bytes)) (Either (Either (SharedFails bytes) (DrawingFails bytes)) (Either (FmFails bytes) (PsgFails bytes)))
+
+-- the machine of pieces at a cycle
+abbrev pub built : ℕ → Pieces → MachineValue
+built at t = record {
+  at = at;
+  console = record {
+    cart = t.0.0.cart;
+    main = t.0.0.state;
+    sub = t.0.1;
+    note = t.1.0.1.note;
+    picture = t.1.0.1.picture;
+    line = t.1.0.1.next;
+    fm_cycle = first_batch at;
+    psg_cycle = first_batch at;
+    fm = t.1.1.0;
+    psg = t.1.1.1;
+    shared = t.1.0.0;
+  };
+  entries = [];
+  media = no_media;
+}

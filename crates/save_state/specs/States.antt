@@ -1,0 +1,115 @@
+-- A saved state: the bytes of a machine at a cycle. The parts are the chips' own; this project's profile.
+use Rattle.std.specs.Prelude.{◌≡◌, ℕ, ◌≤◌, ◌==◌, ◌||◌, Bool, true, is_some, nat_le, if◌then◌else◌, codes, List, [], ◌∷◌, Option, None}
+use Rattle.std.specs.List.{list_all}
+use Rattle.sha2.specs.Sha256.{sha256}
+use Rattle.md_fields.specs.Fields.{Field, byte, quad, block, spelling}
+use Rattle.stamped_writes.specs.Keys.{is_before_next}
+use Rattle.m68k_chip.specs.Spelling as main
+use Rattle.z80_chip.specs.Saved.{stage_number}
+use Rattle.z80_chip.specs.Spelling as sub
+use Rattle.z80_chip.specs.States.{State80}
+use Rattle.z80_parcel.specs.Parcels.{Store}
+use Rattle.vdp_ports.specs.Spelling.{vdp_bytes}
+use Rattle.vdp_chip.specs.Spelling as drawing
+use Rattle.fm_chip.specs.Port.{Port}
+use Rattle.fm_chip.specs.PortSpelling as fm_port
+use Rattle.fm_chip.specs.SynthSpelling as fm
+use Rattle.psg_sound.specs.PortSpelling as psg_port
+use Rattle.psg_sound.specs.SynthSpelling as psg
+use Rattle.psg_sound.specs.declared.write.PsgWrite.{PsgWrite}
+use Rattle.bus_shared.specs.Saved.{lines_of}
+use Rattle.bus_shared.specs.Spelling.{settled_board}
+use Rattle.bus_shared.specs.Spelling as shared
+use Rattle.md_machine.specs.Console.{Console, drawing_in}
+use Rattle.md_machine.specs.Owners.{HasOneOwner}
+use Rattle.md_machine.specs.Starts.{Start, first_batch}
+
+-- what a state begins with
+abbrev pub mark : List ℕ
+mark = codes "MDSTATE1"
+
+-- the last cycle of a state, 2^39
+abbrev pub last_cycle : ℕ
+last_cycle = 549755813888
+
+-- who has the Z80's RAM and bank register: 0 the Z80, 1 the bus; and what they are
+abbrev pub holder_of : Console → ℕ
+holder_of m = if is_some m.shared.store then 1 else 0
+
+abbrev pub store_of : Console → Option Store
+store_of m = if is_some m.shared.store then m.shared.store else m.sub.state.store
+
+-- the bytes of the Z80's numbers
+abbrev pub number_bytes : State80 → List ℕ
+number_bytes state = sub.chip_bytes (record state { store = None })
+
+-- a whole state as a table, with the digest of the cartridge; batches come at their next multiples
+abbrev pub state_fields : List ℕ → ℕ → Console → List Field
+state_fields digest at m =
+    block 8 mark true
+    ∷ block 32 digest true
+    ∷ quad at true
+    ∷ block 65714 (main.chip_bytes m.main) true
+    ∷ block 62 (number_bytes m.sub.state) true
+    ∷ byte (holder_of m) true
+    ∷ block 8194 (shared.store_bytes (store_of m)) true
+    ∷ block 65812 (vdp_bytes m.shared.vdp) true
+    ∷ block 215050 (drawing.drawing_bytes (drawing_in m)) true
+    ∷ block 12316 (fm_port.port_bytes m.shared.fm) true
+    ∷ quad (first_batch at) true
+    ∷ block 741 (fm.synth_bytes m.fm) true
+    ∷ quad (first_batch at) true
+    ∷ block 10242 (psg_port.port_bytes m.shared.held) true
+    ∷ block 26 (psg.synth_bytes m.psg) true
+    ∷ block 18 (shared.lines_bytes (lines_of m.shared)) true
+    ∷ []
+
+-- the bytes that keep a machine as it stands, with the SHA-256 of its cartridge's image
+abbrev pub kept_bytes : ℕ → Console → List ℕ
+kept_bytes at m = spelling (state_fields (sha256 m.cart) at m)
+
+-- the bytes of a machine at a cycle: fill, copy and timers are settled below it
+abbrev pub state_bytes : ℕ → Console → List ℕ
+state_bytes at m = kept_bytes at (record m { shared = settled_board at m.shared })
+
+-- at an access and a yield the Z80 has its RAM, and the bus at a take, by the number of the stage
+abbrev pub is_holder : ℕ → ℕ → Bool
+is_holder holder stage =
+    if (stage == 1) || (stage == 2) then holder == 0
+    else (if stage == 3 then holder == 1 else nat_le holder 1)
+
+-- each write that a sound chip's port holds stands the gap of its processor before the next event of
+-- that processor, at least
+abbrev pub are_fm_early : ℕ → ℕ → Port → Bool
+are_fm_early main sub port = list_all (λ w. is_before_next main sub w.key) port.writes
+
+abbrev pub are_psg_early : ℕ → ℕ → List PsgWrite → Bool
+are_psg_early main sub held = list_all (λ w. is_before_next main sub w.key) held
+
+-- what holds of each machine that a saved state of this cartridge keeps: the parts' own rules, and the
+-- rules that speak of several parts
+pub record IsSaved (cart : List ℕ) (start : Start) : Type 0 where
+  pub begun : 1 ≤ start.at
+  pub near : start.at ≤ last_cycle
+  pub image : start.console.cart ≡ cart
+  pub sub_image : start.console.sub.cart ≡ cart
+  pub one_owner : HasOneOwner start.console
+  pub holder : is_holder (holder_of start.console) (stage_number start.console.sub.state.stage) ≡ true
+  pub main : main.Spells cart start.at (main.chip_bytes start.console.main) start.console.main
+  pub sub : sub.Spells cart start.at (sub.chip_bytes start.console.sub.state) start.console.sub.state
+  pub shared : shared.Spells start.at (shared.board_bytes start.console.shared) start.console.shared
+  pub drawing : drawing.Spells start.at (drawing.drawing_bytes (drawing_in start.console)) (drawing_in start.console)
+  -- batches come at their next multiples
+  pub fm_cycle : start.console.fm_cycle ≡ first_batch start.at
+  pub psg_cycle : start.console.psg_cycle ≡ first_batch start.at
+  pub fm : fm.SpellsSynth (fm.synth_bytes start.console.fm) start.console.fm
+  pub psg : psg.SpellsSynth (psg.synth_bytes start.console.psg) start.console.psg
+  -- the Z80 has seen no more resets than there were
+  pub resets : start.console.sub.state.resets ≤ start.console.shared.resets
+  pub fm_writes : are_fm_early start.console.main.next start.console.sub.state.next start.console.shared.fm ≡ true
+  pub psg_writes : are_psg_early start.console.main.next start.console.sub.state.next start.console.shared.held ≡ true
+
+-- the bytes are a saved state of this cartridge and keep this machine
+pub record IsState (cart : List ℕ) (bytes : List ℕ) (start : Start) : Type 0 where
+  pub saved : IsSaved cart start
+  pub all : bytes ≡ kept_bytes start.at start.console

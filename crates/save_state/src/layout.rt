@@ -1,0 +1,177 @@
+ghost use Rattle.std.specs.Prelude.{◌≡◌, ◌≤◌, ◌+◌, true, length, IfOk};
+ghost use Rattle.save_state.specs.Layout as layout;
+ghost use Rattle.save_state.specs.Layout.{are_ordered, state_size};
+
+use md_word::NoMemory;
+use std::alloc::Global;
+
+/// So many bytes of a saved state from a place on.
+#[derive(Clone, Copy)]
+pub struct Part {
+    pub place: usize,
+    pub size: usize,
+}
+
+/// The text with which a state begins.
+pub const TEXT: [u8; 8] = *b"MDSTATE1";
+
+/// Where it stands.
+pub const MARK: Part = Part { place: 0, size: 8 };
+
+/// The SHA-256 of the cartridge's image.
+pub const DIGEST: Part = Part { place: 8, size: 32 };
+
+/// The cycle.
+pub const AT: Part = Part { place: 40, size: 8 };
+
+/// The 68000.
+pub const MAIN: Part = Part {
+    place: 48,
+    size: 65_714,
+};
+
+/// The Z80's numbers.
+pub const SUB: Part = Part {
+    place: 65_762,
+    size: 62,
+};
+
+/// Who has the Z80's RAM: 0 the Z80, 1 the bus.
+pub const HOLDER: Part = Part {
+    place: 65_824,
+    size: 1,
+};
+
+/// RAM and bank register.
+pub const STORE: Part = Part {
+    place: 65_825,
+    size: 8_194,
+};
+
+/// The VDP.
+pub const VIDEO: Part = Part {
+    place: 74_019,
+    size: 65_812,
+};
+
+/// Its drawing half.
+pub const DRAWING: Part = Part {
+    place: 139_831,
+    size: 215_050,
+};
+
+/// The FM chip's port.
+pub const FM_PORT: Part = Part {
+    place: 354_881,
+    size: 12_316,
+};
+
+/// The FM chip's next batch.
+pub const FM_NEXT: Part = Part {
+    place: 367_197,
+    size: 8,
+};
+
+/// The FM synthesis.
+pub const FM: Part = Part {
+    place: 367_205,
+    size: 741,
+};
+
+/// The PSG's next batch.
+pub const PSG_NEXT: Part = Part {
+    place: 367_946,
+    size: 8,
+};
+
+/// The PSG's port.
+pub const PSG_PORT: Part = Part {
+    place: 367_954,
+    size: 10_242,
+};
+
+/// The PSG's synthesis.
+pub const PSG: Part = Part {
+    place: 378_196,
+    size: 26,
+};
+
+/// The board's lines and pads.
+pub const BOARD: Part = Part {
+    place: 378_222,
+    size: 18,
+};
+
+/// How many bytes a saved state has.
+pub const LENGTH: usize = 378_240;
+
+static SUB_WITH_STORE: [Part; 2] = [SUB, STORE];
+
+static SUB_ALONE: [Part; 1] = [SUB];
+
+static SHARED_WITH_STORE: [Part; 5] = [STORE, VIDEO, FM_PORT, PSG_PORT, BOARD];
+
+static SHARED_ALONE: [Part; 4] = [VIDEO, FM_PORT, PSG_PORT, BOARD];
+
+/// The parts of what the Z80 keeps, by whether it has its RAM.
+pub fn sub_parts(has: bool) -> &'static [Part]
+    ensures parts { result.now ≡ layout.sub_parts has }
+    ensures ordered { are_ordered 0 result.now ≡ true }
+{
+    if has { &SUB_WITH_STORE } else { &SUB_ALONE }
+}
+
+/// The parts of what the bus keeps, by whether it has the Z80's RAM.
+pub fn shared_parts(has: bool) -> &'static [Part]
+    ensures parts { result.now ≡ layout.shared_parts has }
+    ensures ordered { are_ordered 0 result.now ≡ true }
+{
+    if has {
+        &SHARED_WITH_STORE
+    } else {
+        &SHARED_ALONE
+    }
+}
+
+impl Part {
+    /// The bytes of the part.
+    pub fn of<'a>(&self, bytes: &'a [u8]) -> &'a [u8]
+        requires { self.now.place + self.now.size ≤ length bytes.now }
+        ensures { result.now ≡ layout.part_of self.now bytes.now }
+    {
+        &bytes[self.place..self.place + self.size]
+    }
+}
+
+/// The bytes of parts, one after another.
+pub fn gathered(alloc: Global, bytes: &[u8], parts: &[Part]) -> Result<Vec<u8>, NoMemory>
+    requires whole { length bytes.now ≡ state_size }
+    requires ordered { are_ordered 0 parts.now ≡ true }
+    ensures { IfOk result (λ all. all.items ≡ layout.gathered parts.now bytes.now) }
+{
+    let mut all = Vec::new(alloc);
+    let mut rest = parts;
+    while let [part, after @ ..] = rest {
+        all.extend_from_slice(part.of(bytes))?;
+        rest = after;
+    }
+    Ok(all)
+}
+
+/// Where a place of the bytes of parts stands in the state.
+pub fn place_of(parts: &[Part], place: u64) -> u64
+    requires { are_ordered 0 parts.now ≡ true }
+    ensures { result ≡ layout.place_of parts.now place }
+{
+    let mut left = place;
+    let mut rest = parts;
+    while let [part, after @ ..] = rest {
+        let size = part.size as u64;
+        if after.is_empty() || left < size {
+            return part.place as u64 + left.min(size);
+        }
+        left -= size;
+        rest = after;
+    }
+    0
+}

@@ -1,0 +1,13 @@
+//! Saved states: the bytes of a machine at a cycle, and the machine that such bytes keep.
+#![tactic(auto)]
+
+mod fault;
+mod items;
+mod joining;
+mod layout;
+mod reading;
+mod writing;
+
+pub use fault::StateFault;
+pub use reading::read;
+pub use writing::write;

@@ -1,0 +1,185 @@
+ghost use Rattle.std.specs.Prelude.{◌≡◌, ◌≢◌, ◌↔◌, ◌≤◌, true, ℕ, List, [], length, IfOk, IsTrue, IsErrOf, Ok, Err};
+ghost use Rattle.std.specs.Arc.{arc_value};
+ghost use Rattle.sha2.specs.Sha256.{sha256};
+ghost use Rattle.md_machine.specs.Media.{no_media};
+ghost use Rattle.md_machine.specs.Starts.{Start, IsStart};
+ghost use Rattle.save_state.specs.Faults.{FailsAt, IsMachineOf, IsOtherCart, IsWrongAt};
+ghost use Rattle.save_state.specs.Items.{at_of, IsMain, MainFails, IsSub, SubFails, IsShared, SharedFails, IsPicture, DrawingFails, IsFm, FmFails, IsPsg, PsgFails};
+ghost use Rattle.m68k_chip.specs.States.{next_of};
+ghost use Rattle.z80_chip.specs.States.{next_of as sub_next_of};
+ghost use Rattle.save_state.specs.Joining.{Reads};
+ghost use Rattle.save_state.specs.Pieces.{Kept, Fails, built};
+ghost use Rattle.save_state.specs.Layout.{digest_part, mark_part, part_of, state_size};
+ghost use Rattle.save_state.specs.States as states;
+ghost use Rattle.save_state.specs.States.{IsState, last_cycle};
+
+use crate::fault::StateFault;
+use crate::items::{read_drawing, read_fm, read_main, read_psg, read_shared, read_sub};
+use crate::joining::both;
+use crate::layout::{AT, DIGEST, LENGTH, MARK, TEXT};
+use bus_shared::Shared;
+use fm_chip::FmSynth;
+use m68k_chip::Chip68;
+use md_fields::u64_at;
+use md_machine::Machine;
+use md_pads::Recording;
+use md_word::{NoMemory, Unspell};
+use psg_sound::PsgSynth;
+use rom_header::Cart;
+use sha2::{Digest, Sha256};
+use std::alloc::Global;
+use std::sync::Arc;
+use vdp_chip::ChipVdp;
+use z80_chip::Chip80;
+
+/// The last cycle of a state.
+const LAST_CYCLE: u64 = 549_755_813_888;
+
+/// The machine that the bytes of a saved state of this cartridge keep, with a recording of the pads.
+pub fn read(
+    alloc: Global,
+    bytes: &[u8],
+    cart: Arc<Cart>,
+    recording: Arc<Recording>,
+) -> Result<Machine, StateFault>
+    ensures found { IfOk result (λ m. IsState (arc_value cart) bytes.now (record { at = m.at; console = m.console }) × (m.console.shared.recording ≡ arc_value recording)) }
+    ensures start { IfOk result (λ m. IsStart (record { at = m.at; console = m.console })) }
+    ensures empty { IfOk result (λ m. (m.entries ≡ []) × (m.media ≡ no_media)) }
+    ensures only { (start : Start) → IsState (arc_value cart) bytes.now start → start.console.shared.recording ≡ arc_value recording → result ≢ Err StateFault.NoMemory
+        → result ≡ Ok (record { at = start.at; console = start.console; entries = []; media = no_media }) }
+    ensures form { (place : ℕ) → IsErrOf result (StateFault.Form place) → IsWrongAt (arc_value cart) bytes.now place }
+    ensures wrong { (place : ℕ) → IsWrongAt (arc_value cart) bytes.now place → result ≢ Err StateFault.NoMemory → IsErrOf result (StateFault.Form place) }
+    ensures other { (kept given : List ℕ) → IsErrOf result (StateFault.OtherCart kept given) ↔ IsOtherCart (arc_value cart) bytes.now kept given }
+{
+    let digest = Sha256::digest(cart.bytes());
+    read_with(alloc, bytes, &digest, cart, recording)
+}
+
+/// The same by the digest of the cartridge's image.
+fn read_with(
+    alloc: Global,
+    bytes: &[u8],
+    digest: &[u8; 32],
+    cart: Arc<Cart>,
+    recording: Arc<Recording>,
+) -> Result<Machine, StateFault>
+    requires { digest.now ≡ sha256 (arc_value cart) }
+    ensures found { IfOk result (λ m. IsState (arc_value cart) bytes.now (record { at = m.at; console = m.console }) × (m.console.shared.recording ≡ arc_value recording)) }
+    ensures start { IfOk result (λ m. IsStart (record { at = m.at; console = m.console })) }
+    ensures empty { IfOk result (λ m. (m.entries ≡ []) × (m.media ≡ no_media)) }
+    ensures only { (start : Start) → IsState (arc_value cart) bytes.now start → start.console.shared.recording ≡ arc_value recording → result ≢ Err StateFault.NoMemory
+        → result ≡ Ok (record { at = start.at; console = start.console; entries = []; media = no_media }) }
+    ensures form { (place : ℕ) → IsErrOf result (StateFault.Form place) → IsWrongAt (arc_value cart) bytes.now place }
+    ensures wrong { (place : ℕ) → IsWrongAt (arc_value cart) bytes.now place → result ≢ Err StateFault.NoMemory → IsErrOf result (StateFault.Form place) }
+    ensures other { (kept given : List ℕ) → IsErrOf result (StateFault.OtherCart kept given) ↔ IsOtherCart (arc_value cart) bytes.now kept given }
+{
+    if bytes.len() != LENGTH {
+        return Err(StateFault::Form {
+            place: bytes.len().min(LENGTH) as u64,
+        });
+    }
+    if !has_mark(bytes) {
+        return Err(StateFault::Form { place: 0 });
+    }
+    let kept = digest_at(bytes);
+    if !is_same(&kept, digest) {
+        return Err(StateFault::OtherCart {
+            kept,
+            given: *digest,
+        });
+    }
+    match read_machine(alloc, bytes, cart, recording) {
+        Ok(machine) => Ok(machine),
+        Err(fault) => Err(StateFault::from(fault)),
+    }
+}
+
+/// The machine of the parts behind the digest, or the least place at which a field breaks its rule.
+fn read_machine(
+    alloc: Global,
+    bytes: &[u8],
+    cart: Arc<Cart>,
+    recording: Arc<Recording>,
+) -> Result<Machine, Unspell>
+    requires { length bytes.now ≡ state_size }
+    ensures { Reads (IsMachineOf (arc_value cart) (arc_value recording) bytes.now) (FailsAt (arc_value cart) bytes.now) result }
+{
+    let at = u64_at(bytes, AT.place);
+    if at < 1 || at > LAST_CYCLE {
+        return Err(Unspell::Rule {
+            place: AT.place as u64,
+        });
+    }
+    match read_pieces(alloc, bytes, at, cart, recording) {
+        Ok(pieces) => Ok(machine_of(alloc, at, pieces)?),
+        Err(fault) => Err(fault),
+    }
+}
+
+/// The items of a state: the processors, the board with the drawing half of the VDP, and the sound chips.
+type Pieces = ((Chip68, Chip80), ((Shared, ChipVdp), (FmSynth, PsgSynth)));
+
+/// The items, or the least place at which one of them fails.
+fn read_pieces(
+    alloc: Global,
+    bytes: &[u8],
+    at: u64,
+    cart: Arc<Cart>,
+    recording: Arc<Recording>,
+) -> Result<Pieces, Unspell>
+    requires whole { length bytes.now ≡ state_size }
+    requires cycle { at ≡ at_of bytes.now }
+    requires begun { 1 ≤ at }
+    requires near { at ≤ last_cycle }
+    ensures { Reads (Kept (arc_value cart) (arc_value recording) bytes.now) (Fails (arc_value cart) bytes.now) result }
+{
+    let window = cart.clone()?;
+    let processors = both(
+        read_main(alloc, bytes, at, cart),
+        read_sub(alloc, bytes, at, window),
+    );
+    let board = both(
+        read_shared(alloc, bytes, at, recording),
+        read_drawing(alloc, bytes, at),
+    );
+    let sound = both(read_fm(alloc, bytes, at), read_psg(alloc, bytes, at));
+    let chips = both(board, sound);
+    both(processors, chips)
+}
+
+/// The machine of the items at a cycle.
+fn machine_of(alloc: Global, at: u64, pieces: Pieces) -> Result<Machine, NoMemory>
+    requires main { at ≤ (next_of pieces.0.0.state).key.cycle }
+    requires sub { at ≤ (sub_next_of pieces.0.1.state).key.cycle }
+    requires line { at ≤ pieces.1.0.1.next }
+    requires view { pieces.1.0.1.has_view ≡ true }
+    requires near { at ≤ last_cycle }
+    ensures { IfOk result (λ m. m ≡ built at pieces) }
+{
+    let ((main, sub), ((shared, draw), (fm, psg))) = pieces;
+    Machine::from_parts(alloc, at, shared, main, sub, draw, fm, psg)
+}
+
+/// Whether the bytes begin with the mark of a state.
+fn has_mark(bytes: &[u8]) -> bool
+    requires { length bytes.now ≡ state_size }
+    ensures { IsTrue result ↔ (part_of mark_part bytes.now ≡ states.mark) }
+{
+    MARK.of(bytes) == TEXT.as_slice()
+}
+
+fn is_same(kept: &[u8; 32], given: &[u8; 32]) -> bool
+    ensures { IsTrue result ↔ (kept.now ≡ given.now) }
+{
+    kept == given
+}
+
+/// The digest that the bytes keep.
+fn digest_at(bytes: &[u8]) -> [u8; 32]
+    requires { length bytes.now ≡ state_size }
+    ensures { result ≡ part_of digest_part bytes.now }
+{
+    let mut digest = [0; 32];
+    digest.copy_from_slice(DIGEST.of(bytes));
+    digest
+}
