@@ -68,19 +68,23 @@ fn writes_the_rest(
     let whole = "run Z --cycles 896040 --frames H --sound W --journal J";
     let lines = "cycles 0 to 896040\nframes 1\nsamples 880\naccesses 372\n";
     let run = comes_to(alloc, &mut depot, whole, 0, lines)?;
-    Ok(cut
-        && kept
-        && resumed
-        && run
-        && is_joined(&depot, "H", ("F", "G"), 0)
-        && is_joined(&depot, "W", ("A", "C"), 44)
-        && is_joined(&depot, "J", ("B", "D"), 0))
+    Ok(
+        cut && kept
+            && resumed
+            && run
+            && is_joined(&depot, "H", ("F", "G"), 0)
+            && is_joined(&depot, "W", ("A", "C"), 44)
+            && is_joined(&depot, "J", ("B", "D"), 0),
+    )
 }
 
 #[test]
 fn a_loaded_run_writes_the_rest(rt: HostRuntime) -> Result<(), Fail> {
     for (first, lines, second, rest) in CUTS {
-        assert!(rt; writes_the_rest(rt.alloc(), first, lines, second, rest)?, "{first}");
+        assert!(rt;
+            writes_the_rest(rt.alloc(), first, lines, second, rest)?,
+            "{first}"
+        );
     }
     Ok(())
 }
