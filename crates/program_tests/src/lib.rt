@@ -14,6 +14,8 @@ mod refusals;
 #[cfg(test)]
 mod runs;
 #[cfg(test)]
+mod states;
+#[cfg(test)]
 mod words;
 #[cfg(test)]
 mod workers;
