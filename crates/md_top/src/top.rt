@@ -17,12 +17,13 @@ use std::thread::Threads;
 /// with.
 ///
 /// The words are those behind the program's name. `info ROM` puts the lines of the header of the
-/// cartridge ROM. `run ROM --cycles N`, with `--in P`, `--frames F`, `--sound W` and `--journal J`
-/// where they are wanted, runs the cartridge ROM from power-on for N master cycles, 1 to
-/// 549,755,813,888, with what the recording P presses on the pads, and writes its finished frames
-/// into F, its sound into W and the journal of its accesses into J. Files are fetched from the depot
-/// and written to it, a segment of at most 896,040 cycles after the other; the lines are put into
-/// `out`. It waits for nobody: whatever `--workers` asks for, one worker makes the run.
+/// cartridge ROM. `run ROM --cycles N`, with `--in P`, `--load S`, `--save T`, `--frames F`,
+/// `--sound W` and `--journal J` where they are wanted, runs the cartridge ROM up to the master cycle
+/// N, 1 to 549,755,813,888, with what the recording P presses on the pads: from power-on, or from the
+/// machine that the saved state S keeps. It writes its finished frames into F, its sound into W, the
+/// journal of its accesses into J and its state at N into T. Files are fetched from the depot and
+/// written to it, a segment of at most 896,040 cycles after the other; the lines are put into `out`.
+/// It waits for nobody: whatever `--workers` asks for, one worker makes the run.
 pub fn drive_one<D: Depot, S: Sink>(
     alloc: Global,
     words: &Vec<String>,

@@ -176,7 +176,7 @@ const FAULTS: [Fault; 14] = [
         (Some(108), Some(0)),
     ),
     (RUN, Fails::Write(5), 0, LINES, (Some(108), Some(112))),
-    (RUN, Fails::Put(12), 0, LINES, (Some(108), Some(112))),
+    (RUN, Fails::Put(14), 0, LINES, (Some(108), Some(112))),
     ("info Z", Fails::Put(0), 13, "", (None, None)),
     ("info Y", Fails::Put(0), 3, "", (None, None)),
 ];
@@ -196,10 +196,10 @@ fn each_failing_read_and_write(rt: HostRuntime) -> Result<(), Fail> {
     Ok(())
 }
 
-// The four lines of a run are put in twelve pieces, of which those before the failing one were put.
+// The four lines of a run are put in fourteen pieces, of which those before the failing one were put.
 #[test]
 fn each_failing_piece_of_the_lines(rt: HostRuntime) -> Result<(), Fail> {
-    for number in 0..12 {
+    for number in 0..14 {
         let fault = (RUN, Fails::Put(number), 13, LINES, (Some(108), Some(112)));
         assert!(rt; is_faulty(rt.alloc(), &fault)?, "piece {number}");
     }
