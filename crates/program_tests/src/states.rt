@@ -27,11 +27,12 @@ fn behind<'a>(depot: &'a MemDepot, name: &str, head: usize) -> &'a [u8] {
     }
 }
 
-/// Whether the bytes of a file behind its head are those of two others behind theirs.
-fn is_joined(depot: &MemDepot, whole: &str, parts: (&str, &str), head: usize) -> bool {
-    let whole = behind(depot, whole, head);
-    let first = behind(depot, parts.0, head);
-    let second = behind(depot, parts.1, head);
+/// Whether the bytes of a file of a whole run behind its head are those of two files of a run that is cut
+/// behind theirs.
+fn is_joined(whole: &MemDepot, cut: &MemDepot, names: (&str, &str, &str), head: usize) -> bool {
+    let whole = behind(whole, names.0, head);
+    let first = behind(cut, names.1, head);
+    let second = behind(cut, names.2, head);
     whole.len() == first.len().wrapping_add(second.len())
         && whole.starts_with(first)
         && whole.ends_with(second)
@@ -67,16 +68,17 @@ fn writes_the_rest(
     let cut = status == 0 && out.bytes() == lines.as_bytes();
     let kept = depot.file("S").map(|bytes| bytes.len()) == Some(378_240);
     let resumed = comes_to(alloc, &mut depot, second, 0, rest)?;
-    let whole = "run Z --cycles 896040 --frames H --sound W --journal J";
+    let words = "run Z --cycles 896040 --frames H --sound W --journal J";
     let lines = "cycles 0 to 896040\nframes 1\nsamples 880\naccesses 373\n";
-    let run = comes_to(alloc, &mut depot, whole, 0, lines)?;
+    let (status, whole, out) = answer(alloc, words, &BEEP, b"", Fails::Nothing)?;
     Ok(
         cut && kept
             && resumed
-            && run
-            && is_joined(&depot, "H", ("F", "G"), 0)
-            && is_joined(&depot, "W", ("A", "C"), 44)
-            && is_joined(&depot, "J", ("B", "D"), 0),
+            && status == 0
+            && out.bytes() == lines.as_bytes()
+            && is_joined(&whole, &depot, ("H", "F", "G"), 0)
+            && is_joined(&whole, &depot, ("W", "A", "C"), 44)
+            && is_joined(&whole, &depot, ("J", "B", "D"), 0),
     )
 }
 
