@@ -24,7 +24,7 @@ fn recording(alloc: Global) -> Result<Arc<Recording>, Fail> {
 /// So many bytes of 0 but for the reset, which is held at power-on.
 fn bytes(alloc: Global, length: usize) -> Result<Vec<u8>, Fail> {
     let mut bytes = vec![in alloc; 0; length]?;
-    put(&mut bytes, (length - 17, 1));
+    put(&mut bytes, (length.saturating_sub(17), 1));
     Ok(bytes)
 }
 
