@@ -22,6 +22,23 @@ pub fn cartridge(alloc: Global, byte: u8) -> Result<Arc<Cart>, Fail> {
     Ok(Arc::new(alloc, cart)?)
 }
 
+/// A cartridge of 1,024 bytes whose program at 200h asks for the Z80's bus, and then writes 16 registers
+/// by MOVEM.L, from an address on.
+pub fn storing(alloc: Global, address: u32) -> Result<Arc<Cart>, Fail> {
+    let mut image = [0; 1_024];
+    image[..4].copy_from_slice(&[0, 0xff, 0xf0, 0]);
+    image[4..8].copy_from_slice(&[0, 0, 2, 0]);
+    image[0x100..0x104].copy_from_slice(b"SEGA");
+    // lea $a11100.l,a0; move.w #$0100,(a0); lea ADDRESS.l,a1; movem.l d0-d7/a0-a7,(a1); bra.b itself
+    image[0x200..0x206].copy_from_slice(&[0x41, 0xf9, 0, 0xa1, 0x11, 0]);
+    image[0x206..0x20a].copy_from_slice(&[0x30, 0xbc, 1, 0]);
+    image[0x20a..0x20c].copy_from_slice(&[0x43, 0xf9]);
+    image[0x20c..0x210].copy_from_slice(&address.to_be_bytes());
+    image[0x210..0x216].copy_from_slice(&[0x48, 0xd1, 0xff, 0xff, 0x60, 0xfe]);
+    let cart = Cart::accept(alloc, image.to_vec(alloc)?)?;
+    Ok(Arc::new(alloc, cart)?)
+}
+
 fn no_recording(alloc: Global) -> Result<Arc<Recording>, Fail> {
     Ok(Arc::new(alloc, Recording::empty(alloc))?)
 }
@@ -44,22 +61,24 @@ pub fn drained(alloc: Global, machine: &mut Machine) -> Result<Vec<u8>, Fail>
     Ok(entries)
 }
 
-/// The machine at cycle 1, with nothing left to be drained.
-pub fn at_1(alloc: Global, cart: Arc<Cart>) -> Result<Machine, Fail>
-    ensures at { IfOk result (λ machine. machine.at ≡ 1) }
+/// The machine at a cycle of its first frame, with nothing left to be drained.
+pub fn at(alloc: Global, cart: Arc<Cart>, cycle: u64) -> Result<Machine, Fail>
+    requires some { 1 ≤ cycle }
+    requires early { cycle ≤ 896040 }
+    ensures at { IfOk result (λ machine. machine.at ≡ cycle) }
     ensures entries { IfOk result (λ machine. machine.entries ≡ []) }
     ensures media { IfOk result (λ machine. machine.media ≡ no_media) }
 {
     let recording = no_recording(alloc)?;
     let mut machine = Machine::power_on(alloc, cart, recording).map_err(|_| Fail::from("memory"))?;
-    machine.alone(1);
+    machine.alone(cycle);
     drained(alloc, &mut machine)?;
     Ok(machine)
 }
 
 /// The bytes of the machine at cycle 1.
 pub fn state_at_1(alloc: Global, cart: Arc<Cart>) -> Result<Vec<u8>, Fail> {
-    let machine = at_1(alloc, cart)?;
+    let machine = at(alloc, cart, 1)?;
     Ok(write(alloc, &machine)?)
 }
 
