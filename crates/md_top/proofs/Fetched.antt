@@ -16,7 +16,7 @@ verdict_of bytes (Ok recording) found form memory = (Recorded recording, found)
 verdict_of bytes (Err (Form place)) found form memory = (WrongAt place, (form place).0 refl)
 verdict_of bytes (Err fault.NoMemory) found form memory = (Recorded (memory refl).0, (memory refl).1)
 
-held : (P : List ℕ → Type 0) (file : Option (List ℕ)) (bytes : List ℕ) → file ≡ Some bytes → P bytes → IsSomeAnd file P
+pub held : (P : List ℕ → Type 0) (file : Option (List ℕ)) (bytes : List ℕ) → file ≡ Some bytes → P bytes → IsSomeAnd file P
 held P file bytes is p = subst (λ (found : Option (List ℕ)). IsSomeAnd found P) (sym is) p
 
 -- where they go wrong, and the depot tells them, the recording has its cause

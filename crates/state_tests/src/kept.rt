@@ -1,5 +1,5 @@
 // A state is written, read back, and goes on as the machine that was kept.
-ghost use Rattle.std.specs.Prelude.{◌≡◌, ◌<◌, [], IfOk};
+ghost use Rattle.std.specs.Prelude.{◌≡◌, ◌≤◌, ◌<◌, []};
 ghost use Rattle.md_machine.specs.Media.{no_media};
 
 use crate::machines::{at, cartridge, drained, read_with, storing};
@@ -36,14 +36,15 @@ fn kept(alloc: Global, cart: Arc<Cart>, cycle: u64, count: usize) -> Result<Opti
         Ok(machine) => machine,
         Err(_) => return Ok(None),
     };
-    let same = write(alloc, &again)?.as_slice() == bytes.as_slice();
-    if !same || again.at() != cycle || bytes.len() != LENGTH || again.at() >= 896_040 {
+    if again.at() != cycle {
         return Ok(None);
     }
+    let same = write(alloc, &again)?.as_slice() == bytes.as_slice();
     let (state, entries) = gone_on(alloc, &mut machine)?;
     let (other, others) = gone_on(alloc, &mut again)?;
     let goes_on = other.as_slice() == state.as_slice() && others.as_slice() == entries.as_slice();
-    Ok((goes_on && entries.len() == 16 * count).then_some(bytes))
+    let counted = bytes.len() == LENGTH && entries.len() / 16 == count;
+    Ok((same && goes_on && counted).then_some(bytes))
 }
 
 // From cycle 1 on there are the 261 other lines of a frame, and 55 batches of either sound chip.
@@ -60,8 +61,8 @@ fn a_state_is_read_back_and_goes_on(rt: HostRuntime) -> Result<(), Fail> {
 // next access comes at 364; 29 and 13 are left.
 #[test]
 fn an_instruction_goes_on_between_two_accesses(rt: HostRuntime) -> Result<(), Fail> {
-    for (address, left) in [(0xa0_0000, 29), (0xc0_0000, 13)] {
-        let cart = storing(rt.alloc(), address)?;
+    for (high, left) in [(0xa0, 29), (0xc0, 13)] {
+        let cart = storing(rt.alloc(), high)?;
         let bytes = match kept(rt.alloc(), cart, 352, 371 + left)? {
             Some(bytes) => bytes,
             None => return Err(Fail::from("another run")),

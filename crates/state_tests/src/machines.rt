@@ -22,19 +22,20 @@ pub fn cartridge(alloc: Global, byte: u8) -> Result<Arc<Cart>, Fail> {
     Ok(Arc::new(alloc, cart)?)
 }
 
+/// lea $a11100.l,a0; move.w #$0100,(a0); lea $000000.l,a1; movem.l d0-d7/a0-a7,(a1); bra.b itself
+const STORING: [u8; 22] = [
+    0x41, 0xf9, 0x00, 0xa1, 0x11, 0x00, 0x30, 0xbc, 0x01, 0x00, 0x43, 0xf9, 0x00, 0x00, 0x00, 0x00,
+    0x48, 0xd1, 0xff, 0xff, 0x60, 0xfe,
+];
+
 /// A cartridge of 1,024 bytes whose program at 200h asks for the Z80's bus, and then writes 16 registers
-/// by MOVEM.L, from an address on.
-pub fn storing(alloc: Global, address: u32) -> Result<Arc<Cart>, Fail> {
+/// by MOVEM.L, from the address on whose highest of three bytes this is.
+pub fn storing(alloc: Global, high: u8) -> Result<Arc<Cart>, Fail> {
     let mut image = [0; 1_024];
-    image[..4].copy_from_slice(&[0, 0xff, 0xf0, 0]);
-    image[4..8].copy_from_slice(&[0, 0, 2, 0]);
+    image[..8].copy_from_slice(&[0, 0xff, 0xf0, 0, 0, 0, 2, 0]);
     image[0x100..0x104].copy_from_slice(b"SEGA");
-    // lea $a11100.l,a0; move.w #$0100,(a0); lea ADDRESS.l,a1; movem.l d0-d7/a0-a7,(a1); bra.b itself
-    image[0x200..0x206].copy_from_slice(&[0x41, 0xf9, 0, 0xa1, 0x11, 0]);
-    image[0x206..0x20a].copy_from_slice(&[0x30, 0xbc, 1, 0]);
-    image[0x20a..0x20c].copy_from_slice(&[0x43, 0xf9]);
-    image[0x20c..0x210].copy_from_slice(&address.to_be_bytes());
-    image[0x210..0x216].copy_from_slice(&[0x48, 0xd1, 0xff, 0xff, 0x60, 0xfe]);
+    image[0x200..0x216].copy_from_slice(&STORING);
+    image[0x20d] = high;
     let cart = Cart::accept(alloc, image.to_vec(alloc)?)?;
     Ok(Arc::new(alloc, cart)?)
 }

@@ -156,7 +156,8 @@ fn a_wrong_length_is_refused_at_the_lesser(rt: HostRuntime) -> Result<(), Fail> 
     let alloc = rt.alloc();
     let cart = cartridge(alloc, 0)?;
     let mut bytes = state_at_1(alloc, cart.clone()?)?;
-    assert_eq!(rt; place_of(alloc, &bytes[1..], cart.clone()?)?, Some(378_239));
+    let short = bytes.get(1..).unwrap_or(&[]);
+    assert_eq!(rt; place_of(alloc, short, cart.clone()?)?, Some(378_239));
     bytes.push(0)?;
     assert_eq!(rt; place_of(alloc, &bytes, cart)?, Some(378_240));
     Ok(())
