@@ -89,6 +89,11 @@ module _ {Chip Shared Pins : Type 0} (rules : Rules Chip Shared Pins) where
     pub chips : (i : ℕ) → i < rules.count → after.chip i ≡ (run m moves).chip i
     pub journal : entered ≡ journal m moves
 
+  -- the same shared state, and the same chips of the count
+  pub record AreSame (m w : Machine Chip Shared) : Type 0 where
+    pub shared : m.shared ≡ w.shared
+    pub chip : (i : ℕ) → i < rules.count → m.chip i ≡ w.chip i
+
   -- chip i is this one once it has made n moves of its own, all below t
   pub record OnPath (m : Machine Chip Shared) (t i n : ℕ) (chip : Chip) : Type 0 where
     pub moves : ℕ

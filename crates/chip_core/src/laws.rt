@@ -6,9 +6,9 @@ ghost use Rattle.md_word.specs.declared.event.Entry.{Entry};
 ghost use Rattle.md_word.specs.Keys.{key_lt};
 ghost use Rattle.chip_core.specs.declared.event.Event.{Event};
 ghost use Rattle.chip_core.specs.Cores.{CoreValue, IsCore, machine_of, seen};
-ghost use Rattle.chip_core.specs.Events.{HasRoom, IsEnabled, IsTidy, Seen, Stands, after, counted};
-ghost use Rattle.chip_core.specs.Limits.{all_moves_left, moves_left, moves_within};
-ghost use Rattle.chip_core.specs.Machines.{AllBelow, IsQuiet, IsRunTo, IsSound, Machine, OnPath, journal, key_of, made, mover, run};
+ghost use Rattle.chip_core.specs.Events.{HasRoom, IsEnabled, IsTidy, Leads, Seen, Stands, after, counted};
+ghost use Rattle.chip_core.specs.Limits.{all_moves_left, events_within, moves_left, moves_within};
+ghost use Rattle.chip_core.specs.Machines.{AllBelow, AreSame, IsQuiet, IsRunTo, IsSound, Machine, OnPath, journal, key_of, made, mover, run};
 ghost use Rattle.chip_core.specs.Standing.{StandsFor};
 
 pub use crate::scheduler::run_least::run_least;
@@ -29,6 +29,13 @@ pub fn joined<C: ChipSet>()
     ensures { (m w z : Machine C.Chip C.Shared) (s t : ℕ) (first second : List Entry) → s ≤ t
         → IsRunTo C.rules m s w first → IsRunTo C.rules w t z second
         → IsRunTo C.rules m t z (first ++ second) }
+{}
+
+/// Two runs from one machine to one cycle end at the same machine, with the same journal.
+pub fn one_run<C: ChipSet>()
+    ensures { (m w z : Machine C.Chip C.Shared) (t : ℕ) (first second : List Entry)
+        → IsRunTo C.rules m t w first → IsRunTo C.rules m t z second
+        → AreSame C.rules w z × (first ≡ second) }
 {}
 
 /// What every stage of a run below `t` is: sound, as the machine of each core is, and moved by the
@@ -59,7 +66,7 @@ pub fn limits<C: ChipSet>()
 {}
 
 /// What each enabled event keeps, with the counts of moves: for a core whose chips are held apart
-/// from its shared state.
+/// from its shared state. And how long a list of enabled events can be.
 pub fn events<C: ChipSet>()
     ensures core { (v : CoreValue C.Chip C.Shared) → IsCore C.rules C.chip_ok C.shared_ok v
         → IsTidy C.rules C.chip_ok C.shared_ok (seen C.rules v) }
@@ -82,4 +89,7 @@ pub fn events<C: ChipSet>()
     ensures later { (base s : Seen C.Chip C.Shared) (t from : ℕ) → t ≤ 2 ^ 50
         → IsSound C.rules C.chip_ok C.shared_ok base.machine → Stands C.rules base t s
         → IsQuiet C.rules base.machine from → IsQuiet C.rules s.machine from }
+    ensures few { (s z : Seen C.Chip C.Shared) (t from : ℕ) (list : List Event) → t ≤ 2 ^ 50
+        → IsTidy C.rules C.chip_ok C.shared_ok s → IsQuiet C.rules s.machine from
+        → Leads C.rules t s list z → length list ≤ events_within C.rules (t - from) }
 {}

@@ -1,7 +1,7 @@
 use Rattle.std.proofs.Common.{length, ap, arith}
 use Rattle.chip_core.proofs.Ends.{is_run_to}
 use Rattle.chip_core.proofs.Keeps.{tidy-after, stands_move, stands_first, keys-later}
-use Rattle.chip_core.proofs.Works.{entries-few}
+use Rattle.chip_core.proofs.Works.{entries-few, work-leads, work-within}
 use Rattle.chip_core.proofs.laws.events.Goals as goal
 
 pub returns-clause-first : goal.returns-clause-first
@@ -26,4 +26,10 @@ pub returns-clause-later : goal.returns-clause-later
 returns-clause-later g c = λ base s t from small ok st quiet i h.
     let later = keys-later g.C.ChipSet.rules g.C.ChipSet.chip_ok g.C.ChipSet.shared_ok (g.met.C.ChipSet g.world.𝓛 g.world.𝓜 g.world.𝓡 ((λ s x. x), (λ x. x), (λ x. x), (λ x. x))).lawful base ok t small s st i h in
     let first = quiet i h in
+    omega arith
+
+pub returns-clause-few : goal.returns-clause-few
+returns-clause-few g c = λ s z t from list small tidy quiet leads.
+    let fall = work-leads g.C.ChipSet.rules g.C.ChipSet.chip_ok g.C.ChipSet.shared_ok (g.met.C.ChipSet g.world.𝓛 g.world.𝓜 g.world.𝓡 ((λ s x. x), (λ x. x), (λ x. x), (λ x. x))).lawful t small s tidy list z leads in
+    let most = work-within g.C.ChipSet.rules g.C.ChipSet.chip_ok g.C.ChipSet.shared_ok (g.met.C.ChipSet g.world.𝓛 g.world.𝓜 g.world.𝓡 ((λ s x. x), (λ x. x), (λ x. x), (λ x. x))).lawful t small s from quiet in
     omega arith
