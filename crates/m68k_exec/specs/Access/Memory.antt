@@ -48,7 +48,7 @@ instruction_words address memory =
 
 -- work RAM after one byte, and after a list of them, the oldest first
 abbrev pub stored : List ℕ → ℕ × ℕ → List ℕ
-stored ram written = slice_set ram (ram_place written.0) written.1
+stored ram written = slice_set ram (ram_place written.0) (written.1 % 0x100)
 
 abbrev pub ram_after : List ℕ → List (ℕ × ℕ) → List ℕ
 ram_after ram writes = fold stored ram writes
