@@ -38,7 +38,7 @@ level-cause : (level : ℕ) → IsLevel level → IsCause level
 level-cause level known = grind (arith, nat_tests)
 
 -- what a sample carries out is a cause, and the processor is not halted
-abbrev Chosen : State68 → Option ℕ → Type 0
+abbrev pub Chosen : State68 → Option ℕ → Type 0
 Chosen state None = Unit {0}
 Chosen state (Some cause) = IsCause cause × (state.halted ≡ None)
 
@@ -50,7 +50,7 @@ pick state level known None false true stopped e = (level-cause level known, e)
 pick state level known None false false true e = tt
 pick state level known None false false false e = (inl refl, e)
 
-chosen : (state : State68) (level : ℕ) → IsLevel level → Chosen state (cause_of (case_of state level))
+pub chosen : (state : State68) (level : ℕ) → IsLevel level → Chosen state (cause_of (case_of state level))
 unfolding case_of
 chosen state level known = pick state level known state.halted state.trace (nat_lt (mask_of state.regs) level) state.stopped refl
 
@@ -66,7 +66,7 @@ pub record Ready (cart : List ℕ) (state : State68) (cause : ℕ) (answers : Li
 
 ram-length : (ram : List ℕ) (writes : List (ℕ × ℕ)) → length (ram_after ram writes) ≡ length ram
 ram-length ram [] = refl
-ram-length ram (w ∷ ws) = ram-length (stored ram w) ws ∙ length-set {A = ℕ} ram _ w.1
+ram-length ram (w ∷ ws) = ram-length (stored ram w) ws ∙ length-set {A = ℕ} ram _ (w.1 % 0x100)
 
 halts-early : (b : Bool) (start end : ℕ) → start < end → IfSome (if b then Some start else None) (λ since. since < end)
 halts-early true start end less = less
@@ -109,7 +109,7 @@ at-sample Sample cart state e is = is
 at-sample Access cart state e is = cc
 at-sample Word cart state e is = cc
 
-none-before : (cart : List ℕ) (state : State68) (cause : ℕ) → AreFit cart state cause []
+pub none-before : (cart : List ℕ) (state : State68) (cause : ℕ) → AreFit cart state cause []
 none-before cart state cause k h = absurd (omega (arith, h))
 
 waited-ok : (v : Chip68Value) → IsChip68 v → IsBetween v.state → v.state.transfer ≡ none_left → IsChip68 (of v.cart (waited v.state))
@@ -204,7 +204,7 @@ started-rest state (Some t) = (refl, refl, refl, refl, refl)
 asked-request : (r : Result Ended Stop) (request : Request68) → r ≡ Err (Ask request) → request_in r ≡ request
 asked-request r request e = ap request_in e
 
-ready-more : (v : Chip68Value) (answer : Answer68) (ok : IsChip68 v) (a : IsAsking v.cart v.state) → Fits (request_in (carried_out v.cart v.state v.state.cause v.state.answers)) answer
+pub ready-more : (v : Chip68Value) (answer : Answer68) (ok : IsChip68 v) (a : IsAsking v.cart v.state) → Fits (request_in (carried_out v.cart v.state v.state.cause v.state.answers)) answer
     → Ready v.cart (with_started v.state answer.transfer) v.state.cause (v.state.answers ++ answer.value ∷ [])
 ready-more v answer ok a fits =
     let rest = started-rest v.state answer.transfer in

@@ -2,7 +2,9 @@ pub mod Choices
 pub mod Fitting
 pub mod Kept
 pub mod Laws
+pub mod Recent
 pub mod Resting
+pub mod RuleLaws
 pub mod SampleTimes
 pub mod SavedLaws
 pub mod SavedSound

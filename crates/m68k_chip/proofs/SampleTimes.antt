@@ -18,7 +18,6 @@ suffices cause regs memory ended e =
     let modes : HasModes ended.op = subst HasModes (sym (names cause regs memory ended e)) (decoded_modes (instruction_words regs.pc memory)) in
     covers-modes ended.op ended.spent modes (spends cause regs memory ended e)
 
--- seven cycles a clock are fewer than 2^20
-pub short : (cause : ℕ) (regs : Regs) (memory : Memory) (ended : Ended) → Fits memory → sampled cause regs memory ≡ Ok ended → clocks_of ended.op ended.spent ≤ 149796
-short cause regs memory ended fits e =
-    let most = few ended.op ended.spent (few_counted cause regs memory ended fits e) in omega (arith, most)
+-- no sample is long
+pub short : (cause : ℕ) (regs : Regs) (memory : Memory) (ended : Ended) → Fits memory → sampled cause regs memory ≡ Ok ended → clocks_of ended.op ended.spent ≤ 692
+short cause regs memory ended fits e = few ended.op ended.spent (few_counted cause regs memory ended fits e)

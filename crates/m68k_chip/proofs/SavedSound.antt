@@ -67,10 +67,10 @@ each_answered cart state (suc n) k e lt =
 
 -- ---- the transfer
 
-abbrev are_left : ℕ → ℕ → ℕ → Bool
+abbrev pub are_left : ℕ → ℕ → ℕ → Bool
 are_left m s w = cond (eqb w 0) (eqb s 0 && not (eqb m 2)) ((leb w 0x1_0000 && not (eqb m 0)) && is_source s)
 
-abbrev costs : ℕ → ℕ → Bool
+abbrev pub costs : ℕ → ℕ → Bool
 costs w c = cond (eqb w 0) (eqb c 0) (eqb c 34 || eqb c 380)
 
 differ : (b : Bool) → b ≡ true → b ≡ false → ⊥

@@ -3,6 +3,7 @@ pub mod Events
 pub mod Held
 pub mod Numbers
 pub mod Resuming
+pub mod Rules
 pub mod Saved
 pub mod Sound
 pub mod Spelling

@@ -4,6 +4,7 @@
 
 mod case;
 mod chip;
+mod known;
 mod resuming;
 mod saved;
 mod sequencer;

@@ -2,12 +2,13 @@ ghost use Rattle.std.specs.Prelude.{◌≡◌, ◌≤◌, ℕ, Bool, length, map
 ghost use Rattle.md_fields.specs.Fields.{AreSized, seen};
 ghost use Rattle.md_fields.specs.Padding as padding;
 ghost use Rattle.md_fields.specs.Places.{Stand};
-ghost use Rattle.m68k_chip.specs.Numbers.{IsRegs, numbers_of, stage_number as number_by, stage_of as stage_by, state_from};
+ghost use Rattle.m68k_chip.specs.Numbers.{numbers_of, stage_number as number_by, stage_of as stage_by, state_from};
 ghost use Rattle.m68k_chip.specs.Saved as rules;
 ghost use Rattle.m68k_chip.specs.Saved.{fields_by};
 ghost use Rattle.m68k_chip.specs.Spelling.{GoesWrongAt, IsKept, ram_in};
 ghost use Rattle.m68k_chip.specs.States.{state_of};
 
+use crate::known::known_regs;
 use crate::resuming::first_answers;
 use crate::sequencer::{STEP, Sequencer};
 use crate::stage::Stage;
@@ -350,14 +351,6 @@ impl<'a> Saved68<'a> {
             Err(RAM)
         }
     }
-}
-
-/// Tells how many registers there are.
-fn known_regs(regs: &Regs)
-    ensures { IsRegs regs.now }
-{
-    let _d0 = regs.d[0];
-    let _a0 = regs.a[0];
 }
 
 fn stage_number(stage: Stage) -> u8

@@ -75,9 +75,8 @@ fn long_at(image: &[u8], at: usize) -> u32
 fn store_all(writes: &[(u32, u8)], ram: &mut [u8; 65536])
     ensures { ram.new ≡ ram_after ram.old writes.now }
 {
-    for write in writes {
-        let (address, byte) = *write;
-        ram[(address % 0x1_0000) as usize] = byte;
+    'writes: for (address, byte) in writes {
+        ram[(*address % 0x1_0000) as usize] = *byte;
     }
 }
 

@@ -1,8 +1,10 @@
 ghost use Rattle.std.specs.Prelude.{◌≡◌, ◌≢◌, ◌+◌, ◌≤◌, ◌++◌, ◌↔◌, ℕ, length, vec_len, vec_capacity, IfOk, IsErrOf, Ok, Err};
+ghost use Rattle.m68k_chip.specs.Rules.{HasRules};
 ghost use Rattle.m68k_chip.specs.Spelling.{GoesWrongAt, Spells, chip_bytes, chip_size, ram_in};
 ghost use Rattle.m68k_chip.specs.States.{State68};
 
 use crate::chip::Chip68;
+use crate::known::{known_next, known_regs};
 use crate::saved::{LENGTH, RAM, Saved68};
 use m68k_exec::Progress;
 use md_fields::put;
@@ -15,13 +17,16 @@ impl Chip68 {
     ghost use Rattle.std.specs.Arc.{arc_value};
 
     /// Appends the bytes of a saved state at a cycle that keep this 68000, 65,714 in all. There is room
-    /// for them.
+    /// for them. They are read again where no event stands below the cycle, and the rules hold there.
     pub fn spell(&self, at: u64, into: &mut Vec<u8>)
         requires { vec_len into.old + chip_size ≤ vec_capacity into.old }
         ensures bytes { into.new.items ≡ into.old.items ++ chip_bytes self.now.state }
         ensures length { vec_len into.new ≡ vec_len into.old + chip_size }
         ensures room { vec_capacity into.old ≤ vec_capacity into.new }
+        ensures kept { at ≤ self.now.state.next → HasRules at self.now.state → Spells self.now.cart at (chip_bytes self.now.state) self.now.state }
     {
+        known_regs(&self.sequencer.regs);
+        known_next(&self.sequencer);
         put(
             &Saved68::of(&self.sequencer, &self.ram).fields(at, true),
             into,
@@ -34,6 +39,7 @@ impl Chip68 {
     /// fit, is refused at 178, where work RAM begins. Work RAM is copied.
     pub fn unspell(alloc: Global, bytes: &[u8], at: u64, cart: Arc<Cart>) -> Result<Chip68, Unspell>
         ensures found { IfOk result (λ chip. (chip.cart ≡ arc_value cart) × Spells (arc_value cart) at bytes.now chip.state) }
+        ensures recent { IfOk result (λ chip. HasRules at chip.state) }
         ensures only { (state : State68) → Spells (arc_value cart) at bytes.now state → result ≢ Err Unspell.NoMemory
             → result ≡ Ok (record { cart = arc_value cart; state = state }) }
         ensures rule { (place : ℕ) → IsErrOf result (Unspell.Rule place) ↔ GoesWrongAt (arc_value cart) at bytes.now place }

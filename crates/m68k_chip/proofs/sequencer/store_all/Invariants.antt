@@ -3,5 +3,5 @@ use Rattle.m68k_exec.specs.Access.Memory.{ram_after}
 use Rattle.m68k_chip.proofs.sequencer.store_all.Given as goal
 
 -- the writes so far are stored
-abbrev pub invariant-loop-write : goal.invariant-loop-write
-invariant-loop-write l = l.ram ≡ ram_after l.fn.ram (take l.write-index l.writes)
+abbrev pub invariant-writes : goal.invariant-writes
+invariant-writes l = l.ram ≡ ram_after l.fn.ram (take l.address-index l.writes)

@@ -1,14 +1,17 @@
-use Rattle.std.proofs.Common.{◌≡◌, ℕ, List, Ok, Err, ap, subst, sym, ◌∙◌, refl}
+use Rattle.std.proofs.Common.{◌≡◌, ℕ, List, drop, arith, Ok, Err, ap, subst, sym, ◌∙◌, refl}
 use Rattle.std.specs.Arc.{arc_value}
 use Rattle.std.proofs.lemmas.Result.{err_from_is_err_and}
 use Rattle.md_word.specs.declared.unspell.Unspell.TheVariants.{Rule}
 use Rattle.rom_header.specs.Cartridge.{IsImage}
 use Rattle.m68k_chip.specs.Held.{IsWaiting}
+use Rattle.m68k_chip.specs.Rules.{HasRules}
 use Rattle.m68k_chip.specs.Sound.{IsChip68}
 use Rattle.m68k_chip.specs.Spelling.{GoesWrongAt, IsKept, Spells, ram_in}
 use Rattle.m68k_chip.specs.States.{State68, state_of}
 use Rattle.m68k_chip.proofs.Laws.{of}
+use Rattle.md_fields.proofs.Standing.{IsBytes-drop, IsBytes-take}
 use Rattle.md_fields.proofs.Refusals.{no_rule, same_rule}
+use Rattle.m68k_chip.proofs.RuleLaws.{recent_from}
 use Rattle.m68k_chip.proofs.SpellingLaws.{no_other, only_place, right_not_refused, spelled_long, spelled_sound}
 use Rattle.m68k_chip.proofs.chip.Chip68.unspell.Goals as goal
 
@@ -41,6 +44,13 @@ invariant_of-result c = record {
 
 pub returns-in_ok-ram-in-Ok-clause-found : goal.returns-in_ok-ram-in-Ok-clause-found
 returns-in_ok-ram-in-Ok-clause-found c = (refl, subst (Spells (arc_value c.args.cart) c.args.at c.args.bytes.now) (sym (made c)) (kept c).spells)
+
+pub returns-in_ok-ram-in-Ok-clause-recent : goal.returns-in_ok-ram-in-Ok-clause-recent
+returns-in_ok-ram-in-Ok-clause-recent c =
+    subst (HasRules c.args.at) (sym (made c)) (record {
+      ram = IsBytes-take 0x1_0000 (drop 178 c.args.bytes.now) (IsBytes-drop 178 c.args.bytes.now (λ i. omega (arith, c.type_inv.bytes i)));
+      recent = recent_from (arc_value c.args.cart) c.args.at c.args.bytes.now _ (kept c).spells;
+    })
 
 pub returns-in_ok-ram-in-Ok-clause-only : goal.returns-in_ok-ram-in-Ok-clause-only
 returns-in_ok-ram-in-Ok-clause-only c = λ state p n.
