@@ -71,11 +71,11 @@ seen-next : (b : Bool) (state : State80) (resets : ℕ) → (if b then record st
 seen-next true state resets = refl
 seen-next false state resets = refl
 
-seen-at : (cart : List ℕ) (state : State80) (pins : Pins80) → AtSample cart state → AtSample cart (seen state pins)
+pub seen-at : (cart : List ℕ) (state : State80) (pins : Pins80) → AtSample cart state → AtSample cart (seen state pins)
 unfolding seen
 seen-at cart state pins at = seen-by (is_reset state pins) cart state pins.resets at
 
-seen-stays : (state : State80) (pins : Pins80) → (seen state pins).next ≡ state.next
+pub seen-stays : (state : State80) (pins : Pins80) → (seen state pins).next ≡ state.next
 unfolding seen
 seen-stays state pins = seen-next (is_reset state pins) state pins.resets
 

@@ -4,7 +4,7 @@ use Rattle.std.specs.Prelude.{◌&&◌, ◌||◌}
 use Rattle.std.proofs.lemmas.Bool.{leb-true, eqb-true, and_parts}
 use Rattle.std.proofs.lemmas.List.{length-take}
 use Rattle.md_word.specs.declared.sub_bus.Request80.{Request80}
-use Rattle.md_fields.specs.Distances.{is_after}
+use Rattle.md_fields.specs.Distances.{is_after, is_soon}
 use Rattle.md_fields.specs.Fields.{AllHold, first_wrong}
 use Rattle.md_fields.specs.Padding.{are_zeros}
 use Rattle.md_fields.specs.Places.{Stand}
@@ -125,6 +125,7 @@ mode_again Mode2 = refl
 
 -- what the rules say, where that of RAM may be left out
 pub record Rules (at : ℕ) (holds : Bool) (k : Kept80) : Type 0 where
+  pub soon : is_soon k.numbers.next at ≡ true
   pub stage : k.numbers.stage ≤ 3
   pub start : is_start at k.numbers ≡ true
   pub iff1 : k.numbers.iff1 ≤ 1
@@ -169,6 +170,7 @@ rules_of at holds k right =
     let h26 = h25.1 in
     let h27 = h26.1 in
     record {
+      soon = h0.0;
       stage = leb-true k.numbers.stage 3 h1.0;
       start = h2.0;
       iff1 = leb-true k.numbers.iff1 1 h17.0;
@@ -276,7 +278,7 @@ after_eq later earlier distance e =
     let same = eqb-true (later - earlier) distance p.1 in
     omega (arith, le, same)
 
-whole : (l : List ℕ) → take (length l) l ≡ l
+pub whole : (l : List ℕ) → take (length l) l ≡ l
 whole [] = refl
 whole (x ∷ xs) = ap (λ (l : List ℕ). x ∷ l) (whole xs)
 
@@ -311,12 +313,12 @@ stands_at cart at (suc (suc (suc zero))) state le start cause count holder asks 
 stands_at cart at (suc (suc (suc (suc n)))) state le start cause count holder asks = absurd (omega (arith, le))
 
 -- where the rules hold of RAM and bank register, at an access it waits
-waits_by : (access : Bool) (waiting : Bool) (has : Bool) → access ≡ true → has ≡ true → cond (access && has) waiting true ≡ true → waiting ≡ true
+pub waits_by : (access : Bool) (waiting : Bool) (has : Bool) → access ≡ true → has ≡ true → cond (access && has) waiting true ≡ true → waiting ≡ true
 waits_by true waiting true a h e = e
 waits_by true waiting false a h e = absurd cc
 waits_by false waiting has a h e = absurd cc
 
-bank_right : (holds : Bool) (store : Option Store) → AllHold (store_fields holds store) → is_some store ≡ true → is_bank_right store ≡ true
+pub bank_right : (holds : Bool) (store : Option Store) → AllHold (store_fields holds store) → is_some store ≡ true → is_bank_right store ≡ true
 unfolding AllHold
 bank_right holds None all some = absurd cc
 bank_right holds (Some store) all some = all.1.0

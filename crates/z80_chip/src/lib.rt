@@ -4,6 +4,7 @@
 
 mod case;
 mod chip;
+mod known;
 mod need;
 mod saved;
 mod sequencer;

@@ -1,9 +1,11 @@
 ghost use Rattle.std.specs.Prelude.{◌≡◌, ◌≢◌, ◌+◌, ◌≤◌, ◌++◌, ℕ, List, length, true, option_map, is_some, vec_len, vec_capacity, IfErr, IfOk, IfSome, IsErrOf, Ok, Err};
+ghost use Rattle.z80_chip.specs.Rules.{HasRules};
 ghost use Rattle.z80_chip.specs.Spelling.{GoesWrongAt, IsLength, IsRead, Spells, chip_bytes, spelled_size, store_at};
 ghost use Rattle.z80_chip.specs.States.{State80};
 ghost use Rattle.z80_parcel.specs.Parcels.{IsStore, store_of};
 
 use crate::chip::Chip80;
+use crate::known::{known_counts, known_pairs, known_pointers};
 use crate::saved::Saved80;
 use md_fields::{first_wrong, put, u16_at};
 use md_word::{NoMemory, Parcel, Unspell};
@@ -26,13 +28,18 @@ impl Chip80 {
     ghost use Rattle.std.specs.Arc.{arc_value};
 
     /// Appends the bytes of a saved state that keep this Z80: 62, and where it has its RAM, this and
-    /// the bank register, 8,256 in all. There is room for them.
+    /// the bank register, 8,256 in all. There is room for them. They are read again where no event
+    /// stands below the cycle, and the rules hold there.
     pub fn spell(&self, at: u64, into: &mut Vec<u8>)
         requires { vec_len into.old + spelled_size (is_some self.now.state.store) ≤ vec_capacity into.old }
         ensures bytes { into.new.items ≡ into.old.items ++ chip_bytes self.now.state }
         ensures length { vec_len into.new ≡ vec_len into.old + spelled_size (is_some self.now.state.store) }
         ensures room { vec_capacity into.old ≤ vec_capacity into.new }
+        ensures kept { at ≤ self.now.state.next → HasRules self.now.cart at self.now.state → Spells self.now.cart at (chip_bytes self.now.state) self.now.state }
     {
+        known_pairs(&self.sequencer.regs);
+        known_pointers(&self.sequencer.regs);
+        known_counts(&self.sequencer);
         let has = self.parcel.is_some();
         put(&Saved80::of(&self.sequencer).fields(at, has), into);
         put_store(&self.parcel, into);
@@ -45,6 +52,7 @@ impl Chip80 {
     /// copied.
     pub fn unspell(alloc: Global, bytes: &[u8], at: u64, cart: Arc<Cart>) -> Result<Chip80, Unspell>
         ensures found { IfOk result (λ chip. (chip.cart ≡ arc_value cart) × Spells (arc_value cart) at bytes.now chip.state) }
+        ensures recent { IfOk result (λ chip. HasRules (arc_value cart) at chip.state) }
         ensures only { (state : State80) → Spells (arc_value cart) at bytes.now state → result ≢ Err Unspell.NoMemory
             → result ≡ Ok (record { cart = arc_value cart; state = state }) }
         ensures rule { (place : ℕ) → IsErrOf result (Unspell.Rule place) → GoesWrongAt (arc_value cart) at bytes.now place }

@@ -5,6 +5,7 @@ use Rattle.md_fields.specs.Items.{IsRight, Keeps}
 use Rattle.md_word.specs.declared.unspell.Unspell.TheVariants.{Rule}
 use Rattle.rom_header.specs.Cartridge.{IsImage}
 use Rattle.z80_parcel.specs.Parcels.{Store, store_of}
+use Rattle.z80_chip.specs.Rules.{HasRules}
 use Rattle.z80_chip.specs.Saved.{asks_more, chip_fields, kept_of, state_from}
 use Rattle.z80_chip.specs.Sound.{IsChip80}
 use Rattle.z80_chip.specs.Spelling.{GoesWrongAt, Spells, store_at}
@@ -12,6 +13,7 @@ use Rattle.z80_chip.specs.States.{State80, state_of}
 use Rattle.z80_chip.specs.declared.saved.Saved80.{Saved80}
 use Rattle.z80_chip.proofs.Laws.{of}
 use Rattle.md_fields.proofs.Refusals.{same_rule}
+use Rattle.z80_chip.proofs.RuleLaws.{rules_from}
 use Rattle.z80_chip.proofs.SavedLaws.{count_few, sound}
 use Rattle.z80_chip.proofs.SpellingLaws.{answers_four, breaks_ram, no_other, only_place, read_keeps, read_of, read_right, read_rules, read_store, right_not_refused, spells}
 use Rattle.z80_chip.proofs.chip.Chip80.unspell.Goals as goal
@@ -89,6 +91,12 @@ returns-clause-found c = (
   subst (Spells (arc_value c.args.cart) c.args.at c.args.bytes.now) (sym (made c))
       (spells (arc_value c.args.cart) c.args.at c.args.bytes.now (read_of c.args.bytes.now c.in-Ok.saved) (keeps c) (right c)),
 )
+
+pub returns-clause-recent : goal.returns-clause-recent
+returns-clause-recent c =
+    subst (HasRules (arc_value c.args.cart) c.args.at) (sym (made c))
+    (rules_from (arc_value c.args.cart) c.args.at c.args.bytes.now _
+    (spells (arc_value c.args.cart) c.args.at c.args.bytes.now (read_of c.args.bytes.now c.in-Ok.saved) (keeps c) (right c)))
 
 pub returns-clause-only : goal.returns-clause-only
 returns-clause-only c = λ state p n.
