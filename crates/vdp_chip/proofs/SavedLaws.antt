@@ -1,21 +1,22 @@
 -- Laws of what a saved state keeps of the drawing half of the VDP.
-use Rattle.std.proofs.Common.{◌≡◌, ℕ, zero, suc, ◌+◌, ◌-◌, ◌*◌, ◌/◌, ◌%◌, ◌<◌, ◌≤◌, ◌==◌, Bool, true, false, if◌then◌else◌, List, length, drop, get_or, slice_index, refl, sym, ap, subst, ◌∙◌, arith}
-use Rattle.std.proofs.lemmas.Bool.{and_parts, eqb-true, leb-true, ltb-true, ne_eqb}
+use Rattle.std.proofs.Common.{◌≡◌, ℕ, zero, suc, ◌+◌, ◌-◌, ◌*◌, ◌/◌, ◌%◌, ◌<◌, ◌≤◌, ◌==◌, Bool, true, false, if◌then◌else◌, List, length, drop, get_or, slice_index, refl, sym, ap, subst, ◌∙◌, ◌^◌, arith}
+use Rattle.std.proofs.lemmas.Bool.{and_parts, eq-eqb, eqb-true, le-leb, leb-true, lt-ltb, ltb-true, ne_eqb}
 use Rattle.std.proofs.lemmas.List.{get_or-drop, length-drop}
-use Rattle.std.proofs.lemmas.List.Elements.{All-get_or}
-use Rattle.std.proofs.lemmas.List.Sums.{AllPass-from_list_all}
+use Rattle.std.proofs.lemmas.List.Elements.{All-from_get_or, All-get_or}
+use Rattle.std.proofs.lemmas.List.Sums.{AllPass-from_list_all, list_all-from_AllPass}
 use Rattle.md_fields.specs.Fields.{AllHold, AreWithin, sizes, spelling}
 use Rattle.md_fields.specs.Items.{IsRight, Keeps}
 use Rattle.md_fields.specs.Padding.{are_zeros}
 use Rattle.md_fields.specs.Places.{Stand}
 use Rattle.md_fields.proofs.Flags.{flag_again, flag_back}
-use Rattle.md_fields.proofs.Items.{all_hold, not_both, one_place, same}
+use Rattle.md_fields.proofs.Items.{all_hold, none_wrong, not_both, one_place, same}
 use Rattle.md_word.specs.Clock.{line}
 use Rattle.vdp_time.specs.Lines.{line_of}
 use Rattle.vdp_chip.specs.Drawing.{Drawing, IsDrawing, undrawn_from}
 use Rattle.vdp_chip.specs.Picture.{picture_length, row_length}
 use Rattle.vdp_chip.specs.Saved.{DrawingNumbers, drawing_fields, drawing_of, numbers_of}
-use Rattle.vdp_chip.specs.Spelling.{GoesWrongAt, IsDrained, Spells, drawing_size}
+use Rattle.vdp_chip.specs.Spelling.{GoesWrongAt, IsDrained, IsReady, Spells, drained, drawing_bytes, drawing_size}
+use Rattle.vdp_ports.proofs.RuleLaws.{both, flag_byte, flag_small}
 
 -- the bytes do not depend on the cycle
 pub same_bytes : (at other : ℕ) (n : DrawingNumbers) → spelling (drawing_fields at n) ≡ spelling (drawing_fields other n)
@@ -129,3 +130,54 @@ sound at bytes n keeps right =
       at_line = m;
       undrawn = λ k le lt. zero_at (row_length * undrawn_from at) n.picture k h.1.1.1.0 (omega (arith, le, rows)) (omega (arith, lt, whole));
     }
+
+-- ---- what is spelled is read again
+
+zeros_from : (k : ℕ) (l : List ℕ) → ((n : ℕ) → k ≤ n → n < length l → slice_index l n ≡ 0) → are_zeros (drop k l) ≡ true
+zeros_from k l h =
+    list_all-from_AllPass (λ m. m == 0) (drop k l)
+    (All-from_get_or (λ m. (m == 0) ≡ true) (drop k l) 0 (λ i lt.
+    eq-eqb _ 0 (get_or-drop k l i 0 ∙ h (k + i) (omega arith) (omega (arith, length-drop k l, lt)))))
+
+right_to : (at : ℕ) (d : Drawing) → IsDrawing d → IsReady at d → IsRight (drawing_fields at) (numbers_of d)
+unfolding AllHold
+right_to at d ok is =
+    let rows = undrawn_same at d.next ok.at_line is.from is.near in
+    none_wrong 0 (drawing_fields at (numbers_of d)) (
+      both _ _ (eq-eqb (d.next % line) 0 ok.at_line) (both _ _ (le-leb at d.next is.from) (lt-ltb (d.next - at) line (omega (arith, is.from, is.near)))),
+      (
+        both _ _ (flag_small d.note.overflow) (flag_small d.note.collision),
+        (
+          refl,
+          (
+            zeros_from (row_length * undrawn_from at) d.picture (λ n from below. ok.undrawn n (omega (arith, from, rows)) (omega (arith, below, ok.picture))),
+            tt,
+          ),
+        ),
+      ),
+    )
+
+within : (at : ℕ) (d : Drawing) → IsDrawing d → d.next < 2 ^ 64 → AreWithin (drawing_fields at (numbers_of d))
+unfolding AreWithin
+within at d ok small = (small, (flag_byte d.note.overflow, (flag_byte d.note.collision, (ok.picture, tt))))
+
+pub spelled_back : (at : ℕ) (d : Drawing) → IsDrawing d → d.next < 2 ^ 64 → IsReady at d → Spells at (drawing_bytes d) (drained d)
+spelled_back at d ok small is = record {
+  keeps = record { within = within at d ok small; all = same_bytes 0 at (numbers_of d) };
+  right = right_to at d ok is;
+  drained = record { view = refl; frame = refl };
+}
+
+-- ---- a chip that bytes keep
+
+pub spelled_drawing : (at : ℕ) (bytes : List ℕ) (d : Drawing) → Spells at bytes d → IsDrawing d
+spelled_drawing at bytes d p = subst IsDrawing (drawing_again d p.drained) (sound at bytes (numbers_of d) p.keeps p.right)
+
+pub spelled_ready : (at : ℕ) (bytes : List ℕ) (d : Drawing) → Spells at bytes d → IsReady at d
+unfolding AllHold
+spelled_ready at bytes d p =
+    let h = all_hold 0 (drawing_fields at (numbers_of d)) p.right in
+    let soon = and_parts _ _ (and_parts _ _ h.0).1 in
+    let from : at ≤ d.next = leb-true at d.next soon.0 in
+    let near : d.next - at < line = ltb-true (d.next - at) line soon.1 in
+    record { from = from; near = omega arith }

@@ -1,7 +1,8 @@
 -- The bytes of a saved state that keep the drawing half of the VDP. This project's profile.
-use Rattle.std.specs.Prelude.{◌≡◌, ℕ, true, None, List}
+use Rattle.std.specs.Prelude.{◌≡◌, ℕ, ◌+◌, ◌<◌, ◌≤◌, true, None, List}
 use Rattle.md_fields.specs.Fields.{spelling}
 use Rattle.md_fields.specs.Items.{IsRefused, IsRight, Keeps}
+use Rattle.md_word.specs.Clock.{line}
 use Rattle.vdp_chip.specs.Drawing.{Drawing}
 use Rattle.vdp_chip.specs.Saved.{drawing_fields, numbers_of}
 
@@ -28,3 +29,12 @@ pub record Spells (at : ℕ) (bytes : List ℕ) (d : Drawing) : Type 0 where
 -- first rule that fails
 abbrev pub GoesWrongAt : ℕ → List ℕ → ℕ → Type 0
 GoesWrongAt at bytes place = IsRefused drawing_size (drawing_fields at) bytes place
+
+-- a chip as it is kept: with its view here, and without a frame
+abbrev pub drained : Drawing → Drawing
+drained d = record d { has_view = true; frame = None }
+
+-- a chip may be kept at a cycle: its next event is the first of a line from the cycle on
+pub record IsReady (at : ℕ) (d : Drawing) : Type 0 where
+  pub from : at ≤ d.next
+  pub near : d.next < at + line

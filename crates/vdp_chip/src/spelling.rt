@@ -1,8 +1,8 @@
-ghost use Rattle.std.specs.Prelude.{◌≡◌, ◌≢◌, ◌+◌, ◌≤◌, ◌++◌, ◌↔◌, ℕ, length, vec_len, vec_capacity, IfOk, IsErrOf, Ok, Err};
+ghost use Rattle.std.specs.Prelude.{◌≡◌, ◌≢◌, ◌+◌, ◌^◌, ◌<◌, ◌≤◌, ◌++◌, ◌↔◌, ℕ, length, vec_len, vec_capacity, IfOk, IsErrOf, Ok, Err};
 ghost use Rattle.vdp_chip.specs.Drawing.{Drawing, IsDrawing};
 ghost use Rattle.vdp_chip.specs.Picture.{picture_length};
 ghost use Rattle.vdp_chip.specs.Saved.{drawing_of, numbers_of};
-ghost use Rattle.vdp_chip.specs.Spelling.{GoesWrongAt, Spells, drawing_bytes, drawing_size};
+ghost use Rattle.vdp_chip.specs.Spelling.{GoesWrongAt, IsReady, Spells, drained, drawing_bytes, drawing_size};
 
 use crate::chip::{ChipVdp, black, empty_view};
 use crate::kept::Kept;
@@ -26,14 +26,25 @@ impl ChipVdp {
         }
     }
 
+    /// Tells what holds of every chip: its lengths and its lines, and that its cycle has eight bytes.
+    fn known(&self)
+        ensures drawing { IsDrawing self.now }
+        ensures next { self.now.next < 2 ^ 64 }
+    {
+        let _next = self.next;
+    }
+
     /// Appends the bytes of a saved state at a cycle that keep this chip, 215,050 in all. There is room
-    /// for them. A frame that waits to be handed out is not kept.
+    /// for them. A frame that waits to be handed out is not kept. They are read again where the next event
+    /// is the first of a line from the cycle on.
     pub fn spell(&self, at: u64, into: &mut Vec<u8>)
         requires { vec_len into.old + drawing_size ≤ vec_capacity into.old }
         ensures bytes { into.new.items ≡ into.old.items ++ drawing_bytes self.now }
         ensures length { vec_len into.new ≡ vec_len into.old + drawing_size }
         ensures room { vec_capacity into.old ≤ vec_capacity into.new }
+        ensures kept { IsReady at self.now → Spells at (drawing_bytes self.now) (drained self.now) }
     {
+        self.known();
         put(&self.saved().fields(at), into);
     }
 

@@ -1,6 +1,6 @@
 ghost use Rattle.std.specs.Prelude.{◌≡◌, ◌+◌, ◌*◌, ◌^◌, ◌<◌, ◌≤◌, ◌++◌, ℕ, List, length, vec_capacity, vec_len};
 ghost use Rattle.vdp_ports.specs.Dma.{with_rest};
-ghost use Rattle.vdp_ports.specs.Spelling.{vdp_bytes, vdp_size};
+ghost use Rattle.vdp_ports.specs.Spelling.{Spells, vdp_bytes, vdp_size};
 ghost use Rattle.vdp_ports.specs.Vdp.{Vdp};
 ghost use Rattle.vdp_ports.specs.Pins.{HasSamePins};
 ghost use Rattle.vdp_ports.specs.Rules.{HasRules};
@@ -205,13 +205,16 @@ fn rest_after(state: &VdpState, count: u32) -> Rest
 }
 
 /// Appends the bytes of a saved state at a cycle that keep this VDP, 65,812 in all, as once its fill or
-/// copy is settled to the cycle. There is room for them. The VDP stays as it is.
+/// copy is settled to the cycle. There is room for them. They are read again where the rules hold at an
+/// earlier cycle. The VDP stays as it is.
 pub fn spell(state: &VdpState, at: u64, into: &mut Vec<u8>)
     requires cycle { at ≤ 2 ^ 50 }
     requires room { vec_len into.old + vdp_size ≤ vec_capacity into.old }
     ensures bytes { into.new.items ≡ into.old.items ++ vdp_bytes (meaning.settled at state.now) }
     ensures length { vec_len into.new ≡ vec_len into.old + vdp_size }
     ensures room { vec_capacity into.old ≤ vec_capacity into.new }
+    ensures kept { (earlier : ℕ) → earlier ≤ at → HasRules earlier state.now
+        → Spells at (vdp_bytes (meaning.settled at state.now)) (meaning.settled at state.now) }
 {
     let count = due(state, at);
     if count == 0 {

@@ -6,7 +6,7 @@ use Rattle.std.proofs.lemmas.List.Elements.{All-set, All-replicate}
 use Rattle.vdp_ports.specs.Vdp.{Vdp, register, at_power_on}
 use Rattle.vdp_ports.specs.Dma.{length_of, dropped, filling, copying}
 use Rattle.vdp_ports.specs.Data.{accessed, put, transferred, written}
-use Rattle.vdp_ports.specs.Control.{stored, first, second, started, armed, starts, transfers, controlled, status_read}
+use Rattle.vdp_ports.specs.Control.{stored, first, second, started, armed, starts, transfers, controlled, status_read, acknowledged}
 use Rattle.vdp_ports.specs.Rules.{HasRules}
 
 length-some : (s : Vdp) → 0 < length_of s
@@ -57,9 +57,9 @@ copying-kept cycle at s l h = record {
   };
 }
 
-first-kept : (at word : ℕ) (s : Vdp) → word < 0x1_0000 → HasRules at s → HasRules at (first word s)
+first-kept : (at word : ℕ) (s : Vdp) → HasRules at s → HasRules at (first word s)
 unfolding first
-first-kept at word s w h = record { code = omega (arith, w, h.code); interval = h.interval; cram = h.cram; vsram = h.vsram; going = h.going }
+first-kept at word s h = record { code = omega (arith, h.code); interval = h.interval; cram = h.cram; vsram = h.vsram; going = h.going }
 
 second-kept : (at word : ℕ) (s : Vdp) → HasRules at s → HasRules at (second word s)
 unfolding second
@@ -132,12 +132,19 @@ unfolding started
 started-kept cycle at s l h =
     kept_if (transfers s) at _ _ (λ e. dropped-kept at s h) (λ e. kept_if (register s 23 / 64 == 2) at _ _ (λ f. armed-kept at s h) (λ f. copying-kept cycle at s l h))
 
-pub controlled_kept : (cycle at word : ℕ) (s : Vdp) → word < 0x1_0000 → cycle < at → HasRules at s → HasRules at (controlled cycle word s)
+pub controlled_kept : (cycle at word : ℕ) (s : Vdp) → cycle < at → HasRules at s → HasRules at (controlled cycle word s)
 unfolding controlled
-controlled_kept cycle at word s w l h =
+controlled_kept cycle at word s l h =
     kept_if s.pending at _ _
     (λ p. kept_if (starts (second word s)) at _ _ (λ e. started-kept cycle at (second word s) l (second-kept at word s h)) (λ e. second-kept at word s h))
-    (λ p. kept_if (word / 0x4000 == 2) at _ _ (λ e. stored-kept at word s h) (λ e. first-kept at word s w h))
+    (λ p. kept_if (word / 0x4000 == 2) at _ _ (λ e. stored-kept at word s h) (λ e. first-kept at word s h))
+
+pub acknowledged_kept : (at level : ℕ) (s : Vdp) → HasRules at s → HasRules at (acknowledged level s)
+unfolding acknowledged
+acknowledged_kept at level s h =
+    kept_if (level == 6) at _ _
+    (λ e. record { code = h.code; interval = h.interval; cram = h.cram; vsram = h.vsram; going = h.going })
+    (λ e. kept_if (level == 4) at _ _ (λ f. record { code = h.code; interval = h.interval; cram = h.cram; vsram = h.vsram; going = h.going }) (λ f. h))
 
 pub power_on_rules : (at : ℕ) → HasRules at at_power_on
 power_on_rules at = record {

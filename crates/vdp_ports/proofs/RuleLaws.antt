@@ -81,7 +81,7 @@ goes_from at (suc (suc zero)) byte source address left next g =
     )
 goes_from at (suc (suc (suc kind))) byte source address left next g = absurd (let few = leb-true (suc (suc (suc kind))) 2 g.known in omega (arith, few))
 
-both : (a b : Bool) → a ≡ true → b ≡ true → (a && b) ≡ true
+pub both : (a b : Bool) → a ≡ true → b ≡ true → (a && b) ≡ true
 both true b e f = f
 both false b e f = absurd cc
 
@@ -151,7 +151,7 @@ interval_to at from to (inr some) =
     (both _ _ (lt-ltb from at some.1)
     (both _ _ (le-leb from to (omega (arith, some.2))) (eq-eqb (to - from) line (omega (arith, some.2))))))
 
-flag_small : (flag : Bool) → leb (flag_number flag) 1 ≡ true
+pub flag_small : (flag : Bool) → leb (flag_number flag) 1 ≡ true
 flag_small true = refl
 flag_small false = refl
 
@@ -261,7 +261,7 @@ pub record IsInRange (s : Vdp) : Type 0 where
   pub int_from : s.int_from < 2 ^ 64
   pub int_to : s.int_to < 2 ^ 64
 
-flag_byte : (flag : Bool) → flag_number flag < 2 ^ 8
+pub flag_byte : (flag : Bool) → flag_number flag < 2 ^ 8
 flag_byte true = omega arith
 flag_byte false = omega arith
 

@@ -13,7 +13,7 @@ stored word s =
 unfoldable pub first : ℕ → Vdp → Vdp
 first word s = record s {
   pending = true;
-  code = s.code / 4 * 4 + word / 0x4000;
+  code = s.code / 4 * 4 + word / 0x4000 % 4;
   a = s.a / 0x4000 * 0x4000 + word % 0x4000;
 }
 

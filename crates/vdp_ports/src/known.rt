@@ -1,7 +1,8 @@
 //! What holds of the numbers of every VDP: they fit the bytes that they take.
-ghost use Rattle.std.specs.Prelude.{◌^◌, ◌<◌, ℕ, slice_index};
+ghost use Rattle.std.specs.Prelude.{◌≡◌, ◌^◌, ◌<◌, ℕ, length, slice_index};
 ghost use Rattle.vdp_ports.specs.Vdp.{IsVdp};
 
+use crate::dma::Rest;
 use crate::state::VdpState;
 
 /// Each word has two bytes.
@@ -56,4 +57,28 @@ pub fn known_interval(state: &VdpState)
 {
     let _int_from = state.int_from;
     let _int_to = state.int_to;
+}
+
+/// Another memory has the size of VRAM.
+pub fn known_size(vram: &[u8; 65536])
+    ensures { length vram.now ≡ 0x1_0000 }
+{
+    let _vram = vram;
+}
+
+/// Another rest of a fill or copy fits its bytes too.
+pub fn known_rest(rest: &Rest)
+    ensures dma_kind { rest.now.dma_kind < 2 ^ 8 }
+    ensures byte { rest.now.byte < 2 ^ 8 }
+    ensures source { rest.now.source < 2 ^ 16 }
+    ensures address { rest.now.address < 2 ^ 16 }
+    ensures left { rest.now.left < 2 ^ 32 }
+    ensures next_stamp { rest.now.next_stamp < 2 ^ 64 }
+{
+    let _dma_kind = rest.dma_kind;
+    let _byte = rest.byte;
+    let _source = rest.source;
+    let _address = rest.address;
+    let _left = rest.left;
+    let _next_stamp = rest.next_stamp;
 }

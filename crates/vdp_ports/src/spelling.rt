@@ -4,7 +4,7 @@ ghost use Rattle.vdp_ports.specs.Spelling.{GoesWrongAt, IsSettled, Spells, vdp_b
 ghost use Rattle.vdp_ports.specs.Vdp.{Vdp};
 
 use crate::dma::Rest;
-use crate::known::{known_dma, known_interval, known_memories, known_port};
+use crate::known::{known_dma, known_interval, known_memories, known_port, known_rest, known_size};
 use crate::saved::SavedVdp;
 use crate::state::VdpState;
 use md_fields::put;
@@ -29,13 +29,20 @@ impl VdpState {
     }
 
     /// Appends the bytes of a saved state that keep this VDP with another memory and another rest of a
-    /// fill or copy, as once it is settled.
+    /// fill or copy, as once it is settled. They are read again where those are settled to the cycle.
     pub fn spell_with(&self, vram: &[u8; 65536], rest: Rest, at: u64, into: &mut Vec<u8>)
         requires { vec_len into.old + vdp_size ≤ vec_capacity into.old }
         ensures bytes { into.new.items ≡ into.old.items ++ vdp_bytes (with_rest self.now vram.now rest) }
         ensures length { vec_len into.new ≡ vec_len into.old + vdp_size }
         ensures room { vec_capacity into.old ≤ vec_capacity into.new }
+        ensures kept { IsSettled at (with_rest self.now vram.now rest)
+            → Spells at (vdp_bytes (with_rest self.now vram.now rest)) (with_rest self.now vram.now rest) }
     {
+        known_memories(self);
+        known_port(self);
+        known_interval(self);
+        known_size(vram);
+        known_rest(&rest);
         put(&SavedVdp::with(self, vram, rest).fields(at), into);
     }
 

@@ -2,7 +2,7 @@ use Rattle.std.proofs.Common.{◌++◌, List, ℕ, ap, ◌∙◌, arith}
 use Rattle.md_fields.specs.Fields.{spelling, sizes}
 use Rattle.md_fields.proofs.Standing.{long_as_sized}
 use Rattle.vdp_chip.specs.Saved.{DrawingNumbers, drawing_fields}
-use Rattle.vdp_chip.proofs.SavedLaws.{fields_size, same_bytes}
+use Rattle.vdp_chip.proofs.SavedLaws.{fields_size, same_bytes, spelled_back}
 use Rattle.vdp_chip.proofs.chip.ChipVdp.spell.Goals as goal
 
 pub put-requires : goal.put-requires
@@ -13,3 +13,6 @@ returns-clause-bytes c = c.put.ensures.bytes ∙ ap (λ (l : List ℕ). c.args.i
 
 pub returns-clause-length : goal.returns-clause-length
 returns-clause-length c = omega (arith, c.put.ensures.length, long_as_sized _ c.fields.ensures.sizes ∙ ap sizes c.fields.ensures.fields ∙ fields_size c.args.at c.saved.result)
+
+pub returns-clause-kept : goal.returns-clause-kept
+returns-clause-kept c = λ is. spelled_back c.args.at c.args.self.now c.known.ensures.drawing c.known.ensures.next is
