@@ -15,7 +15,7 @@ use Rattle.fm_chip.specs.Batches.{Course, written_all, made_below, due, course, 
 use Rattle.fm_chip.specs.History.{stamped, chip_before, sides_at, Continues, sixteen, IsNextBatch}
 
 -- later writes change no chip before them
-chip_before-before : (low high : ℕ) (history ws : List FmWrite) → IsInOrder low high ws → (k : ℕ) → 1008 * k ≤ low
+pub chip_before-before : (low high : ℕ) (history ws : List FmWrite) → IsInOrder low high ws → (k : ℕ) → 1008 * k ≤ low
     → chip_before (history ++ ws) k ≡ chip_before history k
 unfolding chip_before
 chip_before-before low high history ws o zero h = refl

@@ -5,3 +5,5 @@ pub mod Overflows
 pub mod PortBytes
 pub mod Ports
 pub mod SynthBytes
+pub mod SynthKept
+pub mod Timing

@@ -10,20 +10,20 @@ use Rattle.std.proofs.lemmas.List.{append-nil, length-append, length-take, lengt
 use Rattle.std.proofs.lemmas.List.Elements.{All-cons, All-nil}
 use Rattle.md_word.specs.Coding.{flag_number}
 use Rattle.md_word.specs.declared.key.Key.{Key}
-use Rattle.md_fields.specs.Fields.{AllHold, Field, first_wrong, sizes, spelling}
+use Rattle.md_fields.specs.Fields.{AreWithin, AllHold, Field, first_wrong, sizes, spelling}
 use Rattle.md_fields.specs.Items.{IsRight, Keeps}
 use Rattle.md_fields.specs.Padding.{are_zeros, padded}
 use Rattle.md_fields.specs.Places.{IsBytes, Stand, number_at}
 use Rattle.md_fields.proofs.Flags.{flag_again, flag_back}
-use Rattle.md_fields.proofs.Items.{all_hold, kept, not_both, one_place, same}
-use Rattle.md_fields.proofs.Padding.{padded_back}
+use Rattle.md_fields.proofs.Items.{none_wrong, all_hold, kept, not_both, one_place, same}
+use Rattle.md_fields.proofs.Padding.{padded_back, padded_length, padded_zeros}
 use Rattle.md_fields.proofs.Standing.{IsBytes-drop, IsBytes-take}
 use Rattle.stamped_writes.specs.Entries.{AreFit, entries_bytes}
 use Rattle.stamped_writes.specs.Keys.{is_kept}
 use Rattle.stamped_writes.proofs.Entries as entries
-use Rattle.md_fields.proofs.Tables.{first_behind, first_front, spelling_append}
+use Rattle.md_fields.proofs.Tables.{within_append, first_behind, first_front, spelling_append}
 use Rattle.fm_chip.specs.Port.{IsPort, Port}
-use Rattle.fm_chip.specs.PortSpelling.{PortGoesWrongAt, SavedPort, SpellsPort, are_right, at_most_2, are_writes, is_next, is_write, key_of, list_fields, number_fields, port_bytes, port_fields, port_from, port_with, saved_numbers, saved_port, saved_write, write_at, write_fields, write_from, writes_at, writes_from}
+use Rattle.fm_chip.specs.PortSpelling.{are_timed, PortGoesWrongAt, SavedPort, SpellsPort, are_right, at_most_2, are_writes, is_next, is_write, key_of, list_fields, number_fields, port_bytes, port_fields, port_from, port_with, saved_numbers, saved_port, saved_write, write_at, write_fields, write_from, writes_at, writes_from}
 use Rattle.fm_chip.specs.declared.saved_port.SavedPort.{SavedPort as Numbers}
 use Rattle.fm_chip.specs.declared.saved_write.SavedWrite.{SavedWrite}
 use Rattle.fm_chip.specs.declared.write.FmWrite.{FmWrite}
@@ -408,3 +408,60 @@ unfolding spelling
 parts_are at p =
     ap (λ (l : List ℕ). spelling (number_fields at (saved_numbers p)) ++ l) (list_are p.writes)
     ∙ sym (spelling_append (number_fields 0 (saved_numbers p)) (list_fields 0 (saved_port p)))
+
+-- ---- a port whose rules hold is kept by its bytes
+
+flag_few : (b : Bool) → flag_number b ≤ 1
+flag_few true = omega arith
+flag_few false = omega arith
+
+-- its numbers fit their fields
+pub numbers_within : (at : ℕ) (n : Numbers) → n.first < 2 ^ 8 → n.second < 2 ^ 8 → n.high_a < 2 ^ 8 → n.low_a < 2 ^ 8 → n.number_b < 2 ^ 8 → n.control < 2 ^ 8
+    → n.next_a < 2 ^ 64 → n.next_b < 2 ^ 64 → n.run_a ≤ 1 → n.run_b ≤ 1 → n.flag_a ≤ 1 → n.flag_b ≤ 1 → AreWithin (number_fields at n)
+unfolding AreWithin
+numbers_within at n h0 h1 h2 h3 h4 h5 h7 h9 run_a run_b flag_a flag_b =
+    (h0, (h1, (h2, (h3, (h4, (h5, (omega (arith, run_a), (h7, (omega (arith, run_b), (h9, (omega (arith, flag_a), (omega (arith, flag_b), tt))))))))))))
+
+pub port_within : (at : ℕ) (p : Port) (n : Numbers) → n ≡ saved_numbers p → n.first < 2 ^ 8 → n.second < 2 ^ 8 → n.high_a < 2 ^ 8 → n.low_a < 2 ^ 8 → n.number_b < 2 ^ 8 → n.control < 2 ^ 8
+    → n.next_a < 2 ^ 64 → n.next_b < 2 ^ 64 → AreWithin (number_fields at (saved_numbers p))
+port_within at p n is h0 h1 h2 h3 h4 h5 h7 h9 =
+    subst (λ (k : Numbers). AreWithin (number_fields at k)) is
+    (numbers_within at n h0 h1 h2 h3 h4 h5 h7 h9
+    (subst (λ (k : Numbers). k.run_a ≤ 1) (sym is) (flag_few p.timers.a.run)) (subst (λ (k : Numbers). k.run_b ≤ 1) (sym is) (flag_few p.timers.b.run))
+    (subst (λ (k : Numbers). k.flag_a ≤ 1) (sym is) (flag_few p.timers.a.flag)) (subst (λ (k : Numbers). k.flag_b ≤ 1) (sym is) (flag_few p.timers.b.flag)))
+
+flag_right : (b : Bool) → nat_le (flag_number b) 1 ≡ true
+flag_right true = refl
+flag_right false = refl
+
+numbers_right : (at : ℕ) (p : Port) → are_timed at p.timers ≡ true → first_wrong 0 (number_fields at (saved_numbers p)) ≡ None
+unfolding AllHold
+numbers_right at p timed =
+    let parts = and_parts _ _ timed in
+    none_wrong 0 (number_fields at (saved_numbers p))
+    (refl, (refl, (refl, (refl, (refl, (refl, (parts.0, (refl, (parts.1, (refl, (flag_right p.timers.a.flag, (flag_right p.timers.b.flag, tt))))))))))))
+
+keeps_own : (at : ℕ) (p : Port) → length p.writes ≤ 1024 → AreWithin (number_fields at (saved_numbers p)) → Keeps (port_fields at) (port_bytes p) (saved_port p)
+unfolding AreWithin spelling
+keeps_own at p few within = record {
+  within =
+      within_append (number_fields at (saved_numbers p)) (list_fields at (saved_port p)) within
+      (omega (arith, few), (padded_length 12288 (entries_bytes write_fields (map saved_write p.writes)) (omega (arith, entries_size p.writes, few)), tt));
+  all = refl;
+}
+
+pub port_kept : (at : ℕ) (p : Port) → length p.writes ≤ 1024 → AreWithin (number_fields at (saved_numbers p)) → AreFit write_fields (map saved_write p.writes)
+    → are_timed at p.timers ≡ true → are_right at (map saved_write p.writes) ≡ true → SpellsPort at (port_bytes p) p
+port_kept at p few within fit timed right =
+    let es : List SavedWrite = map saved_write p.writes in
+    let padding : List ℕ = padded 12288 (entries_bytes write_fields es) in
+    let again : writes_at (length p.writes) padding ≡ es =
+    ap (λ (n : ℕ). writes_at n padding) (sym (length-map p.writes saved_write))
+    ∙ entries.entries_read 12 write_fields write_at write_size write_stands write_only es [] (replicate (12288 - length (entries_bytes write_fields es)) 0) fit in
+    record {
+      keeps = keeps_own at p few within;
+      right = behind at (saved_port p) (numbers_right at p timed)
+          ∙ none_by at (saved_port p) (all_right at (length p.writes) padding few (ap (are_right at) again ∙ right)
+          (ap (λ (n : ℕ). are_zeros (drop n padding)) (sym (entries_size p.writes)) ∙ padded_zeros 12288 (entries_bytes write_fields es)));
+      fit = fit;
+    }

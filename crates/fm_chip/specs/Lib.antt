@@ -12,4 +12,5 @@ pub mod Stamp
 pub mod Steps
 pub mod Synth
 pub mod SynthSpelling
+pub mod Timed
 pub mod Timers

@@ -74,6 +74,11 @@ is_next at longest run next = if run == 1 then nat_le at next && nat_lt (next - 
 abbrev pub is_timer : ℕ → ℕ → ℕ → ℕ → ℕ → Bool
 is_timer at longest bit run next = (run == bit) && is_next at longest run next
 
+-- both timers of a port are so at a cycle
+abbrev pub are_timed : ℕ → Timers → Bool
+are_timed at t =
+    is_timer at 1032192 (t.control % 2) (flag_number t.a.run) t.a.next && is_timer at 4128768 (t.control / 2 % 2) (flag_number t.b.run) t.b.next
+
 -- at most 1,024 writes, with keys that a port holds at the cycle, and zeros behind them
 abbrev pub are_right : ℕ → List SavedWrite → Bool
 are_right at ws = list_all is_write ws && are_kept at (map key_of ws)

@@ -1,9 +1,10 @@
-ghost use Rattle.std.specs.Prelude.{◌≡◌, ◌≢◌, ◌↔◌, ◌+◌, ◌*◌, ◌^◌, ◌≤◌, ◌++◌, ℕ, List, length, map, is_some, vec_len, vec_capacity, IfErr, IfOk, IfSome, IsErrOf, Ok, Err};
+ghost use Rattle.std.specs.Prelude.{◌≡◌, ◌≢◌, ◌↔◌, ◌+◌, ◌*◌, ◌^◌, ◌<◌, ◌≤◌, ◌++◌, ℕ, true, List, length, map, is_some, vec_len, vec_capacity, IfErr, IfOk, IfSome, IsErrOf, Ok, Err};
 ghost use Rattle.std.specs.List.{list_all};
-ghost use Rattle.md_fields.specs.Fields.{spelling};
-ghost use Rattle.stamped_writes.specs.Entries.{entries_bytes};
+ghost use Rattle.md_fields.specs.Fields.{AreWithin, spelling};
+ghost use Rattle.stamped_writes.specs.Entries.{AreFit, entries_bytes};
 ghost use Rattle.stamped_writes.specs.Keys.{are_kept};
 ghost use Rattle.fm_chip.specs.Port.{Port};
+ghost use Rattle.fm_chip.specs.Timed.{AreTimed};
 ghost use Rattle.fm_chip.specs.PortSpelling as meaning;
 ghost use Rattle.fm_chip.specs.PortSpelling.{PortGoesWrongAt, SpellsPort, port_bytes, settled_port};
 ghost use Rattle.fm_chip.specs.declared.write.FmWrite.{FmWrite as Write};
@@ -31,21 +32,23 @@ const LENGTH: usize = 12_316;
 
 impl FmPort {
     /// Appends the bytes of a saved state at a cycle, of at most 2^50, that keep this port, 12,316: the
-    /// overflows of its timers below the cycle are made there. There is room for them.
+    /// overflows of its timers below the cycle are made there. There is room for them. Where its rules
+    /// hold at the cycle, the bytes keep the port that is settled there.
     pub fn spell(&self, at: u64, into: &mut Vec<u8>)
         requires cycle { at ≤ 2 ^ 50 }
         requires room { vec_len into.old + 12316 ≤ vec_capacity into.old }
         ensures bytes { into.new.items ≡ into.old.items ++ port_bytes (settled_port at self.now) }
         ensures length { vec_len into.new ≡ vec_len into.old + 12316 }
         ensures room { vec_capacity into.old ≤ vec_capacity into.new }
+        ensures kept { AreTimed at self.now.timers → meaning.are_right at (map meaning.saved_write self.now.writes) ≡ true
+            → SpellsPort at (port_bytes (settled_port at self.now)) (settled_port at self.now) }
     {
         let mut timers = self.timers;
         timers.settle(at);
         let count = self.writes.len();
-        put(
-            &numbers_of(self.first, self.second, &timers).fields(at),
-            into,
-        );
+        let numbers = numbers_of(self.first, self.second, &timers);
+        known_numbers(&numbers);
+        put(&numbers.fields(at), into);
         put_count(count as u16, into);
         put_writes(self.writes.as_slice(), into);
         put_zeros(WRITE * (MOST - count), into);
@@ -191,13 +194,48 @@ fn numbers_of(first: u8, second: u8, timers: &Timers) -> SavedPort
     }
 }
 
+/// Each number that is more than a bit fits its field.
+fn known_numbers(numbers: &SavedPort)
+    ensures first { numbers.now.first < 2 ^ 8 }
+    ensures second { numbers.now.second < 2 ^ 8 }
+    ensures high_a { numbers.now.high_a < 2 ^ 8 }
+    ensures low_a { numbers.now.low_a < 2 ^ 8 }
+    ensures number_b { numbers.now.number_b < 2 ^ 8 }
+    ensures control { numbers.now.control < 2 ^ 8 }
+    ensures next_a { numbers.now.next_a < 2 ^ 64 }
+    ensures next_b { numbers.now.next_b < 2 ^ 64 }
+{
+    let _first = numbers.first;
+    let _second = numbers.second;
+    let _high_a = numbers.high_a;
+    let _low_a = numbers.low_a;
+    let _number_b = numbers.number_b;
+    let _control = numbers.control;
+    let _next_a = numbers.next_a;
+    let _next_b = numbers.next_b;
+}
+
+/// Each number of a write fits its field.
+#[tactic(auto, unfolding(md_fields::specs::Fields::AreWithin))]
+fn known_write(write: &FmWrite)
+    ensures { AreWithin (meaning.write_fields (meaning.saved_write write.now)) }
+{
+    let _cycle = write.key.cycle;
+    let _chip = write.key.chip;
+    let _port = write.port;
+    let _register = write.register;
+    let _value = write.value;
+}
+
 #[tactic(auto, unfolding(md_fields::specs::Fields::spelling))]
 fn put_write(write: &FmWrite, into: &mut Vec<u8>)
     requires { vec_len into.old + 12 ≤ vec_capacity into.old }
     ensures bytes { into.new.items ≡ into.old.items ++ spelling (meaning.write_fields (meaning.saved_write write.now)) }
     ensures length { vec_len into.new ≡ vec_len into.old + 12 }
     ensures room { vec_capacity into.old ≤ vec_capacity into.new }
+    ensures within { AreWithin (meaning.write_fields (meaning.saved_write write.now)) }
 {
+    known_write(write);
     put(&SavedWrite::of(write).fields(), into);
 }
 
@@ -207,6 +245,7 @@ fn put_writes(writes: &[FmWrite], into: &mut Vec<u8>)
     ensures bytes { into.new.items ≡ into.old.items ++ entries_bytes meaning.write_fields (map meaning.saved_write writes.now) }
     ensures length { vec_len into.new ≡ vec_len into.old + 12 * length writes.now }
     ensures room { vec_capacity into.old ≤ vec_capacity into.new }
+    ensures fit { AreFit meaning.write_fields (map meaning.saved_write writes.now) }
 {
     let mut rest = writes;
     while let [write, after @ ..] = rest {

@@ -14,13 +14,16 @@ use std::alloc::Global;
 const LENGTH: usize = 741;
 
 impl FmSynth {
-    /// Appends the bytes of a saved state that keep this chip, 741. There is room for them.
+    /// Appends the bytes of a saved state that keep this chip, 741. There is room for them. They are read
+    /// again.
     pub fn spell(&self, _at: u64, into: &mut Vec<u8>)
         requires { vec_len into.old + 741 ≤ vec_capacity into.old }
         ensures bytes { into.new.items ≡ into.old.items ++ synth_bytes self.now }
         ensures length { vec_len into.new ≡ vec_len into.old + 741 }
         ensures room { vec_capacity into.old ≤ vec_capacity into.new }
+        ensures kept { SpellsSynth (synth_bytes self.now) self.now }
     {
+        let _ = &self.latches;
         self.saved().put(into);
     }
 

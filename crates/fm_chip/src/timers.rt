@@ -1,6 +1,8 @@
-ghost use Rattle.std.specs.Prelude.{◌≡◌, ◌+◌, ◌*◌, ◌^◌, ◌<◌, ◌≤◌, ℕ};
+ghost use Rattle.std.specs.Prelude.{◌≡◌, ◌+◌, ◌*◌, ◌^◌, ◌<◌, ◌≤◌, ℕ, true};
 ghost use Rattle.fm_chip.specs.Timers as meaning;
 ghost use Rattle.fm_chip.specs.Timers.{IsTimers};
+ghost use Rattle.fm_chip.specs.Timed.{AreTimed};
+ghost use Rattle.fm_chip.specs.PortSpelling.{are_timed};
 
 use crate::timer::Timer;
 
@@ -65,6 +67,7 @@ impl Timers {
         ensures timers { IsTimers self.new }
         ensures later { (later : ℕ) → cycle ≤ later
             → meaning.both_settled later self.new ≡ meaning.both_settled later self.old }
+        ensures timed { AreTimed cycle self.old → are_timed cycle self.new ≡ true }
     {
         let (period_a, period_b) = (self.period_a(), self.period_b());
         self.a.settle(cycle, period_a, self.control / 4 % 2 == 1);

@@ -5,3 +5,4 @@ pub mod Histories
 pub mod Levels
 pub mod PortBytes
 pub mod SynthBytes
+pub mod SynthKept

@@ -6,12 +6,12 @@ use Rattle.std.specs.Int.{w16, to_be_bytes}
 use Rattle.std.proofs.lemmas.Bool.{and_parts, le-leb, leb-true, lt-leb, ltb-true}
 use Rattle.std.proofs.lemmas.List.{append-nil, length-append, length-take, length-drop, take_at}
 use Rattle.std.proofs.lemmas.List.Elements.{All-cons, All-nil}
-use Rattle.md_fields.specs.Fields.{AllHold, Field, first_wrong, sizes, spelling}
+use Rattle.md_fields.specs.Fields.{AllHold, AreWithin, Field, first_wrong, sizes, spelling}
 use Rattle.md_fields.specs.Items.{IsRight, Keeps}
 use Rattle.md_fields.specs.Padding.{are_zeros, padded}
 use Rattle.md_fields.specs.Places.{IsBytes, Stand, number_at}
 use Rattle.md_fields.proofs.Items.{all_hold, kept, not_both, one_place, same}
-use Rattle.md_fields.proofs.Padding.{padded_back}
+use Rattle.md_fields.proofs.Padding.{padded_back, padded_length, padded_zeros}
 use Rattle.md_fields.proofs.Standing.{IsBytes-drop, IsBytes-take}
 use Rattle.stamped_writes.specs.Entries.{AreFit, entries_bytes}
 use Rattle.stamped_writes.specs.Keys.{are_kept, is_kept}
@@ -186,3 +186,22 @@ pub left_there : (count size : ℕ) (bytes : List ℕ) → length bytes ≡ 1024
 left_there count size bytes long same =
     take_all size (drop (10 * count) (take 10240 (drop 2 bytes)))
     (omega (arith, same, long, length-drop (10 * count) (take 10240 (drop 2 bytes)), length-take 10240 (drop 2 bytes), length-drop 2 bytes))
+
+-- a port whose rules hold is kept by its bytes
+keeps_own : (at : ℕ) (ws : List PsgWrite) → length ws ≤ 1024 → Keeps (port_fields at) (port_bytes ws) (saved_port ws)
+unfolding AreWithin spelling
+keeps_own at ws few = record {
+  within = (omega (arith, few), (padded_length 10240 (entries_bytes write_fields ws) (omega (arith, entries_size ws, few)), tt));
+  all = refl;
+}
+
+pub port_kept : (at : ℕ) (ws : List PsgWrite) → IsPort ws → AreFit write_fields ws → are_kept at (map key_of ws) ≡ true → SpellsPort at (port_bytes ws) ws
+port_kept at ws port fit kept =
+    let padding : List ℕ = padded 10240 (entries_bytes write_fields ws) in
+    record {
+      keeps = keeps_own at ws port.most;
+      right = right_by at (saved_port ws) (all_right at (saved_port ws) port.most
+          (ap (λ (l : List PsgWrite). are_kept at (map key_of l)) (writes_again ws fit) ∙ kept)
+          (ap (λ (n : ℕ). are_zeros (drop n padding)) (sym (entries_size ws)) ∙ padded_zeros 10240 (entries_bytes write_fields ws)));
+      fit = fit;
+    }

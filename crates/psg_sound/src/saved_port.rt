@@ -1,6 +1,6 @@
 ghost use Rattle.std.specs.Prelude.{◌≡◌, ◌+◌, ◌*◌, ◌≤◌, ◌++◌, length, map, vec_len, vec_capacity};
-ghost use Rattle.md_fields.specs.Fields.{seen, spelling};
-ghost use Rattle.stamped_writes.specs.Entries.{entries_bytes};
+ghost use Rattle.md_fields.specs.Fields.{AreWithin, seen, spelling};
+ghost use Rattle.stamped_writes.specs.Entries.{AreFit, entries_bytes};
 ghost use Rattle.stamped_writes.specs.Keys.{are_kept};
 ghost use Rattle.psg_sound.specs.PortSpelling as meaning;
 
@@ -26,13 +26,25 @@ fn fields_of(write: &PsgWrite) -> [Field<'_>; 3]
     ]
 }
 
+/// Each number of a write fits its field.
+#[tactic(auto, unfolding(md_fields::specs::Fields::AreWithin))]
+fn known_write(write: &PsgWrite)
+    ensures { AreWithin (meaning.write_fields write.now) }
+{
+    let _cycle = write.key.cycle;
+    let _chip = write.key.chip;
+    let _value = write.value;
+}
+
 #[tactic(auto, unfolding(md_fields::specs::Fields::spelling))]
 fn put_write(write: &PsgWrite, into: &mut Vec<u8>)
     requires { vec_len into.old + 10 ≤ vec_capacity into.old }
     ensures bytes { into.new.items ≡ into.old.items ++ spelling (meaning.write_fields write.now) }
     ensures length { vec_len into.new ≡ vec_len into.old + 10 }
     ensures room { vec_capacity into.old ≤ vec_capacity into.new }
+    ensures within { AreWithin (meaning.write_fields write.now) }
 {
+    known_write(write);
     put(&fields_of(write), into);
 }
 
@@ -42,6 +54,7 @@ pub fn put_writes(writes: &[PsgWrite], into: &mut Vec<u8>)
     ensures bytes { into.new.items ≡ into.old.items ++ entries_bytes meaning.write_fields writes.now }
     ensures length { vec_len into.new ≡ vec_len into.old + 10 * length writes.now }
     ensures room { vec_capacity into.old ≤ vec_capacity into.new }
+    ensures fit { AreFit meaning.write_fields writes.now }
 {
     let mut rest = writes;
     while let [write, after @ ..] = rest {

@@ -1,6 +1,7 @@
-ghost use Rattle.std.specs.Prelude.{◌≡◌, ◌≢◌, ◌↔◌, ◌+◌, ◌≤◌, ◌++◌, ℕ, List, vec_len, vec_capacity, IfErr, IfOk, IsErrOf, Ok, Err};
+ghost use Rattle.std.specs.Prelude.{◌≡◌, ◌≢◌, ◌↔◌, ◌+◌, ◌≤◌, ◌++◌, ℕ, List, map, true, vec_len, vec_capacity, IfErr, IfOk, IsErrOf, Ok, Err};
 ghost use Rattle.md_fields.specs.Items.{IsRight, Keeps};
-ghost use Rattle.psg_sound.specs.PortSpelling.{PortGoesWrongAt, SpellsPort, port_bytes};
+ghost use Rattle.stamped_writes.specs.Keys.{are_kept};
+ghost use Rattle.psg_sound.specs.PortSpelling.{PortGoesWrongAt, SpellsPort, key_of, port_bytes};
 ghost use Rattle.psg_sound.specs.SynthSpelling.{SpellsSynth, SynthGoesWrongAt, saved_synth, synth_bytes, synth_fields};
 ghost use Rattle.psg_sound.specs.Synth.{Synth};
 ghost use Rattle.psg_sound.specs.declared.write.PsgWrite.{PsgWrite as Write};
@@ -21,12 +22,14 @@ const PORT: usize = 10_242;
 const SYNTH: usize = 26;
 
 impl PsgPort {
-    /// Appends the bytes of a saved state that keep this port, 10,242. There is room for them.
+    /// Appends the bytes of a saved state that keep this port, 10,242. There is room for them. Where the
+    /// writes' keys are those of a state at a cycle, the bytes keep the port there.
     pub fn spell(&self, _at: u64, into: &mut Vec<u8>)
         requires { vec_len into.old + 10242 ≤ vec_capacity into.old }
         ensures bytes { into.new.items ≡ into.old.items ++ port_bytes self.now }
         ensures length { vec_len into.new ≡ vec_len into.old + 10242 }
         ensures room { vec_capacity into.old ≤ vec_capacity into.new }
+        ensures kept { (at : ℕ) → are_kept at (map key_of self.now) ≡ true → SpellsPort at (port_bytes self.now) self.now }
     {
         let count = self.writes.len();
         put_count(count as u16, into);
@@ -75,13 +78,17 @@ fn port_of(bytes: &[u8], at: u64) -> Result<PsgList, usize>
 }
 
 impl PsgSynth {
-    /// Appends the bytes of a saved state that keep this chip, 26. There is room for them.
+    /// Appends the bytes of a saved state that keep this chip, 26. There is room for them. They are read
+    /// again.
+    #[tactic(auto, using(crate::proofs::SynthKept::synth_spelled))]
     pub fn spell(&self, _at: u64, into: &mut Vec<u8>)
         requires { vec_len into.old + 26 ≤ vec_capacity into.old }
         ensures bytes { into.new.items ≡ into.old.items ++ synth_bytes self.now }
         ensures length { vec_len into.new ≡ vec_len into.old + 26 }
         ensures room { vec_capacity into.old ≤ vec_capacity into.new }
+        ensures kept { SpellsSynth (synth_bytes self.now) self.now }
     {
+        let _ = &self.latch;
         put(&self.saved().fields(), into);
     }
 

@@ -1,14 +1,15 @@
-use Rattle.std.proofs.Common.{◌≡◌, ◌∙◌, ◌++◌, ◌*◌, ◌-◌, ◌≤◌, List, ℕ, length, map, replicate, ap, append_assoc, arith}
+use Rattle.std.proofs.Common.{◌≡◌, ◌∙◌, ◌++◌, ◌*◌, ◌-◌, ◌≤◌, List, ℕ, length, map, replicate, subst, sym, true, ap, append_assoc, arith}
 use Rattle.std.specs.Int.{w16, to_be_bytes}
 use Rattle.md_fields.specs.Fields.{sizes, spelling}
 use Rattle.md_fields.proofs.Standing.{long_as_sized}
-use Rattle.stamped_writes.specs.Entries.{entries_bytes}
+use Rattle.stamped_writes.specs.Entries.{AreFit, entries_bytes}
 use Rattle.fm_chip.specs.Port.{Port}
-use Rattle.fm_chip.specs.PortSpelling.{number_fields, port_bytes, saved_numbers, saved_write, settled_port, write_fields}
+use Rattle.fm_chip.specs.Timed.{AreTimed}
+use Rattle.fm_chip.specs.PortSpelling.{SpellsPort, are_right, number_fields, port_bytes, saved_numbers, saved_write, settled_port, write_fields}
 use Rattle.fm_chip.specs.declared.saved_port.SavedPort.{SavedPort as Numbers}
 use Rattle.fm_chip.specs.declared.timers.Timers.{Timers}
 use Rattle.fm_chip.specs.declared.write.FmWrite.{FmWrite}
-use Rattle.fm_chip.proofs.PortBytes.{number_size, parts_are}
+use Rattle.fm_chip.proofs.PortBytes.{number_size, parts_are, port_kept, port_within}
 use Rattle.fm_chip.proofs.port.FmPort.spell.Goals as goal
 
 -- four parts behind what was there
@@ -20,18 +21,18 @@ parts old one two three four bytes numbers count writes unused a b d e f =
     ∙ ap (λ (l : List ℕ). old ++ l) f
 
 pub put-requires : goal.put-requires
-put-requires c = omega (arith, long_as_sized _ c.fields.ensures.sizes ∙ ap sizes c.fields.ensures.fields ∙ number_size c.args.at c.numbers_of.result, c.requires.room)
+put-requires c = omega (arith, long_as_sized _ c.fields.ensures.sizes ∙ ap sizes c.fields.ensures.fields ∙ number_size c.args.at c.numbers_of-numbers.result, c.requires.room)
 
 pub put_count-requires : goal.put_count-requires
 put_count-requires c =
-    omega (arith, long_as_sized _ c.fields.ensures.sizes ∙ ap sizes c.fields.ensures.fields ∙ number_size c.args.at c.numbers_of.result, c.requires.room, c.put.ensures.length, c.put.ensures.room)
+    omega (arith, long_as_sized _ c.fields.ensures.sizes ∙ ap sizes c.fields.ensures.fields ∙ number_size c.args.at c.numbers_of-numbers.result, c.requires.room, c.put.ensures.length, c.put.ensures.room)
 
 pub put_writes-requires : goal.put_writes-requires
 put_writes-requires c =
     let few : length c.as_slice.result.now ≤ 1024 = omega (arith, ap length c.as_slice.ensures.value, c.self.invariant.most) in
     omega (
       arith,
-      long_as_sized _ c.fields.ensures.sizes ∙ ap sizes c.fields.ensures.fields ∙ number_size c.args.at c.numbers_of.result,
+      long_as_sized _ c.fields.ensures.sizes ∙ ap sizes c.fields.ensures.fields ∙ number_size c.args.at c.numbers_of-numbers.result,
       c.requires.room,
       c.put.ensures.length,
       c.put.ensures.room,
@@ -44,7 +45,7 @@ pub put_zeros-requires-clause-room : goal.put_zeros-requires-clause-room
 put_zeros-requires-clause-room c =
     omega (
       arith,
-      long_as_sized _ c.fields.ensures.sizes ∙ ap sizes c.fields.ensures.fields ∙ number_size c.args.at c.numbers_of.result,
+      long_as_sized _ c.fields.ensures.sizes ∙ ap sizes c.fields.ensures.fields ∙ number_size c.args.at c.numbers_of-numbers.result,
       c.requires.room,
       c.put.ensures.length,
       c.put.ensures.room,
@@ -61,7 +62,7 @@ pub returns-clause-length : goal.returns-clause-length
 returns-clause-length c =
     omega (
       arith,
-      long_as_sized _ c.fields.ensures.sizes ∙ ap sizes c.fields.ensures.fields ∙ number_size c.args.at c.numbers_of.result,
+      long_as_sized _ c.fields.ensures.sizes ∙ ap sizes c.fields.ensures.fields ∙ number_size c.args.at c.numbers_of-numbers.result,
       c.put.ensures.length,
       c.put_count.ensures.length,
       c.put_writes.ensures.length,
@@ -80,8 +81,23 @@ returns-clause-bytes c =
     ∙ ap (settled_port c.args.at) c.self.view_is in
     parts c.args.into.now.items _ _ _ _ _ (spelling (number_fields c.args.at (saved_numbers p))) (to_be_bytes w16 (length ws)) (entries_bytes write_fields (map saved_write ws)) (replicate (12 * (1024 - length ws)) 0)
     (c.put.ensures.bytes ∙ ap (λ (l : List ℕ). c.args.into.now.items ++ l)
-    (ap spelling c.fields.ensures.fields ∙ ap (λ (s : Numbers). spelling (number_fields c.args.at s)) (c.numbers_of.ensures ws)))
+    (ap spelling c.fields.ensures.fields ∙ ap (λ (s : Numbers). spelling (number_fields c.args.at s)) (c.numbers_of-numbers.ensures ws)))
     (c.put_count.ensures.bytes ∙ ap (λ (n : ℕ). c.put.new.into.items ++ to_be_bytes w16 n) c.len-count.ensures.value)
     (c.put_writes.ensures.bytes ∙ ap (λ (l : List FmWrite). c.put_count.new.into.items ++ entries_bytes write_fields (map saved_write l)) c.as_slice.ensures.value)
     (c.put_zeros.ensures.bytes ∙ ap (λ (n : ℕ). c.put_writes.new.into.items ++ replicate (12 * (1024 - n)) 0) c.len-count.ensures.value)
     (parts_are c.args.at p ∙ ap port_bytes settled)
+
+pub returns-clause-kept : goal.returns-clause-kept
+returns-clause-kept c = λ timed right.
+    let ws : List FmWrite = c.self.inside.writes.items in
+    let p : Port = record { first = c.self.inside.first; second = c.self.inside.second; timers = c.settle.new.self; writes = ws } in
+    let settled : p ≡ settled_port c.args.at c.args.self.now =
+    ap (λ (t : Timers). record { first = c.self.inside.first; second = c.self.inside.second; timers = t; writes = ws }) c.settle.ensures.value
+    ∙ ap (settled_port c.args.at) c.self.view_is in
+    let known = c.known_numbers.ensures in
+    let within = port_within c.args.at p c.numbers_of-numbers.result (c.numbers_of-numbers.ensures ws) known.first known.second known.high_a known.low_a known.number_b known.control known.next_a known.next_b in
+    let fit : AreFit write_fields (map saved_write ws) = subst (λ (l : List FmWrite). AreFit write_fields (map saved_write l)) c.as_slice.ensures.value c.put_writes.ensures.fit in
+    subst (λ (q : Port). SpellsPort c.args.at (port_bytes q) q) settled
+    (port_kept c.args.at p c.self.invariant.most within fit
+    (c.settle.ensures.timed (subst (λ (q : Port). AreTimed c.args.at q.timers) (sym c.self.view_is) timed))
+    (subst (λ (q : Port). are_right c.args.at (map saved_write q.writes) ≡ true) (sym settled) right))
