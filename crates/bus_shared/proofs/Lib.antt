@@ -1,7 +1,10 @@
+pub mod Counting
+pub mod Keeping
 pub mod Keeps
 pub mod Touches
 pub mod Unseen
 pub mod Values
 pub mod Ports
+pub mod Ruled
 pub mod SavedLaws
 pub mod SpellingLaws

@@ -1,16 +1,20 @@
 -- The bytes of a saved state that keep the board: the Z80's RAM and its bank register where the bus has
 -- them, the VDP, the FM chip's port, the writes that the PSG's port holds, and the lines and the pads.
 -- The recording has no part in them. This project's profile.
-use Rattle.std.specs.Prelude.{◌≡◌, ◌⊎◌, ℕ, ◌+◌, ◌-◌, ◌<◌, ◌≤◌, min, Bool, true, false, List, ◌++◌, length, take, drop, Option, IfSome}
+use Rattle.std.specs.Prelude.{◌≡◌, ◌⊎◌, ℕ, ◌+◌, ◌-◌, ◌<◌, ◌≤◌, min, Bool, true, false, List, ◌++◌, length, map, take, drop, Option, IfSome}
 use Rattle.std.specs.Int.{w16}
 use Rattle.fm_chip.specs.PortSpelling as fm_spelling
+use Rattle.fm_chip.specs.Timed.{AreTimed}
 use Rattle.md_fields.specs.Fields.{spelling}
 use Rattle.md_fields.specs.Items.{IsRefused, IsRight, Keeps}
 use Rattle.md_fields.specs.Places.{number_at}
+use Rattle.md_pads.specs.Recording.{IsFrame}
 use Rattle.md_word.specs.declared.unspell.Unspell.{Unspell}
 use Rattle.md_word.specs.declared.unspell.Unspell.TheVariants.{Rule, NoMemory}
 use Rattle.psg_sound.specs.PortSpelling as psg_spelling
+use Rattle.stamped_writes.specs.Keys.{are_kept}
 use Rattle.vdp_dma.specs.Settling.{settled}
+use Rattle.vdp_ports.specs.Rules.{HasRules}
 use Rattle.vdp_ports.specs.Spelling as vdp_spelling
 use Rattle.z80_parcel.specs.Parcels.{IsStore, Store}
 use Rattle.z80_parcel.specs.Spelling.{store_fields}
@@ -54,6 +58,16 @@ pub record Spells (at : ℕ) (bytes : List ℕ) (board : Board) : Type 0 where
   pub held : psg_spelling.SpellsPort at (psg_spelling.port_bytes board.held) board.held
   pub lines : Keeps (lines_fields at) (lines_bytes (lines_of board)) (lines_of board)
   pub right : IsRight (lines_fields at) (lines_of board)
+
+-- a board may be kept at a cycle: the VDP, the timers and the writes that the ports of the sound chips hold
+-- have their rules, no more resets were written than cycles went by, and a pad has eight buttons
+pub record IsReady (at : ℕ) (board : Board) : Type 0 where
+  pub vdp : HasRules at board.vdp
+  pub timers : AreTimed at board.fm.timers
+  pub fm : fm_spelling.are_right at (map fm_spelling.saved_write board.fm.writes) ≡ true
+  pub held : are_kept at (map psg_spelling.key_of board.held) ≡ true
+  pub resets : board.resets ≤ at
+  pub pads : IsFrame board.pads
 
 -- ---- bytes that keep no board
 

@@ -7,7 +7,7 @@ ghost use Rattle.z80_parcel.specs.Parcels.{IsStore, store_of};
 ghost use Rattle.bus_shared.specs.Board.{AreBytes, Board};
 ghost use Rattle.bus_shared.specs.Saved.{board_from, lines_fields, lines_of};
 ghost use Rattle.std.specs.Arc.{arc_value};
-ghost use Rattle.bus_shared.specs.Spelling.{GoesWrongAt, PortsGoWrongAt, Spells, StoreGoesWrongAt, behind as place_behind, board_bytes, board_size, lines_bytes, settled_board, store_bytes};
+ghost use Rattle.bus_shared.specs.Spelling.{GoesWrongAt, IsReady, PortsGoWrongAt, Spells, StoreGoesWrongAt, behind as place_behind, board_bytes, board_size, lines_bytes, settled_board, store_bytes};
 
 use crate::saved_lines::{SavedLines, port_with};
 use crate::shared::Shared;
@@ -55,13 +55,15 @@ impl Shared {
 
     /// Appends the bytes of a saved state at a cycle that keep this board, as it is once fill, copy and
     /// timers are settled to the cycle: 88,388, and 8,194 more in front where the board has the Z80's
-    /// RAM. There is room for them. The board stays as it is.
+    /// RAM. There is room for them. They are read again where the rules of the parts hold. The board stays
+    /// as it is.
     pub fn spell(&self, at: u64, into: &mut Vec<u8>)
         requires cycle { at ≤ 2 ^ 50 }
         requires room { vec_len into.old + board_size (is_some self.now.store) ≤ vec_capacity into.old }
         ensures bytes { into.new.items ≡ into.old.items ++ board_bytes (settled_board at self.now) }
         ensures length { vec_len into.new ≡ vec_len into.old + board_size (is_some self.now.store) }
         ensures room { vec_capacity into.old ≤ vec_capacity into.new }
+        ensures kept { IsReady at self.now → Spells at (board_bytes (settled_board at self.now)) (settled_board at self.now) }
     {
         put_store(&self.parcel, into);
         spell(&self.vdp, at, into);

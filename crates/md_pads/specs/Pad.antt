@@ -1,6 +1,7 @@
 -- What a pad's port reads: the Genesis Technical Overview, on the control pads.
 use Rattle.std.specs.Prelude.{ℕ, ◌+◌, ◌*◌, ◌==◌, Bool, true, false, not, List, [], ◌∷◌, fold, if◌then◌else◌}
 use Rattle.std.specs.Int.{bit_at}
+use Rattle.md_fields.specs.Fields.{Field, byte, spelling}
 use Rattle.md_pads.specs.Buttons.{up, down, left, right, button_b, button_c, button_a, start}
 
 -- whether the bit at a place is 1
@@ -16,9 +17,13 @@ pub record Latches : Type 0 where
   pub value : ℕ
   pub control : ℕ
 
+-- a port as the fields of a saved state; a latch has any value
+abbrev pub latch_fields : Latches → List Field
+latch_fields latches = byte latches.value true ∷ byte latches.control true ∷ []
+
 -- the bytes of a saved state that keep a port
 abbrev pub latch_bytes : Latches → List ℕ
-latch_bytes latches = latches.value ∷ latches.control ∷ []
+latch_bytes latches = spelling (latch_fields latches)
 
 -- whether TH is 1: the value's bit 6 where the control makes it an output, else 1
 abbrev pub is_th_high : Latches → Bool

@@ -1,9 +1,11 @@
-ghost use Rattle.std.specs.Prelude.{◌≡◌, ◌≢◌, ◌+◌, ◌≤◌, true, false, ◌∷◌, ◌++◌, length, min, vec_len, vec_capacity, IfOk, Ok, IsErrOf};
+ghost use Rattle.std.specs.Prelude.{◌≡◌, ◌≢◌, ◌+◌, ◌≤◌, true, false, ◌∷◌, ◌++◌, length, map, min, vec_len, vec_capacity, IfOk, Ok, IsErrOf};
 ghost use Rattle.md_pads.specs.Buttons.{word_of};
-ghost use Rattle.md_pads.specs.Pad.{pad_value, latch_bytes, is_th_high, lines, binary};
+ghost use Rattle.md_fields.specs.Fields.{seen};
+ghost use Rattle.md_pads.specs.Pad.{pad_value, latch_bytes, latch_fields, is_th_high, lines, binary};
 
 use crate::buttons::Buttons;
 use bitflags::Flags;
+use md_fields::{Field, put, u8_at};
 use md_word::Unspell;
 use std::alloc::Global;
 use std::marker::Model;
@@ -12,6 +14,9 @@ use std::marker::Model;
 const TH: u8 = 0x40;
 
 const BIT_7: u8 = 0x80;
+
+/// How many bytes of a saved state keep a port.
+const LATCHES: usize = 2;
 
 /// The port of a three-button pad, by its two latches: the last byte written to its data and the last
 /// byte written to its control. Source: Genesis Technical Overview, the control pads.
@@ -84,32 +89,42 @@ impl PadPort {
 
     /// Appends the two bytes of a saved state that keep this port: the value latch, then the control latch.
     /// There is room for them.
+    #[tactic(auto, unfolding(md_fields::specs::Fields::spelling))]
     pub fn spell(&self, _at: u64, into: &mut Vec<u8>)
         requires { vec_len into.old + 2 ≤ vec_capacity into.old }
         ensures bytes { into.new.items ≡ into.old.items ++ latch_bytes self.now }
         ensures length { vec_len into.new ≡ vec_len into.old + 2 }
-        ensures room { vec_capacity into.new ≡ vec_capacity into.old }
+        ensures room { vec_capacity into.old ≤ vec_capacity into.new }
     {
-        into.push_reserved(self.value);
-        into.push_reserved(self.control);
+        put(&self.fields(), into);
     }
 
     /// The port that two bytes of a saved state keep. Another number of bytes is refused, at the lesser of
     /// the two lengths. No memory is taken.
+    #[tactic(auto, unfolding(md_fields::specs::Fields::spelling))]
     pub fn unspell(_alloc: Global, bytes: &[u8], _at: u64) -> Result<PadPort, Unspell>
         ensures found { IfOk result (λ port. bytes.now ≡ latch_bytes port) }
         ensures only { (latches : Latches) → bytes.now ≡ latch_bytes latches → result ≡ Ok latches }
         ensures refused { length bytes.now ≢ 2 → IsErrOf result (Unspell.Rule (min (length bytes.now) 2)) }
     {
-        match bytes {
-            [value, control] => Ok(PadPort {
-                value: *value,
-                control: *control,
-            }),
-            _ => Err(Unspell::Rule {
-                place: bytes.len().min(2) as u64,
-            }),
+        if bytes.len() != LATCHES {
+            return Err(Unspell::Rule {
+                place: bytes.len().min(LATCHES) as u64,
+            });
         }
+        Ok(PadPort {
+            value: u8_at(bytes, 0),
+            control: u8_at(bytes, 1),
+        })
+    }
+
+    fn fields(&self) -> [Field<'_>; 2]
+        ensures { map seen result ≡ latch_fields self.now }
+    {
+        [
+            Field::Byte(self.value, true),
+            Field::Byte(self.control, true),
+        ]
     }
 
     fn is_th_high(&self) -> bool

@@ -1,5 +1,6 @@
 use Rattle.std.proofs.Common.{◌∙◌, ◌++◌, List, ℕ, ap}
 use Rattle.md_word.specs.Coding.{flag_number}
+use Rattle.md_fields.specs.Fields.{spelling}
 use Rattle.bus_shared.specs.Board.{Board}
 use Rattle.bus_shared.specs.Saved.{lines_of}
 use Rattle.bus_shared.specs.Spelling.{lines_bytes}
@@ -8,6 +9,7 @@ use Rattle.bus_shared.proofs.SavedLaws.{four, lines_are}
 use Rattle.bus_shared.proofs.shared.Shared.put_lines.Goals as goal
 
 pub returns-clause-bytes : goal.returns-clause-bytes
+unfolding spelling
 returns-clause-bytes c =
     let s = c.self.inside in
     let n : SavedLines = record {

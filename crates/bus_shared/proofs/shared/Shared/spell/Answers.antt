@@ -1,8 +1,13 @@
-use Rattle.std.proofs.Common.{◌∙◌, is_some, ap, refl, arith}
+use Rattle.std.proofs.Common.{◌∙◌, ℕ, is_some, ap, refl, subst, sym, arith}
 use Rattle.std.specs.Prelude.{option_map}
 use Rattle.z80_parcel.specs.Parcels.{store_of}
 use Rattle.bus_shared.specs.Board.{Board}
-use Rattle.bus_shared.specs.Spelling.{board_size}
+use Rattle.vdp_dma.specs.Settling.{settled}
+use Rattle.vdp_ports.specs.Rules.{HasRules}
+use Rattle.vdp_ports.specs.Spelling as vdp_spelling
+use Rattle.vdp_ports.specs.Vdp.{Vdp}
+use Rattle.bus_shared.specs.Spelling.{IsReady, Spells, board_bytes, board_size, settled_board}
+use Rattle.bus_shared.proofs.Keeping.{board_spelled}
 use Rattle.bus_shared.proofs.SavedLaws.{five}
 use Rattle.bus_shared.proofs.SpellingLaws.{board_long, store_long}
 use Rattle.bus_shared.proofs.shared.Shared.spell.Goals as goal
@@ -95,3 +100,10 @@ returns-clause-length c =
       c.spell-3.ensures.length,
       c.put_lines.ensures.length,
     )
+
+pub returns-clause-kept : goal.returns-clause-kept
+returns-clause-kept c = rw (← c.self.view_is) (λ is.
+    board_spelled c.args.at _ c.requires.cycle c.self.invariant is
+    (rw c.deref.ensures at (c.spell.ensures.kept c.args.at (omega arith) (rw c.deref.ensures is.vdp)))
+    (rw c.deref-2.ensures at (c.spell-2.ensures.kept (rw c.deref-2.ensures is.timers) (rw c.deref-2.ensures is.fm)))
+    (rw c.deref-3.ensures at (c.spell-3.ensures.kept c.args.at (rw c.deref-3.ensures is.held))))
