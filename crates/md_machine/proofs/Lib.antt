@@ -10,9 +10,12 @@ pub mod Kept
 pub mod LeastKeys
 pub mod Lifts
 pub mod Moves
+pub mod OneRun
 pub mod Owners
 pub mod Pads
+pub mod QuietStays
 pub mod Samples
 pub mod Segments
 pub mod Silent
+pub mod SoundParts
 pub mod Start

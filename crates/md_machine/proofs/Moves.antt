@@ -45,7 +45,7 @@ sub_one : (c : SubValue) → (next (Sub c)).key.chip ≡ 1
 unfolding sub_next_of
 sub_one c = refl
 
-kind0 : (c : Chip) → (next c).key.chip ≡ 0 → (v : MainChip) × (c ≡ Main v)
+pub kind0 : (c : Chip) → (next c).key.chip ≡ 0 → (v : MainChip) × (c ≡ Main v)
 kind0 (Main c) is = (c, refl)
 kind0 (Sub c) is = absurd (omega (arith, sub_one c))
 kind0 (Line c) is = absurd (omega arith)

@@ -182,7 +182,7 @@ unfolding begun
 begun-has cart state pins = begun-as-has (case_of (seen state pins) pins) cart (seen state pins) ∙ seen-has state pins
 
 -- a take is begun only where the Z80 has nothing
-abbrev is_take : Stage → Bool
+abbrev pub is_take : Stage → Bool
 is_take Sample = false
 is_take Access = false
 is_take Yield = false
@@ -241,9 +241,9 @@ begun-takes cart state pins taken =
     ∙ case-takes (seen state pins) pins (sym (begun-as-takes (case_of (seen state pins) pins) cart (seen state pins)) ∙ taken)
 
 -- the Z80 or the bus has them, and at a take it is not the Z80
-record Owns (state : State80) (board : Board) : Type 0 where
-  one : is_some state.store ≡ not (is_some board.store)
-  taking : is_take state.stage ≡ true → is_some state.store ≡ false
+pub record Owns (state : State80) (board : Board) : Type 0 where
+  pub one : is_some state.store ≡ not (is_some board.store)
+  pub taking : is_take state.stage ≡ true → is_some state.store ≡ false
 
 -- a take, and a yield
 took : (request : Bool) (store : Option Store) (board : Board) (key : Key) → store ≡ board.store → false ≡ not (is_some store)
@@ -348,7 +348,7 @@ line-owns : (z : Console) → Owns z.sub.state z.shared → Owns (line_moved z).
 unfolding line_moved
 line-owns z owns = as-before z.sub.state z.shared _ (line-has z.shared z.line z.note) owns
 
-move-owns : (z : Console) → IsChip80 z.sub → Owns z.sub.state z.shared → (i : ℕ) → i < 5 → Owns (moved z i).sub.state (moved z i).shared
+pub move-owns : (z : Console) → IsChip80 z.sub → Owns z.sub.state z.shared → (i : ℕ) → i < 5 → Owns (moved z i).sub.state (moved z i).shared
 unfolding moved
 move-owns z ok owns =
     five-each (λ i. Owns (moved z i).sub.state (moved z i).shared) (main-owns z owns) (sub-owns z ok owns)

@@ -117,7 +117,7 @@ handed-kind : (state : State80) → (sub_next_of state).sample ≡ false → (su
 unfolding sub_next_of handed
 handed-kind state kind = kind
 
-sub-low : (state : State80) → (sub_next_of state).key.chip < 2
+pub sub-low : (state : State80) → (sub_next_of state).key.chip < 2
 unfolding sub_next_of
 sub-low state = lit< tt
 
@@ -227,7 +227,7 @@ sample-chip (Line c) s i d = d.chip
 sample-chip (Fm c) s i d = d.chip
 sample-chip (Psg c) s i d = d.chip
 
-main-low : (state : State68) → (next_of state).key.chip < 2
+pub main-low : (state : State68) → (next_of state).key.chip < 2
 unfolding next_of
 main-low state = lit< tt
 

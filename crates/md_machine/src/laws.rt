@@ -4,10 +4,11 @@ ghost use Rattle.std.specs.Prelude.{◌≡◌, ℕ, ◌+◌, ◌-◌, ◌*◌, �
 ghost use Rattle.md_word.specs.declared.event.Entry.{Entry};
 ghost use Rattle.chip_core.specs.Limits.{events_within};
 ghost use Rattle.md_pads.specs.Recording.{Frame};
-ghost use Rattle.md_machine.specs.Console.{AllBelow, Console, IsRunTo, power_on, ran};
+ghost use Rattle.md_machine.specs.Console.{AllBelow, Console, IsQuiet, IsRunTo, power_on, ran};
 ghost use Rattle.md_machine.specs.Owners.{HasOneOwner};
 ghost use Rattle.md_machine.specs.Pads.{ShowsPads};
 ghost use Rattle.md_machine.specs.Rules.{five};
+ghost use Rattle.md_machine.specs.SoundParts.{HasSoundParts};
 ghost use Rattle.md_machine.specs.Starts.{IsStart, Start, batches_below, frames_below};
 ghost use Rattle.md_machine.specs.Media as outputs;
 ghost use Rattle.md_machine.specs.Media.{Media};
@@ -23,6 +24,14 @@ pub fn joined()
     ensures { (m w z : Console) (s t : ℕ) (entries later_entries : List Entry) (output later_output : Media) → s ≤ t
         → IsRunTo m s w entries output → IsRunTo w t z later_entries later_output
         → IsRunTo m t z (entries ++ later_entries) (outputs.joined output later_output) }
+{}
+
+/// Two runs from one machine to one cycle are equal: the machine, the entries, the frames and the
+/// samples.
+pub fn one_run()
+    ensures { (m w z : Console) (end : ℕ) (first second : List Entry) (output other : Media)
+        → IsRunTo m end w first output → IsRunTo m end z second other
+        → (w ≡ z) × (first ≡ second) × (output ≡ other) }
 {}
 
 /// Power-on is a start, at cycle 0.
@@ -78,4 +87,33 @@ pub fn one_owner(cart: &Cart)
 {
     cart.bytes();
     laws::stages::<MdChips>();
+}
+
+/// The parts of a machine are sound.
+pub fn parts_are_sound(machine: &Machine)
+    ensures { HasSoundParts machine.now.console }
+{
+    machine.sound_parts();
+}
+
+/// At power-on with a cartridge they are.
+pub fn parts_start_sound(cart: &Cart)
+    ensures { (recording : List Frame) → HasSoundParts (power_on cart.now recording) }
+{
+    cart.bytes();
+}
+
+/// They stay so after any events below a cycle of at most 2^50.
+pub fn parts_stay_sound()
+    ensures { (m : Console) (end n : ℕ) → end ≤ 2 ^ 50 → HasSoundParts m → AllBelow m end n → HasSoundParts (ran m n) }
+{
+    laws::stages::<MdChips>();
+}
+
+/// Where no event stood before a cycle, none does after any events below a cycle of at most 2^50.
+pub fn quiet_stays()
+    ensures { (m : Console) (at end n : ℕ) → end ≤ 2 ^ 50 → HasSoundParts m → IsQuiet at m → AllBelow m end n → IsQuiet at (ran m n) }
+{
+    laws::stages::<MdChips>();
+    laws::limits::<MdChips>();
 }

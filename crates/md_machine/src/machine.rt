@@ -4,6 +4,7 @@ ghost use Rattle.md_machine.specs.Console.{AllBelow, IsRunTo, key_in, mover, pow
 ghost use Rattle.md_machine.specs.Outputs.{frame_length, frames_bytes, journal_bytes, sound_bytes};
 ghost use Rattle.md_machine.specs.Refinement.{main_of};
 ghost use Rattle.md_machine.specs.Rules.{next};
+ghost use Rattle.md_machine.specs.SoundParts.{HasSoundParts};
 ghost use Rattle.md_machine.specs.Media.{no_media};
 
 use crate::chips::Chip;
@@ -99,6 +100,15 @@ impl Machine {
     {
         laws::stages::<MdChips>();
         laws::limits::<MdChips>();
+        // what holds of each machine holds of its parts
+        let _ = &self.chips;
+    }
+
+    /// Its parts are sound.
+    pub(crate) fn sound_parts(&self)
+        ensures { HasSoundParts self.now.console }
+    {
+        laws::stages::<MdChips>();
         // what holds of each machine holds of its parts
         let _ = &self.chips;
     }
