@@ -1,4 +1,5 @@
 pub mod Gathered
+pub mod Holders
 pub mod ItemLaws
 pub mod Joins
 pub mod KeptLaws
@@ -6,6 +7,7 @@ pub mod MachineLaws
 pub mod Parts
 pub mod Places
 pub mod ReadLaws
+pub mod ReadyLaws
 pub mod Standing
 pub mod WholeLaws
 pub mod WriteLaws

@@ -68,9 +68,14 @@ state_fields digest at m =
 abbrev pub kept_bytes : ℕ → Console → List ℕ
 kept_bytes at m = spelling (state_fields (sha256 m.cart) at m)
 
+-- the machine with the bytes of fill and copy, and the overflows of the timers, made that stand below a
+-- cycle, as it is kept
+abbrev pub settled_console : ℕ → Console → Console
+settled_console at m = record m { shared = settled_board at m.shared }
+
 -- the bytes of a machine at a cycle: fill, copy and timers are settled below it
 abbrev pub state_bytes : ℕ → Console → List ℕ
-state_bytes at m = kept_bytes at (record m { shared = settled_board at m.shared })
+state_bytes at m = kept_bytes at (settled_console at m)
 
 -- at an access and a yield the Z80 has its RAM, and the bus at a take, by the number of the stage
 abbrev pub is_holder : ℕ → ℕ → Bool

@@ -8,7 +8,10 @@ ghost use Rattle.psg_sound.specs.SynthSpelling as psg;
 ghost use Rattle.vdp_chip.specs.Spelling as drawing;
 ghost use Rattle.z80_chip.specs.Sound.{IsChip80};
 ghost use Rattle.z80_chip.specs.Spelling as sub;
-ghost use Rattle.save_state.specs.States.{last_cycle, state_bytes};
+ghost use Rattle.m68k_chip.specs.Rules as main_rules;
+ghost use Rattle.z80_chip.specs.Rules as sub_rules;
+ghost use Rattle.save_state.specs.Ready.{IsReady};
+ghost use Rattle.save_state.specs.States.{IsState, last_cycle, settled_console, state_bytes};
 
 use crate::items::first_batch;
 use crate::layout::{
@@ -49,10 +52,13 @@ const LINES_THERE: Part = Part {
     size: 18,
 };
 
-/// The bytes of the machine at its cycle, 378,240.
+/// The bytes of the machine at its cycle, 378,240. Where its parts may be kept, they are a saved state of
+/// its cartridge, which is read again.
 pub fn write(alloc: Global, machine: &Machine) -> Result<Vec<u8>, NoMemory>
     requires { machine.now.at ≤ last_cycle }
-    ensures { IfOk result (λ bytes. bytes.items ≡ state_bytes machine.now.at machine.now.console) }
+    ensures bytes { IfOk result (λ bytes. bytes.items ≡ state_bytes machine.now.at machine.now.console) }
+    ensures kept { IsReady machine.now.at machine.now.console
+        → IfOk result (λ bytes. IsState machine.now.console.cart bytes.items (record { at = machine.now.at; console = settled_console machine.now.at machine.now.console })) }
 {
     let digest = Sha256::digest(machine.cart().bytes());
     write_with(alloc, machine, &digest)
@@ -62,7 +68,9 @@ pub fn write(alloc: Global, machine: &Machine) -> Result<Vec<u8>, NoMemory>
 fn write_with(alloc: Global, machine: &Machine, digest: &[u8; 32]) -> Result<Vec<u8>, NoMemory>
     requires cycle { machine.now.at ≤ last_cycle }
     requires digest { digest.now ≡ sha256 machine.now.console.cart }
-    ensures { IfOk result (λ bytes. bytes.items ≡ state_bytes machine.now.at machine.now.console) }
+    ensures bytes { IfOk result (λ bytes. bytes.items ≡ state_bytes machine.now.at machine.now.console) }
+    ensures kept { IsReady machine.now.at machine.now.console
+        → IfOk result (λ bytes. IsState machine.now.console.cart bytes.items (record { at = machine.now.at; console = settled_console machine.now.at machine.now.console })) }
 {
     let at = machine.at();
     let has = machine.shared().has_store();
@@ -125,7 +133,9 @@ fn append(
 
 /// What the 68000 keeps.
 fn main_bytes(alloc: Global, chip: &Chip68, at: u64) -> Result<Vec<u8>, NoMemory>
-    ensures { IfOk result (λ bytes. bytes.items ≡ main.chip_bytes chip.now.state) }
+    ensures bytes { IfOk result (λ bytes. bytes.items ≡ main.chip_bytes chip.now.state) }
+    ensures kept { IfOk result (λ bytes. at ≤ chip.now.state.next → main_rules.HasRules at chip.now.state
+        → main.Spells chip.now.cart at (main.chip_bytes chip.now.state) chip.now.state) }
 {
     let mut bytes = Vec::with_capacity(alloc, MAIN.size)?;
     chip.spell(at, &mut bytes);
@@ -137,6 +147,8 @@ fn sub_bytes(alloc: Global, chip: &Chip80, at: u64) -> Result<Vec<u8>, NoMemory>
     ensures bytes { IfOk result (λ bytes. bytes.items ≡ sub.chip_bytes chip.now.state) }
     ensures long { IfOk result (λ bytes. length bytes.items ≡ sub.spelled_size (is_some chip.now.state.store)) }
     ensures sound { IsChip80 chip.now }
+    ensures kept { IfOk result (λ bytes. at ≤ chip.now.state.next → sub_rules.HasRules chip.now.cart at chip.now.state
+        → sub.Spells chip.now.cart at (sub.chip_bytes chip.now.state) chip.now.state) }
 {
     chip.next();
     let mut bytes = Vec::with_capacity(alloc, SUB.size + STORE.size)?;
@@ -150,6 +162,8 @@ fn board_bytes(alloc: Global, board: &Shared, at: u64) -> Result<Vec<u8>, NoMemo
     ensures bytes { IfOk result (λ bytes. bytes.items ≡ shared.board_bytes (shared.settled_board at board.now)) }
     ensures long { IfOk result (λ bytes. length bytes.items ≡ shared.board_size (is_some board.now.store)) }
     ensures sound { IsBoard board.now }
+    ensures kept { IfOk result (λ bytes. shared.IsReady at board.now
+        → shared.Spells at (shared.board_bytes (shared.settled_board at board.now)) (shared.settled_board at board.now)) }
 {
     board.known();
     let mut bytes = Vec::with_capacity(
@@ -162,7 +176,8 @@ fn board_bytes(alloc: Global, board: &Shared, at: u64) -> Result<Vec<u8>, NoMemo
 
 /// What the drawing half of the VDP keeps.
 fn drawing_bytes(alloc: Global, chip: &ChipVdp, at: u64) -> Result<Vec<u8>, NoMemory>
-    ensures { IfOk result (λ bytes. bytes.items ≡ drawing.drawing_bytes chip.now) }
+    ensures bytes { IfOk result (λ bytes. bytes.items ≡ drawing.drawing_bytes chip.now) }
+    ensures kept { IfOk result (λ bytes. drawing.IsReady at chip.now → drawing.Spells at (drawing.drawing_bytes chip.now) (drawing.drained chip.now)) }
 {
     let mut bytes = Vec::with_capacity(alloc, DRAWING.size)?;
     chip.spell(at, &mut bytes);
@@ -171,7 +186,8 @@ fn drawing_bytes(alloc: Global, chip: &ChipVdp, at: u64) -> Result<Vec<u8>, NoMe
 
 /// What the FM synthesis keeps.
 fn fm_bytes(alloc: Global, synth: &FmSynth, at: u64) -> Result<Vec<u8>, NoMemory>
-    ensures { IfOk result (λ bytes. bytes.items ≡ fm.synth_bytes synth.now) }
+    ensures bytes { IfOk result (λ bytes. bytes.items ≡ fm.synth_bytes synth.now) }
+    ensures kept { IfOk result (λ bytes. fm.SpellsSynth (fm.synth_bytes synth.now) synth.now) }
 {
     let mut bytes = Vec::with_capacity(alloc, FM.size)?;
     synth.spell(at, &mut bytes);
@@ -180,7 +196,8 @@ fn fm_bytes(alloc: Global, synth: &FmSynth, at: u64) -> Result<Vec<u8>, NoMemory
 
 /// What the PSG's synthesis keeps.
 fn psg_bytes(alloc: Global, synth: &PsgSynth, at: u64) -> Result<Vec<u8>, NoMemory>
-    ensures { IfOk result (λ bytes. bytes.items ≡ psg.synth_bytes synth.now) }
+    ensures bytes { IfOk result (λ bytes. bytes.items ≡ psg.synth_bytes synth.now) }
+    ensures kept { IfOk result (λ bytes. psg.SpellsSynth (psg.synth_bytes synth.now) synth.now) }
 {
     let mut bytes = Vec::with_capacity(alloc, PSG.size)?;
     synth.spell(at, &mut bytes);

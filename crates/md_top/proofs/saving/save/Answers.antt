@@ -11,7 +11,7 @@ pub returns-in-Ok-clause-files : goal.returns-in-Ok-clause-files
 returns-in-Ok-clause-files g c =
     on-ok c.append_pieces.result
     (λ adds t. subst (λ (l : List ℕ). Adds (shown_run c.args.run.now) (g.D.Depot.state c.args.depot.now).files (g.D.Depot.state c.append_pieces.new.depot).files (record nothing { state = l }))
-    (c.as_slice.ensures.value ∙ c.in-Ok.ensures) (adds t))
+    (c.as_slice.ensures.value ∙ c.in-Ok.ensures.bytes) (adds t))
     c.append_pieces.ensures.files
 
 pub returns-in-None-clause-files : goal.returns-in-None-clause-files

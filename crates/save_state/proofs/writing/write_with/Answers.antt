@@ -1,4 +1,4 @@
-use Rattle.std.proofs.Common.{◌≡◌, ◌++◌, ◌∷◌, [], ℕ, Bool, List, length, drop, sym, ap, subst, ◌∙◌, arith, is_some}
+use Rattle.std.proofs.Common.{◌≡◌, ◌≤◌, true, false, ◌++◌, ◌∷◌, [], ℕ, Bool, List, length, drop, sym, ap, subst, ◌∙◌, arith, is_some}
 use Rattle.std.specs.Int.{w64, to_be_bytes}
 use Rattle.m68k_chip.specs.Sound.{Chip68Value}
 use Rattle.m68k_chip.specs.Spelling as main
@@ -11,12 +11,28 @@ use Rattle.psg_sound.specs.SynthSpelling as psg
 use Rattle.bus_shared.specs.Board.{Board, IsBoard}
 use Rattle.bus_shared.specs.Spelling as shared
 use Rattle.md_machine.specs.Starts as starts
+use Rattle.md_machine.specs.Console.{Console, drawing_in}
 use Rattle.save_state.specs.States.{mark}
+use Rattle.save_state.proofs.ReadyLaws.{BoardKept, DrawingKept, FmKept, MainKept, PsgKept, SubKept, drawing_kept, saved}
 use Rattle.save_state.proofs.WriteLaws.{rest_long, numbers_cut, board_cut, store_cut, written, holder_byte}
 use Rattle.save_state.proofs.writing.write_with.Goals as goal
 
 long_rest : (board rest items : List ℕ) (has : Bool) (b b2 m : Board) → has ≡ is_some b.store → b ≡ m → b2 ≡ m → board ≡ items → length items ≡ shared.board_size (is_some b2.store) → rest ≡ drop (shared.store_size has) board → length rest ≡ 88388
 long_rest board rest items has b b2 m h e f g long r = rest_long board rest has (is_some b2.store) (h ∙ ap (λ (x : Board). is_some x.store) (e ∙ sym f)) (ap length g ∙ long) r
+
+least_sub : (has : Bool) → 62 ≤ sub.spelled_size has
+least_sub true = omega arith
+least_sub false = omega arith
+
+long_sub : (bytes items : List ℕ) (has : Bool) → bytes ≡ items → length items ≡ sub.spelled_size has → 62 ≤ length bytes
+long_sub bytes items has e long = omega (arith, ap length e ∙ long, least_sub has)
+
+pub store_in-requires-clause-sub : goal.store_in-requires-clause-sub
+store_in-requires-clause-sub c = long_sub c.as_slice-4.result.now c.in_ok-sub.sub.items _ c.as_slice-4.ensures.value c.in_ok-sub.ensures.long
+
+pub of-requires-2 : goal.of-requires-2
+of-requires-2 c =
+    omega (arith, long_rest c.as_slice.result.now c.behind_store-rest.result.now c.in_ok-board.board.items c.has_store-has.result c.shared.result.now c.shared-2.result.now c.args.machine.now.console.shared c.has_store-has.ensures c.shared.ensures c.shared-2.ensures c.as_slice.ensures.value c.in_ok-board.ensures.long c.behind_store-rest.ensures)
 
 pub of-requires-3 : goal.of-requires-3
 of-requires-3 c =
@@ -30,8 +46,8 @@ pub of-requires-5 : goal.of-requires-5
 of-requires-5 c =
     omega (arith, long_rest c.as_slice.result.now c.behind_store-rest.result.now c.in_ok-board.board.items c.has_store-has.result c.shared.result.now c.shared-2.result.now c.args.machine.now.console.shared c.has_store-has.ensures c.shared.ensures c.shared-2.ensures c.as_slice.ensures.value c.in_ok-board.ensures.long c.behind_store-rest.ensures)
 
-pub returns : goal.returns
-returns c =
+pub returns-clause-bytes : goal.returns-clause-bytes
+returns-clause-bytes c =
     let m = c.args.machine.now.console in
     let at = c.args.machine.now.at in
     let has : c.has_store-has.result ≡ is_some m.shared.store = c.has_store-has.ensures ∙ ap (λ (b : Board). is_some b.store) c.shared.ensures in
@@ -52,13 +68,28 @@ returns c =
     (holder_byte m c.has_store-has.result c.from.result has c.from.ensures)
     (c.store_in.ensures ∙ store_cut at m c.as_slice-4.result.now c.as_slice-5.result.now c.has_store-has.result board_ok has (ap (drop 62) same_sub ∙ cut.1) (same_board ∙ board_is))
     (c.of-2.ensures ∙ parts.video)
-    (c.as_slice-6.ensures.value ∙ c.in_ok-drawing.ensures)
+    (c.as_slice-6.ensures.value ∙ c.in_ok-drawing.ensures.bytes)
     c.draw_chip.ensures.next c.draw_chip.ensures.note c.draw_chip.ensures.picture
     (c.of-3.ensures ∙ parts.fm_port)
     (c.to_be_bytes-batch.ensures ∙ ap (to_be_bytes w64) (c.first_batch.ensures ∙ ap starts.first_batch c.at-at.ensures))
     (c.of-4.ensures ∙ parts.psg_port)
     (c.of-5.ensures ∙ parts.lines)
-    (c.in_ok-append.ensures ∙ (λ i. c.in_ok-bytes.ensures.items i ++ (mark ++ (c.args.digest.now ++ ((c.to_be_bytes.ensures ∙ ap (to_be_bytes w64) c.at-at.ensures) i ++ (c.as_slice-2.ensures.value ∙ c.in_ok-main.ensures ∙ ap (λ (x : Chip68Value). main.chip_bytes x.state) c.main_chip.ensures) i)))))
+    (c.in_ok-append.ensures ∙ (λ i. c.in_ok-bytes.ensures.items i ++ (mark ++ (c.args.digest.now ++ ((c.to_be_bytes.ensures ∙ ap (to_be_bytes w64) c.at-at.ensures) i ++ (c.as_slice-2.ensures.value ∙ c.in_ok-main.ensures.bytes ∙ ap (λ (x : Chip68Value). main.chip_bytes x.state) c.main_chip.ensures) i)))))
     c.in_ok-append-2.ensures
-    (c.in_ok-append-3.ensures ∙ (λ i. c.append-2.new.into.items ++ (c.as_slice-6.result.now ++ (c.of-3.result.now ++ (c.to_be_bytes-batch.result ++ (c.as_slice-7.ensures.value ∙ c.in_ok-fm.ensures ∙ ap (λ (x : fm_synths.Synth). fm.synth_bytes x) c.fm.ensures) i)))))
-    (c.in_ok-append-4.ensures ∙ (λ i. c.append-3.new.into.items ++ (c.to_be_bytes-batch.result ++ (c.of-4.result.now ++ ((c.as_slice-8.ensures.value ∙ c.in_ok-psg.ensures ∙ ap (λ (x : psg_synths.Synth). psg.synth_bytes x) c.psg.ensures) i ++ c.of-5.result.now)))))
+    (c.in_ok-append-3.ensures ∙ (λ i. c.append-2.new.into.items ++ (c.as_slice-6.result.now ++ (c.of-3.result.now ++ (c.to_be_bytes-batch.result ++ (c.as_slice-7.ensures.value ∙ c.in_ok-fm.ensures.bytes ∙ ap (λ (x : fm_synths.Synth). fm.synth_bytes x) c.fm.ensures) i)))))
+    (c.in_ok-append-4.ensures ∙ (λ i. c.append-3.new.into.items ++ (c.to_be_bytes-batch.result ++ (c.of-4.result.now ++ ((c.as_slice-8.ensures.value ∙ c.in_ok-psg.ensures.bytes ∙ ap (λ (x : psg_synths.Synth). psg.synth_bytes x) c.psg.ensures) i ++ c.of-5.result.now)))))
+
+pub returns-clause-kept : goal.returns-clause-kept
+returns-clause-kept c = λ ready.
+    let m : Console = c.args.machine.now.console in
+    let at : ℕ = c.args.machine.now.at in
+    let here = c.at-at.ensures in
+    let of_main : MainKept at (record { cart = m.cart; state = m.main }) = subst (λ (n : ℕ). MainKept n (record { cart = m.cart; state = m.main })) here (subst (λ (x : Chip68Value). MainKept c.at-at.result x) c.main_chip.ensures c.in_ok-main.ensures.kept) in
+    let of_sub : SubKept at m.sub = subst (λ (n : ℕ). SubKept n m.sub) here (subst (λ (x : Chip80Value). SubKept c.at-at.result x) c.sub_chip.ensures c.in_ok-sub.ensures.kept) in
+    let of_board : BoardKept at m.shared = subst (λ (n : ℕ). BoardKept n m.shared) here (subst (λ (b : Board). BoardKept c.at-at.result b) c.shared-2.ensures c.in_ok-board.ensures.kept) in
+    let of_drawing : DrawingKept at (drawing_in m) =
+    drawing_kept at c.draw_chip.result.now m c.draw_chip.ensures.next c.draw_chip.ensures.note c.draw_chip.ensures.picture
+    (subst (λ (n : ℕ). DrawingKept n c.draw_chip.result.now) here c.in_ok-drawing.ensures.kept) in
+    let of_fm : FmKept m.fm = subst FmKept c.fm.ensures c.in_ok-fm.ensures.kept in
+    let of_psg : PsgKept m.psg = subst PsgKept c.psg.ensures c.in_ok-psg.ensures.kept in
+    record { saved = saved at m of_main of_sub of_board of_drawing of_fm of_psg ready; all = returns-clause-bytes c }
