@@ -2,6 +2,7 @@
 #![tactic(auto)]
 
 mod digits;
+pub mod laws;
 mod list68;
 mod m68k;
 mod names68;
