@@ -12,6 +12,8 @@ mod machine;
 #[cfg(test)]
 mod pads;
 #[cfg(test)]
+mod readback;
+#[cfg(test)]
 mod sort;
 #[cfg(test)]
 mod video;

@@ -24,7 +24,7 @@ pub(crate) fn make_event(chip: &mut ChipVdp, vdp: &VdpState, line: u32) {
 }
 
 /// The bytes of a dot of the frame that is kept.
-fn dot(chip: &ChipVdp, y: usize, x: usize) -> Option<[u8; 3]> {
+pub(crate) fn dot(chip: &ChipVdp, y: usize, x: usize) -> Option<[u8; 3]> {
     let frame = chip.frame()?;
     let at = y.wrapping_mul(320).wrapping_add(x).wrapping_mul(3);
     match frame.get(at..)? {

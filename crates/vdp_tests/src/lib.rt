@@ -10,6 +10,8 @@ mod frames;
 #[cfg(test)]
 mod lines;
 #[cfg(test)]
+mod picture;
+#[cfg(test)]
 mod planes;
 #[cfg(test)]
 mod ports;

@@ -1,0 +1,79 @@
+// The video memory as the ports leave it: examples/readback fills all of it, transfers and copies parts,
+// fills once more, and then reads all of it back.
+use crate::machine::{cartridge, drained, power_on};
+use std::alloc::Global;
+use std::test::Fail;
+
+/// examples/readback, without the words that it transfers.
+const READS_BACK: [u8; 168] = [
+    0x41, 0xf9, 0x00, 0xc0, 0x00, 0x04, 0x43, 0xf9, 0x00, 0xc0, 0x00, 0x00, 0x30, 0xbc, 0x81, 0x10,
+    0x30, 0xbc, 0x8f, 0x01, 0x30, 0xbc, 0x93, 0x00, 0x30, 0xbc, 0x94, 0x00, 0x30, 0xbc, 0x97, 0x80,
+    0x30, 0xbc, 0x40, 0x00, 0x30, 0xbc, 0x00, 0x80, 0x32, 0xbc, 0x5a, 0xc3, 0x30, 0x10, 0x08, 0x00,
+    0x00, 0x01, 0x66, 0xf8, 0x30, 0xbc, 0x8f, 0x02, 0x30, 0xbc, 0x93, 0x08, 0x30, 0xbc, 0x95, 0xf8,
+    0x30, 0xbc, 0x96, 0x00, 0x30, 0xbc, 0x97, 0x00, 0x30, 0xbc, 0x50, 0x00, 0x30, 0xbc, 0x00, 0x80,
+    0x30, 0xbc, 0x8f, 0x01, 0x30, 0xbc, 0x93, 0x05, 0x30, 0xbc, 0x95, 0x00, 0x30, 0xbc, 0x96, 0x10,
+    0x30, 0xbc, 0x97, 0xc0, 0x30, 0xbc, 0x20, 0x03, 0x30, 0xbc, 0x00, 0xc0, 0x30, 0x10, 0x08, 0x00,
+    0x00, 0x01, 0x66, 0xf8, 0x30, 0xbc, 0x8f, 0x02, 0x30, 0xbc, 0x93, 0x04, 0x30, 0xbc, 0x97, 0x80,
+    0x30, 0xbc, 0x70, 0x00, 0x30, 0xbc, 0x00, 0x80, 0x32, 0xbc, 0x77, 0x88, 0x30, 0x10, 0x08, 0x00,
+    0x00, 0x01, 0x66, 0xf8, 0x30, 0xbc, 0x00, 0x00, 0x30, 0xbc, 0x00, 0x00, 0x34, 0x3c, 0x3f, 0xff,
+    0x26, 0x11, 0x51, 0xca, 0xff, 0xfc, 0x60, 0xfe,
+];
+
+/// The words at 1F0h.
+const SOURCE: [u8; 16] = [1, 2, 3, 4, 5, 6, 7, 8, 9, 10, 11, 12, 13, 14, 15, 16];
+
+/// Appends the values of the words that the 68000 has read from the data port.
+fn put_reads(entries: &[u8], into: &mut Vec<u8>) -> Result<(), Fail> {
+    for record in entries.chunks_exact(16) {
+        let chip_and_kind = [record[8], record[9]];
+        let address = [record[10], record[11], record[12], record[13] & 0xfd];
+        if chip_and_kind == [0, 1] && address == [0, 0xc0, 0, 0] {
+            into.extend_from_slice(&[record[14], record[15]])?;
+        }
+    }
+    Ok(())
+}
+
+/// All bytes that are read, in five frames.
+fn read_back(alloc: Global) -> Result<Vec<u8>, Fail> {
+    let mut program = [0; 0xc0];
+    program[..168].copy_from_slice(&READS_BACK);
+    program[0xb0..].copy_from_slice(&SOURCE);
+    let mut machine = power_on(alloc, cartridge(alloc, 0x140, &program)?)?;
+    let mut reads = Vec::new(alloc);
+    let (first, _pairs) = drained(&mut machine, alloc, 896_040)?;
+    put_reads(&first, &mut reads)?;
+    let (second, _pairs) = drained(&mut machine, alloc, 1_792_080)?;
+    put_reads(&second, &mut reads)?;
+    let (third, _pairs) = drained(&mut machine, alloc, 2_688_120)?;
+    put_reads(&third, &mut reads)?;
+    let (fourth, _pairs) = drained(&mut machine, alloc, 3_584_160)?;
+    put_reads(&fourth, &mut reads)?;
+    let (fifth, _pairs) = drained(&mut machine, alloc, 4_480_200)?;
+    put_reads(&fifth, &mut reads)?;
+    Ok(reads)
+}
+
+/// A fill puts the upper byte of its word, and each of its bytes at the other address of a word; the copy
+/// puts its bytes where it is told. So all is 5Ah but for the 16 bytes that are transferred, five of them
+/// from 2003h on, and from 3000h on the word that begins the second fill and four odd bytes behind it.
+fn filled() -> [u8; 65_536] {
+    let mut memory = [0x5a; 65_536];
+    memory[0x1000..0x1010].copy_from_slice(&SOURCE);
+    memory[0x2003..0x2008].copy_from_slice(&[1, 2, 3, 4, 5]);
+    memory[0x3000] = 0x77;
+    memory[0x3001] = 0x88;
+    memory[0x3003] = 0x77;
+    memory[0x3005] = 0x77;
+    memory[0x3007] = 0x77;
+    memory[0x3009] = 0x77;
+    memory
+}
+
+#[test]
+fn all_of_the_video_memory_is_read_back(rt: HostRuntime) -> Result<(), Fail> {
+    let reads = read_back(rt.alloc())?;
+    assert_eq!(rt; reads.len(), 65_536);
+    assert!(rt; reads.as_slice() == filled().as_slice());
+    Ok(())
+}
