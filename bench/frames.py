@@ -2,15 +2,17 @@
 """Emulated frames a second, context switches and the peak of memory, of the program that `rt ci` has
 built.
 
-    bench/frames.py [FRAMES]
+    bench/frames.py [FRAMES [IMAGE]]
 
-It runs five cartridges for FRAMES frames of 896,040 cycles, 600 if not given, with one worker and
-with sound and journal: `idle` is a branch to itself, `scale`, `chord` and `show` are those of
-examples, and `transfer` moves 7,500 bytes into the VDP's memory in the vertical blanking of each
-frame. Frames are drawn in each, and written in none. Then it runs `chord` for a tenth of them with
-1, 2, 3 and 5 workers. The times are those of the clock on the
-wall, the program's start and the writing of its files included; the switches are those of all its
-threads, those that wait and those that are made to.
+It runs the cartridge IMAGE, or six if none is named, for FRAMES frames of 896,040 cycles, 600 if not
+given, with one worker and with sound and journal: `idle` is a branch to itself, `mix` a loop of thirteen
+instructions that each frame has some 9,400 of, `scale`, `chord` and `show` are those of examples, and
+`transfer` moves 7,500 bytes into the VDP's memory in the vertical blanking of each frame. Frames are
+drawn in each, and written in none. Then it runs `chord` for a tenth of them with 1, 2, 3 and 5 workers.
+The times are those of the clock on the wall, the program's start and the writing of its files included;
+the switches are those of all its threads, those that wait and those that are made to. Of `idle` and `mix`
+the moves are known, and a second line has the nanoseconds of one: the 68000's, one an instruction, the
+Z80's, which is held in its reset and looks at its pins each 45 cycles, and those of lines and samples.
 """
 import os
 import pathlib
@@ -23,6 +25,27 @@ TOP = pathlib.Path(__file__).resolve().parent.parent
 PROGRAM = TOP / "crates" / "md_prog" / "out" / "md_prog"
 FRAME = 896_040
 IDLE = "at 000\n00ff f000 0000 01fc\nat 100\n5345 4741\nat 1fc\n60fe\n"
+MIX = """at 000
+    00ff f000 0000 0200
+at 100
+    5345 4741
+at 200
+    41f9 00ff 0000      ; lea     $00ff0000.l,a0
+; at 206
+    3010                ; move.w  (a0),d0           8 clocks
+    d240                ; add.w   d0,d1             4
+    b240                ; cmp.w   d0,d1             4
+    6400 0002           ; bcc.w   *+4               10 or 12
+    3140 0010           ; move.w  d0,16(a0)         12
+    e548                ; lsl.w   #2,d0             10
+    4841                ; swap    d1                4
+    c0fc 01ff           ; mulu    #$1ff,d0          56
+    2f01                ; move.l  d1,-(a7)          12
+    261f                ; move.l  (a7)+,d3          12
+    6100 0004           ; bsr.w   *+6               18
+    60e0                ; bra.b   $206              10
+    4e75                ; rts                       16
+"""
 TRANSFER = """at 000
     00ff f000 0000 0200
 at 100
@@ -42,6 +65,8 @@ at 200
     66f8                ; bne.b   $232
     60d2                ; bra.b   $20e
 """
+# how many moves a frame has: the 68000's, 19,912 of the Z80, 262 lines and twice 55.6 batches
+MOVES = {"idle": 12_801 + 20_285, "mix": 9_401 + 20_285}
 
 
 def build(source, image):
@@ -79,6 +104,8 @@ def measure(name, image, frames, folder, workers=1):
         f"{switches} context switches, {peak / 1024:.1f} MiB at most",
         flush=True,
     )
+    if name in MOVES:
+        print(f"{name}: {seconds / frames / MOVES[name] * 1e9:.1f} nanoseconds a move")
 
 
 def main():
@@ -87,14 +114,18 @@ def main():
         sys.exit(f"{PROGRAM} is missing: run `rt ci` first")
     with tempfile.TemporaryDirectory() as name:
         folder = pathlib.Path(name)
+        if len(sys.argv) > 2:
+            image = pathlib.Path(sys.argv[2])
+            measure(image.name, image, frames, folder)
+            return
         sources = {
             example: TOP / "examples" / example / f"{example}.src"
             for example in ("scale", "chord", "show")
         }
-        for cartridge, text in (("idle", IDLE), ("transfer", TRANSFER)):
+        for cartridge, text in (("idle", IDLE), ("mix", MIX), ("transfer", TRANSFER)):
             sources[cartridge] = folder / f"{cartridge}.src"
             sources[cartridge].write_text(text)
-        for cartridge in ("idle", "scale", "chord", "transfer", "show"):
+        for cartridge in ("idle", "mix", "scale", "chord", "transfer", "show"):
             image = folder / f"{cartridge}.bin"
             build(sources[cartridge], image)
             measure(cartridge, image, frames, folder)
