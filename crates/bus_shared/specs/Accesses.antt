@@ -130,6 +130,7 @@ pub data Shown : Type 0 where
   Fm : List FmWrite → Shown
   Psg : List PsgWrite → Shown
 
+-- an answer with the values that its view, its list or its parcel has
 abbrev pub shown : Answer → Shown
 shown (answers.Main answer) = Main answer
 shown (answers.Sub answer) = Sub (told answer)
@@ -137,6 +138,7 @@ shown (answers.Line view) = Line view.value
 shown (answers.Fm list) = Fm list.value.items
 shown (answers.Psg list) = Psg list.value.items
 
+-- what an access comes to: the answer, the entry in the journal, and the board after it
 pub record Carried : Type 0 where
   pub answer : Shown
   pub entry : Entry

@@ -60,11 +60,12 @@ unfoldable pub transfer_in : Area → Board → Key → ℕ → ℕ → Option T
 transfer_in VideoPorts board key address word = port_transfer (port_at address) key.cycle word board.vdp
 transfer_in area board key address word = None
 
--- a byte and a word at any address: beside the areas nothing answers
+-- a byte at any address: beside the areas nothing answers, and it is FFh
 abbrev pub byte_at : Option Area → Board → Key → ℕ → ℕ
 byte_at None board key address = 0xff
 byte_at (Some area) board key address = byte_in area board key address
 
+-- a word at any address: beside the areas nothing answers, and it is FFFFh
 abbrev pub word_at : Option Area → Board → Key → ℕ → ℕ
 word_at None board key address = 0xffff
 word_at (Some area) board key address = word_in area board key address
@@ -74,11 +75,12 @@ abbrev pub read_at : Option Area → Board → Key → ℕ → Board
 read_at None board key address = board
 read_at (Some area) board key address = read_in area board key address
 
--- the board after a byte and after a word is written at any address
+-- the board after a byte is written at any address
 abbrev pub byte_written_at : Option Area → Board → Key → ℕ → ℕ → Board
 byte_written_at None board key address value = board
 byte_written_at (Some area) board key address value = byte_written_in area board key address value
 
+-- the board after a word is written at any address
 abbrev pub word_written_at : Option Area → Board → Key → ℕ → ℕ → Board
 word_written_at None board key address value = board
 word_written_at (Some area) board key address value = word_written_in area board key address value

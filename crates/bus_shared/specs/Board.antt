@@ -9,6 +9,7 @@ use Rattle.psg_sound.specs.declared.write.PsgWrite.{PsgWrite}
 use Rattle.vdp_ports.specs.Vdp.{Vdp, at_power_on}
 use Rattle.z80_parcel.specs.Parcels.{IsStore, Store}
 
+-- what the chips share, between two accesses
 pub record Board : Type 0 where
   -- the frames of the recording
   pub recording : List Frame

@@ -19,10 +19,11 @@ fm_status board cycle = status cycle (both_settled cycle board.fm.timers)
 abbrev pub fm_read : Board → ℕ → Board
 fm_read board cycle = record board { fm = record board.fm { timers = both_settled cycle board.fm.timers } }
 
--- what a read beside the Z80's RAM gives, and the board after it: only the FM chip answers
+-- what a read beside the Z80's RAM gives: only the FM chip answers
 abbrev pub chip_byte : Board → ℕ → ℕ → ℕ
 chip_byte board cycle at = if is_fm at then fm_status board cycle else 0xff
 
+-- the board after that read
 abbrev pub chip_read : Board → ℕ → ℕ → Board
 chip_read board cycle at = if is_fm at then fm_read board cycle else board
 

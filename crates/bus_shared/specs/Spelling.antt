@@ -27,18 +27,21 @@ use Rattle.bus_shared.specs.declared.saved_lines.SavedLines.{SavedLines}
 abbrev pub settled_board : ℕ → Board → Board
 settled_board at board = record board { vdp = settled at board.vdp; fm = fm_spelling.settled_port at board.fm }
 
--- how many bytes keep RAM and bank register, and how many a board, by whether it has them
+-- how many bytes keep RAM and bank register, by whether the bus has them
 abbrev pub store_size : Bool → ℕ
 store_size false = 0
 store_size true = 8194
 
+-- how many bytes keep a board, by whether it has RAM and bank register
 abbrev pub board_size : Bool → ℕ
 board_size false = 88388
 board_size true = 96582
 
+-- the bytes that keep RAM and bank register, where the bus has them
 abbrev pub store_bytes : Option Store → List ℕ
 store_bytes store = spelling (store_fields true store)
 
+-- the bytes that keep lines and pads
 abbrev pub lines_bytes : SavedLines → List ℕ
 lines_bytes lines = spelling (lines_fields 0 lines)
 
@@ -79,9 +82,11 @@ pub record Parts : Type 0 where
   pub held : List ℕ
   pub lines : List ℕ
 
+-- how many bytes are too much for the other parts
 abbrev pub store_length : List ℕ → ℕ
 store_length bytes = length bytes - 88388
 
+-- bytes as the parts in their order
 abbrev pub cut : List ℕ → Parts
 cut bytes =
     let behind = drop (store_length bytes) bytes in
@@ -102,6 +107,7 @@ behind start NoMemory = NoMemory
 abbrev pub StoreGoesWrongAt : List ℕ → ℕ → Type 0
 StoreGoesWrongAt bytes place = (0 < length bytes) × (512 ≤ number_at w16 8192 bytes) × (place ≡ 8192)
 
+-- bytes that keep no lines and pads are refused at this place
 abbrev pub LinesGoWrongAt : ℕ → List ℕ → ℕ → Type 0
 LinesGoWrongAt at bytes place = IsRefused 18 (lines_fields at) bytes place
 

@@ -27,10 +27,11 @@ port_at address =
     else (if nat_lt place 0x10 then Counter
     else (if nat_lt place 0x18 then Sound else Unused)))
 
--- whether the display is on, and whether the picture has 320 dots
+-- whether the display is on: bit 6 of register 1
 unfoldable pub is_shown : Vdp → Bool
 is_shown vdp = register vdp 1 / 0x40 % 2 == 1
 
+-- whether the picture has 320 dots: bit 0 of register 12
 unfoldable pub is_wide : Vdp → Bool
 is_wide vdp = register vdp 12 % 2 == 1
 
@@ -116,16 +117,18 @@ line_begun cycle note vdp = line_started cycle (joined note (settled cycle vdp))
 unfoldable pub line_view : ℕ → Vdp → LineView → LineView
 line_view cycle vdp view = if nat_lt (line_of cycle) 224 then view_of vdp else view
 
--- the interrupt level is known: 6, 4 or 0
+-- the interrupt level: 6 where a vertical interrupt is asked for, else 4 for a horizontal one
 abbrev pub level_by : Bool → Bool → ℕ
 level_by vertical horizontal = if vertical then 6 else (if horizontal then 4 else 0)
 
+-- such a level is 0, 4 or 6
 pub known_by : (vertical horizontal : Bool)
     → IsTrue (level_by vertical horizontal == 0 || level_by vertical horizontal == 4 || level_by vertical horizontal == 6)
 known_by true horizontal = refl
 known_by false true = refl
 known_by false false = refl
 
+-- the VDP's interrupt level is 0, 4 or 6
 pub level_known : (vdp : Vdp) → IsTrue (level vdp == 0 || level vdp == 4 || level vdp == 6)
 unfolding level
 level_known vdp = known_by (vdp.vertical && (register vdp 1 / 32 % 2 == 1)) (vdp.horizontal && (register vdp 0 / 16 % 2 == 1))

@@ -7,6 +7,7 @@ use Rattle.chip_core.specs.Chips.{Rules}
 use Rattle.chip_core.specs.Events.{Seen, Stands}
 use Rattle.chip_core.specs.Machines.{Machine, IsRunTo}
 
+-- the shared state, the chips and their bounds by number, and the journal
 pub record CoreValue (Chip Shared : Type 0) : Type 0 where
   pub shared : Shared
   pub chips : List Chip
@@ -15,6 +16,7 @@ pub record CoreValue (Chip Shared : Type 0) : Type 0 where
   -- how many entries the journal has room for
   pub room : ℕ
 
+-- what stands for the bound of a chip outside the list
 abbrev pub no_key : Key
 no_key = record { cycle = 0; chip = 0 }
 
@@ -23,16 +25,19 @@ abbrev pub bound_in : List Key → ℕ → Key
 bound_in bounds i = slice_index_or bounds i no_key
 
 module _ {Chip Shared Pins : Type 0} (rules : Rules Chip Shared Pins) where
-  -- a list of chips by their numbers, and their keys
+  -- a list of chips by their numbers
   abbrev pub chip_in : List Chip → ℕ → Chip
   chip_in chips i = slice_index_or chips i rules.blank
 
+  -- the key of a chip's next event, by its number
   abbrev pub key_in : List Chip → ℕ → Key
   key_in chips i = (rules.next (chip_in chips i)).key
 
+  -- the shared state and the chips of a core
   abbrev pub machine_of : CoreValue Chip Shared → Machine Chip Shared
   machine_of v = record { shared = v.shared; chip = λ i. chip_in v.chips i }
 
+  -- a core with its chips and bounds by their numbers
   abbrev pub seen : CoreValue Chip Shared → Seen Chip Shared
   seen v = record { machine = machine_of v; bound = λ i. bound_in v.bounds i; journal = v.journal }
 

@@ -47,6 +47,7 @@ module _ {Chip Shared Pins : Type 0} (rules : Rules Chip Shared Pins) where
   abbrev pub IsBelowLooked : Seen Chip Shared → ℕ → Type 0
   IsBelowLooked s i = (j : ℕ) → j < rules.count → j ≢ i → looks_at j i ≡ true → key_lt (key_of rules s.machine i) (s.bound j) ≡ true
 
+  -- below a cycle, an event may come: an announcement of a key above the bound, or a move in its turn
   abbrev pub IsEnabled : Seen Chip Shared → ℕ → Event → Type 0
   IsEnabled s t (Announce i) = (i < rules.count) × (key_lt (s.bound i) (key_of rules s.machine i) ≡ true)
   IsEnabled s t (Perform i) = (i < rules.count) × (is_sample rules s.machine i ≡ false) × ((key_of rules s.machine i).cycle < t) × IsBelowAll s i
@@ -56,6 +57,7 @@ module _ {Chip Shared Pins : Type 0} (rules : Rules Chip Shared Pins) where
   abbrev pub left_bound : Machine Chip Shared → ℕ → Key
   left_bound m i = record { cycle = (key_of rules m i).cycle + rules.gap i; chip = i }
 
+  -- the core after an event
   abbrev pub after : Seen Chip Shared → Event → Seen Chip Shared
   after s (Announce i) = record { machine = s.machine; bound = put s.bound i (key_of rules s.machine i); journal = s.journal }
   after s (Perform i) = record { machine = move rules s.machine i; bound = put s.bound i (left_bound s.machine i); journal = s.journal ++ (accessed rules s.machine i).entry ∷ [] }

@@ -25,12 +25,15 @@ abbrev pub of_chip : ℕ → List Entry → List Entry
 of_chip i entries = filter (λ (e : Entry). e.key.chip == i) entries
 
 module _ {Chip Shared Pins : Type 0} (rules : Rules Chip Shared Pins) where
+  -- the key of chip i's next event
   abbrev pub key_of : Machine Chip Shared → ℕ → Key
   key_of m i = (rules.next (m.chip i)).key
 
+  -- whether chip i's next event is a sample
   abbrev pub is_sample : Machine Chip Shared → ℕ → Bool
   is_sample m i = (rules.next (m.chip i)).sample
 
+  -- what the locked part of chip i's access leaves
   abbrev pub accessed : Machine Chip Shared → ℕ → Accessed Chip Shared
   accessed m i = rules.perform (m.chip i) m.shared
 

@@ -17,9 +17,11 @@ module _ {Chip Pins : Type 0} where
   abbrev pub bare : HeldValue Chip Pins → HeldValue Chip Pins
   bare h = record h { passes = 0 }
 
+  -- the same of every place
   abbrev pub bares : Places Chip Pins → Places Chip Pins
   bares hs = map (option_map bare) hs
 
+  -- whether a place holds a chip
   abbrev pub is_there : Option (HeldValue Chip Pins) → Bool
   is_there None = false
   is_there (Some h) = true

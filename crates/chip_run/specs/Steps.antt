@@ -34,6 +34,8 @@ module _ {Chip Shared Pins : Type 0} (rules : Rules Chip Shared Pins) where
   abbrev pub HasPlaceFor : PartsValue Shared → ℕ → Chip → Type 0
   HasPlaceFor p i c = HasTurn p i c → (rules.next c).sample ≡ false → length p.journal < p.room
 
+  -- the locked part once an access of chip i is made: its bound is raised, and its entry joins the
+  -- journal
   abbrev pub after_access : PartsValue Shared → ℕ → Chip → PartsValue Shared
   after_access p i c = record p {
     shared = (rules.perform c p.shared).shared;

@@ -39,9 +39,10 @@ course first s ws (suc n) =
 unfoldable pub sample : ℕ → Synth → List FmWrite → ℕ → ℤ × ℤ
 sample first s ws n = sides (first + n) (due (first + n) (course first s ws n)).chip
 
--- the samples of a batch, and the chip after it: after sixteen samples and all writes
+-- the samples of a batch
 unfoldable pub samples : ℕ → Synth → List FmWrite → List (ℤ × ℤ)
 samples first s ws = map (sample first s ws) (range_with_len 0 16)
 
+-- the chip after a batch: after sixteen samples and all writes
 unfoldable pub after_batch : ℕ → Synth → List FmWrite → Synth
 after_batch first s ws = written_all (course first s ws 16).rest (course first s ws 16).chip

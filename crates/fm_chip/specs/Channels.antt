@@ -11,13 +11,15 @@ use Rattle.fm_chip.specs.declared.steps.Steps.{Steps}
 use Rattle.fm_chip.specs.Steps.{steps_of}
 use Rattle.fm_chip.specs.Lfo.{tremolo}
 
--- a channel by its number, 0 to 5
+-- an operator of which all is 0
 abbrev pub blank_operator : Operator
 blank_operator = record { phase = 0; v = 0; state = 0; on = false }
 
+-- what stands for a channel outside the list
 abbrev pub blank : Channel
 blank = record { one = blank_operator; two = blank_operator; three = blank_operator; four = blank_operator; last = [] }
 
+-- a channel by its number, 0 to 5
 abbrev pub channel_at : List Channel → ℕ → Channel
 channel_at channels c = slice_index_or channels c blank
 
@@ -40,10 +42,11 @@ all_enveloped registers counter c ch = record {
   last = ch.last;
 }
 
--- the phases of the four operators, and their attenuations
+-- the phases of the four operators
 unfoldable pub phases : Channel → List ℕ
 phases ch = ch.one.phase ∷ ch.two.phase ∷ ch.three.phase ∷ ch.four.phase ∷ []
 
+-- the attenuations of the four operators
 unfoldable pub attenuations : List ℕ → ℕ → ℕ → Channel → List ℕ
 attenuations registers tremolo c ch =
     attenuation registers tremolo c 0 ch.one.v ∷
@@ -57,20 +60,23 @@ voice_of registers t c ch =
     voice (of_channel registers c 0xb0 % 8) (of_channel registers c 0xb0 / 8 % 8) (phases ch)
     (attenuations registers (tremolo (of_channel registers c 0xb4 / 16 % 4) t) c ch) ch.last
 
--- the converter (DAC) takes the place of channel 6, where bit 7 of register 2B is set
+-- the level of a byte for the converter (DAC): 80h is 0
 unfoldable pub converted : ℕ → ℤ
 converted value = (pos value -ℤ pos 128) *ℤ pos 64
 
+-- the converter takes the place of channel 6, where bit 7 of register 2B is set
 unfoldable pub replaces : List ℕ → ℕ → Bool
 replaces registers c = (c == 5) && nat_le 128 (at registers 0x2b)
 
+-- the channel's level, or in its place that of the byte in register 2A
 unfoldable pub chosen : List ℕ → ℕ → ℤ → ℤ
 chosen registers c value = if replaces registers c then converted (at registers 0x2a) else value
 
--- what is heard of a channel, and the channel when it has sounded
+-- what is heard of a channel
 unfoldable pub value : List ℕ → ℕ → ℕ → Channel → ℤ
 value registers t c ch = chosen registers c (heard (voice_of registers t c ch))
 
+-- the channel when it has sounded: operator 1 has one output more
 unfoldable pub sounded : List ℕ → ℕ → ℕ → Channel → Channel
 sounded registers t c ch = record {
   one = ch.one;
@@ -90,12 +96,14 @@ all_advanced steps ch = record {
   last = ch.last;
 }
 
--- the channel when it sounds, what is heard of it, and the channel after the sample
+-- the channel when it sounds
 unfoldable pub ready : List ℕ → Moment → ℕ → Channel → Channel
 ready registers m c ch = if m.ticks then all_enveloped registers m.counter c ch else ch
 
+-- what is heard of the channel at the sample
 unfoldable pub channel_value : List ℕ → Moment → ℕ → Channel → ℤ
 channel_value registers m c ch = value registers m.t c (ready registers m c ch)
 
+-- the channel after the sample
 unfoldable pub channel_after : List ℕ → Moment → ℕ → Channel → Channel
 channel_after registers m c ch = all_advanced (steps_of registers (m.t / 4) c) (sounded registers m.t c (ready registers m c ch))

@@ -22,16 +22,18 @@ triangle t = if nat_lt t 64 then 2 * t else 2 * (127 - t)
 abbrev pub eighths : List ℕ
 eighths = 0 ∷ 1 ∷ 4 ∷ 8 ∷ []
 
+-- tremolo at a depth of 0 to 3, bits 5 and 4 of register B4
 unfoldable pub tremolo : ℕ → ℕ → ℕ
 tremolo depth t = triangle t * slice_index eighths depth / 8
 
--- vibrato's deviation without its sign at q of 32 places, and the factor of a depth
+-- vibrato's deviation without its sign at q of 32 places
 unfoldable pub swing : ℕ → ℕ
 swing q =
     if nat_lt q 8 then q else (
     if nat_lt q 16 then 16 - q else (
     if nat_lt q 24 then q - 16 else 32 - q))
 
+-- the factor of each depth of vibrato, 0 to 7, bits 2 to 0 of register B4
 abbrev pub factors : List ℕ
 factors = 0 ∷ 1 ∷ 2 ∷ 3 ∷ 4 ∷ 6 ∷ 12 ∷ 24 ∷ []
 

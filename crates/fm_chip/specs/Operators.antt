@@ -13,10 +13,11 @@ pub record IsOperator (o : Operator) : Type 0 where
   pub v : o.v ≤ 1023
   pub state : o.state ≤ 3
 
--- its envelope, and the operator with another
+-- its envelope
 abbrev pub envelope_of : Operator → Plain
 envelope_of o = record { v = o.v; state = o.state; on = o.on }
 
+-- the operator with another envelope
 abbrev pub kept : Plain → Operator → Operator
 kept l o = record { phase = o.phase; v = l.v; state = l.state; on = l.on }
 

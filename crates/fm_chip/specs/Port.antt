@@ -11,6 +11,7 @@ use Rattle.fm_chip.specs.Stamp.{stamp_of}
 use Rattle.fm_chip.specs.Timers as timers
 use Rattle.fm_chip.specs.Timers.{IsTimers}
 
+-- latches and timers, which accesses look at, and the writes on their way to the synthesis
 pub record Port : Type 0 where
   -- the registers that the two data addresses write
   pub first : ℕ
@@ -28,13 +29,15 @@ pub record IsPort (p : Port) : Type 0 where
 abbrev pub at_power_on : Port
 at_power_on = record { first = 0; second = 0; timers = timers.at_power_on; writes = [] }
 
--- a write to a register of the first port, and of the second, and a reset
+-- a write to a register of the first port
 abbrev pub first_write : Key → ℕ → ℕ → FmWrite
 first_write key register value = record { key = key; port = 0; register = register; value = value; port_in_range = lit≤ tt }
 
+-- a write to a register of the second port
 abbrev pub second_write : Key → ℕ → ℕ → FmWrite
 second_write key register value = record { key = key; port = 1; register = register; value = value; port_in_range = lit≤ tt }
 
+-- a reset, which stands among the writes as one of port 2
 abbrev pub reset_write : Key → FmWrite
 reset_write key = record { key = key; port = 2; register = 0; value = 0; port_in_range = lit≤ tt }
 
@@ -56,10 +59,11 @@ written key address value p =
 unfoldable pub reset : Key → Port → Port
 reset key p = record at_power_on { writes = held_with p.writes (reset_write key) }
 
--- the writes stamped below a cycle, and those that stay, each in their order
+-- the writes stamped below a cycle, in their order
 abbrev pub taken_below : ℕ → List FmWrite → List FmWrite
 taken_below cycle writes = held.taken_below stamp_of cycle writes
 
+-- the writes stamped at a cycle or later, in their order
 abbrev pub left_from : ℕ → List FmWrite → List FmWrite
 left_from cycle writes = held.left_from stamp_of cycle writes
 

@@ -22,10 +22,11 @@ use Rattle.fm_chip.specs.declared.write.FmWrite.{FmWrite}
 
 -- ---- a write
 
--- its numbers as fields, and those that stand at a place
+-- the numbers of a write as fields
 abbrev pub write_fields : SavedWrite → List Field
 write_fields w = quad w.cycle true ∷ byte w.chip true ∷ byte w.port true ∷ byte w.register true ∷ byte w.value true ∷ []
 
+-- the numbers of the write that stands at a place
 abbrev pub write_at : ℕ → List ℕ → SavedWrite
 write_at place bytes = record {
   cycle = number_at w64 place bytes;
@@ -39,16 +40,19 @@ write_at place bytes = record {
 abbrev pub writes_at : ℕ → List ℕ → List SavedWrite
 writes_at count entries = entries_from 12 write_at count 0 entries
 
--- what is kept of a write, and the write of which this is kept
+-- what is kept of a write
 abbrev pub saved_write : FmWrite → SavedWrite
 saved_write w = record { cycle = w.key.cycle; chip = w.key.chip; port = w.port; register = w.register; value = w.value }
 
+-- the cycle of a write, and the chip that made it
 abbrev pub key_of : SavedWrite → Key
 key_of w = record { cycle = w.cycle; chip = w.chip }
 
+-- a number, or 2 where it is more, is a port
 pub at_most_2 : (n : ℕ) → min n 2 ≤ 2
 at_most_2 n = omega arith
 
+-- the write of which this is kept; a port above 2 is taken for 2
 abbrev pub write_from : SavedWrite → FmWrite
 write_from w = record { key = key_of w; port = min w.port 2; register = w.register; value = w.value; port_in_range = at_most_2 w.port }
 
@@ -79,16 +83,17 @@ abbrev pub are_timed : ℕ → Timers → Bool
 are_timed at t =
     is_timer at 1032192 (t.control % 2) (flag_number t.a.run) t.a.next && is_timer at 4128768 (t.control / 2 % 2) (flag_number t.b.run) t.b.next
 
--- at most 1,024 writes, with keys that a port holds at the cycle, and zeros behind them
+-- each is a write, and their keys are such as a port holds at the cycle
 abbrev pub are_right : ℕ → List SavedWrite → Bool
 are_right at ws = list_all is_write ws && are_kept at (map key_of ws)
 
+-- at most 1,024 writes, with keys that a port holds at the cycle, and zeros behind them
 abbrev pub are_writes : ℕ → ℕ → List ℕ → Bool
 are_writes at count entries =
     nat_le count 1024 && (are_right at (writes_at count entries) && are_zeros (drop (12 * count) entries))
 
--- the fields in their order, and their rules: a timer's run and next are one field, as count and writes
--- are, and its rule stands first
+-- the fields of latches and timers in their order, and their rules: a timer's run and next are one
+-- field, whose rule stands first
 abbrev pub number_fields : ℕ → Numbers → List Field
 number_fields at s =
     byte s.first true
@@ -105,13 +110,15 @@ number_fields at s =
     ∷ byte s.flag_b (nat_le s.flag_b 1)
     ∷ []
 
+-- the fields of the writes: count and writes are one field, whose rule stands first
 abbrev pub list_fields : ℕ → SavedPort → List Field
 list_fields at s = word s.count (are_writes at s.count s.entries) ∷ block 12288 s.entries true ∷ []
 
+-- all fields in their order, and their rules, by the cycle of the state
 abbrev pub port_fields : ℕ → SavedPort → List Field
 port_fields at s = number_fields at s.numbers ++ list_fields at s
 
--- what is kept of a port
+-- what is kept of latches and timers
 abbrev pub saved_numbers : Port → Numbers
 saved_numbers p = record {
   first = p.first;
@@ -128,6 +135,7 @@ saved_numbers p = record {
   flag_b = flag_number p.timers.b.flag;
 }
 
+-- what is kept of a port
 abbrev pub saved_port : Port → SavedPort
 saved_port p = record {
   numbers = saved_numbers p;
@@ -135,10 +143,11 @@ saved_port p = record {
   entries = padded 12288 (entries_bytes write_fields (map saved_write p.writes));
 }
 
--- the port of which this is kept
+-- the timer of which these numbers are kept
 abbrev pub timer_from : ℕ → ℕ → ℕ → Timer
 timer_from run next flag = record { run = (run == 1); next = next; flag = (flag == 1) }
 
+-- both timers, with their registers, of which these numbers are kept
 abbrev pub timers_from : Numbers → Timers
 timers_from s = record {
   high_a = s.high_a;
@@ -149,12 +158,15 @@ timers_from s = record {
   b = timer_from s.run_b s.next_b s.flag_b;
 }
 
+-- the port with latches and timers of which these numbers are kept, and these writes
 abbrev pub port_with : Numbers → List FmWrite → Port
 port_with s writes = record { first = s.first; second = s.second; timers = timers_from s; writes = writes }
 
+-- the first so many writes that stand in the bytes
 abbrev pub writes_from : ℕ → List ℕ → List FmWrite
 writes_from count entries = map write_from (writes_at count entries)
 
+-- the port of which this is kept
 abbrev pub port_from : SavedPort → Port
 port_from s = port_with s.numbers (writes_from s.count s.entries)
 

@@ -6,10 +6,11 @@ use Rattle.fm_env.specs.Envelopes.{attack, decay, sustain}
 use Rattle.fm_voice.specs.Phase.{key_code}
 use Rattle.fm_chip.specs.declared.frequency.Frequency.{Frequency}
 
--- a register, and the first of a channel
+-- a register by its place, which is 256 more in the second port
 abbrev pub at : List ℕ → ℕ → ℕ
 at registers n = slice_index registers n
 
+-- where the registers of a channel begin
 abbrev pub base : ℕ → ℕ
 base c = c / 3 * 256 + c % 3
 

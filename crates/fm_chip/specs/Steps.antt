@@ -23,9 +23,11 @@ pub record IsSmall (s : Steps) : Type 0 where
   pub three : s.three < 2 ^ 21
   pub four : s.four < 2 ^ 21
 
+-- what stands for the steps of a channel outside the list
 abbrev pub no_steps : Steps
 no_steps = record { one = 0; two = 0; three = 0; four = 0 }
 
+-- the steps of a channel by its number, 0 to 5
 abbrev pub steps_at : List Steps → ℕ → Steps
 steps_at channels c = slice_index_or channels c no_steps
 

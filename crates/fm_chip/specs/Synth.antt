@@ -15,6 +15,7 @@ use Rattle.fm_chip.specs.Latches.{taken_latch, own_latch}
 use Rattle.fm_chip.specs.Keys.{keyed_channel, channels_keyed}
 use Rattle.fm_chip.specs.Channels.{IsChannel, channel_at, channel_value, channel_after}
 
+-- the chip: the registers and latches that were written, and what sounds by them
 pub record Synth : Type 0 where
   -- 256 for each port
   pub registers : List ℕ
@@ -38,9 +39,11 @@ pub record IsSynth (s : Synth) : Type 0 where
 
 -- ---- at power-on every operator is silent, and all else is 0
 
+-- an operator at power-on: at the highest attenuation, in release
 abbrev pub silent_operator : Operator
 silent_operator = record { phase = 0; v = 1023; state = release; on = false }
 
+-- a channel at power-on
 abbrev pub silent : Channel
 silent = record {
   one = silent_operator;
@@ -50,6 +53,7 @@ silent = record {
   last = pos 0 ∷ pos 0 ∷ [];
 }
 
+-- the chip at power-on, and after a reset
 unfoldable pub at_power_on : Synth
 at_power_on = record {
   registers = replicate 512 0;
@@ -61,7 +65,7 @@ at_power_on = record {
 
 -- ---- a write
 
--- the parts of a chip that a write changes: keys, a register, a latch
+-- the chip with the keys of a channel put on or off by a byte for register 28
 unfoldable pub with_keys : ℕ → Synth → Synth
 with_keys value s = record {
   registers = s.registers;
@@ -71,6 +75,7 @@ with_keys value s = record {
   channels = channels_keyed (keyed_channel value) s.registers value s.channels;
 }
 
+-- the chip with a byte in the register at a place of 512
 unfoldable pub with_register : ℕ → ℕ → Synth → Synth
 with_register place value s = record {
   registers = slice_set s.registers place value;
@@ -80,6 +85,7 @@ with_register place value s = record {
   channels = s.channels;
 }
 
+-- the chip with a byte in a latch, 0 to 8
 unfoldable pub with_latch : ℕ → ℕ → Synth → Synth
 with_latch n value s = record {
   registers = s.registers;
@@ -89,15 +95,16 @@ with_latch n value s = record {
   channels = s.channels;
 }
 
--- a register that takes its latch hands it to the register four further; register 28 sets keys
+-- a register that takes its latch hands it to the register four further
 abbrev pub taking : Option ℕ → ℕ → Synth → Synth
 taking None place s = s
 taking (Some n) place s = with_register (place + 4) (slice_index s.latches n) s
 
+-- the chip with a byte in a register, and its latch taken, if it has one
 unfoldable pub stored : ℕ → ℕ → ℕ → Synth → Synth
 stored port register value s = with_register (port * 256 + register) value (taking (taken_latch port register) (port * 256 + register) s)
 
--- a byte for a register that is no latch
+-- a byte for a register that is no latch; register 28 sets keys
 unfoldable pub put : ℕ → ℕ → ℕ → Synth → Synth
 put port register value s =
     if (port == 0) && (register == 0x28) then with_keys value (stored port register value s) else stored port register value s
@@ -125,31 +132,35 @@ moment k s = record {
   t = (stepped (at s.registers 0x22) s.lfo).t;
 }
 
--- what a channel adds to a side: bit 7 of B4 is left, bit 6 right
+-- what a channel adds to the left: bit 7 of B4
 unfoldable pub left_of : List ℕ → ℕ → ℤ → ℤ
 left_of registers c value = if of_channel registers c 0xb4 / 128 % 2 == 1 then value else pos 0
 
+-- what a channel adds to the right: bit 6 of B4
 unfoldable pub right_of : List ℕ → ℕ → ℤ → ℤ
 right_of registers c value = if of_channel registers c 0xb4 / 64 % 2 == 1 then value else pos 0
 
--- the sums over the channels below a number, and all channels after the sample
+-- the sum of the left over the channels below a number
 unfoldable pub left_below : List ℕ → Moment → List Channel → ℕ → ℤ
 left_below registers m channels zero = pos 0
 left_below registers m channels (suc c) =
     left_below registers m channels c +ℤ left_of registers c (channel_value registers m c (channel_at channels c))
 
+-- the sum of the right over the channels below a number
 unfoldable pub right_below : List ℕ → Moment → List Channel → ℕ → ℤ
 right_below registers m channels zero = pos 0
 right_below registers m channels (suc c) =
     right_below registers m channels c +ℤ right_of registers c (channel_value registers m c (channel_at channels c))
 
+-- all channels after the sample
 unfoldable pub channels_after : List ℕ → Moment → List Channel → List Channel
 channels_after registers m channels = map (λ c. channel_after registers m c (channel_at channels c)) (range_with_len 0 6)
 
--- the sums of both sides, and the chip after the sample
+-- the sums of both sides, the left one first
 unfoldable pub sides : ℕ → Synth → ℤ × ℤ
 sides k s = (left_below s.registers (moment k s) s.channels 6, right_below s.registers (moment k s) s.channels 6)
 
+-- the chip after the sample
 unfoldable pub sampled : ℕ → Synth → Synth
 sampled k s = record {
   registers = s.registers;

@@ -17,12 +17,15 @@ use Rattle.fm_chip.specs.declared.saved_synth.SavedSynth.{SavedSynth}
 
 -- ---- an operator, and the four of a channel
 
+-- what is kept of an operator
 abbrev pub saved_operator : Operator → SavedOperator
 saved_operator o = record { phase = o.phase; v = o.v; state = o.state; on = flag_number o.on }
 
+-- the operator of which this is kept
 abbrev pub operator_from : SavedOperator → Operator
 operator_from s = record { phase = s.phase; v = s.v; state = s.state; on = (s.on == 1) }
 
+-- what the eight bytes at a place keep of an operator
 abbrev pub operator_at : ℕ → List ℕ → SavedOperator
 operator_at place bytes = record {
   phase = number_at w32 place bytes;
@@ -31,6 +34,7 @@ operator_at place bytes = record {
   on = slice_index bytes (place + 4 + 2 + 1);
 }
 
+-- what the 32 bytes at a place keep of a channel's operators
 abbrev pub four_at : ℕ → List ℕ → SavedFour
 four_at place bytes = record {
   one = operator_at place bytes;
@@ -48,6 +52,7 @@ operator_before s rest =
     ∷ byte s.on (nat_le s.on 1)
     ∷ rest
 
+-- the fields of a channel's operators, from 1 to 4
 abbrev pub four_fields : SavedFour → List Field
 four_fields s = operator_before s.one (operator_before s.two (operator_before s.three (operator_before s.four [])))
 
@@ -57,31 +62,38 @@ four_fields s = operator_before s.one (operator_before s.two (operator_before s.
 abbrev pub is_output : ℕ → Bool
 is_output n = nat_lt n 0x2000 || nat_le 0xe000 n
 
+-- the older output, then the newer, then the rest; the rule of both stands first
 abbrev pub last_before : SavedLast → List Field → List Field
 last_before s rest = word s.older (is_output s.older && is_output s.newer) ∷ word s.newer true ∷ rest
 
+-- what the four bytes at a place keep of two outputs
 abbrev pub last_at : ℕ → List ℕ → SavedLast
 last_at place bytes = record { older = number_at w16 place bytes; newer = number_at w16 (place + 2) bytes }
 
--- an output as a word of two's complement, and the output of a word
+-- an output as a word of two's complement
 abbrev pub word_of : ℤ → ℕ
 word_of (pos n) = n
 word_of (negsuc n) = 0xffff - n
 
+-- the output of a word of two's complement
 abbrev pub output_of : ℕ → ℤ
 output_of n = if nat_lt n 0x8000 then pos n else negsuc (0xffff - n)
 
+-- what is kept of the last outputs
 abbrev pub saved_last : List ℤ → SavedLast
 saved_last last = record { older = word_of (slice_index_or last 0 (pos 0)); newer = word_of (slice_index_or last 1 (pos 0)) }
 
+-- the last outputs of which this is kept, the older one first
 abbrev pub last_from : SavedLast → List ℤ
 last_from s = output_of s.older ∷ output_of s.newer ∷ []
 
 -- ---- the chip
 
+-- what is kept of a channel's operators
 abbrev pub saved_four : Channel → SavedFour
 saved_four ch = record { one = saved_operator ch.one; two = saved_operator ch.two; three = saved_operator ch.three; four = saved_operator ch.four }
 
+-- the channel of which this is kept
 abbrev pub channel_from : SavedFour → SavedLast → Channel
 channel_from s last = record {
   one = operator_from s.one;
@@ -91,6 +103,7 @@ channel_from s last = record {
   last = last_from last;
 }
 
+-- what is kept of a chip
 abbrev pub saved_synth : Synth → SavedSynth
 saved_synth s = record {
   registers = s.registers;
@@ -112,6 +125,7 @@ saved_synth s = record {
   last6 = saved_last (channel_at s.channels 5).last;
 }
 
+-- the six channels of which this is kept
 abbrev pub channels_from : SavedSynth → List Channel
 channels_from s =
     channel_from s.four1 s.last1
@@ -122,6 +136,7 @@ channels_from s =
     ∷ channel_from s.four6 s.last6
     ∷ []
 
+-- the chip of which this is kept
 abbrev pub synth_from : SavedSynth → Synth
 synth_from s = record {
   registers = s.registers;
@@ -153,7 +168,7 @@ synth_at bytes = record {
   last6 = last_at 737 bytes;
 }
 
--- the fields in their order, and their rules
+-- the fields in front of the channels, and their rules: registers, latches, oscillator, counter
 abbrev pub head_fields : SavedSynth → List Field
 head_fields s =
     block 512 s.registers true
@@ -163,28 +178,36 @@ head_fields s =
     ∷ word s.counter (nat_lt s.counter 4096)
     ∷ []
 
+-- the fields of the last outputs, from channel 1 to 6
 abbrev pub last_fields : SavedSynth → List Field
 last_fields s =
     last_before s.last1 (last_before s.last2 (last_before s.last3 (last_before s.last4 (last_before s.last5 (last_before s.last6 [])))))
 
+-- the fields from channel 6's operators on
 abbrev pub fields6 : SavedSynth → List Field
 fields6 s = four_fields s.four6 ++ last_fields s
 
+-- the fields from channel 5's operators on
 abbrev pub fields5 : SavedSynth → List Field
 fields5 s = four_fields s.four5 ++ fields6 s
 
+-- the fields from channel 4's operators on
 abbrev pub fields4 : SavedSynth → List Field
 fields4 s = four_fields s.four4 ++ fields5 s
 
+-- the fields from channel 3's operators on
 abbrev pub fields3 : SavedSynth → List Field
 fields3 s = four_fields s.four3 ++ fields4 s
 
+-- the fields from channel 2's operators on
 abbrev pub fields2 : SavedSynth → List Field
 fields2 s = four_fields s.four2 ++ fields3 s
 
+-- the fields from channel 1's operators on
 abbrev pub fields1 : SavedSynth → List Field
 fields1 s = four_fields s.four1 ++ fields2 s
 
+-- the fields in their order, and their rules
 unfoldable pub synth_fields : SavedSynth → List Field
 synth_fields s = head_fields s ++ fields1 s
 

@@ -38,18 +38,20 @@ controlled cycle period run clears t = record {
 unfoldable pub shown : ℕ → Bool → Timer → Bool
 shown cycle enabled t = t.flag || ((t.run && (t.next == cycle)) && enabled)
 
--- what holds of each timer, and of both
+-- what holds of each timer
 pub record IsTimer (t : Timer) : Type 0 where
   pub next : t.next ≤ 2 ^ 51
 
+-- what holds of both
 pub record IsTimers (t : Timers) : Type 0 where
   pub a : IsTimer t.a
   pub b : IsTimer t.b
 
--- by registers 24 and 25, and by 26
+-- by registers 24 and 25, which have ten bits: a sample for each step up to 1,024
 unfoldable pub period_a : Timers → ℕ
 period_a t = 1008 * (1024 - (t.high_a * 4 + t.low_a % 4))
 
+-- by register 26: sixteen samples for each step up to 256
 unfoldable pub period_b : Timers → ℕ
 period_b t = 16128 * (256 - t.number_b)
 
@@ -87,17 +89,19 @@ unfoldable pub timed : ℕ → ℕ → ℕ → Timers → Timers
 timed cycle register value t =
     if nat_le 0x24 register && nat_le register 0x27 then stored cycle register value (both_settled cycle t) else t
 
--- what a read shows: bit 0 timer A's flag, bit 1 timer B's
+-- a flag as a bit
 abbrev pub bit : Bool → ℕ
 bit b = if b then 1 else 0
 
+-- what a read shows: bit 0 timer A's flag, bit 1 timer B's
 unfoldable pub status : ℕ → Timers → ℕ
 status cycle t =
     bit (shown cycle (t.control / 4 % 2 == 1) t.a) + 2 * bit (shown cycle (t.control / 8 % 2 == 1) t.b)
 
--- at power-on both stand still
+-- a timer that stands still
 abbrev pub idle : Timer
 idle = record { run = false; next = 0; flag = false }
 
+-- at power-on both stand still, and their registers are 0
 abbrev pub at_power_on : Timers
 at_power_on = record { high_a = 0; low_a = 0; number_b = 0; control = 0; a = idle; b = idle }

@@ -13,19 +13,23 @@ pub record Plain : Type 0 where
   pub state : ℕ
   pub on : Bool
 
+-- the data of an envelope, apart from the bounds that it keeps
 abbrev pub plain : Envelope → Plain
 plain e = record { v = e.v; state = e.state; on = e.on }
 
--- the states by their numbers
+-- state 0: the key went on, and the attenuation falls to 0
 abbrev pub attack : ℕ
 attack = 0
 
+-- state 1: the attenuation rises to the sustain level
 abbrev pub decay : ℕ
 decay = 1
 
+-- state 2: it rises further, up to silence, while the key is on
 abbrev pub sustain : ℕ
 sustain = 2
 
+-- state 3: the key went off, and it rises up to silence
 abbrev pub release : ℕ
 release = 3
 
@@ -33,6 +37,7 @@ release = 3
 abbrev pub stepping_state : Plain → ℕ
 stepping_state e = if (e.state == attack) && (e.v == 0) then decay else e.state
 
+-- the envelope in the state in which it steps
 unfoldable pub turned : Plain → Plain
 turned e = record e { state = stepping_state e }
 

@@ -9,6 +9,7 @@ pub record Arrow : Type 0 where
   pub source : ℕ
   pub target : ℕ
 
+-- an arrow from its source to its target
 infixl 60 ◌⇒◌
 abbrev pub ◌⇒◌ : ℕ → ℕ → Arrow
 source ⇒ target = record { source = source; target = target }
@@ -45,11 +46,12 @@ carrier_table =
 abbrev pub carriers : ℕ → List ℕ
 carriers algorithm = slice_index_or carrier_table algorithm []
 
--- whether an arrow, or an operator, is in a list
+-- whether an arrow is in a list
 abbrev pub has_arrow : List Arrow → ℕ → ℕ → Bool
 has_arrow [] source target = false
 has_arrow (a ∷ rest) source target = ((a.source == source) && (a.target == target)) || has_arrow rest source target
 
+-- whether an operator is in a list
 abbrev pub has : List ℕ → ℕ → Bool
 has [] n = false
 has (x ∷ rest) n = (x == n) || has rest n
@@ -58,14 +60,16 @@ has (x ∷ rest) n = (x == n) || has rest n
 abbrev pub sent : Bool → ℤ → ℤ
 sent goes z = if goes then z else pos 0
 
--- the sum of the outputs that modulate an operator
+-- the sum of the outputs that modulate operator 2
 unfoldable pub into_two : ℕ → ℤ → ℤ
 into_two algorithm one = sent (has_arrow (arrows algorithm) 1 2) one
 
+-- the sum of the outputs that modulate operator 3
 unfoldable pub into_three : ℕ → ℤ → ℤ → ℤ
 into_three algorithm one two =
     sent (has_arrow (arrows algorithm) 1 3) one +ℤ sent (has_arrow (arrows algorithm) 2 3) two
 
+-- the sum of the outputs that modulate operator 4
 unfoldable pub into_four : ℕ → ℤ → ℤ → ℤ → ℤ
 into_four algorithm one two three =
     (sent (has_arrow (arrows algorithm) 1 4) one +ℤ sent (has_arrow (arrows algorithm) 2 4) two)
@@ -106,33 +110,39 @@ pub record Voice : Type 0 where
 abbrev pub last_at : List ℤ → ℕ → ℤ
 last_at last n = slice_index_or last n (pos 0)
 
--- the outputs of the four operators
+-- the output of operator 1
 unfoldable pub one : Voice → ℤ
 one v = output (slice_index v.phases 0) (fed_back v.feedback (last_at v.last 0 +ℤ last_at v.last 1)) (slice_index v.attenuations 0)
 
+-- the output of operator 2
 unfoldable pub two : Voice → ℤ
 two v = modulated (slice_index v.phases 1) (into_two v.algorithm (one v)) (slice_index v.attenuations 1)
 
+-- the output of operator 3
 unfoldable pub three : Voice → ℤ
 three v = modulated (slice_index v.phases 2) (into_three v.algorithm (one v) (two v)) (slice_index v.attenuations 2)
 
+-- the output of operator 4
 unfoldable pub four : Voice → ℤ
 four v = modulated (slice_index v.phases 3) (into_four v.algorithm (one v) (two v) (three v)) (slice_index v.attenuations 3)
 
--- what is heard of a channel, and its last two outputs after the sample
+-- what is heard of a channel
 unfoldable pub heard : Voice → ℤ
 heard v = clamped (carried v.algorithm (one v) (two v) (three v) (four v))
 
+-- the last two outputs of operator 1 after the sample
 unfoldable pub last_after : Voice → List ℤ
 last_after v = last_at v.last 1 ∷ one v ∷ []
 
--- from a bound below 0 to the same above; the outputs of an operator; the levels of a channel
+-- from a bound below 0 to the same above
 abbrev pub IsWithin : ℕ → ℤ → Type 0
 IsWithin bound z = (neg_ℤ (pos bound) ≤ℤ z) × (z ≤ℤ pos bound)
 
+-- the outputs of an operator: −8,191 to 8,191
 abbrev pub IsOutput : ℤ → Type 0
 IsOutput z = IsWithin 8191 z
 
+-- the levels of a channel: −8,192 to 8,191
 abbrev pub IsLevel : ℤ → Type 0
 IsLevel z = (negsuc 8191 ≤ℤ z) × (z ≤ℤ pos 8191)
 

@@ -4,17 +4,19 @@ use Rattle.std.specs.Prelude.{ℕ, ◌+◌, ◌-◌, ◌*◌, ◌/◌, ◌%◌, 
 use Rattle.std.specs.Int.{int_rem_euclid}
 use Rattle.std.specs.Int.RustNames.{unsigned_abs}
 
--- an arch over 1,024 places, and the sine made of it at n of 512 places of half a wave
+-- an arch over 1,024 places
 unfoldable pub arch : ℕ → ℕ
 arch q = q * (1024 - q)
 
+-- the sine at n of 512 places of half a wave, made of an arch
 unfoldable pub sine : ℕ → ℕ
 sine n = 131056 * arch (2 * n + 1) / (5242880 - 4 * arch (2 * n + 1))
 
--- 1,024 times a power of two, at n of 64 places
+-- what a power of two is above 1,024, at x of 256 places
 unfoldable pub grown : ℕ → ℕ
 grown x = x * (5378 + 11 * x) / 2048
 
+-- 1,024 times a power of two, at n of 64 places: it falls from 2 to 1
 unfoldable pub power : ℕ → ℕ
 power n = 1024 + grown (255 - 4 * n)
 

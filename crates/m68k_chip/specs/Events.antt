@@ -24,10 +24,11 @@ step = 28
 abbrev pub carried_out : List ℕ → State68 → ℕ → List ℕ → Result Ended Stop
 carried_out cart state cause answers = sampled cause state.regs (record { rom = cart; ram = state.ram; answers = answers })
 
--- at a sample at this cycle, and at a word of a transfer
+-- at a sample at this cycle
 abbrev pub at_sample : State68 → ℕ → State68
 at_sample state cycle = record state { next = cycle; start = cycle; stage = Sample }
 
+-- at this cycle a word of a transfer is moved next
 abbrev pub at_word : State68 → ℕ → State68
 at_word state cycle = record state { next = cycle; start = cycle; stage = Word }
 
@@ -65,9 +66,11 @@ left_by state ended = record state {
   ram = ram_after state.ram ended.writes;
 }
 
+-- after a sample whose accesses are all answered: what it left, at the event that follows
 abbrev pub finished : State68 → Ended → State68
 finished state ended = rested (left_by state ended) (end_of state ended)
 
+-- after what was carried out: at its end, or at the access that waits
 abbrev pub came_to : State68 → ℕ → List ℕ → Result Ended Stop → State68
 came_to state cause answers (Ok ended) = finished state ended
 came_to state cause answers (Err stop) = asking state cause answers
@@ -81,6 +84,7 @@ abbrev pub begun_with : List ℕ → State68 → Option ℕ → State68
 begun_with cart state None = waited state
 begun_with cart state (Some cause) = went_on cart state cause []
 
+-- after a sample at which an interrupt of this level is asked for, 0 for none
 unfoldable pub begun : List ℕ → State68 → ℕ → State68
 begun cart state level = begun_with cart state (cause_of (case_of state level))
 
@@ -106,6 +110,7 @@ answered_at Access cart state answer =
     went_on cart (with_started state answer.transfer) state.cause (state.answers ++ answer.value ∷ [])
 answered_at Word cart state answer = word_moved state answer.cost
 
+-- after the answer to the access or the word that was the next event
 unfoldable pub answered : List ℕ → State68 → Answer68 → State68
 answered cart state answer = answered_at state.stage cart state answer
 
@@ -120,5 +125,6 @@ request_at Sample cart state = requests.Ack 0
 request_at Access cart state = request_in (carried_out cart state state.cause state.answers)
 request_at Word cart state = requests.Word (word_at cart state.ram state.transfer.source)
 
+-- the request of the next event; at a sample one that is never made
 unfoldable pub request_of : List ℕ → State68 → Request68
 request_of cart state = request_at state.stage cart state

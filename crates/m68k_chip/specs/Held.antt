@@ -12,6 +12,7 @@ IsWaiting Sample cart state request = Unit {0}
 IsWaiting Access cart state request = Asks cart state state.cause state.answers request
 IsWaiting Word cart state request = Unit {0}
 
+-- the chip is sound, and at an access waits for the answer to this request
 pub record IsHeld (value : Chip68Value) (request : Request68) : Type 0 where
   pub sound : IsChip68 value
   pub waiting : IsWaiting value.state.stage value.cart value.state request

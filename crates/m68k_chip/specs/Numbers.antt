@@ -8,6 +8,7 @@ use Rattle.m68k_chip.specs.States.{State68}
 use Rattle.m68k_chip.specs.declared.stage.Stage.{Stage}
 use Rattle.m68k_chip.specs.declared.stage.Stage.TheVariants.{Sample, Access, Word}
 
+-- what is kept: the place among its events, the registers, and work RAM; a flag is 0 or 1
 pub record Numbers68 : Type 0 where
   pub next : ℕ
   -- 0 a sample, 1 an access, 2 a word of a transfer
@@ -52,14 +53,16 @@ stage_number Sample = 0
 stage_number Access = 1
 stage_number Word = 2
 
+-- the stage of a number; above 1 a word of a transfer
 abbrev pub stage_of : ℕ → Stage
 stage_of n = if n == 0 then Sample else (if n == 1 then Access else Word)
 
--- whether it is halted, and since when
+-- 1 where it is halted
 abbrev pub halted_number : Option ℕ → ℕ
 halted_number None = 0
 halted_number (Some since) = 1
 
+-- the cycle at which began what halted it, 0 where it is not halted
 abbrev pub since_of : Option ℕ → ℕ
 since_of None = 0
 since_of (Some since) = since
@@ -102,7 +105,7 @@ numbers_of state = record {
   ram = state.ram;
 }
 
--- the state of which these numbers are kept
+-- the registers of which these numbers are kept
 abbrev pub regs_from : Numbers68 → Regs
 regs_from n = record {
   d = n.d0 ∷ n.d1 ∷ n.d2 ∷ n.d3 ∷ n.d4 ∷ n.d5 ∷ n.d6 ∷ n.d7 ∷ [];
@@ -113,6 +116,7 @@ regs_from n = record {
   sr = n.sr;
 }
 
+-- the state of which these numbers are kept; a flag is set where its number is 1
 abbrev pub state_from : Numbers68 → State68
 state_from n = record {
   next = n.next;

@@ -29,6 +29,7 @@ fits_value (Write16 at written) value = value == 0
 fits_value (Ack level) value = value == 0
 fits_value (TransferWord word) value = value == 0
 
+-- a request waits, and the value can answer it
 abbrev pub is_answer : Option Request68 → ℕ → Bool
 is_answer None value = false
 is_answer (Some request) value = fits_value request value
@@ -44,6 +45,7 @@ abbrev pub is_waiting : List ℕ → State68 → Bool
 is_waiting cart state =
     is_some (asked_after cart state (length state.answers)) && are_answered cart state (length state.answers)
 
+-- the same by the stage: only at an access is there something to hold
 abbrev pub asks_at : Stage → List ℕ → State68 → Bool
 asks_at Sample cart state = true
 asks_at Access cart state = is_waiting cart state

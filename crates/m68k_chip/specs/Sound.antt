@@ -12,6 +12,7 @@ use Rattle.m68k_chip.specs.States.{State68, none_left}
 use Rattle.m68k_chip.specs.declared.stage.Stage.{Stage}
 use Rattle.m68k_chip.specs.declared.stage.Stage.TheVariants.{Sample, Access, Word}
 
+-- a 68000 with the cartridge that it runs
 pub record Chip68Value : Type 0 where
   -- the cartridge's image
   pub cart : List ℕ
@@ -38,6 +39,7 @@ pub record IsStarted (transfer : Transfer) : Type 0 where
   pub on_bus : transfer.source < 2 ^ 24
   pub cost : IsCost transfer.cost
 
+-- no transfer, or one of which words are left
 abbrev pub IsTransfer : Transfer → Type 0
 IsTransfer transfer = (transfer ≡ none_left) ⊎ IsStarted transfer
 
@@ -80,6 +82,7 @@ pub record IsBetween (state : State68) : Type 0 where
   pub cause : state.cause ≡ 0
   pub answers : state.answers ≡ []
 
+-- what holds at each stage: no words of a transfer are left at a sample, some at a word of it
 abbrev pub IsAt : Stage → List ℕ → State68 → Type 0
 IsAt Sample cart state = IsBetween state × (state.transfer ≡ none_left)
 IsAt Access cart state = IsAsking cart state

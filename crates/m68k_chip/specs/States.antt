@@ -8,6 +8,7 @@ use Rattle.m68k_chip.specs.declared.sequencer.Sequencer.{Sequencer}
 use Rattle.m68k_chip.specs.declared.stage.Stage.{Stage}
 use Rattle.m68k_chip.specs.declared.stage.Stage.TheVariants.{Sample, Access, Word}
 
+-- the processor, its work RAM, and its place among its events; cycles are master cycles
 pub record State68 : Type 0 where
   -- the cycle of the next event, and what it is
   pub next : ℕ
@@ -48,6 +49,7 @@ state_of sequencer ram = record {
 abbrev pub none_left : Transfer
 none_left = record { source = 0; words = 0; cost = 0 }
 
+-- whether the event of a stage is a sample of the pins; the others are accesses
 abbrev pub is_sample : Stage → Bool
 is_sample Sample = true
 is_sample Access = false

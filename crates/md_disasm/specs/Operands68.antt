@@ -14,6 +14,7 @@ use Rattle.md_disasm.specs.Digits.{marked_digit, marked_byte, marked_word, marke
 use Rattle.md_disasm.specs.declared.operand68.Operand68.{Operand68}
 use Rattle.md_disasm.specs.declared.operand68.Operand68.TheVariants as operands
 
+-- a condition as it stands in Bcc, DBcc and Scc
 abbrev pub condition_name : Condition → List ℕ
 condition_name conditions.True = codes "t"
 condition_name conditions.False = codes "f"

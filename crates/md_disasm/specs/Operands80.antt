@@ -26,6 +26,7 @@ register indexes.Hl = pairs.Hl
 register indexes.Ix = pairs.Ix
 register indexes.Iy = pairs.Iy
 
+-- a register of 16 bits
 abbrev pub pair_name : Pair → List ℕ
 pair_name pairs.Bc = codes "bc"
 pair_name pairs.De = codes "de"
@@ -35,10 +36,12 @@ pair_name pairs.Af = codes "af"
 pair_name pairs.Ix = codes "ix"
 pair_name pairs.Iy = codes "iy"
 
+-- the interrupt vector register or the refresh register
 abbrev pub special_name : Special → List ℕ
 special_name Interrupt = codes "i"
 special_name Refresh = codes "r"
 
+-- a condition cc
 abbrev pub condition_name : Condition → List ℕ
 condition_name NonZero = codes "nz"
 condition_name Zero = codes "z"
@@ -49,6 +52,7 @@ condition_name ParityEven = codes "pe"
 condition_name Positive = codes "p"
 condition_name Negative = codes "m"
 
+-- the number of a bit
 abbrev pub bit_name : Bit → List ℕ
 bit_name Bit0 = codes "0"
 bit_name Bit1 = codes "1"
@@ -59,6 +63,7 @@ bit_name Bit5 = codes "5"
 bit_name Bit6 = codes "6"
 bit_name Bit7 = codes "7"
 
+-- the number of an interrupt mode
 abbrev pub mode_name : InterruptMode → List ℕ
 mode_name Mode0 = codes "0"
 mode_name Mode1 = codes "1"

@@ -23,12 +23,15 @@ pub record Row68 : Type 0 where
   pub first : Operand68
   pub second : Operand68
 
+-- a row of two operands, without a size
 abbrev pub two : List ℕ → Operand68 → Operand68 → Row68
 two name first second = record { name = name; size = None; first = first; second = second }
 
+-- a row of one operand, without a size
 abbrev pub one : List ℕ → Operand68 → Row68
 one name operand = two name operand operands.Nothing
 
+-- a row of no operands, without a size
 abbrev pub none : List ℕ → Row68
 none name = two name operands.Nothing operands.Nothing
 

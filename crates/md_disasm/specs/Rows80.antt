@@ -24,12 +24,15 @@ pub record Row80 : Type 0 where
   pub first : Operand80
   pub second : Operand80
 
+-- a row of no operands
 abbrev pub none : List ℕ → Row80
 none name = record { name = name; first = operands.Nothing; second = operands.Nothing }
 
+-- a row of one operand
 abbrev pub one : List ℕ → Operand80 → Row80
 one name operand = record { name = name; first = operand; second = operands.Nothing }
 
+-- a row of two operands
 abbrev pub two : List ℕ → Operand80 → Operand80 → Row80
 two name first second = record { name = name; first = first; second = second }
 
@@ -50,11 +53,12 @@ change (tasks.Res bit) place = two (codes "res") (operands.Bit bit) (operands.Pl
 change (tasks.Set bit) place = two (codes "set") (operands.Bit bit) (operands.Place place)
 change task place = one (task_name task) (operands.Place place)
 
--- of HL with the prefix ED, which has a shorter form, the bytes
+-- LD dd,(nn) of the prefix ED; of HL, which has a shorter form, the bytes
 abbrev pub load_extended : Pair → ℕ → Row80
 load_extended pairs.Hl address = two (codes "db") (operands.Byte 0xed) (operands.ByteAndWord 0x6b address)
 load_extended pair address = two (codes "ld") (operands.Register pair) (operands.AtWord address)
 
+-- LD (nn),dd of the prefix ED; of HL, which has a shorter form, the bytes
 abbrev pub store_extended : ℕ → Pair → Row80
 store_extended address pairs.Hl = two (codes "db") (operands.Byte 0xed) (operands.ByteAndWord 0x63 address)
 store_extended address pair = two (codes "ld") (operands.AtWord address) (operands.Register pair)

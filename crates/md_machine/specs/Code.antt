@@ -74,6 +74,7 @@ stage80_of false true = stages80.Take
 stage80_of true false = stages80.Access
 stage80_of true true = stages80.Yield
 
+-- the two flags of a stage of the Z80
 abbrev pub stage80_flags : Stage80 → Bool × Bool
 stage80_flags stages80.Sample = (false, false)
 stage80_flags stages80.Access = (true, false)
@@ -97,6 +98,7 @@ mode_of false second = Mode0
 mode_of true false = Mode1
 mode_of true true = Mode2
 
+-- the two flags of an interrupt mode
 abbrev pub mode_flags : InterruptMode → Bool × Bool
 mode_flags Mode0 = (false, false)
 mode_flags Mode1 = (true, false)
@@ -240,10 +242,12 @@ told_sum (Byte value) = inl value
 told_sum Nothing = inr None
 told_sum (Returned store) = inr (Some store)
 
+-- nothing is told, or RAM and bank register that come back
 abbrev pub told_back : Option Store → Told
 told_back None = Nothing
 told_back (Some store) = Returned store
 
+-- what the Z80 is told, from its sum
 abbrev pub told_of : ℕ ⊎ (Option Store) → Told
 told_of (inl value) = Byte value
 told_of (inr store) = told_back store

@@ -4,13 +4,15 @@ use Rattle.md_machine.specs.Refinement.{draw_of, fm_of, psg_of}
 use Rattle.md_machine.specs.declared.chips.Chip.{Chip}
 use Rattle.md_machine.specs.declared.chips.Chip.TheVariants.{Main, Sub, Line, Fm, Psg}
 
--- the frame that a chip keeps, the sums, and the levels
+-- the frame that the drawing half keeps; of another chip none
 abbrev pub frame_of : Chip → Option (List ℕ)
 frame_of c = (draw_of c).chip.frame
 
+-- the sums of both sides that the FM synthesis keeps; of another chip none
 abbrev pub sides_of : Chip → List (ℤ × ℤ)
 sides_of c = (fm_of c).samples
 
+-- the levels that the PSG synthesis keeps; of another chip none
 abbrev pub levels_of : Chip → List ℤ
 levels_of c = (psg_of c).samples
 

@@ -45,6 +45,7 @@ port_flags zero = (false, false)
 port_flags (suc zero) = (true, false)
 port_flags (suc (suc n)) = (true, true)
 
+-- a write by the two flags of its port
 abbrev pub write_by : Bool → Bool → Key → ℕ → ℕ → FmWrite
 write_by false second key register value = record { key = key; port = 0; register = register; value = value; port_in_range = lit≤ tt }
 write_by true false key register value = record { key = key; port = 1; register = register; value = value; port_in_range = lit≤ tt }
@@ -66,10 +67,11 @@ fm_write_way =
     (λ w. (port_flags w.port, (w.key, (w.register, w.value))))
     (λ p. write_by p.0.0 p.0.1 p.1.0 p.1.1.0 p.1.1.1) (λ w. write_at w.port w.port_in_range w.key w.register w.value)
 
--- the way of a timer, and of both with their registers
+-- the way of a timer
 abbrev pub timer_way : Way Timer
 timer_way = by_way (both flag (both number flag)) (λ t. (t.run, (t.next, t.flag))) (λ p. record { run = p.0; next = p.1.0; flag = p.1.1 }) (λ t. refl)
 
+-- the way of both timers, with their registers
 abbrev pub timers_way : Way Timers
 timers_way =
     by_way (both (both number number) (both (both number number) (both timer_way timer_way)))

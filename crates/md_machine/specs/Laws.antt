@@ -90,6 +90,7 @@ hands-at stages80.Access cart state ok = asked-hands (carried_out cart state sta
 hands-at stages80.Yield cart state ok = handing-sound state.store ok
 hands-at stages80.Take cart state ok = tt
 
+-- a sound Z80 hands over only RAM and bank register of their sizes
 pub hands-over : (c : SubValue) → IsSub c → HandsOver (asked_of c.chip.cart c.chip.state)
 unfolding asked_of
 hands-over c ok = hands-at c.chip.state.stage c.chip.cart c.chip.state ok.store
@@ -107,6 +108,7 @@ fits-at stages80.Access cart state told fits = fits
 fits-at stages80.Yield cart state told fits = handed-fits state.store told fits
 fits-at stages80.Take cart state told fits = fits
 
+-- what the board answers the Z80 fits what it asked for, also once RAM is handed over
 pub told-fits : (c : SubValue) (s : Board) → IsSub c → IsBoard s
     → fits80.Fits (asked_of c.chip.cart (handed c.chip.state)) (sub_access s (sub_next_of c.chip.state).key (asked_of c.chip.cart c.chip.state)).answer
 unfolding asked_of handed
@@ -117,6 +119,7 @@ handed-kind : (state : State80) → (sub_next_of state).sample ≡ false → (su
 unfolding sub_next_of handed
 handed-kind state kind = kind
 
+-- the Z80 is chip 1, one of the two that write
 pub sub-low : (state : State80) → (sub_next_of state).key.chip < 2
 unfolding sub_next_of
 sub-low state = lit< tt
@@ -227,6 +230,7 @@ sample-chip (Line c) s i d = d.chip
 sample-chip (Fm c) s i d = d.chip
 sample-chip (Psg c) s i d = d.chip
 
+-- the 68000 is chip 0, one of the two that write
 pub main-low : (state : State68) → (next_of state).key.chip < 2
 unfolding next_of
 main-low state = lit< tt

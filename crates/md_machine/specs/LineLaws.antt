@@ -25,15 +25,17 @@ use Rattle.md_machine.specs.Lines.{drawn_from, note_on, sprites_on, told_view, u
 pub drawing-wherever : (b : Bool) (d : Drawing) → IsDrawing d → IsDrawing (record d { has_view = b })
 drawing-wherever b d h = record { picture = h.picture; frame = h.frame; at_line = h.at_line; undrawn = h.undrawn }
 
+-- what holds of the drawing half holds behind the event of a line
 pub drawing-ok : (view : LineView) (d : Drawing) → IsDrawing d → IsDrawing (drawn_from view d)
 unfolding drawn_from
 drawing-ok view d h = drawing_drawn view (sprites_on (line_of d.next) view) (note_on (line_of d.next) view) d h
 
--- what holds of the drawing half, wherever its view is
+-- what stands under a function stands there where it is
 some-told : {A B : Type 0} (f : A → B) (o : Option A) → is_some (option_map f o) ≡ is_some o
 some-told f None = refl
 some-told f (Some x) = refl
 
+-- what holds of the drawing half, wherever its view is
 pub is_drawn : {A : Type 0} (d : Drawing) (f : A → LineView) (view : Option A) → IsDrawing d → d.has_view ≡ not (is_some view) → IsDraw (record { chip = d; view = option_map f view })
 is_drawn d f view ok is = record { chip = ok; view = is ∙ ap not (sym (some-told f view)) }
 

@@ -8,6 +8,7 @@ pub record Media : Type 0 where
   pub sides : List (ℤ × ℤ)
   pub levels : List ℤ
 
+-- nothing is seen or rendered
 abbrev pub no_media : Media
 no_media = record { frames = []; sides = []; levels = [] }
 

@@ -15,19 +15,21 @@ no_interrupt = record { level = 0; known = refl }
 abbrev pub no_pins : Pins80
 no_pins = record { request = false; reset = false; resets = 0; int_from = 0; int_to = 0 }
 
--- the 68000's level, and the Z80's pins
+-- the 68000's level
 abbrev pub level_in : Pins → ℕ
 level_in (Main pins) = pins.level
 level_in (Sub pins) = 0
 
+-- the Z80's pins
 abbrev pub sub_in : Pins → Pins80
 sub_in (Main pins) = no_pins
 sub_in (Sub pins) = pins
 
--- the pins of a chip, by its number
+-- the pins of a processor, by whether it is the Z80
 abbrev pub pins_by : Bool → Board → Pins
 pins_by true board = Sub (sub_pins board)
 pins_by false board = Main (main_pins board)
 
+-- the pins of a chip, by its number; the Z80 is chip 1
 abbrev pub pins_of : Board → ℕ → Pins
 pins_of board chip = pins_by (chip == 1) board

@@ -2,10 +2,11 @@
 use Rattle.std.specs.Prelude.{◌≡◌, ℕ, ◌+◌, ◌-◌, ◌*◌, ◌/◌}
 use Rattle.md_machine.specs.Console.{Console, IsQuiet}
 
--- the first event of a line, and the first batch of samples, from a cycle on
+-- the first event of a line from a cycle on
 abbrev pub first_line : ℕ → ℕ
 first_line at = 3420 * ((at + 3419) / 3420)
 
+-- the first batch of samples from a cycle on; none stands at 0
 abbrev pub first_batch : ℕ → ℕ
 first_batch at = 16128 * ((at - 1) / 16128 + 1)
 

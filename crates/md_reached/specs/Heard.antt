@@ -76,15 +76,17 @@ told h e =
     else (if e.kind == 3 then word_told (area_of e.address) h e.address e.value
     else (if e.kind == 7 then space_told e.address e.value else Nothing))
 
--- the bus request behind an access: by a byte at its even address, and by a word
+-- the bus request behind a byte that is written: bit 0 of one at its even address
 abbrev pub byte_request : Option Area → ℕ → ℕ → Bool → Bool
 byte_request (Some BusRequest) address value request = if address % 2 == 0 then value % 2 == 1 else request
 byte_request area address value request = request
 
+-- the bus request behind a word that is written: bit 8 of one at its address
 abbrev pub word_request : Option Area → ℕ → Bool → Bool
 word_request (Some BusRequest) value request = value / 0x100 % 2 == 1
 word_request area value request = request
 
+-- the bus request behind an access, which only a write of the 68000 changes
 unfoldable pub request_after : Entry → Bool → Bool
 request_after e request =
     if e.kind == 2 then byte_request (area_of e.address) e.address e.value request
@@ -95,13 +97,14 @@ unfoldable pub has_after : Entry → Bool → Bool
 has_after e has =
     if (e.kind == 8) && (e.value == 1) then true else (if (e.kind == 9) && (e.value == 1) then false else has)
 
--- the registers that are latched: at the FM chip's addresses 0 and 2, and none behind a reset
+-- the first port's register that is latched: at the FM chip's address 0, and none behind a reset
 abbrev pub first_after : Told → ℕ → ℕ
 first_after (Psg value) register = register
 first_after (Fm address value) register = if address == 0 then value else register
 first_after Reset register = 0
 first_after Nothing register = register
 
+-- the second port's register that is latched: at address 2, and none behind a reset
 abbrev pub second_after : Told → ℕ → ℕ
 second_after (Psg value) register = register
 second_after (Fm address value) register = if address == 0 then register else (if address == 2 then value else register)
@@ -124,12 +127,13 @@ psg_of key (Fm address value) = []
 psg_of key Reset = []
 psg_of key Nothing = []
 
--- the write or reset that the FM chip is told: addresses 1 and 3 write the register that is latched
+-- the write that a byte for the FM chip is: addresses 1 and 3 write the register that is latched
 abbrev pub fm_byte : Key → ℕ → ℕ → Hearing → List FmWrite
 fm_byte key address value h =
     if address == 0 then [] else (if address == 2 then [] else (
     if address == 1 then first_write key h.first value ∷ [] else second_write key h.second value ∷ []))
 
+-- the write or reset that the FM chip is told, where one is
 abbrev pub fm_of : Key → Told → Hearing → List FmWrite
 fm_of key (Psg value) h = []
 fm_of key (Fm address value) h = fm_byte key address value h
@@ -141,11 +145,11 @@ unfoldable pub heard_of : {A : Type 0} → (Key → Told → Hearing → List A)
 heard_of of h [] = []
 heard_of of h (e ∷ es) = of e.key (told h e) h ++ heard_of of (after e h) es
 
--- the writes to the PSG that stand in a journal from power-on, and those to the FM chip with its resets, in
--- their order
+-- the writes to the PSG that stand in a journal from power-on, in their order
 abbrev pub heard_writes : List Entry → List PsgWrite
 heard_writes entries = heard_of (λ key t h. psg_of key t) at_power_on entries
 
+-- the writes to the FM chip that stand in a journal from power-on, with its resets, in their order
 abbrev pub heard_fm : List Entry → List FmWrite
 heard_fm entries = heard_of fm_of at_power_on entries
 

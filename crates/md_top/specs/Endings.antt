@@ -52,10 +52,11 @@ count_of_frames cycles = cycles / 896040 + (if nat_lt 766080 (cycles % 896040) t
 abbrev pub pairs_of : ℕ → ℕ
 pairs_of cycles = 16 * ((cycles - 1) / 16128)
 
--- those of a run are finished or made below its end, and not below its start
+-- the frames of a run: finished below its end, and not below its start
 abbrev pub frames_between : ℕ → ℕ → ℕ
 frames_between from end = count_of_frames end - count_of_frames from
 
+-- the pairs of a run: made below its end, and not below its start
 abbrev pub pairs_between : ℕ → ℕ → ℕ
 pairs_between from end = pairs_of end - pairs_of from
 
@@ -154,6 +155,7 @@ RunEnds told run old new (StateWrong place) = (run.cycles ≤ last_cycle) × Loa
 RunEnds told run old new (OtherCart kept given) = (run.cycles ≤ last_cycle) × LoadCause told run old new (OtherCart kept given)
 RunEnds told run old new ending = (run.cycles ≤ last_cycle) × InputCause told run old new ending
 
+-- why a command ends so, or words that are no command
 abbrev pub HasCause : Type 0 → Option Command → DepotState → DepotState → Ending → Type 0
 HasCause told None old new Usage = Unit {0}
 HasCause told None old new Memory = Unit {0}

@@ -82,11 +82,12 @@ abbrev pub IsLoadFound : Type 0 → Run → Files → StateVerdict → Type 0
 IsLoadFound told run files verdict =
     (inputs : Inputs) × (told → AreInputs run files inputs) × IsSomeAnd run.load (λ name. told → IsFoundIn (files name) inputs verdict)
 
--- the inputs of a run by a verdict on its recording: none, if it goes wrong
+-- the frames of a recording by a verdict on it: none, if none is named or it goes wrong
 abbrev pub recording_by : Option (List ℕ) → Verdict → List Frame
 recording_by (Some name) (Recorded recording) = recording
 recording_by name verdict = []
 
+-- the inputs of a run by a verdict on its recording
 abbrev pub inputs_by : Run → Files → Verdict → Inputs
 inputs_by run files verdict = record { cart = cart_of run.rom files; recording = recording_by run.recording verdict }
 

@@ -13,6 +13,7 @@ pub record Pieces : Type 0 where
   pub journal : List ℕ
   pub state : List ℕ
 
+-- the four outputs before any byte
 abbrev pub nothing : Pieces
 nothing = record { frames = []; sound = []; journal = []; state = [] }
 

@@ -27,6 +27,7 @@ abbrev pub is_marked : Text → Bool
 is_marked (first ∷ second ∷ rest) = first == 45
 is_marked word = false
 
+-- the other is this name
 abbrev pub has_name : Text → Text → Bool
 has_name name other = bytes_eq other name
 

@@ -42,8 +42,10 @@ run_app =
 abbrev pub found_by : List Row → Text → Option Text
 found_by rows name = first_of name rows
 
+-- the cartridge's name that the words behind `info` give
 abbrev pub info_parsed : List Text → Option Text
 info_parsed words = option_and_then (λ rows. info_by (found_by rows)) (parse_of info_app words)
 
+-- the run that the words behind `run` give
 abbrev pub run_parsed : List Text → Option Run
 run_parsed words = option_and_then (λ rows. run_by (found_by rows)) (parse_of run_app words)

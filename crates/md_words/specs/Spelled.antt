@@ -16,6 +16,7 @@ words_of (apart name value) = (codes "--" ++ name) ∷ value ∷ []
 words_of (joined name value) = (codes "--" ++ name ++ codes "=" ++ value) ∷ []
 words_of (rom name) = name ∷ []
 
+-- the words of arguments, one after another
 abbrev pub all_words : List Written → List Text
 all_words = flat_map words_of
 
@@ -32,6 +33,7 @@ IsWritten options (apart name value) = (list_any (has_name name) options ≡ tru
 IsWritten options (joined name value) = list_any (has_name name) options ≡ true
 IsWritten options (rom name) = is_marked name ≡ false
 
+-- each is written so that it can be read
 abbrev pub AreWritten : List Text → List Written → Type 0
 AreWritten options [] = ⊤
 AreWritten options (first ∷ written) = IsWritten options first × AreWritten options written

@@ -150,9 +150,11 @@ abbrev pub info_from : Option Text → Option Text
 info_from (Some rom) = if is_name rom then Some rom else None
 info_from None = None
 
+-- the cartridge's name, by the names of the arguments
 abbrev pub info_by : (Text → Option Text) → Option Text
 info_by value = info_from (value (codes "rom"))
 
+-- the cartridge's name that the words behind `info` give
 abbrev pub info_of : List Text → Option Text
 info_of words = option_and_then (meant_by info_by) (given (codes "rom" ∷ []) [] between words)
 
@@ -179,6 +181,7 @@ abbrev pub run_given : Values → Option Run
 run_given values =
     if are_names (names_of values) then run_from values values.rom (option_and_then number_of values.cycles) (workers_of values.workers) else None
 
+-- the run, by the names of the arguments
 abbrev pub run_by : (Text → Option Text) → Option Run
 run_by value = run_given (values_by value)
 
@@ -190,6 +193,7 @@ run_options = codes "cycles" ∷ codes "in" ∷ codes "load" ∷ codes "save" �
 abbrev pub run_of_arguments : List Argument → Option Run
 run_of_arguments = meant_by run_by
 
+-- the run that the words behind `run` give
 abbrev pub run_of : List Text → Option Run
 run_of words = option_and_then run_of_arguments (given (codes "rom" ∷ []) run_options between words)
 

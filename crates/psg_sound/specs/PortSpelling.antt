@@ -16,10 +16,11 @@ pub record SavedPort : Type 0 where
   pub count : ℕ
   pub entries : List ℕ
 
--- a write as fields, and the one that stands at a place
+-- a write as fields: the cycle in eight bytes, the chip and the value in one each
 abbrev pub write_fields : PsgWrite → List Field
 write_fields w = quad w.key.cycle true ∷ byte w.key.chip true ∷ byte w.value true ∷ []
 
+-- the write that stands at a place of the bytes
 abbrev pub write_at : ℕ → List ℕ → PsgWrite
 write_at place bytes = record {
   key = record { cycle = number_at w64 place bytes; chip = slice_index bytes (place + 8) };
@@ -30,6 +31,7 @@ write_at place bytes = record {
 abbrev pub writes_at : ℕ → List ℕ → List PsgWrite
 writes_at count entries = entries_from 10 write_at count 0 entries
 
+-- the key by which a write is ordered: its cycle and the chip that made it
 abbrev pub key_of : PsgWrite → Key
 key_of w = w.key
 

@@ -30,10 +30,11 @@ saved_synth s = record {
   register = s.noise.register;
 }
 
--- the chip of which this is kept
+-- the tone channel of which these numbers are kept
 abbrev pub tone_from : ℕ → ℕ → ℕ → ℕ → Tone
 tone_from period volume counter bit = record { period = period; volume = volume; divider = record { counter = counter; bit = (bit == 1) } }
 
+-- the chip of which this is kept
 abbrev pub synth_from : SavedSynth → Synth
 synth_from s = record {
   latch = s.latch;

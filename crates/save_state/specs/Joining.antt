@@ -34,10 +34,11 @@ lesser (Rule p) (Rule q) = Rule (min p q)
 lesser (Rule p) NoMemory = NoMemory
 lesser NoMemory fault = NoMemory
 
--- two values are kept, and something of two fails
+-- two values are kept
 abbrev pub Both : {A B : Type 0} → (A → Type 0) → (B → Type 0) → A × B → Type 0
 Both KeepsA KeepsB x = KeepsA x.0 × KeepsB x.1
 
+-- something of two fails
 abbrev pub Either : (ℕ → Type 0) → (ℕ → Type 0) → ℕ → Type 0
 Either F G p = F p ⊎ G p
 

@@ -28,51 +28,67 @@ state_size = sum layout
 abbrev pub part : ℕ → Part
 part n = record { place = sum (take n layout); size = slice_index layout n }
 
+-- the mark that a state begins with
 abbrev pub mark_part : Part
 mark_part = part 0
 
+-- the SHA-256 of the cartridge's image
 abbrev pub digest_part : Part
 digest_part = part 1
 
+-- the cycle of the state
 abbrev pub at_part : Part
 at_part = part 2
 
+-- the 68000, with its work RAM
 abbrev pub main_part : Part
 main_part = part 3
 
+-- the Z80's numbers
 abbrev pub sub_part : Part
 sub_part = part 4
 
+-- who has the Z80's RAM and bank register: 0 the Z80, 1 the bus
 abbrev pub holder_part : Part
 holder_part = part 5
 
+-- the Z80's RAM and bank register
 abbrev pub store_part : Part
 store_part = part 6
 
+-- the VDP, with its memories
 abbrev pub video_part : Part
 video_part = part 7
 
+-- the VDP's drawing half, with its picture
 abbrev pub drawing_part : Part
 drawing_part = part 8
 
+-- the FM chip's port
 abbrev pub fm_port_part : Part
 fm_port_part = part 9
 
+-- the cycle of the FM chip's next batch
 abbrev pub fm_next_part : Part
 fm_next_part = part 10
 
+-- the FM chip's synthesis
 abbrev pub fm_part : Part
 fm_part = part 11
 
+-- the cycle of the PSG's next batch
 abbrev pub psg_next_part : Part
 psg_next_part = part 12
 
+-- the PSG's port
 abbrev pub psg_port_part : Part
 psg_port_part = part 13
 
+-- the PSG's synthesis
 abbrev pub psg_part : Part
 psg_part = part 14
 
+-- the board's lines and pads
 abbrev pub board_part : Part
 board_part = part 15
 

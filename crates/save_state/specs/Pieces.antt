@@ -13,13 +13,16 @@ use Rattle.md_machine.specs.Starts.{first_batch}
 use Rattle.save_state.specs.Items.{IsMain, MainFails, IsSub, SubFails, IsShared, SharedFails, IsPicture, DrawingFails, IsFm, FmFails, IsPsg, PsgFails}
 use Rattle.save_state.specs.Joining.{Both, Either}
 
+-- the 68000 and the Z80; the board and the drawing half; the syntheses of the FM chip and the PSG
 abbrev pub Pieces : Type 0
 Pieces = (Chip68Value × Chip80Value) × ((Board × Drawing) × (fm_synths.Synth × psg_synths.Synth))
 
+-- the bytes keep these pieces, of this cartridge and this recording
 abbrev pub Kept : List ℕ → List Frame → List ℕ → Pieces → Type 0
 Kept cart recording bytes =
     Both (Both (IsMain cart bytes) (IsSub cart bytes)) (Both (Both (IsShared recording bytes) (IsPicture bytes)) (Both (IsFm bytes) (IsPsg bytes)))
 
+-- some piece fails at this place of the bytes
 abbrev pub Fails : List ℕ → List ℕ → ℕ → Type 0
 Fails cart bytes =
     Either (Either (MainFails cart bytes) (SubFails cart bytes)) (Either (Either (SharedFails bytes) (DrawingFails bytes)) (Either (FmFails bytes) (PsgFails bytes)))

@@ -32,10 +32,11 @@ mark = codes "MDSTATE1"
 abbrev pub last_cycle : ℕ
 last_cycle = 549755813888
 
--- who has the Z80's RAM and bank register: 0 the Z80, 1 the bus; and what they are
+-- who has the Z80's RAM and bank register: 0 the Z80, 1 the bus
 abbrev pub holder_of : Console → ℕ
 holder_of m = if is_some m.shared.store then 1 else 0
 
+-- RAM and bank register, whoever has them
 abbrev pub store_of : Console → Option Store
 store_of m = if is_some m.shared.store then m.shared.store else m.sub.state.store
 
@@ -83,11 +84,12 @@ is_holder holder stage =
     if (stage == 1) || (stage == 2) then holder == 0
     else (if stage == 3 then holder == 1 else nat_le holder 1)
 
--- each write that a sound chip's port holds stands the gap of its processor before the next event of
+-- each write that the FM chip's port holds stands the gap of its processor before the next event of
 -- that processor, at least
 abbrev pub are_fm_early : ℕ → ℕ → Port → Bool
 are_fm_early main sub port = list_all (λ w. is_before_next main sub w.key) port.writes
 
+-- the same of the writes that the PSG's port holds
 abbrev pub are_psg_early : ℕ → ℕ → List PsgWrite → Bool
 are_psg_early main sub held = list_all (λ w. is_before_next main sub w.key) held
 

@@ -10,9 +10,10 @@ limit = 1024
 abbrev pub held_with : {A : Type 0} → List A → A → List A
 held_with writes w = if nat_lt (length writes) limit then writes ++ w ∷ [] else writes
 
--- the writes stamped below a cycle, and those that stay, each in their order
+-- the writes stamped below a cycle, in their order
 abbrev pub taken_below : {A : Type 0} → (A → ℕ) → ℕ → List A → List A
 taken_below stamp cycle writes = filter (is_below stamp cycle) writes
 
+-- the writes stamped at a cycle or later, in their order
 abbrev pub left_from : {A : Type 0} → (A → ℕ) → ℕ → List A → List A
 left_from stamp cycle writes = filter (λ w. not (is_below stamp cycle w)) writes

@@ -9,6 +9,7 @@ use Rattle.vdp_planes.specs.declared.view.LineView.{LineView}
 use Rattle.vdp_planes.specs.declared.view.SpriteNote.{SpriteNote}
 use Rattle.vdp_chip.specs.Picture.{blank, cleared, drawn, finished, picture_length, row_length, row_of}
 
+-- the next event, the picture that grows row by row, and the frame that is finished
 pub record Drawing : Type 0 where
   -- the cycle of the next line's event
   pub next : ℕ

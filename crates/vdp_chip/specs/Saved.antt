@@ -9,6 +9,7 @@ use Rattle.md_word.specs.Coding.{flag_number}
 use Rattle.vdp_chip.specs.Drawing.{Drawing, undrawn_from}
 use Rattle.vdp_chip.specs.Picture.{picture_length, row_length}
 
+-- what is kept: the next event, what the sprites have set, and the picture
 pub record DrawingNumbers : Type 0 where
   pub next : ℕ
   pub overflow : ℕ

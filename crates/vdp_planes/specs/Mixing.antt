@@ -34,6 +34,7 @@ pub record Shown : Type 0 where
   pub colour : ℕ
   pub shade : Shade
 
+-- a colour at a brightness
 abbrev pub shown : ℕ → Shade → Shown
 shown colour shade = record { colour = colour; shade = shade }
 
@@ -107,7 +108,7 @@ part c n = if (n == 0) then c.red else (if (n == 1) then c.green else c.blue)
 unfoldable pub line_byte : LineView → List Dot → List Dot → List Dot → ℕ → ℕ
 line_byte view a b s n = part (rgb_of view (shown_at view a b s (n / 3))) (n % 3)
 
--- the 192 colours that a line can show: 64 in shadow, normal and in highlight
+-- the number of a shade: of each there are 64 among the 192 colours that a line can show
 abbrev pub shade_number : Shade → ℕ
 shade_number shades.Shadow = 0
 shade_number shades.Normal = 1
@@ -144,14 +145,16 @@ pub record IsSpan (view : LineView) (from to : ℕ) : Type 0 where
 abbrev pub back_at : ℕ → ℕ → ℕ
 back_at back x = index_of (shown back shades.Normal)
 
--- and a place of the picture, which begins at `from`: without shadow and highlight, with it, and by
--- the mode
+-- the number that a place of the picture, which begins at `from`, shows without shadow and
+-- highlight
 abbrev pub unshaded_at : ℕ → List Dot → List Dot → List Dot → ℕ → ℕ → ℕ
 unshaded_at back a b s from x = index_of (unshaded back (dot_at a (x - from)) (dot_at b (x - from)) (dot_at s (x - from)))
 
+-- the same with shadow and highlight
 abbrev pub shaded_at : ℕ → List Dot → List Dot → List Dot → ℕ → ℕ → ℕ
 shaded_at back a b s from x = index_of (shaded back (dot_at a (x - from)) (dot_at b (x - from)) (dot_at s (x - from)))
 
+-- the same by the mode, which is bit 3 of register 12
 abbrev pub mixed_at : LineView → List Dot → List Dot → List Dot → ℕ → ℕ → ℕ
 mixed_at view a b s from x = index_of (mixed view (dot_at a (x - from)) (dot_at b (x - from)) (dot_at s (x - from)))
 

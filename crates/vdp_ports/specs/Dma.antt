@@ -42,7 +42,7 @@ copying cycle s = record s {
   a = end_of s;
 }
 
--- what is left of a fill or copy, and a VDP with a memory and a rest
+-- what is left of a fill or copy
 abbrev pub rest_of : Vdp → Rest
 rest_of s = record {
   dma_kind = s.dma_kind;
@@ -53,6 +53,7 @@ rest_of s = record {
   next_stamp = s.next_stamp;
 }
 
+-- the VDP with this memory, and this left of a fill or copy
 abbrev pub with_rest : Vdp → List ℕ → Rest → Vdp
 with_rest s vram rest = record s {
   vram = vram;

@@ -4,6 +4,7 @@ use Rattle.std.specs.Prelude.{ℕ, ◌==◌, List}
 use Rattle.md_word.specs.Coding.{flag_number}
 use Rattle.vdp_ports.specs.Vdp.{Vdp}
 
+-- registers, memories, port, fill or copy, the interrupts and the status; a flag is 0 or 1
 pub record VdpNumbers : Type 0 where
   pub registers : List ℕ
   pub vram : List ℕ

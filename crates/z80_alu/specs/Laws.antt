@@ -33,19 +33,21 @@ pub record IsDifference (a b : ℕ) (borrow : Bool) (out : Out80) : Type 0 where
   pub whole : out.value + b + bit borrow ≡ a + 0x100 * bit (flags_of out.f).c
   pub signed : (flags_of out.f).pv ≡ false → signed_of Byte out.value ≡ signed_of Byte a -ℤ signed_of Byte b -ℤ pos (bit borrow)
 
--- ADD, ADC, SUB and SBC are sums and differences
+-- ADD is a sum of bytes, and ADC one with the carry
 abbrev pub AddsNumbers : Type 0
 AddsNumbers = (a b f : ℕ) → a < 0x100 → b < 0x100 →
     IsSum a b false (computed tasks.Add a b f) × IsSum a b (flags_of f).c (computed tasks.Adc a b f)
 
+-- SUB is a difference of bytes, and SBC one with the borrow, which is C
 abbrev pub SubtractsNumbers : Type 0
 SubtractsNumbers = (a b f : ℕ) → a < 0x100 → b < 0x100 →
     IsDifference a b false (computed tasks.Sub a b f) × IsDifference a b (flags_of f).c (computed tasks.Sbc a b f)
 
--- an operation on its own value again and again
+-- what an operation gives of b, with an accumulator of 0
 abbrev pub again : Task80 → ℕ → ℕ → ℕ
 again task b f = (computed task 0 b f).value
 
+-- what it gives of b after four times, each on the value before it
 abbrev pub four_times : Task80 → ℕ → ℕ → ℕ
 four_times task b f = again task (again task (again task (again task b f) f) f) f
 

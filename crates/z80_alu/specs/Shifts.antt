@@ -26,11 +26,12 @@ shifted value out = shown value false (parity value) false out
 unfoldable pub turned : ℕ → Bool → Flags80 → Out80
 turned value out flags = told value (record flags { h = false; n = false; c = out })
 
--- RLD and RRD: the accumulator's low digit, the byte's upper and its lower change places. Of RLD
--- the upper comes into the accumulator, of RRD the lower
+-- a with another low digit. RLD and RRD: the accumulator's low digit, the byte's upper and its
+-- lower change places. Of RLD the upper comes into the accumulator, of RRD the lower
 abbrev pub with_low_digit : ℕ → ℕ → ℕ
 with_low_digit a digit = a / 16 * 16 + digit
 
+-- RLD and RRD: the accumulator with S, Z and parity by it, and C as it was
 unfoldable pub digit_rotated : ℕ → Flags80 → Out80
 digit_rotated value flags = shown value false (parity value) false flags.c
 

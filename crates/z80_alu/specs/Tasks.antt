@@ -10,6 +10,7 @@ use Rattle.z80_alu.specs.Flags.{flags_of, sign}
 use Rattle.z80_alu.specs.Logic.{bit_reset, bit_set, bit_tested, carry_changed, carry_set, complemented, logical, read_in}
 use Rattle.z80_alu.specs.Shifts.{digit_rotated, left, odd, right, shifted, turned, with_low_digit}
 
+-- the value and F; an operation on one operand takes b, and those on the accumulator alone take a
 abbrev pub computed : Task80 → ℕ → ℕ → ℕ → Out80
 computed tasks.Add a b f = added a b false
 computed tasks.Adc a b f = added a b (flags_of f).c

@@ -37,6 +37,7 @@ bus_case false false running = Take
 bus_case true false running = Suspended
 bus_case false true running = running
 
+-- what the Z80 does at a sample of these pins
 unfoldable pub case_of : State80 → Pins80 → Case
 case_of state pins = bus_case pins.request (is_some state.store) (running_case state pins)
 

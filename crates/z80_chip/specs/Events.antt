@@ -66,6 +66,7 @@ left_by state ended = record state {
   store = option_map (written ended.writes) state.store;
 }
 
+-- after a sample whose accesses are all answered: what it left, at the next sample
 abbrev pub finished : State80 → Ended → State80
 finished state ended = at_sample (left_by state ended) (state.start + 15 * ended.t)
 
@@ -74,6 +75,7 @@ abbrev pub ended_at : State80 → Finish80 → State80
 ended_at state finish =
     at_sample (record state { halted = finish.halted; after_ei = finish.after_ei; cause = 0; answers = [] }) (state.start + 15 * finish.t)
 
+-- after what was carried out: at its end, or at the access that waits
 abbrev pub came_to : State80 → ℕ → Result Ended Request80 → State80
 came_to state cause (Ok ended) = finished state ended
 came_to state cause (Err request) = asking state cause
@@ -109,6 +111,7 @@ begun_as cases.Interrupt cart state = went_on cart state 1
 begun_as cases.Halted cart state = waited state first_step
 begun_as cases.Instruction cart state = went_on cart state 0
 
+-- after a sample of these pins
 unfoldable pub begun : List ℕ → State80 → Pins80 → State80
 begun cart state pins = begun_as (case_of (seen state pins) pins) cart (seen state pins)
 
@@ -128,6 +131,7 @@ answered_at Access cart state answer = went_on_with cart state (value_in answer)
 answered_at Yield cart state answer = moved state answer
 answered_at Take cart state answer = moved state answer
 
+-- after the answer to the access, the yield or the take that was the next event
 unfoldable pub answered : List ℕ → State80 → Told → State80
 answered cart state answer = answered_at state.stage cart state answer
 
@@ -148,6 +152,7 @@ asked_at Access cart state = asked_in (carried_out cart state state.cause)
 asked_at Yield cart state = handing state.store
 asked_at Take cart state = TakeBack
 
+-- what the next event asks; at a sample a take that is never made
 unfoldable pub asked_of : List ℕ → State80 → Asked
 asked_of cart state = asked_at state.stage cart state
 
@@ -158,6 +163,7 @@ kept_at Access store = store
 kept_at Yield store = None
 kept_at Take store = store
 
+-- the state while the request waits
 unfoldable pub handed : State80 → State80
 handed state = record state { store = kept_at state.stage state.store }
 
@@ -165,11 +171,12 @@ handed state = record state { store = kept_at state.stage state.store }
 abbrev pub Asks : List ℕ → State80 → Type 0
 Asks cart state = (request : Request80) × (carried_out cart state state.cause ≡ Err request)
 
--- at an access the Z80 has its RAM, and what is carried out waits for an answer
+-- at an access the Z80 has its RAM
 abbrev pub HasRam : Stage → State80 → Type 0
 HasRam Access state = IsSome state.store
 HasRam stage state = Unit {0}
 
+-- at an access the Z80 has its RAM, and what is carried out waits for an answer
 abbrev pub Waits : Stage → List ℕ → State80 → Type 0
 Waits Access cart state = IsSome state.store × Asks cart state
 Waits stage cart state = Unit {0}

@@ -26,25 +26,28 @@ pub record Kept80 : Type 0 where
   pub numbers : Saved80
   pub store : Option Store
 
--- a stage and a mode by their numbers
+-- a stage by its number
 abbrev pub stage_number : Stage → ℕ
 stage_number Sample = 0
 stage_number Access = 1
 stage_number Yield = 2
 stage_number Take = 3
 
+-- the stage of a number; above 2 a take
 abbrev pub stage_of : ℕ → Stage
 stage_of n = if n == 0 then Sample else (if n == 1 then Access else (if n == 2 then Yield else Take))
 
+-- an interrupt mode by the number of IM
 abbrev pub mode_number : InterruptMode → ℕ
 mode_number Mode0 = 0
 mode_number Mode1 = 1
 mode_number Mode2 = 2
 
+-- the interrupt mode of a number; above 1 mode 2
 abbrev pub mode_of : ℕ → InterruptMode
 mode_of n = if n == 0 then Mode0 else (if n == 1 then Mode1 else Mode2)
 
--- what is kept of a state
+-- the numbers that are kept of a state
 abbrev pub numbers_of : State80 → Saved80
 numbers_of state = record {
   next = state.next;
@@ -75,10 +78,11 @@ numbers_of state = record {
   answers = padded 4 state.answers;
 }
 
+-- what is kept of a state
 abbrev pub kept_of : State80 → Kept80
 kept_of state = record { numbers = numbers_of state; store = state.store }
 
--- the state of which this is kept
+-- the registers of which these numbers are kept
 abbrev pub regs_from : Saved80 → Regs80
 regs_from s = record {
   af = s.af;
@@ -100,6 +104,7 @@ regs_from s = record {
   mode = mode_of s.mode;
 }
 
+-- the state of which this is kept; a flag is set where its number is 1
 abbrev pub state_from : Saved80 → Option Store → State80
 state_from s store = record {
   next = s.next;
@@ -163,6 +168,7 @@ are_answered cart state zero = true
 are_answered cart state (suc count) =
     are_answered cart state count && is_answer (need_after cart state count) (slice_index state.answers count)
 
+-- whether a shared access is what is needed
 abbrev pub is_access : Need → Bool
 is_access needs.Nothing = false
 is_access needs.Read = true
@@ -173,6 +179,7 @@ unfoldable pub is_waiting : List ℕ → State80 → Bool
 is_waiting cart state =
     is_access (need_after cart state (length state.answers)) && are_answered cart state (length state.answers)
 
+-- the Z80 has a bank register, of nine bits
 abbrev pub is_bank_right : Option Store → Bool
 is_bank_right None = false
 is_bank_right (Some store) = nat_lt store.bank 512
@@ -215,6 +222,7 @@ number_fields at has s =
     ∷ block 0 [] (is_holder has s)
     ∷ []
 
+-- all fields in their order; `holds` is the rule of RAM, and `at` the cycle of the state
 abbrev pub fields_by : ℕ → Bool → Kept80 → List Field
 fields_by at holds k = number_fields at (is_some k.store) k.numbers ++ store_fields holds k.store
 

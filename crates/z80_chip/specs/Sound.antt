@@ -8,6 +8,7 @@ use Rattle.z80_chip.specs.States.{State80}
 use Rattle.z80_chip.specs.declared.stage.Stage.{Stage}
 use Rattle.z80_chip.specs.declared.stage.Stage.TheVariants.{Sample, Access, Yield, Take}
 
+-- a Z80 with the cartridge that its window shows
 pub record Chip80Value : Type 0 where
   -- the cartridge's image
   pub cart : List ℕ
@@ -25,6 +26,7 @@ pub record IsAsking (cart : List ℕ) (state : State80) : Type 0 where
   pub request : Request80
   pub asked : carried_out cart state state.cause ≡ Err request
 
+-- what holds at each stage; a yield and a take come 60 cycles after their sample
 abbrev pub IsAt : Stage → List ℕ → State80 → Type 0
 IsAt Sample cart state = IsBetween state × (state.start ≡ state.next)
 IsAt Access cart state = IsAsking cart state

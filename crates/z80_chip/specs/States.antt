@@ -11,6 +11,7 @@ use Rattle.z80_chip.specs.declared.sequencer.Sequencer.{Sequencer}
 use Rattle.z80_chip.specs.declared.stage.Stage.{Stage}
 use Rattle.z80_chip.specs.declared.stage.Stage.TheVariants.{Sample, Access, Yield, Take}
 
+-- the processor, its RAM, and its place among its events; cycles are master cycles
 pub record State80 : Type 0 where
   -- the cycle of the next event, and what it is
   pub next : ℕ
@@ -45,6 +46,7 @@ state_of sequencer parcel = record {
   store = option_map store_of parcel;
 }
 
+-- whether the event of a stage is a sample of the pins; the others are accesses
 abbrev pub is_sample : Stage → Bool
 is_sample Sample = true
 is_sample Access = false

@@ -13,13 +13,15 @@ use Rattle.z80_decode.specs.declared.pair.Pair.TheVariants as pairs
 use Rattle.z80_decode.specs.declared.place8.Place8.{Place8}
 use Rattle.z80_decode.specs.declared.place8.Place8.TheVariants as places
 
--- bits 5 to 3, bits 2 to 0, and bits 5 and 4
+-- bits 5 to 3
 abbrev pub upper : ℕ → ℕ
 upper w = w / 8 % 8
 
+-- bits 2 to 0
 abbrev pub lower : ℕ → ℕ
 lower w = w % 8
 
+-- bits 5 and 4
 abbrev pub paired : ℕ → ℕ
 paired w = w / 16 % 4
 

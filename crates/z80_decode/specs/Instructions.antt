@@ -31,6 +31,8 @@ pub record Entry : Type 0 where
   pub code : Code
   pub before : ℕ
 
+-- of a page: the bytes before the operands, the register that HL is, the opcode, two bytes of
+-- operands
 abbrev pub entry : Page → ℕ → Index → ℕ → ℕ → ℕ → Entry
 entry page before index opcode first second =
     record { page = page; code = record { index = index; opcode = opcode; first = first; second = second }; before = before }
@@ -41,6 +43,7 @@ prefixed index b1 b2 b3 =
     if b1 == 0xcb then entry IndexedBits 4 index b3 b2 0 else
     entry Indexed 2 index b1 b2 b3
 
+-- by the prefix that the first of four bytes is, if any
 abbrev pub entry_of : ℕ → ℕ → ℕ → ℕ → Entry
 entry_of b0 b1 b2 b3 =
     if b0 == 0xcb then entry Bits 2 indexes.Hl b1 b2 b3 else
@@ -68,6 +71,7 @@ chosen (line ∷ more) e = record { op = line.op e.code; length = e.before + lin
 abbrev pub looked_up : List ℕ → Entry
 looked_up bytes = entry_of (slice_index bytes 0) (slice_index bytes 1) (slice_index bytes 2) (slice_index bytes 3)
 
+-- what four bytes decode to: the operation, and how many of them it takes
 unfoldable pub decoded : List ℕ → Decoded80
 decoded bytes = chosen (rows_of (looked_up bytes)) (looked_up bytes)
 

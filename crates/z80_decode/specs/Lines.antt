@@ -33,15 +33,18 @@ pub record Line : Type 0 where
   pub operands : ℕ
   pub op : Code → Op80
 
--- a pattern as text: 0 and 1 stand for themselves, a letter for any bit, a blank for nothing
+-- the bits that a pattern fixes: as text, 0 and 1 stand for themselves, a letter for any bit, a
+-- blank for nothing
 abbrev pub mask_of : List ℕ → ℕ → ℕ
 mask_of [] so_far = so_far
 mask_of (c ∷ cs) so_far = mask_of cs (if c == 32 then so_far else (if nat_le c 49 then (so_far * 2 + 1) else (so_far * 2)))
 
+-- what a pattern fixes them to; every other bit is 0
 abbrev pub bits_of : List ℕ → ℕ → ℕ
 bits_of [] so_far = so_far
 bits_of (c ∷ cs) so_far = bits_of cs (if c == 32 then so_far else (if c == 49 then (so_far * 2 + 1) else (so_far * 2)))
 
+-- a line whose pattern is text, with so many bytes of operands
 abbrev pub line : List ℕ → (ℕ → Bool) → ℕ → (Code → Op80) → Line
 line pattern allowed operands op =
     record { mask = mask_of pattern 0; bits = bits_of pattern 0; allowed = allowed; operands = operands; op = op }
@@ -50,26 +53,31 @@ line pattern allowed operands op =
 abbrev pub all : ℕ → Bool
 all w = true
 
--- a register in bits 5 to 3, in bits 2 to 0, or in both
+-- a register in bits 5 to 3, not (HL)
 abbrev pub upper_register : ℕ → Bool
 upper_register w = not (upper w == 6)
 
+-- a register in bits 2 to 0, not (HL)
 abbrev pub lower_register : ℕ → Bool
 lower_register w = not (lower w == 6)
 
+-- a register in bits 5 to 3, and one in bits 2 to 0
 abbrev pub registers : ℕ → Bool
 registers w = upper_register w && lower_register w
 
--- H or L in bits 5 to 3, in bits 2 to 0, or in either beside a register
+-- the code of H or L
 abbrev pub half : ℕ → Bool
 half code = code == 4 || code == 5
 
+-- H or L in bits 5 to 3
 abbrev pub upper_half : ℕ → Bool
 upper_half w = half (upper w)
 
+-- H or L in bits 2 to 0
 abbrev pub lower_half : ℕ → Bool
 lower_half w = half (lower w)
 
+-- two registers, of which one or both are H or L
 abbrev pub halves : ℕ → Bool
 halves w = registers w && (upper_half w || lower_half w)
 
@@ -77,23 +85,27 @@ halves w = registers w && (upper_half w || lower_half w)
 abbrev pub of_hl : ℕ → Bool
 of_hl w = paired w == 2
 
--- the places that bits 5 to 3 and bits 2 to 0 name
+-- the place that bits 5 to 3 name
 abbrev pub upper_place : Code → Place8
 upper_place c = place_of c.index (upper c.opcode) c.first
 
+-- the place that bits 2 to 0 name
 abbrev pub lower_place : Code → Place8
 lower_place c = place_of c.index (lower c.opcode) c.first
 
--- the same beside a place in memory: H and L stay themselves
+-- the register of bits 5 to 3 beside a place in memory: H and L stay themselves
 abbrev pub upper_beside : Code → Place8
 upper_beside c = place_of indexes.Hl (upper c.opcode) 0
 
+-- the register of bits 2 to 0 beside a place in memory: H and L stay themselves
 abbrev pub lower_beside : Code → Place8
 lower_beside c = place_of indexes.Hl (lower c.opcode) 0
 
+-- (HL), or the place at IX or IY, displaced by the first byte of operands
 abbrev pub memory : Code → Place8
 memory c = memory_of c.index c.first
 
+-- the two bytes of operands as a word
 abbrev pub number : Code → ℕ
 number c = word c.first c.second
 
@@ -213,7 +225,7 @@ indexed_lines =
     line (codes "11 101 001") all 0 (λ c. ops.JumpIndex c.index) ∷
     []
 
--- opcodes after CB; after DD CB and FD CB all are on the displaced place
+-- rotates, shifts, BIT, SET and RES, of a place that an opcode is on
 abbrev pub changing : (Code → Place8) → List Line
 changing place =
     line (codes "00 000 rrr") all 0 (λ c. ops.Change tasks.Rlc (place c)) ∷
@@ -229,9 +241,11 @@ changing place =
     line (codes "10 bbb rrr") all 0 (λ c. ops.Change (tasks.Res (bit_of (upper c.opcode))) (place c)) ∷
     []
 
+-- opcodes after CB
 unfoldable pub bit_lines : List Line
 bit_lines = changing lower_place
 
+-- opcodes after DD CB and FD CB: all are on the displaced place
 unfoldable pub indexed_bit_lines : List Line
 indexed_bit_lines = changing memory
 
@@ -274,6 +288,7 @@ extended_lines =
     line (codes "10 111 011") all 0 (λ c. ops.BlockOutput blocks.DecrementRepeat) ∷
     []
 
+-- an opcode has the bits that a line fixes, and the line allows it
 unfoldable pub matches : ℕ → Line → Bool
 matches w l = bit_and w l.mask == l.bits && l.allowed w
 

@@ -29,6 +29,7 @@ odd w = w / 8 % 2 == 1
 abbrev pub displaced : Index → ℕ → ℕ
 displaced index code = if code == 6 then prefixes_of index else 0
 
+-- the operation on A that bits 5 to 3 name
 unfoldable pub arithmetic : ℕ → Task80
 arithmetic code =
     if code == 0 then tasks.Add else
@@ -40,6 +41,7 @@ arithmetic code =
     if code == 6 then tasks.Or else
     tasks.Cp
 
+-- opcodes 00xxx111, by bits 5 to 3
 unfoldable pub accumulator : ℕ → Task80
 accumulator code =
     if code == 0 then tasks.Rlca else
@@ -51,6 +53,7 @@ accumulator code =
     if code == 6 then tasks.Scf else
     tasks.Ccf
 
+-- opcodes 00xxxyyy after CB, by bits 5 to 3
 unfoldable pub shift : ℕ → Task80
 shift code =
     if code == 0 then tasks.Rlc else
@@ -62,6 +65,7 @@ shift code =
     if code == 6 then tasks.Sll else
     tasks.Srl
 
+-- how a block instruction steps and whether it repeats, by bits 4 and 3
 unfoldable pub block : ℕ → Block
 block code =
     if code == 0 then blocks.Increment else
@@ -69,6 +73,7 @@ block code =
     if code == 2 then blocks.IncrementRepeat else
     blocks.DecrementRepeat
 
+-- opcodes 00xxx000: NOP, EX AF,AF', DJNZ and JR
 unfoldable pub relative_jumps : ℕ → ℕ → Decoded80
 relative_jumps w first =
     if upper w == 0 then plain 0 ops.Nop else
@@ -77,11 +82,13 @@ relative_jumps w first =
     if upper w == 3 then plain 1 (ops.JumpRelative first) else
     plain 1 (ops.JumpRelativeIf (condition_of (upper w % 4)) first)
 
+-- opcodes 00xxx001: LD dd,nn and ADD HL,ss
 unfoldable pub pair_loads : Index → ℕ → ℕ → ℕ → Decoded80
 pair_loads index w first second =
     if odd w then coded index 0 (ops.AddPair index (pair_of index (paired w))) else
     coded index 2 (ops.LoadPair (pair_of index (paired w)) (word first second))
 
+-- opcodes 00xxx010: LD between A or HL and memory
 unfoldable pub memory_loads : Index → ℕ → ℕ → ℕ → Decoded80
 memory_loads index w first second =
     if upper w == 0 then plain 0 (ops.Load places.AtBc places.A) else
@@ -93,11 +100,13 @@ memory_loads index w first second =
     if upper w == 6 then plain 2 (ops.Load (places.At (word first second)) places.A) else
     plain 2 (ops.Load places.A (places.At (word first second)))
 
+-- opcodes 00xxx011: INC ss and DEC ss
 unfoldable pub pair_steps : Index → ℕ → Decoded80
 pair_steps index w =
     if odd w then coded index 0 (ops.DecrementPair (pair_of index (paired w))) else
     coded index 0 (ops.IncrementPair (pair_of index (paired w)))
 
+-- opcodes 00xxx100 and 00xxx101: INC and DEC of the place in bits 5 to 3
 unfoldable pub step : Task80 → Index → ℕ → ℕ → Decoded80
 step task index w first = coded index (displaced index (upper w)) (ops.Step task (place_of index (upper w) first))
 
@@ -106,11 +115,13 @@ abbrev pub number_to_memory : Index → ℕ → ℕ → Decoded80
 number_to_memory indexes.Hl first second = coded indexes.Hl 1 (ops.Load places.AtHl (places.Number first))
 number_to_memory index first second = coded index 2 (ops.Load (memory_of index first) (places.Number second))
 
+-- opcodes 00xxx110: LD r,n
 unfoldable pub number_loads : Index → ℕ → ℕ → ℕ → Decoded80
 number_loads index w first second =
     if upper w == 6 then number_to_memory index first second else
     coded index 1 (ops.Load (place_of index (upper w) 0) (places.Number first))
 
+-- opcodes 00h to 3Fh, by bits 2 to 0
 unfoldable pub low_group : Index → ℕ → ℕ → ℕ → Decoded80
 low_group index w first second =
     if lower w == 0 then relative_jumps w first else
@@ -122,6 +133,7 @@ low_group index w first second =
     if lower w == 6 then number_loads index w first second else
     plain 0 (ops.Accumulator (accumulator (upper w)))
 
+-- opcodes 40h to 7Fh: LD r,r' and HALT
 unfoldable pub loads : Index → ℕ → ℕ → Decoded80
 loads index w first =
     if upper w == 6 && lower w == 6 then plain 0 ops.Halt else
@@ -129,6 +141,7 @@ loads index w first =
     if lower w == 6 then coded index (prefixes_of index) (ops.Load (place_of indexes.Hl (upper w) 0) (memory_of index first)) else
     coded index 0 (ops.Load (place_of index (upper w) 0) (place_of index (lower w) 0))
 
+-- opcodes 11xxx001: POP, RET, EXX, JP (HL) and LD SP,HL
 unfoldable pub returns : Index → ℕ → Decoded80
 returns index w =
     if not (odd w) then coded index 0 (ops.Pop (stacked_of index (paired w))) else
@@ -137,6 +150,7 @@ returns index w =
     if paired w == 2 then coded index 0 (ops.JumpIndex index) else
     coded index 0 (ops.LoadStackPointer index)
 
+-- opcodes 11xxx011: JP nn, the ports at a number, EX (SP),HL, EX DE,HL, DI and EI
 unfoldable pub jumps : Index → ℕ → ℕ → ℕ → Decoded80
 jumps index w first second =
     if upper w == 2 then plain 1 (ops.OutputAtNumber first) else
@@ -147,11 +161,13 @@ jumps index w first second =
     if upper w == 7 then plain 0 ops.EnableInterrupts else
     plain 2 (ops.Jump (word first second))
 
+-- opcodes 11xxx101: PUSH qq and CALL nn
 unfoldable pub calls : Index → ℕ → ℕ → ℕ → Decoded80
 calls index w first second =
     if odd w then plain 2 (ops.Call (word first second)) else
     coded index 0 (ops.Push (stacked_of index (paired w)))
 
+-- opcodes C0h to FFh, by bits 2 to 0
 unfoldable pub control : Index → ℕ → ℕ → ℕ → Decoded80
 control index w first second =
     if lower w == 0 then plain 0 (ops.ReturnIf (condition_of (upper w))) else
@@ -163,6 +179,7 @@ control index w first second =
     if lower w == 6 then plain 1 (ops.Arithmetic (arithmetic (upper w)) (places.Number first)) else
     plain 0 (ops.Restart (8 * upper w))
 
+-- an opcode that no CB or ED stands before, by bits 7 and 6
 unfoldable pub by_opcode : Index → ℕ → ℕ → ℕ → Decoded80
 by_opcode index w first second =
     if w / 64 == 0 then low_group index w first second else
@@ -170,6 +187,7 @@ by_opcode index w first second =
     if w / 64 == 2 then coded index (displaced index (lower w)) (ops.Arithmetic (arithmetic (upper w)) (place_of index (lower w) first)) else
     control index w first second
 
+-- opcodes 00h to 3Fh that DD and FD change
 unfoldable pub low_names_hl : ℕ → Bool
 low_names_hl w =
     if lower w == 1 then (odd w || upper w == 4) else
@@ -181,6 +199,7 @@ low_names_hl w =
 abbrev pub replaced : ℕ → Bool
 replaced code = code == 4 || code == 5 || code == 6
 
+-- opcodes that DD and FD change: those that name HL, H, L or (HL), but EX DE,HL
 unfoldable pub names_hl : ℕ → Bool
 names_hl w =
     if w / 64 == 0 then low_names_hl w else
@@ -196,24 +215,29 @@ bits w place =
     if w / 64 == 2 then ops.Change (tasks.Res (bit_of (upper w))) place else
     ops.Change (tasks.Set (bit_of (upper w))) place
 
+-- an instruction of so many bytes, prefixes and operands among them
 abbrev pub of_bytes : ℕ → Op80 → Decoded80
 of_bytes count op = record { op = op; length = count }
 
+-- after DD and FD: bits after CB, an opcode that names HL, or the prefix alone
 unfoldable pub indexed : Index → ℕ → ℕ → ℕ → Decoded80
 indexed index b1 b2 b3 =
     if b1 == 0xcb then of_bytes 4 (bits b3 (memory_of index b2)) else
     if names_hl b1 then by_opcode index b1 b2 b3 else
     of_bytes 1 (ops.LonePrefix index)
 
+-- an opcode after ED that is no instruction
 abbrev pub undefined : ℕ → Decoded80
 undefined w = of_bytes 2 (ops.Undefined w)
 
+-- opcodes 01xxx000 and 01xxx001 after ED: IN r,(C) and OUT (C),r
 unfoldable pub ports : ℕ → Decoded80
 ports w =
     if upper w == 6 then undefined w else
     if lower w == 0 then of_bytes 2 (ops.Input (place_of indexes.Hl (upper w) 0)) else
     of_bytes 2 (ops.Output (place_of indexes.Hl (upper w) 0))
 
+-- opcodes 01xxx010 and 01xxx011 after ED: ADC and SBC of HL, and LD between a pair and memory
 unfoldable pub pairs_extended : ℕ → ℕ → ℕ → Decoded80
 pairs_extended w first second =
     if lower w == 2 && odd w then of_bytes 2 (ops.AddPairWithCarry (pair_of indexes.Hl (paired w))) else
@@ -221,6 +245,7 @@ pairs_extended w first second =
     if odd w then of_bytes 4 (ops.LoadPairExtended (pair_of indexes.Hl (paired w)) (word first second)) else
     of_bytes 4 (ops.StorePairExtended (word first second) (pair_of indexes.Hl (paired w)))
 
+-- opcodes 01xxx100 to 01xxx110 after ED: NEG, RETN, RETI and IM, of which each has one
 unfoldable pub modes : ℕ → Decoded80
 modes w =
     if w == 0x44 then of_bytes 2 ops.Negate else
@@ -231,6 +256,7 @@ modes w =
     if w == 0x5e then of_bytes 2 (ops.SetInterruptMode Mode2) else
     undefined w
 
+-- opcodes 01xxx111 after ED: LD of I and R, RRD and RLD
 unfoldable pub specials : ℕ → Decoded80
 specials w =
     if upper w == 0 then of_bytes 2 (ops.LoadToSpecial Interrupt) else
@@ -241,6 +267,7 @@ specials w =
     if upper w == 5 then of_bytes 2 ops.RotateDigitsLeft else
     undefined w
 
+-- opcodes 101xx0yy after ED, by bits 1 and 0
 unfoldable pub block_op : ℕ → Block → Op80
 block_op code steps =
     if code == 0 then ops.BlockLoad steps else
@@ -248,6 +275,7 @@ block_op code steps =
     if code == 2 then ops.BlockInput steps else
     ops.BlockOutput steps
 
+-- opcodes after ED
 unfoldable pub extended : ℕ → ℕ → ℕ → Decoded80
 extended w first second =
     if w / 64 == 1 then (
@@ -259,6 +287,7 @@ extended w first second =
     if w / 32 == 5 && nat_lt (lower w) 4 then of_bytes 2 (block_op (lower w) (block (w / 8 % 4))) else
     undefined w
 
+-- what four bytes decode to: the operation, and how many of them it takes
 unfoldable pub nested : ℕ → ℕ → ℕ → ℕ → Decoded80
 nested b0 b1 b2 b3 =
     if b0 == 0xcb then of_bytes 2 (bits b1 (place_of indexes.Hl (lower b1) 0)) else

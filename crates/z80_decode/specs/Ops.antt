@@ -87,6 +87,7 @@ is_arithmetic tasks.Or = true
 is_arithmetic tasks.Cp = true
 is_arithmetic _ = false
 
+-- INC and DEC of 8 bits
 abbrev pub is_step : Task80 → Bool
 is_step tasks.Inc = true
 is_step tasks.Dec = true

@@ -4,6 +4,7 @@
 use Rattle.std.specs.Prelude.{ℕ, ◌≡◌, ◌+◌, ◌*◌, ◌/◌, ◌%◌, ◌<◌, Bool, ◌&&◌, nat_lt, nat_le, if◌then◌else◌, List, length, replicate, slice_set, fold}
 use Rattle.md_word.specs.declared.sub_bus.Parcel.{Parcel}
 
+-- RAM, and the bank register: bits 23 to 15 of the 68000's address that the window shows
 pub record Store : Type 0 where
   pub ram : List ℕ
   pub bank : ℕ
@@ -33,10 +34,11 @@ is_bank at = nat_le 0x6000 at && nat_le at 0x60ff
 abbrev pub ram_place : ℕ → ℕ
 ram_place at = at % 0x2000
 
--- RAM after one write, and after a list of them, the oldest first
+-- RAM after one write, which is lost outside RAM
 abbrev pub stored : List ℕ → ℕ × ℕ → List ℕ
 stored ram written = if is_ram written.0 then slice_set ram (ram_place written.0) written.1 else ram
 
+-- RAM after a list of writes, the oldest first
 abbrev pub ram_after : List ℕ → List (ℕ × ℕ) → List ℕ
 ram_after ram writes = fold stored ram writes
 
@@ -45,9 +47,11 @@ ram_after ram writes = fold stored ram writes
 abbrev pub shifted : ℕ → ℕ → ℕ
 shifted bank value = bank / 2 + value % 2 * 0x100
 
+-- the bank register after one write, which counts at 6000h to 60FFh
 abbrev pub banked : ℕ → ℕ × ℕ → ℕ
 banked bank written = if is_bank written.0 then shifted bank written.1 else bank
 
+-- the bank register after a list of writes, the oldest first
 abbrev pub bank_after : ℕ → List (ℕ × ℕ) → ℕ
 bank_after bank writes = fold banked bank writes
 

@@ -6,23 +6,27 @@ use Rattle.md_word.specs.declared.sub_bus.Request80.{Request80}
 use Rattle.md_word.specs.declared.sub_bus.Request80.TheVariants as requests
 use Rattle.z80_parcel.specs.Parcels.{IsStore, Store, store_of}
 
+-- a byte to read, a byte to write, RAM and bank register to yield, or the same to take back
 pub data Asked : Type 0 where
   ReadByte : ℕ → Asked
   WriteByte : ℕ → ℕ → Asked
   HandOver : Store → Asked
   TakeBack : Asked
 
+-- a request, without where a yielded parcel lies
 abbrev pub asked : Request80 → Asked
 asked (requests.Read at) = ReadByte at
 asked (requests.Write at value) = WriteByte at value
 asked (requests.Yield parcel) = HandOver (store_of parcel)
 asked requests.Take = TakeBack
 
+-- the byte that was read, nothing, or RAM and bank register that come back
 pub data Told : Type 0 where
   Byte : ℕ → Told
   Nothing : Told
   Returned : Store → Told
 
+-- an answer, without where a returned parcel lies
 abbrev pub told : Answer80 → Told
 told (answers.Value value) = Byte value
 told answers.Done = Nothing

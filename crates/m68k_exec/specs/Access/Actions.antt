@@ -17,6 +17,7 @@ pub record Done : Type 0 where
   pub used : ℕ
   pub writes : List (ℕ × ℕ)
 
+-- from the memory and what was done before to a value with what was done then, or a stop
 abbrev pub Act : Type 0 → Type 0
 Act A = Memory → Done → Result (A × Done) Stop
 
@@ -34,6 +35,7 @@ abbrev pub ◌>>=◌ : {A B : Type 0} → Act A → (A → Act B) → Act B
 abbrev pub give : {A : Type 0} → A → Act A
 give x memory done = Ok (x, done)
 
+-- an address at which no word or long can be accessed
 abbrev pub is_odd : ℕ → Bool
 is_odd address = address % 2 == 1
 
@@ -60,18 +62,20 @@ told request = do
   answer ← asked request
   give tt
 
--- what a private read sees: work RAM is as the instruction's own writes have left it
+-- the byte that a private read sees: work RAM is as the instruction's own writes have left it
 unfoldable pub byte_seen : ℕ → Memory → Done → ℕ
 byte_seen at memory done = byte_at memory.rom (ram_after memory.ram done.writes) at
 
+-- the word that a private read sees, its high byte first
 unfoldable pub word_seen : ℕ → Memory → Done → ℕ
 word_seen at memory done = word_at memory.rom (ram_after memory.ram done.writes) at
 
--- after a private write, which is lost outside work RAM; of a word the high byte is written first
+-- after a private write of a byte, which is lost outside work RAM
 unfoldable pub with_byte : ℕ → ℕ → Done → Done
 with_byte at value done =
     if is_ram at then record done { writes = done.writes ++ (at, value) ∷ [] } else done
 
+-- after a private write of a word, its high byte first
 unfoldable pub with_word : ℕ → ℕ → Done → Done
 with_word at value done = with_byte (at + 1) (value % 0x100) (with_byte at (value / 0x100) done)
 
@@ -98,30 +102,36 @@ read_long address = do
   low ← read_word ((address + 2) % 2 ^ 32)
   give (high * 0x1_0000 + low)
 
+-- a byte, a word or a long at an address, as an unsigned number
 unfoldable pub read : Size → ℕ → Act ℕ
 read Byte address = read_byte address
 read Word address = read_word address
 read Long address = read_long address
 
+-- a byte is written, on the bus where its address is shared
 unfoldable pub write_byte : ℕ → ℕ → Act (Unit {0})
 write_byte address value memory done =
     if is_shared (bus_address address) then told (Write8 (bus_address address) value) memory done
     else Ok (tt, with_byte (bus_address address) value done)
 
+-- a word is written at an even address of 24 bits, on the bus where that is shared
 unfoldable pub write_aligned : ℕ → ℕ → Act (Unit {0})
 write_aligned at value memory done =
     if is_shared at then told (Write16 at value) memory done else Ok (tt, with_word at value done)
 
+-- a word is written; at an odd address it is an address error
 unfoldable pub write_word : ℕ → ℕ → Act (Unit {0})
 write_word address value memory done =
     if is_odd address then odd address false memory done
     else write_aligned (bus_address address) value memory done
 
+-- a long is written as two words, the high one first, at the lower address
 unfoldable pub write_long : ℕ → ℕ → Act (Unit {0})
 write_long address value = do
   first ← write_word address (value / 0x1_0000)
   write_word ((address + 2) % 2 ^ 32) (value % 0x1_0000)
 
+-- a byte, a word or a long is written at an address
 unfoldable pub write : Size → ℕ → ℕ → Act (Unit {0})
 write Byte address value = write_byte address value
 write Word address value = write_word address value

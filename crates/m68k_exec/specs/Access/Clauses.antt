@@ -13,9 +13,11 @@ use Rattle.m68k_exec.specs.Rows.Movem.{Loaded}
 use Rattle.m68k_exec.specs.Access.Outcomes.{Outcome, outcome_of}
 use Rattle.m68k_exec.specs.declared.access.outcome.Outcome as told
 
+-- the memory that a call is given: the image, work RAM before the instruction, the answers
 abbrev pub memory_of : Around → Memory
 memory_of around = record { rom = around.rom.now; ram = around.ram.now; answers = around.answers.now }
 
+-- what a call has done so far: the answers taken, and the bytes written
 abbrev pub done_of : Progress → Done
 done_of progress = record { used = progress.used; writes = progress.writes.items }
 
@@ -29,14 +31,17 @@ abbrev pub Leaves : Result (Unit {0}) Stop → Regs → Done → Result (Regs ×
 Leaves (Ok x) regs after meaning = meaning ≡ Ok (regs, after)
 Leaves (Err stop) regs after meaning = meaning ≡ Err stop
 
+-- the same of calls that give an operand, and leave the registers as its mode steps them
 abbrev pub Loads : Result ℕ Stop → Regs → Done → Result (Operand × Done) Stop → Type 0
 Loads (Ok x) regs after meaning = meaning ≡ Ok (record { value = x; regs = regs }, after)
 Loads (Err stop) regs after meaning = meaning ≡ Err stop
 
+-- the same of calls that load registers for MOVEM, and give the address that is reached
 abbrev pub Reaches : Result ℕ Stop → Regs → Done → Result (Loaded × Done) Stop → Type 0
 Reaches (Ok x) regs after meaning = meaning ≡ Ok (record { address = x; regs = regs }, after)
 Reaches (Err stop) regs after meaning = meaning ≡ Err stop
 
+-- the same of a whole instruction, which gives what there is to tell beside the registers
 abbrev pub Ends : Result told.Outcome Stop → Regs → Done → Result (Outcome × Done) Stop → Type 0
 Ends (Ok x) regs after meaning = meaning ≡ Ok (outcome_of x regs, after)
 Ends (Err stop) regs after meaning = meaning ≡ Err stop

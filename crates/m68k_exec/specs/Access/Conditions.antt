@@ -5,6 +5,7 @@ use Rattle.md_word.specs.declared.flags.Flags.{Flags}
 use Rattle.m68k_decode.specs.declared.condition.Condition.{Condition}
 use Rattle.m68k_decode.specs.declared.condition.Condition.TheVariants as conditions
 
+-- whether a condition holds of N, Z, V and C
 abbrev pub holds : Condition → Flags → Bool
 holds conditions.True flags = true
 holds conditions.False flags = false

@@ -46,9 +46,10 @@ instruction_words address memory =
     ∷ instruction_word ((address + 8) % 2 ^ 32) memory
     ∷ []
 
--- work RAM after one byte, and after a list of them, the oldest first
+-- work RAM after one byte is written at its address on the bus
 abbrev pub stored : List ℕ → ℕ × ℕ → List ℕ
 stored ram written = slice_set ram (ram_place written.0) (written.1 % 0x100)
 
+-- work RAM after a list of bytes, the oldest first
 abbrev pub ram_after : List ℕ → List (ℕ × ℕ) → List ℕ
 ram_after ram writes = fold stored ram writes

@@ -17,9 +17,11 @@ pub record Outcome : Type 0 where
 abbrev pub outcome_of : told.Outcome → Regs → Outcome
 outcome_of told regs = record { regs = regs; taken = told.taken; expired = told.expired; count = told.count; cause = told.cause; stopped = told.stopped }
 
+-- nothing to tell: no branch taken, no loop ended, none moved, no exception, no stop
 abbrev pub told_nothing : told.Outcome
 told_nothing = record { taken = false; expired = false; count = 0; cause = 0; stopped = false }
 
+-- an instruction that ends in the exception of this vector
 abbrev pub ended_in : ℕ → told.Outcome
 ended_in cause = record told_nothing { cause = cause }
 

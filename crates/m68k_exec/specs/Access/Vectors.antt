@@ -2,9 +2,11 @@
 -- M68000 User's Manual, section 6.2.1.
 use Rattle.std.specs.Prelude.{ℕ, ◌+◌}
 
+-- ILLEGAL, and first words that are no instruction
 abbrev pub illegal_instruction : ℕ
 illegal_instruction = 4
 
+-- DIVU and DIVS by 0
 abbrev pub zero_divide : ℕ
 zero_divide = 5
 
@@ -16,12 +18,15 @@ out_of_bounds = 6
 abbrev pub overflow : ℕ
 overflow = 7
 
+-- a privileged instruction in user mode
 abbrev pub privilege_violation : ℕ
 privilege_violation = 8
 
+-- a first word whose bits 15 to 12 are 1010
 abbrev pub line_a : ℕ
 line_a = 10
 
+-- a first word whose bits 15 to 12 are 1111
 abbrev pub line_f : ℕ
 line_f = 11
 

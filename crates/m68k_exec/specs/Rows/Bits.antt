@@ -23,6 +23,7 @@ abbrev pub bit_of_size : Task → Size → ℕ → Mode → ℕ → Regs → Act
 bit_of_size tasks.Btst size number mode pc regs = test_operand tasks.Btst size number mode pc regs
 bit_of_size task size number mode pc regs = change_operand task size number mode pc regs
 
+-- an operation on one bit, its number taken modulo 32 in a data register, modulo 8 in memory
 unfoldable pub bit : Task → ℕ → Mode → ℕ → Regs → Act Outcome
 bit task number mode pc regs =
     bit_of_size task (bit_size mode) (number % modulus_of (bit_size mode)) mode pc regs

@@ -23,6 +23,7 @@ unfoldable pub branched : ℕ → ℕ → Regs → Outcome
 branched distance start regs =
     record (jump_to ((start + 2 + distance) % 2 ^ 32) regs) { taken = true }
 
+-- BRA, which is always taken
 unfoldable pub bra : Displacement → ℕ → Regs → Outcome
 bra displacement start regs = branched (distance_of displacement) start regs
 
@@ -32,6 +33,7 @@ bsr displacement start regs = do
   after ← push Long regs.pc regs
   give (branched (distance_of displacement) start after)
 
+-- Bcc: it is taken where the condition holds, else nothing is done
 unfoldable pub bcc : Condition → Displacement → ℕ → Regs → Outcome
 bcc condition displacement start regs =
     if holds condition (flags_of regs) then branched (distance_of displacement) start regs

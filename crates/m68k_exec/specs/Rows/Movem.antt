@@ -77,6 +77,7 @@ load_each size (place ∷ rest) at regs = do
   value ← read size at
   load_each size rest (next_address Rising size at) (with_register regs place (extended size value))
 
+-- an empty list accesses nothing; an odd address is an error before any access
 unfoldable pub load_list : Size → ℕ → ℕ → Regs → Act Loaded
 load_list size list at regs memory done =
     if list == 0 then Ok (record { address = at; regs = regs }, done)

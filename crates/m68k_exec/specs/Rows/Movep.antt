@@ -13,33 +13,39 @@ use Rattle.m68k_exec.specs.Access.Operands.{with_part}
 use Rattle.m68k_exec.specs.Access.Outcomes.{Outcome, plain}
 use Rattle.m68k_exec.specs.Access.Shapes.{behind}
 
+-- a word from two bytes, at the address and 2 further
 unfoldable pub spread_word : ℕ → Act ℕ
 spread_word at = do
   high ← read_byte at
   low ← read_byte ((at + 2) % 2 ^ 32)
   give (high * 0x100 + low)
 
+-- a long from four bytes, each 2 further than the one before
 unfoldable pub spread_long : ℕ → Act ℕ
 spread_long at = do
   high ← spread_word at
   low ← spread_word ((at + 4) % 2 ^ 32)
   give (high * 0x1_0000 + low)
 
+-- what MOVEP reads; it has words and longs alone
 abbrev pub read_spread : Size → ℕ → Act ℕ
 read_spread Byte at = read_byte at
 read_spread Word at = spread_word at
 read_spread Long at = spread_long at
 
+-- a word as two bytes, at the address and 2 further
 unfoldable pub write_spread_word : ℕ → ℕ → Act (Unit {0})
 write_spread_word at value = do
   first ← write_byte at (value / 0x100)
   write_byte ((at + 2) % 2 ^ 32) (value % 0x100)
 
+-- a long as four bytes, each 2 further than the one before
 unfoldable pub write_spread_long : ℕ → ℕ → Act (Unit {0})
 write_spread_long at value = do
   first ← write_spread_word at (value / 0x1_0000)
   write_spread_word ((at + 4) % 2 ^ 32) (value % 0x1_0000)
 
+-- what MOVEP writes; it has words and longs alone
 abbrev pub write_spread : Size → ℕ → ℕ → Act (Unit {0})
 write_spread Byte at value = write_byte at value
 write_spread Word at value = write_spread_word at value

@@ -31,8 +31,10 @@ quotient_by signed n mode start regs = do
   source ← load mode Word (behind start 2) regs
   give (finished (divided signed source.value (register_of source.regs n)) n source.regs)
 
+-- DIVU: a register of 32 bits by a word, both unsigned
 unfoldable pub divu : ℕ → Mode → ℕ → Regs → Act Outcome
 divu n mode start regs = quotient_by false n mode start regs
 
+-- DIVS: a register of 32 bits by a word, both in two's complement
 unfoldable pub divs : ℕ → Mode → ℕ → Regs → Act Outcome
 divs n mode start regs = quotient_by true n mode start regs

@@ -40,6 +40,7 @@ move_to_ccr mode start regs = do
   operand ← load mode Word (behind start 2) regs
   give (plain (with_ccr operand.value operand.regs))
 
+-- MOVE to SR in supervisor mode
 unfoldable pub load_sr : Mode → ℕ → Regs → Act Outcome
 load_sr mode start regs = do
   operand ← load mode Word (behind start 2) regs

@@ -67,6 +67,7 @@ handled exception vector words regs = record regs {
   sr = status_in exception regs.sr;
 }
 
+-- the words are pushed on the supervisor's stack, and the handler at the vector's address begins
 unfoldable pub enter_with : Exception → ℕ → List ℕ → Regs → Act (Option Regs)
 enter_with exception vector words regs = do
   finished ← pushed (length words) 0 words regs.ssp

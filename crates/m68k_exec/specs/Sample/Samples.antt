@@ -75,6 +75,7 @@ begun op number trace found None done = record {
   trace = false;
 }
 
+-- the same where its pushes came to their end; else the stop
 abbrev pub begun_by : Op → ℕ → Bool → Regs → Result (Option Regs × Done) Stop → Result Ended Stop
 begun_by op number trace found (Ok x) = Ok (begun op number trace found x.0 x.1)
 begun_by op number trace found (Err stop) = Err stop
@@ -118,6 +119,7 @@ instruction decoded first regs memory =
     else answered_by decoded.op first regs memory
     (row decoded.op regs.pc (record regs { pc = (regs.pc + decoded.length) % 2 ^ 32 }) memory nothing)
 
+-- an interrupt of a level once its acknowledge is answered; else the stop
 abbrev pub acknowledged : ℕ → Op → Regs → Memory → Result (ℕ × Done) Stop → Result Ended Stop
 acknowledged level op regs memory (Ok x) = take_exception op (Interrupt level) false regs regs memory x.1
 acknowledged level op regs memory (Err stop) = Err stop

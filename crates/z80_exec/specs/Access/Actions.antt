@@ -12,6 +12,8 @@ pub record Done : Type 0 where
   pub used : ℕ
   pub writes : List (ℕ × ℕ)
 
+-- from the memory and what was done before to a value with what was done then, or a shared access
+-- that waits
 abbrev pub Act : Type 0 → Type 0
 Act A = Memory → Done → Result (A × Done) Request80
 
@@ -58,6 +60,7 @@ unfoldable pub read : ℕ → Act ℕ
 read at memory done =
     if is_shared_read at then asked (Read at) memory done else Ok (byte_seen at memory done, done)
 
+-- the byte is written at an address, on the bus where that is shared
 unfoldable pub write : ℕ → ℕ → Act (Unit {0})
 write at value memory done =
     if is_shared_write at then told (Write at value) memory done else Ok (tt, with_byte at value done)
@@ -69,6 +72,7 @@ read_word at = do
   high ← read (next at)
   give (word low high)
 
+-- the word is written at an address: its low byte first
 unfoldable pub write_word : ℕ → ℕ → Act (Unit {0})
 write_word at value = do
   written ← write at (value % 0x100)

@@ -12,9 +12,11 @@ use Rattle.z80_exec.specs.Access.Memory.{Memory}
 use Rattle.z80_exec.specs.Access.Operands.{Popped}
 use Rattle.z80_exec.specs.Access.Outcomes.{Outcome, outcome_of}
 
+-- the memory that a call is given: the image, RAM and bank before the instruction, the answers
 abbrev pub memory_of : Around → Memory
 memory_of around = record { rom = around.rom.now; ram = around.ram.now; bank = around.bank; answers = around.answers.now }
 
+-- what a call has done so far: the answers taken, and the private writes
 abbrev pub done_of : Progress80 → Done
 done_of progress = record { used = progress.used; writes = progress.writes.items }
 
@@ -33,10 +35,12 @@ abbrev pub Leaves : Result (Unit {0}) Waiting → Regs80 → Done → Result (Re
 Leaves (Ok x) regs after meaning = meaning ≡ Ok (regs, after)
 Leaves (Err waiting) regs after meaning = meaning ≡ Err (request_of waiting)
 
+-- the same of a pop, which gives the word, and leaves the registers
 abbrev pub Pops : Result ℕ Waiting → Regs80 → Done → Result (Popped × Done) Request80 → Type 0
 Pops (Ok x) regs after meaning = meaning ≡ Ok (record { value = x; regs = regs }, after)
 Pops (Err waiting) regs after meaning = meaning ≡ Err (request_of waiting)
 
+-- the same of a whole instruction, which gives whether it took the longer of two times
 abbrev pub Ends : Result Bool Waiting → Regs80 → Done → Result (Outcome × Done) Request80 → Type 0
 Ends (Ok taken) regs after meaning = meaning ≡ Ok (outcome_of taken regs, after)
 Ends (Err waiting) regs after meaning = meaning ≡ Err (request_of waiting)

@@ -5,6 +5,7 @@ use Rattle.z80_alu.specs.declared.flags80.Flags80.{Flags80}
 use Rattle.z80_decode.specs.declared.condition.Condition.{Condition}
 use Rattle.z80_decode.specs.declared.condition.Condition.TheVariants as conditions
 
+-- whether a condition holds of Z, C, P/V and S
 abbrev pub holds_of : Condition → Flags80 → Bool
 holds_of conditions.NonZero flags = not flags.z
 holds_of conditions.Zero flags = flags.z

@@ -16,10 +16,11 @@ pub record Memory : Type 0 where
 abbrev pub is_fm : ℕ → Bool
 is_fm at = nat_le 0x4000 at && nat_le at 0x5fff
 
--- what a read and what a write share with other chips: the FM chip, and of writes the PSG
+-- what a read shares with other chips: the FM chip
 abbrev pub is_shared_read : ℕ → Bool
 is_shared_read at = is_fm at
 
+-- what a write shares with other chips: the FM chip, and the PSG at 7F11h
 abbrev pub is_shared_write : ℕ → Bool
 is_shared_write at = is_fm at || at == 0x7f11
 

@@ -17,24 +17,27 @@ address_of (places.AtIy d) regs = Some (displaced regs.iy d)
 address_of (places.At nn) regs = Some nn
 address_of _ regs = None
 
--- the operand: the byte in memory, the register or the number
+-- the byte at the address of a place in memory, else of the register, or the number
 abbrev pub fetch_at : Option ℕ → Place8 → Regs80 → Act ℕ
 fetch_at (Some at) place regs = read at
 fetch_at None place regs = give (byte_of place regs)
 
+-- the operand: the byte in memory, the register or the number
 unfoldable pub fetch : Place8 → Regs80 → Act ℕ
 fetch place regs = fetch_at (address_of place regs) place regs
 
--- the registers after a byte is put in its place
+-- a byte is written in memory, and the registers stay
 unfoldable pub put_memory : ℕ → ℕ → Regs80 → Act Regs80
 put_memory at value regs = do
   written ← write at value
   give regs
 
+-- a byte is put at the address of a place in memory, else in the register
 abbrev pub put_at : Option ℕ → Place8 → ℕ → Regs80 → Act Regs80
 put_at (Some at) place value regs = put_memory at value regs
 put_at None place value regs = give (with_byte place value regs)
 
+-- the registers after a byte is put in its place
 unfoldable pub put : Place8 → ℕ → Regs80 → Act Regs80
 put place value regs = put_at (address_of place regs) place value regs
 

@@ -10,30 +10,35 @@ use Rattle.z80_decode.specs.declared.place8.Place8.{Place8}
 use Rattle.z80_decode.specs.declared.place8.Place8.TheVariants as places
 use Rattle.z80_exec.specs.declared.regs80.Regs80.{Regs80}
 
--- the upper and the lower byte of a word
+-- the upper byte of a word
 abbrev pub high : ℕ → ℕ
 high w = w / 0x100
 
+-- the lower byte of a word
 abbrev pub low : ℕ → ℕ
 low w = w % 0x100
 
--- a word with another upper or lower byte
+-- a word with another upper byte
 abbrev pub with_high : ℕ → ℕ → ℕ
 with_high w value = value * 0x100 + low w
 
+-- a word with another lower byte
 abbrev pub with_low : ℕ → ℕ → ℕ
 with_low w value = high w * 0x100 + value
 
--- the accumulator and F
+-- the accumulator, the upper byte of AF
 abbrev pub a_of : Regs80 → ℕ
 a_of regs = high regs.af
 
+-- F, the lower byte of AF
 abbrev pub f_of : Regs80 → ℕ
 f_of regs = low regs.af
 
+-- another accumulator and F
 unfoldable pub with_af : ℕ → ℕ → Regs80 → Regs80
 with_af a f regs = record regs { af = a * 0x100 + f }
 
+-- another F, and the accumulator as it stands
 unfoldable pub with_f : ℕ → Regs80 → Regs80
 with_f f regs = record regs { af = with_low regs.af f }
 
@@ -47,6 +52,7 @@ pair_of pairs.Af regs = regs.af
 pair_of pairs.Ix regs = regs.ix
 pair_of pairs.Iy regs = regs.iy
 
+-- another value in a register of 16 bits
 unfoldable pub with_pair : Pair → ℕ → Regs80 → Regs80
 with_pair pairs.Bc value regs = record regs { bc = value }
 with_pair pairs.De value regs = record regs { de = value }
@@ -78,6 +84,7 @@ byte_of places.Iyl regs = low regs.iy
 byte_of (places.Number n) regs = n
 byte_of _ regs = 0
 
+-- another value in a register of 8 bits; at any other place the registers stay
 unfoldable pub with_byte : Place8 → ℕ → Regs80 → Regs80
 with_byte places.A value regs = record regs { af = with_high regs.af value }
 with_byte places.B value regs = record regs { bc = with_high regs.bc value }
@@ -96,12 +103,14 @@ with_byte _ value regs = regs
 unfoldable pub displaced : ℕ → ℕ → ℕ
 displaced address distance = word_of 0x1_0000 (pos address +ℤ signed_of Byte distance)
 
--- the next and the previous number of 16 bits, and of 8
+-- the next number of 16 bits
 abbrev pub up : ℕ → ℕ
 up n = (n + 1) % 0x1_0000
 
+-- the previous number of 16 bits
 abbrev pub down : ℕ → ℕ
 down n = (n + 0xffff) % 0x1_0000
 
+-- the previous number of 8 bits
 abbrev pub byte_down : ℕ → ℕ
 byte_down n = (n + 0xff) % 0x100

@@ -15,6 +15,7 @@ stepped Decrement at = down at
 stepped IncrementRepeat at = up at
 stepped DecrementRepeat at = down at
 
+-- whether it is an instruction that goes on until its end, as LDIR does
 abbrev pub repeats : Block → Bool
 repeats Increment = false
 repeats Decrement = false

@@ -27,9 +27,10 @@ unfoldable pub subtract_pair_with_carry : Pair → Regs80 → Regs80
 subtract_pair_with_carry pair regs =
     resulting Hl (pair_subtracted regs.hl (pair_of pair regs) (flags_of (f_of regs)).c) regs
 
--- INC and DEC of 16 bits, which set no flags
+-- INC of 16 bits, which sets no flags
 unfoldable pub increment_pair : Pair → Regs80 → Regs80
 increment_pair pair regs = with_pair pair (up (pair_of pair regs)) regs
 
+-- DEC of 16 bits, which sets no flags
 unfoldable pub decrement_pair : Pair → Regs80 → Regs80
 decrement_pair pair regs = with_pair pair (down (pair_of pair regs)) regs

@@ -7,7 +7,7 @@ use Rattle.z80_exec.specs.Access.Actions.{Act, ◌>>=◌, give, read, write}
 use Rattle.z80_exec.specs.Access.Outcomes.{Outcome, plain}
 use Rattle.z80_exec.specs.Access.Parts.{a_of, f_of, with_af}
 
--- the digits of (HL) and the low digit of A change places
+-- RLD: A's low digit goes to (HL)'s low one, that to its high one, and that to A
 unfoldable pub rotate_digits_left : Regs80 → Act Outcome
 rotate_digits_left regs = do
   value ← read regs.hl
@@ -15,6 +15,7 @@ rotate_digits_left regs = do
   written ← write regs.hl (rld_memory (a_of regs) value)
   give (plain (with_af out.value out.f regs))
 
+-- RRD: A's low digit goes to (HL)'s high one, that to its low one, and that to A
 unfoldable pub rotate_digits_right : Regs80 → Act Outcome
 rotate_digits_right regs = do
   value ← read regs.hl

@@ -50,14 +50,17 @@ unfoldable pub fetched : Decoded80 → ℕ → Regs80 → Regs80
 fetched found first regs =
     record regs { pc = (regs.pc + found.length) % 0x1_0000; r = risen regs.r (rise_of found.op first) }
 
+-- HALT
 abbrev pub halts : Op80 → Bool
 halts ops.Halt = true
 halts op = false
 
+-- EI, behind which no interrupt is taken
 abbrev pub is_ei : Op80 → Bool
 is_ei ops.EnableInterrupts = true
 is_ei op = false
 
+-- the end of an instruction that came to this outcome
 abbrev pub finished : Op80 → Outcome → Done → Ended
 finished op outcome done = record {
   regs = outcome.regs;
@@ -68,6 +71,7 @@ finished op outcome done = record {
   after_ei = is_ei op;
 }
 
+-- the same, or the request that waits
 abbrev pub finished_by : Op80 → Result (Outcome × Done) Request80 → Result Ended Request80
 finished_by op (Ok x) = Ok (finished op x.0 x.1)
 finished_by op (Err request) = Err request
@@ -76,6 +80,7 @@ finished_by op (Err request) = Err request
 unfoldable pub instruction : Decoded80 → ℕ → Regs80 → Memory → Result Ended Request80
 instruction found first regs memory = finished_by found.op (row found.op (fetched found first regs) memory nothing)
 
+-- the end of an interrupt that took so many clocks, or the request that waits
 abbrev pub entered : ℕ → Result (Regs80 × Done) Request80 → Result Ended Request80
 entered time (Ok x) = Ok (record { regs = x.0; used = x.1.used; writes = x.1.writes; t = time; halted = false; after_ei = false })
 entered time (Err request) = Err request
@@ -109,11 +114,12 @@ abbrev pub Keeps : Step80 → Regs80 → Regs80 → Type 0
 Keeps (steps.Need request) old new = new ≡ old
 Keeps (steps.Done finish) old new = Unit {0}
 
--- it waits only where there are fewer answers, for a shared read or write
+-- it waits only where there are fewer answers
 abbrev pub WaitsBelow : Step80 → ℕ → ℕ → Type 0
 WaitsBelow (steps.Need request) answers limit = answers < limit
 WaitsBelow (steps.Done finish) answers limit = Unit {0}
 
+-- it waits for a shared read or write alone
 abbrev pub WaitsRightly : Step80 → Type 0
 WaitsRightly (steps.Need request) = IsAccess request
 WaitsRightly (steps.Done finish) = Unit {0}

@@ -54,24 +54,27 @@ load_time Displaced Register = 19
 load_time Displaced Immediate = 19
 load_time target source = 10
 
--- an operation of A; INC and DEC; the rotates, shifts, RES and SET of the prefix CB; BIT
+-- an operation of A, by the kind of its operand
 abbrev pub arithmetic_time : Kind → ℕ
 arithmetic_time Register = 4
 arithmetic_time Half = 8
 arithmetic_time Displaced = 19
 arithmetic_time place = 7
 
+-- INC and DEC of 8 bits
 abbrev pub step_time : Kind → ℕ
 step_time Register = 4
 step_time Half = 8
 step_time Displaced = 23
 step_time place = 11
 
+-- the rotates, shifts, RES and SET of the prefix CB
 abbrev pub change_time : Kind → ℕ
 change_time Register = 8
 change_time Displaced = 23
 change_time place = 15
 
+-- BIT
 abbrev pub test_time : Kind → ℕ
 test_time Register = 8
 test_time Displaced = 20
@@ -83,6 +86,7 @@ index_time indexes.Hl = 0
 index_time indexes.Ix = 4
 index_time indexes.Iy = 4
 
+-- the same for a pair that is IX or IY
 abbrev pub pair_time : Pair → ℕ
 pair_time pairs.Ix = 4
 pair_time pairs.Iy = 4
@@ -92,6 +96,7 @@ pair_time pair = 0
 abbrev pub either : Bool → ℕ → ℕ → ℕ
 either taken longer shorter = if taken then longer else shorter
 
+-- the clocks of an instruction, by whether it took the longer of two times
 abbrev pub time_of : Op80 → Bool → ℕ
 time_of (ops.Load target source) taken = load_time (kind_of target) (kind_of source)
 time_of (ops.LoadFromSpecial special) taken = 9
