@@ -1,15 +1,10 @@
 -- The input pins of a chip.
-use Rattle.std.specs.Prelude.{ℕ, ◌==◌, Bool, true, false, refl}
-use Rattle.md_word.specs.declared.pins.Pins68.{Pins68}
+use Rattle.std.specs.Prelude.{ℕ, ◌==◌, Bool, true, false}
 use Rattle.md_word.specs.declared.pins.Pins80.{Pins80}
 use Rattle.bus_shared.specs.Accesses.{main_pins, sub_pins}
 use Rattle.bus_shared.specs.Board.{Board}
 use Rattle.md_machine.specs.declared.pins.Pins.{Pins}
 use Rattle.md_machine.specs.declared.pins.Pins.TheVariants.{Main, Sub}
-
--- no interrupt is asked for
-abbrev pub no_interrupt : Pins68
-no_interrupt = record { level = 0; known = refl }
 
 -- no pin is set
 abbrev pub no_pins : Pins80

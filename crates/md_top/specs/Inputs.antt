@@ -86,10 +86,6 @@ pub record AreInputs (run : Run) (files : Files) (inputs : Inputs) : Type 0 wher
   pub cart : inputs.cart ≡ cart_of run.rom files
   pub recording : Records run.recording files inputs.recording
 
--- the files hold the inputs of a run
-abbrev pub HaveInputs : Run → Files → Type 0
-HaveInputs run files = (inputs : Inputs) × AreInputs run files inputs
-
 -- why the inputs of a run are not there
 abbrev pub InputCause : Type 0 → Run → DepotState → DepotState → Ending → Type 0
 InputCause told run old new RecordingFault = (told → IsAccepted (old.files run.rom)) × RecordingCause told run.recording old new RecordingFault

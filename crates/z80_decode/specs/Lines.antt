@@ -81,10 +81,6 @@ lower_half w = half (lower w)
 abbrev pub halves : ℕ → Bool
 halves w = registers w && (upper_half w || lower_half w)
 
--- HL among dd, ss and qq
-abbrev pub of_hl : ℕ → Bool
-of_hl w = paired w == 2
-
 -- the place that bits 5 to 3 name
 abbrev pub upper_place : Code → Place8
 upper_place c = place_of c.index (upper c.opcode) c.first
