@@ -49,6 +49,11 @@ module _ {Chip Shared Pins : Type 0} (rules : Rules Chip Shared Pins) where
     pub bound_number : (i : ℕ) → i < rules.count → (bound_in bounds i).chip ≡ i
     pub under : (i : ℕ) → i < rules.count → key_lt (key_in chips i) (bound_in bounds i) ≡ false
 
+  -- a chip in the place of another: one that can occur, with the same key
+  pub record IsStandIn (chip_ok : Chip → Type 0) (old new : Chip) : Type 0 where
+    pub key : (rules.next new).key ≡ (rules.next old).key
+    pub ok : chip_ok new
+
   -- what holds of every core
   pub record IsCore (chip_ok : Chip → Type 0) (shared_ok : Shared → Type 0) (v : CoreValue Chip Shared) : Type 0 where
     pub shape : IsShaped v.chips v.bounds

@@ -9,6 +9,7 @@ use crate::{ChipSet, Event};
 use md_word::{Entry, Key};
 use std::marker::Model;
 
+mod parts;
 pub(crate) mod run_least;
 mod steps;
 
