@@ -6,7 +6,6 @@ use Rattle.std.proofs.lemmas.Bool.{le-leb, lt-ltb, le-ltb}
 use Rattle.std.proofs.lemmas.List.Elements.{All-get_or}
 use Rattle.md_word.specs.Coding.{flag_number}
 use Rattle.md_fields.specs.Fields.{AllHold, AreWithin, Field}
-use Rattle.md_fields.specs.Items.{IsRight}
 use Rattle.md_fields.proofs.Items.{none_wrong}
 use Rattle.fm_voice.specs.Channel.{IsLevel}
 use Rattle.fm_chip.specs.Channels.{IsChannel, blank, channel_at}

@@ -1,7 +1,6 @@
 -- A batch of sixteen samples, from any chip and any list of writes. A sample stands every 1,008
 -- cycles of the master clock.
 use Rattle.std.specs.Prelude.{ℕ, zero, suc, ◌+◌, ◌*◌, ℤ, List, map}
-use Rattle.std.specs.Prelude.{Bool, false, nat_lt, [], ◌∷◌}
 use Rattle.std.specs.List.{range_with_len}
 use Rattle.fm_chip.specs.declared.write.FmWrite.{FmWrite}
 use Rattle.stamped_writes.specs.Course as course_of
@@ -19,11 +18,6 @@ written_all ws s = course_of.written_all written ws s
 -- the writes made that come before a cycle
 abbrev pub made_below : ℕ → Synth → List FmWrite → Course
 made_below cycle s ws = course_of.made_below stamp_of written cycle s ws
-
--- whether the first of these writes is stamped below a cycle
-abbrev pub starts_below : ℕ → List FmWrite → Bool
-starts_below cycle [] = false
-starts_below cycle (w ∷ ws) = nat_lt (stamp_of w) cycle
 
 -- the course with the writes made that come before sample number k
 abbrev pub due : ℕ → Course → Course

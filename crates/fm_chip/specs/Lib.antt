@@ -1,6 +1,7 @@
 pub mod Batches
 pub mod Channels
 pub mod History
+pub mod Kept
 pub mod Keys
 pub mod Latches
 pub mod Lfo
@@ -8,6 +9,7 @@ pub mod Operators
 pub mod Port
 pub mod PortSpelling
 pub mod Registers
+pub mod Shapes
 pub mod Stamp
 pub mod Steps
 pub mod Synth

@@ -1,7 +1,6 @@
 -- The steps of the phases of all channels.
-use Rattle.std.specs.Prelude.{◌≡◌, ℕ, ◌^◌, ◌%◌, ◌<◌, true, List, length, All, slice_index_or}
+use Rattle.std.specs.Prelude.{◌≡◌, ℕ, ◌^◌, ◌%◌, ◌<◌, List, length, All, slice_index_or}
 use Rattle.fm_chip.specs.declared.steps.Steps.{Steps}
-use Rattle.fm_chip.specs.declared.steps.KeptSteps.{KeptSteps}
 use Rattle.fm_chip.specs.Registers.{of_channel}
 use Rattle.fm_chip.specs.Operators.{phase_step}
 
@@ -36,8 +35,3 @@ pub record AreSteps (registers : List ℕ) (q : ℕ) (channels : List Steps) : T
   pub six : length channels ≡ 6
   pub each : (c : ℕ) → c < 6 → steps_at channels c ≡ steps_of registers q c
   pub small : All IsSmall channels
-
--- kept steps that are called fresh are those of the registers
-pub record IsFresh (registers : List ℕ) (kept : KeptSteps) : Type 0 where
-  pub six : length kept.channels ≡ 6
-  pub steps : kept.fresh ≡ true → AreSteps registers kept.place kept.channels

@@ -2,12 +2,14 @@ ghost use Rattle.std.specs.Prelude.{◌/◌, ◌≡◌, ◌+◌, ◌*◌, ◌^�
 ghost use Rattle.fm_chip.specs.Channels as meaning;
 ghost use Rattle.fm_chip.specs.Channels.{IsChannel};
 ghost use Rattle.fm_chip.specs.Steps.{IsSmall, steps_of};
+ghost use Rattle.fm_chip.specs.Shapes.{AreInRange, all_enveloped_by, attenuations_by, ready_by, shapes_of};
 ghost use Rattle.fm_voice.specs.Channel.{IsLevel, heard};
 
 use crate::converter::chosen;
 use crate::lfo::tremolo;
 use crate::operator::Operator;
 use crate::registers::{FEEDBACK_ALGORITHM, Registers, SIDES_DEPTHS, of_channel};
+use crate::shapes::Shapes;
 use crate::steps::Steps;
 use fm_voice::channel;
 
@@ -35,17 +37,17 @@ pub struct Moment {
 
 impl Channel {
     /// Makes a tick of all four envelopes.
-    #[tactic(auto, unfolding(crate::specs::Channels::all_enveloped))]
-    fn tick(&mut self, registers: &Registers, counter: u32, number: u32)
+    #[tactic(auto, unfolding(crate::specs::Shapes::all_enveloped_by))]
+    fn tick(&mut self, shapes: &Shapes, counter: u32)
         requires channel { IsChannel self.old }
-        requires number { number < 6 }
-        ensures value { self.new ≡ meaning.all_enveloped registers.now counter number self.old }
+        requires shapes { AreInRange shapes.now }
+        ensures value { self.new ≡ all_enveloped_by shapes.now counter self.old }
         ensures channel { IsChannel self.new }
     {
-        self.one.tick(registers, counter, number, 0);
-        self.two.tick(registers, counter, number, 1);
-        self.three.tick(registers, counter, number, 2);
-        self.four.tick(registers, counter, number, 3);
+        self.one.tick(&shapes.one, counter);
+        self.two.tick(&shapes.two, counter);
+        self.three.tick(&shapes.three, counter);
+        self.four.tick(&shapes.four, counter);
     }
 
     #[tactic(auto, unfolding(crate::specs::Channels::phases))]
@@ -63,26 +65,28 @@ impl Channel {
     }
 
     /// The attenuations of the four operators, with what tremolo adds.
-    #[tactic(auto, unfolding(crate::specs::Channels::attenuations))]
-    fn attenuations(&self, registers: &Registers, tremolo: u32, number: u32) -> [u32; 4]
+    #[tactic(auto, unfolding(crate::specs::Shapes::attenuations_by))]
+    fn attenuations(&self, shapes: &Shapes, tremolo: u32) -> [u32; 4]
         requires channel { IsChannel self.now }
+        requires shapes { AreInRange shapes.now }
         requires tremolo { tremolo < 127 }
-        requires number { number < 6 }
-        ensures value { result ≡ meaning.attenuations registers.now tremolo number self.now }
+        ensures value { result ≡ attenuations_by shapes.now tremolo self.now }
         ensures most { All (λ a. a ≤ 1023) result }
     {
         [
-            self.one.attenuation(registers, tremolo, number, 0),
-            self.two.attenuation(registers, tremolo, number, 1),
-            self.three.attenuation(registers, tremolo, number, 2),
-            self.four.attenuation(registers, tremolo, number, 3),
+            self.one.attenuation(&shapes.one, tremolo),
+            self.two.attenuation(&shapes.two, tremolo),
+            self.three.attenuation(&shapes.three, tremolo),
+            self.four.attenuation(&shapes.four, tremolo),
         ]
     }
 
     /// The level where the oscillator stands at `t`.
-    #[tactic(auto, unfolding(crate::specs::Channels::voice_of, crate::specs::Channels::sounded))]
-    fn sound(&mut self, registers: &Registers, t: u32, number: u32) -> i32
+    #[tactic(auto, using(crate::proofs::Shaped::attenuations_is), unfolding(crate::specs::Channels::voice_of, crate::specs::Channels::sounded))]
+    fn sound(&mut self, registers: &Registers, shapes: &Shapes, t: u32, number: u32) -> i32
         requires channel { IsChannel self.old }
+        requires shapes { shapes.now ≡ shapes_of registers.now number }
+        requires range { AreInRange shapes.now }
         requires t { t < 128 }
         requires number { number < 6 }
         ensures value { result ≡ heard (meaning.voice_of registers.now t number self.old) }
@@ -93,7 +97,7 @@ impl Channel {
         let algorithm = of_channel(registers, number, FEEDBACK_ALGORITHM);
         let depth = of_channel(registers, number, SIDES_DEPTHS) / 16 % 4;
         let phases = self.phases();
-        let attenuations = self.attenuations(registers, tremolo(depth, t), number);
+        let attenuations = self.attenuations(shapes, tremolo(depth, t));
         channel(
             (algorithm % 8) as u8,
             (algorithm / 8 % 8) as u8,
@@ -118,26 +122,27 @@ impl Channel {
     }
 
     /// Makes the envelopes' tick where it is due.
-    #[tactic(auto, unfolding(crate::specs::Channels::ready))]
-    fn make_ready(&mut self, registers: &Registers, moment: &Moment, number: u32)
+    #[tactic(auto, unfolding(crate::specs::Shapes::ready_by))]
+    fn make_ready(&mut self, shapes: &Shapes, moment: &Moment)
         requires channel { IsChannel self.old }
-        requires number { number < 6 }
-        ensures value { self.new ≡ meaning.ready registers.now moment.now number self.old }
+        requires shapes { AreInRange shapes.now }
+        ensures value { self.new ≡ ready_by shapes.now moment.now self.old }
         ensures channel { IsChannel self.new }
     {
         if moment.ticks {
-            self.tick(registers, moment.counter, number);
+            self.tick(shapes, moment.counter);
         }
     }
 
     /// Makes a sample of channel `number`, 0 to 5: the envelopes tick where that is due, it sounds, and
     /// its phases advance by the steps that are due. Returns its level.
-    #[tactic(auto, unfolding(crate::specs::Channels::channel_value, crate::specs::Channels::channel_after, crate::specs::Channels::value))]
+    #[tactic(auto, using(crate::proofs::Shaped::ready_is), unfolding(crate::specs::Channels::channel_value, crate::specs::Channels::channel_after, crate::specs::Channels::value))]
     pub fn sample(
         &mut self,
         registers: &Registers,
         moment: &Moment,
         steps: &Steps,
+        shapes: &Shapes,
         number: u32,
     ) -> i32
         requires channel { IsChannel self.old }
@@ -145,13 +150,15 @@ impl Channel {
         requires number { number < 6 }
         requires steps { steps.now ≡ steps_of registers.now (moment.now.t / 4) number }
         requires small { IsSmall steps.now }
+        requires shapes { shapes.now ≡ shapes_of registers.now number }
+        requires range { AreInRange shapes.now }
         ensures value { result ≡ meaning.channel_value registers.now moment.now number self.old }
         ensures after { self.new ≡ meaning.channel_after registers.now moment.now number self.old }
         ensures level { IsLevel result }
         ensures channel { IsChannel self.new }
     {
-        self.make_ready(registers, moment, number);
-        let level = self.sound(registers, moment.t, number);
+        self.make_ready(shapes, moment);
+        let level = self.sound(registers, shapes, moment.t, number);
         self.advance(steps);
         chosen(registers, number, level)
     }

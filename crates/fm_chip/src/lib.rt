@@ -4,6 +4,7 @@
 mod channels;
 mod converter;
 mod frequency;
+mod kept;
 mod keys;
 mod latch;
 mod lfo;
@@ -16,6 +17,7 @@ mod saved_operator;
 mod saved_port;
 mod saved_synth;
 mod saved_write;
+mod shapes;
 mod steps;
 mod synth;
 mod synth_spelling;

@@ -2,11 +2,12 @@ ghost use Rattle.std.specs.Prelude.{◌/◌, ◌≡◌, ◌+◌, ◌*◌, ◌<�
 ghost use Rattle.fm_chip.specs.Synth as meaning;
 ghost use Rattle.fm_chip.specs.Channels.{IsChannel, channel_at, channel_value, channel_after};
 ghost use Rattle.fm_chip.specs.Steps.{AreSteps};
+ghost use Rattle.fm_chip.specs.Shapes.{AreShapes};
 ghost use Rattle.fm_voice.specs.Channel.{IsLevel, IsWithin};
 
 use crate::channels::{Channel, Moment};
+use crate::kept::Kept;
 use crate::registers::{Registers, SIDES_DEPTHS, of_channel};
-use crate::steps::Steps;
 
 /// What a channel's level adds to the left side.
 #[tactic(auto, unfolding(crate::specs::Synth::left_of))]
@@ -43,20 +44,27 @@ fn sample_one(
     channels: &mut [Channel; 6],
     registers: &Registers,
     moment: &Moment,
-    steps: &[Steps; 6],
+    kept: &Kept,
     number: u32,
 ) -> i32
     requires channels { All IsChannel channels.old }
     requires six { length channels.old ≡ 6 }
     requires t { moment.now.t < 128 }
-    requires steps { AreSteps registers.now (moment.now.t / 4) steps.now }
+    requires steps { AreSteps registers.now (moment.now.t / 4) kept.now.steps }
+    requires shapes { AreShapes registers.now kept.now.shapes }
     requires number { number < 6 }
     ensures value { result ≡ channel_value registers.now moment.now number (channel_at channels.old number) }
     ensures after { channels.new ≡ slice_set channels.old number (channel_after registers.now moment.now number (channel_at channels.old number)) }
     ensures level { IsLevel result }
     ensures channels { All IsChannel channels.new }
 {
-    channels[number as usize].sample(registers, moment, &steps[number as usize], number)
+    channels[number as usize].sample(
+        registers,
+        moment,
+        &kept.steps[number as usize],
+        &kept.shapes[number as usize],
+        number,
+    )
 }
 
 /// Makes a sample of all channels; returns the sums of both sides, each from −49,152 to 49,152.
@@ -64,12 +72,13 @@ pub fn sample_all(
     channels: &mut [Channel; 6],
     registers: &Registers,
     moment: &Moment,
-    steps: &[Steps; 6],
+    kept: &Kept,
 ) -> (i32, i32)
     requires channels { All IsChannel channels.old }
     requires six { length channels.old ≡ 6 }
     requires t { moment.now.t < 128 }
-    requires steps { AreSteps registers.now (moment.now.t / 4) steps.now }
+    requires steps { AreSteps registers.now (moment.now.t / 4) kept.now.steps }
+    requires shapes { AreShapes registers.now kept.now.shapes }
     ensures left { result.0 ≡ meaning.left_below registers.now moment.now channels.old 6 }
     ensures right { result.1 ≡ meaning.right_below registers.now moment.now channels.old 6 }
     ensures left_range { IsWithin 49152 result.0 }
@@ -81,7 +90,7 @@ pub fn sample_all(
     let mut left = 0;
     let mut right = 0;
     for number in 0..6 {
-        let level = sample_one(channels, registers, moment, steps, number);
+        let level = sample_one(channels, registers, moment, kept, number);
         left += left_of(registers, number, level);
         right += right_of(registers, number, level);
     }

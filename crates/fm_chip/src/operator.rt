@@ -1,13 +1,12 @@
 ghost use Rattle.std.specs.Prelude.{◌≡◌, ◌+◌, ◌*◌, ◌^◌, ◌<◌, ◌≤◌};
 ghost use Rattle.fm_chip.specs.Operators as meaning;
 ghost use Rattle.fm_chip.specs.Operators.{IsOperator};
+ghost use Rattle.fm_chip.specs.Shapes.{IsShape, attenuation_by, enveloped_by};
 ghost use Rattle.fm_env.specs.Envelopes.{plain};
 
 use crate::lfo::gain;
-use crate::registers::{
-    DETUNE_MULTIPLE, Registers, TOTAL_LEVEL, TREMOLO_DECAY, frequency, of_operator, rate,
-    sustain_level,
-};
+use crate::registers::{DETUNE_MULTIPLE, Registers, frequency, of_operator};
+use crate::shapes::Shape;
 use fm_env::Envelope;
 use fm_voice::step_of;
 
@@ -48,45 +47,31 @@ impl Operator {
         self.on = envelope.on;
     }
 
-    /// Makes a tick of its envelope; it is this operator, 0 to 3, of this channel.
-    #[tactic(auto, unfolding(crate::specs::Operators::enveloped))]
-    pub fn tick(&mut self, registers: &Registers, counter: u32, channel: u32, operator: u32)
+    /// Makes a tick of its envelope.
+    #[tactic(auto, unfolding(crate::specs::Shapes::enveloped_by))]
+    pub fn tick(&mut self, shape: &Shape, counter: u32)
         requires operator { IsOperator self.old }
-        requires channel { channel < 6 }
-        requires number { operator < 4 }
-        ensures value { self.new ≡ meaning.enveloped registers.now counter channel operator self.old }
+        requires shape { IsShape shape.now }
+        ensures value { self.new ≡ enveloped_by shape.now counter self.old }
         ensures operator { IsOperator self.new }
     {
         let mut envelope = self.envelope();
-        let rate = rate(registers, channel, operator, envelope.stepping_state());
-        let level = sustain_level(registers, channel, operator);
-        envelope.tick(counter, rate, level);
+        let rate = shape.rate(envelope.stepping_state());
+        envelope.tick(counter, rate, u32::from(shape.sustain_level));
         self.keep(&envelope);
     }
 
     /// The attenuation at which it sounds, with what tremolo adds.
-    #[tactic(auto, unfolding(crate::specs::Operators::attenuation))]
-    pub fn attenuation(
-        &self,
-        registers: &Registers,
-        tremolo: u32,
-        channel: u32,
-        operator: u32,
-    ) -> u32
+    #[tactic(auto, unfolding(crate::specs::Shapes::attenuation_by))]
+    pub fn attenuation(&self, shape: &Shape, tremolo: u32) -> u32
         requires operator { IsOperator self.now }
+        requires shape { IsShape shape.now }
         requires tremolo { tremolo < 127 }
-        requires channel { channel < 6 }
-        requires number { operator < 4 }
-        ensures value { result ≡ meaning.attenuation registers.now tremolo channel operator self.now.v }
+        ensures value { result ≡ attenuation_by shape.now tremolo self.now.v }
         ensures most { result ≤ 1023 }
     {
-        let level = 8 * (of_operator(registers, channel, operator, TOTAL_LEVEL) % 128);
-        let extra = if of_operator(registers, channel, operator, TREMOLO_DECAY) >= 128 {
-            tremolo
-        } else {
-            0
-        };
-        (u32::from(self.v) + level + extra).min(1023)
+        let extra = if shape.has_tremolo { tremolo } else { 0 };
+        (u32::from(self.v) + u32::from(shape.total_level) + extra).min(1023)
     }
 
     /// Moves its phase on by a step.

@@ -91,7 +91,7 @@ pub fn frequency(registers: &Registers, channel: u32, operator: u32) -> Frequenc
 
 /// The rate of a register's value, by the key code and the key scale.
 #[tactic(auto, unfolding(crate::specs::Registers::rated))]
-fn rated(value: u32, code: u32, scale: u32) -> u32
+pub fn rated(value: u32, code: u32, scale: u32) -> u32
     requires value { value < 32 }
     requires code { code < 32 }
     requires scale { scale < 4 }
@@ -107,7 +107,7 @@ fn rated(value: u32, code: u32, scale: u32) -> u32
 
 /// The register's value of a state's rate.
 #[tactic(auto, unfolding(crate::specs::Registers::rate_value))]
-fn rate_value(registers: &Registers, channel: u32, operator: u32, state: u8) -> u32
+pub fn rate_value(registers: &Registers, channel: u32, operator: u32, state: u8) -> u32
     requires channel { channel < 6 }
     requires operator { operator < 4 }
     ensures value { result ≡ meaning.rate_value registers.now channel operator state }

@@ -1,6 +1,6 @@
-ghost use Rattle.std.specs.Prelude.{◌≡◌, ◌<◌, length, false};
+ghost use Rattle.std.specs.Prelude.{◌≡◌, ◌<◌, length};
 ghost use Rattle.fm_chip.specs.Steps as meaning;
-ghost use Rattle.fm_chip.specs.Steps.{AreSteps, IsFresh, IsSmall};
+ghost use Rattle.fm_chip.specs.Steps.{AreSteps, IsSmall};
 
 use crate::operator::phase_step;
 use crate::registers::{Registers, SIDES_DEPTHS, of_channel};
@@ -14,53 +14,8 @@ pub struct Steps {
     pub four: u32,
 }
 
-/// The steps of all channels, kept while no register changes and vibrato stands still.
-#[derive(Clone, Copy)]
-pub struct KeptSteps {
-    /// Whether they are those of the registers as these stand.
-    pub fresh: bool,
-    /// Vibrato's place for which they were made, 0 to 31.
-    pub place: u32,
-    pub channels: [Steps; 6],
-}
-
-impl KeptSteps {
-    /// No steps.
-    pub fn none() -> KeptSteps
-        ensures fresh { result.fresh ≡ false }
-        ensures six { length result.channels ≡ 6 }
-    {
-        let none = Steps {
-            one: 0,
-            two: 0,
-            three: 0,
-            four: 0,
-        };
-        KeptSteps {
-            fresh: false,
-            place: 0,
-            channels: [none; 6],
-        }
-    }
-
-    /// Makes the steps for a place of vibrato, 0 to 31, unless they are kept.
-    pub fn renew(&mut self, registers: &Registers, place: u32)
-        requires fresh { IsFresh registers.now self.old }
-        requires place { place < 32 }
-        ensures steps { AreSteps registers.now place self.new.channels }
-        ensures fresh { IsFresh registers.now self.new }
-    {
-        if self.fresh && self.place == place {
-            return;
-        }
-        make_all(&mut self.channels, registers, place);
-        self.place = place;
-        self.fresh = true;
-    }
-}
-
 /// Makes the steps of all channels.
-fn make_all(channels: &mut [Steps; 6], registers: &Registers, place: u32)
+pub fn make_steps(channels: &mut [Steps; 6], registers: &Registers, place: u32)
     requires six { length channels.old ≡ 6 }
     requires place { place < 32 }
     ensures { AreSteps registers.now place channels.new }

@@ -1,19 +1,18 @@
 ghost use Rattle.std.specs.Prelude.{◌≡◌, ◌+◌, ◌*◌, ◌^◌, ◌<◌, ◌≤◌, List, [], ◌∷◌, length, All};
 ghost use Rattle.fm_chip.specs.Synth as meaning;
 ghost use Rattle.fm_chip.specs.Synth.{IsSides, IsSynth, at_power_on, written, sides, sampled};
-ghost use Rattle.fm_chip.specs.Batches.{after_batch, made_below, samples, starts_below, written_all};
-ghost use Rattle.fm_chip.specs.Steps.{IsFresh};
+ghost use Rattle.fm_chip.specs.Batches.{after_batch, made_below, samples, written_all};
 ghost use Rattle.fm_chip.specs.History.{Continues, IsNextBatch, chip_before};
 ghost use Rattle.fm_chip.specs.declared.write.FmWrite.{FmWrite as Write};
 
 use crate::channels::{Channel, Moment};
+use crate::kept::Kept;
 use crate::keys::{keyed_channel, press};
 use crate::latch::{own_latch, taken_latch};
 use crate::lfo::Lfo;
 use crate::mixing::sample_all;
 use crate::operator::Operator;
 use crate::registers::Registers;
-use crate::steps::KeptSteps;
 use crate::write::{FmList, FmWrite, RESET};
 use fm_env::RELEASE;
 use std::marker::Model;
@@ -37,10 +36,13 @@ pub struct FmSynth {
     pub(crate) lfo: Lfo,
     pub(crate) counter: u32,
     pub(crate) channels: [Channel; 6],
+    /// What the registers say of the channels, as far as it is kept.
+    pub(crate) kept: Kept,
 }
 
 impl Model for FmSynth {
     ghost use Rattle.fm_chip.specs.Synth.{Synth, IsSynth};
+    ghost use Rattle.fm_chip.specs.Kept.{IsFresh};
 
     ghost Value = { Synth };
 
@@ -52,7 +54,7 @@ impl Model for FmSynth {
       lfo = s.lfo;
       counter = s.counter;
       channels = s.channels;
-    }) };
+    }) × IsFresh s.registers s.kept };
 }
 
 impl FmSynth {
@@ -82,6 +84,7 @@ impl FmSynth {
             lfo: Lfo { t: 0, count: 0 },
             counter: 0,
             channels: [channel; 6],
+            kept: Kept::none(),
         }
     }
 
@@ -105,34 +108,14 @@ impl FmSynth {
             → IsNextBatch history list.now.items first self.new out.new }
     {
         let mut rest = list.as_slice();
-        let mut kept = KeptSteps::none();
         for k in 0..16 {
             let number = first + k as u64;
-            rest = self.write_due(SAMPLE * number, rest, &mut kept);
-            out[k] = self.sample(number, &mut kept);
+            rest = self.write_below(SAMPLE * number, rest);
+            out[k] = self.sample(number);
         }
         self.write_all(rest);
         // Opens the chip for its proof: that the registers are in their ranges.
         let _ = &self.counter;
-    }
-
-    /// Makes the writes that come before a cycle, where there are any; then no steps are kept. Returns
-    /// those that are still to come.
-    fn write_due<'a>(
-        &mut self,
-        cycle: u64,
-        writes: &'a [FmWrite],
-        kept: &mut KeptSteps,
-    ) -> &'a [FmWrite]
-        requires { IsFresh self.old.registers kept.old }
-        ensures made { record { chip = self.new; rest = result.now } ≡ made_below cycle self.old writes.now }
-        ensures fresh { IsFresh self.new.registers kept.new }
-    {
-        if !starts_below(writes, cycle) {
-            return writes;
-        }
-        kept.fresh = false;
-        self.write_below(cycle, writes)
     }
 
     /// Makes the writes up to the first that is stamped `cycle` or later. Returns those that are
@@ -162,12 +145,10 @@ impl FmSynth {
 
     /// Makes sample number `k`: the sums of the left and the right side.
     #[tactic(auto, unfolding(crate::specs::Synth::moment, crate::specs::Synth::counted, crate::specs::Synth::sides, crate::specs::Synth::sampled))]
-    fn sample(&mut self, k: u64, kept: &mut KeptSteps) -> (i32, i32)
-        requires { IsFresh self.old.registers kept.old }
+    fn sample(&mut self, k: u64) -> (i32, i32)
         ensures sides { result ≡ sides k self.old }
         ensures range { IsSides result }
         ensures after { self.new ≡ sampled k self.old }
-        ensures fresh { IsFresh self.new.registers kept.new }
     {
         self.lfo.step(self.registers[OSCILLATOR]);
         let ticks = k % 3 == 0;
@@ -179,8 +160,8 @@ impl FmSynth {
             counter: self.counter,
             t: self.lfo.t,
         };
-        kept.renew(&self.registers, self.lfo.t / 4);
-        sample_all(&mut self.channels, &self.registers, &moment, &kept.channels)
+        self.kept.renew(&self.registers, self.lfo.t / 4);
+        sample_all(&mut self.channels, &self.registers, &moment, &self.kept)
     }
 
     /// Makes a write: a reset, a byte for a latch, or one for another register.
@@ -213,6 +194,7 @@ impl FmSynth {
         requires { place < 512 }
         ensures { self.new ≡ meaning.with_register place value self.old }
     {
+        self.kept.forget(place);
         self.registers[place] = value;
     }
 
@@ -249,15 +231,5 @@ impl FmSynth {
         if let Some(c) = keyed_channel(value) {
             press(&mut self.channels, &self.registers, value, c);
         }
-    }
-}
-
-/// Whether the first of these writes is stamped below a cycle.
-fn starts_below(writes: &[FmWrite], cycle: u64) -> bool
-    ensures { result ≡ starts_below cycle writes.now }
-{
-    match writes {
-        [] => false,
-        [write, ..] => write.key.cycle < cycle,
     }
 }

@@ -3,6 +3,7 @@ ghost use Rattle.md_fields.specs.Items.{IsRight, Keeps};
 ghost use Rattle.fm_chip.specs.Synth.{IsSynth, Synth};
 ghost use Rattle.fm_chip.specs.SynthSpelling.{SpellsSynth, SynthGoesWrongAt, saved_synth, synth_bytes, synth_fields, synth_from};
 
+use crate::kept::Kept;
 use crate::lfo::Lfo;
 use crate::saved_operator::SavedFour;
 use crate::saved_synth::{SavedLast, SavedSynth};
@@ -85,6 +86,7 @@ fn synth_of(saved: &SavedSynth) -> FmSynth
         },
         counter: u32::from(saved.counter),
         channels: saved.channels(),
+        kept: Kept::none(),
     }
 }
 

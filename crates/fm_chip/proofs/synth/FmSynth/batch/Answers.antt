@@ -1,4 +1,4 @@
-use Rattle.std.proofs.Common.{sym, true, false, ◌≡◌, ◌≢◌, ◌∙◌, rules, arith, ap, ◌<◌, pos, length, get_or-set_other, get_or-set_same, below_more}
+use Rattle.std.proofs.Common.{◌≡◌, ◌≢◌, ◌∙◌, rules, arith, ap, ◌<◌, pos, length, get_or-set_other, get_or-set_same, below_more}
 use Rattle.std.proofs.lemmas.List.Elements.{All-from_get_or}
 use Rattle.std.proofs.lemmas.List.FromFn.{fill_by_all}
 use Rattle.fm_chip.specs.Synth.{IsSides}
@@ -7,13 +7,9 @@ use Rattle.fm_chip.proofs.Courses.{course-first, course-more, sample-is, after_b
 use Rattle.fm_chip.proofs.Histories.{IsNextBatch-is}
 use Rattle.fm_chip.proofs.synth.FmSynth.batch.Goals as goal
 
-false-is-not-true : false ≡ true → ⊥
-false-is-not-true h = cc
-
 pub loop-k-init : goal.loop-k-init
 loop-k-init c = record {
   course = course-first c.args.first c.args.self.now c.args.list.now.items _ c.as_slice-rest.ensures.value;
-  fresh = record { six = c.none-kept.ensures.six; steps = λ yes. absurd (false-is-not-true (sym c.none-kept.ensures.fresh ∙ yes)) };
   sixteen = search rules;
   samples = λ j h. absurd (omega arith);
   range = λ j h. absurd (omega arith);
@@ -25,15 +21,14 @@ loop-k-preserved c =
     let s = c.args.self.now in
     let ws = c.args.list.now.items in
     let k = c.loop-k.k in
-    let now : Course = record { chip = c.write_due-rest.new.self; rest = c.write_due-rest.result.now } in
+    let now : Course = record { chip = c.write_below-rest.new.self; rest = c.write_below-rest.result.now } in
     let room : k < length c.loop-k.out = omega (arith, c.loop-k.invariant.sixteen) in
     record {
-      course = course-more first s ws k _ _ now c.loop-k.invariant.course c.write_due-rest.ensures.made c.sample.ensures.after;
-      fresh = c.sample.ensures.fresh;
+      course = course-more first s ws k _ _ now c.loop-k.invariant.course c.write_below-rest.ensures c.sample.ensures.after;
       sixteen = search rules;
       samples = below_more _ _
           (λ j h. let ne : j ≢ k = omega arith in rw get_or-set_other (c.loop-k.invariant.samples j h))
-          (rw get_or-set_same (sample-is first s ws k _ now _ c.loop-k.invariant.course c.write_due-rest.ensures.made c.sample.ensures.sides));
+          (rw get_or-set_same (sample-is first s ws k _ now _ c.loop-k.invariant.course c.write_below-rest.ensures c.sample.ensures.sides));
       range = below_more _ _
           (λ j h. let ne : j ≢ k = omega arith in rw get_or-set_other (c.loop-k.invariant.range j h))
           (rw get_or-set_same c.sample.ensures.range);

@@ -1,6 +1,6 @@
 use Rattle.std.proofs.Common.{◌≡◌, ◌<◌, ℕ, length}
 use Rattle.fm_chip.specs.Steps.{IsSmall, steps_at, steps_of}
-use Rattle.fm_chip.proofs.steps.make_all.Given as goal
+use Rattle.fm_chip.proofs.steps.make_steps.Given as goal
 
 abbrev pub invariant-loop-number : goal.invariant-loop-number
 invariant-loop-number l = record {
