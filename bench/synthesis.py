@@ -4,9 +4,11 @@
     bench/synthesis.py [BATCHES]
 
 In a temporary folder it makes a repository of `fm_chip`, the crates below it and a program over them, and
-has `rt run` build that as LLVM builds any program here; what `rt ci` has proved on this machine is not
-proved again. The program makes BATCHES batches of sixteen samples, 200,000 if not given, of a chord on all
-six channels in different algorithms, all four operators of each with their key on and rates that are not 0:
+has `rt run` build that as LLVM builds any program here. That takes a minute where `rt ci` has run, some
+more where these crates are to be proved first, and up to 1 GB of disk.
+
+The program makes BATCHES batches of sixteen samples, 200,000 if not given, of a chord on all six channels
+in different algorithms, all four operators of each with their key on and rates that are not 0:
 
     chord      the low frequency oscillator off, and no write after the chord's
     vibrato    the oscillator at its fastest, with tremolo and vibrato of all channels
@@ -159,6 +161,8 @@ def main():
     batches = int(sys.argv[1]) if len(sys.argv) > 1 else 200_000
     if shutil.which("rt") is None:
         sys.exit("`rt`, the command of Rattle's toolchain, is not on the PATH")
+    if not (TOP / "crates" / "fm_chip" / "out").exists():
+        print("fm_chip is not proved here: `rt ci` has not run, and its proofs come first", flush=True)
     with tempfile.TemporaryDirectory() as name:
         program = build(pathlib.Path(name))
         for row, oscillator, register in ROWS:
