@@ -1,0 +1,59 @@
+-- What the decoder gives has its MOVEM of words or longs, with a list of 16 bits.
+use Rattle.std.proofs.Common.{◌≢◌, ℕ, ◌+◌, ◌*◌, ◌/◌, ◌<◌, ◌==◌, Bool, true, false, List, [], ◌∷◌, arith}
+use Rattle.std.specs.Prelude.{if◌then◌else◌, slice_index}
+use Rattle.md_word.specs.Fields.{bit_of}
+use Rattle.md_word.specs.declared.size.Size.TheVariants.{Byte, Word, Long}
+use Rattle.m68k_decode.specs.Fields.{number_at, opcode, word_or_long}
+use Rattle.m68k_decode.specs.Instructions.{chosen, decoded, made, unmatched}
+use Rattle.m68k_decode.specs.Lines.{rows_of}
+use Rattle.m68k_decode.specs.Rows.{Row, MovemToMemory, MovemToRegisters}
+use Rattle.m68k_decode.specs.declared.decoded.Decoded.{Decoded}
+use Rattle.m68k_exec.specs.Access.Memory.{Memory, byte_at, instruction_word, instruction_words, word_at}
+use Rattle.m68k_exec.specs.Sample.Bounds.{Fits}
+use Rattle.m68k_laws.specs.Footprints.{IsMovable}
+
+no_byte : (long : Bool) → (if long then Long else Word) ≢ Byte
+no_byte true e = cc
+no_byte false e = cc
+
+larger : (words : List ℕ) → word_or_long 64 words ≢ Byte
+unfolding word_or_long
+larger words = no_byte (bit_of (opcode words) 64)
+
+second : (words : List ℕ) → slice_index words 1 < 65536 → number_at Word 1 words < 65536
+unfolding number_at
+second words h = h
+
+made_movable : (row : Row) (words : List ℕ) → slice_index words 1 < 65536 → IsMovable (made row words).op
+unfolding made
+made_movable MovemToMemory words h = (larger words, second words h)
+made_movable MovemToRegisters words h = (larger words, second words h)
+made_movable row words h = tt
+
+either : (test : Bool) (one other : Decoded) → IsMovable one.op → IsMovable other.op → IsMovable (if test then one else other).op
+either true one other h k = h
+either false one other h k = k
+
+none_movable : (words : List ℕ) → IsMovable (unmatched words).op
+unfolding unmatched
+none_movable words = either (opcode words / 4096 == 10) _ _ tt (either (opcode words / 4096 == 15) _ _ tt tt)
+
+chosen_movable : (found : List Row) (words : List ℕ) → slice_index words 1 < 65536 → IsMovable (chosen found words).op
+chosen_movable [] words h = none_movable words
+chosen_movable (row ∷ more) words h = made_movable row words h
+
+decoded_movable : (words : List ℕ) → slice_index words 1 < 65536 → IsMovable (decoded words).op
+unfolding decoded
+decoded_movable words h = chosen_movable (rows_of (opcode words)) words h
+
+-- a word of bytes
+word_small : (test one other : Bool) (memory : Memory) (at next : ℕ) → Fits memory → (if test then byte_at memory.rom memory.ram at * 0x100 + byte_at memory.rom memory.ram next else 0xffff) < 65536
+unfolding byte_at
+word_small test one other memory at next fits = grind (arith, fits.rom, fits.ram)
+
+second_small : (memory : Memory) (address : ℕ) → Fits memory → slice_index (instruction_words address memory) 1 < 65536
+unfolding instruction_words instruction_word word_at
+second_small memory address fits = word_small _ true true memory _ _ fits
+
+pub movable_at : (memory : Memory) (address : ℕ) → Fits memory → IsMovable (decoded (instruction_words address memory)).op
+movable_at memory address fits = decoded_movable (instruction_words address memory) (second_small memory address fits)

@@ -1,0 +1,45 @@
+-- An instruction that has done nothing yet follows its footprint.
+use Rattle.std.proofs.Common.{◌≡◌, ℕ, Bool, List, length, Result, Ok, Err, subst, arith}
+use Rattle.md_word.specs.declared.main_bus.Request68.{Request68}
+use Rattle.md_word.specs.declared.regs.Regs.{Regs}
+use Rattle.m68k_decode.specs.declared.op.Op.{Op}
+use Rattle.m68k_exec.specs.Access.Actions.{Done}
+use Rattle.m68k_exec.specs.Access.Memory.{Memory}
+use Rattle.m68k_exec.specs.Access.Outcomes.{Outcome}
+use Rattle.m68k_exec.specs.Sample.Execution as execution
+use Rattle.m68k_exec.specs.Sample.Samples.{nothing}
+use Rattle.m68k_exec.specs.declared.access.stop.Stop.{Stop}
+use Rattle.m68k_exec.specs.declared.access.stop.Stop.TheVariants.{Ask, Odd}
+use Rattle.m68k_laws.proofs.Follows.{Along, Asks, Ends, Stands}
+use Rattle.m68k_laws.proofs.Rows.{row}
+use Rattle.m68k_laws.specs.Accesses.{Access, words}
+use Rattle.m68k_laws.specs.Footprints.{IsMovable, footprint}
+use Rattle.m68k_laws.specs.Laws.{Completes, Faults, InstructionsFollowFootprints, Waits}
+
+-- counted from the start
+pub waited : (list : List Access) (count : ℕ) (request : Request68) → Asks list count 0 request → Waits list count request
+waited list count request h =
+    let whole : h.taken ≡ count = omega (arith, h.used) in subst (λ taken. Waits list taken request) whole h.waits
+
+pub completed : (list : List Access) (count after : ℕ) → Ends list count 0 after → Completes list after
+completed list count after h =
+    let whole : h.taken ≡ after = omega (arith, h.used) in subst (λ taken. Completes list taken) whole h.completes
+
+pub faulted : (list : List Access) (count after address : ℕ) (read : Bool) → Stands list count 0 after address read → Faults list after address read
+faulted list count after address read h =
+    let whole : h.taken ≡ after = omega (arith, h.used) in subst (λ taken. Faults list taken address read) whole h.faults
+
+-- what a row comes to
+pub along : (op : Op) (start : ℕ) (regs : Regs) (memory : Memory) → IsMovable op → Along (words (footprint op start regs)) (length memory.answers) 0 (execution.row op start regs memory nothing)
+along op start regs memory movable = (row op start regs movable).along memory nothing (omega arith)
+
+found : (op : Op) (start : ℕ) (regs : Regs) (memory : Memory) (result : Result (Outcome × Done) Stop) → IsMovable op → execution.row op start regs memory nothing ≡ result → Along (words (footprint op start regs)) (length memory.answers) 0 result
+found op start regs memory result movable e =
+    subst (λ result. Along (words (footprint op start regs)) (length memory.answers) 0 result) e (along op start regs memory movable)
+
+pub instructions : InstructionsFollowFootprints
+instructions = record {
+  waits = λ op start regs memory request movable e. waited _ _ request (found op start regs memory (Err (Ask request)) movable e);
+  completes = λ op start regs memory outcome after movable e. completed _ (length memory.answers) _ (found op start regs memory (Ok (outcome, after)) movable e);
+  faults = λ op start regs memory address read used movable e. faulted _ (length memory.answers) _ address read (found op start regs memory (Err (Odd address read used)) movable e);
+}
