@@ -10,7 +10,7 @@ use Rattle.m68k_decode.specs.Rows.{Row, MovemToMemory, MovemToRegisters}
 use Rattle.m68k_decode.specs.declared.decoded.Decoded.{Decoded}
 use Rattle.m68k_exec.specs.Access.Memory.{Memory, byte_at, instruction_word, instruction_words, word_at}
 use Rattle.m68k_exec.specs.Sample.Bounds.{Fits}
-use Rattle.m68k_laws.specs.Footprints.{IsMovable}
+use Rattle.m68k_laws.specs.Footprints.{MovesWords}
 
 no_byte : (long : Bool) → (if long then Long else Word) ≢ Byte
 no_byte true e = cc
@@ -24,36 +24,36 @@ second : (words : List ℕ) → slice_index words 1 < 65536 → number_at Word 1
 unfolding number_at
 second words h = h
 
-made_movable : (row : Row) (words : List ℕ) → slice_index words 1 < 65536 → IsMovable (made row words).op
+made_words : (row : Row) (words : List ℕ) → slice_index words 1 < 65536 → MovesWords (made row words).op
 unfolding made
-made_movable MovemToMemory words h = (larger words, second words h)
-made_movable MovemToRegisters words h = (larger words, second words h)
-made_movable row words h = tt
+made_words MovemToMemory words h = (larger words, second words h)
+made_words MovemToRegisters words h = (larger words, second words h)
+made_words row words h = tt
 
-either : (test : Bool) (one other : Decoded) → IsMovable one.op → IsMovable other.op → IsMovable (if test then one else other).op
+either : (test : Bool) (one other : Decoded) → MovesWords one.op → MovesWords other.op → MovesWords (if test then one else other).op
 either true one other h k = h
 either false one other h k = k
 
-none_movable : (words : List ℕ) → IsMovable (unmatched words).op
+none_words : (words : List ℕ) → MovesWords (unmatched words).op
 unfolding unmatched
-none_movable words = either (opcode words / 4096 == 10) _ _ tt (either (opcode words / 4096 == 15) _ _ tt tt)
+none_words words = either (opcode words / 4096 == 10) _ _ tt (either (opcode words / 4096 == 15) _ _ tt tt)
 
-chosen_movable : (found : List Row) (words : List ℕ) → slice_index words 1 < 65536 → IsMovable (chosen found words).op
-chosen_movable [] words h = none_movable words
-chosen_movable (row ∷ more) words h = made_movable row words h
+chosen_words : (found : List Row) (words : List ℕ) → slice_index words 1 < 65536 → MovesWords (chosen found words).op
+chosen_words [] words h = none_words words
+chosen_words (row ∷ more) words h = made_words row words h
 
-decoded_movable : (words : List ℕ) → slice_index words 1 < 65536 → IsMovable (decoded words).op
+pub decoded_words : (words : List ℕ) → slice_index words 1 < 65536 → MovesWords (decoded words).op
 unfolding decoded
-decoded_movable words h = chosen_movable (rows_of (opcode words)) words h
+decoded_words words h = chosen_words (rows_of (opcode words)) words h
 
 -- a word of bytes
-word_small : (test one other : Bool) (memory : Memory) (at next : ℕ) → Fits memory → (if test then byte_at memory.rom memory.ram at * 0x100 + byte_at memory.rom memory.ram next else 0xffff) < 65536
+word_small : (test : Bool) (memory : Memory) (at next : ℕ) → Fits memory → (if test then byte_at memory.rom memory.ram at * 0x100 + byte_at memory.rom memory.ram next else 0xffff) < 65536
 unfolding byte_at
-word_small test one other memory at next fits = grind (arith, fits.rom, fits.ram)
+word_small test memory at next fits = grind (arith, fits.rom, fits.ram)
 
 second_small : (memory : Memory) (address : ℕ) → Fits memory → slice_index (instruction_words address memory) 1 < 65536
 unfolding instruction_words instruction_word word_at
-second_small memory address fits = word_small _ true true memory _ _ fits
+second_small memory address fits = word_small _ memory _ _ fits
 
-pub movable_at : (memory : Memory) (address : ℕ) → Fits memory → IsMovable (decoded (instruction_words address memory)).op
-movable_at memory address fits = decoded_movable (instruction_words address memory) (second_small memory address fits)
+pub words_known : (memory : Memory) (address : ℕ) → Fits memory → MovesWords (decoded (instruction_words address memory)).op
+words_known memory address fits = decoded_words (instruction_words address memory) (second_small memory address fits)

@@ -41,8 +41,6 @@ Along list count used (Err (Odd address read after)) = Stands list count used af
 pub record Follows {A : Type 0} (list : List Access) (act : Act A) : Type 0 where
   pub along : (memory : Memory) (before : Done) → before.used ≤ length memory.answers → Along (words list) (length memory.answers) before.used (act memory before)
 
--- LISTS JOINED
-
 shared_joined : (u v : List Access) → length (shared (u ++ v)) ≡ length (shared u) + length (shared v)
 shared_joined u v = ap length (filter-append _ u v) ∙ length-append (shared u) (shared v)
 
@@ -143,8 +141,6 @@ went_on u v count used middle (Err (Odd address read after)) first h = record {
   };
 }
 
--- ONE ACTION AFTER ANOTHER
-
 joined : {A B : Type 0} (u v : List Access) (count used : ℕ) (first : Result (A × Done) Stop) (next : A → Done → Result (B × Done) Stop) → Along u count used first → ((x : A) (middle : Done) → middle.used ≤ count → Along v count middle.used (next x middle)) → Along (u ++ v) count used (go_on first next)
 joined {A} {B} u v count used (Ok x) next h k = went_on u v count used x.1.used (next x.0 x.1) h (k x.0 x.1 h.enough)
 joined {A} {B} u v count used (Err stop) next h k = stopped A B u v count used stop h
@@ -177,8 +173,6 @@ through list act f next h = record {
 pub choice : {A : Type 0} (list : List Access) (test : Bool) (one other : Act A) → Follows list one → Follows list other → Follows list (λ memory done. if test then one memory done else other memory done)
 choice list true one other h k = h
 choice list false one other h k = k
-
--- NOTHING, AND ONE ACCESS
 
 -- nothing is accessed, and no answer taken
 pub none : {A : Type 0} (f : Memory → Done → A) (g : Done → Done) → ((done : Done) → (g done).used ≡ done.used) → Follows [] (λ memory done. Ok (f memory done, g done))

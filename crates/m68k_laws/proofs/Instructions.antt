@@ -10,10 +10,11 @@ use Rattle.m68k_exec.specs.Sample.Execution as execution
 use Rattle.m68k_exec.specs.Sample.Samples.{nothing}
 use Rattle.m68k_exec.specs.declared.access.stop.Stop.{Stop}
 use Rattle.m68k_exec.specs.declared.access.stop.Stop.TheVariants.{Ask, Odd}
+use Rattle.m68k_laws.proofs.Decoding.{decoded_words}
 use Rattle.m68k_laws.proofs.Follows.{Along, Asks, Ends, Stands}
 use Rattle.m68k_laws.proofs.Rows.{row}
 use Rattle.m68k_laws.specs.Accesses.{Access, words}
-use Rattle.m68k_laws.specs.Footprints.{IsMovable, footprint}
+use Rattle.m68k_laws.specs.Footprints.{MovesWords, footprint}
 use Rattle.m68k_laws.specs.Laws.{Completes, Faults, InstructionsFollowFootprints, Waits}
 
 -- counted from the start
@@ -30,16 +31,17 @@ faulted list count after address read h =
     let whole : h.taken ≡ after = omega (arith, h.used) in subst (λ taken. Faults list taken address read) whole h.faults
 
 -- what a row comes to
-pub along : (op : Op) (start : ℕ) (regs : Regs) (memory : Memory) → IsMovable op → Along (words (footprint op start regs)) (length memory.answers) 0 (execution.row op start regs memory nothing)
-along op start regs memory movable = (row op start regs movable).along memory nothing (omega arith)
+pub along : (op : Op) (start : ℕ) (regs : Regs) (memory : Memory) → MovesWords op → Along (words (footprint op start regs)) (length memory.answers) 0 (execution.row op start regs memory nothing)
+along op start regs memory moves = (row op start regs moves).along memory nothing (omega arith)
 
-found : (op : Op) (start : ℕ) (regs : Regs) (memory : Memory) (result : Result (Outcome × Done) Stop) → IsMovable op → execution.row op start regs memory nothing ≡ result → Along (words (footprint op start regs)) (length memory.answers) 0 result
-found op start regs memory result movable e =
-    subst (λ result. Along (words (footprint op start regs)) (length memory.answers) 0 result) e (along op start regs memory movable)
+found : (op : Op) (start : ℕ) (regs : Regs) (memory : Memory) (result : Result (Outcome × Done) Stop) → MovesWords op → execution.row op start regs memory nothing ≡ result → Along (words (footprint op start regs)) (length memory.answers) 0 result
+found op start regs memory result moves e =
+    subst (λ result. Along (words (footprint op start regs)) (length memory.answers) 0 result) e (along op start regs memory moves)
 
 pub instructions : InstructionsFollowFootprints
 instructions = record {
-  waits = λ op start regs memory request movable e. waited _ _ request (found op start regs memory (Err (Ask request)) movable e);
-  completes = λ op start regs memory outcome after movable e. completed _ (length memory.answers) _ (found op start regs memory (Ok (outcome, after)) movable e);
-  faults = λ op start regs memory address read used movable e. faulted _ (length memory.answers) _ address read (found op start regs memory (Err (Odd address read used)) movable e);
+  decodes = decoded_words;
+  waits = λ op start regs memory request moves e. waited _ _ request (found op start regs memory (Err (Ask request)) moves e);
+  completes = λ op start regs memory outcome after moves e. completed _ (length memory.answers) _ (found op start regs memory (Ok (outcome, after)) moves e);
+  faults = λ op start regs memory address read used moves e. faulted _ (length memory.answers) _ address read (found op start regs memory (Err (Odd address read used)) moves e);
 }

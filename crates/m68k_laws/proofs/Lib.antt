@@ -1,5 +1,8 @@
+pub mod Causes
 pub mod Decoding
+pub mod Exceptions
 pub mod Follows
+pub mod Frames
 pub mod Instructions
 pub mod Lists
 pub mod Operands

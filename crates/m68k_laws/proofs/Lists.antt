@@ -25,8 +25,6 @@ use Rattle.m68k_laws.proofs.Single.{read, split, write}
 use Rattle.m68k_laws.specs.Accesses.{Kind, Read, Write, is_read, one}
 use Rattle.m68k_laws.specs.Footprints.{above, ascending, below, descending, footprint, stores}
 
--- A LIST HAS AS MANY PLACES AS IT HAS BITS
-
 chosen_length : (test : Bool) (n : ℕ) (rest : List ℕ) → length (if test then n ∷ rest else rest) ≡ bit test + length rest
 chosen_length true n rest = omega arith
 chosen_length false n rest = omega arith
@@ -61,8 +59,6 @@ empty_list (suc count) list n h e =
     let found = no_places (list % 2 == 1) n (movem.places count (list / 2) (n + 1)) (list / 2) e (empty_list count (list / 2) (n + 1) (halved count list h)) in
     low_bit list found.0 found.1
 
--- WORDS AND LONGS
-
 step_is : (size : Size) → size ≢ Byte → movem.step_of size ≡ bytes_of size
 step_is Byte h = absurd (h refl)
 step_is Word h = refl
@@ -80,8 +76,6 @@ below_odd : (size : Size) (at : ℕ) → size ≢ Byte → actions.is_odd at ≡
 below_odd Byte at h e = absurd (h refl)
 below_odd Word at h e = odd_below at 2 refl (omega arith) e
 below_odd Long at h e = odd_below at 4 refl (omega arith) e
-
--- REGISTERS ONE AFTER ANOTHER
 
 rising : (size : Size) (places : List ℕ) (at : ℕ) (regs : Regs) → size ≢ Byte → Follows (ascending (length places) Write size at) (movem.store_each Rising size places at regs)
 rising size [] at regs h = give at
@@ -126,8 +120,6 @@ empty_ascending kind size list at e = rw (none_counted list e) refl
 empty_descending : (kind : Kind) (size : Size) (list at : ℕ) → (list == 0) ≡ true → [] ≡ descending (count_ones list) kind size at
 empty_descending kind size list at e = rw (none_counted list e) refl
 
--- THE LIST OF REGISTERS
-
 store_rising : (size : Size) (list at : ℕ) (regs : Regs) → size ≢ Byte → list < 65536 → Follows (ascending (count_ones list) Write size at) (movem.store_list Rising size list at regs)
 unfolding movem.store_list
 store_rising size list at regs h few =
@@ -151,8 +143,6 @@ load_list size list at regs h few =
     (λ none. same _ _ _ (empty_ascending Read size list at none) (give _))
     (λ some. same _ _ _ (ap (λ count. ascending count Read size at) (places_counted 16 list 0 few))
     (split _ (actions.is_odd at) _ _ (λ odd. first_odd Read size list at _ refl few some h odd) (λ even. loading size (movem.places_in list) at regs h)))
-
--- MOVEM
 
 pub movem_to_memory : (size : Size) (list : ℕ) (mode : Mode) (start : ℕ) (regs : Regs) → size ≢ Byte → list < 65536 → Follows (stores size list mode (above start 4) regs) (movem.movem_to_memory size list mode start regs)
 unfolding movem.movem_to_memory

@@ -39,7 +39,7 @@ use Rattle.m68k_laws.proofs.Operands.{after_load, after_pull, change_operand, ch
 use Rattle.m68k_laws.proofs.Single.{read_byte, write_byte}
 use Rattle.m68k_laws.specs.Accesses.{Access, Kind, Read, Write, one}
 use Rattle.m68k_laws.specs.Footprints as footprints
-use Rattle.m68k_laws.specs.Footprints.{IsMovable, above, alternate, changes, footprint, operand, pulls, pushes, reads, writes}
+use Rattle.m68k_laws.specs.Footprints.{MovesWords, above, alternate, changes, footprint, operand, pulls, pushes, reads, writes}
 
 -- bits: in memory one of a byte
 sized : (kind : Kind) (mode : Mode) (pc : ℕ) (regs : Regs) → operand kind (bits.bit_size mode) mode pc regs ≡ operand kind Byte mode pc regs
@@ -293,7 +293,7 @@ unfolding arithmetic.shift_memory
 shift_memory operation mode start regs = change_operand operation Word 1 mode _ regs
 
 -- every instruction
-pub row : (op : Op) (start : ℕ) (regs : Regs) → IsMovable op → Follows (footprint op start regs) (execution.row op start regs)
+pub row : (op : Op) (start : ℕ) (regs : Regs) → MovesWords op → Follows (footprint op start regs) (execution.row op start regs)
 row (ops.Immediate operation size number mode) start regs h = immediate operation size number mode start regs
 row (ops.CompareImmediate size number mode) start regs h = compare_immediate size number mode start regs
 row (ops.BitByRegister operation n mode) start regs h = bit_by_register operation n mode start regs

@@ -1,49 +1,58 @@
--- A sample follows the footprint of its instruction.
-use Rattle.std.proofs.Common.{◌≡◌, ◌≢◌, ℕ, ◌+◌, ◌%◌, ◌^◌, ◌<◌, ◌≤◌, ◌==◌, ◌∙◌, ◌⊎◌, Bool, true, false, List, [], ◌∷◌, ◌++◌, All, length, Option, Some, None, Result, Ok, Err, refl, ap, sym, subst, arith, inl, inr}
-use Rattle.std.specs.Prelude.{IsTrue}
+-- A sample of the instruction at an even program counter follows its footprint, and the frame of an
+-- exception in which it ends.
+use Rattle.std.proofs.Common.{◌≡◌, ◌≢◌, ℕ, ◌%◌, ◌<◌, ◌==◌, ◌∙◌, ◌⊎◌, Bool, true, false, List, [], ◌∷◌, ◌++◌, All, length, Result, Ok, Err, refl, ap, sym, subst, arith, inl, inr}
+use Rattle.std.specs.Prelude.{IsFalse, IsTrue}
 use Rattle.std.proofs.lemmas.Bool.Decides.{nat_tests}
 use Rattle.std.proofs.lemmas.List.Elements.{All-head, All-tail}
 use Rattle.md_word.specs.declared.main_bus.Request68.{Request68}
 use Rattle.md_word.specs.declared.regs.Regs.{Regs}
 use Rattle.m68k_decode.specs.Fields.{opcode}
-use Rattle.m68k_decode.specs.Instructions.{decoded}
-use Rattle.m68k_decode.specs.declared.op.Op.{Op}
 use Rattle.m68k_exec.specs.Access.Actions as actions
 use Rattle.m68k_exec.specs.Access.Actions.{Done}
 use Rattle.m68k_exec.specs.Access.Memory.{Memory, instruction_words}
 use Rattle.m68k_exec.specs.Access.Outcomes.{Outcome}
 use Rattle.m68k_exec.specs.Sample.Bounds.{Fits}
-use Rattle.m68k_exec.specs.Sample.Entries as entries
-use Rattle.m68k_exec.specs.Sample.Entries.{number_of}
 use Rattle.m68k_exec.specs.Sample.Execution as execution
 use Rattle.m68k_exec.specs.Sample.Samples as samples
-use Rattle.m68k_exec.specs.Sample.Samples.{Ended, begun_by, nothing}
+use Rattle.m68k_exec.specs.Sample.Samples.{Ended, begun_by, named, nothing}
 use Rattle.m68k_exec.specs.declared.access.stop.Stop.{Stop}
 use Rattle.m68k_exec.specs.declared.access.stop.Stop.TheVariants.{Ask, Odd}
-use Rattle.m68k_exec.specs.declared.sample.exception.Exception.{Exception}
 use Rattle.m68k_exec.specs.declared.sample.exception.Exception.TheVariants.{AddressError, Numbered}
-use Rattle.m68k_laws.proofs.Decoding.{movable_at}
-use Rattle.m68k_laws.proofs.Follows.{Along}
+use Rattle.m68k_laws.proofs.Causes as causes
+use Rattle.m68k_laws.proofs.Causes.{Left}
+use Rattle.m68k_laws.proofs.Decoding.{words_known}
+use Rattle.m68k_laws.proofs.Exceptions.{Caused, Comes, Other, caused, exception, other}
+use Rattle.m68k_laws.proofs.Follows.{Along, Asks, Ends}
 use Rattle.m68k_laws.proofs.Instructions.{along, completed, faulted, waited}
-use Rattle.m68k_laws.specs.Accesses.{Access, IsEven, is_odd, shared}
-use Rattle.m68k_laws.specs.Laws.{Completes, Faults, IsOver, SamplesFollowFootprints, Waits, words_at}
+use Rattle.m68k_laws.specs.Accesses.{Access, IsEven, is_odd, shared, words}
+use Rattle.m68k_laws.specs.Frames.{frame, left_by}
+use Rattle.m68k_laws.specs.Laws.{Completes, Faults, Waits}
+use Rattle.m68k_laws.specs.Samples.{AfterAll, AfterFault, Behind, SamplesFollowFootprints, started, words_at}
 
--- what the row of the instruction at the program counter comes to
+-- what its row comes to
 abbrev result_at : Regs → Memory → Result (Outcome × Done) Stop
-result_at regs memory =
-    let found = decoded (instruction_words regs.pc memory) in
-    execution.row found.op regs.pc (record regs { pc = (regs.pc + found.length) % 2 ^ 32 }) memory nothing
+result_at regs memory = execution.row (named regs memory) regs.pc (started regs memory) memory nothing
 
--- at an even program counter a sample is what follows from that
-sample_is : (regs : Regs) (memory : Memory) → actions.is_odd regs.pc ≡ false → samples.sampled 0 regs memory ≡ samples.answered_by (decoded (instruction_words regs.pc memory)).op (opcode (instruction_words regs.pc memory)) regs memory (result_at regs memory)
+abbrev sample_after : Regs → Memory → Result (Outcome × Done) Stop → Result Ended Stop
+sample_after regs memory result = samples.answered_by (named regs memory) (opcode (instruction_words regs.pc memory)) regs memory result
+
+sample_is : (regs : Regs) (memory : Memory) → actions.is_odd regs.pc ≡ false → samples.sampled 0 regs memory ≡ sample_after regs memory (result_at regs memory)
 unfolding samples.sampled samples.instruction
 sample_is regs memory e = rw e refl
 
 even_start : (at : ℕ) → at % 2 ≡ 0 → actions.is_odd at ≡ false
 even_start at h = rw h refl
 
-followed : (regs : Regs) (memory : Memory) → Fits memory → Along (words_at regs memory) (length memory.answers) 0 (result_at regs memory)
-followed regs memory fits = along _ regs.pc _ memory (movable_at memory regs.pc fits)
+-- what is known of its result
+pub record Known (regs : Regs) (memory : Memory) (result : Result (Outcome × Done) Stop) : Type 0 where
+  pub along : Along (words_at regs memory) (length memory.answers) 0 result
+  pub left : Left (left_by (named regs memory) (started regs memory)).ssp result
+
+known : (regs : Regs) (memory : Memory) → Fits memory → Known regs memory (result_at regs memory)
+known regs memory fits = record {
+  along = along _ regs.pc _ memory (words_known memory regs.pc fits);
+  left = (causes.row (named regs memory) regs.pc (started regs memory)).at memory nothing;
+}
 
 -- none of a list is odd
 middle_even : (before : List Access) (access : Access) (behind : List Access) → All IsEven (before ++ access ∷ behind) → IsEven access
@@ -57,62 +66,140 @@ no_fault list taken address read even h =
     cc
 
 -- it waits for the next shared word
-waits_by : (list : List Access) (op : Op) (first : ℕ) (found : Regs) (memory : Memory) (result : Result (Outcome × Done) Stop) → Along list (length memory.answers) 0 result → All IsEven list → length memory.answers < length (shared list) → (request : Request68) × (samples.answered_by op first found memory result ≡ Err (Ask request)) × Waits list (length memory.answers) request
-waits_by list op first found memory (Ok x) h even fewer = absurd (omega (arith, h.used, h.enough, h.completes.counted, fewer))
-waits_by list op first found memory (Err (Ask request)) h even fewer = (request, refl, waited list _ request h)
-waits_by list op first found memory (Err (Odd address read used)) h even fewer = absurd (no_fault list _ address read even h.faults)
+waits_by : (regs : Regs) (memory : Memory) (result : Result (Outcome × Done) Stop) → Known regs memory result → All IsEven (words_at regs memory) → length memory.answers < length (shared (words_at regs memory)) → (request : Request68) × (sample_after regs memory result ≡ Err (Ask request)) × Waits (words_at regs memory) (length memory.answers) request
+waits_by regs memory (Ok x) h even fewer = absurd (omega (arith, h.along.used, h.along.enough, h.along.completes.counted, fewer))
+waits_by regs memory (Err (Ask request)) h even fewer = (request, refl, waited _ _ request h.along)
+waits_by regs memory (Err (Odd address read used)) h even fewer = absurd (no_fault _ _ address read even h.along.faults)
 
--- it waits for that, or is over
-asks_by : (list : List Access) (op : Op) (first : ℕ) (found : Regs) (memory : Memory) (result : Result (Outcome × Done) Stop) (request : Request68) → Along list (length memory.answers) 0 result → samples.answered_by op first found memory result ≡ Err (Ask request) → Waits list (length memory.answers) request ⊎ ((taken : ℕ) × (taken ≤ length memory.answers) × IsOver list taken)
-asks_by list op first found memory (Ok x) request h e = inr (x.1.used, h.enough, inl (completed list _ x.1.used h))
-asks_by list op first found memory (Err (Ask other)) request h e =
-    let is : other ≡ request = cc in inl (subst (λ asked. Waits list (length memory.answers) asked) is (waited list _ other h))
-asks_by list op first found memory (Err (Odd address read used)) request h e =
-    inr (used, h.enough, inr (address, read, faulted list _ used address read h))
+-- an exception behind all words
+frame_same : (number : ℕ) (memory : Memory) (one two : Regs) → one.ssp ≡ two.ssp → frame number one memory ≡ frame number two memory
+frame_same number memory one two e = ap (λ stack. frame number (record one { ssp = stack }) memory) e
 
--- an exception has another cause
-cause_of : Result Ended Stop → ℕ
-cause_of (Ok ended) = ended.spent.cause
-cause_of (Err stop) = 0
+after_all : (regs : Regs) (memory : Memory) (outcome : Outcome) (done : Done) → Known regs memory (Ok (outcome, done)) → outcome.cause ≢ 0 → AfterAll regs memory done.used outcome.cause (words (frame outcome.cause outcome.regs memory))
+after_all regs memory outcome done h some = record {
+  completes = completed _ (length memory.answers) done.used h.along;
+  pushes = ap words (frame_same outcome.cause memory outcome.regs (left_by (named regs memory) (started regs memory)) (h.left some));
+}
 
-begun_cause : (op : Op) (number : ℕ) (trace : Bool) (found : Regs) (result : Result (Option Regs × Done) Stop) (ended : Ended) → number ≢ 0 → begun_by op number trace found result ≡ Ok ended → ended.spent.cause ≢ 0
-unfolding cause_of
-begun_cause op number trace found (Ok (Some regs, done)) ended some e none = some (ap cause_of e ∙ none)
-begun_cause op number trace found (Ok (None, done)) ended some e none = absurd (let three : 3 ≡ 0 = ap cause_of e ∙ none in omega (arith, three))
-begun_cause op number trace found (Err stop) ended some e none = absurd (cc)
+after_fault : (regs : Regs) (memory : Memory) (address : ℕ) (read : Bool) (used : ℕ) → Known regs memory (Err (Odd address read used)) → AfterFault regs memory used 3 (words (frame 3 regs memory))
+after_fault regs memory address read used h = record {
+  address = address;
+  read = read;
+  faults = faulted _ _ used address read h.along;
+  error = refl;
+  pushes = refl;
+}
 
-exception_cause : (op : Op) (exception : Exception) (trace : Bool) (found regs : Regs) (memory : Memory) (done : Done) (ended : Ended) → number_of exception ≢ 0 → samples.take_exception op exception trace found regs memory done ≡ Ok ended → ended.spent.cause ≢ 0
-unfolding samples.take_exception
-exception_cause op exception trace found regs memory done ended some e =
-    begun_cause op (number_of exception) trace found (entries.enter exception regs memory done) ended some e
+-- where it waits
+asks_all : (regs : Regs) (memory : Memory) (outcome : Outcome) (done : Done) (request : Request68) (test : Bool) → Known regs memory (Ok (outcome, done)) → (outcome.cause == 0) ≡ test → samples.ended_by (named regs memory) regs outcome memory done ≡ Err (Ask request) → (number : ℕ) × Behind regs memory (length memory.answers) number (λ list pushed. Waits list pushed request)
+unfolding samples.ended_by
+asks_all regs memory outcome done request true h is e = absurd (let wrong = rw is at e in cc)
+asks_all regs memory outcome done request false h is e =
+    let some : outcome.cause ≢ 0 = grind (arith, nat_tests) in
+    let list = words (frame outcome.cause outcome.regs memory) in
+    let asks : Asks list (length memory.answers) done.used request = subst (λ sample. Comes list (length memory.answers) done.used sample) (rw is at e) (exception (named regs memory) (Numbered outcome.cause) (samples.leaves_trace regs outcome.cause) regs outcome.regs memory done h.along.enough) in (
+      outcome.cause,
+      record {
+        taken = done.used;
+        pushed = asks.taken;
+        list = list;
+        counted = asks.used;
+        comes = inr (after_all regs memory outcome done h some);
+        holds = asks.waits;
+      },
+    )
 
--- where it ends in none
+asks_by : (regs : Regs) (memory : Memory) (result : Result (Outcome × Done) Stop) (request : Request68) → Known regs memory result → sample_after regs memory result ≡ Err (Ask request) → Waits (words_at regs memory) (length memory.answers) request ⊎ ((number : ℕ) × Behind regs memory (length memory.answers) number (λ list pushed. Waits list pushed request))
+asks_by regs memory (Ok x) request h e = inr (asks_all regs memory x.0 x.1 request (x.0.cause == 0) h refl e)
+asks_by regs memory (Err (Ask asked)) request h e =
+    let is : asked ≡ request = cc in inl (subst (λ asked. Waits (words_at regs memory) (length memory.answers) asked) is (waited _ _ asked h.along))
+asks_by regs memory (Err (Odd address read used)) request h e =
+    let list = words (frame 3 regs memory) in
+    let asks : Asks list (length memory.answers) used request = subst (λ sample. Comes list (length memory.answers) used sample) e (exception (named regs memory) (AddressError (opcode (instruction_words regs.pc memory)) address read) false regs regs memory (record { used = used; writes = [] }) h.along.enough) in
+    inr (
+      3,
+      record {
+        taken = used;
+        pushed = asks.taken;
+        list = list;
+        counted = asks.used;
+        comes = inl (after_fault regs memory address read used h);
+        holds = asks.waits;
+      },
+    )
+
+-- where it ends
 accesses_of : Result Ended Stop → ℕ
 accesses_of (Ok ended) = ended.spent.accesses
 accesses_of (Err stop) = 0
 
-finished_by : (op : Op) (found : Regs) (outcome : Outcome) (memory : Memory) (done : Done) (ended : Ended) (test : Bool) → (outcome.cause == 0) ≡ test → samples.ended_by op found outcome memory done ≡ Ok ended → ended.spent.cause ≡ 0 → done.used ≡ ended.spent.accesses
-unfolding samples.ended_by accesses_of
-finished_by op found outcome memory done ended true is e none = ap accesses_of (rw is at e)
-finished_by op found outcome memory done ended false is e none =
-    let some : outcome.cause ≢ 0 = grind (arith, nat_tests) in
-    absurd (exception_cause op (Numbered outcome.cause) (samples.leaves_trace found outcome.cause) found outcome.regs memory done ended some (rw is at e) none)
+cause_of : Result Ended Stop → ℕ
+cause_of (Ok ended) = ended.spent.cause
+cause_of (Err stop) = 0
 
-completes_by : (list : List Access) (op : Op) (first : ℕ) (found : Regs) (memory : Memory) (result : Result (Outcome × Done) Stop) (ended : Ended) → Along list (length memory.answers) 0 result → samples.answered_by op first found memory result ≡ Ok ended → ended.spent.cause ≡ 0 → Completes list ended.spent.accesses
-completes_by list op first found memory (Ok x) ended h e none =
-    let used = finished_by op found x.0 memory x.1 ended (x.0.cause == 0) refl e none in
-    subst (λ taken. Completes list taken) used (completed list _ x.1.used h)
-completes_by list op first found memory (Err (Ask request)) ended h e none = absurd (cc)
-completes_by list op first found memory (Err (Odd address read used)) ended h e none =
-    absurd (exception_cause op (AddressError first address read) false found found memory (record { used = used; writes = [] }) ended (omega arith) e none)
+completes_all : (regs : Regs) (memory : Memory) (outcome : Outcome) (done : Done) (ended : Ended) (test : Bool) → (outcome.cause == 0) ≡ test → samples.ended_by (named regs memory) regs outcome memory done ≡ Ok ended → ended.spent.cause ≡ 0 → done.used ≡ ended.spent.accesses
+unfolding samples.ended_by accesses_of
+completes_all regs memory outcome done ended true is e none = ap accesses_of (rw is at e)
+completes_all regs memory outcome done ended false is e none =
+    let some : outcome.cause ≢ 0 = grind (arith, nat_tests) in
+    let not_0 : ended.spent.cause ≢ 0 = subst Other (rw is at e) (other (named regs memory) (Numbered outcome.cause) (samples.leaves_trace regs outcome.cause) regs outcome.regs memory done some) in
+    absurd (not_0 none)
+
+completes_by : (regs : Regs) (memory : Memory) (result : Result (Outcome × Done) Stop) (ended : Ended) → Known regs memory result → sample_after regs memory result ≡ Ok ended → ended.spent.cause ≡ 0 → Completes (words_at regs memory) ended.spent.accesses
+completes_by regs memory (Ok x) ended h e none =
+    let used = completes_all regs memory x.0 x.1 ended (x.0.cause == 0) refl e none in
+    subst (λ taken. Completes (words_at regs memory) taken) used (completed _ (length memory.answers) x.1.used h.along)
+completes_by regs memory (Err (Ask request)) ended h e none = absurd (cc)
+completes_by regs memory (Err (Odd address read used)) ended h e none =
+    let not_0 : ended.spent.cause ≢ 0 = subst Other e (other (named regs memory) (AddressError (opcode (instruction_words regs.pc memory)) address read) false regs regs memory (record { used = used; writes = [] }) (omega arith)) in
+    absurd (not_0 none)
+
+ends_all : (regs : Regs) (memory : Memory) (outcome : Outcome) (done : Done) (ended : Ended) (test : Bool) → Known regs memory (Ok (outcome, done)) → (outcome.cause == 0) ≡ test → samples.ended_by (named regs memory) regs outcome memory done ≡ Ok ended → ended.spent.cause ≢ 0 → (number : ℕ) × Behind regs memory ended.spent.accesses number Completes × (IsFalse ended.halted → ended.spent.cause ≡ number)
+unfolding samples.ended_by cause_of
+ends_all regs memory outcome done ended true h is e other_ = absurd (other_ (sym (ap cause_of (rw is at e))))
+ends_all regs memory outcome done ended false h is e other_ =
+    let some : outcome.cause ≢ 0 = grind (arith, nat_tests) in
+    let list = words (frame outcome.cause outcome.regs memory) in
+    let trace = samples.leaves_trace regs outcome.cause in
+    let ends : Ends list (length memory.answers) done.used ended.spent.accesses = subst (λ sample. Comes list (length memory.answers) done.used sample) (rw is at e) (exception (named regs memory) (Numbered outcome.cause) trace regs outcome.regs memory done h.along.enough) in (
+      outcome.cause,
+      record {
+        taken = done.used;
+        pushed = ends.taken;
+        list = list;
+        counted = ends.used;
+        comes = inr (after_all regs memory outcome done h some);
+        holds = ends.completes;
+      },
+      subst (Caused outcome.cause) (rw is at e) (caused (named regs memory) (Numbered outcome.cause) trace regs outcome.regs memory done),
+    )
+
+ends_by : (regs : Regs) (memory : Memory) (result : Result (Outcome × Done) Stop) (ended : Ended) → Known regs memory result → sample_after regs memory result ≡ Ok ended → ended.spent.cause ≢ 0 → (number : ℕ) × Behind regs memory ended.spent.accesses number Completes × (IsFalse ended.halted → ended.spent.cause ≡ number)
+ends_by regs memory (Ok x) ended h e some = ends_all regs memory x.0 x.1 ended (x.0.cause == 0) h refl e some
+ends_by regs memory (Err (Ask request)) ended h e some = absurd (cc)
+ends_by regs memory (Err (Odd address read used)) ended h e some =
+    let list = words (frame 3 regs memory) in
+    let kind = AddressError (opcode (instruction_words regs.pc memory)) address read in
+    let before : Done = record { used = used; writes = [] } in
+    let ends : Ends list (length memory.answers) used ended.spent.accesses = subst (λ sample. Comes list (length memory.answers) used sample) e (exception (named regs memory) kind false regs regs memory before h.along.enough) in (
+      3,
+      record {
+        taken = used;
+        pushed = ends.taken;
+        list = list;
+        counted = ends.used;
+        comes = inl (after_fault regs memory address read used h);
+        holds = ends.completes;
+      },
+      subst (Caused 3) e (caused (named regs memory) kind false regs regs memory before),
+    )
 
 pub follows : SamplesFollowFootprints
 follows = record {
   waits = λ regs memory fits even aligned fewer.
       subst (λ sample. (request : Request68) × (sample ≡ Err (Ask request)) × Waits (words_at regs memory) (length memory.answers) request) (sym (sample_is regs memory (even_start regs.pc even)))
-      (waits_by (words_at regs memory) _ _ regs memory (result_at regs memory) (followed regs memory fits) aligned fewer);
-  asks = λ regs memory request fits even e.
-      asks_by (words_at regs memory) _ _ regs memory (result_at regs memory) request (followed regs memory fits) (sym (sample_is regs memory (even_start regs.pc even)) ∙ e);
-  completes = λ regs memory ended fits even e none.
-      completes_by (words_at regs memory) _ _ regs memory (result_at regs memory) ended (followed regs memory fits) (sym (sample_is regs memory (even_start regs.pc even)) ∙ e) none;
+      (waits_by regs memory (result_at regs memory) (known regs memory fits) aligned fewer);
+  asks = λ regs memory request fits even e. asks_by regs memory (result_at regs memory) request (known regs memory fits) (sym (sample_is regs memory (even_start regs.pc even)) ∙ e);
+  completes = λ regs memory ended fits even e none. completes_by regs memory (result_at regs memory) ended (known regs memory fits) (sym (sample_is regs memory (even_start regs.pc even)) ∙ e) none;
+  ends = λ regs memory ended fits even e some. ends_by regs memory (result_at regs memory) ended (known regs memory fits) (sym (sample_is regs memory (even_start regs.pc even)) ∙ e) some;
 }

@@ -1,6 +1,7 @@
 -- The footprint of each instruction: the accesses that it makes to memory beside its own words, in
 -- their order, told from the instruction and the registers alone.
--- M68000 Programmer's Reference Manual, section 4; TAS on memory: this project's profile.
+-- M68000 Programmer's Reference Manual, section 4; what is read before it is written, and TAS on memory:
+-- this project's profile.
 use Rattle.std.specs.Prelude.{ℕ, zero, suc, ◌≢◌, ◌+◌, ◌-◌, ◌*◌, ◌%◌, ◌^◌, ◌<◌, List, [], ◌++◌, if◌then◌else◌, count_ones}
 use Rattle.md_word.specs.Fields.{address_of, is_supervisor}
 use Rattle.md_word.specs.declared.mode.Mode.{Mode}
@@ -67,7 +68,7 @@ alternate kind Word at = one kind Byte at ++ one kind Byte (above at 2)
 alternate kind Long at =
     one kind Byte at ++ one kind Byte (above at 2) ++ one kind Byte (above at 4) ++ one kind Byte (above at 6)
 
--- so many registers from an address on, and so many down to below it
+-- so many operands one behind another: from an address on, and from below an address down
 abbrev pub ascending : ℕ → Kind → Size → ℕ → List Access
 ascending zero kind size at = []
 ascending (suc count) kind size at = one kind size at ++ ascending count kind size (above at (bytes_of size))
@@ -82,9 +83,9 @@ abbrev pub stores : Size → ℕ → Mode → ℕ → Regs → List Access
 stores size list (PreDec n) pc regs = descending (count_ones list) Write size (address_of regs n)
 stores size list mode pc regs = ascending (count_ones list) Write size (effective_address mode size regs pc)
 
--- an instruction whose first word stands at `start`; the extension words of its operand stand behind
--- that and a number in it, those of a target behind the source's, and a target by (An)+ or −(An) is
--- found with the source's register moved
+-- an instruction whose first word stands at `start`. The extension words of its operand stand behind that
+-- word and behind a number, those of a second operand behind those of the first; the second is found with
+-- the register of the first moved by (An)+ or −(An)
 abbrev pub footprint : Op → ℕ → Regs → List Access
 footprint (ops.Immediate operation size number mode) start regs = changes size mode (above start (2 + 2 * words_of_number size)) regs
 footprint (ops.CompareImmediate size number mode) start regs = reads size mode (above start (2 + 2 * words_of_number size)) regs
@@ -134,8 +135,8 @@ footprint (ops.Muls n mode) start regs = reads Word mode (above start 2) regs
 footprint (ops.ShiftMemory operation mode) start regs = changes Word mode (above start 2) regs
 footprint _ start regs = []
 
--- MOVEM moves words or longs, and its list has 16 bits; every other instruction is as it is
-abbrev pub IsMovable : Op → Type 0
-IsMovable (ops.MovemToMemory size list mode) = (size ≢ Byte) × (list < 65536)
-IsMovable (ops.MovemToRegisters size list mode) = (size ≢ Byte) × (list < 65536)
-IsMovable op = Unit {0}
+-- MOVEM moves words or longs, and its list has 16 bits
+abbrev pub MovesWords : Op → Type 0
+MovesWords (ops.MovemToMemory size list mode) = (size ≢ Byte) × (list < 65536)
+MovesWords (ops.MovemToRegisters size list mode) = (size ≢ Byte) × (list < 65536)
+MovesWords op = Unit {0}

@@ -1,5 +1,5 @@
--- The requests of an instruction, and of a sample, are the shared words of its footprint in order.
-use Rattle.std.specs.Prelude.{ℕ, ◌≡◌, ◌⊎◌, ◌+◌, ◌%◌, ◌^◌, ◌<◌, ◌≤◌, ◌++◌, ◌∷◌, Bool, List, All, length, IsTrue, Some, Ok, Err, slice_get}
+-- The requests of an instruction are the shared words of its footprint in order.
+use Rattle.std.specs.Prelude.{ℕ, ◌≡◌, ◌<◌, ◌++◌, ◌∷◌, Bool, List, All, length, IsTrue, Some, Ok, Err, slice_get, slice_index}
 use Rattle.md_word.specs.Map.{is_shared}
 use Rattle.md_word.specs.declared.main_bus.Request68.{Request68}
 use Rattle.md_word.specs.declared.main_bus.Request68.TheVariants.{Read8, Read16, Write8, Write16}
@@ -9,14 +9,13 @@ use Rattle.md_word.specs.declared.size.Size.TheVariants.{Byte, Word, Long}
 use Rattle.m68k_decode.specs.Instructions.{decoded}
 use Rattle.m68k_decode.specs.declared.op.Op.{Op}
 use Rattle.m68k_exec.specs.Access.Actions.{Done}
-use Rattle.m68k_exec.specs.Access.Memory.{Memory, bus_address, instruction_words}
+use Rattle.m68k_exec.specs.Access.Memory.{Memory, bus_address}
 use Rattle.m68k_exec.specs.Access.Outcomes.{Outcome}
-use Rattle.m68k_exec.specs.Sample.Bounds.{Fits}
 use Rattle.m68k_exec.specs.Sample.Execution.{row}
-use Rattle.m68k_exec.specs.Sample.Samples.{Ended, nothing, sampled}
+use Rattle.m68k_exec.specs.Sample.Samples.{nothing}
 use Rattle.m68k_exec.specs.declared.access.stop.Stop.TheVariants.{Ask, Odd}
 use Rattle.m68k_laws.specs.Accesses.{Access, IsEven, Kind, Read, Write, is_odd, is_read, shared, words}
-use Rattle.m68k_laws.specs.Footprints.{footprint, IsMovable}
+use Rattle.m68k_laws.specs.Footprints.{MovesWords, footprint}
 
 -- the request of one access, with its address on the bus; what is written is free
 abbrev pub Requests : Kind → Size → ℕ → Request68 → Type 0
@@ -26,7 +25,7 @@ Requests Write Byte address request = (value : ℕ) × (request ≡ Write8 (bus_
 Requests Write Word address request = (value : ℕ) × (request ≡ Write16 (bus_address address) value)
 Requests kind Long address request = ⊥
 
--- one of these accesses, with so many shared ones before it, none of which is an address error
+-- it is one of these accesses, with so many shared ones before it, none of which is an address error
 pub record Leads (list : List Access) (count : ℕ) (access : Access) : Type 0 where
   pub before : List Access
   pub behind : List Access
@@ -56,31 +55,12 @@ pub record Completes (list : List Access) (count : ℕ) : Type 0 where
   pub even : All IsEven list
   pub counted : count ≡ length (shared list)
 
--- Each instruction that the decoder gives, at any address, with any registers, cartridge, work RAM and
--- answers: where it waits for an answer, the request is that of the next shared word of its footprint,
--- so many being before it as there are answers; where it comes to an outcome, it took an answer for each
--- shared word; an address error is the first odd word.
+-- Each instruction at any address, with any registers, cartridge, work RAM and answers: where it waits for
+-- an answer, the request is that of the next shared word of its footprint, so many being before it as there
+-- are answers; where it comes to an outcome, also one that ends in an exception, it took an answer for each
+-- shared word; an address error is the first odd word. What words of 16 bits decode to meets the premise.
 pub record InstructionsFollowFootprints : Type 0 where
-  pub waits : (op : Op) (start : ℕ) (regs : Regs) (memory : Memory) (request : Request68) → IsMovable op → row op start regs memory nothing ≡ Err (Ask request) → Waits (words (footprint op start regs)) (length memory.answers) request
-  pub completes : (op : Op) (start : ℕ) (regs : Regs) (memory : Memory) (outcome : Outcome) (after : Done) → IsMovable op → row op start regs memory nothing ≡ Ok (outcome, after) → Completes (words (footprint op start regs)) after.used
-  pub faults : (op : Op) (start : ℕ) (regs : Regs) (memory : Memory) (address : ℕ) (read : Bool) (used : ℕ) → IsMovable op → row op start regs memory nothing ≡ Err (Odd address read used) → Faults (words (footprint op start regs)) used address read
-
--- the words of the instruction at the program counter, which then points behind it
-abbrev pub words_at : Regs → Memory → List Access
-words_at regs memory =
-    let found = decoded (instruction_words regs.pc memory) in
-    words (footprint found.op regs.pc (record regs { pc = (regs.pc + found.length) % 2 ^ 32 }))
-
--- the instruction has made its accesses: all, or those before an address error
-abbrev pub IsOver : List Access → ℕ → Type 0
-IsOver list taken = Completes list taken ⊎ ((address : ℕ) × (read : Bool) × Faults list taken address read)
-
--- A sample of the instruction at an even program counter, of any registers and answers, where memory
--- holds bytes. While there are fewer answers than shared words, and no word is odd, it waits for the
--- next shared word. Where it waits at all, it waits for that, or the instruction has made its accesses
--- and those of an exception come behind them. Where it ends in no exception, all words were made, and
--- each shared one took an answer.
-pub record SamplesFollowFootprints : Type 0 where
-  pub waits : (regs : Regs) (memory : Memory) → Fits memory → regs.pc % 2 ≡ 0 → All IsEven (words_at regs memory) → length memory.answers < length (shared (words_at regs memory)) → (request : Request68) × (sampled 0 regs memory ≡ Err (Ask request)) × Waits (words_at regs memory) (length memory.answers) request
-  pub asks : (regs : Regs) (memory : Memory) (request : Request68) → Fits memory → regs.pc % 2 ≡ 0 → sampled 0 regs memory ≡ Err (Ask request) → Waits (words_at regs memory) (length memory.answers) request ⊎ ((taken : ℕ) × (taken ≤ length memory.answers) × IsOver (words_at regs memory) taken)
-  pub completes : (regs : Regs) (memory : Memory) (ended : Ended) → Fits memory → regs.pc % 2 ≡ 0 → sampled 0 regs memory ≡ Ok ended → ended.spent.cause ≡ 0 → Completes (words_at regs memory) ended.spent.accesses
+  pub decodes : (list : List ℕ) → slice_index list 1 < 65536 → MovesWords (decoded list).op
+  pub waits : (op : Op) (start : ℕ) (regs : Regs) (memory : Memory) (request : Request68) → MovesWords op → row op start regs memory nothing ≡ Err (Ask request) → Waits (words (footprint op start regs)) (length memory.answers) request
+  pub completes : (op : Op) (start : ℕ) (regs : Regs) (memory : Memory) (outcome : Outcome) (after : Done) → MovesWords op → row op start regs memory nothing ≡ Ok (outcome, after) → Completes (words (footprint op start regs)) after.used
+  pub faults : (op : Op) (start : ℕ) (regs : Regs) (memory : Memory) (address : ℕ) (read : Bool) (used : ℕ) → MovesWords op → row op start regs memory nothing ≡ Err (Odd address read used) → Faults (words (footprint op start regs)) used address read
