@@ -6,15 +6,18 @@ use Rattle.md_word.specs.declared.size.Size.TheVariants.{Word, Long}
 use Rattle.m68k_ea.specs.Places.{is_misaligned}
 use Rattle.m68k_exec.specs.Access.Memory.{bus_address}
 
+-- what an access does
 pub data Kind : Type 0 where
   Read : Kind
   Write : Kind
 
+-- an access, and its address of 32 bits
 pub record Access : Type 0 where
   pub kind : Kind
   pub size : Size
   pub address : ℕ
 
+-- whether it is a read
 abbrev pub is_read : Kind → Bool
 is_read Read = true
 is_read Write = false
@@ -40,5 +43,6 @@ shared list = filter (λ access. is_shared (bus_address access.address)) list
 abbrev pub is_odd : Access → Bool
 is_odd access = is_misaligned access.size access.address
 
+-- it is none
 abbrev pub IsEven : Access → Type 0
 IsEven access = IsFalse (is_odd access)

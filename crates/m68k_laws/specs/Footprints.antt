@@ -19,10 +19,11 @@ use Rattle.m68k_ea.specs.Steps.{stepped}
 use Rattle.m68k_exec.specs.Access.Operands.{bytes_of, stack_of}
 use Rattle.m68k_laws.specs.Accesses.{Access, Kind, Read, Write, one}
 
--- the address so many bytes above another, and below it
+-- the address so many bytes above another
 abbrev pub above : ℕ → ℕ → ℕ
 above address bytes = (address + bytes) % 2 ^ 32
 
+-- the address so many bytes below another
 abbrev pub below : ℕ → ℕ → ℕ
 below address bytes = (address + 2 ^ 32 - bytes) % 2 ^ 32
 
@@ -34,13 +35,15 @@ operand kind size (Address n) pc regs = []
 operand kind size (Immediate value) pc regs = []
 operand kind size mode pc regs = one kind size (effective_address mode size regs pc)
 
--- an operand is read, or written, or read and then written
+-- an operand is read
 abbrev pub reads : Size → Mode → ℕ → Regs → List Access
 reads size mode pc regs = operand Read size mode pc regs
 
+-- an operand is written
 abbrev pub writes : Size → Mode → ℕ → Regs → List Access
 writes size mode pc regs = operand Write size mode pc regs
 
+-- an operand is read, and then written
 abbrev pub changes : Size → Mode → ℕ → Regs → List Access
 changes size mode pc regs = reads size mode pc regs ++ writes size mode pc regs
 
@@ -68,11 +71,12 @@ alternate kind Word at = one kind Byte at ++ one kind Byte (above at 2)
 alternate kind Long at =
     one kind Byte at ++ one kind Byte (above at 2) ++ one kind Byte (above at 4) ++ one kind Byte (above at 6)
 
--- so many operands one behind another: from an address on, and from below an address down
+-- so many operands one behind another, from an address on
 abbrev pub ascending : ℕ → Kind → Size → ℕ → List Access
 ascending zero kind size at = []
 ascending (suc count) kind size at = one kind size at ++ ascending count kind size (above at (bytes_of size))
 
+-- so many operands one below another, the first of them below an address
 abbrev pub descending : ℕ → Kind → Size → ℕ → List Access
 descending zero kind size at = []
 descending (suc count) kind size at =
