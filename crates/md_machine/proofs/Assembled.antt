@@ -1,11 +1,10 @@
 -- The machine that parts make.
-use Rattle.std.proofs.Common.{◌≡◌, ℕ, ◌+◌, ◌-◌, ◌*◌, ◌/◌, ◌<◌, ◌≤◌, List, [], false, Some, refl, sym, ap, ◌∙◌, subst, arith}
+use Rattle.std.proofs.Common.{◌≡◌, ℕ, ◌<◌, ◌≤◌, List, [], false, Some, refl, sym, ap, ◌∙◌, subst, arith}
 use Rattle.std.proofs.lemmas.Bool.Decides.{nat_tests}
 use Rattle.md_word.specs.Keys.{key_lt}
 use Rattle.md_word.specs.declared.event.Entry.{Entry}
 use Rattle.md_word.specs.declared.key.Key.{Key}
-use Rattle.chip_core.specs.Cores.{IsCore, bound_in, chip_in, key_in, machine_of}
-use Rattle.chip_core.specs.Machines as machines
+use Rattle.chip_core.specs.Cores.{bound_in, chip_in, key_in}
 use Rattle.m68k_chip.specs.States.{next_of}
 use Rattle.z80_chip.specs.States.{next_of as sub_next_of}
 use Rattle.bus_shared.specs.Board.{Board, IsBoard}
@@ -31,17 +30,17 @@ pub record AreLater (parts : Assembly) : Type 0 where
   pub line : parts.at ≤ parts.draw.next
 
 abbrev core_of : Assembly → Board → List Chip → ℕ → MachineValue
-core_of parts board chips room = machine_at parts.at (core_in (Some board) chips (bounds_of chips) [] room)
+core_of parts board chips room = machine_at parts.at (core_in board chips (bounds_of chips) [] room)
 
 machine-by : (parts : Assembly) (board : Board) (room : ℕ) → IsBoard board → AreLater parts → 52500 ≤ room
     → ((i : ℕ) → i < 5 → IsChip (chip_in five (chips_of parts) i))
-    → IsMachine parts.at (Some board) (core_in (Some board) (chips_of parts) (bounds_of (chips_of parts)) [] room)
+    → IsMachine parts.at (Some (core_in board (chips_of parts) (bounds_of (chips_of parts)) [] room))
 unfolding next_of sub_next_of
 machine-by parts board room fits later ample sound =
     let chips = chips_of parts in
     let key : ℕ → Key = key_in five chips in
     record {
-      has_board = refl;
+      has_core = refl;
       sound = record {
         shape = record {
           chip_count = refl;
@@ -60,22 +59,22 @@ machine-by parts board room fits later ample sound =
 
 pub assembled-machine : (parts : Assembly) (board : Board) (chips : List Chip) (bounds : List Key) (entries : List Entry) (room : ℕ) → IsBoard board → AreLater parts
     → chips ≡ chips_of parts → bounds ≡ bounds_of chips → entries ≡ [] → 52500 ≤ room → ((i : ℕ) → i < 5 → IsChip (chip_in five chips i))
-    → IsMachine parts.at (Some board) (core_in (Some board) chips bounds entries room)
+    → IsMachine parts.at (Some (core_in board chips bounds entries room))
 assembled-machine parts board chips bounds entries room fits later c b e ample sound =
-    subst (λ z. IsMachine parts.at (Some board) (core_in (Some board) chips z entries room)) (sym b)
-    (subst (λ z. IsMachine parts.at (Some board) (core_in (Some board) chips (bounds_of chips) z room)) (sym e)
-    (subst (λ z. ((i : ℕ) → i < 5 → IsChip (chip_in five z i)) → IsMachine parts.at (Some board) (core_in (Some board) z (bounds_of z) [] room)) (sym c)
+    subst (λ z. IsMachine parts.at (Some (core_in board chips z entries room))) (sym b)
+    (subst (λ z. IsMachine parts.at (Some (core_in board chips (bounds_of chips) z room))) (sym e)
+    (subst (λ z. ((i : ℕ) → i < 5 → IsChip (chip_in five z i)) → IsMachine parts.at (Some (core_in board z (bounds_of z) [] room))) (sym c)
     (machine-by parts board room fits later ample) sound))
 
 value-by : (parts : Assembly) (board : Board) (bounds : List Key) (room : ℕ)
-    → machine_at parts.at (core_in (Some board) (chips_of parts) bounds [] room) ≡ record { at = parts.at; console = assembled parts board; entries = []; media = no_media }
+    → machine_at parts.at (core_in board (chips_of parts) bounds [] room) ≡ record { at = parts.at; console = assembled parts board; entries = []; media = no_media }
 unfolding console
 value-by parts board bounds room = refl
 
 pub assembled-value : (parts : Assembly) (board : Board) (chips : List Chip) (bounds : List Key) (entries : List Entry) (room : ℕ)
     → chips ≡ chips_of parts → entries ≡ []
-    → machine_at parts.at (core_in (Some board) chips bounds entries room) ≡ record { at = parts.at; console = assembled parts board; entries = []; media = no_media }
+    → machine_at parts.at (core_in board chips bounds entries room) ≡ record { at = parts.at; console = assembled parts board; entries = []; media = no_media }
 assembled-value parts board chips bounds entries room c e =
-    ap (λ z. machine_at parts.at (core_in (Some board) z bounds entries room)) c
-    ∙ ap (λ z. machine_at parts.at (core_in (Some board) (chips_of parts) bounds z room)) e
+    ap (λ z. machine_at parts.at (core_in board z bounds entries room)) c
+    ∙ ap (λ z. machine_at parts.at (core_in board (chips_of parts) bounds z room)) e
     ∙ value-by parts board bounds room

@@ -5,6 +5,7 @@ pub mod Counts
 pub mod FrameCounts
 pub mod Frames
 pub mod Handed
+pub mod Held
 pub mod Joined
 pub mod Kept
 pub mod LeastKeys

@@ -1,16 +1,17 @@
 -- The machine after its frame, or the samples of a sound chip, were drained.
-use Rattle.std.proofs.Common.{◌≡◌, ℕ, ◌<◌, ◌==◌, cond, Bool, true, false, [], length, refl, ap, ◌∙◌, arith, subst, lit<}
+use Rattle.std.proofs.Common.{◌≡◌, ℕ, ◌<◌, ◌≤◌, ◌==◌, cond, Bool, true, false, [], length, Some, refl, sym, ap, ◌∙◌, arith, subst, lit<, lit≤}
 use Rattle.std.proofs.lemmas.Bool.Decides.{nat_tests}
 use Rattle.std.specs.Prelude.{slice_set}
 use Rattle.std.proofs.lemmas.List.{get_or-set_other, get_or-set_same}
-use Rattle.chip_core.specs.Cores.{CoreValue, chip_in, machine_of}
-use Rattle.chip_core.specs.Machines.{Machine, put}
-use Rattle.md_machine.specs.Drained.{silent}
+use Rattle.md_word.specs.declared.key.Key.{Key}
+use Rattle.chip_core.specs.Cores.{CoreValue, IsCore, IsStandIn, chip_in, key_in, machine_of}
+use Rattle.chip_core.specs.Machines.{IsQuiet, Machine, put}
+use Rattle.md_machine.specs.Drained.{silenced, silent}
 use Rattle.md_machine.specs.Lines.{frames_of}
-use Rattle.md_machine.specs.Machines.{kept_in, machine_at}
-use Rattle.bus_shared.specs.Board.{Board}
+use Rattle.md_machine.specs.Machines.{IsMachine, MachineValue, kept_in, machine_at}
+use Rattle.bus_shared.specs.Board.{Board, IsBoard}
 use Rattle.md_machine.specs.Refinement.{console, draw_of, fm_of, psg_of, record_of}
-use Rattle.md_machine.specs.Rules.{five}
+use Rattle.md_machine.specs.Rules.{IsChip, five, next}
 use Rattle.md_machine.specs.declared.chips.Chip.{Chip}
 use Rattle.md_machine.specs.declared.chips.Chip.TheVariants.{Main, Sub, Line, Fm, Psg}
 use Rattle.md_machine.proofs.Segments.{console-alike}
@@ -73,17 +74,17 @@ silenced_by false v j x i below long is e = get_or-set_other v.chips j i x five.
 abbrev with_silent : CoreValue Chip Board → ℕ → Machine Chip Board
 with_silent v j = record { shared = v.shared; chip = put (chip_in five v.chips) j (silent (chip_in five v.chips j)) }
 
-silenced : (v : CoreValue Chip Board) (j : ℕ) (x : Chip) → j < 5 → length v.chips ≡ 5 → x ≡ silent (chip_in five v.chips j)
+chips_silenced : (v : CoreValue Chip Board) (j : ℕ) (x : Chip) → j < 5 → length v.chips ≡ 5 → x ≡ silent (chip_in five v.chips j)
     → (i : ℕ) → i < 5 → chip_in five (slice_set v.chips j x) i ≡ (with_silent v j).chip i
 unfolding put
-silenced v j x below long is i within = silenced_by (i == j) v j x i below long is refl
+chips_silenced v j x below long is i within = silenced_by (i == j) v j x i below long is refl
 
 -- the machine, with what its chips keep
 drained : (at : ℕ) (v : CoreValue Chip Board) (j : ℕ) (x : Chip) → j < 5 → length v.chips ≡ 5 → x ≡ silent (chip_in five v.chips j)
     → machine_at at (record v { chips = slice_set v.chips j x })
     ≡ record { at = at; console = console (with_silent v j); entries = v.journal; media = kept_in (with_silent v j) }
 drained at v j x below long is =
-    let chips : (i : ℕ) → i < 5 → chip_in five (slice_set v.chips j x) i ≡ (with_silent v j).chip i = silenced v j x below long is in
+    let chips : (i : ℕ) → i < 5 → chip_in five (slice_set v.chips j x) i ≡ (with_silent v j).chip i = chips_silenced v j x below long is in
     let same : console (machine_of five (record v { chips = slice_set v.chips j x })) ≡ console (with_silent v j) =
     console-alike (machine_of five (record v { chips = slice_set v.chips j x })) (with_silent v j) refl chips in
     λ i. record {
@@ -98,7 +99,7 @@ drained at v j x below long is =
     }
 
 -- the drawing half without its frame
-pub drained-draw : (at : ℕ) (v : CoreValue Chip Board) (x : Chip) → length v.chips ≡ 5 → x ≡ silent (chip_in five v.chips 2)
+drained-draw : (at : ℕ) (v : CoreValue Chip Board) (x : Chip) → length v.chips ≡ 5 → x ≡ silent (chip_in five v.chips 2)
     → machine_at at (record v { chips = slice_set v.chips 2 x }) ≡ record (machine_at at v) { media = record (machine_at at v).media { frames = [] } }
 unfolding console put
 drained-draw at v x long is =
@@ -110,7 +111,7 @@ drained-draw at v x long is =
     })
 
 -- the FM synthesis without its samples
-pub drained-fm : (at : ℕ) (v : CoreValue Chip Board) (x : Chip) → length v.chips ≡ 5 → x ≡ silent (chip_in five v.chips 3)
+drained-fm : (at : ℕ) (v : CoreValue Chip Board) (x : Chip) → length v.chips ≡ 5 → x ≡ silent (chip_in five v.chips 3)
     → machine_at at (record v { chips = slice_set v.chips 3 x }) ≡ record (machine_at at v) { media = record (machine_at at v).media { sides = [] } }
 unfolding console put
 drained-fm at v x long is =
@@ -122,7 +123,7 @@ drained-fm at v x long is =
     })
 
 -- the PSG without its samples
-pub drained-psg : (at : ℕ) (v : CoreValue Chip Board) (x : Chip) → length v.chips ≡ 5 → x ≡ silent (chip_in five v.chips 4)
+drained-psg : (at : ℕ) (v : CoreValue Chip Board) (x : Chip) → length v.chips ≡ 5 → x ≡ silent (chip_in five v.chips 4)
     → machine_at at (record v { chips = slice_set v.chips 4 x }) ≡ record (machine_at at v) { media = record (machine_at at v).media { levels = [] } }
 unfolding console put
 drained-psg at v x long is =
@@ -132,3 +133,60 @@ drained-psg at v x long is =
       console = silent-psg (old.chip 0) (old.chip 1) (old.chip 2) (old.chip 3) (old.chip 4) v.shared i;
       media = record (machine_at at v).media { levels = silent-levels (old.chip 4) i };
     })
+
+-- a chip that was made silent stands in for the one that it was
+silent-key : (c : Chip) → (next (silent c)).key ≡ (next c).key
+silent-key (Main c) = refl
+silent-key (Sub c) = refl
+silent-key (Line c) = refl
+silent-key (Fm c) = refl
+silent-key (Psg c) = refl
+
+silent-ok : (c : Chip) → IsChip c → IsChip (silent c)
+silent-ok (Main c) ok = ok
+silent-ok (Sub c) ok = ok
+silent-ok (Line c) ok = record { chip = record { picture = ok.chip.picture; frame = tt; at_line = ok.chip.at_line; undrawn = ok.chip.undrawn }; view = ok.view }
+silent-ok (Fm c) ok = record { taken = ok.taken; samples = lit≤ tt }
+silent-ok (Psg c) ok = record { synth = ok.synth; taken = ok.taken; samples = lit≤ tt }
+
+pub silent-stands : (c d : Chip) → IsChip c → d ≡ silent c → IsStandIn five IsChip c d
+silent-stands c d ok is = record { key = ap (λ (x : Chip). (next x).key) is ∙ silent-key c; ok = subst IsChip (sym is) (silent-ok c ok) }
+
+-- no event moves by it
+key-silenced : (b : Bool) (v : CoreValue Chip Board) (j i : ℕ) → j < 5 → length v.chips ≡ 5 → (i == j) ≡ b → key_in five (silenced v j).chips i ≡ key_in five v.chips i
+key-silenced true v j i below long e =
+    ap (key_in five (silenced v j).chips) (equal i j e)
+    ∙ ap (λ (x : Chip). (next x).key) (get_or-set_same v.chips j (silent (chip_in five v.chips j)) five.blank (omega (arith, long, below)))
+    ∙ silent-key (chip_in five v.chips j) ∙ ap (key_in five v.chips) (sym (equal i j e))
+key-silenced false v j i below long e =
+    ap (λ (x : Chip). (next x).key) (get_or-set_other v.chips j i (silent (chip_in five v.chips j)) five.blank (apart i j e))
+
+quiet-silenced : (v : CoreValue Chip Board) (at j : ℕ) → j < 5 → length v.chips ≡ 5 → IsQuiet five (machine_of five v) at → IsQuiet five (machine_of five (silenced v j)) at
+quiet-silenced v at j below long quiet i within = subst (λ (k : Key). at ≤ k.cycle) (sym (key-silenced (i == j) v j i below long refl)) (quiet i within)
+
+pub machine-silenced : (v w : CoreValue Chip Board) (at j : ℕ) → j < 5 → IsMachine at (Some v) → w ≡ silenced v j → IsCore five IsChip IsBoard w → IsMachine at (Some w)
+machine-silenced v w at j below has is sound = record {
+  has_core = refl;
+  sound = sound;
+  room = subst (λ (u : CoreValue Chip Board). 52500 ≤ u.room) (sym is) has.room;
+  quiet = subst (λ (u : CoreValue Chip Board). IsQuiet five (machine_of five u) at) (sym is) (quiet-silenced v at j below has.sound.shape.chip_count has.quiet);
+}
+
+-- a machine whose core was made silent at a place
+abbrev pub IsSilenced : ℕ → MachineValue → MachineValue → Type 0
+IsSilenced j old new = (core : CoreValue Chip Board) × (machine_at old.at core ≡ old) × IsCore five IsChip IsBoard core × (new ≡ machine_at old.at (silenced core j))
+
+pub silenced-draw : (old new : MachineValue) → IsSilenced 2 old new → new ≡ record old { media = record old.media { frames = [] } }
+silenced-draw old new (core, same, is, made) =
+    made ∙ drained-draw old.at core (silent (chip_in five core.chips 2)) is.shape.chip_count refl
+    ∙ ap (λ (v : MachineValue). record v { media = record v.media { frames = [] } }) same
+
+pub silenced-fm : (old new : MachineValue) → IsSilenced 3 old new → new ≡ record old { media = record old.media { sides = [] } }
+silenced-fm old new (core, same, is, made) =
+    made ∙ drained-fm old.at core (silent (chip_in five core.chips 3)) is.shape.chip_count refl
+    ∙ ap (λ (v : MachineValue). record v { media = record v.media { sides = [] } }) same
+
+pub silenced-psg : (old new : MachineValue) → IsSilenced 4 old new → new ≡ record old { media = record old.media { levels = [] } }
+silenced-psg old new (core, same, is, made) =
+    made ∙ drained-psg old.at core (silent (chip_in five core.chips 4)) is.shape.chip_count refl
+    ∙ ap (λ (v : MachineValue). record v { media = record v.media { levels = [] } }) same

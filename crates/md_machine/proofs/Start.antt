@@ -28,7 +28,7 @@ use Rattle.md_machine.specs.declared.chips.Chip.{Chip}
 use Rattle.chip_core.specs.Machines as machines
 use Rattle.md_machine.proofs.Moves.{five-each}
 
-pub first-core : (cart : List ℕ) (recording : List Frame) (room : ℕ) → IsImage cart → IsCore five IsChip IsBoard (core_in (Some (boards.power_on recording)) (first_chips cart) first_bounds [] room)
+pub first-core : (cart : List ℕ) (recording : List Frame) (room : ℕ) → IsImage cart → IsCore five IsChip IsBoard (core_in (boards.power_on recording) (first_chips cart) first_bounds [] room)
 unfolding next_of states.power_on sub_next_of states80.power_on
 first-core cart recording room image = record {
   shape = record {
@@ -45,25 +45,25 @@ first-core cart recording room image = record {
       (record { synth = IsSynth-at_power_on; taken = lit≤ tt; samples = lit≤ tt });
 }
 
-pub first-console : (cart : List ℕ) (recording : List Frame) (room : ℕ) → console (machine_of five (core_in (Some (boards.power_on recording)) (first_chips cart) first_bounds [] room)) ≡ power_on cart recording
+pub first-console : (cart : List ℕ) (recording : List Frame) (room : ℕ) → console (machine_of five (core_in (boards.power_on recording) (first_chips cart) first_bounds [] room)) ≡ power_on cart recording
 unfolding console
 first-console cart recording room = refl
 
 -- no event of the first core stands below cycle 0
-pub first-quiet : (cart : List ℕ) (recording : List Frame) (room : ℕ) → machines.IsQuiet five (machine_of five (core_in (Some (boards.power_on recording)) (first_chips cart) first_bounds [] room)) 0
+pub first-quiet : (cart : List ℕ) (recording : List Frame) (room : ℕ) → machines.IsQuiet five (machine_of five (core_in (boards.power_on recording) (first_chips cart) first_bounds [] room)) 0
 first-quiet cart recording room i below = omega arith
 
 -- the machine of these parts
 pub first-machine : (cart : List ℕ) (recording : List Frame) (board : Board) (chips : List Chip) (bounds : List Key) (entries : List Entry) (room : ℕ)
     → board ≡ boards.power_on recording → chips ≡ first_chips cart → bounds ≡ first_bounds → entries ≡ [] → 52500 ≤ room → IsImage cart
-    → IsMachine 0 (Some board) (core_in (Some board) chips bounds entries room)
+    → IsMachine 0 (Some (core_in board chips bounds entries room))
 first-machine cart recording board chips bounds entries room b c k e ample image =
-    subst (λ z. IsMachine 0 (Some z) (core_in (Some z) chips bounds entries room)) (sym b)
-    (subst (λ z. IsMachine 0 (Some (boards.power_on recording)) (core_in (Some (boards.power_on recording)) z bounds entries room)) (sym c)
-    (subst (λ z. IsMachine 0 (Some (boards.power_on recording)) (core_in (Some (boards.power_on recording)) (first_chips cart) z entries room)) (sym k)
-    (subst (λ z. IsMachine 0 (Some (boards.power_on recording)) (core_in (Some (boards.power_on recording)) (first_chips cart) first_bounds z room)) (sym e)
+    subst (λ z. IsMachine 0 (Some (core_in z chips bounds entries room))) (sym b)
+    (subst (λ z. IsMachine 0 (Some (core_in (boards.power_on recording) z bounds entries room))) (sym c)
+    (subst (λ z. IsMachine 0 (Some (core_in (boards.power_on recording) (first_chips cart) z entries room))) (sym k)
+    (subst (λ z. IsMachine 0 (Some (core_in (boards.power_on recording) (first_chips cart) first_bounds z room))) (sym e)
     (record {
-      has_board = refl;
+      has_core = refl;
       sound = first-core cart recording room image;
       room = ample;
       quiet = first-quiet cart recording room;
@@ -71,10 +71,10 @@ first-machine cart recording board chips bounds entries room b c k e ample image
 
 pub first-value : (cart : List ℕ) (recording : List Frame) (board : Board) (chips : List Chip) (bounds : List Key) (entries : List Entry) (room : ℕ)
     → board ≡ boards.power_on recording → chips ≡ first_chips cart → bounds ≡ first_bounds → entries ≡ []
-    → machine_at 0 (core_in (Some board) chips bounds entries room) ≡ record { at = 0; console = power_on cart recording; entries = []; media = no_media }
+    → machine_at 0 (core_in board chips bounds entries room) ≡ record { at = 0; console = power_on cart recording; entries = []; media = no_media }
 first-value cart recording board chips bounds entries room b c k e =
-    ap (λ z. machine_at 0 (core_in (Some z) chips bounds entries room)) b
-    ∙ ap (λ z. machine_at 0 (core_in (Some (boards.power_on recording)) z bounds entries room)) c
-    ∙ ap (λ z. machine_at 0 (core_in (Some (boards.power_on recording)) (first_chips cart) z entries room)) k
-    ∙ ap (λ z. machine_at 0 (core_in (Some (boards.power_on recording)) (first_chips cart) first_bounds z room)) e
+    ap (λ z. machine_at 0 (core_in z chips bounds entries room)) b
+    ∙ ap (λ z. machine_at 0 (core_in (boards.power_on recording) z bounds entries room)) c
+    ∙ ap (λ z. machine_at 0 (core_in (boards.power_on recording) (first_chips cart) z entries room)) k
+    ∙ ap (λ z. machine_at 0 (core_in (boards.power_on recording) (first_chips cart) first_bounds z room)) e
     ∙ ap (λ z. record { at = 0; console = z; entries = []; media = no_media }) (first-console cart recording room)

@@ -1,6 +1,9 @@
 -- A chip whose frame or samples are drained.
-use Rattle.std.specs.Prelude.{ℕ, ℤ, List, [], Option, None}
+use Rattle.std.specs.Prelude.{ℕ, ℤ, List, [], Option, None, slice_set}
+use Rattle.chip_core.specs.Cores.{CoreValue, chip_in}
+use Rattle.bus_shared.specs.Board.{Board}
 use Rattle.md_machine.specs.Refinement.{draw_of, fm_of, psg_of}
+use Rattle.md_machine.specs.Rules.{five}
 use Rattle.md_machine.specs.declared.chips.Chip.{Chip}
 use Rattle.md_machine.specs.declared.chips.Chip.TheVariants.{Main, Sub, Line, Fm, Psg}
 
@@ -23,3 +26,7 @@ silent (Sub c) = Sub c
 silent (Line c) = Line (record c { chip = record c.chip { frame = None } })
 silent (Fm c) = Fm (record c { samples = [] })
 silent (Psg c) = Psg (record c { samples = [] })
+
+-- the core without the frame or samples that the chip of a number keeps
+abbrev pub silenced : CoreValue Chip Board → ℕ → CoreValue Chip Board
+silenced core number = record core { chips = slice_set core.chips number (silent (chip_in five core.chips number)) }

@@ -1,6 +1,6 @@
 -- What the scheduler asks of the five chips.
 use Rattle.std.specs.Prelude.{◌≡◌, ℕ, ◌^◌, ◌<◌, ◌≤◌, nat_le, Bool, true, false, ◌==◌, refl, List, ◌++◌, length, cond, ◌+◌, ◌||◌, Option, Some, None}
-use Rattle.std.proofs.Common.{inl, arith, sym, length-append, lit<, lit≤, ap, ◌∙◌, subst, Result, Ok, Err, IfSome, IsTrue}
+use Rattle.std.proofs.Common.{arith, sym, length-append, lit<, lit≤, ap, subst, Result, Ok, Err, IfSome, IsTrue}
 use Rattle.std.proofs.lemmas.Bool.Decides.{nat_tests}
 use Rattle.chip_core.specs.Chips.{Follows, IsDue, Lawful}
 use Rattle.md_word.specs.declared.key.Key.{Key}
@@ -17,7 +17,6 @@ use Rattle.psg_sound.specs.Port.{taken_below}
 use Rattle.bus_shared.specs.Accesses.{main_answer, main_told, main_transfer, main_value, sub_access, taken_back, yielded}
 use Rattle.bus_shared.specs.Entries.{main_entry}
 use Rattle.fm_chip.specs.Batches as fm_batches
-use Rattle.fm_chip.specs.Port as fm_ports
 use Rattle.bus_shared.proofs.Keeps.{fm_board-ok, fm_taken-few, line-ok, main-ok, psg_board-ok}
 use Rattle.std.proofs.lemmas.List.FromFn.{length-map-range_with_len}
 use Rattle.bus_shared.proofs.Keeps as keeps

@@ -22,14 +22,12 @@ pub record MachineValue : Type 0 where
   pub media : Media
 
 -- the core of these parts
-abbrev pub core_in : Option Board → List Chip → List Key → List Entry → ℕ → CoreValue Chip Board
-core_in board chips bounds entries room = record {
-  shared = unwrap_or board (power_on []);
-  chips = chips;
-  bounds = bounds;
-  journal = entries;
-  room = room;
-}
+abbrev pub core_in : Board → List Chip → List Key → List Entry → ℕ → CoreValue Chip Board
+core_in board chips bounds entries room = record { shared = board; chips = chips; bounds = bounds; journal = entries; room = room }
+
+-- the core that a machine has; an empty one stands for it while it runs
+abbrev pub core_held : Option (CoreValue Chip Board) → CoreValue Chip Board
+core_held core = unwrap_or core (core_in (power_on []) [] [] [] 0)
 
 -- the frames and samples that a machine of five chips keeps
 abbrev pub kept_in : Machine Chip Board → Media
@@ -45,8 +43,8 @@ machine_at at core = record {
 }
 
 -- what holds of each machine: room for the entries of a segment, and no event below its cycle
-pub record IsMachine (at : ℕ) (board : Option Board) (core : CoreValue Chip Board) : Type 0 where
-  pub has_board : IsSome board
-  pub sound : IsCore five IsChip IsBoard core
-  pub room : 52500 ≤ core.room
-  pub quiet : machines.IsQuiet five (machine_of five core) at
+pub record IsMachine (at : ℕ) (core : Option (CoreValue Chip Board)) : Type 0 where
+  pub has_core : IsSome core
+  pub sound : IsCore five IsChip IsBoard (core_held core)
+  pub room : 52500 ≤ (core_held core).room
+  pub quiet : machines.IsQuiet five (machine_of five (core_held core)) at

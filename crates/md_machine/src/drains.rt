@@ -1,10 +1,16 @@
-ghost use Rattle.std.specs.Prelude.{◌≡◌, ◌+◌, ◌*◌, ◌≤◌, ◌++◌, IfSome, drop, length, option_copied, vec_len, vec_capacity};
+ghost use Rattle.std.specs.Prelude.{◌≡◌, ◌<◌, ◌+◌, ◌*◌, ◌≤◌, ◌++◌, IfSome, drop, length, option_copied, vec_len, vec_capacity};
 ghost use Rattle.vdp_chip.specs.Picture.{picture_length};
 ghost use Rattle.md_machine.specs.Lines.{frames_of};
 ghost use Rattle.md_machine.specs.Outputs.{first_sums, frame_length, frames_bytes, journal_bytes, mixed_bytes, sample_bytes};
+ghost use Rattle.chip_core.specs.Cores.{IsCore};
+ghost use Rattle.bus_shared.specs.Board.{IsBoard};
 ghost use Rattle.md_machine.specs.Drained as drained;
+ghost use Rattle.md_machine.specs.Drained.{silenced};
+ghost use Rattle.md_machine.specs.Rules.{IsChip, five};
 
 use crate::chips::Chip;
+use crate::set::MdChips;
+use chip_core::Core;
 use md_files::{ppm_head, put_entry, put_frame, put_pair};
 use md_word::Entry;
 use psg_sound::mix;
@@ -107,8 +113,19 @@ pub(crate) fn levels_in(chip: &Chip) -> &[i32]
     }
 }
 
+/// Lets the frame or the samples go that the chip of a number keeps.
+pub(crate) fn silence_chip(core: &mut Core<MdChips>, number: usize)
+    requires { number < 5 }
+    ensures value { core.new ≡ silenced core.old number }
+    ensures core { IsCore five IsChip IsBoard core.new }
+{
+    core.chips();
+    core.change(number, silence);
+    core.chips();
+}
+
 /// Lets the frame or the samples go that a chip keeps.
-pub(crate) fn silence(chip: &mut Chip)
+fn silence(chip: &mut Chip)
     ensures { chip.new ≡ drained.silent chip.old }
 {
     match chip {

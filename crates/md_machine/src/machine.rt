@@ -1,23 +1,30 @@
 ghost use Rattle.std.specs.Prelude.{◌≡◌, ℕ, ◌≤◌, ◌<◌, ◌+◌, ◌-◌, ◌*◌, ◌^◌, ◌++◌, [], IfOk, length, vec_len, vec_capacity};
 ghost use Rattle.std.specs.Arc.{arc_value};
+ghost use Rattle.chip_core.specs.Cores.{CoreValue, IsCore, machine_of};
+ghost use Rattle.chip_core.specs.Machines.{IsQuiet};
+ghost use Rattle.bus_shared.specs.Board.{Board, IsBoard};
+ghost use Rattle.md_machine.specs.Drained.{silenced};
+ghost use Rattle.md_machine.specs.declared.chips.Chip.{Chip};
 ghost use Rattle.md_machine.specs.Console.{AllBelow, IsRunTo, key_in, mover, power_on};
 ghost use Rattle.md_machine.specs.Outputs.{frame_length, frames_bytes, journal_bytes, sound_bytes};
 ghost use Rattle.md_machine.specs.Refinement.{main_of};
-ghost use Rattle.md_machine.specs.Rules.{next};
+ghost use Rattle.md_machine.specs.Machines.{machine_at};
+ghost use Rattle.md_machine.specs.Rules.{IsChip, five, next};
 ghost use Rattle.md_machine.specs.SoundParts.{HasSoundParts};
 ghost use Rattle.md_machine.specs.Media.{no_media};
 
-use crate::chips::Chip;
-use crate::drains::{frame_in, levels_in, put_entries, put_frames, put_pairs, sides_in, silence};
+use crate::drains::{
+    frame_in, levels_in, put_entries, put_frames, put_pairs, sides_in, silence_chip,
+};
 use crate::first::{first_bounds, first_chips};
 use crate::least::least_key;
-use crate::runs::{run_alone, run_workers, taken};
+use crate::runs::{run_alone, run_workers};
 use crate::set::MdChips;
 use bus_shared::Shared;
-use chip_core::laws;
+use chip_core::{Core, laws};
 use md_outer::Gate;
 use md_pads::Recording;
-use md_word::{Entry, Key, NoMemory};
+use md_word::{Key, NoMemory};
 use rom_header::Cart;
 use std::alloc::Global;
 use std::marker::Model;
@@ -31,21 +38,18 @@ pub(crate) const MOST_ENTRIES: usize = 52_500;
 #[derive(Drop)]
 pub struct Machine {
     pub(crate) at: u64,
-    pub(crate) shared: Option<Shared>,
-    pub(crate) chips: Vec<Chip>,
-    pub(crate) bounds: Vec<Key>,
-    pub(crate) journal: Vec<Entry>,
+    /// The core, which is away only while it runs.
+    pub(crate) core: Option<Core<MdChips>>,
 }
 
 impl Model for Machine {
-    ghost use Rattle.std.specs.Prelude.{vec_capacity};
-    ghost use Rattle.md_machine.specs.Machines.{MachineValue, IsMachine, core_in, machine_at};
+    ghost use Rattle.md_machine.specs.Machines.{MachineValue, IsMachine, core_held, machine_at};
 
     ghost Value = { MachineValue };
 
-    ghost view = { λ m. machine_at m.at (core_in m.shared m.chips.items m.bounds.items m.journal.items (vec_capacity m.journal)) };
+    ghost view = { λ m. machine_at m.at (core_held m.core) };
 
-    ghost invariant = { λ m. IsMachine m.at m.shared (core_in m.shared m.chips.items m.bounds.items m.journal.items (vec_capacity m.journal)) };
+    ghost invariant = { λ m. IsMachine m.at m.core };
 }
 
 impl Machine {
@@ -62,12 +66,10 @@ impl Machine {
         let chips = first_chips(alloc, cart)?;
         let bounds = first_bounds(alloc)?;
         let journal = Vec::with_capacity(alloc, MOST_ENTRIES)?;
+        let core = Core::make(shared, chips, bounds, journal);
         Ok(Machine {
             at: 0,
-            shared: Some(shared),
-            chips,
-            bounds,
-            journal,
+            core: Some(core),
         })
     }
 
@@ -91,7 +93,7 @@ impl Machine {
         ensures chip { result.chip ≡ mover self.now.console }
     {
         laws::stages::<MdChips>();
-        least_key(self.chips.as_slice())
+        least_key(self.core().chips())
     }
 
     /// From here on there are never more events below a cycle than cycles up to it, and chips.
@@ -100,8 +102,8 @@ impl Machine {
     {
         laws::stages::<MdChips>();
         laws::limits::<MdChips>();
-        // what holds of each machine holds of its parts
-        let _ = &self.chips;
+        // what holds of each machine holds of its core
+        let _ = &self.core;
     }
 
     /// Its parts are sound.
@@ -109,8 +111,8 @@ impl Machine {
         ensures { HasSoundParts self.now.console }
     {
         laws::stages::<MdChips>();
-        // what holds of each machine holds of its parts
-        let _ = &self.chips;
+        // what holds of each machine holds of its core
+        let _ = &self.core;
     }
 
     /// Brings the machine to the cycle `to`, at most a frame on. It waits for nobody.
@@ -126,14 +128,8 @@ impl Machine {
         ensures frames { length self.new.media.frames ≤ 1 }
         ensures samples { length self.new.media.levels ≤ 896 }
     {
-        if let Some(shared) = self.shared.take() {
-            let core = taken(shared, &mut self.chips, &mut self.bounds, &mut self.journal);
-            let after = run_alone(core, self.at, to);
-            let (shared, chips, bounds, journal) = after.into_parts();
-            self.shared = Some(shared);
-            self.chips = chips;
-            self.bounds = bounds;
-            self.journal = journal;
+        if let Some(core) = self.core.take() {
+            self.core = Some(run_alone(core, self.at, to));
             self.at = to;
         }
     }
@@ -164,14 +160,8 @@ impl Machine {
         ensures frames { length self.new.media.frames ≤ 1 }
         ensures samples { length self.new.media.levels ≤ 896 }
     {
-        if let Some(shared) = self.shared.take() {
-            let core = taken(shared, &mut self.chips, &mut self.bounds, &mut self.journal);
-            let after = run_workers(rt, core, self.at, to, workers, gate);
-            let (shared, chips, bounds, journal) = after.into_parts();
-            self.shared = Some(shared);
-            self.chips = chips;
-            self.bounds = bounds;
-            self.journal = journal;
+        if let Some(core) = self.core.take() {
+            self.core = Some(run_workers(rt, core, self.at, to, workers, gate));
             self.at = to;
         }
     }
@@ -184,8 +174,8 @@ impl Machine {
         ensures machine { self.new ≡ record self.old { entries = [] } }
         ensures room { vec_capacity into.new ≡ vec_capacity into.old }
     {
-        put_entries(self.journal.as_slice(), into);
-        self.journal.clear();
+        put_entries(self.core().journal(), into);
+        self.clear_journal();
     }
 
     /// Appends the frame that was finished since the machine was last drained, with its head, if one was.
@@ -196,8 +186,8 @@ impl Machine {
         ensures machine { self.new ≡ record self.old { media = record self.old.media { frames = [] } } }
         ensures room { vec_capacity into.old ≤ vec_capacity into.new }
     {
-        put_frames(frame_in(&self.chips[2]), into);
-        self.drop_frame();
+        put_frames(frame_in(&self.core().chips()[2]), into);
+        self.silence_draw();
     }
 
     /// Appends the pairs of samples that were made since the machine was last drained.
@@ -208,29 +198,62 @@ impl Machine {
         ensures machine { self.new ≡ record self.old { media = record self.old.media { sides = []; levels = [] } } }
         ensures room { vec_capacity into.new ≡ vec_capacity into.old }
     {
-        put_pairs(levels_in(&self.chips[4]), sides_in(&self.chips[3]), into);
+        let chips = self.core().chips();
+        put_pairs(levels_in(&chips[4]), sides_in(&chips[3]), into);
         self.silence_fm();
         self.silence_psg();
     }
 
+    /// The core.
+    pub(crate) fn core(&self) -> &Core<MdChips>
+        ensures value { machine_at self.now.at result.now ≡ self.now }
+        ensures core { IsCore five IsChip IsBoard result.now }
+        ensures quiet { IsQuiet five (machine_of five result.now) self.now.at }
+    {
+        match &self.core {
+            Some(core) => core,
+            None => unreachable!(),
+        }
+    }
+
+    /// Lets the journal's entries go.
+    fn clear_journal(&mut self)
+        ensures { self.new ≡ record self.old { entries = [] } }
+    {
+        if let Some(core) = &mut self.core {
+            core.clear_journal();
+        }
+    }
+
+    /// Lets the frame or the samples go that the chip of a number keeps.
+    fn silence(&mut self, number: usize)
+        requires { number < 5 }
+        ensures { (core : CoreValue Chip Board) × (machine_at self.old.at core ≡ self.old) × IsCore five IsChip IsBoard core
+            × (self.new ≡ machine_at self.old.at (silenced core number)) }
+    {
+        if let Some(core) = &mut self.core {
+            silence_chip(core, number);
+        }
+    }
+
     /// Lets the frame go.
-    fn drop_frame(&mut self)
+    fn silence_draw(&mut self)
         ensures { self.new ≡ record self.old { media = record self.old.media { frames = [] } } }
     {
-        silence(&mut self.chips[2]);
+        self.silence(2);
     }
 
     /// Lets the FM synthesis' samples go.
     fn silence_fm(&mut self)
         ensures { self.new ≡ record self.old { media = record self.old.media { sides = [] } } }
     {
-        silence(&mut self.chips[3]);
+        self.silence(3);
     }
 
     /// Lets the PSG's samples go.
     fn silence_psg(&mut self)
         ensures { self.new ≡ record self.old { media = record self.old.media { levels = [] } } }
     {
-        silence(&mut self.chips[4]);
+        self.silence(4);
     }
 }

@@ -16,7 +16,7 @@ use crate::psg_chip::PsgChip;
 use crate::set::MdChips;
 use crate::sub_chip::SubChip;
 use bus_shared::Shared;
-use chip_core::ChipSet;
+use chip_core::{ChipSet, Core};
 use fm_chip::FmSynth;
 use m68k_chip::Chip68;
 use md_word::clock::BATCH;
@@ -57,12 +57,10 @@ impl Machine {
         let chips = chips_of(alloc, at, main, sub, draw, fm, psg)?;
         let bounds = bounds_of(alloc, chips.as_slice())?;
         let journal = Vec::with_capacity(alloc, MOST_ENTRIES)?;
+        let core = Core::make(shared, chips, bounds, journal);
         Ok(Machine {
             at,
-            shared: Some(shared),
-            chips,
-            bounds,
-            journal,
+            core: Some(core),
         })
     }
 }

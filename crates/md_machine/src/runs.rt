@@ -3,39 +3,18 @@ ghost use Rattle.chip_core.specs.Cores.{CoreValue, IsCore, machine_of};
 ghost use Rattle.chip_core.specs.Limits.{all_moves_left};
 ghost use Rattle.chip_core.specs.Machines as machines;
 ghost use Rattle.md_machine.specs.Console.{IsRunTo};
-ghost use Rattle.md_machine.specs.Machines.{core_in, kept_in};
+ghost use Rattle.md_machine.specs.Machines.{kept_in};
 ghost use Rattle.bus_shared.specs.Board.{Board, IsBoard};
 ghost use Rattle.md_machine.specs.Refinement.{console};
 ghost use Rattle.md_machine.specs.Rules.{IsChip, five};
 ghost use Rattle.md_machine.specs.Media.{no_media};
 ghost use Rattle.md_machine.specs.declared.chips.Chip.{Chip};
 
-use crate::chips::Chip;
 use crate::set::MdChips;
-use bus_shared::Shared;
 use chip_core::{Core, laws};
 use md_outer::Gate;
-use md_word::{Entry, Key};
-use std::mem;
 use std::sync::Wait;
 use std::thread::Threads;
-
-/// The core of the machine's parts, taken out of their places.
-pub(crate) fn taken(
-    shared: Shared,
-    chips: &mut Vec<Chip>,
-    bounds: &mut Vec<Key>,
-    journal: &mut Vec<Entry>,
-) -> Core<MdChips>
-    requires { IsCore five IsChip IsBoard (core_in (Some shared) chips.old.items bounds.old.items journal.old.items (vec_capacity journal.old)) }
-    ensures { result ≡ core_in (Some shared) chips.old.items bounds.old.items journal.old.items (vec_capacity journal.old) }
-{
-    let alloc = *chips.allocator();
-    let chips = mem::replace(chips, Vec::new(alloc));
-    let bounds = mem::replace(bounds, Vec::new(alloc));
-    let journal = mem::replace(journal, Vec::new(alloc));
-    Core::make(shared, chips, bounds, journal)
-}
 
 /// Runs all events below a cycle, at most those of a segment, and waits for nobody.
 pub(crate) fn run_alone(core: Core<MdChips>, from: u64, to: u64) -> Core<MdChips>

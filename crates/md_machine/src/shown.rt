@@ -1,8 +1,7 @@
-ghost use Rattle.std.specs.Prelude.{◌≡◌, ◌&&◌, cond, [], IsSome, None, unwrap_or};
+ghost use Rattle.std.specs.Prelude.{◌≡◌, ◌&&◌, cond, None};
 ghost use Rattle.m68k_chip.specs.Cases.{begins_at, case_of};
 ghost use Rattle.m68k_chip.specs.States.{next_of};
 ghost use Rattle.bus_shared.specs.Accesses.{level_of};
-ghost use Rattle.bus_shared.specs.Board.{power_on};
 ghost use Rattle.md_machine.specs.Console.{begins_in};
 ghost use Rattle.md_machine.specs.Refinement.{draw_of, fm_of, main_of, psg_of, sub_of};
 ghost use Rattle.md_machine.specs.Rules.{next};
@@ -22,14 +21,14 @@ impl Machine {
     pub fn main_chip(&self) -> &Chip68
         ensures { result.now ≡ record { cart = self.now.console.cart; state = self.now.console.main } }
     {
-        main_in(&self.chips[0])
+        main_in(&self.core().chips()[0])
     }
 
     /// The Z80.
     pub fn sub_chip(&self) -> &Chip80
         ensures { result.now ≡ self.now.console.sub }
     {
-        sub_in(&self.chips[1])
+        sub_in(&self.core().chips()[1])
     }
 
     /// The drawing half of the VDP.
@@ -38,28 +37,28 @@ impl Machine {
         ensures note { result.now.note ≡ self.now.console.note }
         ensures picture { result.now.picture ≡ self.now.console.picture }
     {
-        draw_in(&self.chips[2])
+        draw_in(&self.core().chips()[2])
     }
 
     /// The FM synthesis.
     pub fn fm(&self) -> &FmSynth
         ensures { result.now ≡ self.now.console.fm }
     {
-        fm_in(&self.chips[3])
+        fm_in(&self.core().chips()[3])
     }
 
     /// The PSG's synthesis.
     pub fn psg(&self) -> &PsgSynth
         ensures { result.now ≡ self.now.console.psg }
     {
-        psg_in(&self.chips[4])
+        psg_in(&self.core().chips()[4])
     }
 
     /// What the chips share.
     pub fn shared(&self) -> &Shared
         ensures { result.now ≡ self.now.console.shared }
     {
-        board_in(&self.shared)
+        self.core().shared()
     }
 
     /// The cartridge.
@@ -87,17 +86,6 @@ fn begun(is_first: bool, main: &Chip68, shared: &Shared) -> Option<u32>
         main.begins(pins68(shared))
     } else {
         None
-    }
-}
-
-/// The board of a machine.
-fn board_in(shared: &Option<Shared>) -> &Shared
-    requires { IsSome shared.now }
-    ensures { result.now ≡ unwrap_or shared.now (power_on []) }
-{
-    match shared {
-        Some(shared) => shared,
-        None => unreachable!(),
     }
 }
 

@@ -16,9 +16,9 @@ use Rattle.md_machine.proofs.laws.one_owner.Goals as goal
 pub returns : goal.returns
 unfolding console
 returns c = λ recording end n small below.
-    let first : Machine Chip Board = machine_of five (core_in (Some (power_on recording)) (first_chips c.args.cart.now) first_bounds [] 0) in
+    let first : Machine Chip Board = machine_of five (core_in (power_on recording) (first_chips c.args.cart.now) first_bounds [] 0) in
     let sound : IsSound five IsChip IsBoard first =
-    c.stages.ensures.core (core_in (Some (power_on recording)) (first_chips c.args.cart.now) first_bounds [] 0) (first-core c.args.cart.now recording 0 c.bytes.ensures.image) in
+    c.stages.ensures.core (core_in (power_on recording) (first_chips c.args.cart.now) first_bounds [] 0) (first-core c.args.cart.now recording 0 c.bytes.ensures.image) in
     let lower : AllBelow five first end n =
     below-lift first end n (λ k earlier. c.stages.ensures.sound first end k (omega arith) sound earlier) c.stages.ensures.mover below in
     let stages : SoundTo first n = λ k within.

@@ -1,8 +1,8 @@
-use Rattle.std.proofs.Common.{vec_capacity, ℕ, ◌≤◌, ◌+◌, ◌-◌, ◌^◌, subst, arith}
+use Rattle.std.proofs.Common.{ℕ, ◌≤◌, ◌+◌, ◌-◌, ◌^◌, subst, arith}
 use Rattle.chip_core.specs.Cores.{CoreValue, machine_of}
 use Rattle.chip_core.specs.Machines.{AllBelow, IsSound, Machine}
 use Rattle.md_machine.specs.Console as consoles
-use Rattle.md_machine.specs.Machines.{MachineValue, core_in}
+use Rattle.md_machine.specs.Machines.{MachineValue, core_held}
 use Rattle.bus_shared.specs.Board.{Board, IsBoard}
 use Rattle.md_machine.specs.Refinement.{console}
 use Rattle.md_machine.specs.Rules.{IsChip, five}
@@ -13,7 +13,7 @@ use Rattle.md_machine.proofs.machine.Machine.few_events.Goals as goal
 pub returns : goal.returns
 returns c =
     let m = c.self.inside in
-    let core : CoreValue Chip Board = core_in m.shared m.chips.items m.bounds.items m.journal.items (vec_capacity m.journal) in
+    let core : CoreValue Chip Board = core_held m.core in
     let first : Machine Chip Board = machine_of five core in
     let sound : IsSound five IsChip IsBoard first = c.stages.ensures.core core c.self.invariant.sound in
     let few : (end n : ℕ) → end ≤ 2 ^ 50 → consoles.AllBelow (console first) end n → n ≤ end - m.at + 5 = λ end n small below.

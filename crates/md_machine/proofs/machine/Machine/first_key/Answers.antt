@@ -1,10 +1,10 @@
-use Rattle.std.proofs.Common.{vec_capacity, ℕ, List, ap, ◌∙◌}
+use Rattle.std.proofs.Common.{ℕ, List, ap, ◌∙◌}
 use Rattle.md_word.specs.declared.key.Key.{Key}
 use Rattle.chip_core.specs.Cores as cores
 use Rattle.chip_core.specs.Machines as machines
 use Rattle.chip_core.specs.Machines.{IsSound, Machine, least_below}
 use Rattle.md_machine.specs.Console.{key_in, mover}
-use Rattle.md_machine.specs.Machines.{MachineValue, core_in}
+use Rattle.md_machine.specs.Machines.{MachineValue}
 use Rattle.bus_shared.specs.Board.{Board, IsBoard}
 use Rattle.md_machine.specs.Refinement.{console}
 use Rattle.md_machine.specs.Rules.{IsChip, five}
@@ -16,23 +16,23 @@ use Rattle.md_machine.proofs.machine.Machine.first_key.Goals as goal
 pub returns-clause-key : goal.returns-clause-key
 unfolding machines.mover
 returns-clause-key c =
-    let m = c.self.inside in
-    let first : Machine Chip Board = cores.machine_of five (core_in m.shared m.chips.items m.bounds.items m.journal.items (vec_capacity m.journal)) in
-    let sound : IsSound five IsChip IsBoard first = c.stages.ensures.core (core_in m.shared m.chips.items m.bounds.items m.journal.items (vec_capacity m.journal)) c.self.invariant.sound in
+    let v = c.core.result.now in
+    let first : Machine Chip Board = cores.machine_of five v in
+    let sound : IsSound five IsChip IsBoard first = c.stages.ensures.core v c.core.ensures.core in
     c.least_key.ensures
-    ∙ ap (λ (chips : List Chip). cores.key_in five chips (least_below (cores.key_in five chips) 5)) c.as_slice.ensures.value
+    ∙ ap (λ (chips : List Chip). cores.key_in five chips (least_below (cores.key_in five chips) 5)) c.chips.ensures.value
     ∙ key-same first sound (machines.mover five first) (c.stages.ensures.mover first)
     ∙ ap (λ (i : ℕ). key_in (console first) i) (mover-same first sound)
-    ∙ ap (λ (v : MachineValue). key_in v.console (mover v.console)) c.self.view_is
+    ∙ ap (λ (v : MachineValue). key_in v.console (mover v.console)) c.core.ensures.value
 
 pub returns-clause-chip : goal.returns-clause-chip
 unfolding machines.mover
 returns-clause-chip c =
-    let m = c.self.inside in
-    let first : Machine Chip Board = cores.machine_of five (core_in m.shared m.chips.items m.bounds.items m.journal.items (vec_capacity m.journal)) in
-    let sound : IsSound five IsChip IsBoard first = c.stages.ensures.core (core_in m.shared m.chips.items m.bounds.items m.journal.items (vec_capacity m.journal)) c.self.invariant.sound in
+    let v = c.core.result.now in
+    let first : Machine Chip Board = cores.machine_of five v in
+    let sound : IsSound five IsChip IsBoard first = c.stages.ensures.core v c.core.ensures.core in
     ap (λ (k : Key). k.chip) c.least_key.ensures
-    ∙ ap (λ (chips : List Chip). (cores.key_in five chips (least_below (cores.key_in five chips) 5)).chip) c.as_slice.ensures.value
+    ∙ ap (λ (chips : List Chip). (cores.key_in five chips (least_below (cores.key_in five chips) 5)).chip) c.chips.ensures.value
     ∙ sound.number (machines.mover five first) (c.stages.ensures.mover first)
     ∙ mover-same first sound
-    ∙ ap (λ (v : MachineValue). mover v.console) c.self.view_is
+    ∙ ap (λ (v : MachineValue). mover v.console) c.core.ensures.value

@@ -5,4 +5,4 @@ use Rattle.md_machine.proofs.machine.Machine.shared.Goals as goal
 
 pub returns : goal.returns
 unfolding console
-returns c = c.board_in.ensures ∙ ap (λ (v : MachineValue). v.console.shared) c.self.view_is
+returns c = c.shared.ensures ∙ ap (λ (v : MachineValue). v.console.shared) c.core.ensures.value

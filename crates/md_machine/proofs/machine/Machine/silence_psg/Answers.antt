@@ -1,14 +1,5 @@
-use Rattle.std.proofs.Common.{[], ap, ◌∙◌, arith}
-use Rattle.std.proofs.lemmas.List.{get_or_read}
-use Rattle.md_machine.specs.Machines.{MachineValue, core_in}
-use Rattle.md_machine.specs.Drained.{silent}
-use Rattle.md_machine.specs.Rules.{five}
-use Rattle.md_machine.proofs.Silent.{drained-psg}
+use Rattle.md_machine.proofs.Silent.{silenced-psg}
 use Rattle.md_machine.proofs.machine.Machine.silence_psg.Goals as goal
 
 pub returns : goal.returns
-returns c =
-    let m = c.self.inside in
-    drained-psg m.at (core_in m.shared m.chips.items m.bounds.items m.journal.items 0) c.silence.new.chip c.self.invariant.sound.shape.chip_count
-    (c.silence.ensures ∙ ap silent (get_or_read m.chips.items 4 c.index_mut.result.now (omega (arith, c.self.invariant.sound.shape.chip_count)) c.index_mut.ensures.value five.blank))
-    ∙ ap (λ (v : MachineValue). record v { media = record v.media { levels = [] } }) c.self.view_is
+returns c = silenced-psg c.args.self.now c.silence.new.self c.silence.ensures

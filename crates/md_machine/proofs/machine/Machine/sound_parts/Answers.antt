@@ -1,7 +1,7 @@
-use Rattle.std.proofs.Common.{vec_capacity, subst}
+use Rattle.std.proofs.Common.{subst}
 use Rattle.chip_core.specs.Cores.{CoreValue, machine_of}
 use Rattle.bus_shared.specs.Board.{Board}
-use Rattle.md_machine.specs.Machines.{MachineValue, core_in}
+use Rattle.md_machine.specs.Machines.{MachineValue, core_held}
 use Rattle.md_machine.specs.Rules.{five}
 use Rattle.md_machine.specs.SoundParts.{HasSoundParts}
 use Rattle.md_machine.specs.declared.chips.Chip.{Chip}
@@ -11,5 +11,5 @@ use Rattle.md_machine.proofs.machine.Machine.sound_parts.Goals as goal
 pub returns : goal.returns
 returns c =
     let m = c.self.inside in
-    let core : CoreValue Chip Board = core_in m.shared m.chips.items m.bounds.items m.journal.items (vec_capacity m.journal) in
+    let core : CoreValue Chip Board = core_held m.core in
     subst (λ (v : MachineValue). HasSoundParts v.console) c.self.view_is (parts_in (machine_of five core) (c.stages.ensures.core core c.self.invariant.sound))

@@ -1,23 +1,23 @@
-use Rattle.std.proofs.Common.{ap, ◌∙◌, arith, lit<}
-use Rattle.std.proofs.lemmas.List.{get_or_read}
+use Rattle.std.proofs.Common.{ap, ◌∙◌, lit<}
 use Rattle.md_machine.specs.Machines.{MachineValue}
 use Rattle.md_machine.specs.Refinement.{console, sub_of}
-use Rattle.md_machine.specs.Rules.{five, next}
+use Rattle.md_machine.specs.Rules.{next}
 use Rattle.md_machine.specs.declared.chips.Chip.{Chip}
+use Rattle.md_machine.proofs.Held.{read-chip}
 use Rattle.md_machine.proofs.machine.Machine.sub_chip.Goals as goal
 
 pub sub_in-requires : goal.sub_in-requires
 sub_in-requires c =
-    let m = c.self.inside in
+    let v = c.core.result.now in
     ap (λ (x : Chip). (next x).key.chip)
-    (get_or_read m.chips.items 1 c.index.result.now (omega (arith, c.self.invariant.sound.shape.chip_count)) c.index.ensures five.blank)
-    ∙ c.self.invariant.sound.shape.number 1 (lit< tt)
+    (read-chip v c.chips.result.now 1 c.index-chips-1.result c.core.ensures.core c.chips.ensures.value (lit< tt) c.index-chips-1.is)
+    ∙ c.core.ensures.core.shape.number 1 (lit< tt)
 
 pub returns : goal.returns
 unfolding console
 returns c =
-    let m = c.self.inside in
+    let v = c.core.result.now in
     c.sub_in.ensures
     ∙ ap (λ (x : Chip). (sub_of x).chip)
-    (get_or_read m.chips.items 1 c.index.result.now (omega (arith, c.self.invariant.sound.shape.chip_count)) c.index.ensures five.blank)
-    ∙ ap (λ (v : MachineValue). v.console.sub) c.self.view_is
+    (read-chip v c.chips.result.now 1 c.index-chips-1.result c.core.ensures.core c.chips.ensures.value (lit< tt) c.index-chips-1.is)
+    ∙ ap (λ (v : MachineValue). v.console.sub) c.core.ensures.value
