@@ -3,11 +3,7 @@
 
     bench/synthesis.py [BATCHES]
 
-In a temporary folder it makes a repository of `fm_chip`, the crates below it and a program over them, and
-has `rt run` build that as LLVM builds any program here. That takes a minute where `rt ci` has run, some
-more where these crates are to be proved first, and up to 1 GB of disk.
-
-The program makes BATCHES batches of sixteen samples, 200,000 if not given, of a chord on all six channels
+A small program over `fm_chip` (see programs.py) makes BATCHES batches of sixteen samples, 200,000 if not given, of a chord on all six channels
 in different algorithms, all four operators of each with their key on and rates that are not 0:
 
     chord      the low frequency oscillator off, and no write after the chord's
@@ -20,13 +16,11 @@ of a run of no batches. `FmSynth::batch` takes no allocator, so that it can ask 
 there is none to count.
 """
 import pathlib
-import resource
-import shutil
-import subprocess
 import sys
 import tempfile
 
-TOP = pathlib.Path(__file__).resolve().parent.parent
+import programs
+
 ROWS = (("chord", 0x00, 0x00), ("vibrato", 0x0F, 0x00), ("levels", 0x00, 0x4C), ("converter", 0x00, 0x2A))
 SOURCE = """//! Makes batches of the FM chip's samples: `samples OSCILLATOR REGISTER BATCHES`. OSCILLATOR is the byte for
 //! register 22; where REGISTER is not 0, each batch has a write to it in its middle.
@@ -116,60 +110,14 @@ fn main(rt: HostRuntime) -> io::Result<()> {
 """
 
 
-def libraries():
-    """The lines of crates.txt for `fm_chip` and what it stands on, by the crates' names."""
-    lines = {}
-    for line in (TOP / "crates.txt").read_text().splitlines():
-        name, colon, below = line.partition(":")
-        if colon and not line.startswith("#"):
-            lines[name.split()[0]] = (line, below.split())
-    wanted, found = ["fm_chip", "md_word"], {}
-    while wanted:
-        name = wanted.pop()
-        if name in lines and name not in found:
-            found[name] = lines[name][0]
-            wanted += lines[name][1]
-    return found
-
-
-def build(folder):
-    """The program, built in a repository of its own."""
-    found = libraries()
-    for name in found:
-        skip = shutil.ignore_patterns("must-fail")
-        shutil.copytree(TOP / "crates" / name, folder / "crates" / name, ignore=skip)
-    crate = folder / "crates" / "samples"
-    (crate / "src").mkdir(parents=True)
-    (crate / "src" / "main.rt").write_text(SOURCE)
-    lines = [*found.values(), "samples: md_word fm_chip arrayvec"]
-    (folder / "crates.txt").write_text("".join(line + "\n" for line in lines))
-    shutil.copy(TOP / "HANDLES", folder)
-    run = subprocess.run(["rt", "run"], cwd=crate, capture_output=True, text=True)
-    if run.returncode != 0:
-        sys.exit(f"{run.stdout}{run.stderr}`rt run` did not build the program: run `rt ci` first")
-    return crate / "out" / "samples"
-
-
-def seconds(command):
-    """The processor's seconds of a run."""
-    before = resource.getrusage(resource.RUSAGE_CHILDREN).ru_utime
-    subprocess.run(command, check=True, stdout=subprocess.DEVNULL)
-    return resource.getrusage(resource.RUSAGE_CHILDREN).ru_utime - before
-
-
 def main():
     batches = int(sys.argv[1]) if len(sys.argv) > 1 else 200_000
-    if shutil.which("rt") is None:
-        sys.exit("`rt`, the command of Rattle's toolchain, is not on the PATH")
-    if not (TOP / "crates" / "fm_chip" / "out").exists():
-        print("fm_chip is not proved here: `rt ci` has not run, and its proofs come first", flush=True)
     with tempfile.TemporaryDirectory() as name:
-        program = build(pathlib.Path(name))
+        program = programs.build(pathlib.Path(name), "samples", SOURCE, ["md_word", "fm_chip", "arrayvec"])
         for row, oscillator, register in ROWS:
             command = [program, str(oscillator), str(register)]
-            start = min(seconds([*command, "0"]) for _ in range(5))
-            best = min(seconds([*command, str(batches)]) for _ in range(5)) - start
-            rate = 16 * batches / best
+            spent = programs.seconds([*command, str(batches)]) - programs.seconds([*command, "0"])
+            rate = 16 * batches / spent
             print(f"{row}: {rate / 1e6:.2f} million samples a second, {889e6 / rate:.0f} microseconds a frame")
 
 
