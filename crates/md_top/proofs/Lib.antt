@@ -2,6 +2,7 @@ pub mod Appends
 pub mod Carts
 pub mod Ends
 pub mod Fetched
+pub mod Heard
 pub mod Kept
 pub mod Least
 pub mod LeastRuns

@@ -16,6 +16,7 @@ use Rattle.save_state.specs.States.{state_bytes}
 use Rattle.md_machine.proofs.Counts.{entries-few, levels-counted, sides-counted}
 use Rattle.md_machine.proofs.Joined.{run-joined}
 use Rattle.md_top.specs.Courses.{CameTo}
+use Rattle.md_top.specs.Heard.{HearsRuns}
 use Rattle.md_top.specs.Endings.{pairs_between}
 use Rattle.md_top.specs.Limits.{IsEnd}
 use Rattle.md_top.specs.Outputs.{Pieces, lengthened, nothing}
@@ -130,10 +131,10 @@ pieces-front start end s is few small within = record {
 }
 
 -- a machine at its start, with nothing made
-pub at-start : (start : Start) → IsStart start → FewEvents start → start.at ≤ 2 ^ 50
+pub at-start : (start : Start) → IsStart start → FewEvents start → HearsRuns start → start.at ≤ 2 ^ 50
     → CameTo start (record { at = start.at; console = start.console; entries = []; media = no_media }) 0
 unfolding ran
-at-start start is few small = record {
+at-start start is few heard small = record {
   from = is;
   few = few;
   later = omega arith;
@@ -142,15 +143,16 @@ at-start start is few small = record {
   entries = refl;
   media = refl;
   counted = sym (ap length (no-entries start is few small));
+  heard = heard;
 }
 
 -- behind a segment
-pub came-to : (start : Start) (at to accesses : ℕ) (after machine : MachineValue) → IsStart start → FewEvents start → start.at ≤ to → Segment start at to after
+pub came-to : (start : Start) (at to accesses : ℕ) (after machine : MachineValue) → IsStart start → FewEvents start → HearsRuns start → start.at ≤ to → Segment start at to after
     → machine ≡ record { at = to; console = after.console; entries = []; media = no_media } → accesses ≡ length (entries_from start to)
     → CameTo start machine accesses
-came-to start at to accesses after machine is few later made same counted =
+came-to start at to accesses after machine is few heard later made same counted =
     subst (λ (m : MachineValue). CameTo start m accesses) (sym same)
-    (record { from = is; few = few; later = later; run = made.run; entries = refl; media = refl; counted = counted })
+    (record { from = is; few = few; later = later; run = made.run; entries = refl; media = refl; counted = counted; heard = heard })
 
 -- the outputs behind a segment
 sound-next : (start : Start) (end at to : ℕ) (pairs : List ℕ) → sound_bytes (media_from start to) ≡ sound_bytes (media_from start at) ++ pairs

@@ -4,6 +4,7 @@ use Rattle.md_machine.specs.Console.{IsRunTo}
 use Rattle.md_machine.specs.Machines.{MachineValue}
 use Rattle.md_machine.specs.Media.{no_media}
 use Rattle.md_machine.specs.Starts.{IsStart, Start}
+use Rattle.md_top.specs.Heard.{HearsRuns}
 use Rattle.md_top.specs.Runs.{FewEvents, entries_from, media_from}
 use Rattle.md_top.specs.declared.course.Course.{Course}
 
@@ -25,7 +26,8 @@ pub record IsFresh (machine : MachineValue) : Type 0 where
   pub entries : machine.entries ≡ []
   pub media : machine.media ≡ no_media
 
--- a machine came from a start to its cycle with so many accesses, and its records were drained
+-- a machine came from a start to its cycle with so many accesses, and its records were drained; from
+-- power-on, all runs are heard
 pub record CameTo (start : Start) (machine : MachineValue) (accesses : ℕ) : Type 0 where
   pub from : IsStart start
   pub few : FewEvents start
@@ -34,6 +36,7 @@ pub record CameTo (start : Start) (machine : MachineValue) (accesses : ℕ) : Ty
   pub entries : machine.entries ≡ []
   pub media : machine.media ≡ no_media
   pub counted : accesses ≡ length (entries_from start machine.at)
+  pub heard : HearsRuns start
 
 -- a run came from this start to where it is
 abbrev pub CameFrom : Start → Course → Type 0

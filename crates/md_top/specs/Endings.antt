@@ -11,6 +11,7 @@ use Rattle.md_machine.specs.Starts.{Start}
 use Rattle.md_top.specs.Inputs.{CartCause, InputCause, IsAccepted, Recorded, Verdict, WrongAt, cart_limit, cart_of, recording_limit, refusal_of}
 use Rattle.md_top.specs.Limits.{IsEnd, last_cycle}
 use Rattle.md_top.specs.Loads.{Begins, CanRun, Keeps, LoadCause, MayBeginAt, OfOther, StateVerdict, StateWrongAt, state_limit}
+use Rattle.md_top.specs.Heard.{IsHeard}
 use Rattle.md_top.specs.Runs.{entries_from, halted_from, pieces_of, pieces_until, powered_on}
 use Rattle.md_top.specs.Outputs.{Holds, IsUnwritten, LeavesParts, nothing}
 use Rattle.md_words.specs.Words.{Command, Info, Run, RunCart, end_of, frames_name, journal_name, load_name, recording_name, rom_of, save_name, sound_name}
@@ -122,7 +123,7 @@ IsReady (RunCart run) files = IsEnd run.cycles × CanRun run files
 -- why a run from a start ends, once it has begun
 abbrev pub RunCause : Start → Run → DepotState → DepotState → Ending → Type 0
 RunCause start run old new (Done from accesses halted) =
-    (from ≡ start.at) × (accesses ≡ length (entries_from start run.cycles)) × (halted ≡ halted_from start run.cycles)
+    (from ≡ start.at) × (accesses ≡ length (entries_from start run.cycles)) × (halted ≡ halted_from start run.cycles) × IsHeard start run.cycles
 RunCause start run old new Unsaved = IsSome run.save
 RunCause start run old new ending = IsUnwritten run old new ending
 

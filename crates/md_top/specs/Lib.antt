@@ -1,6 +1,7 @@
 pub mod Answers
 pub mod Courses
 pub mod Endings
+pub mod Heard
 pub mod Inputs
 pub mod Least
 pub mod Limits

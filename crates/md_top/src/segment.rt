@@ -8,6 +8,7 @@ ghost use Rattle.md_top.specs.Workers.{CanGoOn, WentOn};
 
 use crate::course::Course;
 use md_machine::{Machine, laws};
+use md_reached::heard;
 use md_word::NoMemory;
 use std::alloc::Global;
 
@@ -28,6 +29,8 @@ pub(crate) fn begin(alloc: Global, machine: Machine) -> Result<Course, NoMemory>
     ensures underway { IfOk result IsAtStart }
 {
     laws::few_events(&machine);
+    heard::levels_are_heard(machine.cart());
+    heard::sides_are_heard(machine.cart());
     let frames = Vec::with_capacity(alloc, FRAME)?;
     let pairs = Vec::with_capacity(alloc, MOST_PAIRS)?;
     let records = Vec::with_capacity(alloc, MOST_RECORDS)?;

@@ -2,7 +2,8 @@ use Rattle.std.proofs.Common.{rules, ◌≡◌, ℕ, length, ap, subst, ◌∙�
 use Rattle.md_machine.specs.Starts.{Start}
 use Rattle.md_top.specs.Courses.{cycle_of, start_in}
 use Rattle.md_top.specs.Endings.{HoldsUntil}
-use Rattle.md_top.specs.Runs.{entries_from, halted_from, state_to}
+use Rattle.md_top.specs.Heard.{HearsWrites}
+use Rattle.md_top.specs.Runs.{entries_from, halted_from, media_from, state_to}
 use Rattle.md_words.specs.Shown.{shown_run}
 use Rattle.save_state.specs.States.{state_bytes}
 use Rattle.md_top.proofs.Ends.{state-held, unsaved-leaves}
@@ -36,6 +37,9 @@ returns-in-Ok-clause-cause g c =
       (rw c.main_chip.ensures at c.halted.ensures)
           ∙ halted-found start course.machine course.accesses c.segments.invariant.1 (omega (arith, at, small))
           ∙ ap (λ (n : ℕ). halted_from start n) at,
+      λ inputs same. subst (λ (n : ℕ). HearsWrites n (entries_from start n) (media_from start n)) at
+          (c.segments.invariant.1.heard inputs course.machine.console (cycle_of course) (entries_from start (cycle_of course))
+          (media_from start (cycle_of course)) same (omega (arith, at, small)) c.segments.invariant.1.run),
     )
 
 pub returns-in-Ok-clause-files : goal.returns-in-Ok-clause-files
