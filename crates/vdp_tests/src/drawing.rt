@@ -69,62 +69,88 @@ fn bytes_of(alloc: Global, row: &Row) -> Result<Vec<u8>, Fail> {
     Ok(bytes)
 }
 
+/// The place at which the bytes of a row are refused.
+fn refused(alloc: Global, row: &Row) -> Result<Option<u64>, Fail> {
+    place_of(alloc, &bytes_of(alloc, row)?, row.0)
+}
+
 #[test]
 fn each_rule_of_the_drawing_half(rt: HostRuntime) -> Result<(), Fail> {
-    for row in ROWS {
-        let bytes = bytes_of(rt.alloc(), &row)?;
-        assert_eq!(rt;
-            place_of(rt.alloc(), &bytes, row.0)?,
-            row.4,
-            "{} {}",
-            row.0,
-            row.1
+    for (number, row) in ROWS.iter().enumerate() {
+        assert!(rt; refused(rt.alloc(), row)? == row.4, "row {number}");
+    }
+    Ok(())
+}
+
+/// The place at which so many bytes of 0 are refused.
+fn refused_length(alloc: Global, length: usize) -> Result<Option<u64>, Fail> {
+    place_of(alloc, &vec![in alloc; 0; length]?, 0)
+}
+
+const LENGTHS: [(usize, u64); 4] = [(0, 0), (9, 9), (215_049, 215_049), (215_051, 215_050)];
+
+#[test]
+fn other_lengths_of_the_drawing_half(rt: HostRuntime) -> Result<(), Fail> {
+    for (length, place) in LENGTHS {
+        assert!(rt;
+            refused_length(rt.alloc(), length)? == Some(place),
+            "{length}"
         );
     }
     Ok(())
 }
 
-#[test]
-fn other_lengths_of_the_drawing_half(rt: HostRuntime) -> Result<(), Fail> {
-    let mut bytes = vec![in rt.alloc(); 0u8; LENGTH]?;
-    for length in [0u64, 9, 215_049] {
-        let front = bytes.get(..length as usize).unwrap_or(&[]);
-        assert_eq!(rt; place_of(rt.alloc(), front, 0)?, Some(length));
+/// A VDP that shows the backdrop alone, of this colour.
+fn backdrop(alloc: Global, colour: u16) -> Result<VdpState, Fail> {
+    let mut vdp = VdpState::power_on(alloc)?;
+    vdp.cram[0] = colour;
+    Ok(vdp)
+}
+
+/// Makes the events of lines in one colour.
+fn make_events(
+    alloc: Global,
+    chip: &mut ChipVdp,
+    lines: (u32, u32),
+    colour: u16,
+) -> Result<(), Fail> {
+    let vdp = backdrop(alloc, colour)?;
+    for line in lines.0..lines.1 {
+        make_event(chip, &vdp, line);
     }
-    bytes.push(0)?;
-    assert_eq!(rt; place_of(rt.alloc(), &bytes, 0)?, Some(215_050));
     Ok(())
 }
 
-// The event behind 100 lines stands at 342,000, 0537F0h. The lines show the backdrop: 100 rows of white,
-// and of the two chips the rest of the frame in red.
+/// Whether the bytes are those behind 100 lines of white, whose next event stands at 342,000, 0537F0h.
+fn are_amid(bytes: &[u8]) -> bool {
+    bytes.starts_with(&[0, 0, 0, 0, 0, 0x05, 0x37, 0xf0, 0, 0, 252])
+        && bytes.get(96_009..96_011) == Some([252, 0].as_slice())
+}
+
+/// The bytes of a chip whose lines from 100 on are red, or none where it has no frame then.
+fn later(alloc: Global, chip: &mut ChipVdp) -> Result<Vec<u8>, Fail> {
+    make_events(alloc, chip, (100, 225), 0x000e)?;
+    if chip.frame().is_some() {
+        spelled(alloc, chip, 769_500)
+    } else {
+        Ok(Vec::new(alloc))
+    }
+}
+
+/// Whether a chip and the one that is read of its bytes go on in the same way.
+fn go_on_alike(alloc: Global, chip: &mut ChipVdp, bytes: &[u8]) -> Result<bool, Fail> {
+    let again = ChipVdp::unspell(alloc, bytes, 342_000);
+    let mut again = again.map_err(|_| Fail::from("refused"))?;
+    let one = later(alloc, chip)?;
+    let other = later(alloc, &mut again)?;
+    Ok(one.len() == LENGTH && one.as_slice() == other.as_slice() && again.frame() == chip.frame())
+}
+
 #[test]
 fn a_picture_goes_on_as_it_was_kept(rt: HostRuntime) -> Result<(), Fail> {
-    let alloc = rt.alloc();
-    let mut vdp = VdpState::power_on(alloc)?;
-    let mut chip = ChipVdp::power_on(alloc)?;
-    vdp.cram[0] = 0x0eee;
-    for line in 0..100 {
-        make_event(&mut chip, &vdp, line);
-    }
-    let bytes = spelled(alloc, &chip, 342_000)?;
-    let head = [0, 0, 0, 0, 0, 0x05, 0x37, 0xf0, 0, 0, 252];
-    assert!(rt; bytes.starts_with(&head));
-    assert_eq!(rt;
-        bytes.get(96_009..96_011).unwrap_or(&[]),
-        [252, 0].as_slice()
-    );
-    let mut again = match ChipVdp::unspell(alloc, &bytes, 342_000) {
-        Ok(again) => again,
-        Err(_) => return Err(Fail::from("refused")),
-    };
-    vdp.cram[0] = 0x000e;
-    for line in 100..225 {
-        make_event(&mut chip, &vdp, line);
-        make_event(&mut again, &vdp, line);
-    }
-    assert!(rt; again.frame().is_some() && again.frame() == chip.frame());
-    let one = spelled(alloc, &chip, 769_500)?;
-    assert!(rt; one.as_slice() == spelled(alloc, &again, 769_500)?.as_slice());
+    let mut chip = ChipVdp::power_on(rt.alloc())?;
+    make_events(rt.alloc(), &mut chip, (0, 100), 0x0eee)?;
+    let bytes = spelled(rt.alloc(), &chip, 342_000)?;
+    assert!(rt; are_amid(&bytes) && go_on_alike(rt.alloc(), &mut chip, &bytes)?);
     Ok(())
 }

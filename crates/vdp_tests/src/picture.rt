@@ -1,5 +1,5 @@
 // One picture in which each part of the drawing shows somewhere, and its dots as worked out by hand.
-use crate::frames::{dot, make_event};
+use crate::frames::{first_wrong, make_event};
 use std::test::Fail;
 use vdp_chip::ChipVdp;
 use vdp_ports::VdpState;
@@ -217,17 +217,19 @@ const DOTS: [(usize, usize, [u8; 3]); 55] = [
     (223, 319, [18, 0, 0]),
 ];
 
+/// Makes the events of the picture's lines and of the one behind them.
+fn make_events(chip: &mut ChipVdp, vdp: &VdpState) {
+    for line in 0..225 {
+        make_event(chip, vdp, line);
+    }
+}
+
 #[test]
 fn a_picture_with_each_part_of_the_drawing(rt: HostRuntime) -> Result<(), Fail> {
-    let alloc = rt.alloc();
-    let mut vdp = VdpState::power_on(alloc)?;
-    let mut chip = ChipVdp::power_on(alloc)?;
+    let mut vdp = VdpState::power_on(rt.alloc())?;
+    let mut chip = ChipVdp::power_on(rt.alloc())?;
     prepare(&mut vdp);
-    for line in 0..225 {
-        make_event(&mut chip, &vdp, line);
-    }
-    for (y, x, bytes) in DOTS {
-        assert_eq!(rt; dot(&chip, y, x), Some(bytes), "{y} {x}");
-    }
+    make_events(&mut chip, &vdp);
+    assert_eq!(rt; first_wrong(&chip, &DOTS), None);
     Ok(())
 }

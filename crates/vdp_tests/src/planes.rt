@@ -57,10 +57,12 @@ fn draw(vdp: &VdpState, y: u8, rgb: &mut [u8; 960]) {
     mix_dots(&scene, &a, &b, &sprites, rgb);
 }
 
-// The colour memory's word, the mode, the names of plane A and of the sprite at the upper left dot,
-// and its bytes. A sprite of colour 62 lifts the plane behind it by a step, one of 63 lowers it to
-// shadow.
-const LEVELS: [(u16, u8, u16, u16, [u8; 3]); 8] = [
+/// The colour memory's word, the mode, the names of plane A and of the sprite at the upper left dot,
+/// and its bytes.
+type Level = (u16, u8, u16, u16, [u8; 3]);
+
+// A sprite of colour 62 lifts the plane behind it by a step, one of 63 lowers it to shadow.
+const LEVELS: [Level; 8] = [
     (0x0eee, 0x01, 0x2001, 0, [252, 252, 252]),
     (0x0eee, 0x09, 0x2001, 0, [126, 126, 126]),
     (0x0eee, 0x09, 0xa001, 0xe002, [252, 252, 252]),
@@ -71,18 +73,32 @@ const LEVELS: [(u16, u8, u16, u16, [u8; 3]); 8] = [
     (0x0840, 0x09, 0xa001, 0xe003, [0, 36, 72]),
 ];
 
+/// Whether the upper left dot has the bytes of its row.
+fn is_printed(vdp: &mut VdpState, row: &Level) -> bool {
+    let &(word, mode, name, sprite, bytes) = row;
+    prepare(vdp, mode);
+    vdp.cram[17] = word;
+    put(vdp, 0xc000, name);
+    put(vdp, 0xf004, sprite);
+    let mut rgb = [1; 960];
+    draw(vdp, 0, &mut rgb);
+    [rgb[0], rgb[1], rgb[2]] == bytes
+}
+
+/// The first row that is printed otherwise.
+fn first_wrong_level(vdp: &mut VdpState) -> Option<usize> {
+    for (number, row) in LEVELS.iter().enumerate() {
+        if !is_printed(vdp, row) {
+            return Some(number);
+        }
+    }
+    None
+}
+
 #[test]
 fn levels_are_printed(rt: HostRuntime) -> Result<(), Fail> {
     let mut vdp = VdpState::power_on(rt.alloc())?;
-    for (word, mode, name, sprite, bytes) in LEVELS {
-        prepare(&mut vdp, mode);
-        vdp.cram[17] = word;
-        put(&mut vdp, 0xc000, name);
-        put(&mut vdp, 0xf004, sprite);
-        let mut rgb = [1; 960];
-        draw(&vdp, 0, &mut rgb);
-        assert_eq!(rt; [rgb[0], rgb[1], rgb[2]], bytes, "{word} {name} {sprite}");
-    }
+    assert_eq!(rt; first_wrong_level(&mut vdp), None);
     Ok(())
 }
 
@@ -100,6 +116,26 @@ const ORDER: [(u16, u16, u16, u8); 9] = [
     (0x2000, 0x4000, 0x6000, 0),
 ];
 
+/// The red of the upper left dot.
+fn first_red(vdp: &mut VdpState, a: u16, b: u16, sprite: u16) -> u8 {
+    put(vdp, 0xc000, a);
+    put(vdp, 0xe000, b);
+    put(vdp, 0xf004, sprite);
+    let mut rgb = [1; 960];
+    draw(vdp, 0, &mut rgb);
+    rgb[0]
+}
+
+/// The first row that is in another order.
+fn first_wrong_order(vdp: &mut VdpState) -> Option<usize> {
+    for (number, (a, b, sprite, palette)) in ORDER.into_iter().enumerate() {
+        if first_red(vdp, a, b, sprite) != 36 * palette {
+            return Some(number);
+        }
+    }
+    None
+}
+
 // The red of a palette's colours is its number, and the backdrop is colour 2.
 #[test]
 fn planes_and_sprites_stand_in_order(rt: HostRuntime) -> Result<(), Fail> {
@@ -109,15 +145,21 @@ fn planes_and_sprites_stand_in_order(rt: HostRuntime) -> Result<(), Fail> {
     vdp.cram[17] = 2;
     vdp.cram[33] = 4;
     vdp.cram[49] = 6;
-    for (a, b, sprite, palette) in ORDER {
-        put(&mut vdp, 0xc000, a);
-        put(&mut vdp, 0xe000, b);
-        put(&mut vdp, 0xf004, sprite);
-        let mut rgb = [1; 960];
-        draw(&vdp, 0, &mut rgb);
-        assert_eq!(rt; rgb[0], 36 * palette, "{a} {b} {sprite}");
-    }
+    assert_eq!(rt; first_wrong_order(&mut vdp), None);
     Ok(())
+}
+
+/// The first place of a line at which its byte is not that of the borders or of the picture.
+fn first_wrong(vdp: &VdpState) -> Option<usize> {
+    let mut rgb = [1; 960];
+    draw(vdp, 100, &mut rgb);
+    for (place, byte) in rgb.iter().enumerate() {
+        let want = if place < 96 || place >= 864 { 252 } else { 0 };
+        if *byte != want {
+            return Some(place);
+        }
+    }
+    None
 }
 
 // In the 256 mode 32 dots of the backdrop, white, stand on each side of the picture, which is black
@@ -130,13 +172,26 @@ fn the_narrow_picture_has_borders(rt: HostRuntime) -> Result<(), Fail> {
     for k in 0..1024u16 {
         put(&mut vdp, 0xe000 + 2 * k, 1);
     }
-    let mut rgb = [1; 960];
-    draw(&vdp, 100, &mut rgb);
-    for (place, byte) in rgb.iter().enumerate() {
-        let want = if place < 96 || place >= 864 { 252 } else { 0 };
-        assert_eq!(rt; *byte, want, "{place}");
-    }
+    assert_eq!(rt; first_wrong(&vdp), None);
     Ok(())
+}
+
+/// A dot of plane A on a line.
+fn dot(vdp: &VdpState, line: u32, x: usize) -> Dot {
+    let mut a = [CLEAR; 320];
+    draw_plane(&scene_of(vdp), line % 224, false, &mut a);
+    a[x % 320]
+}
+
+fn is_scrolled(vdp: &VdpState) -> bool {
+    let last = dot(vdp, 0, 7);
+    [
+        dot(vdp, 0, 0).colour,
+        dot(vdp, 0, 1).colour,
+        dot(vdp, 0, 2).colour,
+    ] == [26, 27, 28]
+        && last.colour == 47
+        && last.priority
 }
 
 // A plane of 64 by 32 cells, scrolled by 511 to the right and by 1,023 up: the dot at (0, 0) is that
@@ -151,10 +206,7 @@ fn a_plane_is_scrolled(rt: HostRuntime) -> Result<(), Fail> {
     put(&mut vdp, 0xc000 + 2 * 31 * 64, 0x2004);
     put(&mut vdp, 0xc002 + 2 * 31 * 64, 0xc803);
     put(&mut vdp, 4 * 32 + 28, 0x5abc);
-    let mut a = [CLEAR; 320];
-    draw_plane(&scene_of(&vdp), 0, false, &mut a);
-    assert_eq!(rt; [a[0].colour, a[1].colour, a[2].colour], [26, 27, 28]);
-    assert_eq!(rt; (a[7].colour, a[7].priority), (47, true));
+    assert!(rt; is_scrolled(&vdp));
     Ok(())
 }
 
@@ -173,21 +225,32 @@ const EDGES: [(u8, u8, u8, usize, u8); 10] = [
     (0x05, 0x02, 0, 319, 2),
 ];
 
+/// Fills plane A with palette 1, and the window with palette 2.
+fn fill_both(vdp: &mut VdpState) {
+    for k in 0..1024u16 {
+        put(vdp, 0xc000 + 2 * k, 0x2001);
+        put(vdp, 0xd000 + 4 * k, 0x4001);
+        put(vdp, 0xd002 + 4 * k, 0x4001);
+    }
+}
+
+/// The first row at which the other plane is seen.
+fn first_wrong_edge(vdp: &mut VdpState) -> Option<usize> {
+    for (number, (across, down, y, x, palette)) in EDGES.into_iter().enumerate() {
+        vdp.registers[WINDOW_ACROSS] = across;
+        vdp.registers[WINDOW_DOWN] = down;
+        if dot(vdp, u32::from(y), x).colour / 16 != palette {
+            return Some(number);
+        }
+    }
+    None
+}
+
 #[test]
 fn the_window_takes_the_place_of_plane_a(rt: HostRuntime) -> Result<(), Fail> {
     let mut vdp = VdpState::power_on(rt.alloc())?;
     prepare(&mut vdp, 0x01);
-    for k in 0..1024u16 {
-        put(&mut vdp, 0xc000 + 2 * k, 0x2001);
-        put(&mut vdp, 0xd000 + 4 * k, 0x4001);
-        put(&mut vdp, 0xd002 + 4 * k, 0x4001);
-    }
-    for (across, down, y, x, palette) in EDGES {
-        vdp.registers[WINDOW_ACROSS] = across;
-        vdp.registers[WINDOW_DOWN] = down;
-        let mut a = [CLEAR; 320];
-        draw_plane(&scene_of(&vdp), u32::from(y % 224), false, &mut a);
-        assert_eq!(rt; a[x % 320].colour / 16, palette, "{across} {down} {y} {x}");
-    }
+    fill_both(&mut vdp);
+    assert_eq!(rt; first_wrong_edge(&mut vdp), None);
     Ok(())
 }

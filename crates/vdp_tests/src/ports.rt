@@ -1,4 +1,3 @@
-use std::process::Abort;
 use std::test::Fail;
 use vdp_ports::VdpState;
 
@@ -28,11 +27,15 @@ fn carried_out(vdp: &mut VdpState, access: Access) -> (u16, u16) {
     }
 }
 
-fn run(rt: &impl Abort, vdp: &mut VdpState, accesses: &[Access]) {
+/// Makes accesses, and tells the place of the first that reads another word.
+fn first_wrong(vdp: &mut VdpState, accesses: &[Access]) -> Option<usize> {
     for (place, access) in accesses.iter().enumerate() {
         let (want, read) = carried_out(vdp, *access);
-        assert_eq!(rt; read, want, "access {place}");
+        if read != want {
+            return Some(place);
+        }
     }
+    None
 }
 
 use Access::{Control, Read, Status, Write};
@@ -83,7 +86,7 @@ const MEMORIES: [Access; 33] = [
 #[test]
 fn memories_are_written_and_read_back(rt: HostRuntime) -> Result<(), Fail> {
     let mut vdp = VdpState::power_on(rt.alloc())?;
-    run(&rt, &mut vdp, &MEMORIES);
+    assert_eq!(rt; first_wrong(&mut vdp, &MEMORIES), None);
     Ok(())
 }
 
@@ -96,26 +99,37 @@ const PENDING: [Access; 4] = [
     Status(0x0200),
 ];
 
+fn waits(vdp: &mut VdpState) -> bool {
+    first_wrong(vdp, &PENDING).is_none() && vdp.a == 0x8000 && vdp.registers[15] == 0
+}
+
 #[test]
 fn a_first_word_waits_for_its_second(rt: HostRuntime) -> Result<(), Fail> {
     let mut vdp = VdpState::power_on(rt.alloc())?;
-    run(&rt, &mut vdp, &PENDING);
-    assert_eq!(rt; vdp.a, 0x8000);
-    assert_eq!(rt; vdp.registers[15], 0);
-    run(&rt, &mut vdp, &[Control(0x8f02)]);
-    assert_eq!(rt; vdp.register(15), 2);
+    assert!(rt; waits(&mut vdp));
+    vdp.control_write(0, 0x8f02);
+    assert!(rt; vdp.register(15) == 2);
     Ok(())
+}
+
+/// Whether both interrupts are shown by their levels, the higher one first.
+fn are_acknowledged(vdp: &mut VdpState) -> bool {
+    vdp.vertical = true;
+    vdp.horizontal = true;
+    for level in [6, 4, 0] {
+        if vdp.level() != level {
+            return false;
+        }
+        vdp.acknowledge(level);
+    }
+    true
 }
 
 #[test]
 fn interrupts_are_acknowledged_by_their_level(rt: HostRuntime) -> Result<(), Fail> {
     let mut vdp = VdpState::power_on(rt.alloc())?;
-    run(&rt, &mut vdp, &[Control(0x8010), Control(0x8120)]);
-    vdp.vertical = true;
-    vdp.horizontal = true;
-    for level in [6, 4, 0] {
-        assert_eq!(rt; vdp.level(), level);
-        vdp.acknowledge(level);
-    }
+    vdp.control_write(0, 0x8010);
+    vdp.control_write(0, 0x8120);
+    assert!(rt; are_acknowledged(&mut vdp));
     Ok(())
 }

@@ -42,6 +42,15 @@ fn place_of(alloc: Global, bytes: &[u8], at: u64) -> Result<Option<u64>, Fail> {
     }
 }
 
+/// The place at which bytes of 0 with these changes, each from a place on, are refused at a cycle.
+fn refused(alloc: Global, at: u64, changes: &[(usize, &[u8])]) -> Result<Option<u64>, Fail> {
+    let mut bytes = zeros(alloc)?;
+    for &(place, values) in changes {
+        put(&mut bytes, place, values);
+    }
+    place_of(alloc, &bytes, at)
+}
+
 // Each rule broken once: the byte that is changed, its value, and the place of the refusal.
 const BROKEN: [(usize, u8, u64); 20] = [
     (65_560, 0x10, 65_560),
@@ -69,20 +78,17 @@ const BROKEN: [(usize, u8, u64); 20] = [
 #[test]
 fn each_rule_is_looked_at(rt: HostRuntime) -> Result<(), Fail> {
     for (offset, value, place) in BROKEN {
-        let mut bytes = zeros(rt.alloc())?;
-        put(&mut bytes, offset, &[value]);
-        assert_eq!(rt;
-            place_of(rt.alloc(), &bytes, 1000)?,
-            Some(place),
-            "{offset}"
-        );
+        let found = refused(rt.alloc(), 1000, &[(offset, &[value])])?;
+        assert!(rt; found == Some(place), "{offset}");
     }
     Ok(())
 }
 
-// What goes on in a state at 1000: its kind, byte, source, bytes left and next stamp, and the place of
-// the refusal.
-const GOING: [(u8, u8, u16, u32, u64, Option<u64>); 11] = [
+/// What goes on in a state at 1000: its kind, byte, source, bytes left and next stamp, and the place of
+/// the refusal.
+type Going = (u8, u8, u16, u32, u64, Option<u64>);
+
+const GOING: [Going; 11] = [
     (1, 7, 0, 1, 1000, None),
     (1, 7, 0, 65_536, 1016, None),
     (1, 7, 0, 1, 999, Some(65_783)),
@@ -106,35 +112,58 @@ const INTERVALS: [(u64, u64, u64, Option<u64>); 5] = [
     (0, 3420, 1, None),
 ];
 
+/// The place at which what goes on is refused.
+fn refused_going(alloc: Global, row: &Going) -> Result<Option<u64>, Fail> {
+    let (kind, byte, source, left, next, _) = *row;
+    refused(
+        alloc,
+        1000,
+        &[
+            (65_773, &[kind, byte]),
+            (65_775, &source.to_be_bytes()),
+            (65_779, &left.to_be_bytes()),
+            (65_783, &next.to_be_bytes()),
+        ],
+    )
+}
+
+/// The place at which an interval is refused.
+fn refused_interval(alloc: Global, from: u64, to: u64, at: u64) -> Result<Option<u64>, Fail> {
+    let changes: [(usize, &[u8]); 2] = [(65_796, &from.to_be_bytes()), (65_804, &to.to_be_bytes())];
+    refused(alloc, at, &changes)
+}
+
 #[test]
 fn rules_on_several_fields(rt: HostRuntime) -> Result<(), Fail> {
-    for (kind, byte, source, left, next, place) in GOING {
-        let mut bytes = zeros(rt.alloc())?;
-        put(&mut bytes, 65_773, &[kind, byte]);
-        put(&mut bytes, 65_775, &source.to_be_bytes());
-        put(&mut bytes, 65_779, &left.to_be_bytes());
-        put(&mut bytes, 65_783, &next.to_be_bytes());
-        assert_eq!(rt; place_of(rt.alloc(), &bytes, 1000)?, place, "{kind} {next}");
+    for (number, row) in GOING.iter().enumerate() {
+        assert!(rt; refused_going(rt.alloc(), row)? == row.5, "row {number}");
     }
     for (from, to, at, place) in INTERVALS {
-        let mut bytes = zeros(rt.alloc())?;
-        put(&mut bytes, 65_796, &from.to_be_bytes());
-        put(&mut bytes, 65_804, &to.to_be_bytes());
-        assert_eq!(rt; place_of(rt.alloc(), &bytes, at)?, place, "{from} {at}");
+        assert!(rt;
+            refused_interval(rt.alloc(), from, to, at)? == place,
+            "{from}"
+        );
     }
     Ok(())
 }
 
+/// The place at which so many bytes of 0 are refused.
+fn refused_length(alloc: Global, length: usize) -> Result<Option<u64>, Fail> {
+    place_of(alloc, &vec![in alloc; 0; length]?, 1000)
+}
+
+const LENGTHS: [(usize, Option<u64>); 4] = [
+    (0, Some(0)),
+    (65_811, Some(65_811)),
+    (65_812, None),
+    (65_813, Some(65_812)),
+];
+
 #[test]
 fn other_lengths_are_refused(rt: HostRuntime) -> Result<(), Fail> {
-    let mut bytes = zeros(rt.alloc())?;
-    for (length, place) in [(0, 0), (65_811, 65_811), (65_812, LENGTH)] {
-        let first = bytes.get(..length).unwrap_or(&[]);
-        let found = place_of(rt.alloc(), first, 1000)?;
-        assert_eq!(rt; found.unwrap_or(65_812), place as u64);
+    for (length, place) in LENGTHS {
+        assert!(rt; refused_length(rt.alloc(), length)? == place, "{length}");
     }
-    bytes.push(0)?;
-    assert_eq!(rt; place_of(rt.alloc(), &bytes, 1000)?, Some(65_812));
     Ok(())
 }
 
@@ -146,38 +175,58 @@ const AMID: [u8; 44] = [
     0, 0, 0, 0, 0, 0, 0, 0, 0, 0, 0, 0, 0, 0, 0, 0, 0, 0, 0, 0, 0,
 ];
 
-#[test]
-fn a_fill_goes_on_as_it_was_kept(rt: HostRuntime) -> Result<(), Fail> {
-    let mut vdp = VdpState::power_on(rt.alloc())?;
+/// The fill at 1100.
+fn filling(alloc: Global) -> Result<VdpState, Fail> {
+    let mut vdp = VdpState::power_on(alloc)?;
     for word in [0x8110, 0x8f03, 0x9328, 0x9780, 0x4100, 0x0080] {
         vdp.control_write(0, word);
     }
     vdp.data_write(1000, 0x1234);
     settle(&mut vdp, 1100);
+    Ok(vdp)
+}
+
+/// Whether the bytes are those of the fill.
+fn are_amid(bytes: &[u8]) -> bool {
+    bytes.get(65_768..) == Some(AMID.as_slice())
+        && bytes.get(280..283) == Some([0x12, 0x34, 0x12].as_slice())
+}
+
+/// The bytes of the fill at 1300, or none where it has gone on otherwise.
+fn later(alloc: Global, vdp: &mut VdpState) -> Result<Vec<u8>, Fail> {
+    settle(vdp, 1300);
+    if (vdp.left, vdp.address, vdp.next_stamp) == (23, 0x136, 1306) {
+        spelled(alloc, vdp, 1300)
+    } else {
+        Ok(Vec::new(alloc))
+    }
+}
+
+/// Whether the fill and the one that is read of its bytes go on in the same way.
+fn go_on_alike(alloc: Global, vdp: &mut VdpState, bytes: &[u8]) -> Result<bool, Fail> {
+    let one = later(alloc, vdp)?;
+    let other = later(alloc, &mut kept(alloc, bytes, 1100)?)?;
+    Ok(one.len() == LENGTH && one.as_slice() == other.as_slice())
+}
+
+#[test]
+fn a_fill_goes_on_as_it_was_kept(rt: HostRuntime) -> Result<(), Fail> {
+    let mut vdp = filling(rt.alloc())?;
     let bytes = spelled(rt.alloc(), &vdp, 1100)?;
-    assert_eq!(rt; bytes.get(65_768..).unwrap_or(&[]), AMID.as_slice());
-    assert_eq!(rt;
-        bytes.get(280..283).unwrap_or(&[]),
-        [0x12, 0x34, 0x12].as_slice()
-    );
-    let mut again = kept(rt.alloc(), &bytes, 1100)?;
-    settle(&mut vdp, 1300);
-    settle(&mut again, 1300);
-    assert_eq!(rt;
-        (again.left, again.address, again.next_stamp),
-        (23, 0x136, 1306)
-    );
-    let one = spelled(rt.alloc(), &vdp, 1300)?;
-    assert!(rt; one.as_slice() == spelled(rt.alloc(), &again, 1300)?.as_slice());
+    assert!(rt; are_amid(&bytes) && go_on_alike(rt.alloc(), &mut vdp, &bytes)?);
     Ok(())
+}
+
+/// Whether bytes are read and then spelled again.
+fn is_again(alloc: Global, bytes: &[u8]) -> Result<bool, Fail> {
+    let again = spelled(alloc, &kept(alloc, bytes, 1)?, 1)?;
+    Ok(again.as_slice() == bytes)
 }
 
 // At power-on all is 0.
 #[test]
 fn power_on_is_spelled(rt: HostRuntime) -> Result<(), Fail> {
     let bytes = spelled(rt.alloc(), &VdpState::power_on(rt.alloc())?, 1)?;
-    assert!(rt; bytes.as_slice() == zeros(rt.alloc())?.as_slice());
-    let again = spelled(rt.alloc(), &kept(rt.alloc(), &bytes, 1)?, 1)?;
-    assert!(rt; again.as_slice() == bytes.as_slice());
+    assert!(rt; bytes.as_slice() == [0; LENGTH].as_slice() && is_again(rt.alloc(), &bytes)?);
     Ok(())
 }

@@ -1,6 +1,7 @@
+use std::alloc::Global;
 use std::test::Fail;
 use vdp_planes::register::{MODE_2, MODE_4, SPRITES};
-use vdp_planes::{Dot, LineView, SpriteNote, fill_view, mix_line, plane_line};
+use vdp_planes::{Dot, LineView, fill_view, mix_line, plane_line};
 use vdp_ports::VdpState;
 use vdp_sprites::sprite_line;
 
@@ -48,70 +49,82 @@ fn prepare(vdp: &mut VdpState) {
     put_sprite(vdp, 20, 128 + 280, 1, 0);
 }
 
+/// A view of which nothing is filled.
+fn blank_view(alloc: Global) -> Result<Box<LineView>, Fail> {
+    let view = LineView {
+        registers: [0; 24],
+        vram: [0; 65536],
+        cram: [0; 64],
+        vsram: [0; 40],
+    };
+    Ok(Box::new(alloc, view)?)
+}
+
+/// Whether the dots below the first place, and those from 200 to below the second, are opaque, and no
+/// others.
+fn are_opaque(dots: &[Dot; 320], first: usize, second: usize) -> bool {
+    for (place, dot) in dots.iter().enumerate() {
+        let opaque = place < first || place >= 200 && place < second;
+        if (dot.colour == 1) != opaque {
+            return false;
+        }
+    }
+    true
+}
+
 // The fifth sprite's place, and up to which dots the two stretches of opaque dots go: those from 0 on
 // and those from 200 on.
 const STRETCHES: [(u16, usize, usize); 2] = [(128 + 32, 160, 216), (0, 40, 200)];
 
-#[test]
-fn a_line_has_its_limits(rt: HostRuntime) -> Result<(), Fail> {
-    let alloc = rt.alloc();
-    let mut vdp = VdpState::power_on(alloc)?;
-    prepare(&mut vdp);
-    let mut view = Box::new(
-        alloc,
-        LineView {
-            registers: [0; 24],
-            vram: [0; 65536],
-            cram: [0; 64],
-            vsram: [0; 40],
-        },
-    )?;
+/// Whether line 0 has these stretches, too many sprites and two that meet.
+fn has_stretches(view: &LineView, first: usize, second: usize) -> bool {
+    let mut dots = [CLEAR; 320];
+    let note = sprite_line(view, 0, &mut dots);
+    note.overflow && note.collision && are_opaque(&dots, first, second)
+}
+
+/// The fifth sprite's first place at which the line is otherwise.
+fn first_wrong(vdp: &mut VdpState, view: &mut LineView) -> Option<u16> {
     for (x, first, second) in STRETCHES {
-        put_sprite(&mut vdp, 4, x, 1, 5);
-        fill_view(&mut view, &vdp);
-        let mut dots = [CLEAR; 320];
-        let note = sprite_line(&view, 0, &mut dots);
-        let want = SpriteNote {
-            overflow: true,
-            collision: true,
-        };
-        assert_eq!(rt; note, want);
-        for (place, dot) in dots.iter().enumerate() {
-            let opaque = place < first || place >= 200 && place < second;
-            assert_eq!(rt; dot.colour == 1, opaque, "{place}");
+        put_sprite(vdp, 4, x, 1, 5);
+        fill_view(view, vdp);
+        if !has_stretches(view, first, second) {
+            return Some(x);
         }
     }
+    None
+}
+
+#[test]
+fn a_line_has_its_limits(rt: HostRuntime) -> Result<(), Fail> {
+    let mut vdp = VdpState::power_on(rt.alloc())?;
+    prepare(&mut vdp);
+    let mut view = blank_view(rt.alloc())?;
+    assert_eq!(rt; first_wrong(&mut vdp, &mut view), None);
     Ok(())
 }
 
-// With the sprites of before, whose colour is white: the dots of the line.
-#[test]
-fn a_view_is_drawn(rt: HostRuntime) -> Result<(), Fail> {
-    let alloc = rt.alloc();
-    let mut vdp = VdpState::power_on(alloc)?;
-    prepare(&mut vdp);
-    vdp.cram[1] = 0x0eee;
-    let mut view = Box::new(
-        alloc,
-        LineView {
-            registers: [0; 24],
-            vram: [0; 65536],
-            cram: [0; 64],
-            vsram: [0; 40],
-        },
-    )?;
-    fill_view(&mut view, &vdp);
+/// Bytes of the dots beside the ends of both stretches, as line 0 is drawn.
+fn drawn(view: &LineView) -> [u8; 5] {
     let mut a = [CLEAR; 320];
     let mut b = [CLEAR; 320];
     let mut dots = [CLEAR; 320];
-    plane_line(&view, 0, false, &mut a);
-    plane_line(&view, 0, true, &mut b);
-    sprite_line(&view, 0, &mut dots);
+    plane_line(view, 0, false, &mut a);
+    plane_line(view, 0, true, &mut b);
+    sprite_line(view, 0, &mut dots);
     let mut rgb = [1; 960];
-    mix_line(&view, &a, &b, &dots, &mut rgb);
-    assert_eq!(rt;
-        [rgb[479], rgb[480], rgb[600], rgb[647], rgb[648]],
-        [252, 0, 252, 252, 0]
-    );
+    mix_line(view, &a, &b, &dots, &mut rgb);
+    [rgb[479], rgb[480], rgb[600], rgb[647], rgb[648]]
+}
+
+// With the sprites of before, whose colour is white.
+#[test]
+fn a_view_is_drawn(rt: HostRuntime) -> Result<(), Fail> {
+    let mut vdp = VdpState::power_on(rt.alloc())?;
+    prepare(&mut vdp);
+    vdp.cram[1] = 0x0eee;
+    let mut view = blank_view(rt.alloc())?;
+    fill_view(&mut view, &vdp);
+    assert!(rt; drawn(&view) == [252, 0, 252, 252, 0]);
     Ok(())
 }
