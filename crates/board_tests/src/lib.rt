@@ -7,6 +7,8 @@ mod board;
 #[cfg(test)]
 mod fm;
 #[cfg(test)]
+mod lines;
+#[cfg(test)]
 mod spelling;
 #[cfg(test)]
 mod video;

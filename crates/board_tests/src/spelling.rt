@@ -3,9 +3,10 @@
 // its count at 88,370, 88,371 and 88,372, the latches at 88,380, the pads at 88,384 and 88,386; where the
 // bus has the Z80's RAM, that and the bank register, at 8,192, stand in front, so that all others come
 // 8,194 later.
-use bus_shared::{Request, Shared, carry_out};
+use crate::board::{board, main};
+use bus_shared::Shared;
 use md_pads::Recording;
-use md_word::{Key, Request68, Unspell};
+use md_word::{Request68, Unspell};
 use std::alloc::Global;
 use std::sync::Arc;
 use std::test::Fail;
@@ -56,18 +57,26 @@ fn place_of(alloc: Global, bytes: &[u8]) -> Result<Option<u64>, Fail> {
     }
 }
 
+/// So many bytes of 0 but for the reset and these changes.
+fn changed(alloc: Global, length: usize, changes: &[(usize, u8)]) -> Result<Vec<u8>, Fail> {
+    let mut bytes = bytes(alloc, length)?;
+    for change in changes {
+        put(&mut bytes, *change);
+    }
+    Ok(bytes)
+}
+
+const ANY_BYTES: [(usize, [(usize, u8); 3]); 2] = [
+    (SHORT, [(24, 0xab), (65_812, 0x28), (88_383, 0x5a)]),
+    (LONG, [(0, 0xc3), (8_191, 0x76), (8_193, 0xff)]),
+];
+
 // With the Z80's RAM and without it, in any bytes that no rule speaks of.
 #[test]
 fn what_is_read_is_spelled_so(rt: HostRuntime) -> Result<(), Fail> {
-    for (length, changes) in [
-        (SHORT, [(24, 0xab), (65_812, 0x28), (88_383, 0x5a)]),
-        (LONG, [(0, 0xc3), (8_191, 0x76), (8_193, 0xff)]),
-    ] {
-        let mut state = bytes(rt.alloc(), length)?;
-        for change in changes {
-            put(&mut state, change);
-        }
-        assert!(rt; is_again(rt.alloc(), &state)?, "{length}");
+    for (length, changes) in ANY_BYTES {
+        let bytes = changed(rt.alloc(), length, &changes)?;
+        assert!(rt; is_again(rt.alloc(), &bytes)?, "{length}");
     }
     Ok(())
 }
@@ -95,66 +104,75 @@ const BROKEN: [(usize, [(usize, u8); 2], u64); 18] = [
     (LONG, [(96_573, 2), (96_578, 1)], 96_566),
 ];
 
+/// The place at which bytes with these changes are refused.
+fn refused(alloc: Global, length: usize, changes: &[(usize, u8)]) -> Result<Option<u64>, Fail> {
+    place_of(alloc, &changed(alloc, length, changes)?)
+}
+
 #[test]
 fn the_first_rule_that_fails_tells_the_place(rt: HostRuntime) -> Result<(), Fail> {
     for (length, changes, place) in BROKEN {
-        let mut state = bytes(rt.alloc(), length)?;
-        for change in changes {
-            put(&mut state, change);
-        }
-        assert_eq!(rt; place_of(rt.alloc(), &state)?, Some(place));
+        assert!(rt;
+            refused(rt.alloc(), length, &changes)? == Some(place),
+            "{place}"
+        );
     }
     Ok(())
 }
 
+const FILL: [(u32, u16); 9] = [
+    (0xa1_1100, 0x0100),
+    (0xc0_0004, 0x8114),
+    (0xc0_0004, 0x8f01),
+    (0xc0_0004, 0x9303),
+    (0xc0_0004, 0x9400),
+    (0xc0_0004, 0x9780),
+    (0xc0_0004, 0x4000),
+    (0xc0_0004, 0x0080),
+    (0xc0_0000, 0x6812),
+];
+
 /// A board whose VDP was given these control words and this data word at cycle 100, and which was asked
 /// for the Z80's bus.
 fn filling(alloc: Global) -> Result<Shared, Fail> {
-    let mut shared = Shared::power_on(alloc, recording(alloc)?).map_err(|_| Fail::from(
-        "no memory",
-    ))?;
-    for (address, word) in [
-        (0xa1_1100, 0x0100),
-        (0xc0_0004, 0x8114),
-        (0xc0_0004, 0x8f01),
-        (0xc0_0004, 0x9303),
-        (0xc0_0004, 0x9400),
-        (0xc0_0004, 0x9780),
-        (0xc0_0004, 0x4000),
-        (0xc0_0004, 0x0080),
-        (0xc0_0000, 0x6812),
-    ] {
-        let key = Key {
-            cycle: 100,
-            chip: 0,
-        };
-        let _ = carry_out(
-            &mut shared,
-            key,
-            Request::Main(Request68::Write16(address, word)),
-        );
+    let mut shared = board(alloc, b"MDREC001\0\0\0\0")?;
+    for (address, word) in FILL {
+        main(&mut shared, 100, Request68::Write16(address, word));
     }
     Ok(shared)
 }
 
 // A fill of three bytes of 68h, begun by the word 6812h at cycle 100, which itself writes 68h and 12h at 0
 // and 1. Byte k is stamped 100 + 17·(k + 1) and goes to k + 1 with bit 0 inverted, so that those at 117,
-// 134 and 151 go to 0, 3 and 2. The state at a cycle has those below it; the board stays as it is.
+// 134 and 151 go to 0, 3 and 2. The cycle of a state, which has those below it, the first bytes of the
+// video memory, and how many are left.
+const FILLED: [(u32, [u8; 4], u8); 4] = [
+    (152, [0x68, 0x12, 0x68, 0x68], 0),
+    (117, [0x68, 0x12, 0, 0], 3),
+    (118, [0x68, 0x12, 0, 0], 2),
+    (151, [0x68, 0x12, 0, 0x68], 1),
+];
+
+/// Whether the state at a cycle has these bytes, and so many left.
+fn is_spelled(
+    alloc: Global,
+    shared: &Shared,
+    at: u32,
+    vram: &[u8],
+    left: u8,
+) -> Result<bool, Fail> {
+    let mut state = Vec::with_capacity(alloc, LONG)?;
+    shared.spell(u64::from(at), &mut state);
+    let first = state.get(24..28) == Some(vram);
+    Ok(first && state.get(65_782) == Some(&left) && state.len() == SHORT)
+}
+
+// The board stays as it is.
 #[test]
 fn a_fill_is_settled_in_what_is_spelled(rt: HostRuntime) -> Result<(), Fail> {
     let shared = filling(rt.alloc())?;
-    for (at, vram, left) in [
-        (152, [0x68, 0x12, 0x68, 0x68], 0),
-        (117, [0x68, 0x12, 0, 0], 3),
-        (118, [0x68, 0x12, 0, 0], 2),
-        (151, [0x68, 0x12, 0, 0x68], 1),
-    ] {
-        let mut state = Vec::with_capacity(rt.alloc(), LONG)?;
-        shared.spell(at, &mut state);
-        assert_eq!(rt;
-            (state.len(), &state[24..28], state[65_782]),
-            (SHORT, &vram[..], left)
-        );
+    for (at, vram, left) in FILLED {
+        assert!(rt; is_spelled(rt.alloc(), &shared, at, &vram, left)?, "{at}");
     }
     Ok(())
 }
