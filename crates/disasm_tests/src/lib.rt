@@ -1,4 +1,4 @@
-//! Tests of the texts of instructions: rows of both manuals.
+//! Tests of the decoding and of the texts of instructions: rows of both manuals.
 #![tactic(auto)]
 
 #[cfg(test)]

@@ -122,13 +122,19 @@ const SHIFTS: [Row; 19] = [
     (Roxr, Byte, 2, 0x02, 0b00000, 0x00, 0b10101),
 ];
 
+fn is_right(row: &Row) -> bool {
+    let &(task, size, source, target, before, value, after) = row;
+    let most = size.modulus();
+    if u64::from(source) >= most || u64::from(target) >= most {
+        return false;
+    }
+    let out = compute(task, size, source, target, codes(before));
+    out.value == value && out.flags == codes(after)
+}
+
 fn holds(rt: &impl Abort, rows: &[Row]) {
-    for (row, &(task, size, source, target, before, value, after)) in rows.iter().enumerate() {
-        let most = size.modulus();
-        assert!(rt; u64::from(source) < most && u64::from(target) < most);
-        let out = compute(task, size, source, target, codes(before));
-        assert_eq!(rt; out.value, value, "row {row}");
-        assert_eq!(rt; out.flags, codes(after), "row {row}");
+    for (number, row) in rows.iter().enumerate() {
+        assert!(rt; is_right(row), "row {number}");
     }
 }
 
@@ -149,8 +155,10 @@ fn told(quotient: Quotient) -> (&'static str, u32) {
     }
 }
 
-// Whether it is signed, the divisor, the dividend, and what it gives.
-const DIVISIONS: [(bool, u16, u32, &str, u32); 16] = [
+/// Whether it is signed, the divisor, the dividend, and what it gives.
+type Division = (bool, u16, u32, &'static str, u32);
+
+const DIVISIONS: [Division; 16] = [
     (false, 7, 100, "value", 0x0002_000e),
     (false, 1, 0x0000_ffff, "value", 0x0000_ffff),
     (false, 1, 0x0001_0000, "overflow", 0),
@@ -169,12 +177,15 @@ const DIVISIONS: [(bool, u16, u32, &str, u32); 16] = [
     (true, 1, 0x8000, "overflow", 0),
 ];
 
+fn is_divided(row: &Division) -> bool {
+    let &(signed, source, target, kind, value) = row;
+    told(divide(signed, source, target)) == (kind, value)
+}
+
 #[test]
 fn divides(rt: HostRuntime) {
-    for (signed, source, target, kind, value) in DIVISIONS {
-        let found = told(divide(signed, source, target));
-        assert_eq!(rt; found.0, kind, "{target:x} / {source:x}");
-        assert_eq!(rt; found.1, value);
+    for (number, row) in DIVISIONS.iter().enumerate() {
+        assert!(rt; is_divided(row), "row {number}");
     }
 }
 
@@ -187,6 +198,6 @@ fn codes_of_divisions(rt: HostRuntime) {
         (Quotient::Value(0x0001_0000), 0b01011, 0b00100),
     ];
     for (quotient, before, after) in rows {
-        assert_eq!(rt; quotient.flags(codes(before)), codes(after));
+        assert!(rt; quotient.flags(codes(before)) == codes(after));
     }
 }

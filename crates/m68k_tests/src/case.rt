@@ -20,6 +20,22 @@ use std::test::Fail;
 /// The address of the instruction.
 const START: u32 = 0x200;
 
+/// A shared access: its kind, as in a line, its address, and what is read or written. Of an interrupt's
+/// acknowledge the kind is `A`, and the address is the level.
+type Access = (u8, u32, u16);
+
+/// The request of an access, and its answer.
+fn request_of(access: &Access) -> (Request68, u16) {
+    let &(kind, at, value) = access;
+    match kind {
+        b'A' => (Request68::Ack((at % 0x100) as u8), 0),
+        b'R' => (Request68::Read16(at), value),
+        b'r' => (Request68::Read8(at), value),
+        b'W' => (Request68::Write16(at, value), 0),
+        _ => (Request68::Write8(at, (value % 0x100) as u8), 0),
+    }
+}
+
 /// A sample, and what it is to come to.
 #[derive(Drop)]
 pub struct Case {
@@ -28,8 +44,7 @@ pub struct Case {
     cause: u8,
     before: Regs,
     after: Regs,
-    /// The shared accesses, each with its answer.
-    accesses: Vec<(Request68, u16)>,
+    accesses: ArrayVec<Access, 40>,
     writes: ArrayVec<(u32, u8), 80>,
     spent: Spent,
     stopped: bool,
@@ -76,7 +91,7 @@ fn set(regs: &mut Regs, name: &[u8], value: u32) {
 
 impl Case {
     /// Of a line.
-    pub fn read(alloc: Global, line: &str) -> Result<Case, Fail> {
+    pub fn read(line: &str) -> Case {
         let regs = Regs {
             d: [0; 8],
             a: [0; 7],
@@ -91,7 +106,7 @@ impl Case {
             cause: 0,
             before: regs,
             after: regs,
-            accesses: Vec::new(alloc),
+            accesses: ArrayVec::new(),
             writes: ArrayVec::new(),
             spent: Spent {
                 taken: false,
@@ -117,7 +132,7 @@ impl Case {
                 };
                 arrow = true;
             } else if arrow {
-                case.expect(token)?;
+                case.expect(token);
             } else if token.len() == 4 {
                 case.put(next, word(token.as_bytes()));
                 next = next.wrapping_add(2);
@@ -125,7 +140,7 @@ impl Case {
                 case.set_up(token);
             }
         }
-        Ok(case)
+        case
     }
 
     /// A word in work RAM or, below it, in the cartridge.
@@ -155,26 +170,24 @@ impl Case {
     }
 
     /// What it comes to.
-    fn expect(&mut self, token: &str) -> Result<(), Fail> {
+    fn expect(&mut self, token: &str) {
         if let Some((name, value)) = token.split_once('=') {
-            self.expect_value(name.as_bytes(), value.as_bytes())
+            self.expect_value(name.as_bytes(), value.as_bytes());
         } else {
             self.expect_mark(token);
-            Ok(())
         }
     }
 
-    fn expect_value(&mut self, name: &[u8], value: &[u8]) -> Result<(), Fail> {
+    fn expect_value(&mut self, name: &[u8], value: &[u8]) {
         match name {
             [b'@', at @ ..] => self.expect_word(number(at), word(value)),
             [b'.', at @ ..] => self.expect_byte(number(at), byte(value)),
-            [kind, b':', at @ ..] => self.expect_access(*kind, number(at), value)?,
-            b"ACK" => self.accesses.push((Request68::Ack(byte(value)), 0))?,
+            [kind, b':', at @ ..] => self.expect_access((*kind, number(at), word(value))),
+            b"ACK" => self.expect_access((b'A', number(value), 0)),
             b"N" => self.spent.count = byte(value),
             b"E" => self.spent.cause = byte(value),
             name => set(&mut self.after, name, number(value)),
         }
-        Ok(())
     }
 
     fn expect_mark(&mut self, token: &str) {
@@ -209,50 +222,50 @@ impl Case {
         self.after.ssp = stack.wrapping_sub(6);
     }
 
-    fn expect_access(&mut self, kind: u8, at: u32, value: &[u8]) -> Result<(), Fail> {
-        let access = match kind {
-            b'R' => (Request68::Read16(at), word(value)),
-            b'r' => (Request68::Read8(at), word(value)),
-            b'W' => (Request68::Write16(at, word(value)), 0),
-            _ => (Request68::Write8(at, byte(value)), 0),
-        };
-        self.accesses.push(access)?;
-        Ok(())
+    fn expect_access(&mut self, access: Access) {
+        if !self.accesses.is_full() {
+            self.accesses.push(access);
+        }
     }
 
     /// Runs it with no answer, one, and so on, and says what differs.
     pub fn differs(&self, alloc: Global) -> Result<Option<&'static str>, Fail> {
         let cart = Cart::accept(alloc, self.rom.to_vec(alloc)?)?;
+        Ok(self.differs_on(&cart))
+    }
+
+    fn differs_on(&self, cart: &Cart) -> Option<&'static str> {
         let mut answers = ArrayVec::new();
         let mut progress = Progress::new();
         let mut regs = self.before;
-        for (request, answer) in self.accesses.as_slice() {
+        for access in self.accesses.as_slice() {
+            let (request, answer) = request_of(access);
             match go(
                 &mut regs,
-                &cart,
+                cart,
                 &self.ram,
                 &answers,
                 self.cause,
                 &mut progress,
             ) {
-                Step::Need(found) if found == *request => {}
-                Step::Need(_) => return Ok(Some("another request")),
-                Step::Done(_) => return Ok(Some("a request missing")),
+                Step::Need(found) if found == request => {}
+                Step::Need(_) => return Some("another request"),
+                Step::Done(_) => return Some("a request missing"),
             }
             if !answers.is_full() {
-                answers.push(*answer);
+                answers.push(answer);
             }
         }
         match go(
             &mut regs,
-            &cart,
+            cart,
             &self.ram,
             &answers,
             self.cause,
             &mut progress,
         ) {
-            Step::Need(_) => Ok(Some("a request more")),
-            Step::Done(finish) => Ok(self.difference(&finish, &regs, progress.writes.as_slice())),
+            Step::Need(_) => Some("a request more"),
+            Step::Done(finish) => self.difference(&finish, &regs, progress.writes.as_slice()),
         }
     }
 

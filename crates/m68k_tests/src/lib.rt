@@ -1,5 +1,5 @@
-//! Tests of the 68000: arithmetic, decoding, effective addresses, times, exceptions, whole samples
-//! and the chip.
+//! Tests of the 68000: arithmetic, words that are no instruction, effective addresses, times,
+//! exceptions, whole samples and the chip.
 #![tactic(auto)]
 
 #[cfg(test)]
@@ -15,10 +15,10 @@ mod decoding;
 #[cfg(test)]
 mod exceptions;
 #[cfg(test)]
+mod kept;
+#[cfg(test)]
 mod samples;
 #[cfg(test)]
 mod spelling;
-#[cfg(test)]
-mod text;
 #[cfg(test)]
 mod times;

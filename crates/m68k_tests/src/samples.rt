@@ -6,13 +6,20 @@ use crate::case::Case;
 use std::alloc::Global;
 use std::test::Fail;
 
-/// Runs the lines of a table.
-fn hold(alloc: Global, table: &str) -> Result<(), Fail> {
-    for line in table.lines() {
-        if line.contains("->") {
-            let case = Case::read(alloc, line)?;
-            if let Some(other) = case.differs(alloc)? {
-                return Err(Fail::from(format!(in alloc; "{other}: {line}")?));
+/// Runs a line.
+fn hold_line(alloc: Global, line: &str) -> Result<(), Fail> {
+    match Case::read(line).differs(alloc)? {
+        Some(other) => Err(Fail::from(format!(in alloc; "{other}: {line}")?)),
+        None => Ok(()),
+    }
+}
+
+/// Runs the lines of tables.
+fn hold(alloc: Global, tables: &[&str]) -> Result<(), Fail> {
+    for table in tables {
+        for line in table.lines() {
+            if line.contains("->") {
+                hold_line(alloc, line)?;
             }
         }
     }
@@ -225,29 +232,22 @@ W:A0003C=00FF W:A0003E=F000 N=10
 
 #[test]
 fn thirty_two_accesses(rt: HostRuntime) -> Result<(), Fail> {
-    let case = Case::read(rt.alloc(), SIXTEEN_REGISTERS)?;
-    assert_eq!(rt; case.differs(rt.alloc())?, None);
+    let found = Case::read(SIXTEEN_REGISTERS).differs(rt.alloc())?;
+    assert!(rt; found.is_none());
     Ok(())
 }
 
 #[test]
 fn immediates_bits_and_moves(rt: HostRuntime) -> Result<(), Fail> {
-    hold(rt.alloc(), DIGIT_0)?;
-    hold(rt.alloc(), MOVES)?;
-    hold(rt.alloc(), ACCESSES)?;
-    Ok(())
+    hold(rt.alloc(), &[DIGIT_0, MOVES, ACCESSES])
 }
 
 #[test]
 fn operands_and_control(rt: HostRuntime) -> Result<(), Fail> {
-    hold(rt.alloc(), OPERANDS)?;
-    hold(rt.alloc(), CONTROL)?;
-    Ok(())
+    hold(rt.alloc(), &[OPERANDS, CONTROL])
 }
 
 #[test]
 fn arithmetic_and_exceptions(rt: HostRuntime) -> Result<(), Fail> {
-    hold(rt.alloc(), ARITHMETIC)?;
-    hold(rt.alloc(), EXCEPTIONS)?;
-    Ok(())
+    hold(rt.alloc(), &[ARITHMETIC, EXCEPTIONS])
 }

@@ -1,10 +1,8 @@
 // The bytes of a saved state that keep the 68000, written out by hand by the order and the sizes of its
 // fields: next 0, stage 8, start 9, D0 to D7 17, A0 to A6 49, USP 77, SSP 81, PC 85, SR 89, stopped 91,
 // halted 92, trace 93, since 94, cause 102, answers 103, transfer 168 and work RAM 178.
-ghost use Rattle.m68k_chip.specs.Sound.{Fits};
-
 use m68k_chip::Chip68;
-use md_word::{Answer68, Pins68, Request68, Unspell};
+use md_word::Unspell;
 use rom_header::Cart;
 use std::alloc::Global;
 use std::sync::Arc;
@@ -28,7 +26,7 @@ const LOAD_BYTES: [u8; 4] = [0x01, 0x08, 0x00, 0x00];
 const NOTHING: [u8; 2] = [0x4e, 0x71];
 
 /// A cartridge of 512 bytes whose stack begins at FF8000h, with MOVE.L C00000h,D0 at 200h less 40h.
-fn cartridge(alloc: Global) -> Result<Arc<Cart>, Fail> {
+pub fn cartridge(alloc: Global) -> Result<Arc<Cart>, Fail> {
     let mut image = [0; 512];
     put(
         &mut image,
@@ -48,16 +46,22 @@ fn put(bytes: &mut [u8], place: usize, values: &[u8]) {
     }
 }
 
-/// A 68000 at a sample at 1000 (03E8h), with this instruction at the start of work RAM, A0 at A10001h
-/// and SSP at FF8000h; all else is 0.
+// A sample at 1000 (03E8h), with A0 at A10001h, SSP at FF8000h, PC at the start of work RAM, and SR 2700h.
+const SAMPLE: [(usize, &[u8]); 6] = [
+    (6, &[0x03, 0xe8]),
+    (15, &[0x03, 0xe8]),
+    (49, &[0x00, 0xa1, 0x00, 0x01]),
+    (81, &[0x00, 0xff, 0x80, 0x00]),
+    (85, &[0x00, 0xff, 0x00, 0x00]),
+    (89, &[0x27, 0x00]),
+];
+
+/// A 68000 at this sample, with this instruction at the start of work RAM; all else is 0.
 fn at_sample(alloc: Global, instruction: &[u8]) -> Result<Vec<u8>, Fail> {
     let mut bytes = vec![in alloc; 0; LENGTH]?;
-    put(&mut bytes, 6, &[0x03, 0xe8]);
-    put(&mut bytes, 15, &[0x03, 0xe8]);
-    put(&mut bytes, 49, &[0x00, 0xa1, 0x00, 0x01]);
-    put(&mut bytes, 81, &[0x00, 0xff, 0x80, 0x00]);
-    put(&mut bytes, 85, &[0x00, 0xff, 0x00, 0x00]);
-    put(&mut bytes, 89, &[0x27, 0x00]);
+    for (place, values) in SAMPLE {
+        put(&mut bytes, place, values);
+    }
     put(&mut bytes, 178, instruction);
     Ok(bytes)
 }
@@ -74,12 +78,12 @@ fn at_access(alloc: Global, instruction: &[u8], answers: &[u8]) -> Result<Vec<u8
 }
 
 /// The 68000 that the bytes keep.
-fn kept(alloc: Global, bytes: &[u8], at: u64) -> Result<Chip68, Fail> {
+pub fn kept(alloc: Global, bytes: &[u8], at: u64) -> Result<Chip68, Fail> {
     Chip68::unspell(alloc, bytes, at, cartridge(alloc)?).map_err(|_| Fail::from("refused"))
 }
 
 /// The bytes that keep a 68000.
-fn spelled(alloc: Global, chip: &Chip68, at: u64) -> Result<Vec<u8>, Fail> {
+pub fn spelled(alloc: Global, chip: &Chip68, at: u64) -> Result<Vec<u8>, Fail> {
     let mut bytes = Vec::with_capacity(alloc, LENGTH)?;
     chip.spell(at, &mut bytes);
     Ok(bytes)
@@ -92,6 +96,29 @@ fn place_of(alloc: Global, bytes: &[u8], at: u64) -> Result<Option<u64>, Fail> {
         Err(Unspell::Rule { place }) => Ok(Some(place)),
         Err(Unspell::NoMemory) => Err(Fail::from("no memory")),
     }
+}
+
+/// The place at which the bytes with these changes, each from a place on, are refused at a cycle.
+fn refused(
+    alloc: Global,
+    mut bytes: Vec<u8>,
+    at: u64,
+    changes: &[(usize, &[u8])],
+) -> Result<Option<u64>, Fail> {
+    for &(place, values) in changes {
+        put(&mut bytes, place, values);
+    }
+    place_of(alloc, &bytes, at)
+}
+
+/// The same of a sample at 1000.
+fn refused_sample(alloc: Global, at: u64, changes: &[(usize, &[u8])]) -> Result<Option<u64>, Fail> {
+    refused(alloc, at_sample(alloc, &LOAD_BYTE)?, at, changes)
+}
+
+/// The same of an access behind it.
+fn refused_access(alloc: Global, changes: &[(usize, &[u8])]) -> Result<Option<u64>, Fail> {
+    refused(alloc, at_access(alloc, &LOAD_BYTE, &[])?, 1001, changes)
 }
 
 // Each rule broken once at a sample: the byte that is changed, its value, and the place of the refusal.
@@ -126,29 +153,21 @@ const BROKEN_AMID: [(usize, u8, u64); 6] = [
 #[test]
 fn each_rule_is_looked_at(rt: HostRuntime) -> Result<(), Fail> {
     for (offset, value, place) in BROKEN {
-        let mut bytes = at_sample(rt.alloc(), &LOAD_BYTE)?;
-        put(&mut bytes, offset, &[value]);
-        assert_eq!(rt;
-            place_of(rt.alloc(), &bytes, 1000)?,
-            Some(place),
-            "{offset}"
-        );
+        let found = refused_sample(rt.alloc(), 1000, &[(offset, &[value])])?;
+        assert!(rt; found == Some(place), "{offset}");
     }
     for (offset, value, place) in BROKEN_AMID {
-        let mut bytes = at_access(rt.alloc(), &LOAD_BYTE, &[])?;
-        put(&mut bytes, offset, &[value]);
-        assert_eq!(rt;
-            place_of(rt.alloc(), &bytes, 1001)?,
-            Some(place),
-            "{offset}"
-        );
+        let found = refused_access(rt.alloc(), &[(offset, &[value])])?;
+        assert!(rt; found == Some(place), "{offset}");
     }
     Ok(())
 }
 
-// A transfer in a state at 1000: the stage, the source, the words left and the cost, and the place of
-// the refusal.
-const TRANSFERS: [(u8, u32, u32, u16, Option<u64>); 9] = [
+/// A transfer in a state at 1000: the stage, the source, the words left and the cost, and the place of
+/// the refusal.
+type Transfer = (u8, u32, u32, u16, Option<u64>);
+
+const TRANSFERS: [Transfer; 9] = [
     (2, 0xff_0000, 65_536, 34, None),
     (2, 0xff_0000, 1, 380, None),
     (2, 0xff_0000, 65_537, 34, Some(172)),
@@ -160,9 +179,11 @@ const TRANSFERS: [(u8, u32, u32, u16, Option<u64>); 9] = [
     (0, 0, 0, 34, Some(176)),
 ];
 
-// The cycle of a state that stands at a sample at 1000, whether it is halted and since when, and the
-// place of the refusal.
-const HALTS: [(u64, u8, u64, Option<u64>); 5] = [
+/// The cycle of a state that stands at a sample at 1000, whether it is halted and since when, and the
+/// place of the refusal.
+type Halt = (u64, u8, u64, Option<u64>);
+
+const HALTS: [Halt; 5] = [
     (1000, 1, 999, None),
     (1000, 1, 1000, Some(94)),
     (1001, 0, 0, Some(0)),
@@ -170,128 +191,86 @@ const HALTS: [(u64, u8, u64, Option<u64>); 5] = [
     (1, 1, 0, None),
 ];
 
+/// The place at which a transfer is refused.
+fn refused_transfer(alloc: Global, row: &Transfer) -> Result<Option<u64>, Fail> {
+    let (stage, source, words, cost, _) = *row;
+    refused_sample(
+        alloc,
+        1000,
+        &[
+            (8, &[stage]),
+            (168, &source.to_be_bytes()),
+            (172, &words.to_be_bytes()),
+            (176, &cost.to_be_bytes()),
+        ],
+    )
+}
+
+/// The place at which a halt is refused.
+fn refused_halt(alloc: Global, row: &Halt) -> Result<Option<u64>, Fail> {
+    let (at, halted, since, _) = *row;
+    refused_sample(alloc, at, &[(92, &[halted]), (94, &since.to_be_bytes())])
+}
+
 #[test]
 fn rules_on_several_fields(rt: HostRuntime) -> Result<(), Fail> {
-    for (stage, source, words, cost, place) in TRANSFERS {
-        let mut bytes = at_sample(rt.alloc(), &LOAD_BYTE)?;
-        put(&mut bytes, 8, &[stage]);
-        put(&mut bytes, 168, &source.to_be_bytes());
-        put(&mut bytes, 172, &words.to_be_bytes());
-        put(&mut bytes, 176, &cost.to_be_bytes());
-        assert_eq!(rt;
-            place_of(rt.alloc(), &bytes, 1000)?,
-            place,
-            "{words} {cost}"
-        );
+    for (number, row) in TRANSFERS.iter().enumerate() {
+        assert!(rt; refused_transfer(rt.alloc(), row)? == row.4, "row {number}");
     }
-    for (at, halted, since, place) in HALTS {
-        let mut bytes = at_sample(rt.alloc(), &LOAD_BYTE)?;
-        put(&mut bytes, 92, &[halted]);
-        put(&mut bytes, 94, &since.to_be_bytes());
-        assert_eq!(rt; place_of(rt.alloc(), &bytes, at)?, place, "{at} {since}");
+    for row in HALTS {
+        assert!(rt; refused_halt(rt.alloc(), &row)? == row.3, "{}", row.0);
     }
     Ok(())
 }
 
-/// Whether an instruction with these answers is refused, and where.
-fn place_amid(alloc: Global, instruction: &[u8], answers: &[u8]) -> Result<Option<u64>, Fail> {
-    place_of(alloc, &at_access(alloc, instruction, answers)?, 1001)
+/// The place at which an instruction with these answers is refused at a cycle.
+fn place_amid(
+    alloc: Global,
+    instruction: &[u8],
+    answers: &[u8],
+    at: u64,
+) -> Result<Option<u64>, Fail> {
+    place_of(alloc, &at_access(alloc, instruction, answers)?, at)
 }
 
-// An instruction is to wait for one answer more. A byte was answered by a byte, a write by 0.
+// An instruction, its answers, and the place of the refusal. An instruction is to wait for one answer
+// more. A byte was answered by a byte, a write by 0.
+const ANSWERED: [(&[u8], &[u8], Option<u64>); 8] = [
+    (&NOTHING, &[], Some(178)),
+    (&LOAD_BYTE, &[], None),
+    (&LOAD_BYTE, &[0x00, 0x12], Some(178)),
+    (&LOAD_LONG, &[0xff, 0xff], None),
+    (&LOAD_BYTES, &[0x00, 0xff], None),
+    (&LOAD_BYTES, &[0x01, 0x00], Some(178)),
+    (&STORE_LONG, &[0x00, 0x00], None),
+    (&STORE_LONG, &[0x00, 0x01], Some(178)),
+];
+
 #[test]
 fn answers_fit_their_accesses(rt: HostRuntime) -> Result<(), Fail> {
-    let alloc = rt.alloc();
-    let found = [
-        place_amid(alloc, &NOTHING, &[])?,
-        place_amid(alloc, &LOAD_BYTE, &[])?,
-        place_amid(alloc, &LOAD_BYTE, &[0x00, 0x12])?,
-        place_amid(alloc, &LOAD_LONG, &[0xff, 0xff])?,
-        place_amid(alloc, &LOAD_BYTES, &[0x00, 0xff])?,
-        place_amid(alloc, &LOAD_BYTES, &[0x01, 0x00])?,
-        place_amid(alloc, &STORE_LONG, &[0x00, 0x00])?,
-        place_amid(alloc, &STORE_LONG, &[0x00, 0x01])?,
-    ];
-    let refused = Some(178);
-    let wanted = [refused, None, refused, None, None, refused, None, refused];
-    assert_eq!(rt; found, wanted);
-    let bytes = at_access(alloc, &LOAD_BYTE, &[])?;
-    assert_eq!(rt; place_of(alloc, &bytes, 1000)?, Some(9));
+    for (instruction, answers, place) in ANSWERED {
+        assert!(rt; place_amid(rt.alloc(), instruction, answers, 1001)? == place);
+    }
+    assert!(rt; place_amid(rt.alloc(), &LOAD_BYTE, &[], 1000)? == Some(9));
     Ok(())
 }
+
+/// The place at which so many bytes of a sample are refused.
+fn refused_length(alloc: Global, length: usize) -> Result<Option<u64>, Fail> {
+    let mut bytes = at_sample(alloc, &LOAD_BYTE)?;
+    bytes.resize(length, 0)?;
+    place_of(alloc, &bytes, 1000)
+}
+
+const LENGTHS: [(usize, u64); 4] = [(0, 0), (178, 178), (65_713, 65_713), (65_715, 65_714)];
 
 #[test]
 fn other_lengths_are_refused(rt: HostRuntime) -> Result<(), Fail> {
-    let mut bytes = at_sample(rt.alloc(), &LOAD_BYTE)?;
-    for length in [0, 178, 65_713] {
-        let first = bytes.get(..length).unwrap_or(&[]);
-        assert_eq!(rt; place_of(rt.alloc(), first, 1000)?, Some(length as u64));
+    for (length, place) in LENGTHS {
+        assert!(rt;
+            refused_length(rt.alloc(), length)? == Some(place),
+            "{length}"
+        );
     }
-    bytes.push(0)?;
-    assert_eq!(rt; place_of(rt.alloc(), &bytes, 1000)?, Some(65_714));
-    Ok(())
-}
-
-/// A word for a read, and 0 for other accesses.
-fn answer_to(request: &Request68) -> Answer68
-    ensures { Fits request.now result }
-{
-    let (value, cost) = match request {
-        Request68::Read16(0xc0_0000) => (0x1234, 0),
-        Request68::Read16(_) => (0x5678, 0),
-        Request68::Word(_) => (0, 34),
-        _ => (0, 0),
-    };
-    Answer68 {
-        value,
-        transfer: None,
-        cost,
-    }
-}
-
-/// Answers the access that is next, and tells its request.
-#[tactic(auto, unfolding(m68k_chip::specs::States::next_of))]
-fn take(chip: &mut Chip68) -> Option<Request68> {
-    let next = chip.next();
-    if next.sample || next.key.cycle >= 1 << 50 {
-        return None;
-    }
-    let request = chip.request();
-    chip.answer(answer_to(&request));
-    Some(request)
-}
-
-// MOVE.L C00000h,D0 begins at 0, and its reads stand at 28 and 56 (38h). It takes 20 clocks, so that
-// the next sample stands at 140 (8Ch). Kept between its reads it reads the second word alone.
-#[test]
-#[tactic(auto, unfolding(m68k_chip::specs::States::next_of))]
-fn a_long_is_read_in_two_halves(rt: HostRuntime) -> Result<(), Fail> {
-    let cart = cartridge(rt.alloc())?;
-    let mut chip = Chip68::power_on(rt.alloc(), cart).map_err(|_| Fail::from("no memory"))?;
-    let next = chip.next();
-    if !next.sample || next.key.cycle != 0 {
-        return Err(Fail::from("no sample is next"));
-    }
-    chip.sample(Pins68 { level: 0 });
-    assert_eq!(rt; take(&mut chip), Some(Request68::Read16(0xc0_0000)));
-    let bytes = spelled(rt.alloc(), &chip, 29)?;
-    let stands = bytes.get(..17).unwrap_or(&[]);
-    assert_eq!(rt;
-        stands,
-        [0, 0, 0, 0, 0, 0, 0, 0x38, 1, 0, 0, 0, 0, 0, 0, 0, 0].as_slice()
-    );
-    let answers = bytes.get(102..108).unwrap_or(&[]);
-    assert_eq!(rt; answers, [0, 1, 0x12, 0x34, 0, 0].as_slice());
-    let mut again = kept(rt.alloc(), &bytes, 29)?;
-    assert_eq!(rt; take(&mut chip), Some(Request68::Read16(0xc0_0002)));
-    assert_eq!(rt; take(&mut again), Some(Request68::Read16(0xc0_0002)));
-    let one = spelled(rt.alloc(), &chip, 57)?;
-    let other = spelled(rt.alloc(), &again, 57)?;
-    assert!(rt; one.as_slice() == other.as_slice());
-    let loaded = other.get(7..21).unwrap_or(&[]);
-    assert_eq!(rt;
-        loaded,
-        [0x8c, 0, 0, 0, 0, 0, 0, 0, 0, 0x8c, 0x12, 0x34, 0x56, 0x78].as_slice()
-    );
     Ok(())
 }

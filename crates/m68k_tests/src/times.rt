@@ -177,8 +177,8 @@ const TWO_OPERANDS: [(Op, u32); 34] = [
 ];
 
 fn take(rt: &impl Abort, rows: &[(Op, u32)]) {
-    for (row, (op, want)) in rows.iter().enumerate() {
-        assert_eq!(rt; clocks(op, PLAIN), *want, "row {row}");
+    for (number, (op, want)) in rows.iter().enumerate() {
+        assert!(rt; clocks(op, PLAIN) == *want, "row {number}");
     }
 }
 
@@ -190,94 +190,100 @@ fn each_row_of_the_tables(rt: HostRuntime) {
     take(&rt, &TWO_OPERANDS);
 }
 
-/// MULU by 5 has two ones; MULS by FFFFh has one pair of unlike neighbours, the last with the 0.
+// The instruction, what it counts, and its clocks.
+// MULU by 5 has two ones; MULS by FFFFh has one pair of unlike neighbours, the last with the 0.
+const COUNTS: [(Op, u8, u32); 8] = [
+    (Op::Mulu(0, Mode::Immediate(5)), 2, 46),
+    (Op::Muls(0, Mode::Data(1)), 1, 40),
+    (
+        Op::MovemToMemory(Size::Long, 0xffff, Mode::AbsLong(0x1_0000)),
+        16,
+        144,
+    ),
+    (Op::MovemToMemory(Size::Word, 1, Mode::PreDec(0)), 1, 12),
+    (Op::MovemToRegisters(Size::Word, 7, Mode::PostInc(0)), 3, 24),
+    (
+        Op::MovemToRegisters(Size::Long, 1, Mode::PcDisplaced(4)),
+        1,
+        24,
+    ),
+    (Op::ShiftByNumber(Task::Lsl, Size::Word, 3, 0), 3, 12),
+    (Op::ShiftByRegister(Task::Ror, Size::Long, 1, 0), 63, 134),
+];
+
 #[test]
 fn counts(rt: HostRuntime) {
-    let rows = [
-        (Op::Mulu(0, Mode::Immediate(5)), 2, 46),
-        (Op::Muls(0, Mode::Data(1)), 1, 40),
-        (
-            Op::MovemToMemory(Size::Long, 0xffff, Mode::AbsLong(0x1_0000)),
-            16,
-            144,
-        ),
-        (Op::MovemToMemory(Size::Word, 1, Mode::PreDec(0)), 1, 12),
-        (Op::MovemToRegisters(Size::Word, 7, Mode::PostInc(0)), 3, 24),
-        (
-            Op::MovemToRegisters(Size::Long, 1, Mode::PcDisplaced(4)),
-            1,
-            24,
-        ),
-        (Op::ShiftByNumber(Task::Lsl, Size::Word, 3, 0), 3, 12),
-        (Op::ShiftByRegister(Task::Ror, Size::Long, 1, 0), 63, 134),
-    ];
-    for (op, count, want) in rows {
-        assert_eq!(rt; clocks(&op, Spent { count, ..PLAIN }), want, "{want}");
+    for (op, count, want) in COUNTS {
+        assert!(rt; clocks(&op, Spent { count, ..PLAIN }) == want, "{want}");
     }
 }
 
+// The instruction, whether its branch is taken and its count expires, and its clocks.
+const CONDITIONS: [(Op, bool, bool, u32); 9] = [
+    (
+        Op::Bcc(Condition::Equal, Displacement::Byte(2)),
+        true,
+        false,
+        10,
+    ),
+    (
+        Op::Bcc(Condition::Equal, Displacement::Byte(2)),
+        false,
+        false,
+        8,
+    ),
+    (
+        Op::Bcc(Condition::Equal, Displacement::Word(2)),
+        true,
+        false,
+        10,
+    ),
+    (
+        Op::Bcc(Condition::Equal, Displacement::Word(2)),
+        false,
+        false,
+        12,
+    ),
+    (Op::Dbcc(Condition::Equal, 0, 2), false, false, 12),
+    (Op::Dbcc(Condition::Equal, 0, 2), true, false, 10),
+    (Op::Dbcc(Condition::Equal, 0, 2), false, true, 14),
+    (Op::Scc(Condition::Equal, Mode::Data(0)), false, false, 4),
+    (Op::Scc(Condition::Equal, Mode::Data(0)), true, false, 6),
+];
+
 #[test]
 fn conditions(rt: HostRuntime) {
-    let rows = [
-        (
-            Op::Bcc(Condition::Equal, Displacement::Byte(2)),
-            true,
-            false,
-            10,
-        ),
-        (
-            Op::Bcc(Condition::Equal, Displacement::Byte(2)),
-            false,
-            false,
-            8,
-        ),
-        (
-            Op::Bcc(Condition::Equal, Displacement::Word(2)),
-            true,
-            false,
-            10,
-        ),
-        (
-            Op::Bcc(Condition::Equal, Displacement::Word(2)),
-            false,
-            false,
-            12,
-        ),
-        (Op::Dbcc(Condition::Equal, 0, 2), false, false, 12),
-        (Op::Dbcc(Condition::Equal, 0, 2), true, false, 10),
-        (Op::Dbcc(Condition::Equal, 0, 2), false, true, 14),
-        (Op::Scc(Condition::Equal, Mode::Data(0)), false, false, 4),
-        (Op::Scc(Condition::Equal, Mode::Data(0)), true, false, 6),
-    ];
-    for (op, taken, expired, want) in rows {
+    for (op, taken, expired, want) in CONDITIONS {
         let spent = Spent {
             taken,
             expired,
             ..PLAIN
         };
-        assert_eq!(rt; clocks(&op, spent), want, "{want}");
+        assert!(rt; clocks(&op, spent) == want, "{want}");
     }
 }
 
+// The instruction, the cause, and its clocks.
+const EXCEPTIONS: [(Op, u8, u32); 14] = [
+    (Op::Nop, 3, 50),
+    (Op::Illegal(0x4afc), 4, 34),
+    (Op::Divu(0, Mode::Indirect(0)), 5, 42),
+    (Op::Divs(0, Mode::Data(0)), 5, 38),
+    (Op::Chk(0, Mode::Displaced(0, 4)), 6, 48),
+    (Op::Trapv, 7, 34),
+    (Op::Reset, 8, 34),
+    (Op::Nop, 9, 34),
+    (Op::LineA(0xa000), 10, 34),
+    (Op::LineF(0xf000), 11, 34),
+    (Op::Nop, 25, 44),
+    (Op::Nop, 31, 44),
+    (Op::Trap(0), 32, 34),
+    (Op::Trap(15), 47, 34),
+];
+
 #[test]
 fn exceptions(rt: HostRuntime) {
-    let rows = [
-        (Op::Nop, 3, 50),
-        (Op::Illegal(0x4afc), 4, 34),
-        (Op::Divu(0, Mode::Indirect(0)), 5, 42),
-        (Op::Divs(0, Mode::Data(0)), 5, 38),
-        (Op::Chk(0, Mode::Displaced(0, 4)), 6, 48),
-        (Op::Trapv, 7, 34),
-        (Op::Reset, 8, 34),
-        (Op::Nop, 9, 34),
-        (Op::LineA(0xa000), 10, 34),
-        (Op::LineF(0xf000), 11, 34),
-        (Op::Nop, 25, 44),
-        (Op::Nop, 31, 44),
-        (Op::Trap(0), 32, 34),
-        (Op::Trap(15), 47, 34),
-    ];
-    for (op, cause, want) in rows {
-        assert_eq!(rt; clocks(&op, Spent { cause, ..PLAIN }), want, "{cause}");
+    for (op, cause, want) in EXCEPTIONS {
+        assert!(rt; clocks(&op, Spent { cause, ..PLAIN }) == want, "{cause}");
     }
 }
