@@ -374,101 +374,119 @@ fn instructions_of_the_manual(rt: HostRuntime) -> Result<(), Fail> {
     holds(&rt, rt.alloc(), &ROWS)
 }
 
-// Instructions with their lengths in bytes.
-static LENGTHS: [([u16; 5], u8, &str); 65] = [
+/// An instruction with its length in bytes.
+type Measured = (Row, u8);
+
+static MEASURED: [Measured; 65] = [
     // the upper byte of a byte's word is not looked at
-    ([0x0003, 0xff12, 0, 0, 0], 4, "ori.b #$12,d3"),
+    (([0x0003, 0xff12, 0, 0, 0], "ori.b #$12,d3"), 4),
     (
-        [0x06b9, 0x1234, 0x5678, 0x00ff, 0x0004],
+        (
+            [0x06b9, 0x1234, 0x5678, 0x00ff, 0x0004],
+            "addi.l #$12345678,$00ff0004.l",
+        ),
         10,
-        "addi.l #$12345678,$00ff0004.l",
     ),
-    ([0x023c, 0x001f, 0, 0, 0], 4, "andi #$1f,ccr"),
-    ([0x0a7c, 0x2700, 0, 0, 0], 4, "eori #$2700,sr"),
-    ([0x033c, 0x0034, 0, 0, 0], 4, "btst d1,#$34"),
-    ([0x083a, 0x0007, 0x0010, 0, 0], 6, "btst #$07,$0010(pc)"),
-    ([0x05cd, 8, 0, 0, 0], 4, "movep.l d2,$0008(a5)"),
+    (([0x023c, 0x001f, 0, 0, 0], "andi #$1f,ccr"), 4),
+    (([0x0a7c, 0x2700, 0, 0, 0], "eori #$2700,sr"), 4),
+    (([0x033c, 0x0034, 0, 0, 0], "btst d1,#$34"), 4),
+    (([0x083a, 0x0007, 0x0010, 0, 0], "btst #$07,$0010(pc)"), 6),
+    (([0x05cd, 8, 0, 0, 0], "movep.l d2,$0008(a5)"), 4),
     // the scale of an index, here 4, is not looked at
     (
-        [0x23b9, 0x1234, 0x5678, 0x34fe, 0],
+        (
+            [0x23b9, 0x1234, 0x5678, 0x34fe, 0],
+            "move.l $12345678.l,$fe(a1,d3.w)",
+        ),
         8,
-        "move.l $12345678.l,$fe(a1,d3.w)",
     ),
     (
-        [0x23f9, 0x00ff, 0x0000, 0x00ff, 0x0004],
+        (
+            [0x23f9, 0x00ff, 0x0000, 0x00ff, 0x0004],
+            "move.l $00ff0000.l,$00ff0004.l",
+        ),
         10,
-        "move.l $00ff0000.l,$00ff0004.l",
     ),
-    ([0x1519, 0, 0, 0, 0], 2, "move.b (a1)+,-(a2)"),
-    ([0x31fc, 0x1234, 0x8000, 0, 0], 6, "move.w #$1234,$8000.w"),
-    ([0x3c7b, 0xb804, 0, 0, 0], 4, "movea.w $04(pc,a3.l),a6"),
-    ([0x4000, 0, 0, 0, 0], 2, "negx.b d0"),
-    ([0x4690, 0, 0, 0, 0], 2, "not.l (a0)"),
-    ([0x40c1, 0, 0, 0, 0], 2, "move sr,d1"),
-    ([0x44c2, 0, 0, 0, 0], 2, "move d2,ccr"),
-    ([0x46fc, 0x2000, 0, 0, 0], 4, "move #$2000,sr"),
-    ([0x4847, 0, 0, 0, 0], 2, "swap d7"),
-    ([0x48c3, 0, 0, 0, 0], 2, "ext.l d3"),
-    ([0x486a, 8, 0, 0, 0], 4, "pea $0008(a2)"),
-    ([0x4801, 0, 0, 0, 0], 2, "nbcd d1"),
+    (([0x1519, 0, 0, 0, 0], "move.b (a1)+,-(a2)"), 2),
+    (([0x31fc, 0x1234, 0x8000, 0, 0], "move.w #$1234,$8000.w"), 6),
+    (([0x3c7b, 0xb804, 0, 0, 0], "movea.w $04(pc,a3.l),a6"), 4),
+    (([0x4000, 0, 0, 0, 0], "negx.b d0"), 2),
+    (([0x4690, 0, 0, 0, 0], "not.l (a0)"), 2),
+    (([0x40c1, 0, 0, 0, 0], "move sr,d1"), 2),
+    (([0x44c2, 0, 0, 0, 0], "move d2,ccr"), 2),
+    (([0x46fc, 0x2000, 0, 0, 0], "move #$2000,sr"), 4),
+    (([0x4847, 0, 0, 0, 0], "swap d7"), 2),
+    (([0x48c3, 0, 0, 0, 0], "ext.l d3"), 2),
+    (([0x486a, 8, 0, 0, 0], "pea $0008(a2)"), 4),
+    (([0x4801, 0, 0, 0, 0], "nbcd d1"), 2),
     (
-        [0x48e7, 0xfffe, 0, 0, 0],
+        (
+            [0x48e7, 0xfffe, 0, 0, 0],
+            "movem.l d0/d1/d2/d3/d4/d5/d6/d7/a0/a1/a2/a3/a4/a5/a6,-(a7)",
+        ),
         4,
-        "movem.l d0/d1/d2/d3/d4/d5/d6/d7/a0/a1/a2/a3/a4/a5/a6,-(a7)",
     ),
-    ([0x4c98, 0x0003, 0, 0, 0], 4, "movem.w (a0)+,d0/d1"),
-    ([0x4a10, 0, 0, 0, 0], 2, "tst.b (a0)"),
-    ([0x4ac0, 0, 0, 0, 0], 2, "tas d0"),
-    ([0x4e4f, 0, 0, 0, 0], 2, "trap #$f"),
-    ([0x4e56, 0xfffc, 0, 0, 0], 4, "link a6,#$fffc"),
-    ([0x4e5e, 0, 0, 0, 0], 2, "unlk a6"),
-    ([0x4e61, 0, 0, 0, 0], 2, "move a1,usp"),
-    ([0x4e6a, 0, 0, 0, 0], 2, "move usp,a2"),
-    ([0x4e71, 0, 0, 0, 0], 2, "nop"),
-    ([0x4e72, 0x2700, 0, 0, 0], 4, "stop #$2700"),
-    ([0x4e73, 0, 0, 0, 0], 2, "rte"),
-    ([0x4e75, 0, 0, 0, 0], 2, "rts"),
-    ([0x4eb9, 0, 0x1234, 0, 0], 6, "jsr $00001234.l"),
-    ([0x4efa, 2, 0, 0, 0], 4, "jmp $0002(pc)"),
-    ([0x41e9, 4, 0, 0, 0], 4, "lea $0004(a1),a0"),
-    ([0x4581, 0, 0, 0, 0], 2, "chk d1,d2"),
-    ([0x5088, 0, 0, 0, 0], 2, "addq.l #$8,a0"),
-    ([0x50c0, 0, 0, 0, 0], 2, "st d0"),
-    ([0x51c9, 0xfffc, 0, 0, 0], 4, "dbf d1,$000001fa"),
+    (([0x4c98, 0x0003, 0, 0, 0], "movem.w (a0)+,d0/d1"), 4),
+    (([0x4a10, 0, 0, 0, 0], "tst.b (a0)"), 2),
+    (([0x4ac0, 0, 0, 0, 0], "tas d0"), 2),
+    (([0x4e4f, 0, 0, 0, 0], "trap #$f"), 2),
+    (([0x4e56, 0xfffc, 0, 0, 0], "link a6,#$fffc"), 4),
+    (([0x4e5e, 0, 0, 0, 0], "unlk a6"), 2),
+    (([0x4e61, 0, 0, 0, 0], "move a1,usp"), 2),
+    (([0x4e6a, 0, 0, 0, 0], "move usp,a2"), 2),
+    (([0x4e71, 0, 0, 0, 0], "nop"), 2),
+    (([0x4e72, 0x2700, 0, 0, 0], "stop #$2700"), 4),
+    (([0x4e73, 0, 0, 0, 0], "rte"), 2),
+    (([0x4e75, 0, 0, 0, 0], "rts"), 2),
+    (([0x4eb9, 0, 0x1234, 0, 0], "jsr $00001234.l"), 6),
+    (([0x4efa, 2, 0, 0, 0], "jmp $0002(pc)"), 4),
+    (([0x41e9, 4, 0, 0, 0], "lea $0004(a1),a0"), 4),
+    (([0x4581, 0, 0, 0, 0], "chk d1,d2"), 2),
+    (([0x5088, 0, 0, 0, 0], "addq.l #$8,a0"), 2),
+    (([0x50c0, 0, 0, 0, 0], "st d0"), 2),
+    (([0x51c9, 0xfffc, 0, 0, 0], "dbf d1,$000001fa"), 4),
     // FF is a byte's displacement here
-    ([0x6000, 0x1234, 0, 0, 0], 4, "bra.w $00001432"),
-    ([0x6102, 0, 0, 0, 0], 2, "bsr.b $00000200"),
-    ([0x6fff, 0, 0, 0, 0], 2, "ble.b $000001fd"),
-    ([0x76ff, 0, 0, 0, 0], 2, "moveq #$ff,d3"),
-    ([0x8441, 0, 0, 0, 0], 2, "or.w d1,d2"),
-    ([0x82c0, 0, 0, 0, 0], 2, "divu d0,d1"),
-    ([0x8109, 0, 0, 0, 0], 2, "sbcd -(a1),-(a0)"),
-    ([0x9110, 0, 0, 0, 0], 2, "sub.b d0,(a0)"),
-    ([0x95c1, 0, 0, 0, 0], 2, "suba.l d1,a2"),
-    ([0x9141, 0, 0, 0, 0], 2, "subx.w d1,d0"),
-    ([0xb248, 0, 0, 0, 0], 2, "cmp.w a0,d1"),
-    ([0xb6c0, 0, 0, 0, 0], 2, "cmpa.w d0,a3"),
-    ([0xb300, 0, 0, 0, 0], 2, "eor.b d1,d0"),
-    ([0xb589, 0, 0, 0, 0], 2, "cmpm.l (a1)+,(a2)+"),
-    ([0xc1fc, 3, 0, 0, 0], 4, "muls #$0003,d0"),
-    ([0xc101, 0, 0, 0, 0], 2, "abcd d1,d0"),
-    ([0xc342, 0, 0, 0, 0], 2, "exg d1,d2"),
-    ([0xc34a, 0, 0, 0, 0], 2, "exg a1,a2"),
-    ([0xc38a, 0, 0, 0, 0], 2, "exg d1,a2"),
-    ([0xc280, 0, 0, 0, 0], 2, "and.l d0,d1"),
-    ([0xe001, 0, 0, 0, 0], 2, "asr.b #$8,d1"),
-    ([0xe5b3, 0, 0, 0, 0], 2, "roxl.l d2,d3"),
-    ([0xe6d0, 0, 0, 0, 0], 2, "ror (a0)"),
-    ([0xe3e9, 4, 0, 0, 0], 4, "lsl $0004(a1)"),
+    (([0x6000, 0x1234, 0, 0, 0], "bra.w $00001432"), 4),
+    (([0x6102, 0, 0, 0, 0], "bsr.b $00000200"), 2),
+    (([0x6fff, 0, 0, 0, 0], "ble.b $000001fd"), 2),
+    (([0x76ff, 0, 0, 0, 0], "moveq #$ff,d3"), 2),
+    (([0x8441, 0, 0, 0, 0], "or.w d1,d2"), 2),
+    (([0x82c0, 0, 0, 0, 0], "divu d0,d1"), 2),
+    (([0x8109, 0, 0, 0, 0], "sbcd -(a1),-(a0)"), 2),
+    (([0x9110, 0, 0, 0, 0], "sub.b d0,(a0)"), 2),
+    (([0x95c1, 0, 0, 0, 0], "suba.l d1,a2"), 2),
+    (([0x9141, 0, 0, 0, 0], "subx.w d1,d0"), 2),
+    (([0xb248, 0, 0, 0, 0], "cmp.w a0,d1"), 2),
+    (([0xb6c0, 0, 0, 0, 0], "cmpa.w d0,a3"), 2),
+    (([0xb300, 0, 0, 0, 0], "eor.b d1,d0"), 2),
+    (([0xb589, 0, 0, 0, 0], "cmpm.l (a1)+,(a2)+"), 2),
+    (([0xc1fc, 3, 0, 0, 0], "muls #$0003,d0"), 4),
+    (([0xc101, 0, 0, 0, 0], "abcd d1,d0"), 2),
+    (([0xc342, 0, 0, 0, 0], "exg d1,d2"), 2),
+    (([0xc34a, 0, 0, 0, 0], "exg a1,a2"), 2),
+    (([0xc38a, 0, 0, 0, 0], "exg d1,a2"), 2),
+    (([0xc280, 0, 0, 0, 0], "and.l d0,d1"), 2),
+    (([0xe001, 0, 0, 0, 0], "asr.b #$8,d1"), 2),
+    (([0xe5b3, 0, 0, 0, 0], "roxl.l d2,d3"), 2),
+    (([0xe6d0, 0, 0, 0, 0], "ror (a0)"), 2),
+    (([0xe3e9, 4, 0, 0, 0], "lsl $0004(a1)"), 4),
 ];
+
+fn is_measured(alloc: Global, measured: &Measured) -> Result<bool, Fail> {
+    let (row, length) = measured;
+    Ok(decode(&row.0).length == *length && is_told(alloc, row)?)
+}
+
+fn measures(rt: &impl Abort, alloc: Global, rows: &[Measured]) -> Result<(), Fail> {
+    for measured in rows {
+        assert!(rt; is_measured(alloc, measured)?, "{}", measured.0.1);
+    }
+    Ok(())
+}
 
 #[test]
 fn instructions_and_their_lengths(rt: HostRuntime) -> Result<(), Fail> {
-    for (words, length, text) in LENGTHS {
-        let told = is_told(rt.alloc(), &(words, text))?;
-        assert!(rt; told && decode(&words).length == length, "{text}");
-    }
-    Ok(())
+    measures(&rt, rt.alloc(), &MEASURED)
 }
 
 // No two first words share a text, where the same words follow them.
