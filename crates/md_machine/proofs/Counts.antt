@@ -182,11 +182,8 @@ unfolding told
 told-few z = five-each (λ i. length (told z i) ≤ 1)
     (told-by (next_of z.main).sample (main_told z.shared (next_of z.main).key (request_of z.cart z.main))) (told-by (sub_next_of z.sub.state).sample (sub_accessed z).entry) (omega arith) (omega arith) (omega arith)
 
-journal-few : (m : Console) (n : ℕ) → length (journal m n) ≤ n
+pub journal-few : (m : Console) (n : ℕ) → length (journal m n) ≤ n
 unfolding journal
 journal-few m zero = omega arith
 journal-few m (suc n) =
     omega (arith, length-append (journal m n) (told (ran m n) (mover (ran m n))), journal-few m n, told-few (ran m n) (mover (ran m n)) (mover-lt (ran m n)))
-
-pub entries-few : (m z : Console) (end : ℕ) (entries : List Entry) (sound : Media) (run : IsRunTo m end z entries sound) → length entries ≤ run.moves
-entries-few m z end entries sound run = subst (λ (l : List Entry). length l ≤ run.moves) (sym run.entered) (journal-few m run.moves)

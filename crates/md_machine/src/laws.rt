@@ -1,10 +1,10 @@
 //! Laws of the machine, as calls that do nothing and stand for what they ensure.
 
-ghost use Rattle.std.specs.Prelude.{◌≡◌, ℕ, ◌+◌, ◌-◌, ◌*◌, ◌/◌, ◌^◌, ◌≤◌, ◌++◌, List, length};
+ghost use Rattle.std.specs.Prelude.{◌≡◌, ℕ, ◌+◌, ◌-◌, ◌*◌, ◌/◌, ◌^◌, ◌<◌, ◌≤◌, ◌++◌, List, length};
 ghost use Rattle.md_word.specs.declared.event.Entry.{Entry};
 ghost use Rattle.chip_core.specs.Limits.{events_within};
 ghost use Rattle.md_pads.specs.Recording.{Frame};
-ghost use Rattle.md_machine.specs.Console.{AllBelow, Console, IsQuiet, IsRunTo, power_on, ran};
+ghost use Rattle.md_machine.specs.Console.{AllBelow, Console, IsQuiet, IsRunTo, journal, key_in, media, mover, power_on, ran};
 ghost use Rattle.md_machine.specs.Owners.{HasOneOwner};
 ghost use Rattle.md_machine.specs.Pads.{ShowsPads};
 ghost use Rattle.md_machine.specs.Rules.{five};
@@ -17,6 +17,26 @@ use crate::machine::Machine;
 use crate::set::MdChips;
 use chip_core::laws;
 use rom_header::Cart;
+
+/// No next event of the five chips stands before that of the chip that moves.
+pub fn mover_is_first()
+    ensures { (m : Console) (i : ℕ) → i < 5 → (key_in m (mover m)).cycle ≤ (key_in m i).cycle }
+{}
+
+/// The first moves of a machine, and behind them moves of the machine to which they lead, are together
+/// its moves: they lead to the same machine, with the entries, the frames and the samples of the first
+/// followed by those of the later.
+pub fn moves_added()
+    ensures machine { (m : Console) (first later : ℕ) → ran m (first + later) ≡ ran (ran m first) later }
+    ensures entries { (m : Console) (first later : ℕ) → journal m (first + later) ≡ journal m first ++ journal (ran m first) later }
+    ensures output { (m : Console) (first later : ℕ)
+        → media m (first + later) ≡ outputs.joined (media m first) (media (ran m first) later) }
+{}
+
+/// There are no more entries than moves.
+pub fn few_entries()
+    ensures { (m : Console) (moves : ℕ) → length (journal m moves) ≤ moves }
+{}
 
 /// A run that goes on from where another ended is one run, with the entries, frames and samples of the
 /// one followed by those of the other.
