@@ -7,7 +7,7 @@ use Rattle.md_top.specs.Inputs.{InputCause}
 use Rattle.md_top.specs.Limits.{IsEnd, last_cycle}
 use Rattle.md_top.specs.Loads.{Begins, LoadCause, MayBeginAt}
 use Rattle.md_top.specs.Outputs.{Adds, AddsParts, AreBegun, Holds, IsBegun, IsUnwritten, IsWriteFault, LeavesParts, Pieces, lengthened, nothing}
-use Rattle.md_top.specs.Runs.{FewEvents, frames_to, journal_to, pieces_of, pieces_until, sound_until, state_to}
+use Rattle.md_top.specs.Runs.{RunLaws, frames_to, journal_to, pieces_of, pieces_until, sound_until, state_to}
 use Rattle.md_top.specs.Saves.{IsNotSaved, LeavesState}
 use Rattle.md_machine.specs.Starts.{IsStart, Start}
 use Rattle.md_words.specs.Words.{Run}
@@ -34,19 +34,19 @@ both-err (Err e) f p q = f e p q
 
 -- WHAT THE OUTPUTS HOLD
 
-pub head-held : (run : Run) (start : Start) (first files : Files) (head : List ℕ) → IsStart start → FewEvents start → start.at ≤ 2 ^ 50
+pub head-held : (run : Run) (start : Start) (first files : Files) (head : List ℕ) → IsStart start → RunLaws start → start.at ≤ 2 ^ 50
     → head ≡ sound_until start run.cycles start.at
     → Holds run first files (record nothing { sound = head }) → HoldsUntil start run first files start.at
-head-held run start first files head is few small same holds =
-    subst (Holds run first files) (pieces-first start run.cycles head is few small same) holds
+head-held run start first files head is laws small same holds =
+    subst (Holds run first files) (pieces-first start run.cycles head is laws small same) holds
 
-pub head-parts : (run : Run) (start : Start) (first files : Files) (head : List ℕ) → IsStart start → FewEvents start → start.at ≤ run.cycles → run.cycles ≤ 2 ^ 50
+pub head-parts : (run : Run) (start : Start) (first files : Files) (head : List ℕ) → IsStart start → RunLaws start → start.at ≤ run.cycles → run.cycles ≤ 2 ^ 50
     → head ≡ sound_until start run.cycles start.at
     → LeavesParts run first files (record nothing { sound = head }) → LeavesParts run first files (pieces_of start run.cycles)
-head-parts run start first files head is few within small same leaves =
+head-parts run start first files head is laws within small same leaves =
     parts-longer run first files (pieces_until start run.cycles start.at) (pieces_of start run.cycles)
-    (subst (LeavesParts run first files) (pieces-first start run.cycles head is few (omega (arith, within, small)) same) leaves)
-    (pieces-front start run.cycles start.at is few small within)
+    (subst (LeavesParts run first files) (pieces-first start run.cycles head is laws (omega (arith, within, small)) same) leaves)
+    (pieces-front start run.cycles start.at is laws small within)
 
 pub segment-held : (run : Run) (start : Start) (first old new : Files) (at to : ℕ) (more : Pieces)
     → lengthened (pieces_until start run.cycles at) more ≡ pieces_until start run.cycles to
@@ -54,13 +54,13 @@ pub segment-held : (run : Run) (start : Start) (first old new : Files) (at to : 
 segment-held run start first old new at to more is adds holds =
     subst (Holds run first new) is (adds first (pieces_until start run.cycles at) holds)
 
-pub segment-parts : (run : Run) (start : Start) (first old new : Files) (at to : ℕ) (more : Pieces) → IsStart start → FewEvents start → to ≤ run.cycles → run.cycles ≤ 2 ^ 50
+pub segment-parts : (run : Run) (start : Start) (first old new : Files) (at to : ℕ) (more : Pieces) → IsStart start → RunLaws start → to ≤ run.cycles → run.cycles ≤ 2 ^ 50
     → lengthened (pieces_until start run.cycles at) more ≡ pieces_until start run.cycles to
     → AddsParts run old new more → HoldsUntil start run first old at → LeavesParts run first new (pieces_of start run.cycles)
-segment-parts run start first old new at to more from few within small is adds holds =
+segment-parts run start first old new at to more from laws within small is adds holds =
     parts-longer run first new (pieces_until start run.cycles to) (pieces_of start run.cycles)
     (subst (LeavesParts run first new) is (adds first (pieces_until start run.cycles at) holds))
-    (pieces-front start run.cycles to from few small within)
+    (pieces-front start run.cycles to from laws small within)
 
 -- the state behind the last segment
 with-state : (start : Start) (end : ℕ) (state : List ℕ) → state ≡ state_to start end → lengthened (pieces_until start end end) (record nothing { state = state }) ≡ pieces_of start end

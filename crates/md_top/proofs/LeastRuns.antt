@@ -7,9 +7,7 @@ use Rattle.md_machine.specs.Console.{AllBelow, Console, IsRunTo, journal, key_in
 use Rattle.md_machine.specs.Media.{Media, joined}
 use Rattle.md_machine.specs.Movers.{mover-lt}
 use Rattle.md_machine.specs.Starts.{Start}
-use Rattle.md_machine.proofs.Joined.{journal-add, media-add}
-use Rattle.md_machine.proofs.LeastKeys.{least-cycle}
-use Rattle.md_top.specs.Runs.{FewEvents, entries_from, is_quiet, media_from, moves_from, run_from}
+use Rattle.md_top.specs.Runs.{RunLaws, entries_from, is_quiet, media_from, moves_from, run_from}
 use Rattle.md_top.proofs.Least.{least-below, least-found, least-is, least-le}
 
 passes : (end cycle : ℕ) → end ≤ cycle → nat_le end cycle ≡ true
@@ -24,12 +22,12 @@ early_from end cycle is = grind (arith, nat_tests)
 late_from : (end cycle : ℕ) → nat_le end cycle ≡ true → end ≤ cycle
 late_from end cycle is = grind (arith, nat_tests)
 
-pub moves-found : (start : Start) (end : ℕ) {after : Console} {entries : List Entry} {sound : Media} → FewEvents start → end ≤ 2 ^ 50
+pub moves-found : (start : Start) (end : ℕ) {after : Console} {entries : List Entry} {sound : Media} → RunLaws start → end ≤ 2 ^ 50
     → (run : IsRunTo start.console end after entries sound) → moves_from start end ≡ run.moves
 unfolding moves_from
-moves-found start end {after} few small run =
+moves-found start end {after} laws small run =
     let quiet : is_quiet end after ≡ true = passes end (key_in after (mover after)).cycle (run.quiet (mover after) (mover-lt after)) in
-    least-is (λ n. is_quiet end (ran start.console n)) (end - start.at + 5) run.moves (few end run.moves small run.below)
+    least-is (λ n. is_quiet end (ran start.console n)) (end - start.at + 5) run.moves (laws.few_events end run.moves small run.below)
     (subst (λ (machine : Console). is_quiet end machine ≡ true) run.console quiet)
     (λ k below. fails end (key_in (ran start.console k) (mover (ran start.console k))).cycle (run.below k below))
 
@@ -39,11 +37,11 @@ pub record Found (start : Start) (end : ℕ) (after : Console) (entries : List E
   pub entered : entries ≡ entries_from start end
   pub rendered_to : sound ≡ media_from start end
 
-pub run-found : (start : Start) (end : ℕ) {after : Console} {entries : List Entry} {sound : Media} → FewEvents start → end ≤ 2 ^ 50
+pub run-found : (start : Start) (end : ℕ) {after : Console} {entries : List Entry} {sound : Media} → RunLaws start → end ≤ 2 ^ 50
     → IsRunTo start.console end after entries sound → Found start end after entries sound
 unfolding entries_from media_from
-run-found start end few small run =
-    let moves : run.moves ≡ moves_from start end = sym (moves-found start end few small run) in
+run-found start end laws small run =
+    let moves : run.moves ≡ moves_from start end = sym (moves-found start end laws small run) in
     record {
       console = run.console ∙ ap (ran start.console) moves;
       entered = run.entered ∙ ap (journal start.console) moves;
@@ -54,39 +52,39 @@ run-found start end few small run =
 all_early : (start : Start) (end : ℕ) → ((k : ℕ) → k ≤ end - start.at + 5 → is_quiet end (ran start.console k) ≡ false) → AllBelow start.console end (end - start.at + 6)
 all_early start end none k below = early_from end (key_in (ran start.console k) (mover (ran start.console k))).cycle (none k (omega arith))
 
-complete_from : (start : Start) (end : ℕ) → FewEvents start → end ≤ 2 ^ 50
+complete_from : (start : Start) (end : ℕ) → RunLaws start → end ≤ 2 ^ 50
     → (is_quiet end (ran start.console (moves_from start end)) ≡ true) ⊎ ((k : ℕ) → k ≤ end - start.at + 5 → is_quiet end (ran start.console k) ≡ false)
     → is_quiet end (ran start.console (moves_from start end)) ≡ true
-complete_from start end few small (inl quiet) = quiet
-complete_from start end few small (inr none) = absurd (omega (arith, few end (end - start.at + 6) small (all_early start end none)))
+complete_from start end laws small (inl quiet) = quiet
+complete_from start end laws small (inr none) = absurd (omega (arith, laws.few_events end (end - start.at + 6) small (all_early start end none)))
 
-pub run-complete : (start : Start) (end : ℕ) → FewEvents start → end ≤ 2 ^ 50 → is_quiet end (run_from start end) ≡ true
+pub run-complete : (start : Start) (end : ℕ) → RunLaws start → end ≤ 2 ^ 50 → is_quiet end (run_from start end) ≡ true
 unfolding moves_from
-run-complete start end few small = complete_from start end few small (least-found (λ n. is_quiet end (ran start.console n)) (end - start.at + 5))
+run-complete start end laws small = complete_from start end laws small (least-found (λ n. is_quiet end (ran start.console n)) (end - start.at + 5))
 
 -- and is a run to it
-pub run-made : (start : Start) (end : ℕ) → FewEvents start → end ≤ 2 ^ 50
+pub run-made : (start : Start) (end : ℕ) → RunLaws start → end ≤ 2 ^ 50
     → IsRunTo start.console end (run_from start end) (entries_from start end) (media_from start end)
 unfolding entries_from media_from moves_from
-run-made start end few small =
-    let quiet : is_quiet end (run_from start end) ≡ true = run-complete start end few small in
+run-made start end laws small =
+    let quiet : is_quiet end (run_from start end) ≡ true = run-complete start end laws small in
     let late : end ≤ (key_in (run_from start end) (mover (run_from start end))).cycle = late_from end (key_in (run_from start end) (mover (run_from start end))).cycle quiet in
     record {
       moves = moves_from start end;
       below = λ k below. early_from end (key_in (ran start.console k) (mover (ran start.console k))).cycle
           (least-below (λ n. is_quiet end (ran start.console n)) (end - start.at + 5) k below);
-      quiet = λ i below. omega (arith, late, least-cycle (run_from start end) i below);
+      quiet = λ i below. omega (arith, late, laws.mover_first (run_from start end) i below);
       console = refl;
       entered = refl;
       rendered_to = refl;
     }
 
 -- a run to a later cycle has no fewer moves
-pub moves-later : (start : Start) (s t : ℕ) → FewEvents start → t ≤ 2 ^ 50 → s ≤ t → moves_from start s ≤ moves_from start t
+pub moves-later : (start : Start) (s t : ℕ) → RunLaws start → t ≤ 2 ^ 50 → s ≤ t → moves_from start s ≤ moves_from start t
 unfolding moves_from
-moves-later start s t few small within =
+moves-later start s t laws small within =
     let late : t ≤ (key_in (run_from start t) (mover (run_from start t))).cycle =
-    late_from t (key_in (run_from start t) (mover (run_from start t))).cycle (run-complete start t few small) in
+    late_from t (key_in (run_from start t) (mover (run_from start t))).cycle (run-complete start t laws small) in
     least-le (λ n. is_quiet s (ran start.console n)) (s - start.at + 5) (moves_from start t)
     (passes s (key_in (run_from start t) (mover (run_from start t))).cycle (omega (arith, within, late)))
 
@@ -97,14 +95,14 @@ pub record Later (start : Start) (s t : ℕ) : Type 0 where
   pub more_entries : entries_from start t ≡ entries_from start s ++ entries
   pub more_media : media_from start t ≡ joined (media_from start s) output
 
-pub later : (start : Start) (s t : ℕ) → FewEvents start → t ≤ 2 ^ 50 → s ≤ t → Later start s t
+pub later : (start : Start) (s t : ℕ) → RunLaws start → t ≤ 2 ^ 50 → s ≤ t → Later start s t
 unfolding entries_from media_from
-later start s t few small within =
-    let on : moves_from start s ≤ moves_from start t = moves-later start s t few small within in
+later start s t laws small within =
+    let on : moves_from start s ≤ moves_from start t = moves-later start s t laws small within in
     let between : moves_from start t ≡ moves_from start s + (moves_from start t - moves_from start s) = omega (arith, on) in
     record {
       entries = journal (run_from start s) (moves_from start t - moves_from start s);
       output = media (run_from start s) (moves_from start t - moves_from start s);
-      more_entries = ap (journal start.console) between ∙ journal-add start.console (moves_from start s) (moves_from start t - moves_from start s);
-      more_media = ap (media start.console) between ∙ media-add start.console (moves_from start s) (moves_from start t - moves_from start s);
+      more_entries = ap (journal start.console) between ∙ laws.entries_added (moves_from start s) (moves_from start t - moves_from start s);
+      more_media = ap (media start.console) between ∙ laws.output_added (moves_from start s) (moves_from start t - moves_from start s);
     }

@@ -13,14 +13,12 @@ use Rattle.md_machine.specs.Media.{Media, joined, no_media}
 use Rattle.md_machine.specs.Movers.{mover-lt}
 use Rattle.md_machine.specs.Starts.{IsStart, Start, batches_below}
 use Rattle.save_state.specs.States.{state_bytes}
-use Rattle.md_machine.proofs.Counts.{entries-few, levels-counted, sides-counted}
-use Rattle.md_machine.proofs.Joined.{run-joined}
 use Rattle.md_top.specs.Courses.{CameTo}
 use Rattle.md_top.specs.Heard.{HearsRuns}
 use Rattle.md_top.specs.Endings.{pairs_between}
 use Rattle.md_top.specs.Limits.{IsEnd}
 use Rattle.md_top.specs.Outputs.{Pieces, lengthened, nothing}
-use Rattle.md_top.specs.Runs.{FewEvents, entries_from, frames_to, halted_from, journal_to, media_from, moves_from, pieces_of, pieces_until, run_from, sound_until, state_to}
+use Rattle.md_top.specs.Runs.{RunLaws, entries_from, frames_to, halted_from, journal_to, media_from, moves_from, pieces_of, pieces_until, run_from, sound_until, state_to}
 use Rattle.md_top.proofs.Writes.{AreFront}
 use Rattle.md_top.proofs.LeastRuns.{Found, Later, later, moves-found, run-found, run-made}
 
@@ -54,13 +52,13 @@ pub record Segment (start : Start) (at to : ℕ) (after : MachineValue) : Type 0
   pub entries : entries_from start to ≡ entries_from start at ++ after.entries
   pub output : media_from start to ≡ joined (media_from start at) after.media
 
-pub segment : (start : Start) (at to : ℕ) (before : Console) (after : MachineValue) → FewEvents start → to ≤ 2 ^ 50 → at ≤ to
+pub segment : (start : Start) (at to : ℕ) (before : Console) (after : MachineValue) → RunLaws start → to ≤ 2 ^ 50 → at ≤ to
     → IsRunTo start.console at before (entries_from start at) (media_from start at) → IsRunTo before to after.console after.entries after.media
     → Segment start at to after
-segment start at to before after few small within first second =
+segment start at to before after laws small within first second =
     let whole : IsRunTo start.console to after.console (entries_from start at ++ after.entries) (joined (media_from start at) after.media) =
-    run-joined start.console before after.console at to (entries_from start at) after.entries (media_from start at) after.media within first second in
-    let found : Found start to after.console (entries_from start at ++ after.entries) (joined (media_from start at) after.media) = run-found start to few small whole in
+    laws.runs_joined before after.console at to (entries_from start at) after.entries (media_from start at) after.media within first second in
+    let found : Found start to after.console (entries_from start at ++ after.entries) (joined (media_from start at) after.media) = run-found start to laws small whole in
     record {
       run = subst (λ (l : Media). IsRunTo start.console to after.console (entries_from start to) l) found.rendered_to
           (subst (λ (l : List Entry). IsRunTo start.console to after.console l (joined (media_from start at) after.media)) found.entered whole);
@@ -69,90 +67,90 @@ segment start at to before after few small within first second =
     }
 
 -- a run has no more entries than cycles and chips
-pub few-entries : (start : Start) (at : ℕ) (after : Console) → FewEvents start → at ≤ 2 ^ 50 → IsRunTo start.console at after (entries_from start at) (media_from start at)
+pub few-entries : (start : Start) (at : ℕ) (after : Console) → RunLaws start → at ≤ 2 ^ 50 → IsRunTo start.console at after (entries_from start at) (media_from start at)
     → length (entries_from start at) ≤ at - start.at + 5
-few-entries start at after few small run =
-    omega (arith, entries-few start.console after at (entries_from start at) (media_from start at) run, few at run.moves small run.below)
+few-entries start at after laws small run =
+    omega (arith, ap length run.entered, laws.few_entries run.moves, laws.few_events at run.moves small run.below)
 
 -- at the start nothing was made
-no-moves : (start : Start) → IsStart start → FewEvents start → start.at ≤ 2 ^ 50 → moves_from start start.at ≡ 0
+no-moves : (start : Start) → IsStart start → RunLaws start → start.at ≤ 2 ^ 50 → moves_from start start.at ≡ 0
 unfolding ran
-no-moves start is few small =
-    let run : IsRunTo start.console start.at (run_from start start.at) (entries_from start start.at) (media_from start start.at) = run-made start start.at few small in
-    moves-found start start.at few small run ∙ none run.moves run.below
+no-moves start is laws small =
+    let run : IsRunTo start.console start.at (run_from start start.at) (entries_from start start.at) (media_from start start.at) = run-made start start.at laws small in
+    moves-found start start.at laws small run ∙ none run.moves run.below
   where
     none : (n : ℕ) → AllBelow start.console start.at n → n ≡ 0
     none zero below = refl
     none (suc n) below = absurd (omega (arith, below 0 (omega arith), is.quiet (mover start.console) (mover-lt start.console)))
 
-pub no-entries : (start : Start) → IsStart start → FewEvents start → start.at ≤ 2 ^ 50 → entries_from start start.at ≡ []
+pub no-entries : (start : Start) → IsStart start → RunLaws start → start.at ≤ 2 ^ 50 → entries_from start start.at ≡ []
 unfolding entries_from journal
-no-entries start is few small = ap (journal start.console) (no-moves start is few small)
+no-entries start is laws small = ap (journal start.console) (no-moves start is laws small)
 
-pub no-media : (start : Start) → IsStart start → FewEvents start → start.at ≤ 2 ^ 50 → media_from start start.at ≡ no_media
+pub no-media : (start : Start) → IsStart start → RunLaws start → start.at ≤ 2 ^ 50 → media_from start start.at ≡ no_media
 unfolding media_from media
-no-media start is few small = ap (media start.console) (no-moves start is few small)
+no-media start is laws small = ap (media start.console) (no-moves start is laws small)
 
 -- each level has its sums
-pub paired : (start : Start) (at : ℕ) → IsStart start → FewEvents start → at ≤ 2 ^ 50 → length (media_from start at).sides ≡ length (media_from start at).levels
-paired start at is few small =
-    let run : IsRunTo start.console at (run_from start at) (entries_from start at) (media_from start at) = run-made start at few small in
-    sides-counted start (run_from start at) at (entries_from start at) (media_from start at) is run
-    ∙ sym (levels-counted start (run_from start at) at (entries_from start at) (media_from start at) is run)
+pub paired : (start : Start) (at : ℕ) → IsStart start → RunLaws start → at ≤ 2 ^ 50 → length (media_from start at).sides ≡ length (media_from start at).levels
+paired start at is laws small =
+    let run : IsRunTo start.console at (run_from start at) (entries_from start at) (media_from start at) = run-made start at laws small in
+    laws.sides_counted (run_from start at) at (entries_from start at) (media_from start at) is run
+    ∙ sym (laws.levels_counted (run_from start at) at (entries_from start at) (media_from start at) is run)
 
 -- what the outputs hold at a cycle is a front part of what they hold later
-sound-grows : (start : Start) (end s t : ℕ) → IsStart start → FewEvents start → t ≤ 2 ^ 50 → s ≤ t → IsPrefix (sound_until start end s) (sound_until start end t)
+sound-grows : (start : Start) (end s t : ℕ) → IsStart start → RunLaws start → t ≤ 2 ^ 50 → s ≤ t → IsPrefix (sound_until start end s) (sound_until start end t)
 unfolding sound_until
-sound-grows start end s t is few small within =
-    let more : Later start s t = later start s t few small within in (
+sound-grows start end s t is laws small within =
+    let more : Later start s t = later start s t laws small within in (
       sound_bytes more.output,
       append_assoc (wav_head (length (media_from start end).levels)) (sound_bytes (media_from start s)) (sound_bytes more.output)
-          ∙ ap (λ (l : List ℕ). wav_head (length (media_from start end).levels) ++ l) (sym (sound_bytes-append (media_from start s) more.output (paired start s is few (omega (arith, small, within)))) ∙ ap sound_bytes (sym more.more_media)),
+          ∙ ap (λ (l : List ℕ). wav_head (length (media_from start end).levels) ++ l) (sym (sound_bytes-append (media_from start s) more.output (paired start s is laws (omega (arith, small, within)))) ∙ ap sound_bytes (sym more.more_media)),
     )
 
-frames-grow : (start : Start) (s t : ℕ) → FewEvents start → t ≤ 2 ^ 50 → s ≤ t → IsPrefix (frames_to start s) (frames_to start t)
+frames-grow : (start : Start) (s t : ℕ) → RunLaws start → t ≤ 2 ^ 50 → s ≤ t → IsPrefix (frames_to start s) (frames_to start t)
 unfolding frames_to
-frames-grow start s t few small within =
-    let more : Later start s t = later start s t few small within in
+frames-grow start s t laws small within =
+    let more : Later start s t = later start s t laws small within in
     (frames_bytes more.output.frames, sym (frames_bytes-append (media_from start s).frames more.output.frames) ∙ ap (λ (m : Media). frames_bytes m.frames) (sym more.more_media))
 
-journal-grows : (start : Start) (s t : ℕ) → FewEvents start → t ≤ 2 ^ 50 → s ≤ t → IsPrefix (journal_to start s) (journal_to start t)
+journal-grows : (start : Start) (s t : ℕ) → RunLaws start → t ≤ 2 ^ 50 → s ≤ t → IsPrefix (journal_to start s) (journal_to start t)
 unfolding journal_to
-journal-grows start s t few small within =
-    let more : Later start s t = later start s t few small within in
+journal-grows start s t laws small within =
+    let more : Later start s t = later start s t laws small within in
     (journal_bytes more.entries, sym (journal_bytes-append (entries_from start s) more.entries) ∙ ap journal_bytes (sym more.more_entries))
 
-pub pieces-front : (start : Start) (end s : ℕ) → IsStart start → FewEvents start → end ≤ 2 ^ 50 → s ≤ end → AreFront (pieces_until start end s) (pieces_of start end)
-pieces-front start end s is few small within = record {
-  frames = frames-grow start s end few small within;
-  sound = sound-grows start end s end is few small within;
-  journal = journal-grows start s end few small within;
+pub pieces-front : (start : Start) (end s : ℕ) → IsStart start → RunLaws start → end ≤ 2 ^ 50 → s ≤ end → AreFront (pieces_until start end s) (pieces_of start end)
+pieces-front start end s is laws small within = record {
+  frames = frames-grow start s end laws small within;
+  sound = sound-grows start end s end is laws small within;
+  journal = journal-grows start s end laws small within;
   state = (state_to start end, refl);
 }
 
 -- a machine at its start, with nothing made
-pub at-start : (start : Start) → IsStart start → FewEvents start → HearsRuns start → start.at ≤ 2 ^ 50
+pub at-start : (start : Start) → IsStart start → RunLaws start → HearsRuns start → start.at ≤ 2 ^ 50
     → CameTo start (record { at = start.at; console = start.console; entries = []; media = no_media }) 0
 unfolding ran
-at-start start is few heard small = record {
+at-start start is laws heard small = record {
   from = is;
-  few = few;
+  laws = laws;
   later = omega arith;
   run = subst (λ (m : Console). IsRunTo start.console start.at m (entries_from start start.at) (media_from start start.at))
-      (ap (ran start.console) (no-moves start is few small)) (run-made start start.at few small);
+      (ap (ran start.console) (no-moves start is laws small)) (run-made start start.at laws small);
   entries = refl;
   media = refl;
-  counted = sym (ap length (no-entries start is few small));
+  counted = sym (ap length (no-entries start is laws small));
   heard = heard;
 }
 
 -- behind a segment
-pub came-to : (start : Start) (at to accesses : ℕ) (after machine : MachineValue) → IsStart start → FewEvents start → HearsRuns start → start.at ≤ to → Segment start at to after
+pub came-to : (start : Start) (at to accesses : ℕ) (after machine : MachineValue) → IsStart start → RunLaws start → HearsRuns start → start.at ≤ to → Segment start at to after
     → machine ≡ record { at = to; console = after.console; entries = []; media = no_media } → accesses ≡ length (entries_from start to)
     → CameTo start machine accesses
-came-to start at to accesses after machine is few heard later made same counted =
+came-to start at to accesses after machine is laws heard later made same counted =
     subst (λ (m : MachineValue). CameTo start m accesses) (sym same)
-    (record { from = is; few = few; later = later; run = made.run; entries = refl; media = refl; counted = counted; heard = heard })
+    (record { from = is; laws = laws; later = later; run = made.run; entries = refl; media = refl; counted = counted; heard = heard })
 
 -- the outputs behind a segment
 sound-next : (start : Start) (end at to : ℕ) (pairs : List ℕ) → sound_bytes (media_from start to) ≡ sound_bytes (media_from start at) ++ pairs
@@ -183,35 +181,35 @@ pieces-next start end at to more none frames sound journal = λ i. record {
 }
 
 -- the outputs before the first segment: the head, and nothing else
-pub head-first : (start : Start) (end : ℕ) → IsStart start → FewEvents start → start.at ≤ 2 ^ 50 → IsEnd end
+pub head-first : (start : Start) (end : ℕ) → IsStart start → RunLaws start → start.at ≤ 2 ^ 50 → IsEnd end
     → wav_head (pairs_between start.at end) ≡ sound_until start end start.at
 unfolding sound_until sound_bytes
-head-first start end is few small (some, near) =
+head-first start end is laws small (some, near) =
     let counted : length (media_from start end).levels ≡ 16 * (batches_below end - batches_below start.at) =
-    levels-counted start (run_from start end) end (entries_from start end) (media_from start end) is (run-made start end few (omega (arith, near))) in
+    laws.levels_counted (run_from start end) end (entries_from start end) (media_from start end) is (run-made start end laws (omega (arith, near))) in
     let count : length (media_from start end).levels ≡ pairs_between start.at end = counted ∙ omega arith in
     ap wav_head (sym count) ∙ sym (append-nil (wav_head (length (media_from start end).levels)))
-    ∙ ap (λ (l : Media). wav_head (length (media_from start end).levels) ++ sound_bytes l) (sym (no-media start is few small))
+    ∙ ap (λ (l : Media). wav_head (length (media_from start end).levels) ++ sound_bytes l) (sym (no-media start is laws small))
 
-frames-first : (start : Start) → IsStart start → FewEvents start → start.at ≤ 2 ^ 50 → frames_to start start.at ≡ []
+frames-first : (start : Start) → IsStart start → RunLaws start → start.at ≤ 2 ^ 50 → frames_to start start.at ≡ []
 unfolding frames_to frames_bytes
-frames-first start is few small = ap (λ (m : Media). frames_bytes m.frames) (no-media start is few small)
+frames-first start is laws small = ap (λ (m : Media). frames_bytes m.frames) (no-media start is laws small)
 
-journal-first : (start : Start) → IsStart start → FewEvents start → start.at ≤ 2 ^ 50 → journal_to start start.at ≡ []
+journal-first : (start : Start) → IsStart start → RunLaws start → start.at ≤ 2 ^ 50 → journal_to start start.at ≡ []
 unfolding journal_to journal_bytes
-journal-first start is few small = ap journal_bytes (no-entries start is few small)
+journal-first start is laws small = ap journal_bytes (no-entries start is laws small)
 
-pub pieces-first : (start : Start) (end : ℕ) (head : List ℕ) → IsStart start → FewEvents start → start.at ≤ 2 ^ 50 → head ≡ sound_until start end start.at
+pub pieces-first : (start : Start) (end : ℕ) (head : List ℕ) → IsStart start → RunLaws start → start.at ≤ 2 ^ 50 → head ≡ sound_until start end start.at
     → record nothing { sound = head } ≡ pieces_until start end start.at
-pieces-first start end head is few small same =
-    λ i. record { frames = sym (frames-first start is few small) i; sound = same i; journal = sym (journal-first start is few small) i; state = [] }
+pieces-first start end head is laws small same =
+    λ i. record { frames = sym (frames-first start is laws small) i; sound = same i; journal = sym (journal-first start is laws small) i; state = [] }
 
 -- whether the 68000 of a run is halted
 pub halted-found : (start : Start) (machine : MachineValue) (accesses : ℕ) → CameTo start machine accesses → machine.at ≤ 2 ^ 50 → machine.console.main.halted ≡ halted_from start machine.at
 unfolding halted_from
-halted-found start machine accesses came small = ap (λ (m : Console). m.main.halted) (run-found start machine.at came.few small came.run).console
+halted-found start machine accesses came small = ap (λ (m : Console). m.main.halted) (run-found start machine.at came.laws small came.run).console
 
 -- the state to which a run came
 pub state-found : (start : Start) (machine : MachineValue) (accesses : ℕ) → CameTo start machine accesses → machine.at ≤ 2 ^ 50 → state_bytes machine.at machine.console ≡ state_to start machine.at
 unfolding state_to
-state-found start machine accesses came small = ap (state_bytes machine.at) (run-found start machine.at came.few small came.run).console
+state-found start machine accesses came small = ap (state_bytes machine.at) (run-found start machine.at came.laws small came.run).console

@@ -5,7 +5,7 @@ use Rattle.md_machine.specs.Machines.{MachineValue}
 use Rattle.md_machine.specs.Media.{no_media}
 use Rattle.md_machine.specs.Starts.{IsStart, Start}
 use Rattle.md_top.specs.Heard.{HearsRuns}
-use Rattle.md_top.specs.Runs.{FewEvents, entries_from, media_from}
+use Rattle.md_top.specs.Runs.{RunLaws, entries_from, media_from}
 use Rattle.md_top.specs.declared.course.Course.{Course}
 
 -- a machine as a start
@@ -26,11 +26,11 @@ pub record IsFresh (machine : MachineValue) : Type 0 where
   pub entries : machine.entries ≡ []
   pub media : machine.media ≡ no_media
 
--- a machine came from a start to its cycle with so many accesses, and its records were drained; from
--- power-on, all runs are heard
+-- a machine came from a start to its cycle with so many accesses, and its records were drained; the
+-- machine's laws hold of the runs from that start, and from power-on all runs are heard
 pub record CameTo (start : Start) (machine : MachineValue) (accesses : ℕ) : Type 0 where
   pub from : IsStart start
-  pub few : FewEvents start
+  pub laws : RunLaws start
   pub later : start.at ≤ machine.at
   pub run : IsRunTo start.console machine.at machine.console (entries_from start machine.at) (media_from start machine.at)
   pub entries : machine.entries ≡ []

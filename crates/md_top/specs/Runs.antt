@@ -1,11 +1,11 @@
 -- A run of the machine from a start, which always moves the chip of least key.
-use Rattle.std.specs.Prelude.{ℕ, ◌+◌, ◌-◌, ◌^◌, ◌≤◌, nat_le, Bool, List, [], ◌++◌, length, Option}
+use Rattle.std.specs.Prelude.{◌≡◌, ℕ, ◌+◌, ◌-◌, ◌*◌, ◌^◌, ◌<◌, ◌≤◌, nat_le, Bool, List, [], ◌++◌, length, Option}
 use Rattle.md_word.specs.declared.event.Entry.{Entry}
 use Rattle.md_files.specs.Wav.{wav_head}
-use Rattle.md_machine.specs.Console.{AllBelow, Console, journal, key_in, media, mover, power_on, ran}
-use Rattle.md_machine.specs.Media.{Media}
+use Rattle.md_machine.specs.Console.{AllBelow, Console, IsRunTo, journal, key_in, media, mover, power_on, ran}
+use Rattle.md_machine.specs.Media.{Media, joined}
 use Rattle.md_machine.specs.Outputs.{frames_bytes, journal_bytes, sound_bytes}
-use Rattle.md_machine.specs.Starts.{Start}
+use Rattle.md_machine.specs.Starts.{IsStart, Start, batches_below}
 use Rattle.save_state.specs.States.{state_bytes}
 use Rattle.md_top.specs.Least.{least}
 use Rattle.md_top.specs.Outputs.{Pieces}
@@ -67,6 +67,23 @@ state_to start end = state_bytes end (run_from start end)
 abbrev pub pieces_of : Start → ℕ → Pieces
 pieces_of start end = record (pieces_until start end end) { state = state_to start end }
 
--- from the start on there are never more events below a cycle than cycles up to it, and chips
-abbrev pub FewEvents : Start → Type 0
-FewEvents start = (end n : ℕ) → end ≤ 2 ^ 50 → AllBelow start.console end n → n ≤ end - start.at + 5
+-- what the machine's laws say of the runs from a start
+pub record RunLaws (start : Start) : Type 0 where
+  -- there are never more events below a cycle than cycles up to it, and chips
+  pub few_events : (end n : ℕ) → end ≤ 2 ^ 50 → AllBelow start.console end n → n ≤ end - start.at + 5
+  -- no next event stands before that of the chip that moves
+  pub mover_first : (m : Console) (i : ℕ) → i < 5 → (key_in m (mover m)).cycle ≤ (key_in m i).cycle
+  -- there are no more entries than moves
+  pub few_entries : (moves : ℕ) → length (journal start.console moves) ≤ moves
+  -- moves, and behind them later ones, have the entries, the frames and the samples of both
+  pub entries_added : (first later : ℕ) → journal start.console (first + later) ≡ journal start.console first ++ journal (ran start.console first) later
+  pub output_added : (first later : ℕ) → media start.console (first + later) ≡ joined (media start.console first) (media (ran start.console first) later)
+  -- a run, and behind it one that goes on from where it ended, are a run with those of both
+  pub runs_joined : (w z : Console) (s t : ℕ) (entries later_entries : List Entry) (output later_output : Media) → s ≤ t
+      → IsRunTo start.console s w entries output → IsRunTo w t z later_entries later_output
+      → IsRunTo start.console t z (entries ++ later_entries) (joined output later_output)
+  -- a run has 16 samples of each sound chip for each of its batches
+  pub sides_counted : (z : Console) (end : ℕ) (entries : List Entry) (output : Media) → IsStart start
+      → IsRunTo start.console end z entries output → length output.sides ≡ 16 * (batches_below end - batches_below start.at)
+  pub levels_counted : (z : Console) (end : ℕ) (entries : List Entry) (output : Media) → IsStart start
+      → IsRunTo start.console end z entries output → length output.levels ≡ 16 * (batches_below end - batches_below start.at)

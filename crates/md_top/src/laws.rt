@@ -4,18 +4,30 @@ ghost use Rattle.md_machine.specs.Starts.{IsStart};
 ghost use Rattle.md_top.specs.Courses.{start_at};
 ghost use Rattle.md_top.specs.Endings.{frames_between, pairs_between};
 ghost use Rattle.md_top.specs.Inputs.{IsVerdict, Verdict};
-ghost use Rattle.md_top.specs.Runs.{is_quiet, media_from, run_from};
+ghost use Rattle.md_top.specs.Runs.{RunLaws, is_quiet, media_from, run_from};
 
 use md_machine::{Machine, laws};
 use md_pads::Recording;
 use std::alloc::Global;
+
+/// What the laws of the machine say of the runs from where a machine is.
+pub(crate) fn runs_keep_laws(machine: &Machine)
+    ensures { RunLaws (start_at machine.now) }
+{
+    laws::few_events(machine);
+    laws::mover_is_first();
+    laws::few_entries();
+    laws::moves_added();
+    laws::joined();
+    laws::samples_counted();
+}
 
 /// A machine after a run from where it is to the cycle `end` has no event left below it.
 pub fn run_is_complete(machine: &Machine, end: u64)
     requires { end < 2 ^ 40 }
     ensures { is_quiet end (run_from (start_at machine.now) end) ≡ true }
 {
-    laws::few_events(machine);
+    runs_keep_laws(machine);
 }
 
 /// A run from where a machine is to the cycle `end` has 16 pairs for each multiple of 16,128 cycles
@@ -25,8 +37,7 @@ pub fn pairs_are_counted(machine: &Machine, end: u64)
     requires near { end < 2 ^ 40 }
     ensures { length (media_from (start_at machine.now) end).levels ≡ pairs_between machine.now.at end }
 {
-    laws::few_events(machine);
-    laws::samples_counted();
+    runs_keep_laws(machine);
 }
 
 /// A run from where a machine is to the cycle `end` has a frame for each start of a line 224 between
@@ -36,7 +47,7 @@ pub fn frames_are_counted(machine: &Machine, end: u64)
     requires near { end < 2 ^ 40 }
     ensures { length (media_from (start_at machine.now) end).frames ≡ frames_between machine.now.at end }
 {
-    laws::few_events(machine);
+    runs_keep_laws(machine);
     laws::frames_counted();
 }
 

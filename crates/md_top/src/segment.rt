@@ -7,7 +7,8 @@ ghost use Rattle.md_top.specs.Runs.{entries_from, media_from};
 ghost use Rattle.md_top.specs.Workers.{CanGoOn, WentOn};
 
 use crate::course::Course;
-use md_machine::{Machine, laws};
+use crate::laws::runs_keep_laws;
+use md_machine::Machine;
 use md_reached::heard;
 use md_word::NoMemory;
 use std::alloc::Global;
@@ -28,7 +29,7 @@ pub(crate) fn begin(alloc: Global, machine: Machine) -> Result<Course, NoMemory>
     ensures start { IfOk result (λ course. start_in course ≡ start_at machine) }
     ensures underway { IfOk result IsAtStart }
 {
-    laws::few_events(&machine);
+    runs_keep_laws(&machine);
     heard::levels_are_heard(machine.cart());
     heard::sides_are_heard(machine.cart());
     let frames = Vec::with_capacity(alloc, FRAME)?;

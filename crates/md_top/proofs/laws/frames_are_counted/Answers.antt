@@ -20,5 +20,5 @@ pub returns : goal.returns
 returns c =
     let start : Start = start_at c.args.machine.now in
     c.frames_counted.ensures start (run_from start c.args.end) c.args.end (entries_from start c.args.end) (media_from start c.args.end)
-    c.requires.start (run-made start c.args.end c.few_events.ensures (omega (arith, c.requires.near)))
+    c.requires.start (run-made start c.args.end c.runs_keep_laws.ensures (omega (arith, c.requires.near)))
     ∙ counted start.at c.args.end

@@ -8,6 +8,6 @@ use Rattle.md_top.proofs.laws.pairs_are_counted.Goals as goal
 pub returns : goal.returns
 returns c =
     let start : Start = start_at c.args.machine.now in
-    c.samples_counted.ensures.levels start (run_from start c.args.end) c.args.end (entries_from start c.args.end) (media_from start c.args.end)
-    c.requires.start (run-made start c.args.end c.few_events.ensures (omega (arith, c.requires.near)))
+    c.runs_keep_laws.ensures.levels_counted (run_from start c.args.end) c.args.end (entries_from start c.args.end) (media_from start c.args.end)
+    c.requires.start (run-made start c.args.end c.runs_keep_laws.ensures (omega (arith, c.requires.near)))
     ∙ omega arith

@@ -4,4 +4,4 @@ use Rattle.md_top.proofs.LeastRuns.{run-complete}
 use Rattle.md_top.proofs.laws.run_is_complete.Goals as goal
 
 pub returns : goal.returns
-returns c = run-complete (start_at c.args.machine.now) c.args.end c.few_events.ensures (omega (arith, c.requires))
+returns c = run-complete (start_at c.args.machine.now) c.args.end c.runs_keep_laws.ensures (omega (arith, c.requires))

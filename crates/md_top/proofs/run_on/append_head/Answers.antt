@@ -17,10 +17,10 @@ returns-clause-files g c =
     let head : c.as_slice.result.now ≡ sound_until start end start.at =
     c.as_slice.ensures.value ∙ c.wav_head.ensures.bytes ∙ ap (λ (l : List ℕ). l ++ wav_head c.pairs_between-pairs.result) c.clear.ensures.items
     ∙ ap wav_head c.pairs_between-pairs.ensures ∙ ap (λ (from : ℕ). wav_head (pairs_between from end)) c.at.ensures
-    ∙ head-first start end c.requires.start.from c.requires.start.few (omega (arith, c.requires.before, c.requires.end.1)) c.requires.end in
+    ∙ head-first start end c.requires.start.from c.requires.start.laws (omega (arith, c.requires.before, c.requires.end.1)) c.requires.end in
     on-ok c.append_sound.result
     (λ adds t first holds.
-    head-held (shown_run c.args.run.now) start first (g.D.Depot.state c.append_sound.new.depot).files c.as_slice.result.now c.requires.start.from c.requires.start.few
+    head-held (shown_run c.args.run.now) start first (g.D.Depot.state c.append_sound.new.depot).files c.as_slice.result.now c.requires.start.from c.requires.start.laws
     (omega (arith, c.requires.before, c.requires.end.1)) head (adds t first nothing holds))
     c.append_sound.ensures.files
 
@@ -31,9 +31,9 @@ returns-clause-err_files g c =
     let head : c.as_slice.result.now ≡ sound_until start end start.at =
     c.as_slice.ensures.value ∙ c.wav_head.ensures.bytes ∙ ap (λ (l : List ℕ). l ++ wav_head c.pairs_between-pairs.result) c.clear.ensures.items
     ∙ ap wav_head c.pairs_between-pairs.ensures ∙ ap (λ (from : ℕ). wav_head (pairs_between from end)) c.at.ensures
-    ∙ head-first start end c.requires.start.from c.requires.start.few (omega (arith, c.requires.before, c.requires.end.1)) c.requires.end in
+    ∙ head-first start end c.requires.start.from c.requires.start.laws (omega (arith, c.requires.before, c.requires.end.1)) c.requires.end in
     on-err c.append_sound.result
     (λ adds t first holds.
-    head-parts (shown_run c.args.run.now) start first (g.D.Depot.state c.append_sound.new.depot).files c.as_slice.result.now c.requires.start.from c.requires.start.few
+    head-parts (shown_run c.args.run.now) start first (g.D.Depot.state c.append_sound.new.depot).files c.as_slice.result.now c.requires.start.from c.requires.start.laws
     (omega (arith, c.requires.before)) (omega (arith, c.requires.end.1)) head (adds t first nothing holds))
     c.append_sound.ensures.err_files

@@ -6,7 +6,7 @@ use Rattle.md_top.specs.Heard.{HearsWrites}
 use Rattle.md_top.specs.Runs.{entries_from, halted_from, media_from, state_to}
 use Rattle.md_words.specs.Shown.{shown_run}
 use Rattle.save_state.specs.States.{state_bytes}
-use Rattle.md_top.proofs.Ends.{state-held, unsaved-leaves}
+use Rattle.md_top.proofs.Ends.{goes-far, state-held, unsaved-leaves}
 use Rattle.md_top.proofs.Segments.{halted-found, state-found}
 use Rattle.md_top.proofs.run_on.run_on.Goals as goal
 
@@ -18,7 +18,7 @@ segments-preserved g c = (
   search rules,
   c.in_default.ensures.underway (start_in c.args.course) c.segments.invariant.1,
   search rules,
-  search rules,
+  goes-far (g.D.Depot.state c.args.depot.now) (g.D.Depot.state c.segments.depot) (g.D.Depot.state c.run_segment.new.depot) c.segments.invariant.3 c.run_segment.ensures.goes_on,
   λ t first holds. c.in_default.ensures.files t (start_in c.args.course) first c.segments.invariant.1 (c.segments.invariant.4 t first holds),
 )
 

@@ -38,5 +38,5 @@ returns-clause-err_files g c =
     (g.D.Depot.state c.args.depot.now) (g.D.Depot.state c.append_all.new.depot) ending fault
     (segment-parts (shown_run c.args.run.now) start first (g.D.Depot.state c.args.depot.now).files (g.D.Depot.state c.append_all.new.depot).files
     (cycle_of c.args.course.now) c.segment_end-end.result more
-    came.from came.few (omega (arith, c.segment_end-end.ensures)) (omega (arith, c.requires.end.1)) (next start came) (adds t) holds))
+    came.from came.laws (omega (arith, c.segment_end-end.ensures)) (omega (arith, c.requires.end.1)) (next start came) (adds t) holds))
     c.append_all.ensures.err c.append_all.ensures.err_files

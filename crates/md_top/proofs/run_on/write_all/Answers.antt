@@ -2,15 +2,31 @@ use Rattle.std.proofs.Common.{◌≡◌, ap, subst, sym}
 use Rattle.md_outer.specs.Outside.{Files}
 use Rattle.md_machine.specs.Starts.{Start}
 use Rattle.md_top.specs.Courses.{start_at, start_in}
-use Rattle.md_top.specs.Endings.{HoldsUntil, RunLeaves}
+use Rattle.md_top.specs.Endings.{HoldsUntil, RunCause, RunLeaves}
 use Rattle.md_words.specs.Shown.{shown_run}
-use Rattle.md_top.proofs.Ends.{unwritten-leaves}
+use Rattle.md_top.proofs.Ends.{cause-before, fault-leaves, goes-far, unwritten-leaves}
 use Rattle.md_top.proofs.run_on.write_all.Goals as goal
 
 pub returns-in-Err-clause-files : goal.returns-in-Err-clause-files
 returns-in-Err-clause-files g c = λ t.
     unwritten-leaves (start_in c.args.course) (shown_run c.args.run.now) (g.D.Depot.state c.args.depot.now).files (g.D.Depot.state c.begin_all.new.depot).files
     (g.D.Depot.state c.args.depot.now) (g.D.Depot.state c.begin_all.new.depot) c.in-Err.ending c.in-Err.ensures.err (c.in-Err.ensures.err_files t)
+
+pub returns-in-Err-append_head-clause-files : goal.returns-in-Err-append_head-clause-files
+returns-in-Err-append_head-clause-files g c = λ t.
+    let first : Files = (g.D.Depot.state c.args.depot.now).files in
+    fault-leaves (start_in c.args.course) (shown_run c.args.run.now) first (g.D.Depot.state c.append_head.new.depot).files
+    (g.D.Depot.state c.begin_all.new.depot) (g.D.Depot.state c.append_head.new.depot) c.in-Err-append_head.ending c.in-Err-append_head.ensures.err
+    (c.in-Err-append_head.ensures.err_files t first (c.in-Ok.ensures.files t))
+
+pub returns-in-Ok-append_head-clause-cause : goal.returns-in-Ok-append_head-clause-cause
+returns-in-Ok-append_head-clause-cause g c =
+    let same : start_in c.append_head.new.course ≡ start_in c.args.course = ap start_at c.append_head.ensures.machine in
+    subst (λ (start : Start). RunCause start (shown_run c.args.run.now) (g.D.Depot.state c.args.depot.now) (g.D.Depot.state c.run_on.new.depot) c.run_on.result) same
+    (cause-before (start_in c.append_head.new.course) (shown_run c.args.run.now) (g.D.Depot.state c.args.depot.now) (g.D.Depot.state c.append_head.new.depot)
+    (g.D.Depot.state c.run_on.new.depot) c.run_on.result
+    (goes-far (g.D.Depot.state c.args.depot.now) (g.D.Depot.state c.begin_all.new.depot) (g.D.Depot.state c.append_head.new.depot) c.begin_all.ensures.goes_on c.append_head.ensures.goes_on)
+    c.run_on.ensures.cause)
 
 pub returns-in-Ok-append_head-clause-files : goal.returns-in-Ok-append_head-clause-files
 returns-in-Ok-append_head-clause-files g c = λ t.

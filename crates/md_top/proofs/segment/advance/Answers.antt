@@ -15,7 +15,7 @@ overflow_add-course g c =
     let came : CameFrom start c.args.course.now = c.requires.underway.1 in
     let went : WentOn c.args.course.now.machine c.args.to c.go_on.new.arg2 = c.requires.goes _ c.args.to _ c.go_on.ensures in
     let few : length (entries_from start (cycle_of c.args.course.now)) ≤ cycle_of c.args.course.now - start.at + 5 =
-    few-entries start (cycle_of c.args.course.now) c.args.course.now.machine.console came.few
+    few-entries start (cycle_of c.args.course.now) c.args.course.now.machine.console came.laws
     (omega (arith, c.requires.later, c.requires.far)) came.run in
     omega (
       arith,
@@ -41,7 +41,7 @@ pub returns-clause-underway : goal.returns-clause-underway
 returns-clause-underway g c = λ start came.
     let went : WentOn c.args.course.now.machine c.args.to c.go_on.new.arg2 = c.requires.goes _ c.args.to _ c.go_on.ensures in
     let made : Segment start (cycle_of c.args.course.now) c.args.to c.go_on.new.arg2 =
-    segment start (cycle_of c.args.course.now) c.args.to c.args.course.now.machine.console c.go_on.new.arg2 came.few
+    segment start (cycle_of c.args.course.now) c.args.to c.args.course.now.machine.console c.go_on.new.arg2 came.laws
     (omega (arith, c.requires.far)) (omega (arith, c.requires.later)) came.run went.run in
     let after : c.drain_entries.new.self ≡ record { at = c.args.to; console = c.go_on.new.arg2.console; entries = []; media = no_media } =
     c.drain_entries.ensures.machine ∙ ap (λ (m : MachineValue). record m { entries = [] })
@@ -51,7 +51,7 @@ returns-clause-underway g c = λ start came.
     ≡ length (entries_from start (cycle_of c.args.course.now)) + length c.go_on.new.arg2.entries =
     ap length made.entries ∙ length-append (entries_from start (cycle_of c.args.course.now)) c.go_on.new.arg2.entries in
     came-to start (cycle_of c.args.course.now) c.args.to (c.args.course.now.accesses + c.len.result / 16) c.go_on.new.arg2 c.drain_entries.new.self
-    came.from came.few came.heard (omega (arith, came.later, c.requires.later)) made after
+    came.from came.laws came.heard (omega (arith, came.later, c.requires.later)) made after
     (omega (
       arith,
       more,
@@ -67,7 +67,7 @@ pub returns-clause-frames : goal.returns-clause-frames
 returns-clause-frames g c = λ start came.
     let went : WentOn c.args.course.now.machine c.args.to c.go_on.new.arg2 = c.requires.goes _ c.args.to _ c.go_on.ensures in
     let made : Segment start (cycle_of c.args.course.now) c.args.to c.go_on.new.arg2 =
-    segment start (cycle_of c.args.course.now) c.args.to c.args.course.now.machine.console c.go_on.new.arg2 came.few
+    segment start (cycle_of c.args.course.now) c.args.to c.args.course.now.machine.console c.go_on.new.arg2 came.laws
     (omega (arith, c.requires.far)) (omega (arith, c.requires.later)) came.run went.run in
     let piece : c.drain_frames.new.into.items ≡ frames_bytes c.go_on.new.arg2.media.frames =
     c.drain_frames.ensures.bytes ∙ ap (λ (l : List ℕ). l ++ frames_bytes c.go_on.new.arg2.media.frames) c.clear.ensures.items in
@@ -80,20 +80,20 @@ unfolding sound_bytes
 returns-clause-pairs g c = λ start came.
     let went : WentOn c.args.course.now.machine c.args.to c.go_on.new.arg2 = c.requires.goes _ c.args.to _ c.go_on.ensures in
     let made : Segment start (cycle_of c.args.course.now) c.args.to c.go_on.new.arg2 =
-    segment start (cycle_of c.args.course.now) c.args.to c.args.course.now.machine.console c.go_on.new.arg2 came.few
+    segment start (cycle_of c.args.course.now) c.args.to c.args.course.now.machine.console c.go_on.new.arg2 came.laws
     (omega (arith, c.requires.far)) (omega (arith, c.requires.later)) came.run went.run in
     let piece : c.drain_pairs.new.into.items ≡ sound_bytes c.go_on.new.arg2.media =
     c.drain_pairs.ensures.bytes ∙ ap (λ (l : List ℕ). l ++ sound_bytes c.drain_frames.new.self.media) c.clear-2.ensures.items
     ∙ ap (λ (m : MachineValue). sound_bytes m.media) c.drain_frames.ensures.machine in
     ap sound_bytes made.output ∙ sound_bytes-append (media_from start (cycle_of c.args.course.now)) c.go_on.new.arg2.media
-    (paired start (cycle_of c.args.course.now) came.from came.few (omega (arith, c.requires.later, c.requires.far)))
+    (paired start (cycle_of c.args.course.now) came.from came.laws (omega (arith, c.requires.later, c.requires.far)))
     ∙ ap (λ (l : List ℕ). sound_bytes (media_from start (cycle_of c.args.course.now)) ++ l) (sym piece)
 
 pub returns-clause-records : goal.returns-clause-records
 returns-clause-records g c = λ start came.
     let went : WentOn c.args.course.now.machine c.args.to c.go_on.new.arg2 = c.requires.goes _ c.args.to _ c.go_on.ensures in
     let made : Segment start (cycle_of c.args.course.now) c.args.to c.go_on.new.arg2 =
-    segment start (cycle_of c.args.course.now) c.args.to c.args.course.now.machine.console c.go_on.new.arg2 came.few
+    segment start (cycle_of c.args.course.now) c.args.to c.args.course.now.machine.console c.go_on.new.arg2 came.laws
     (omega (arith, c.requires.far)) (omega (arith, c.requires.later)) came.run went.run in
     let piece : c.drain_entries.new.into.items ≡ journal_bytes c.go_on.new.arg2.entries =
     c.drain_entries.ensures.bytes ∙ ap (λ (l : List ℕ). l ++ journal_bytes c.drain_pairs.new.self.entries) c.clear-3.ensures.items

@@ -12,6 +12,6 @@ returns-clause-underway c =
     let drained : machine ≡ record { at = machine.at; console = machine.console; entries = []; media = no_media } =
     λ i. record { at = machine.at; console = machine.console; entries = c.requires.fresh.entries i; media = c.requires.fresh.media i } in
     subst (λ (m : MachineValue). CameTo (start_at machine) m 0) (sym drained)
-    (at-start (start_at machine) c.requires.fresh.from c.few_events.ensures
+    (at-start (start_at machine) c.requires.fresh.from c.runs_keep_laws.ensures
     (hears-runs (start_at machine) c.cart.result.now c.cart-2.result.now c.cart.ensures c.cart-2.ensures c.levels_are_heard.ensures c.sides_are_heard.ensures)
     (omega (arith, c.requires.near)))
