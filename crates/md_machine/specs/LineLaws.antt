@@ -1,8 +1,8 @@
 -- What the event of a line leaves, and when two ways to draw it are one.
-use Rattle.std.specs.Prelude.{◌≡◌, ℕ, ◌+◌, ◌-◌, ◌/◌, ◌<◌, nat_lt, not, Bool, true, false, List, replicate, Option, Some, None, is_some, option_map}
-use Rattle.std.proofs.Common.{refl, sym, ap, ◌∙◌, subst, arith, lit<, inl, inr}
+use Rattle.std.specs.Prelude.{◌≡◌, ℕ, ◌+◌, ◌-◌, ◌/◌, ◌<◌, nat_lt, not, Bool, true, false, List, Option, Some, None, is_some, option_map}
+use Rattle.std.proofs.Common.{refl, sym, ap, ◌∙◌, arith, inl, inr}
 use Rattle.std.proofs.lemmas.Bool.{cases_Bool}
-use Rattle.std.proofs.lemmas.List.{ext_get_or, get_or-replicate}
+use Rattle.std.proofs.lemmas.List.{ext_get_or}
 use Rattle.std.proofs.lemmas.List.FromFn.{get_or-map-range_with_len}
 use Rattle.md_word.specs.Clock.{line}
 use Rattle.vdp_ports.specs.Vdp.{Vdp}
@@ -11,7 +11,7 @@ use Rattle.vdp_planes.specs.declared.view.Dot.{Dot}
 use Rattle.vdp_planes.specs.declared.view.LineView.{LineView}
 use Rattle.vdp_planes.specs.declared.view.SpriteNote.{SpriteNote}
 use Rattle.vdp_planes.specs.Mixing.{border_of, line_byte, shown_at}
-use Rattle.vdp_planes.specs.View.{AllColours, clear, dot_at, view_of}
+use Rattle.vdp_planes.specs.View.{clear, dot_at, view_of}
 use Rattle.vdp_sprites.specs.Sprites.{sprite_dot}
 use Rattle.vdp_chip.specs.Drawing.{Drawing, IsDrawing, answered, line_drawn, picture_after}
 use Rattle.vdp_chip.specs.Picture.{cleared, drawn, finished, height, plane_dots, row_of}
@@ -49,11 +49,6 @@ drawn-home : (view : LineView) (d : Drawing) → d.has_view ≡ true
     → record (drawn_from view (record d { has_view = false })) { has_view = true } ≡ drawn_from view d
 unfolding drawn_from line_drawn picture_after
 drawn-home view d home = λ i. record (drawn_from view d) { has_view = sym home i }
-
--- clear dots are colours
-pub clear_colours : (dots : List Dot) → dots ≡ replicate 320 clear → AllColours dots
-clear_colours dots is x below =
-    subst (λ (dot : Dot). dot.colour < 64) (sym (ap (λ (l : List Dot). dot_at l x) is ∙ get_or-replicate 320 x clear clear below)) (lit< tt)
 
 -- a byte of a line reads the sprites' dots of the line alone
 byte-same : (view : LineView) (a b s t : List Dot) (n : ℕ) → n < 960 → ((x : ℕ) → x < 320 → dot_at s x ≡ dot_at t x) → line_byte view a b s n ≡ line_byte view a b t n

@@ -10,19 +10,13 @@ use bus_shared::{Request, Shared, carry_out, start_line};
 use md_word::{Entry, Next, NoMemory};
 use std::alloc::Global;
 use std::marker::Model;
-use vdp_chip::ChipVdp;
+use vdp_chip::{ChipVdp, clear_dots};
 use vdp_planes::{Dot, LineView, Scene, SpriteNote};
 use vdp_sprites::draw_sprites;
 use vdp_time::line_of;
 
 /// Lines of the picture.
 const HEIGHT: u32 = 224;
-
-/// A dot where no sprite is drawn.
-const CLEAR: Dot = Dot {
-    colour: 0,
-    priority: false,
-};
 
 /// The drawing half of the VDP, chip 2: an access at each line. Between the two halves of an access it
 /// keeps the view that the board has filled.
@@ -184,13 +178,6 @@ fn draw_straight(chip: &mut ChipVdp, scene: &Scene)
     let line = line_of(chip.next().key.cycle);
     let note = draw_line_sprites(scene, line, &mut dots);
     chip.draw_line(scene, &dots, note);
-}
-
-/// A line on which no sprite is drawn.
-fn clear_dots() -> [Dot; 320]
-    ensures { AllColours result }
-{
-    [CLEAR; 320]
 }
 
 /// Draws the sprites of a line of the picture over clear dots: what they set. Behind the picture nothing

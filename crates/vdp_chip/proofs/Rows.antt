@@ -1,15 +1,20 @@
 -- A row from the bytes that mixing writes, and a picture with another row.
-use Rattle.std.proofs.Common.{◌≡◌, ◌∙◌, refl, sym, ap, ℕ, ◌+◌, ◌-◌, ◌*◌, ◌/◌, ◌<◌, ◌≤◌, Bool, true, false, List, ◌++◌, length, arith, get_or, take, drop}
+use Rattle.std.proofs.Common.{◌≡◌, ◌∙◌, refl, sym, ap, subst, lit<, replicate, ℕ, ◌+◌, ◌-◌, ◌*◌, ◌/◌, ◌<◌, ◌≤◌, Bool, true, false, List, ◌++◌, length, arith, get_or, take, drop}
 use Rattle.std.specs.Prelude.{slice_index}
-use Rattle.std.proofs.lemmas.List.{append_assoc, drop-drop, ext_get_or, get_or-append_right, get_or-drop, length-append, length-drop, length-take-le}
+use Rattle.std.proofs.lemmas.List.{append_assoc, drop-drop, ext_get_or, get_or-append_right, get_or-drop, get_or-replicate, length-append, length-drop, length-take-le}
 use Rattle.std.proofs.lemmas.List.FromFn.{get_or-map-range_with_len, length-map-range_with_len}
 use borrow.Rule.Slice.PartMut.{put_mid}
 use Rattle.vdp_planes.specs.declared.view.Dot.{Dot}
 use Rattle.vdp_planes.specs.declared.view.LineView.{LineView}
-use Rattle.vdp_planes.specs.View.{clear, dot_at}
+use Rattle.vdp_planes.specs.View.{AllColours, clear, dot_at, has_bit, register}
 use Rattle.vdp_planes.specs.Planes.{plane_dot}
-use Rattle.vdp_planes.specs.Mixing.{border_of, line_byte, shown_at}
+use Rattle.vdp_planes.specs.Mixing.{border_of, in_picture, line_byte, shown_at}
 use Rattle.vdp_chip.specs.Picture.{picture_length, plane_dots, row_length, row_of, with_row}
+
+-- clear dots are colours
+pub clear_colours : (dots : List Dot) → dots ≡ replicate 320 clear → AllColours dots
+clear_colours dots is x below =
+    subst (λ (dot : Dot). dot.colour < 64) (sym (ap (λ (l : List Dot). dot_at l x) is ∙ get_or-replicate 320 x clear clear below)) (lit< tt)
 
 -- a byte of a line reads the dots of the line alone
 line_byte_same : (view : LineView) (a b c d s : List Dot) (n : ℕ) → n < 960
@@ -21,6 +26,12 @@ line_byte_same view a b c d s n h first second =
     let u : dot < 320 = omega arith in
     rw (first dot u, second dot u) refl
 
+-- with the display off it reads none
+line_byte_off : (view : LineView) (a b c d s : List Dot) (n : ℕ) → has_bit (register view 1) 64 ≡ false
+    → line_byte view a b s n ≡ line_byte view c d s n
+unfolding line_byte shown_at in_picture
+line_byte_off view a b c d s n off = rw (off) refl
+
 plane_dots-at : (view : LineView) (second : Bool) (y x : ℕ) → x < 320 → dot_at (plane_dots view second y) x ≡ plane_dot view second y x
 unfolding plane_dots
 plane_dots-at view second y x h = get_or-map-range_with_len (plane_dot view second y) 0 320 x x clear h (omega arith)
@@ -29,8 +40,18 @@ pub length-row_of : (view : LineView) (s : List Dot) (y : ℕ) → length (row_o
 unfolding row_of
 length-row_of view s y = length-map-range_with_len (line_byte view (plane_dots view false y) (plane_dots view true y) s) 0 row_length
 
+-- a byte of a line whose dots are those of the planes, or of which none shows
+line_byte_drawn : (view : LineView) (a b s : List Dot) (y n : ℕ) (on : Bool) → has_bit (register view 1) 64 ≡ on → n < 960
+    → (on ≡ true → (x : ℕ) → x < 320 → dot_at a x ≡ plane_dot view false y x) → (on ≡ true → (x : ℕ) → x < 320 → dot_at b x ≡ plane_dot view true y x)
+    → line_byte view a b s n ≡ line_byte view (plane_dots view false y) (plane_dots view true y) s n
+line_byte_drawn view a b s y n false is h first second = line_byte_off view a b (plane_dots view false y) (plane_dots view true y) s n is
+line_byte_drawn view a b s y n true is h first second =
+    line_byte_same view a b (plane_dots view false y) (plane_dots view true y) s n h
+    (λ x i. first refl x i ∙ sym (plane_dots-at view false y x i)) (λ x i. second refl x i ∙ sym (plane_dots-at view true y x i))
+
 pub row_made : (view : LineView) (a b s : List Dot) (y : ℕ) (row : List ℕ) → length row ≡ row_length
-    → ((x : ℕ) → x < 320 → dot_at a x ≡ plane_dot view false y x) → ((x : ℕ) → x < 320 → dot_at b x ≡ plane_dot view true y x)
+    → (has_bit (register view 1) 64 ≡ true → (x : ℕ) → x < 320 → dot_at a x ≡ plane_dot view false y x)
+    → (has_bit (register view 1) 64 ≡ true → (x : ℕ) → x < 320 → dot_at b x ≡ plane_dot view true y x)
     → ((n : ℕ) → n < 960 → slice_index row n ≡ line_byte view a b s n)
     → row ≡ row_of view s y
 unfolding row_of
@@ -40,7 +61,7 @@ row_made view a b s y row whole first second bytes =
     ext_get_or 0 row (row_of view s y) (whole ∙ sym (length-row_of view s y)) (λ n h.
     let u : n < 960 = omega (arith, whole, h) in
     bytes n u
-    ∙ line_byte_same view a b c d s n u (λ x i. first x i ∙ sym (plane_dots-at view false y x i)) (λ x i. second x i ∙ sym (plane_dots-at view true y x i))
+    ∙ line_byte_drawn view a b s y n (has_bit (register view 1) 64) refl u first second
     ∙ sym (get_or-map-range_with_len (line_byte view c d s) 0 960 n n 0 u (omega arith)))
 
 pub row_put : (y k : ℕ) (old row : List ℕ) → k ≡ 960 → put_mid (y * 960) k old row ≡ with_row y row old

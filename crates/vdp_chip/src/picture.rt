@@ -1,7 +1,9 @@
-ghost use Rattle.std.specs.Prelude.{◌≡◌, ℕ, ◌<◌, ◌≤◌, length, slice_index};
-ghost use Rattle.vdp_planes.specs.View.{AllColours, seen};
+ghost use Rattle.std.specs.Prelude.{◌≡◌, ℕ, ◌<◌, ◌≤◌, true, false, length, slice_index};
+ghost use Rattle.vdp_planes.specs.Planes.{plane_dot};
+ghost use Rattle.vdp_planes.specs.View.{AllColours, dot_at, has_bit, register, seen};
 ghost use Rattle.vdp_chip.specs.Picture.{blank, picture_length, row_of, with_row};
 
+use vdp_planes::register::MODE_2;
 use vdp_planes::{Dot, Scene, draw_plane, mix_dots};
 
 /// Bytes of a row: red, green and blue of 320 dots.
@@ -27,6 +29,32 @@ pub fn clear(picture: &mut [u8; PICTURE])
     picture.fill(0);
 }
 
+/// Draws the dots of both planes on a line. Where the display is off none of them shows, and they stay
+/// as they are.
+fn draw_planes(scene: &Scene, line: u32, a: &mut [Dot; 320], b: &mut [Dot; 320])
+    requires line { line < 240 }
+    requires colours { AllColours a.old }
+    requires others { AllColours b.old }
+    ensures first { has_bit (register (seen scene.now) 1) 64 ≡ true
+        → (x : ℕ) → x < 320 → dot_at a.new x ≡ plane_dot (seen scene.now) false line x }
+    ensures second { has_bit (register (seen scene.now) 1) 64 ≡ true
+        → (x : ℕ) → x < 320 → dot_at b.new x ≡ plane_dot (seen scene.now) true line x }
+    ensures colours { AllColours a.new }
+    ensures others { AllColours b.new }
+{
+    if scene.registers[MODE_2] / 64 % 2 == 1 {
+        draw_plane(scene, line, false, a);
+        draw_plane(scene, line, true, b);
+    }
+}
+
+/// The dots of a line on which nothing is drawn yet.
+pub fn clear_dots() -> [Dot; 320]
+    ensures { AllColours result }
+{
+    [CLEAR; 320]
+}
+
 /// Draws a row of the picture from the two planes and the sprites' dots.
 pub fn draw_row(scene: &Scene, line: u32, sprites: &[Dot; 320], picture: &mut [u8; PICTURE])
     requires line { line < 224 }
@@ -34,10 +62,9 @@ pub fn draw_row(scene: &Scene, line: u32, sprites: &[Dot; 320], picture: &mut [u
     requires whole { length picture.old ≡ picture_length }
     ensures { picture.new ≡ with_row line (row_of (seen scene.now) sprites.now line) picture.old }
 {
-    let mut a = [CLEAR; 320];
-    let mut b = [CLEAR; 320];
-    draw_plane(scene, line, false, &mut a);
-    draw_plane(scene, line, true, &mut b);
+    let mut a = clear_dots();
+    let mut b = clear_dots();
+    draw_planes(scene, line, &mut a, &mut b);
     let at = line as usize * ROW;
     mix_dots(scene, &a, &b, sprites, &mut picture[at..at + ROW]);
 }

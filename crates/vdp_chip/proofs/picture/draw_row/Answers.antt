@@ -9,6 +9,6 @@ returns c =
     let y = c.args.line in
     let row = c.mix_dots.new.rgb in
     let whole : length row ≡ row_length = search rules in
-    let made = row_made (seen c.args.scene.now) c.draw_plane.new.out c.draw_plane-2.new.out c.args.sprites.now y row whole
-    c.draw_plane.ensures.dots c.draw_plane-2.ensures.dots c.mix_dots.ensures in
+    let made = row_made (seen c.args.scene.now) c.draw_planes.new.a c.draw_planes.new.b c.args.sprites.now y row whole
+    c.draw_planes.ensures.first c.draw_planes.ensures.second c.mix_dots.ensures in
     row_put y (y * 960 + 960 - y * 960) c.args.picture.now row (omega arith) ∙ ap (λ (bytes : List ℕ). with_row y bytes c.args.picture.now) made
