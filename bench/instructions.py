@@ -33,7 +33,7 @@ SOURCE = """//! Carries out instructions of the 68000: `instructions COUNT WORD.
 
 use arrayvec::ArrayVec;
 use m68k_exec::{Progress, Step, go};
-use md_word::Regs;
+use md_word::{Regs, Request68};
 use rom_header::Cart;
 use std::{env, io};
 
@@ -51,8 +51,10 @@ fn run(cart: &Cart, count: u32) -> (u32, u32) {
         pc: 0x200,
         sr: 0x2700,
     };
+    let mut step = Step::Need(Request68::Ack(0));
     for _ in 0..count {
-        if let Step::Done(_) = go(&mut regs, cart, &ram, &answers, 0, &mut progress) {
+        go(&mut regs, cart, &ram, &answers, 0, &mut progress, &mut step);
+        if let Step::Done(_) = &step {
             ended = ended.wrapping_add(1);
         }
     }

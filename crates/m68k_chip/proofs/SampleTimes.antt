@@ -1,5 +1,5 @@
 -- The time of a sample: it suffices for its accesses, and is short.
-use Rattle.std.proofs.Common.{◌≡◌, ℕ, ◌+◌, ◌*◌, ◌≤◌, Ok, subst, sym, arith}
+use Rattle.std.proofs.Common.{◌≡◌, ℕ, ◌+◌, ◌*◌, ◌≤◌, Ok, subst, sym}
 use Rattle.md_word.specs.declared.regs.Regs.{Regs}
 use Rattle.m68k_decode.specs.Bounds.{HasModes}
 use Rattle.m68k_decode.proofs.DecodedModes.{decoded_modes}

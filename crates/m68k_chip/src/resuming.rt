@@ -57,7 +57,17 @@ impl Sequencer {
         let mut regs = self.regs;
         let mut progress = Progress::new();
         let answers = first_answers(self.answers.as_slice(), count);
-        match go(&mut regs, cart, ram, &answers, self.cause, &mut progress) {
+        let mut step = Step::Need(Request68::Ack(0));
+        go(
+            &mut regs,
+            cart,
+            ram,
+            &answers,
+            self.cause,
+            &mut progress,
+            &mut step,
+        );
+        match step {
             Step::Need(request) => Some(request),
             Step::Done(_) => None,
         }

@@ -210,11 +210,21 @@ impl Sequencer {
         ensures state { state_of self.new ram.new ≡ went_on cart.now (state_of self.old ram.old) cause self.old.answers.items }
         ensures told { IsTold (carried_out cart.now (state_of self.old ram.old) cause self.old.answers.items) self.new.request }
     {
-        match go(&mut self.regs, cart, ram, &self.answers, cause, progress) {
-            Step::Need(request) => self.ask(cause, request),
+        let mut step = Step::Need(Request68::Ack(0));
+        go(
+            &mut self.regs,
+            cart,
+            ram,
+            &self.answers,
+            cause,
+            progress,
+            &mut step,
+        );
+        match &step {
+            Step::Need(request) => self.ask(cause, *request),
             Step::Done(finish) => {
                 store_all(progress.writes.as_slice(), ram);
-                self.finish(&finish);
+                self.finish(finish);
             }
         }
     }

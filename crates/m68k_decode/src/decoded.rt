@@ -13,6 +13,7 @@ pub struct Decoded {
 
 impl Decoded {
     /// An instruction of so many words.
+    #[inline(always)]
     pub(crate) fn of_words(count: u8, op: Op) -> Self
         requires { count ≤ 5 }
         ensures { result ≡ of_words count op }

@@ -11,6 +11,7 @@ use crate::operand::{high_operand, low_operand};
 use crate::{Decoded, Op};
 use md_word::Size;
 
+#[inline(always)]
 #[tactic(auto, unfolding(crate::specs::Instructions::made))]
 fn move_to(size: Size, words: &[u16; 5]) -> Decoded
     ensures value { result ≡ instructions.made (rows.Move size) words.now }
@@ -21,6 +22,7 @@ fn move_to(size: Size, words: &[u16; 5]) -> Decoded
     Decoded::of_words(target.end, Op::Move(size, source.mode, target.mode))
 }
 
+#[inline(always)]
 #[tactic(auto, unfolding(crate::specs::Instructions::made))]
 fn movea(size: Size, words: &[u16; 5]) -> Decoded
     ensures value { result ≡ instructions.made (rows.Movea size) words.now }
@@ -34,6 +36,7 @@ fn movea(size: Size, words: &[u16; 5]) -> Decoded
 }
 
 /// MOVE.B
+#[inline(always)]
 #[tactic(auto, unfolding(crate::specs::Nested::group_1))]
 pub fn group_1(words: &[u16; 5]) -> Decoded
     ensures value { result ≡ instructions.picked (nested.group_1 (slice_index words.now 0)) words.now }
@@ -48,6 +51,7 @@ pub fn group_1(words: &[u16; 5]) -> Decoded
 }
 
 /// MOVE.L, MOVE.W, and MOVEA in the place of An.
+#[inline(always)]
 #[tactic(auto, unfolding(crate::specs::Nested::group_2_or_3))]
 pub fn group_2_or_3(size: Size, words: &[u16; 5]) -> Decoded
     ensures value { result ≡ instructions.picked (nested.group_2_or_3 size (slice_index words.now 0)) words.now }

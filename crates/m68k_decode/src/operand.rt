@@ -28,6 +28,7 @@ fn brief(word: u16) -> (u8, bool, u8)
 }
 
 /// A mode and its register, with the extension words from this word on.
+#[inline(always)]
 #[tactic(auto, unfolding(crate::specs::Fields::mode_of))]
 fn mode_of(words: &[u16; 5], mode: u8, register: u8, size: Size, at: u8) -> Mode
     requires at_in_range { at < 4 }
@@ -60,6 +61,7 @@ fn mode_of(words: &[u16; 5], mode: u8, register: u8, size: Size, at: u8) -> Mode
 }
 
 /// How many extension words a mode has.
+#[inline(always)]
 fn words_of_mode(size: Size, mode: Mode) -> u8
     ensures value { result ≡ fields.words_of_mode size mode }
     ensures most { result ≤ 2 }
@@ -76,6 +78,7 @@ fn words_of_mode(size: Size, mode: Mode) -> u8
 }
 
 /// The operand in the low six bits, with the extension words from this word on.
+#[inline(always)]
 #[tactic(auto, unfolding(crate::specs::Fields::low_mode))]
 pub fn low_operand(words: &[u16; 5], size: Size, at: u8) -> Operand
     requires { at < 4 }
@@ -95,6 +98,7 @@ pub fn low_operand(words: &[u16; 5], size: Size, at: u8) -> Operand
 
 /// The target of MOVE, whose register stands before its mode, with the extension words from this
 /// word on.
+#[inline(always)]
 #[tactic(auto, unfolding(crate::specs::Fields::high_mode))]
 pub fn high_operand(words: &[u16; 5], size: Size, at: u8) -> Operand
     requires { at < 4 }

@@ -2,4 +2,5 @@
 pub mod Bounds
 pub mod Entries
 pub mod Execution
+pub mod Groups
 pub mod Samples

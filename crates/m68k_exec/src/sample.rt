@@ -50,48 +50,50 @@ fn spent_in(cause: u8, accesses: u8) -> Spent
 
 /// An exception of a sample that found the registers `found`, from those with the program counter
 /// that it saves.
+#[inline(never)]
 #[tactic(auto, unfolding(crate::specs::Sample::Samples::take_exception))]
 fn take_exception(
-    op: Op,
+    op: &Op,
     exception: Exception,
     trace: bool,
     found: &Regs,
     around: &Around,
     regs: &mut Regs,
     progress: &mut Progress,
-) -> Step
+    step: &mut Step,
+)
     requires exception { IsException exception }
     requires room { array_vec_len progress.old.writes ≤ 64 }
     requires used { progress.old.used ≤ 4 }
     requires some { number_of exception ≢ 0 }
-    ensures value { told_by result regs.new (done_of progress.new) ≡ samples.take_exception op exception trace found.now regs.old (memory_of around.now) (done_of progress.old) }
-    ensures kept { Keeps result found.now regs.new }
+    ensures value { told_by step.new regs.new (done_of progress.new) ≡ samples.take_exception op.now exception trace found.now regs.old (memory_of around.now) (done_of progress.old) }
+    ensures kept { Keeps step.new found.now regs.new }
 {
     match enter(exception, around, regs, progress) {
         Ok(Some(after)) => {
             *regs = after;
-            Step::Done(Finish {
-                op,
+            *step = Step::Done(Finish {
+                op: *op,
                 spent: spent_in(exception.number(), progress.used as u8),
                 stopped: false,
                 halted: false,
                 trace,
-            })
+            });
         }
         Ok(None) => {
             progress.writes.clear();
             *regs = *found;
-            Step::Done(Finish {
-                op,
+            *step = Step::Done(Finish {
+                op: *op,
                 spent: spent_in(ADDRESS_ERROR, progress.used as u8),
                 stopped: false,
                 halted: true,
                 trace: false,
-            })
+            });
         }
         Err(Stop::Ask(request)) => {
             *regs = *found;
-            Step::Need(request)
+            *step = Step::Need(request);
         }
         Err(Stop::Odd { .. }) => unreachable!(),
     }
@@ -100,27 +102,28 @@ fn take_exception(
 /// An instruction that came to its end, perhaps in an exception.
 #[tactic(auto, unfolding(crate::specs::Sample::Samples::ended_by))]
 fn ended_by(
-    op: Op,
+    op: &Op,
     found: &Regs,
     outcome: &Outcome,
     around: &Around,
     regs: &mut Regs,
     progress: &mut Progress,
-) -> Step
+    step: &mut Step,
+)
     requires room { array_vec_len progress.old.writes ≤ 64 }
     requires most { progress.old.used ≤ 32 }
     requires ended { outcome.now.cause ≢ 0 → progress.old.used ≤ 4 }
-    ensures value { told_by result regs.new (done_of progress.new) ≡ samples.ended_by op found.now (outcome_of outcome.now regs.old) (memory_of around.now) (done_of progress.old) }
-    ensures kept { Keeps result found.now regs.new }
+    ensures value { told_by step.new regs.new (done_of progress.new) ≡ samples.ended_by op.now found.now (outcome_of outcome.now regs.old) (memory_of around.now) (done_of progress.old) }
+    ensures kept { Keeps step.new found.now regs.new }
 {
     let cause = outcome.cause;
     if cause != 0 {
         let exception = Exception::Numbered(cause);
         let trace = leaves_trace(found, cause);
-        return take_exception(op, exception, trace, found, around, regs, progress);
+        return take_exception(op, exception, trace, found, around, regs, progress, step);
     }
-    Step::Done(Finish {
-        op,
+    *step = Step::Done(Finish {
+        op: *op,
         spent: Spent {
             taken: outcome.taken,
             expired: outcome.expired,
@@ -131,37 +134,38 @@ fn ended_by(
         stopped: outcome.stopped,
         halted: false,
         trace: leaves_trace(found, 0),
-    })
+    });
 }
 
 /// The instruction with this first word. At an address error the changes of registers and the
 /// private writes are dropped, and the accesses before it stay.
 #[tactic(auto, unfolding(crate::specs::Sample::Samples::instruction))]
 fn instruction(
-    decoded: Decoded,
+    decoded: &Decoded,
     first: u16,
     around: &Around,
     regs: &mut Regs,
     progress: &mut Progress,
-) -> Step
-    requires decoded { IsInstruction decoded }
+    step: &mut Step,
+)
+    requires decoded { IsInstruction decoded.now }
     requires fresh { done_of progress.old ≡ nothing }
-    ensures value { told_by result regs.new (done_of progress.new) ≡ samples.instruction decoded first regs.old (memory_of around.now) }
-    ensures kept { Keeps result regs.old regs.new }
+    ensures value { told_by step.new regs.new (done_of progress.new) ≡ samples.instruction decoded.now first regs.old (memory_of around.now) }
+    ensures kept { Keeps step.new regs.old regs.new }
 {
-    let op = decoded.op;
+    let op = &decoded.op;
     let found = *regs;
     let start = found.pc;
     if start % 2 == 1 {
         let exception = Exception::AddressError(first, start, true);
-        return take_exception(op, exception, false, &found, around, regs, progress);
+        return take_exception(op, exception, false, &found, around, regs, progress, step);
     }
     regs.pc = start.wrapping_add(u32::from(decoded.length));
     match execute(op, start, around, regs, progress) {
-        Ok(outcome) => ended_by(op, &found, &outcome, around, regs, progress),
+        Ok(outcome) => ended_by(op, &found, &outcome, around, regs, progress, step),
         Err(Stop::Ask(request)) => {
             *regs = found;
-            Step::Need(request)
+            *step = Step::Need(request);
         }
         Err(
             Stop::Odd {
@@ -173,60 +177,70 @@ fn instruction(
             let exception = Exception::AddressError(first, address, read);
             *regs = found;
             progress.restart(used);
-            take_exception(op, exception, false, &found, around, regs, progress)
+            take_exception(op, exception, false, &found, around, regs, progress, step)
         }
     }
 }
 
 /// An interrupt of this level, which is acknowledged first.
+#[inline(never)]
 #[tactic(auto, unfolding(crate::specs::Sample::Samples::interrupt))]
-fn interrupt(level: u8, op: Op, around: &Around, regs: &mut Regs, progress: &mut Progress) -> Step
+fn interrupt(
+    level: u8,
+    op: &Op,
+    around: &Around,
+    regs: &mut Regs,
+    progress: &mut Progress,
+    step: &mut Step,
+)
     requires level { level < 8 }
     requires fresh { done_of progress.old ≡ nothing }
-    ensures value { told_by result regs.new (done_of progress.new) ≡ samples.interrupt level op regs.old (memory_of around.now) }
-    ensures kept { Keeps result regs.old regs.new }
+    ensures value { told_by step.new regs.new (done_of progress.new) ≡ samples.interrupt level op.now regs.old (memory_of around.now) }
+    ensures kept { Keeps step.new regs.old regs.new }
 {
     let found = *regs;
     match ask(Request68::Ack(level), around, progress) {
         Ok(_) => {
             let exception = Exception::Interrupt(level);
-            take_exception(op, exception, false, &found, around, regs, progress)
+            take_exception(op, exception, false, &found, around, regs, progress, step)
         }
-        Err(Stop::Ask(request)) => Step::Need(request),
+        Err(Stop::Ask(request)) => *step = Step::Need(request),
         Err(Stop::Odd { .. }) => unreachable!(),
     }
 }
 
 /// A trace.
+#[inline(never)]
 #[tactic(auto, unfolding(crate::specs::Sample::Samples::trace))]
-fn trace(op: Op, around: &Around, regs: &mut Regs, progress: &mut Progress) -> Step
+fn trace(op: &Op, around: &Around, regs: &mut Regs, progress: &mut Progress, step: &mut Step)
     requires fresh { done_of progress.old ≡ nothing }
-    ensures value { told_by result regs.new (done_of progress.new) ≡ samples.trace op regs.old (memory_of around.now) }
-    ensures kept { Keeps result regs.old regs.new }
+    ensures value { told_by step.new regs.new (done_of progress.new) ≡ samples.trace op.now regs.old (memory_of around.now) }
+    ensures kept { Keeps step.new regs.old regs.new }
 {
     let found = *regs;
     let exception = Exception::Numbered(TRACE_EXCEPTION);
-    take_exception(op, exception, false, &found, around, regs, progress)
+    take_exception(op, exception, false, &found, around, regs, progress, step)
 }
 
 /// The sample of this cause, with the instruction at the program counter and its first word.
 fn sample(
     cause: u8,
-    decoded: Decoded,
+    decoded: &Decoded,
     first: u16,
     around: &Around,
     regs: &mut Regs,
     progress: &mut Progress,
-) -> Step
-    requires decoded { IsInstruction decoded }
+    step: &mut Step,
+)
+    requires decoded { IsInstruction decoded.now }
     requires fresh { done_of progress.old ≡ nothing }
-    ensures value { told_by result regs.new (done_of progress.new) ≡ samples.sample_of cause decoded first regs.old (memory_of around.now) }
-    ensures kept { Keeps result regs.old regs.new }
+    ensures value { told_by step.new regs.new (done_of progress.new) ≡ samples.sample_of cause decoded.now first regs.old (memory_of around.now) }
+    ensures kept { Keeps step.new regs.old regs.new }
 {
     match cause {
-        0 => instruction(decoded, first, around, regs, progress),
-        1..=7 => interrupt(cause, decoded.op, around, regs, progress),
-        _ => trace(decoded.op, around, regs, progress),
+        0 => instruction(decoded, first, around, regs, progress, step),
+        1..=7 => interrupt(cause, &decoded.op, around, regs, progress, step),
+        _ => trace(&decoded.op, around, regs, progress, step),
     }
 }
 
@@ -240,9 +254,10 @@ fn run(
     answers: &ArrayVec<u16, 32>,
     cause: u8,
     progress: &mut Progress,
-) -> Step
-    ensures value { told_by result regs.new (done_of progress.new) ≡ samples.sampled cause regs.old (record { rom = cart.now; ram = ram.now; answers = answers.now.items }) }
-    ensures kept { Keeps result regs.old regs.new }
+    step: &mut Step,
+)
+    ensures value { told_by step.new regs.new (done_of progress.new) ≡ samples.sampled cause regs.old (record { rom = cart.now; ram = ram.now; answers = answers.now.items }) }
+    ensures kept { Keeps step.new regs.old regs.new }
     ensures instruction { IsOp (named regs.old (record { rom = cart.now; ram = ram.now; answers = answers.now.items })) }
 {
     progress.restart(0);
@@ -252,8 +267,8 @@ fn run(
         answers: answers.as_slice(),
     };
     let words = instruction_words(regs.pc, &around);
-    let decoded = decode(&words);
-    sample(cause, decoded, words[0], &around, regs, progress)
+    let decoded = &decode(&words);
+    sample(cause, decoded, words[0], &around, regs, progress, step)
 }
 
 /// What the 68000 does at a sample, as far as the answers of its shared accesses go: it starts
@@ -262,8 +277,9 @@ fn run(
 /// `cause` is 0 for the instruction at the program counter, 1 to 7 for an interrupt of that level,
 /// and more for a pending trace. `ram` is work RAM before it. Where it waits for an answer the
 /// registers stay as they were. `progress` is cleared first; its writes count where the step is
-/// done: the bytes written into work RAM, the oldest first. Source: M68000 Programmer's Reference
-/// Manual, sections 4 and 6; M68000 User's Manual, section 6.
+/// done: the bytes written into work RAM, the oldest first. `step` is what it comes to, whatever it
+/// was. Source: M68000 Programmer's Reference Manual, sections 4 and 6; M68000 User's Manual, section
+/// 6.
 pub fn go(
     regs: &mut Regs,
     cart: &Cart,
@@ -271,12 +287,13 @@ pub fn go(
     answers: &ArrayVec<u16, 32>,
     cause: u8,
     progress: &mut Progress,
-) -> Step
-    ensures value { told_by result regs.new (done_of progress.new) ≡ samples.sampled cause regs.old (record { rom = cart.now; ram = ram.now; answers = answers.now.items }) }
-    ensures kept { Keeps result regs.old regs.new }
-    ensures waits { WaitsBelow result (array_vec_len answers.now) 32 }
-    ensures spent { SpendsRightly result }
-    ensures instruction { NamesInstruction result }
+    step: &mut Step,
+)
+    ensures value { told_by step.new regs.new (done_of progress.new) ≡ samples.sampled cause regs.old (record { rom = cart.now; ram = ram.now; answers = answers.now.items }) }
+    ensures kept { Keeps step.new regs.old regs.new }
+    ensures waits { WaitsBelow step.new (array_vec_len answers.now) 32 }
+    ensures spent { SpendsRightly step.new }
+    ensures instruction { NamesInstruction step.new }
 {
-    run(regs, cart, ram, answers, cause, progress)
+    run(regs, cart, ram, answers, cause, progress, step)
 }

@@ -238,16 +238,19 @@ impl Case {
         let mut answers = ArrayVec::new();
         let mut progress = Progress::new();
         let mut regs = self.before;
+        let mut step = Step::Need(Request68::Ack(0));
         for access in self.accesses.as_slice() {
             let (request, answer) = request_of(access);
-            match go(
+            go(
                 &mut regs,
                 cart,
                 &self.ram,
                 &answers,
                 self.cause,
                 &mut progress,
-            ) {
+                &mut step,
+            );
+            match step {
                 Step::Need(found) if found == request => {}
                 Step::Need(_) => return Some("another request"),
                 Step::Done(_) => return Some("a request missing"),
@@ -256,14 +259,16 @@ impl Case {
                 answers.push(answer);
             }
         }
-        match go(
+        go(
             &mut regs,
             cart,
             &self.ram,
             &answers,
             self.cause,
             &mut progress,
-        ) {
+            &mut step,
+        );
+        match step {
             Step::Need(_) => Some("a request more"),
             Step::Done(finish) => self.difference(&finish, &regs, progress.writes.as_slice()),
         }

@@ -19,6 +19,7 @@ const STACK: u8 = 7;
 
 /// The place of a mode's operand, before the instruction changes a register. `pc` is where the
 /// mode's extension words stand.
+#[inline(always)]
 pub fn locate(mode: Mode, size: Size, pc: u32, regs: &Regs) -> Place
     requires { IsMode mode }
     ensures place { result ≡ place_of mode size regs.now pc }
@@ -41,6 +42,7 @@ pub fn effective(mode: Mode, size: Size, pc: u32, regs: &Regs) -> u32
 }
 
 /// Reads the operand that stands at a place.
+#[inline(always)]
 #[tactic(auto, unfolding(crate::specs::Access::Operands::fetch))]
 pub fn fetch(
     size: Size,
@@ -68,6 +70,7 @@ pub fn fetch(
 }
 
 /// Puts a value of a size into a register, whose upper part stays.
+#[inline(always)]
 pub fn set_part(size: Size, number: u8, value: u32, regs: &mut Regs)
     requires number { number < 16 }
     requires value { value < modulus_of size }
@@ -78,6 +81,7 @@ pub fn set_part(size: Size, number: u8, value: u32, regs: &mut Regs)
 }
 
 /// Moves the register of (An)+ or −(An).
+#[inline(always)]
 pub fn step(mode: Mode, size: Size, regs: &mut Regs)
     requires { IsMode mode }
     ensures { regs.new ≡ stepped mode size regs.old }
@@ -86,6 +90,7 @@ pub fn step(mode: Mode, size: Size, regs: &mut Regs)
 }
 
 /// Writes a value to a place. Of a register the upper part stays; immediate data stays whole.
+#[inline(always)]
 #[tactic(auto, unfolding(crate::specs::Access::Operands::put, crate::specs::Access::Operands::stored))]
 pub fn put(
     size: Size,
@@ -118,6 +123,7 @@ pub fn put(
 }
 
 /// Reads the operand that a mode names, and moves the register of (An)+ or −(An).
+#[inline(always)]
 #[tactic(auto, unfolding(crate::specs::Access::Operands::load))]
 pub fn load(
     mode: Mode,
@@ -140,6 +146,7 @@ pub fn load(
 }
 
 /// Writes where a mode names, and moves the register of (An)+ or −(An).
+#[inline(always)]
 #[tactic(auto, unfolding(crate::specs::Access::Operands::store))]
 pub fn store(
     mode: Mode,

@@ -10,6 +10,7 @@ use m68k_alu::compute;
 use md_word::{Mode, Regs, Size, Task, extend};
 
 /// Where the target's words stand: behind the source's.
+#[inline(always)]
 fn behind_source(size: Size, source: Mode, start: u32) -> u32
     ensures { result ≡ moves.behind_source size source start }
 {
@@ -27,6 +28,7 @@ fn behind_source(size: Size, source: Mode, start: u32) -> u32
 }
 
 /// MOVE. The source is read, and its register moved, before the target's address is calculated.
+#[inline(always)]
 #[tactic(auto, unfolding(crate::specs::Rows::Moves::move_operand))]
 pub fn move_operand(
     size: Size,

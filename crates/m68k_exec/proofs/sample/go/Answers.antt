@@ -2,10 +2,10 @@ use Rattle.m68k_exec.proofs.Bounds.Steps.{names_instruction, spends_rightly, wai
 use Rattle.m68k_exec.proofs.sample.go.Goals as goal
 
 pub returns-clause-waits : goal.returns-clause-waits
-returns-clause-waits c = waits_below c.run.result _ _ _ _ _ c.run.ensures.value
+returns-clause-waits c = waits_below c.run.new.step _ _ _ _ _ c.run.ensures.value
 
 pub returns-clause-spent : goal.returns-clause-spent
-returns-clause-spent c = spends_rightly c.run.result _ _ _ _ _ c.run.ensures.value
+returns-clause-spent c = spends_rightly c.run.new.step _ _ _ _ _ c.run.ensures.value
 
 pub returns-clause-instruction : goal.returns-clause-instruction
-returns-clause-instruction c = names_instruction c.run.result _ _ _ _ _ c.run.ensures.value c.run.ensures.instruction
+returns-clause-instruction c = names_instruction c.run.new.step _ _ _ _ _ c.run.ensures.value c.run.ensures.instruction
