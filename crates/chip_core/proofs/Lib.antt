@@ -6,6 +6,7 @@ pub mod Keys
 pub mod Led
 pub mod Lists
 pub mod Looking
+pub mod On
 pub mod Parts
 pub mod Runs
 pub mod Stages

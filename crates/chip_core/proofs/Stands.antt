@@ -15,7 +15,7 @@ use Rattle.chip_core.proofs.Runs.{run-suc, journal-suc, made-mover, made-mono, b
 
 -- a sample looks at the bounds of all that write its pins
 pub looks : {Chip Shared Pins : Type 0} (rules : Rules Chip Shared Pins) (j i : ℕ) → rules.writes j i ≡ true → looks_at rules j i ≡ true
-looks rules j i w = refl
+looks rules j i w = w
 
 module _ {Chip Shared Pins : Type 0} (rules : Rules Chip Shared Pins) (chip_ok : Chip → Type 0) (shared_ok : Shared → Type 0) (law : Lawful rules chip_ok shared_ok)
     (base : Machine Chip Shared) (base_ok : IsSound rules chip_ok shared_ok base) (t : ℕ) (small : t ≤ 2 ^ 50) (opening : ℕ → Key)

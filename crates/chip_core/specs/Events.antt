@@ -35,9 +35,9 @@ module _ {Chip Shared Pins : Type 0} (rules : Rules Chip Shared Pins) where
     pub bound_number : (i : ℕ) → i < rules.count → (s.bound i).chip ≡ i
     pub under : (i : ℕ) → i < rules.count → key_lt (key_of rules s.machine i) (s.bound i) ≡ false
 
-  -- whether a sample of chip i looks at chip j's bound
+  -- whether a sample of chip i looks at chip j's bound: where accesses of chip j write its pins
   abbrev pub looks_at : ℕ → ℕ → Bool
-  looks_at j i = true
+  looks_at j i = rules.writes j i
 
   -- chip i's key is below the bound of each other chip
   abbrev pub IsBelowAll : Seen Chip Shared → ℕ → Type 0

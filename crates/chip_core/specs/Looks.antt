@@ -2,6 +2,7 @@
 use Rattle.std.specs.Prelude.{◌≡◌, ◌≢◌, ℕ, zero, suc, ◌<◌, true, cond, Option, Some, None, List, length, slice_index_or}
 use Rattle.md_word.specs.declared.key.Key.{Key}
 use Rattle.md_word.specs.Keys.{key_lt}
+use Rattle.chip_core.specs.Chips.{Rules}
 use Rattle.chip_core.specs.Cores.{no_key}
 
 -- the first of two that is there
@@ -17,3 +18,14 @@ least_lagging bound key (suc n) = or_else (least_lagging bound key n) (cond (key
 -- a key is below each bound but that of one number
 abbrev pub IsBelowOthers : Key → List Key → ℕ → Type 0
 IsBelowOthers key bounds i = (j : ℕ) → j < length bounds → j ≢ i → key_lt key (slice_index_or bounds j no_key) ≡ true
+
+module _ {Chip Shared Pins : Type 0} (rules : Rules Chip Shared Pins) where
+  -- a key is below the bounds of the others that write the pins of one chip
+  abbrev pub IsBelowWriters : Key → List Key → ℕ → Type 0
+  IsBelowWriters key bounds i = (j : ℕ) → j < length bounds → j ≢ i → rules.writes j i ≡ true → key_lt key (slice_index_or bounds j no_key) ≡ true
+
+  -- each key below this one lies below cycle t, and below the bounds of those of the first n chips
+  -- that write the pins of chip i
+  abbrev pub IsLimit : ℕ → (ℕ → Key) → ℕ → ℕ → Key → Type 0
+  IsLimit t bound n i end = (key : Key) → key_lt key end ≡ true
+      → (key.cycle < t) × ((j : ℕ) → j < n → j ≢ i → rules.writes j i ≡ true → key_lt key (bound j) ≡ true)

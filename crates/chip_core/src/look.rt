@@ -1,7 +1,7 @@
-ghost use Rattle.std.specs.Prelude.{◌≡◌, ℕ, ◌<◌, ◌≤◌, ◌↔◌, All, IsTrue, length, if◌then◌else◌};
+ghost use Rattle.std.specs.Prelude.{◌≡◌, ◌≢◌, ℕ, ◌<◌, ◌≤◌, ◌↔◌, true, All, IsTrue, length, if◌then◌else◌};
 ghost use Rattle.md_word.specs.Keys.{key_lt};
 ghost use Rattle.chip_core.specs.Cores.{bound_in, chip_in, key_in};
-ghost use Rattle.chip_core.specs.Looks.{or_else, least_lagging, IsBelowOthers};
+ghost use Rattle.chip_core.specs.Looks.{or_else, least_lagging, IsBelowOthers, IsBelowWriters, IsLimit};
 ghost use Rattle.chip_core.specs.Machines.{least_below};
 
 use crate::{ChipSet, Event};
@@ -35,6 +35,42 @@ pub(crate) fn is_below_others(key: &Key, bounds: &[Key], chip: usize) -> bool
         }
     }
     true
+}
+
+/// Whether a key is below the bound of each other chip that writes the pins of one.
+pub(crate) fn is_below_writers<C: ChipSet>(key: &Key, bounds: &[Key], chip: u8) -> bool
+    requires few { length bounds.now ≤ 5 }
+    ensures { IsTrue result ↔ IsBelowWriters C.rules key.now bounds.now chip }
+{
+    for i in 0..bounds.len() {
+        if cuts::<C>(i, chip) && !key.is_below(&bounds[i]) {
+            return false;
+        }
+    }
+    true
+}
+
+/// Whether chip `i` is another than `chip` and writes its pins.
+fn cuts<C: ChipSet>(i: usize, chip: u8) -> bool
+    requires { i < 5 }
+    ensures { IsTrue result ↔ ((i ≢ chip) × (C.rules.writes i chip ≡ true)) }
+{
+    i != chip as usize && C::writes(i as u8, chip)
+}
+
+/// The key below which a chip may sample its pins up to cycle `t`: the least of the first key at that
+/// cycle and of the bounds of the other chips that write its pins.
+pub(crate) fn limit_of<C: ChipSet>(bounds: &[Key], t: u64, chip: u8) -> Key
+    requires few { length bounds.now ≤ 5 }
+    ensures { IsLimit C.rules t (bound_in bounds.now) (length bounds.now) chip result }
+{
+    let mut end = Key { cycle: t, chip: 0 };
+    for i in 0..bounds.len() {
+        if cuts::<C>(i, chip) && bounds[i].is_below(&end) {
+            end = bounds[i];
+        }
+    }
+    end
 }
 
 /// Whether some chip's next event lies below a cycle.

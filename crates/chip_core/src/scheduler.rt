@@ -4,7 +4,9 @@ ghost use Rattle.chip_core.specs.Events.{IsChosen, IsEnabled};
 ghost use Rattle.chip_core.specs.Looks.{least_lagging};
 ghost use Rattle.chip_core.specs.Machines.{IsQuiet, IsShort, key_of, mover};
 
-use crate::look::{Found, event_of, is_any_short, is_below_others, know_chips, look};
+use crate::look::{
+    Found, event_of, is_any_short, is_below_others, is_below_writers, know_chips, look,
+};
 use crate::{ChipSet, Event};
 use md_word::{Entry, Key};
 use std::marker::Model;
@@ -157,7 +159,7 @@ impl<C: ChipSet> Core<C> {
         if next.key.cycle >= t {
             return false;
         }
-        is_below_others(&next.key, &self.bounds, i)
+        is_below_writers::<C>(&next.key, &self.bounds, chip)
     }
 
     /// Whether some chip's next event lies below cycle `t`.

@@ -1,14 +1,18 @@
-ghost use Rattle.std.specs.Prelude.{◌≡◌, ℕ, ◌^◌, ◌<◌, ◌≤◌, [], length, MatchOption};
+ghost use Rattle.std.specs.Prelude.{◌≡◌, ℕ, ◌^◌, ◌<◌, ◌≤◌, ◌↔◌, true, [], IsTrue, length, MatchOption};
+ghost use Rattle.md_word.specs.Keys.{key_lt};
 ghost use Rattle.chip_core.specs.declared.event.Event.{Event};
 ghost use Rattle.chip_core.specs.Cores.{IsCore, ReachesEnd, machine_of, seen};
 ghost use Rattle.chip_core.specs.Events.{AreKeys, HasPlace, HasRoom, IsEnabled, Reaches, after, own_event, turned};
-ghost use Rattle.chip_core.specs.Machines.{IsRunTo, least_below};
+ghost use Rattle.chip_core.specs.Looks.{IsLimit};
+ghost use Rattle.chip_core.specs.Machines.{IsRunTo, is_sample, key_of, least_below};
 
-use crate::look::least_of;
+use crate::look::{least_of, limit_of};
 use crate::{ChipSet, Core};
+use md_word::Key;
 
 /// Brings a core to the machine after all events below cycle `t`: it announces every chip, and then
 /// lets the chip of least bound make its event and announces it again, until no bound lies below.
+/// A chip that samples goes on at once, up to the bounds of the chips that write its pins.
 ///
 /// The journal has to have a free place for each access below `t`, which [`crate::laws::room`]
 /// shows.
@@ -25,6 +29,7 @@ pub fn run_least<C: ChipSet>(core: &mut Core<C>, t: u64)
     core.announce_all();
     while let Some(chip) = core.first_below(t) {
         core.turn(chip);
+        core.sample_on(t, chip);
     }
 }
 
@@ -86,8 +91,43 @@ impl<C: ChipSet> Core<C> {
         }
     }
 
+    /// The chip samples on, below cycle `t` and the bounds of the others that write its pins.
+    fn sample_on(&mut self, t: u64, chip: u8)
+        requires time { t ≤ 2 ^ 50 }
+        requires chip { chip < C.rules.count }
+        requires keys { AreKeys C.rules (seen C.rules self.old) C.rules.count }
+        ensures led { Reaches C.rules t (seen C.rules self.old) (seen C.rules self.new) }
+        ensures keys { AreKeys C.rules (seen C.rules self.new) C.rules.count }
+        ensures room { self.new.room ≡ self.old.room }
+        ensures core { IsCore C.rules C.chip_ok C.shared_ok self.new }
+    {
+        let end = self.limit(t, chip);
+        while self.samples_below(chip, &end) {
+            self.turn_sample(chip);
+        }
+    }
+
+    /// The key below which the chip may sample.
+    fn limit(&self, t: u64, chip: u8) -> Key
+        ensures limit { IsLimit C.rules t (seen C.rules self.now).bound C.rules.count chip result }
+        ensures core { IsCore C.rules C.chip_ok C.shared_ok self.now }
+    {
+        limit_of::<C>(&self.bounds, t, chip)
+    }
+
+    /// Whether the chip's next event is a sample below a key.
+    fn samples_below(&self, chip: u8, end: &Key) -> bool
+        requires { chip < C.rules.count }
+        ensures value { IsTrue result ↔ ((is_sample C.rules (machine_of C.rules self.now) chip ≡ true)
+            × (key_lt (key_of C.rules (machine_of C.rules self.now) chip) end.now ≡ true)) }
+        ensures core { IsCore C.rules C.chip_ok C.shared_ok self.now }
+    {
+        let next = C::next(&self.chips[chip as usize]);
+        next.sample && next.key.is_below(end)
+    }
+
     fn turn_sample(&mut self, chip: u8)
-        requires { IsEnabled C.rules (seen C.rules self.old) (2 ^ 50) (Event.Sample chip) }
+        requires enabled { IsEnabled C.rules (seen C.rules self.old) (2 ^ 50) (Event.Sample chip) }
         ensures after { seen C.rules self.new
             ≡ after C.rules (after C.rules (seen C.rules self.old) (Event.Sample chip)) (Event.Announce chip) }
         ensures room { self.new.room ≡ self.old.room }
@@ -98,7 +138,9 @@ impl<C: ChipSet> Core<C> {
         let held = &mut self.chips[i];
         C::sample(held, &pins);
         let next = C::next(held);
-        self.bounds[i] = next.key;
+        let bound = &mut self.bounds[i];
+        bound.cycle = next.key.cycle;
+        bound.chip = next.key.chip;
     }
 
     fn turn_access(&mut self, chip: u8)
@@ -113,7 +155,9 @@ impl<C: ChipSet> Core<C> {
         let held = &mut self.chips[i];
         let entry = C::access(held, &mut self.shared);
         let next = C::next(held);
-        self.bounds[i] = next.key;
+        let bound = &mut self.bounds[i];
+        bound.cycle = next.key.cycle;
+        bound.chip = next.key.chip;
         self.journal.push_reserved(entry);
     }
 }

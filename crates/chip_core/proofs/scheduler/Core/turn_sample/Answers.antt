@@ -17,23 +17,23 @@ now g c =
     (slice_set c.self.inside.bounds.items c.args.chip c.next-next.result.key) c.self.inside.journal.items (vec_capacity c.self.inside.journal)
 
 enabled : (g : Over) (c : goal.After-drop-pins g) → IsEnabled g.C.ChipSet.rules (seen g.C.ChipSet.rules (before g c)) (2 ^ 50) (Sample c.args.chip)
-enabled g c = enabled-at g.C.ChipSet.rules (before g c) c.args.self.now (2 ^ 50) (Sample c.args.chip) c.self.view_is c.requires
+enabled g c = enabled-at g.C.ChipSet.rules (before g c) c.args.self.now (2 ^ 50) (Sample c.args.chip) c.self.view_is c.requires.enabled
 
 left : (g : Over) (c : goal.After-drop-pins g) → seen g.C.ChipSet.rules (now g c) ≡ after g.C.ChipSet.rules (after g.C.ChipSet.rules (seen g.C.ChipSet.rules (before g c)) (Sample c.args.chip)) (Announce c.args.chip)
 left g c =
     turned-seen g.C.ChipSet.rules c.self.inside.shared (slice_set c.self.inside.chips.items c.args.chip c.sample.new.chip) c.self.inside.bounds.items c.self.inside.journal.items (vec_capacity c.self.inside.journal) c.args.chip
     (record { cycle = (g.C.ChipSet.rules.next c.index_mut-held.result.now).key.cycle + g.C.ChipSet.rules.gap c.args.chip; chip = c.args.chip }) c.next-next.result.key (after g.C.ChipSet.rules (seen g.C.ChipSet.rules (before g c)) (Sample c.args.chip))
-    (omega (arith, c.requires.0, c.self.invariant.shape.bound_count))
+    (omega (arith, c.requires.enabled.0, c.self.invariant.shape.bound_count))
     (held-sampled g.C.ChipSet.rules (before g c) c.args.chip (2 ^ 50) (enabled g c)
-    (omega (arith, c.requires.0, c.self.invariant.shape.chip_count)) (omega (arith, c.requires.0, c.self.invariant.shape.bound_count))
+    (omega (arith, c.requires.enabled.0, c.self.invariant.shape.chip_count)) (omega (arith, c.requires.enabled.0, c.self.invariant.shape.bound_count))
     c.index_mut-held.result.now c.sample.new.chip (g.C.ChipSet.rules.next c.index_mut-held.result.now) (record { cycle = (g.C.ChipSet.rules.next c.index_mut-held.result.now).key.cycle + g.C.ChipSet.rules.gap c.args.chip; chip = c.args.chip }) c.pins-pins.result
     c.index_mut-held.ensures.value refl c.pins-pins.ensures.value c.sample.ensures refl)
-    (ap (λ n. n.key) (c.next-next.ensures.value ∙ ap g.C.ChipSet.rules.next (sym (get_or-set_same c.self.inside.chips.items c.args.chip c.sample.new.chip g.C.ChipSet.rules.blank (omega (arith, c.requires.0, c.self.invariant.shape.chip_count))))))
+    (ap (λ n. n.key) (c.next-next.ensures.value ∙ ap g.C.ChipSet.rules.next (sym (get_or-set_same c.self.inside.chips.items c.args.chip c.sample.new.chip g.C.ChipSet.rules.blank (omega (arith, c.requires.enabled.0, c.self.invariant.shape.chip_count))))))
 
 pub invariant_of-self : goal.invariant_of-self
 invariant_of-self g c =
     core-turned g.C.ChipSet.rules g.C.ChipSet.chip_ok g.C.ChipSet.shared_ok (g.met.C.ChipSet g.world.𝓛 g.world.𝓜 g.world.𝓡 ((λ s x. x), (λ x. x), (λ x. x), (λ x. x))).lawful
-    (before g c) (now g c) c.self.invariant (Sample c.args.chip) (enabled g c) c.args.chip c.requires.0
+    (before g c) (now g c) c.self.invariant (Sample c.args.chip) (enabled g c) c.args.chip c.requires.enabled.0
     (length-set c.self.inside.chips.items c.args.chip c.sample.new.chip ∙ c.self.invariant.shape.chip_count)
     (length-set c.self.inside.bounds.items c.args.chip c.next-next.result.key ∙ c.self.invariant.shape.bound_count)
     (left g c)
