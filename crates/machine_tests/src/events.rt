@@ -1,52 +1,110 @@
-use crate::machine::{idle, no_recording};
-use chip_core::Event;
-use md_machine::first_core;
+ghost use Rattle.std.specs.Prelude.{◌≡◌, [], IfOk};
+
+use crate::cartridges::{cartridge, idle};
+use chip_core::{Core, Event};
+use md_machine::{MdChips, first_core};
+use md_pads::Recording;
 use md_word::Key;
+use std::alloc::Global;
+use std::sync::Arc;
 use std::test::Fail;
 
-/// The first events of the machine, of which the last, the 68000's second sample at cycle 70, waits
-/// for the Z80, whose bound is at cycle 45.
-const FIRST: [Event; 5] = [
+/// The scheduler at power-on, whose journal has room for eight entries.
+fn scheduler(alloc: Global) -> Result<Core<MdChips>, Fail>
+    ensures journal { IfOk result (λ core. core.journal ≡ []) }
+    ensures room { IfOk result (λ core. core.room ≡ 8) }
+{
+    let recording = Arc::new(alloc, Recording::empty(alloc))?;
+    let made = first_core(alloc, cartridge(alloc, &idle())?, recording, 8);
+    made.map_err(|_| Fail::from("no memory"))
+}
+
+/// How many events of a list happen below a cycle from power-on on.
+fn happening(alloc: Global, t: u32, list: &[Event]) -> Result<usize, Fail> {
+    let mut made = scheduler(alloc)?;
+    if list.len() > 8 {
+        return Err(Fail::from("more events than room"));
+    }
+    Ok(made.run_events(u64::from(t), list))
+}
+
+/// The first four events of the machine.
+const FOUR: [Event; 4] = [
     Event::Sample(0),
     Event::Announce(0),
     Event::Sample(1),
     Event::Perform(2),
-    Event::Sample(0),
 ];
 
 // The cycle below which events lie, a list, and how many of its events happen from power-on on. The
-// Z80's bound is above the 68000's, which has to move first.
+// Z80's bound is above the 68000's, which has to move first. The last event of the last row, the 68000's
+// second sample at cycle 70, waits for the Z80, whose bound is at cycle 45.
+static ROWS: [(u32, &[Event], usize); 4] = [
+    (1, &[Event::Sample(1)], 0),
+    (
+        1,
+        &[Event::Sample(0), Event::Sample(1), Event::Sample(0)],
+        2,
+    ),
+    (1, &FOUR, 4),
+    (
+        100,
+        &[
+            Event::Sample(0),
+            Event::Announce(0),
+            Event::Sample(1),
+            Event::Perform(2),
+            Event::Sample(0),
+        ],
+        4,
+    ),
+];
+
+/// The first row of which another number of events happens.
+fn first_wrong(alloc: Global) -> Result<Option<usize>, Fail> {
+    for (number, (t, list, want)) in ROWS.iter().enumerate() {
+        if happening(alloc, *t, list)? != *want {
+            return Ok(Some(number));
+        }
+    }
+    Ok(None)
+}
+
 #[test]
 fn events_wait_for_lower_bounds(rt: HostRuntime) -> Result<(), Fail> {
-    let rows: [(u64, &[Event], usize); 4] = [
-        (1, &[Event::Sample(1)], 0),
-        (
-            1,
-            &[Event::Sample(0), Event::Sample(1), Event::Sample(0)],
-            2,
-        ),
-        (1, &FIRST[..4], 4),
-        (100, &FIRST, 4),
-    ];
-    for (t, list, want) in rows {
-        let core = first_core(rt.alloc(), idle(rt.alloc())?, no_recording(rt.alloc())?, 8);
-        let mut core = core.map_err(|_| Fail::from("no memory"))?;
-        assert!(rt; t <= 100 && list.len() <= 5);
-        assert_eq!(rt; core.run_events(t, list), want);
-    }
+    assert_eq!(rt; first_wrong(rt.alloc())?, None);
     Ok(())
+}
+
+/// The bounds that four events leave.
+static BOUNDS: [Key; 5] = [
+    Key { cycle: 70, chip: 0 },
+    Key { cycle: 45, chip: 1 },
+    Key {
+        cycle: 3_420,
+        chip: 2,
+    },
+    Key {
+        cycle: 16_128,
+        chip: 3,
+    },
+    Key {
+        cycle: 16_128,
+        chip: 4,
+    },
+];
+
+/// Whether the bounds are these, and one entry was made.
+fn is_bound(made: Core<MdChips>) -> bool {
+    let (_board, _chips, bounds, journal) = made.into_parts();
+    bounds.as_slice() == BOUNDS.as_slice() && journal.len() == 1
 }
 
 #[test]
 fn four_events_leave_their_bounds(rt: HostRuntime) -> Result<(), Fail> {
-    let core = first_core(rt.alloc(), idle(rt.alloc())?, no_recording(rt.alloc())?, 8);
-    let mut core = core.map_err(|_| Fail::from("no memory"))?;
-    assert_eq!(rt; core.run_events(1, &FIRST[..4]), 4);
-    assert_eq!(rt; core.some_enabled(1), None);
-    let (_board, _chips, bounds, journal) = core.into_parts();
-    let want = [(70, 0), (45, 1), (3_420, 2), (16_128, 3), (16_128, 4)];
-    let want = want.map(|(cycle, chip)| Key { cycle, chip });
-    assert!(rt; bounds.as_slice() == want.as_slice());
-    assert_eq!(rt; journal.len(), 1);
+    let mut made = scheduler(rt.alloc())?;
+    let happened = made.run_events(1, &FOUR);
+    assert!(rt; happened == 4 && made.some_enabled(1).is_none());
+    assert!(rt; is_bound(made));
     Ok(())
 }

@@ -1,7 +1,8 @@
 // The FM chip in the machine: a note that the 68000 plays, with its cycles by the clocks of the M68000
 // User's Manual, section 8.
-use crate::machine::{cartridge, drained, power_on};
-use crate::z80::{Row, part, processors, records};
+use crate::accesses::{Row, first_wrong_of_all, is_among};
+use crate::cartridges::image_of;
+use crate::made::{Made, run_once};
 use std::test::Fail;
 
 /// The 68000 requests the Z80's bus, waits for the grant, and writes six registers of the FM chip: four
@@ -16,7 +17,7 @@ const NOTE: [u8; 52] = [
 
 // The request stands at 112, and the read at 196 finds the grant, which the Z80 gave at 195. The first
 // register is latched at 504 and written 84 cycles later, the others each 38 clocks behind.
-const WRITES: [Row; 15] = [
+static WRITES: [Row; 15] = [
     (112, 0, 3, 0xa1_1100, 0x100),
     (195, 1, 8, 0, 1),
     (196, 0, 0, 0xa1_1100, 0),
@@ -37,18 +38,15 @@ const WRITES: [Row; 15] = [
 // The key is on from the sample at 2,016 cycles on, which is the third. There operator 4 is at phase 0
 // and full level, where the sine is 24, and the other operators are silent. Half of it is 12 on each
 // side. The batch took six writes.
+fn is_played(made: &Made) -> bool {
+    is_among(&made.entries, &(16_128, 3, 11, 1, 6))
+        && made.pairs.starts_with(b"\0\0\0\0\0\0\0\0\x0c\0\x0c\0")
+}
+
 #[test]
 fn a_note_of_the_fm_chip(rt: HostRuntime) -> Result<(), Fail> {
-    let alloc = rt.alloc();
-    let mut machine = power_on(alloc, cartridge(alloc, 0x1c0, &NOTE)?)?;
-    let (entries, pairs) = drained(&mut machine, alloc, 16_129)?;
-    assert!(rt; processors(alloc, &entries)?.as_slice() == records(alloc, &WRITES)?.as_slice());
-    let batch = records(alloc, &[(16_128, 3, 11, 1, 6)])?;
-    assert!(rt;
-        entries
-            .chunks_exact(16)
-            .any(|record| record == batch.as_slice())
-    );
-    assert!(rt; part(&pairs, 0, 12) == b"\0\0\0\0\0\0\0\0\x0c\0\x0c\0".as_slice());
+    let made = run_once(rt.alloc(), &image_of(0x1c0, &NOTE), 16_129)?;
+    assert_eq!(rt; first_wrong_of_all(&made.entries, &WRITES), None);
+    assert!(rt; is_played(&made));
     Ok(())
 }

@@ -1,21 +1,7 @@
 // The frames of the machine. Line 224 begins at 766,080, and with it the frame is finished.
-use crate::machine::{cartridge, framed, idle, power_on};
-use rom_header::Cart;
-use std::alloc::Global;
-use std::sync::Arc;
+use crate::cartridges::{idle, paints};
+use crate::made::{Made, run_once, run_whole};
 use std::test::Fail;
-
-/// MOVE.L #C0000000h,C00004h; MOVE.W #0EEEh,C00000h; and a branch to itself: colour 0, which is the
-/// backdrop, becomes white.
-const PAINTS: [u8; 20] = [
-    0x23, 0xfc, 0xc0, 0x00, 0x00, 0x00, 0x00, 0xc0, 0x00, 0x04, 0x33, 0xfc, 0x0e, 0xee, 0x00, 0xc0,
-    0x00, 0x00, 0x60, 0xfe,
-];
-
-/// A cartridge that makes the backdrop white.
-pub fn paints(alloc: Global) -> Result<Arc<Cart>, Fail> {
-    cartridge(alloc, 0x1c0, &PAINTS)
-}
 
 /// How many bytes of a frame's rows, behind its head of 15 bytes, have this value from a place on, and up
 /// to another.
@@ -32,17 +18,37 @@ fn count(frame: &[u8], from: usize, to: usize, value: u8) -> u32 {
 }
 
 // No frame is there until line 224 has begun, and none is there twice.
+static ENDS: [u32; 4] = [766_080, 766_081, 1_662_120, 1_662_121];
+
+static LENGTHS: [usize; 4] = [0, 215_055, 0, 215_055];
+
+/// The number of the first part whose frame has another length.
+fn first_wrong_length(parts: &[Made]) -> Option<usize> {
+    for (number, want) in LENGTHS.iter().enumerate() {
+        match parts.get(number) {
+            Some(part) if part.frame.len() == *want => {}
+            _ => return Some(number),
+        }
+    }
+    None
+}
+
+/// Whether the second part's frame has its head, and is black.
+fn is_black(parts: &[Made]) -> bool {
+    match parts {
+        [_, part, ..] => {
+            part.frame.starts_with(b"P6\n320 224\n255\n")
+                && count(&part.frame, 15, 215_055, 0) == 215_040
+        }
+        _ => false,
+    }
+}
+
 #[test]
 fn a_frame_is_finished_by_line_224(rt: HostRuntime) -> Result<(), Fail> {
-    let alloc = rt.alloc();
-    let mut machine = power_on(alloc, idle(alloc)?)?;
-    assert_eq!(rt; framed(&mut machine, alloc, 766_080)?.len(), 0);
-    let black = framed(&mut machine, alloc, 766_081)?;
-    assert_eq!(rt; black.len(), 215_055);
-    assert!(rt; black.starts_with(b"P6\n320 224\n255\n"));
-    assert_eq!(rt; count(&black, 15, 215_055, 0), 215_040);
-    assert_eq!(rt; framed(&mut machine, alloc, 1_662_120)?.len(), 0);
-    assert_eq!(rt; framed(&mut machine, alloc, 1_662_121)?.len(), 215_055);
+    let parts = run_whole(rt.alloc(), &idle(), &ENDS)?;
+    assert_eq!(rt; first_wrong_length(&parts), None);
+    assert!(rt; is_black(&parts));
     Ok(())
 }
 
@@ -50,10 +56,8 @@ fn a_frame_is_finished_by_line_224(rt: HostRuntime) -> Result<(), Fail> {
 // it show the backdrop, of which each of red, green and blue is 7 times 36.
 #[test]
 fn lines_are_drawn_at_their_start(rt: HostRuntime) -> Result<(), Fail> {
-    let alloc = rt.alloc();
-    let mut machine = power_on(alloc, paints(alloc)?)?;
-    let frame = framed(&mut machine, alloc, 766_081)?;
-    assert_eq!(rt; count(&frame, 15, 975, 0), 960);
-    assert_eq!(rt; count(&frame, 975, 215_055, 252), 214_080);
+    let made = run_once(rt.alloc(), &paints(), 766_081)?;
+    let black = count(&made.frame, 15, 975, 0);
+    assert!(rt; black == 960 && count(&made.frame, 975, 215_055, 252) == 214_080);
     Ok(())
 }

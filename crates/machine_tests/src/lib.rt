@@ -2,6 +2,10 @@
 #![tactic(auto)]
 
 #[cfg(test)]
+mod accesses;
+#[cfg(test)]
+mod cartridges;
+#[cfg(test)]
 mod events;
 #[cfg(test)]
 mod fm;
@@ -9,6 +13,8 @@ mod fm;
 mod frames;
 #[cfg(test)]
 mod machine;
+#[cfg(test)]
+mod made;
 #[cfg(test)]
 mod pads;
 #[cfg(test)]

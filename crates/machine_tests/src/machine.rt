@@ -1,127 +1,61 @@
-ghost use Rattle.std.specs.Prelude.{◌≡◌, ◌+◌, ◌≤◌, ◌<◌, [], length, IfOk};
-ghost use Rattle.md_machine.specs.Media.{no_media};
-
+use crate::cartridges::{beep, idle, image_of, put};
+use crate::made::{Made, run_once, run_parts, run_to, run_whole, started};
 use md_machine::Machine;
-use md_pads::Recording;
-use rom_header::Cart;
 use std::alloc::Global;
-use std::sync::Arc;
 use std::test::Fail;
 
-/// A cartridge of 512 bytes that is all zero but for its vectors, the mark and this program.
-pub fn cartridge(alloc: Global, pc: usize, program: &[u8]) -> Result<Arc<Cart>, Fail>
-    requires { pc + length program.now ≤ 512 }
-{
-    let mut image = [0; 512];
-    image[..4].copy_from_slice(&[0, 0xff, 0xf0, 0]);
-    image[6..8].copy_from_slice(&(pc as u16).to_be_bytes());
-    image[0x100..0x104].copy_from_slice(b"SEGA");
-    image[pc..pc + program.len()].copy_from_slice(program);
-    let cart = Cart::accept(alloc, image.to_vec(alloc)?)?;
-    Ok(Arc::new(alloc, cart)?)
-}
-
-/// A branch to itself.
-pub fn idle(alloc: Global) -> Result<Arc<Cart>, Fail> {
-    cartridge(alloc, 0x1fc, &[0x60, 0xfe])
-}
-
-/// LEA C00011h,A0; MOVE.B #90h,(A0); and a branch to itself.
-pub fn beep(alloc: Global) -> Result<Arc<Cart>, Fail> {
-    let program = [
-        0x41, 0xf9, 0x00, 0xc0, 0x00, 0x11, 0x10, 0xbc, 0x00, 0x90, 0x60, 0xfe,
-    ];
-    cartridge(alloc, 0x1c0, &program)
-}
-
-/// A recording of no frames.
-pub fn no_recording(alloc: Global) -> Result<Arc<Recording>, Fail> {
-    Ok(Arc::new(alloc, Recording::empty(alloc))?)
-}
-
-/// The machine at power-on, with no button pressed.
-pub fn power_on(alloc: Global, cart: Arc<Cart>) -> Result<Machine, Fail>
-    ensures at { IfOk result (λ machine. machine.at ≡ 0) }
-    ensures entries { IfOk result (λ machine. machine.entries ≡ []) }
-    ensures media { IfOk result (λ machine. machine.media ≡ no_media) }
-{
-    let recording = no_recording(alloc)?;
-    Machine::power_on(alloc, cart, recording).map_err(|_| Fail::from("no memory"))
-}
-
-/// Brings the machine to a cycle, and gives the bytes of its entries and pairs since it was last
-/// drained. A frame is let go.
-pub fn drained(machine: &mut Machine, alloc: Global, to: u64) -> Result<(Vec<u8>, Vec<u8>), Fail>
-    requires later { machine.old.at < to }
-    requires near { to ≤ machine.old.at + 896040 }
-    requires far { to ≤ 549755813888 }
-    requires entries { machine.old.entries ≡ [] }
-    requires media { machine.old.media ≡ no_media }
-    ensures at { IfOk result (λ bytes. machine.new.at ≡ to) }
-    ensures entries { IfOk result (λ bytes. machine.new.entries ≡ []) }
-    ensures media { IfOk result (λ bytes. machine.new.media ≡ no_media) }
-{
-    let mut entries = Vec::with_capacity(alloc, 840_000)?;
-    let mut pairs = Vec::with_capacity(alloc, 3_584)?;
-    let mut frames = Vec::with_capacity(alloc, 215_055)?;
-    machine.alone(to);
-    machine.drain_entries(&mut entries);
-    machine.drain_pairs(&mut pairs);
-    machine.drain_frames(&mut frames);
-    Ok((entries, pairs))
-}
-
-/// Brings the machine to a cycle, and gives the frame that was finished since it was last drained, if one
-/// was. Entries and pairs are let go.
-pub fn framed(machine: &mut Machine, alloc: Global, to: u64) -> Result<Vec<u8>, Fail>
-    requires later { machine.old.at < to }
-    requires near { to ≤ machine.old.at + 896040 }
-    requires far { to ≤ 549755813888 }
-    requires entries { machine.old.entries ≡ [] }
-    requires media { machine.old.media ≡ no_media }
-    ensures at { IfOk result (λ bytes. machine.new.at ≡ to) }
-    ensures entries { IfOk result (λ bytes. machine.new.entries ≡ []) }
-    ensures media { IfOk result (λ bytes. machine.new.media ≡ no_media) }
-{
-    let mut entries = Vec::with_capacity(alloc, 840_000)?;
-    let mut pairs = Vec::with_capacity(alloc, 3_584)?;
-    let mut frames = Vec::with_capacity(alloc, 215_055)?;
-    machine.alone(to);
-    machine.drain_entries(&mut entries);
-    machine.drain_pairs(&mut pairs);
-    machine.drain_frames(&mut frames);
-    Ok(frames)
+/// What a silent frame leaves otherwise.
+fn frame_fault(machine: &Machine, made: &Made) -> Option<&'static str> {
+    if machine.at() != 896_040 || machine.least() != 896_040 {
+        return Some("cycles");
+    }
+    if made.entries.len() != 16 * 372 {
+        return Some("entries");
+    }
+    if made.pairs.as_slice() != [0u8; 4 * 880].as_slice() {
+        return Some("pairs");
+    }
+    None
 }
 
 // 262 lines and 55 batches of each sound chip, all silent. The line that begins at 896,040 is line
 // 0 of the next frame, and the 68000's branches take 70 cycles each.
 #[test]
 fn a_silent_frame(rt: HostRuntime) -> Result<(), Fail> {
-    let alloc = rt.alloc();
-    let mut machine = power_on(alloc, idle(alloc)?)?;
-    let (entries, pairs) = drained(&mut machine, alloc, 896_040)?;
-    assert_eq!(rt; (machine.at(), machine.least()), (896_040, 896_040));
-    assert_eq!(rt; entries.len(), 16 * 372);
-    assert!(rt; pairs.as_slice() == [0u8; 4 * 880].as_slice());
+    let mut machine = started(rt.alloc(), &idle())?;
+    let made = run_to(&mut machine, rt.alloc(), 896_040)?;
+    assert_eq!(rt; frame_fault(&machine, &made), None);
     Ok(())
+}
+
+/// What the line behind it leaves otherwise.
+fn line_fault(machine: &Machine, parts: &[Made]) -> Option<&'static str> {
+    let [_, line] = parts else {
+        return Some("parts");
+    };
+    if line.entries.as_slice() != b"\0\0\0\0\0\x0d\xac\x28\x02\x0a\0\0\0\0\0\0".as_slice() {
+        return Some("entries");
+    }
+    if line.pairs.len() != 0 {
+        return Some("pairs");
+    }
+    if machine.least() != 896_070 || machine.main_chip().halted().is_some() {
+        return Some("machine");
+    }
+    None
 }
 
 #[test]
 fn a_line_behind_a_silent_frame(rt: HostRuntime) -> Result<(), Fail> {
-    let alloc = rt.alloc();
-    let mut machine = power_on(alloc, idle(alloc)?)?;
-    let _frame = drained(&mut machine, alloc, 896_040)?;
-    let (entries, pairs) = drained(&mut machine, alloc, 896_041)?;
-    let line = b"\0\0\0\0\0\x0d\xac\x28\x02\x0a\0\0\0\0\0\0";
-    assert!(rt; entries.as_slice() == line.as_slice() && pairs.len() == 0);
-    assert_eq!(rt; machine.least(), 896_070);
-    assert_eq!(rt; machine.main_chip().halted(), None);
+    let mut machine = started(rt.alloc(), &idle())?;
+    let parts = run_parts(&mut machine, rt.alloc(), &[896_040, 896_041])?;
+    assert_eq!(rt; line_fault(&machine, &parts), None);
     Ok(())
 }
 
 // The write at cycle 112, the lines at 0, 3,420, 6,840, 10,260 and 13,680, and the first batches of
 // the FM chip and the PSG at 16,128: the PSG's takes the write.
-const BEEP_ENTRIES: &[u8; 128] = b"\
+static BEEP_ENTRIES: &[u8; 128] = b"\
 \0\0\0\0\0\0\x00\x00\x02\x0a\0\0\0\0\0\0\
 \0\0\0\0\0\0\x00\x70\x00\x02\0\xc0\0\x11\0\x90\
 \0\0\0\0\0\0\x0d\x5c\x02\x0a\0\0\0\x01\0\0\
@@ -132,7 +66,7 @@ const BEEP_ENTRIES: &[u8; 128] = b"\
 \0\0\0\0\0\0\x3f\x00\x04\x0c\0\0\0\x01\0\x01";
 
 // A sample of silence, and then the tone of period 0, -2,048 and 2,048 on both sides.
-const BEEP_PAIRS: &[u8; 64] = b"\
+static BEEP_PAIRS: &[u8; 64] = b"\
 \0\0\0\0\x00\xf8\x00\xf8\x00\xf8\x00\xf8\x00\xf8\x00\xf8\
 \x00\xf8\x00\xf8\x00\x08\x00\x08\x00\x08\x00\x08\x00\x08\x00\x08\
 \x00\x08\x00\x08\x00\x08\x00\x08\x00\xf8\x00\xf8\x00\xf8\x00\xf8\
@@ -140,46 +74,60 @@ const BEEP_PAIRS: &[u8; 64] = b"\
 
 #[test]
 fn a_run_in_one_part(rt: HostRuntime) -> Result<(), Fail> {
-    let alloc = rt.alloc();
-    let mut machine = power_on(alloc, beep(alloc)?)?;
-    let (entries, pairs) = drained(&mut machine, alloc, 16_129)?;
-    assert!(rt; entries.as_slice() == BEEP_ENTRIES.as_slice());
-    assert!(rt; pairs.as_slice() == BEEP_PAIRS.as_slice());
+    let made = run_once(rt.alloc(), &beep(), 16_129)?;
+    assert!(rt; made.entries.as_slice() == BEEP_ENTRIES.as_slice());
+    assert!(rt; made.pairs.as_slice() == BEEP_PAIRS.as_slice());
     Ok(())
 }
 
 // In two parts, the first of which makes so many records: also where it ends at the cycle of a
 // batch, which belongs to the cycle after it.
+static CUTS: [([u32; 2], usize); 2] = [([5_000, 16_129], 48), ([16_128, 16_129], 96)];
+
+/// Whether two parts make all that the one makes, the first so many bytes of records and no pair.
+fn is_cut(parts: &[Made], made: usize) -> bool {
+    let [first, second] = parts else {
+        return false;
+    };
+    first.entries.len() == made
+        && first.pairs.len() == 0
+        && BEEP_ENTRIES.starts_with(&first.entries)
+        && BEEP_ENTRIES.ends_with(&second.entries)
+        && second.entries.len() == 128_usize.wrapping_sub(made)
+        && second.pairs.as_slice() == BEEP_PAIRS.as_slice()
+}
+
+/// The first cut at which they do not.
+fn first_wrong_cut(alloc: Global) -> Result<Option<usize>, Fail> {
+    for (ends, made) in &CUTS {
+        if !is_cut(&run_whole(alloc, &beep(), ends)?, *made) {
+            return Ok(Some(*made));
+        }
+    }
+    Ok(None)
+}
+
 #[test]
 fn a_run_in_two_parts(rt: HostRuntime) -> Result<(), Fail> {
-    let alloc = rt.alloc();
-    let all = BEEP_ENTRIES.as_slice();
-    for (end, made) in [(5_000, 48), (16_128, 96)] {
-        let mut machine = power_on(alloc, beep(alloc)?)?;
-        assert!(rt; 0 < end && end < 16_129 && made <= 128);
-        let (entries, pairs) = drained(&mut machine, alloc, end)?;
-        assert!(rt; entries.as_slice() == &all[..made] && pairs.len() == 0);
-        let (entries, pairs) = drained(&mut machine, alloc, 16_129)?;
-        assert!(rt; entries.as_slice() == &all[made..]);
-        assert!(rt; pairs.as_slice() == BEEP_PAIRS.as_slice());
-    }
+    assert_eq!(rt; first_wrong_cut(rt.alloc())?, None);
     Ok(())
 }
 
-// The stack pointer FFF001h and the program counter 1FDh are odd: the address error of the first
-// instruction halts the 68000, which makes no access.
+/// The stack pointer FFF001h and the program counter 1FDh are odd.
+fn odd() -> [u8; 512] {
+    let mut image = image_of(0x1fd, &[]);
+    put(&mut image, 3, &[0x01]);
+    image
+}
+
+// The address error of the first instruction halts the 68000, which makes no access.
 #[test]
 fn a_halted_68000(rt: HostRuntime) -> Result<(), Fail> {
-    let alloc = rt.alloc();
-    let mut image = [0; 512];
-    image[..8].copy_from_slice(&[0, 0xff, 0xf0, 0x01, 0, 0, 0x01, 0xfd]);
-    image[0x100..0x104].copy_from_slice(b"SEGA");
-    let cart = Cart::accept(alloc, image.to_vec(alloc)?)?;
-    let mut machine = power_on(alloc, Arc::new(alloc, cart)?)?;
-    assert_eq!(rt; machine.main_chip().halted(), None);
-    let (entries, _pairs) = drained(&mut machine, alloc, 3_420)?;
-    assert_eq!(rt; machine.main_chip().halted(), Some(0));
-    assert_eq!(rt; entries.len(), 16);
+    let mut machine = started(rt.alloc(), &odd())?;
+    let before = machine.main_chip().halted();
+    let made = run_to(&mut machine, rt.alloc(), 3_420)?;
+    assert!(rt; before.is_none() && machine.main_chip().halted() == Some(0));
+    assert!(rt; made.entries.len() == 16);
     Ok(())
 }
 
@@ -194,57 +142,33 @@ const ACCESSES: [u8; 46] = [
 // Chip, kind, address and value of the records of the 68000, and of the batch of the PSG, which tells
 // how many writes it took. The data of a pad with no button is 7Fh. The VDP's status has bit 9, and
 // bit 3 since its display is off. The PSG hears a byte at an odd address and the low byte of a word.
-const ACCESS_RECORDS: &[u8; 56] = b"\
-\x00\x00\0\xa1\x00\x03\x00\x7f\
-\x00\x01\0\xc0\x00\x04\x02\x08\
-\x00\x02\0\xc0\x00\x11\x00\x9f\
-\x00\x02\0\xc0\x00\x12\x00\xaa\
-\x00\x03\0\xc0\x00\x16\x12\xbf\
-\x00\x03\0\xc0\x00\x18\x12\xaa\
-\x04\x0c\0\0\0\x01\0\x02";
+static ACCESS_RECORDS: [&[u8; 8]; 7] = [
+    b"\x00\x00\0\xa1\x00\x03\x00\x7f",
+    b"\x00\x01\0\xc0\x00\x04\x02\x08",
+    b"\x00\x02\0\xc0\x00\x11\x00\x9f",
+    b"\x00\x02\0\xc0\x00\x12\x00\xaa",
+    b"\x00\x03\0\xc0\x00\x16\x12\xbf",
+    b"\x00\x03\0\xc0\x00\x18\x12\xaa",
+    b"\x04\x0c\0\0\0\x01\0\x02",
+];
 
-/// What is behind the cycle in the records of the 68000 and of the PSG.
-fn told(alloc: Global, entries: &[u8]) -> Result<Vec<u8>, Fail> {
-    let mut found = Vec::new(alloc);
-    let mut rest = entries;
-    for _record in 0..entries.len() / 16 {
-        if let [
-            _,
-            _,
-            _,
-            _,
-            _,
-            _,
-            _,
-            _,
-            chip,
-            kind,
-            a,
-            b,
-            c,
-            d,
-            e,
-            f,
-            after @ ..,
-        ] = rest
-        {
-            if *chip == 0 || *chip == 4 {
-                found.extend_from_slice(&[*chip, *kind, *a, *b, *c, *d, *e, *f])?;
+/// The number of the first record of the 68000 or of the PSG that is told otherwise behind its cycle.
+fn first_wrong_record(entries: &[u8]) -> Option<usize> {
+    let mut number = 0_usize;
+    for record in entries.chunks_exact(16) {
+        if record[8] == 0 || record[8] == 4 {
+            match ACCESS_RECORDS.get(number) {
+                Some(want) if record.ends_with(want.as_slice()) => number = number.wrapping_add(1),
+                _ => return Some(number),
             }
-            rest = after;
         }
     }
-    Ok(found)
+    if number == 7 { None } else { Some(number) }
 }
 
 #[test]
 fn accesses_of_the_68000(rt: HostRuntime) -> Result<(), Fail> {
-    let alloc = rt.alloc();
-    let mut machine = power_on(alloc, cartridge(alloc, 0x1c0, &ACCESSES)?)?;
-    let (entries, _pairs) = drained(&mut machine, alloc, 16_129)?;
-    assert_eq!(rt;
-        told(alloc, &entries)?.as_slice(),
-        ACCESS_RECORDS.as_slice()
-    );
+    let made = run_once(rt.alloc(), &image_of(0x1c0, &ACCESSES), 16_129)?;
+    assert_eq!(rt; first_wrong_record(&made.entries), None);
     Ok(())
 }

@@ -1,7 +1,7 @@
-use crate::machine::{cartridge, drained};
-use md_machine::Machine;
+use crate::cartridges::image_of;
+use crate::made::{Made, power_on, run_parts};
 use md_pads::Recording;
-use std::sync::Arc;
+use std::alloc::Global;
 use std::test::Fail;
 
 /// examples/pads, whose branches are relative: a tone while B is held on pad 1.
@@ -19,9 +19,9 @@ const B: &[u8; 16] = b"MDREC001\0\0\0\x01\0\x10\0\0";
 // and the first begins at 672. B is pressed from the line at 766,080 on and let go by that at
 // 1,662,120: the turns that see it begin at 766,122 and at 1,662,206, and the writes of the volume
 // stand 308 and 322 cycles later.
-const PRESSED: &[u8; 16] = b"\0\0\0\0\0\x0b\xb1\xde\x00\x02\0\xc0\0\x11\0\x90";
+static PRESSED: &[u8; 16] = b"\0\0\0\0\0\x0b\xb1\xde\x00\x02\0\xc0\0\x11\0\x90";
 
-const LET_GO: &[u8; 16] = b"\0\0\0\0\0\x19\x5e\x40\x00\x02\0\xc0\0\x11\0\x9f";
+static LET_GO: &[u8; 16] = b"\0\0\0\0\0\x19\x5e\x40\x00\x02\0\xc0\0\x11\0\x9f";
 
 /// How many records of writes to the sound generator stand among these, and the last of them.
 fn volumes(entries: &[u8]) -> (usize, [u8; 16]) {
@@ -36,27 +36,50 @@ fn volumes(entries: &[u8]) -> (usize, [u8; 16]) {
     (count, last)
 }
 
-// A pair of samples stands at each 1,008 cycles, and hears the writes below its cycle: pairs 761 to
-// 1,649 sound, and no other.
-#[test]
-fn a_tone_while_a_button_is_held(rt: HostRuntime) -> Result<(), Fail> {
-    let alloc = rt.alloc();
-    let recording = Arc::new(alloc, Recording::read(alloc, B)?)?;
-    let cart = cartridge(alloc, 0x1c0, &PADS)?;
-    let machine = Machine::power_on(alloc, cart, recording);
-    let mut machine = machine.map_err(|_| Fail::from("no memory"))?;
-    let (entries, mut pairs) = drained(&mut machine, alloc, 896_040)?;
-    assert!(rt; volumes(&entries) == (4, *PRESSED));
-    let (entries, later) = drained(&mut machine, alloc, 1_792_080)?;
-    assert!(rt; volumes(&entries) == (1, *LET_GO));
-    pairs.extend_from_slice(&later)?;
-    assert_eq!(rt; pairs.len(), 4 * 1_776);
+/// Whether the frames have their volumes.
+fn are_set(parts: &[Made]) -> bool {
+    match parts {
+        [first, second] => {
+            volumes(&first.entries) == (4, *PRESSED) && volumes(&second.entries) == (1, *LET_GO)
+        }
+        _ => false,
+    }
+}
+
+/// All pairs of samples.
+fn pairs_of(alloc: Global, parts: &[Made]) -> Result<Vec<u8>, Fail> {
+    let mut pairs = Vec::new(alloc);
+    for part in parts {
+        pairs.extend_from_slice(&part.pairs)?;
+    }
+    Ok(pairs)
+}
+
+/// The first and the last pair that are not silent.
+fn sounding(pairs: &[u8]) -> [usize; 2] {
     let mut sounding = [usize::MAX, 0];
     for (number, pair) in pairs.chunks_exact(4).enumerate() {
         if pair != [0u8; 4].as_slice() {
             sounding = [sounding[0].min(number), sounding[1].max(number)];
         }
     }
-    assert!(rt; sounding == [761, 1_649]);
+    sounding
+}
+
+/// Two frames with the recording.
+fn run_recorded(alloc: Global) -> Result<Vec<Made>, Fail> {
+    let recording = Recording::read(alloc, B)?;
+    let mut machine = power_on(alloc, &image_of(0x1c0, &PADS), recording)?;
+    run_parts(&mut machine, alloc, &[896_040, 1_792_080])
+}
+
+// A pair of samples stands at each 1,008 cycles, and hears the writes below its cycle: pairs 761 to
+// 1,649 sound, and no other.
+#[test]
+fn a_tone_while_a_button_is_held(rt: HostRuntime) -> Result<(), Fail> {
+    let parts = run_recorded(rt.alloc())?;
+    assert!(rt; are_set(&parts));
+    let pairs = pairs_of(rt.alloc(), &parts)?;
+    assert!(rt; pairs.len() == 4 * 1_776 && sounding(&pairs) == [761, 1_649]);
     Ok(())
 }

@@ -1,6 +1,7 @@
 // The video memory as the ports leave it: examples/readback fills all of it, transfers and copies parts,
 // fills once more, and then reads all of it back.
-use crate::machine::{cartridge, drained, power_on};
+use crate::cartridges::{image_of, put};
+use crate::made::{Made, run_whole};
 use std::alloc::Global;
 use std::test::Fail;
 
@@ -34,24 +35,23 @@ fn put_reads(entries: &[u8], into: &mut Vec<u8>) -> Result<(), Fail> {
     Ok(())
 }
 
+/// All values that are read.
+fn reads_of(alloc: Global, parts: &[Made]) -> Result<Vec<u8>, Fail> {
+    let mut reads = Vec::new(alloc);
+    for part in parts {
+        put_reads(&part.entries, &mut reads)?;
+    }
+    Ok(reads)
+}
+
+/// The ends of five frames.
+static ENDS: [u32; 5] = [896_040, 1_792_080, 2_688_120, 3_584_160, 4_480_200];
+
 /// All bytes that are read, in five frames.
 fn read_back(alloc: Global) -> Result<Vec<u8>, Fail> {
-    let mut program = [0; 0xc0];
-    program[..168].copy_from_slice(&READS_BACK);
-    program[0xb0..].copy_from_slice(&SOURCE);
-    let mut machine = power_on(alloc, cartridge(alloc, 0x140, &program)?)?;
-    let mut reads = Vec::new(alloc);
-    let (first, _pairs) = drained(&mut machine, alloc, 896_040)?;
-    put_reads(&first, &mut reads)?;
-    let (second, _pairs) = drained(&mut machine, alloc, 1_792_080)?;
-    put_reads(&second, &mut reads)?;
-    let (third, _pairs) = drained(&mut machine, alloc, 2_688_120)?;
-    put_reads(&third, &mut reads)?;
-    let (fourth, _pairs) = drained(&mut machine, alloc, 3_584_160)?;
-    put_reads(&fourth, &mut reads)?;
-    let (fifth, _pairs) = drained(&mut machine, alloc, 4_480_200)?;
-    put_reads(&fifth, &mut reads)?;
-    Ok(reads)
+    let mut image = image_of(0x140, &READS_BACK);
+    put(&mut image, 0x1f0, &SOURCE);
+    reads_of(alloc, &run_whole(alloc, &image, &ENDS)?)
 }
 
 /// A fill puts the upper byte of its word, and each of its bytes at the other address of a word; the copy
@@ -72,8 +72,6 @@ fn filled() -> [u8; 65_536] {
 
 #[test]
 fn all_of_the_video_memory_is_read_back(rt: HostRuntime) -> Result<(), Fail> {
-    let reads = read_back(rt.alloc())?;
-    assert_eq!(rt; reads.len(), 65_536);
-    assert!(rt; reads.as_slice() == filled().as_slice());
+    assert!(rt; read_back(rt.alloc())?.as_slice() == filled().as_slice());
     Ok(())
 }

@@ -1,9 +1,8 @@
 // The VDP in the machine: its vertical interrupt, and a transfer by the 68000. Cycles are worked out by
 // the clocks of the M68000 User's Manual, section 8.
-use crate::machine::{cartridge, drained, power_on};
-use crate::z80::{Row, processors, records};
-use rom_header::Cart;
-use std::sync::Arc;
+use crate::accesses::{Row, first_wrong_of_all, is_told};
+use crate::cartridges::{image_of, put};
+use crate::made::run_once;
 use std::test::Fail;
 
 /// MOVE.W #8120h,C00004h, which lets the vertical interrupt through; MOVE #2000h,SR; and a branch to
@@ -18,34 +17,39 @@ const HANDLES: [u8; 10] = [0x13, 0xfc, 0x00, 0x9f, 0x00, 0xc0, 0x00, 0x11, 0x4e,
 // The branches begin at 252 and each 70 cycles behind. Line 224 begins at 766,080; the branch at
 // 766,122 finds the interrupt, which is acknowledged 28 cycles later. It takes 44 clocks, and the write
 // of the handler stands 28 cycles behind them.
-const INTERRUPT: [Row; 3] = [
+static INTERRUPT: [Row; 3] = [
     (28, 0, 3, 0xc0_0004, 0x8120),
     (766_150, 0, 4, 0, 6),
     (766_458, 0, 2, 0xc0_0011, 0x9f),
 ];
 
-#[test]
-fn a_vertical_interrupt(rt: HostRuntime) -> Result<(), Fail> {
-    let alloc = rt.alloc();
-    let mut image = [0; 512];
-    image[..8].copy_from_slice(&[0, 0xff, 0xf0, 0, 0, 0, 0x01, 0xc0]);
-    image[0x78..0x7c].copy_from_slice(&[0, 0, 0x01, 0xe0]);
-    image[0x100..0x104].copy_from_slice(b"SEGA");
-    image[0x1c0..0x1ce].copy_from_slice(&WAITS);
-    image[0x1e0..0x1ea].copy_from_slice(&HANDLES);
-    let cart = Cart::accept(alloc, image.to_vec(alloc)?)?;
-    let mut machine = power_on(alloc, Arc::new(alloc, cart)?)?;
-    let (entries, _pairs) = drained(&mut machine, alloc, 896_040)?;
-    assert!(rt; processors(alloc, &entries)?.as_slice() == records(alloc, &INTERRUPT)?.as_slice());
-    // Only the start of line 224 tells a level: the next line's comes behind the acknowledge.
-    let mut levels = Vec::new(alloc);
+/// Both programs, and the handler's address in the vectors.
+fn handled() -> [u8; 512] {
+    let mut image = image_of(0x1c0, &WAITS);
+    put(&mut image, 0x78, &[0, 0, 0x01, 0xe0]);
+    put(&mut image, 0x1e0, &HANDLES);
+    image
+}
+
+/// Whether only the start of line 224 tells a level: the next line's comes behind the acknowledge.
+fn is_only_level(entries: &[u8]) -> bool {
+    let mut told = 0_u32;
     for record in entries.chunks_exact(16) {
         if record[9] == 10 && record[15] != 0 {
-            levels.extend_from_slice(record)?;
+            if !is_told(record, &(766_080, 2, 10, 224, 6)) {
+                return false;
+            }
+            told = told.wrapping_add(1);
         }
     }
-    let line = records(alloc, &[(766_080, 2, 10, 224, 6)])?;
-    assert!(rt; levels.as_slice() == line.as_slice());
+    told == 1
+}
+
+#[test]
+fn a_vertical_interrupt(rt: HostRuntime) -> Result<(), Fail> {
+    let made = run_once(rt.alloc(), &handled(), 896_040)?;
+    assert_eq!(rt; first_wrong_of_all(&made.entries, &INTERRUPT), None);
+    assert!(rt; is_only_level(&made.entries));
     Ok(())
 }
 
@@ -62,7 +66,7 @@ const TRANSFERS: [u8; 62] = [
 // The first MOVE begins at 168; each takes 12 clocks, and its write stands 28 cycles behind its start.
 // The second control word is written at 868; the transfer begins at the instruction's end, 924, and its
 // words stand 34 cycles apart, since nothing is drawn. The 68000 goes on 28 cycles behind the last.
-const WORDS: [Row; 15] = [
+static WORDS: [Row; 15] = [
     (196, 0, 3, 0xc0_0004, 0x8f02),
     (280, 0, 3, 0xc0_0004, 0x9303),
     (364, 0, 3, 0xc0_0004, 0x9400),
@@ -82,12 +86,9 @@ const WORDS: [Row; 15] = [
 
 #[test]
 fn three_words_are_transferred(rt: HostRuntime) -> Result<(), Fail> {
-    let alloc = rt.alloc();
-    let mut program = [0; 0xb6];
-    program[..62].copy_from_slice(&TRANSFERS);
-    program[0xb0..].copy_from_slice(&[0x12, 0x34, 0x56, 0x78, 0x9a, 0xbc]);
-    let mut machine = power_on(alloc, cartridge(alloc, 0x140, &program)?)?;
-    let (entries, _pairs) = drained(&mut machine, alloc, 3_420)?;
-    assert!(rt; processors(alloc, &entries)?.as_slice() == records(alloc, &WORDS)?.as_slice());
+    let mut image = image_of(0x140, &TRANSFERS);
+    put(&mut image, 0x1f0, &[0x12, 0x34, 0x56, 0x78, 0x9a, 0xbc]);
+    let made = run_once(rt.alloc(), &image, 3_420)?;
+    assert_eq!(rt; first_wrong_of_all(&made.entries, &WORDS), None);
     Ok(())
 }
