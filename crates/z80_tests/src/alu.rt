@@ -7,15 +7,15 @@ use z80_alu::Task80::{
     Rrc, Rrca, Rrd, Sbc, Scf, Set, Sla, Sll, Sra, Srl, Sub, Test, Xor,
 };
 use z80_alu::{
-    Task80, add_pair, add_pair_with_carry, block_compared, block_loaded, block_passed, compute,
-    rld_memory, rrd_memory, special_loaded, subtract_pair_with_carry,
+    Out16, Task80, add_pair, add_pair_with_carry, block_compared, block_loaded, block_passed,
+    compute, rld_memory, rrd_memory, special_loaded, subtract_pair_with_carry,
 };
 
 // Task, accumulator, operand and flags before; value and flags after.
 type Row = (Task80, u8, u8, u8, u8, u8);
 
-// 8-bit arithmetic group
-static SUMS: [Row; 17] = [
+static ROWS: [Row; 65] = [
+    // 8-bit arithmetic group
     (Add, 0x44, 0x11, 0xff, 0x55, 0x00),
     (Add, 0x7f, 0x01, 0x00, 0x80, 0x94),
     (Add, 0xff, 0x01, 0x00, 0x00, 0x51),
@@ -33,9 +33,6 @@ static SUMS: [Row; 17] = [
     (Dec, 0xaa, 0x01, 0x00, 0x00, 0x42),
     (Dec, 0xaa, 0x00, 0x00, 0xff, 0x92),
     (Neg, 0x98, 0xaa, 0x00, 0x68, 0x13),
-];
-
-static DIFFERENCES: [Row; 12] = [
     (Sub, 0x29, 0x11, 0x00, 0x18, 0x02),
     (Sub, 0x00, 0x01, 0x00, 0xff, 0x93),
     (Sub, 0x80, 0x01, 0x00, 0x7f, 0x16),
@@ -48,10 +45,7 @@ static DIFFERENCES: [Row; 12] = [
     (Cp, 0x00, 0x80, 0x00, 0x00, 0x87),
     (Neg, 0x80, 0xaa, 0x00, 0x80, 0x87),
     (Neg, 0x00, 0xaa, 0x01, 0x00, 0x42),
-];
-
-// 8-bit arithmetic group, and bit set, reset, and test group
-static LOGIC: [Row; 11] = [
+    // 8-bit arithmetic group, and bit set, reset, and test group
     (And, 0xc3, 0x7b, 0xff, 0x43, 0x10),
     (And, 0xf0, 0x0f, 0x00, 0x00, 0x54),
     (Xor, 0x96, 0x5d, 0xff, 0xcb, 0x80),
@@ -63,10 +57,7 @@ static LOGIC: [Row; 11] = [
     (Set(Bit4), 0xaa, 0x00, 0x28, 0x10, 0x28),
     (In, 0xaa, 0x7b, 0x01, 0x7b, 0x05),
     (In, 0xaa, 0x00, 0x00, 0x00, 0x44),
-];
-
-// Rotate and shift group
-static ROTATES: [Row; 16] = [
+    // Rotate and shift group
     (Rlc, 0xaa, 0x88, 0x00, 0x11, 0x05),
     (Rlc, 0xaa, 0x00, 0x01, 0x00, 0x44),
     (Rl, 0xaa, 0x8f, 0x00, 0x1e, 0x05),
@@ -83,10 +74,7 @@ static ROTATES: [Row; 16] = [
     (Rra, 0xe1, 0xaa, 0x00, 0x70, 0x01),
     (Rld, 0x7a, 0x31, 0x01, 0x73, 0x01),
     (Rrd, 0x84, 0x20, 0x00, 0x80, 0x80),
-];
-
-// General-purpose arithmetic and CPU control groups
-static GENERAL: [Row; 9] = [
+    // General-purpose arithmetic and CPU control groups
     (Daa, 0x3c, 0xaa, 0x00, 0x42, 0x14),
     (Daa, 0x9a, 0xaa, 0x00, 0x00, 0x55),
     (Daa, 0x1b, 0xaa, 0x12, 0x15, 0x02),
@@ -98,8 +86,9 @@ static GENERAL: [Row; 9] = [
     (Ccf, 0x55, 0xaa, 0x12, 0x55, 0x01),
 ];
 
-fn holds(rt: &impl Abort, rows: &[Row]) {
-    for (task, a, b, f, value, after) in rows {
+#[test]
+fn operations_of_8_bits(rt: HostRuntime) {
+    for (task, a, b, f, value, after) in &ROWS {
         let out = compute(*task, *a, *b, *f);
         assert!(rt;
             out.value == *value && out.f == *after,
@@ -109,69 +98,73 @@ fn holds(rt: &impl Abort, rows: &[Row]) {
 }
 
 #[test]
-fn operations_of_8_bits(rt: HostRuntime) {
-    holds(&rt, &SUMS);
-    holds(&rt, &DIFFERENCES);
-    holds(&rt, &LOGIC);
-    holds(&rt, &ROTATES);
-    holds(&rt, &GENERAL);
-}
-
-#[test]
 fn digits_in_memory(rt: HostRuntime) {
-    assert_eq!(rt;
-        [rld_memory(0x7a, 0x31), rrd_memory(0x84, 0x20)],
-        [0x1a, 0x42]
-    );
+    assert!(rt; rld_memory(0x7a, 0x31) == 0x1a && rrd_memory(0x84, 0x20) == 0x42);
 }
 
-// 16-bit arithmetic group: operands and flags before, value and flags after.
+// 16-bit arithmetic group
+#[derive(Clone, Copy)]
+enum PairTask {
+    Add,
+    AddWithCarry,
+    SubtractWithCarry,
+}
+
+// Operands and flags before, value and flags after.
 type PairRow = (u16, u16, u8, u16, u8);
+
+static PAIR_SUMS: [PairRow; 3] = [
+    (0x4242, 0x1111, 0xc4, 0x5353, 0xc4),
+    (0x0fff, 0x0001, 0xff, 0x1000, 0xd4),
+    (0x8000, 0x8000, 0x00, 0x0000, 0x01),
+];
+
+static PAIR_SUMS_WITH_CARRY: [PairRow; 3] = [
+    (0x5437, 0x2222, 0x01, 0x765a, 0x00),
+    (0x7fff, 0x0000, 0x01, 0x8000, 0x94),
+    (0xffff, 0x0001, 0x00, 0x0000, 0x51),
+];
+
+static PAIR_DIFFERENCES: [PairRow; 4] = [
+    (0x9999, 0x1111, 0x01, 0x8887, 0x82),
+    (0x0000, 0x0001, 0x00, 0xffff, 0x93),
+    (0x8000, 0x0001, 0x00, 0x7fff, 0x16),
+    (0x1234, 0x1234, 0x00, 0x0000, 0x42),
+];
+
+fn compute_pair(task: PairTask, left: u16, right: u16, f: u8) -> Out16 {
+    match task {
+        PairTask::Add => add_pair(left, right, f),
+        PairTask::AddWithCarry => add_pair_with_carry(left, right, f),
+        PairTask::SubtractWithCarry => subtract_pair_with_carry(left, right, f),
+    }
+}
+
+fn hold_pairs(rt: &impl Abort, task: PairTask, rows: &[PairRow]) {
+    for (left, right, f, value, after) in rows {
+        let out = compute_pair(task, *left, *right, *f);
+        assert!(rt; out.value == *value && out.f == *after, "{left:04x}");
+    }
+}
 
 #[test]
 fn sums_of_16_bits(rt: HostRuntime) {
-    let rows: [PairRow; 3] = [
-        (0x4242, 0x1111, 0xc4, 0x5353, 0xc4),
-        (0x0fff, 0x0001, 0xff, 0x1000, 0xd4),
-        (0x8000, 0x8000, 0x00, 0x0000, 0x01),
-    ];
-    for (left, right, f, value, after) in rows {
-        let out = add_pair(left, right, f);
-        assert!(rt; out.value == value && out.f == after, "{left:04x}");
-    }
+    hold_pairs(&rt, PairTask::Add, &PAIR_SUMS);
 }
 
 #[test]
 fn sums_of_16_bits_with_carry(rt: HostRuntime) {
-    let rows: [PairRow; 3] = [
-        (0x5437, 0x2222, 0x01, 0x765a, 0x00),
-        (0x7fff, 0x0000, 0x01, 0x8000, 0x94),
-        (0xffff, 0x0001, 0x00, 0x0000, 0x51),
-    ];
-    for (left, right, f, value, after) in rows {
-        let out = add_pair_with_carry(left, right, f);
-        assert!(rt; out.value == value && out.f == after, "{left:04x}");
-    }
+    hold_pairs(&rt, PairTask::AddWithCarry, &PAIR_SUMS_WITH_CARRY);
 }
 
 #[test]
 fn differences_of_16_bits(rt: HostRuntime) {
-    let rows: [PairRow; 4] = [
-        (0x9999, 0x1111, 0x01, 0x8887, 0x82),
-        (0x0000, 0x0001, 0x00, 0xffff, 0x93),
-        (0x8000, 0x0001, 0x00, 0x7fff, 0x16),
-        (0x1234, 0x1234, 0x00, 0x0000, 0x42),
-    ];
-    for (left, right, f, value, after) in rows {
-        let out = subtract_pair_with_carry(left, right, f);
-        assert!(rt; out.value == value && out.f == after, "{left:04x}");
-    }
+    hold_pairs(&rt, PairTask::SubtractWithCarry, &PAIR_DIFFERENCES);
 }
 
 // LD A,I; LDI; CPI; INI
-#[test]
-fn flags_of_transfers(rt: HostRuntime) {
-    let flags = [
+fn flags() -> [u8; 8] {
+    [
         special_loaded(0x80, true, 0x01),
         special_loaded(0x00, false, 0xff),
         block_loaded(1, 0xff),
@@ -180,6 +173,10 @@ fn flags_of_transfers(rt: HostRuntime) {
         block_compared(0x00, 0x01, 5, 0x00),
         block_passed(0, 0x00),
         block_passed(5, 0xd5),
-    ];
-    assert_eq!(rt; flags, [0x85, 0x41, 0xc5, 0x01, 0x43, 0x96, 0x42, 0x97]);
+    ]
+}
+
+#[test]
+fn flags_of_transfers(rt: HostRuntime) {
+    assert_eq!(rt; flags(), [0x85, 0x41, 0xc5, 0x01, 0x43, 0x96, 0x42, 0x97]);
 }

@@ -22,12 +22,8 @@ use z80_exec::{Finish80, Progress80, Regs80, Step80, go};
 /// The address of the instruction.
 const START: u16 = 0x100;
 
-/// A shared access.
-#[derive(Clone, Copy, PartialEq, Eq)]
-pub enum Access {
-    Read(u16),
-    Write(u16, u8),
-}
+/// A shared access: its kind, as in a line, its address, and what is written.
+type Access = (u8, u16, u8);
 
 /// A sample, and what it is to come to.
 #[derive(Drop)]
@@ -37,11 +33,15 @@ pub struct Case {
     before: Regs80,
     after: Regs80,
     /// The shared accesses, each with its answer.
-    accesses: Vec<(Access, u8)>,
+    accesses: ArrayVec<(Access, u8), 4>,
     writes: ArrayVec<(u16, u8), 4>,
     t: u32,
     halted: bool,
     after_ei: bool,
+    /// Where the next byte of the instruction stands.
+    next: u16,
+    /// The arrow was read.
+    behind: bool,
 }
 
 /// A number in hexadecimal.
@@ -136,11 +136,11 @@ fn bytes(regs: &Regs80) -> [u8; 5] {
 }
 
 /// The access that a request asks for.
-fn access_of(request: Request80) -> Option<Access> {
+fn access_of(request: &Request80) -> Access {
     match request {
-        Request80::Read(at) => Some(Access::Read(at)),
-        Request80::Write(at, value) => Some(Access::Write(at, value)),
-        _ => None,
+        Request80::Read(at) => (b'r', *at, 0),
+        Request80::Write(at, value) => (b'w', *at, *value),
+        _ => (0, 0, 0),
     }
 }
 
@@ -160,61 +160,71 @@ pub fn cartridge(alloc: Global) -> Result<Cart, Fail> {
     Ok(Cart::accept(alloc, image)?)
 }
 
+/// The registers where nothing is said of them.
+fn registers() -> Regs80 {
+    Regs80 {
+        af: 0,
+        bc: 0x1213,
+        de: 0x1415,
+        hl: 0x1617,
+        af2: 0xa1a2,
+        bc2: 0xb1b2,
+        de2: 0xd1d2,
+        hl2: 0xe1e2,
+        ix: 0x1819,
+        iy: 0x1a1b,
+        sp: 0x1c1d,
+        pc: START,
+        i: 0,
+        r: 0,
+        iff1: false,
+        iff2: false,
+        mode: InterruptMode::Mode0,
+    }
+}
+
 impl Case {
-    /// Of a line.
-    pub fn read(alloc: Global, line: &str) -> Result<Case, Fail> {
-        let regs = Regs80 {
-            af: 0,
-            bc: 0x1213,
-            de: 0x1415,
-            hl: 0x1617,
-            af2: 0xa1a2,
-            bc2: 0xb1b2,
-            de2: 0xd1d2,
-            hl2: 0xe1e2,
-            ix: 0x1819,
-            iy: 0x1a1b,
-            sp: 0x1c1d,
-            pc: START,
-            i: 0,
-            r: 0,
-            iff1: false,
-            iff2: false,
-            mode: InterruptMode::Mode0,
-        };
-        let mut case = Case {
-            parcel: Parcel {
-                ram: Box::new(alloc, [0; 8192])?,
-                bank: 0,
-            },
+    /// Of nothing, with this RAM and bank register.
+    fn begun(parcel: Parcel) -> Case {
+        Case {
+            parcel,
             cause: 0,
-            before: regs,
-            after: regs,
-            accesses: Vec::new(alloc),
+            before: registers(),
+            after: registers(),
+            accesses: ArrayVec::new(),
             writes: ArrayVec::new(),
             t: 0,
             halted: false,
             after_ei: false,
-        };
-        let mut next = START;
-        let mut arrow = false;
+            next: START,
+            behind: false,
+        }
+    }
+
+    /// Of a line, with RAM of 00 and a bank register of 0.
+    pub fn read(parcel: Parcel, line: &str) -> Case {
+        let mut case = Case::begun(parcel);
         for token in line.split_whitespace() {
             if token == ";" {
                 break;
             }
-            if token == "->" {
-                case.begin(next);
-                arrow = true;
-            } else if arrow {
-                case.expect(token)?;
-            } else if let Some((name, value)) = token.split_once('=') {
-                case.set_up(name.as_bytes(), value.as_bytes());
-            } else {
-                case.put(next, byte(token.as_bytes()));
-                next = next.wrapping_add(1);
-            }
+            case.take(token);
         }
-        Ok(case)
+        case
+    }
+
+    /// Takes what stands next in a line.
+    fn take(&mut self, token: &str) {
+        if token == "->" {
+            self.begin();
+        } else if self.behind {
+            self.expect(token);
+        } else if let Some((name, value)) = token.split_once('=') {
+            self.set_up(name.as_bytes(), value.as_bytes());
+        } else {
+            self.put(self.next, byte(token.as_bytes()));
+            self.next = self.next.wrapping_add(1);
+        }
     }
 
     /// A byte in RAM.
@@ -233,68 +243,90 @@ impl Case {
     }
 
     /// What it comes to where nothing is said.
-    fn begin(&mut self, next: u16) {
+    fn begin(&mut self) {
+        self.behind = true;
         self.after = self.before;
         if self.cause == 0 {
-            self.after.pc = next;
+            self.after.pc = self.next;
             self.after.r = self.before.r.wrapping_add(1);
         }
     }
 
     /// What it comes to.
-    fn expect(&mut self, token: &str) -> Result<(), Fail> {
+    fn expect(&mut self, token: &str) {
         if let Some((name, value)) = token.split_once('=') {
-            return self.expect_value(name.as_bytes(), value.as_bytes());
+            self.expect_value(name.as_bytes(), value.as_bytes());
+        } else {
+            self.halted |= token == "HALT";
+            self.after_ei |= token == "EI";
         }
-        self.halted |= token == "HALT";
-        self.after_ei |= token == "EI";
-        Ok(())
     }
 
-    fn expect_value(&mut self, name: &[u8], value: &[u8]) -> Result<(), Fail> {
+    fn expect_value(&mut self, name: &[u8], value: &[u8]) {
         match name {
-            [b'.', at @ ..] => {
-                if !self.writes.is_full() {
-                    self.writes.push((number(at), byte(value)));
-                }
-            }
-            [b'r', b':', at @ ..] => {
-                self.accesses.push((Access::Read(number(at)), byte(value)))?;
-            }
-            [b'w', b':', at @ ..] => {
-                self.accesses
-                    .push((Access::Write(number(at), byte(value)), 0))?;
-            }
+            [b'.', at @ ..] => self.expect_write(number(at), byte(value)),
+            [b'r', b':', at @ ..] => self.expect_access(((b'r', number(at), 0), byte(value))),
+            [b'w', b':', at @ ..] => self.expect_access(((b'w', number(at), byte(value)), 0)),
             b"T" => self.t = decimal(value),
             name => set(&mut self.after, name, value),
         }
-        Ok(())
     }
 
-    /// Runs it with no answer, one, and so on, and says what differs.
-    pub fn differs(&self, cart: &Cart) -> Option<&'static str> {
-        let mut answers = ArrayVec::new();
-        let mut progress = Progress80::new();
-        let mut regs = self.before;
+    fn expect_write(&mut self, at: u16, value: u8) {
+        if !self.writes.is_full() {
+            self.writes.push((at, value));
+        }
+    }
+
+    fn expect_access(&mut self, access: (Access, u8)) {
+        if !self.accesses.is_full() {
+            self.accesses.push(access);
+        }
+    }
+
+    /// The access that these answers make it ask for, or none where they are enough.
+    fn asked(
+        &self,
+        cart: &Cart,
+        answers: &ArrayVec<u8, 4>,
+        regs: &mut Regs80,
+        progress: &mut Progress80,
+    ) -> Option<Access> {
+        match go(regs, cart, &self.parcel, answers, self.cause, progress) {
+            Step80::Need(request) => Some(access_of(&request)),
+            Step80::Done(_) => None,
+        }
+    }
+
+    /// Runs it with no answer, one, and so on, up to all, and says what differs.
+    fn differs_before(
+        &self,
+        cart: &Cart,
+        answers: &mut ArrayVec<u8, 4>,
+        regs: &mut Regs80,
+        progress: &mut Progress80,
+    ) -> Option<&'static str> {
         for (access, answer) in self.accesses.as_slice() {
-            match go(
-                &mut regs,
-                cart,
-                &self.parcel,
-                &answers,
-                self.cause,
-                &mut progress,
-            ) {
-                Step80::Need(request) => {
-                    if access_of(request) != Some(*access) {
-                        return Some("another request");
-                    }
-                }
-                Step80::Done(_) => return Some("a request missing"),
+            match self.asked(cart, answers, regs, progress) {
+                Some(found) if found == *access => {}
+                Some(_) => return Some("another request"),
+                None => return Some("a request missing"),
             }
             if !answers.is_full() {
                 answers.push(*answer);
             }
+        }
+        None
+    }
+
+    /// Runs it and says what differs.
+    pub fn differs(&self, cart: &Cart) -> Option<&'static str> {
+        let mut answers = ArrayVec::new();
+        let mut progress = Progress80::new();
+        let mut regs = self.before;
+        let early = self.differs_before(cart, &mut answers, &mut regs, &mut progress);
+        if early.is_some() {
+            return early;
         }
         match go(
             &mut regs,

@@ -17,26 +17,32 @@ fn power_on(alloc: Global) -> Result<Chip80, Fail> {
     Chip80::power_on(alloc, cart).map_err(|_| Fail::from("no memory"))
 }
 
-/// Takes a sample with these pins: the cycle of the next event.
+/// Takes the sample that is next, with these pins: the cycle of the event behind it, or none where no
+/// sample is next.
 #[tactic(auto, unfolding(z80_chip::specs::States::next_of))]
-fn sample(chip: &mut Chip80, pins: Pins80) -> Result<u64, Fail> {
+fn sample(chip: &mut Chip80, request: bool, reset: bool) -> Option<u64> {
     let next = chip.next();
     if !next.sample || next.key.cycle >= 1_000_000 {
-        return Err(Fail::from("no sample is next"));
+        return None;
     }
-    chip.sample(pins);
-    Ok(chip.next().key.cycle)
-}
-
-/// Pins of which only the reset is set, or none.
-fn pins(reset: bool) -> Pins80 {
-    Pins80 {
-        request: false,
+    chip.sample(Pins80 {
+        request,
         reset,
         resets: 0,
         int_from: 0,
         int_to: 0,
+    });
+    Some(chip.next().key.cycle)
+}
+
+/// The first of 23 samples in its reset behind which the next does not stand 45 cycles later.
+fn first_wrong_turn(chip: &mut Chip80) -> Option<u32> {
+    for turn in 1..24u32 {
+        if sample(chip, false, true) != Some(u64::from(turn * 45)) {
+            return Some(turn);
+        }
     }
+    None
 }
 
 // While its reset is held the Z80 samples each 45 cycles, the last time at 990. The reset is released
@@ -44,23 +50,22 @@ fn pins(reset: bool) -> Pins80 {
 #[test]
 fn released_from_its_reset(rt: HostRuntime) -> Result<(), Fail> {
     let mut chip = power_on(rt.alloc())?;
-    for turn in 1..24 {
-        assert_eq!(rt; sample(&mut chip, pins(true))?, 45 * turn);
-    }
-    assert_eq!(rt; sample(&mut chip, pins(false))?, 1_095);
+    assert_eq!(rt; first_wrong_turn(&mut chip), None);
+    assert!(rt; sample(&mut chip, false, false) == Some(1_095));
     Ok(())
+}
+
+/// Where the Z80 stands behind a sample, behind one with its bus requested, and whether a sample is next.
+fn requested(chip: &mut Chip80) -> (Option<u64>, Option<u64>, bool) {
+    let first = sample(chip, false, false);
+    let second = sample(chip, true, false);
+    (first, second, chip.next().sample)
 }
 
 // The bus is requested: the Z80 yields 60 cycles after the sample that saw it.
 #[test]
 fn yields_after_sixty_cycles(rt: HostRuntime) -> Result<(), Fail> {
     let mut chip = power_on(rt.alloc())?;
-    let requested = Pins80 {
-        request: true,
-        ..pins(false)
-    };
-    assert_eq!(rt; sample(&mut chip, pins(false))?, 60);
-    assert_eq!(rt; sample(&mut chip, requested)?, 120);
-    assert!(rt; !chip.next().sample);
+    assert!(rt; requested(&mut chip) == (Some(60), Some(120), false));
     Ok(())
 }

@@ -4,20 +4,29 @@
 // profile. Flags are S, Z, H, P/V, N and C as bits 7, 6, 4, 2, 1 and 0. The form of a line stands in
 // case.rt.
 use crate::case::{Case, cartridge};
-use md_word::Parcel;
 use rom_header::Cart;
 use std::alloc::Global;
 use std::test::Fail;
+use z80_decode::InterruptMode;
 use z80_exec::Regs80;
-use z80_parcel::store;
+use z80_parcel::{first, store};
 
-/// Runs the lines of a table.
-fn hold(alloc: Global, cart: &Cart, table: &str) -> Result<(), Fail> {
-    for line in table.lines() {
-        if line.contains("->") {
-            let case = Case::read(alloc, line)?;
-            if let Some(other) = case.differs(cart) {
-                return Err(Fail::from(format!(in alloc; "{other}: {line}")?));
+/// Runs a line.
+fn hold_line(alloc: Global, cart: &Cart, line: &str) -> Result<(), Fail> {
+    let parcel = first(alloc).map_err(|_| Fail::from("no memory"))?;
+    match Case::read(parcel, line).differs(cart) {
+        Some(other) => Err(Fail::from(format!(in alloc; "{other}: {line}")?)),
+        None => Ok(()),
+    }
+}
+
+/// Runs the lines of tables.
+fn hold(alloc: Global, tables: &[&str]) -> Result<(), Fail> {
+    let cart = cartridge(alloc)?;
+    for table in tables {
+        for line in table.lines() {
+            if line.contains("->") {
+                hold_line(alloc, &cart, line)?;
             }
         }
     }
@@ -287,37 +296,22 @@ CAUSE=1 IM=2 I=FF BANK=1FF SP=1000 @0000=12 -> .0FFF=01 .0FFE=00 SP=0FFE PC=12FF
 
 #[test]
 fn loads_and_blocks(rt: HostRuntime) -> Result<(), Fail> {
-    let cart = cartridge(rt.alloc())?;
-    hold(rt.alloc(), &cart, BYTES)?;
-    hold(rt.alloc(), &cart, WORDS)?;
-    hold(rt.alloc(), &cart, BLOCKS)?;
-    Ok(())
+    hold(rt.alloc(), &[BYTES, WORDS, BLOCKS])
 }
 
 #[test]
 fn operations(rt: HostRuntime) -> Result<(), Fail> {
-    let cart = cartridge(rt.alloc())?;
-    hold(rt.alloc(), &cart, ARITHMETIC)?;
-    hold(rt.alloc(), &cart, GENERAL)?;
-    hold(rt.alloc(), &cart, PAIRS)?;
-    hold(rt.alloc(), &cart, BITS)?;
-    Ok(())
+    hold(rt.alloc(), &[ARITHMETIC, GENERAL, PAIRS, BITS])
 }
 
 #[test]
 fn control_and_interrupts(rt: HostRuntime) -> Result<(), Fail> {
-    let cart = cartridge(rt.alloc())?;
-    hold(rt.alloc(), &cart, JUMPS)?;
-    hold(rt.alloc(), &cart, CALLS)?;
-    hold(rt.alloc(), &cart, PORTS)?;
-    hold(rt.alloc(), &cart, FETCHES)?;
-    hold(rt.alloc(), &cart, INTERRUPTS)?;
-    Ok(())
+    hold(rt.alloc(), &[JUMPS, CALLS, PORTS, FETCHES, INTERRUPTS])
 }
 
 // Nine writes set the bank register, A15 first; a write elsewhere is lost, and one above the RAM's
 // first 8 KiB is seen below.
-const BANK_WRITES: [(u16, u8); 11] = [
+static BANK_WRITES: [(u16, u8); 11] = [
     (0x6000, 0x01),
     (0x60ff, 0xfe),
     (0x6000, 0xff),
@@ -333,18 +327,16 @@ const BANK_WRITES: [(u16, u8); 11] = [
 
 #[test]
 fn nine_writes_set_the_bank(rt: HostRuntime) -> Result<(), Fail> {
-    let mut parcel = Parcel {
-        ram: Box::new(rt.alloc(), [0; 8192])?,
-        bank: 0x0ff,
-    };
+    let mut parcel = first(rt.alloc()).map_err(|_| Fail::from("no memory"))?;
+    parcel.bank = 0x0ff;
     store(&BANK_WRITES, &mut parcel);
-    assert_eq!(rt; (parcel.bank, parcel.ram[5]), (0x155, 0xa5));
+    assert!(rt; parcel.bank == 0x155 && parcel.ram[5] == 0xa5);
     Ok(())
 }
 
-#[test]
-fn a_reset_sets_the_registers(rt: HostRuntime) -> Result<(), Fail> {
-    let mut regs = Regs80 {
+/// Registers of which none is as after a reset.
+fn set() -> Regs80 {
+    Regs80 {
         af: 1,
         bc: 2,
         de: 3,
@@ -361,16 +353,29 @@ fn a_reset_sets_the_registers(rt: HostRuntime) -> Result<(), Fail> {
         r: 14,
         iff1: true,
         iff2: true,
-        mode: z80_decode::InterruptMode::Mode2,
-    };
+        mode: InterruptMode::Mode2,
+    }
+}
+
+/// The eight that a reset is to set, of which six are numbers.
+fn shown(regs: &Regs80) -> ([u16; 6], [bool; 2]) {
+    (
+        [
+            regs.af,
+            regs.hl2,
+            regs.sp,
+            regs.pc,
+            u16::from(regs.i),
+            u16::from(regs.r),
+        ],
+        [regs.iff1, regs.iff2],
+    )
+}
+
+#[test]
+fn a_reset_sets_the_registers(rt: HostRuntime) {
+    let mut regs = set();
     regs.reset();
-    assert_eq!(rt;
-        (regs.af, regs.hl2, regs.sp, regs.pc),
-        (0xffff, 0xffff, 0xffff, 0)
-    );
-    assert_eq!(rt;
-        (regs.i, regs.r, regs.iff1, regs.iff2),
-        (0, 0, false, false)
-    );
-    Ok(())
+    let want = ([0xffff, 0xffff, 0xffff, 0, 0, 0], [false, false]);
+    assert!(rt; shown(&regs) == want);
 }

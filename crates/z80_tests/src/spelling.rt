@@ -4,53 +4,66 @@
 use crate::case::cartridge;
 use md_word::{Pins80, Request80, Unspell};
 use std::alloc::Global;
+use std::process::Abort;
 use std::sync::Arc;
 use std::test::Fail;
 use z80_chip::Chip80;
 
 const LENGTH: usize = 8_256;
 
-/// Where RAM begins, and how many bytes keep a Z80 that has none.
-const RAM: usize = 62;
+/// How many bytes keep a Z80 that has no RAM.
+const BARE: usize = 62;
 
-/// LD A,(4000h), a read.
-const LOAD: [u8; 3] = [0x3a, 0x00, 0x40];
+/// A place, and the bytes that stand from there on.
+type Piece = (usize, &'static [u8]);
 
-/// LD HL,(4000h), two reads.
-const LOAD_PAIR: [u8; 3] = [0x2a, 0x00, 0x40];
+// A Z80 at a sample at 1,000, with LD A,(4000h), a read, at 0000h; all else is 0.
+static SAMPLE: [Piece; 3] = [
+    (6, &[0x03, 0xe8]),
+    (15, &[0x03, 0xe8]),
+    (62, &[0x3a, 0x00, 0x40]),
+];
 
-/// LD (4000h),HL, two writes.
-const STORE_PAIR: [u8; 3] = [0x22, 0x00, 0x40];
+// The same at its access, at 1,060.
+static ACCESS: [Piece; 4] = [
+    (6, &[0x04, 0x24]),
+    (8, &[1]),
+    (15, &[0x03, 0xe8]),
+    (62, &[0x3a, 0x00, 0x40]),
+];
 
-/// A Z80 at a sample at 1,000, with this instruction at 0000h; all else is 0.
-fn at_sample(instruction: &[u8; 3]) -> [u8; LENGTH] {
-    let mut bytes = [0; LENGTH];
-    bytes[6] = 0x03;
-    bytes[7] = 0xe8;
-    bytes[15] = 0x03;
-    bytes[16] = 0xe8;
-    bytes[62] = instruction[0];
-    bytes[63] = instruction[1];
-    bytes[64] = instruction[2];
-    bytes
+// LD HL,(4000h), two reads, at its second access, at 1,105, with the answer 5Ah to the first.
+static SECOND_READ: [Piece; 5] = [
+    (6, &[0x04, 0x51]),
+    (8, &[1]),
+    (15, &[0x03, 0xe8]),
+    (57, &[1, 0x5a]),
+    (62, &[0x2a, 0x00, 0x40]),
+];
+
+// LD (4000h),HL, two writes, at its second access, at 1,105, with the answer 0 to the first.
+static SECOND_WRITE: [Piece; 5] = [
+    (6, &[0x04, 0x51]),
+    (8, &[1]),
+    (15, &[0x03, 0xe8]),
+    (57, &[1]),
+    (62, &[0x22, 0x00, 0x40]),
+];
+
+/// Puts pieces at their places.
+fn put(bytes: &mut [u8], pieces: &[Piece]) {
+    for (place, values) in pieces {
+        for (byte, value) in bytes.iter_mut().skip(*place).zip(*values) {
+            *byte = *value;
+        }
+    }
 }
 
-/// The same at its first access, at 1,060.
-fn at_first_access(instruction: &[u8; 3]) -> [u8; LENGTH] {
-    let mut bytes = at_sample(instruction);
-    bytes[6] = 0x04;
-    bytes[7] = 0x24;
-    bytes[8] = 1;
-    bytes
-}
-
-/// The same at its second access, at 1,105, with the answer to the first.
-fn at_second_access(instruction: &[u8; 3], answer: u8) -> [u8; LENGTH] {
-    let mut bytes = at_first_access(instruction);
-    bytes[7] = 0x51;
-    bytes[57] = 1;
-    bytes[58] = answer;
-    bytes
+/// A Z80 of these pieces.
+fn state(alloc: Global, pieces: &[Piece]) -> Result<Vec<u8>, Fail> {
+    let mut bytes = vec![in alloc; 0; LENGTH]?;
+    put(&mut bytes, pieces);
+    Ok(bytes)
 }
 
 /// The Z80 that the bytes keep.
@@ -67,10 +80,132 @@ fn spelled(alloc: Global, chip: &Chip80, at: u64) -> Result<Vec<u8>, Fail> {
     Ok(bytes)
 }
 
-/// The first so many bytes.
-fn first(bytes: &[u8; LENGTH], length: usize) -> &[u8] {
-    bytes.get(..length).unwrap_or(&[])
+/// Whether the Z80 that the bytes keep is spelled so.
+fn is_again(alloc: Global, bytes: &[u8], at: u64) -> Result<bool, Fail> {
+    let chip = kept(alloc, bytes, at)?;
+    Ok(spelled(alloc, &chip, at)?.as_slice() == bytes)
 }
+
+/// Whether a Z80 is spelled so, and the one that is read of its bytes too.
+fn is_spelled(alloc: Global, chip: &Chip80, at: u64, want: &[u8]) -> Result<bool, Fail> {
+    Ok(spelled(alloc, chip, at)?.as_slice() == want && is_again(alloc, want, at)?)
+}
+
+/// The Z80 at power-on.
+fn power_on(alloc: Global) -> Result<Chip80, Fail> {
+    let cart = Arc::new(alloc, cartridge(alloc)?)?;
+    Chip80::power_on(alloc, cart).map_err(|_| Fail::from("no memory"))
+}
+
+// At power-on all is 0 and the Z80 has its RAM.
+#[test]
+fn power_on_is_spelled(rt: HostRuntime) -> Result<(), Fail> {
+    let chip = power_on(rt.alloc())?;
+    assert!(rt; is_spelled(rt.alloc(), &chip, 0, &[0; LENGTH])?);
+    Ok(())
+}
+
+/// Begins the instruction that is next, where it is next.
+#[tactic(auto, unfolding(z80_chip::specs::States::next_of))]
+fn begins(chip: &mut Chip80) -> bool {
+    let next = chip.next();
+    if !next.sample || next.key.cycle >= 1_001 {
+        return false;
+    }
+    chip.sample(Pins80 {
+        request: false,
+        reset: false,
+        resets: 0,
+        int_from: 0,
+        int_to: 0,
+    });
+    true
+}
+
+// LD A,(4000h) begins at 1,000, and its read stands 60 cycles later.
+#[test]
+fn an_access_is_spelled(rt: HostRuntime) -> Result<(), Fail> {
+    let mut chip = kept(rt.alloc(), &state(rt.alloc(), &SAMPLE)?, 1_000)?;
+    let begun = begins(&mut chip);
+    let want = state(rt.alloc(), &ACCESS)?;
+    assert!(rt; begun && is_spelled(rt.alloc(), &chip, 1_001, &want)?);
+    Ok(())
+}
+
+/// The cycle of the read that is next and its address, where a read is next.
+#[tactic(auto, unfolding(z80_chip::specs::States::next_of))]
+fn read_of(chip: &mut Chip80) -> Option<(u64, u16)> {
+    let next = chip.next();
+    if next.sample {
+        return None;
+    }
+    match chip.request() {
+        Request80::Read(at) => Some((next.key.cycle, at)),
+        _ => None,
+    }
+}
+
+// Amid LD HL,(4000h), with the answer to its first read, the second read is asked for.
+#[test]
+fn a_second_access_is_asked_for(rt: HostRuntime) -> Result<(), Fail> {
+    let bytes = state(rt.alloc(), &SECOND_READ)?;
+    assert!(rt; is_again(rt.alloc(), &bytes, 1_061)?);
+    let mut chip = kept(rt.alloc(), &bytes, 1_061)?;
+    assert!(rt; read_of(&mut chip) == Some((1_105, 0x4001)));
+    Ok(())
+}
+
+/// What is changed, how many bytes there are, the cycle of the state, and the place of the refusal.
+type Row = (Piece, usize, u32, Option<u64>);
+
+// Each rule of a number broken once, at a sample.
+static AT_A_SAMPLE: [Row; 13] = [
+    ((4, &[1]), LENGTH, 1_000, Some(0)),
+    ((8, &[4]), LENGTH, 1_000, Some(8)),
+    ((16, &[0xe9]), LENGTH, 1_000, Some(9)),
+    ((43, &[2]), LENGTH, 1_000, Some(43)),
+    ((44, &[2]), LENGTH, 1_000, Some(44)),
+    ((45, &[3]), LENGTH, 1_000, Some(45)),
+    ((46, &[2]), LENGTH, 1_000, Some(46)),
+    ((47, &[2]), LENGTH, 1_000, Some(47)),
+    ((56, &[1]), LENGTH, 1_000, Some(56)),
+    ((57, &[1]), LENGTH, 1_000, Some(57)),
+    ((61, &[1]), LENGTH, 1_000, Some(57)),
+    ((8_254, &[2]), LENGTH, 1_000, Some(8_254)),
+    ((0, &[]), LENGTH, 1_001, Some(0)),
+];
+
+// The same at an access: the start is to be below the cycle of the state, and the instruction is to ask
+// for one more access.
+static AT_AN_ACCESS: [Row; 5] = [
+    ((0, &[]), LENGTH, 1_000, Some(9)),
+    ((56, &[2]), LENGTH, 1_001, Some(56)),
+    ((7, &[0x25]), LENGTH, 1_001, Some(57)),
+    ((57, &[4]), LENGTH, 1_001, Some(57)),
+    ((62, &[0x00]), LENGTH, 1_001, Some(62)),
+];
+
+// The answer to a write is to be 0.
+static AT_A_WRITE: [Row; 2] = [
+    ((58, &[0]), LENGTH, 1_001, None),
+    ((58, &[1]), LENGTH, 1_001, Some(62)),
+];
+
+// By the stage at an access. A yield, which is stage 2, has its RAM, and a take, which is stage 3, has
+// none; other lengths are wrong.
+static STAGES: [Row; 11] = [
+    ((8, &[1]), BARE, 1_001, Some(62)),
+    ((8, &[1]), LENGTH, 1_001, None),
+    ((8, &[2]), BARE, 1_001, Some(62)),
+    ((8, &[2]), LENGTH, 1_001, None),
+    ((8, &[3]), BARE, 1_001, None),
+    ((8, &[3]), LENGTH, 1_001, Some(62)),
+    ((8, &[3]), 0, 1_001, Some(0)),
+    ((8, &[3]), 61, 1_001, Some(61)),
+    ((8, &[3]), 63, 1_001, Some(63)),
+    ((8, &[3]), 8_255, 1_001, Some(8_255)),
+    ((0, &[0; 65]), 8_300, 1_001, Some(8_256)),
+];
 
 /// The place at which the bytes are refused.
 fn place_of(alloc: Global, bytes: &[u8], at: u64) -> Result<Option<u64>, Fail> {
@@ -82,146 +217,35 @@ fn place_of(alloc: Global, bytes: &[u8], at: u64) -> Result<Option<u64>, Fail> {
     }
 }
 
-/// The place at which the bytes are refused once one of them is changed.
-fn place_with(
-    alloc: Global,
-    bytes: &[u8; LENGTH],
-    change: (usize, u8),
-    at: u64,
-) -> Result<Option<u64>, Fail> {
-    let mut changed = *bytes;
-    if let Some(byte) = changed.get_mut(change.0) {
-        *byte = change.1;
-    }
-    place_of(alloc, &changed, at)
+/// Whether a row's change of these pieces is refused where the row says.
+fn is_refused(alloc: Global, pieces: &[Piece], row: &Row) -> Result<bool, Fail> {
+    let (change, length, at, place) = row;
+    let mut bytes = state(alloc, pieces)?;
+    put(&mut bytes, &[*change]);
+    bytes.resize(*length, 0)?;
+    Ok(place_of(alloc, &bytes, u64::from(*at))? == *place)
 }
 
-// At power-on all is 0 and the Z80 has its RAM.
-#[test]
-fn power_on_is_spelled(rt: HostRuntime) -> Result<(), Fail> {
-    let cart = Arc::new(rt.alloc(), cartridge(rt.alloc())?)?;
-    let chip = Chip80::power_on(rt.alloc(), cart).map_err(|_| Fail::from("no memory"))?;
-    let bytes = spelled(rt.alloc(), &chip, 0)?;
-    assert_eq!(rt; bytes.as_slice(), [0; LENGTH].as_slice());
-    let again = kept(rt.alloc(), &bytes, 0)?;
-    assert_eq!(rt;
-        spelled(rt.alloc(), &again, 0)?.as_slice(),
-        [0; LENGTH].as_slice()
-    );
+/// Asserts that each row's change of these pieces is refused where the row says.
+fn hold(rt: &impl Abort, alloc: Global, pieces: &[Piece], rows: &[Row]) -> Result<(), Fail> {
+    for (number, row) in rows.iter().enumerate() {
+        assert!(rt; is_refused(alloc, pieces, row)?, "row {number}");
+    }
     Ok(())
 }
 
-// LD A,(4000h) begins at 1,000, and its read stands 60 cycles later.
-#[test]
-#[tactic(auto, unfolding(z80_chip::specs::States::next_of))]
-fn an_access_is_spelled(rt: HostRuntime) -> Result<(), Fail> {
-    let mut chip = kept(rt.alloc(), &at_sample(&LOAD), 1_000)?;
-    let next = chip.next();
-    if !next.sample || next.key.cycle >= 1_001 {
-        return Err(Fail::from("no sample is next"));
-    }
-    chip.sample(Pins80 {
-        request: false,
-        reset: false,
-        resets: 0,
-        int_from: 0,
-        int_to: 0,
-    });
-    let bytes = spelled(rt.alloc(), &chip, 1_001)?;
-    assert_eq!(rt; bytes.as_slice(), at_first_access(&LOAD).as_slice());
-    let again = kept(rt.alloc(), &bytes, 1_001)?;
-    assert_eq!(rt;
-        spelled(rt.alloc(), &again, 1_001)?.as_slice(),
-        at_first_access(&LOAD).as_slice()
-    );
-    Ok(())
-}
-
-// Amid LD HL,(4000h), with the answer to its first read, the second read is asked for.
-#[test]
-#[tactic(auto, unfolding(z80_chip::specs::States::next_of))]
-fn a_second_access_is_asked_for(rt: HostRuntime) -> Result<(), Fail> {
-    let mut chip = kept(rt.alloc(), &at_second_access(&LOAD_PAIR, 0x5a), 1_061)?;
-    let bytes = spelled(rt.alloc(), &chip, 1_061)?;
-    assert_eq!(rt;
-        bytes.as_slice(),
-        at_second_access(&LOAD_PAIR, 0x5a).as_slice()
-    );
-    let next = chip.next();
-    if next.sample {
-        return Err(Fail::from("no access is next"));
-    }
-    assert_eq!(rt; next.key.cycle, 1_105);
-    assert!(rt; matches!(chip.request(), Request80::Read(0x4001)));
-    Ok(())
-}
-
-// Each rule of a number broken once, at a sample.
 #[test]
 fn rules_at_a_sample(rt: HostRuntime) -> Result<(), Fail> {
-    let rows = [
-        (4, 1, 0),
-        (8, 4, 8),
-        (16, 0xe9, 9),
-        (43, 2, 43),
-        (44, 2, 44),
-        (45, 3, 45),
-        (46, 2, 46),
-        (47, 2, 47),
-        (56, 1, 56),
-        (57, 1, 57),
-        (61, 1, 57),
-        (8_254, 2, 8_254),
-    ];
-    let bytes = at_sample(&LOAD);
-    for (offset, value, place) in rows {
-        assert_eq!(rt;
-            place_with(rt.alloc(), &bytes, (offset, value), 1_000)?,
-            Some(place)
-        );
-    }
-    assert_eq!(rt; place_of(rt.alloc(), &bytes, 1_001)?, Some(0));
-    Ok(())
+    hold(&rt, rt.alloc(), &SAMPLE, &AT_A_SAMPLE)
 }
 
-// The same at an access: the start is to be below the cycle of the state; the instruction is to ask for
-// one more access; and the answer to a write is to be 0.
 #[test]
 fn rules_at_an_access(rt: HostRuntime) -> Result<(), Fail> {
-    let bytes = at_first_access(&LOAD);
-    assert_eq!(rt; place_of(rt.alloc(), &bytes, 1_000)?, Some(9));
-    for (offset, value, place) in [(56, 2, 56), (7, 0x25, 57), (57, 4, 57), (62, 0x00, 62)] {
-        assert_eq!(rt;
-            place_with(rt.alloc(), &bytes, (offset, value), 1_001)?,
-            Some(place)
-        );
-    }
-    for (answer, place) in [(0, None), (1, Some(62))] {
-        let stored = at_second_access(&STORE_PAIR, answer);
-        assert_eq!(rt; place_of(rt.alloc(), &stored, 1_001)?, place);
-    }
-    Ok(())
+    hold(&rt, rt.alloc(), &ACCESS, &AT_AN_ACCESS)?;
+    hold(&rt, rt.alloc(), &SECOND_WRITE, &AT_A_WRITE)
 }
 
-// A yield has its RAM, and a take has none; other lengths are wrong.
 #[test]
 fn ram_goes_with_the_stage(rt: HostRuntime) -> Result<(), Fail> {
-    let mut bytes = at_first_access(&LOAD);
-    for (stage, short, long) in [
-        (1, Some(62), None),
-        (2, Some(62), None),
-        (3, None, Some(62)),
-    ] {
-        bytes[8] = stage;
-        assert_eq!(rt; place_of(rt.alloc(), first(&bytes, RAM), 1_001)?, short);
-        assert_eq!(rt; place_of(rt.alloc(), &bytes, 1_001)?, long);
-    }
-    for (length, place) in [(0, 0), (61, 61), (63, 63), (8_255, 8_255)] {
-        assert_eq!(rt;
-            place_of(rt.alloc(), first(&bytes, length), 1_001)?,
-            Some(place)
-        );
-    }
-    assert_eq!(rt; place_of(rt.alloc(), &[0; 8_300], 1_001)?, Some(8_256));
-    Ok(())
+    hold(&rt, rt.alloc(), &ACCESS, &STAGES)
 }
