@@ -1,23 +1,27 @@
 use rom_header::{Cart, CartFault};
-use std::alloc::{AllocError, Global};
+use std::alloc::Global;
 use std::test::Fail;
 
-/// A file of so many bytes, each 5Ah but for the console's mark at this place.
-fn file(alloc: Global, length: usize, place: usize) -> Result<Vec<u8>, AllocError> {
-    let mut bytes = vec![in alloc; 0x5a; length]?;
-    let mut at = place;
-    for letter in b"SEGA" {
-        if at < bytes.len() {
-            bytes[at] = *letter;
-            at += 1;
-        }
+/// Writes a field at a place, as far as there is room.
+fn write(bytes: &mut [u8], place: usize, field: &[u8]) {
+    for (byte, value) in bytes.iter_mut().skip(place).zip(field) {
+        *byte = *value;
     }
+}
+
+/// A file of so many bytes, each 5Ah but for the console's mark at this place.
+fn file(alloc: Global, length: usize, place: usize) -> Result<Vec<u8>, Fail> {
+    let mut bytes = vec![in alloc; 0x5a; length]?;
+    write(&mut bytes, place, b"SEGA");
     Ok(bytes)
 }
 
+/// A file's length, the place of its mark, and why it is refused.
+type Row = (usize, usize, Option<CartFault>);
+
 // The least length and the greatest, with one less and one more of each, and the places beside those
 // of the mark.
-const ROWS: [(usize, usize, Option<CartFault>); 9] = [
+static ROWS: [Row; 9] = [
     (511, 0x100, Some(CartFault::Short)),
     (512, 0x100, None),
     (513, 0x100, None),
@@ -29,30 +33,31 @@ const ROWS: [(usize, usize, Option<CartFault>); 9] = [
     (513, 0x102, Some(CartFault::NoMark)),
 ];
 
-// An accepted image is the file, with one 00 behind it where its length is odd.
+/// Whether an image is that of a file: the file, with one 00 behind it where its length is odd.
+fn is_image(image: &[u8], file: &[u8]) -> bool {
+    let padding: &[u8] = if file.len() % 2 == 1 { &[0] } else { &[] };
+    image.get(..file.len()) == Some(file) && image.get(file.len()..) == Some(padding)
+}
+
+/// Whether a file is refused as its row says, or accepted with its image.
+fn is_accepted(alloc: Global, row: &Row) -> Result<bool, Fail> {
+    let (length, place, want) = *row;
+    match Cart::accept(alloc, file(alloc, length, place)?) {
+        Ok(cart) => Ok(want.is_none() && is_image(cart.bytes(), &file(alloc, length, place)?)),
+        Err(fault) => Ok(want == Some(fault)),
+    }
+}
+
 #[test]
 fn cartridges_of_each_length(rt: HostRuntime) -> Result<(), Fail> {
-    for (length, place, want) in ROWS {
-        let bytes = file(rt.alloc(), length, place)?;
-        let mut image = bytes.clone()?;
-        if length % 2 == 1 {
-            image.push(0).map_err(|_| Fail::from("no memory"))?;
-        }
-        let fault = match Cart::accept(rt.alloc(), bytes) {
-            Ok(cart) => {
-                assert!(rt; cart.bytes() == image.as_slice());
-                None
-            }
-            Err(fault) => Some(fault),
-        };
-        assert_eq!(rt; fault, want, "{length}");
+    for row in &ROWS {
+        assert!(rt; is_accepted(rt.alloc(), row)?, "{} {}", row.0, row.1);
     }
     Ok(())
 }
 
 /// A header's fields and what stands behind it, in a file of so many bytes that are otherwise 00 but
 /// for the mark at 101h, and its lines.
-#[derive(Clone, Copy)]
 struct Header {
     length: usize,
     domestic: &'static [u8],
@@ -67,7 +72,7 @@ struct Header {
 // Worked out by hand: 48 bytes at 120h and at 150h, 14 at 180h, a word at 18Eh, 3 bytes at 1F0h. The
 // words from 200h on are 12h 00h, where 00h is the padding; FFFFh and 0002h, whose sum is 10001h; and
 // 8000h twice, whose sum is 10000h.
-const HEADERS: [Header; 4] = [
+static HEADERS: [Header; 4] = [
     Header {
         length: 512,
         domestic: b"",
@@ -114,33 +119,37 @@ const HEADERS: [Header; 4] = [
     },
 ];
 
-/// Writes a field of at most so many bytes.
-fn write_field(file: &mut Vec<u8>, place: usize, most: usize, field: &[u8]) {
-    let mut at = place;
-    let mut left = most;
-    for byte in field {
-        if at < file.len() && left > 0 {
-            file[at] = *byte;
-            at += 1;
-            left -= 1;
-        }
+/// A field's place, the most bytes of it, and what is written there.
+type Field<'a> = (usize, usize, &'a [u8]);
+
+/// The file of a header.
+fn file_of(alloc: Global, header: &Header) -> Result<Vec<u8>, Fail> {
+    let mut file = vec![in alloc; 0; header.length]?;
+    let fields: [Field; 7] = [
+        (0x101, 4, b"SEGA"),
+        (0x120, 48, header.domestic),
+        (0x150, 48, header.overseas),
+        (0x180, 14, header.serial),
+        (0x18e, 2, &header.checksum),
+        (0x1f0, 3, header.region),
+        (0x200, 4, header.body),
+    ];
+    for (place, most, field) in &fields {
+        write(&mut file, *place, field.get(..*most).unwrap_or(field));
     }
+    Ok(file)
+}
+
+/// Whether the lines of a header's file are those that it says.
+fn is_told(alloc: Global, header: &Header) -> Result<bool, Fail> {
+    let cart = Cart::accept(alloc, file_of(alloc, header)?)?;
+    Ok(cart.info(alloc)?.as_slice() == header.lines.as_bytes())
 }
 
 #[test]
 fn headers_are_told(rt: HostRuntime) -> Result<(), Fail> {
-    for header in HEADERS {
-        let mut file = vec![in rt.alloc(); 0; header.length]?;
-        write_field(&mut file, 0x101, 4, b"SEGA");
-        write_field(&mut file, 0x120, 48, header.domestic);
-        write_field(&mut file, 0x150, 48, header.overseas);
-        write_field(&mut file, 0x180, 14, header.serial);
-        write_field(&mut file, 0x18e, 2, &header.checksum);
-        write_field(&mut file, 0x1f0, 3, header.region);
-        write_field(&mut file, 0x200, 4, header.body);
-        let cart = Cart::accept(rt.alloc(), file).map_err(|_| Fail::from("not accepted"))?;
-        let lines = cart.info(rt.alloc())?;
-        assert_eq!(rt; lines.as_slice(), header.lines.as_bytes());
+    for header in &HEADERS {
+        assert!(rt; is_told(rt.alloc(), header)?, "{}", header.length);
     }
     Ok(())
 }

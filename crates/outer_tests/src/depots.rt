@@ -39,6 +39,16 @@ fn is_fetched<D: Depot>(alloc: Global, depot: &mut D, row: &Row) -> bool {
     }
 }
 
+/// The first of the rows, each as far as the ones before it have gone, whose fetch gives something else.
+fn first_wrong<D: Depot>(alloc: Global, depot: &mut D, rows: &[Row]) -> Option<usize> {
+    for (number, row) in rows.iter().enumerate() {
+        if !is_fetched(alloc, depot, row) {
+            return Some(number);
+        }
+    }
+    None
+}
+
 /// Puts two pieces, by the bound alone.
 fn put_both<S: Sink>(sink: &mut S, first: &[u8], second: &[u8]) -> Result<(), Failed> {
     sink.put(first)?;
@@ -71,9 +81,7 @@ fn a_depot_in_memory_fetches_what_it_holds(rt: HostRuntime) -> Result<(), Fail> 
         ("gam", 3, Err(Fetch::Failed)),
     ];
     let mut depot = with_game(rt.alloc())?;
-    for row in &rows {
-        assert!(rt; is_fetched(rt.alloc(), &mut depot, row));
-    }
+    assert_eq!(rt; first_wrong(rt.alloc(), &mut depot, &rows), None);
     assert!(rt; depot.file("gam").is_none());
     Ok(())
 }
@@ -91,11 +99,32 @@ fn a_begun_file_hides_the_one_that_was_given(rt: HostRuntime) -> Result<(), Fail
 fn a_depot_in_memory_appends_up_to_its_room(rt: HostRuntime) -> Result<(), Fail> {
     let mut depot = empty(rt.alloc(), &[2])?;
     let number = write_file(rt.alloc(), &mut depot, "sound", &[1, 2, 3])?;
-    assert!(rt; !is_appended(&mut depot, number, &[4]));
-    assert!(rt; !is_appended(&mut depot, number, &[4, 5]));
-    assert!(rt; is_appended(&mut depot, number, &[4]));
-    assert_eq!(rt; depot.file("sound").unwrap_or(&[]), [1, 2, 3, 4].as_slice());
+    let appended = [
+        is_appended(&mut depot, number, &[4]),
+        is_appended(&mut depot, number, &[4, 5]),
+        is_appended(&mut depot, number, &[4]),
+    ];
+    assert!(rt; appended == [false, false, true]);
+    assert!(rt; depot.file("sound") == Some([1, 2, 3, 4].as_slice()));
     Ok(())
+}
+
+/// A begin's name, and what it answers.
+type Begun = (&'static str, Result<u32, Begin>);
+
+/// The first of the begins, one behind another, that answers something else.
+fn first_wrong_begin(alloc: Global, depot: &mut MemDepot, rows: &[Begun]) -> Option<usize> {
+    for (number, (name, want)) in rows.iter().enumerate() {
+        if depot.begin(alloc, name) != *want {
+            return Some(number);
+        }
+    }
+    None
+}
+
+/// How many bytes a file has, where it is held.
+fn length_of(depot: &MemDepot, name: &str) -> Option<usize> {
+    depot.file(name).map(|bytes| bytes.len())
 }
 
 // The third call is told to fail, and changes nothing.
@@ -103,58 +132,69 @@ fn a_depot_in_memory_appends_up_to_its_room(rt: HostRuntime) -> Result<(), Fail>
 fn a_depot_in_memory_begins_a_file_again(rt: HostRuntime) -> Result<(), Fail> {
     let mut depot = empty(rt.alloc(), &[2])?;
     let number = write_file(rt.alloc(), &mut depot, "sound", &[1, 2, 3])?;
-    for (want, length) in [(Err(Begin::Failed), 3), (Ok(number), 0)] {
-        assert_eq!(rt; depot.begin(rt.alloc(), "sound"), want);
-        assert_eq!(rt; depot.file("sound").map_or(9, |bytes| bytes.len()), length);
-    }
+    let refused = depot.begin(rt.alloc(), "sound") == Err(Begin::Failed);
+    assert!(rt; refused && length_of(&depot, "sound") == Some(3));
+    let begun = depot.begin(rt.alloc(), "sound") == Ok(number);
+    assert!(rt; begun && length_of(&depot, "sound") == Some(0));
     Ok(())
 }
 
+static NAMES: [Begun; 18] = [
+    ("a", Ok(0)),
+    ("b", Ok(1)),
+    ("c", Ok(2)),
+    ("d", Ok(3)),
+    ("e", Ok(4)),
+    ("f", Ok(5)),
+    ("g", Ok(6)),
+    ("h", Ok(7)),
+    ("i", Err(Begin::Failed)),
+    ("a", Ok(0)),
+    ("b", Ok(1)),
+    ("c", Ok(2)),
+    ("d", Ok(3)),
+    ("e", Ok(4)),
+    ("f", Ok(5)),
+    ("g", Ok(6)),
+    ("h", Ok(7)),
+    ("i", Err(Begin::Failed)),
+];
+
 #[test]
 fn a_depot_in_memory_begins_eight_names(rt: HostRuntime) -> Result<(), Fail> {
-    let rows = [
-        ("a", Ok(0)),
-        ("b", Ok(1)),
-        ("c", Ok(2)),
-        ("d", Ok(3)),
-        ("e", Ok(4)),
-        ("f", Ok(5)),
-        ("g", Ok(6)),
-        ("h", Ok(7)),
-        ("i", Err(Begin::Failed)),
-        ("a", Ok(0)),
-        ("b", Ok(1)),
-        ("c", Ok(2)),
-        ("d", Ok(3)),
-        ("e", Ok(4)),
-        ("f", Ok(5)),
-        ("g", Ok(6)),
-        ("h", Ok(7)),
-        ("i", Err(Begin::Failed)),
-    ];
     let mut depot = empty(rt.alloc(), &[])?;
-    for (name, want) in rows {
-        assert_eq!(rt; depot.begin(rt.alloc(), name), want);
-    }
+    assert_eq!(rt; first_wrong_begin(rt.alloc(), &mut depot, &NAMES), None);
     Ok(())
+}
+
+/// A piece for a sink, and whether it is put.
+type Piece = (&'static [u8], bool);
+
+static PUTS: [Piece; 6] = [
+    (&[1], true),
+    (&[2], true),
+    (&[3], false),
+    (&[3, 4, 5], false),
+    (&[3], true),
+    (&[4], true),
+];
+
+/// The first of the pieces, one behind another, that is put though it is to be refused, or refused.
+fn first_wrong_put(sink: &mut MemSink, pieces: &[Piece]) -> Option<usize> {
+    for (number, (piece, want)) in pieces.iter().enumerate() {
+        if sink.put(piece).is_ok() != *want {
+            return Some(number);
+        }
+    }
+    None
 }
 
 // The third call is told to fail, and the fourth is beyond the room.
 #[test]
 fn a_sink_in_memory_fails_where_it_is_told_to(rt: HostRuntime) -> Result<(), Fail> {
-    let rows: [(&[u8], bool); 6] = [
-        (&[1], true),
-        (&[2], true),
-        (&[3], false),
-        (&[3, 4, 5], false),
-        (&[3], true),
-        (&[4], true),
-    ];
     let mut sink = MemSink::new(rt.alloc(), 4, [2].to_vec(rt.alloc())?)?;
-    for (piece, want) in rows {
-        assert_eq!(rt; sink.put(piece).is_ok(), want);
-    }
-    assert_eq!(rt; sink.bytes(), [1, 2, 3, 4].as_slice());
+    assert_eq!(rt; first_wrong_put(&mut sink, &PUTS), None);
+    assert!(rt; sink.bytes() == [1, 2, 3, 4].as_slice());
     Ok(())
 }
 
@@ -169,11 +209,9 @@ fn a_real_file_is_written_and_fetched(rt: HostRuntime) -> Result<(), Fail> {
     let mut depot = FileDepot::new(rt, alloc);
     let number = write_file(alloc, &mut depot, "depot_test.bin", &[1, 2, 3])?;
     assert!(rt; is_appended(&mut depot, number, &[4]));
-    for row in &rows {
-        assert!(rt; is_fetched(alloc, &mut depot, row));
-    }
+    assert_eq!(rt; first_wrong(alloc, &mut depot, &rows), None);
     let nowhere = depot.begin(alloc, "depot_test.none/file");
-    assert_eq!(rt; nowhere, Err(Begin::Failed), "no such folder");
+    assert!(rt; nowhere == Err(Begin::Failed), "no such folder");
     fs::remove_file(&rt, "depot_test.bin")?;
     Ok(())
 }
@@ -189,10 +227,8 @@ fn a_real_file_is_begun_again(rt: HostRuntime) -> Result<(), Fail> {
     let mut depot = FileDepot::new(rt, alloc);
     let number = write_file(alloc, &mut depot, "depot_test.long", &[1, 2, 3])?;
     let again = write_file(alloc, &mut depot, "depot_test.long", &long)?;
-    assert_eq!(rt; again, number);
-    for row in &rows {
-        assert!(rt; is_fetched(alloc, &mut depot, row));
-    }
+    assert!(rt; again == number);
+    assert_eq!(rt; first_wrong(alloc, &mut depot, &rows), None);
     fs::remove_file(&rt, "depot_test.long")?;
     Ok(())
 }

@@ -18,39 +18,37 @@ fn fields_are_spelled(rt: HostRuntime) -> Result<(), Fail> {
     ];
     let mut bytes = Vec::with_capacity(rt.alloc(), 22)?;
     put(&fields, &mut bytes);
-    assert_eq!(rt; bytes.as_slice(), SPELLED.as_slice());
+    assert!(rt; bytes.as_slice() == SPELLED.as_slice());
     Ok(())
 }
 
 #[test]
 fn numbers_are_read(rt: HostRuntime) {
-    let long = u64::from(u32_at(SPELLED, 3));
-    let read = [
-        u64::from(u8_at(SPELLED, 0)),
-        u64::from(u16_at(SPELLED, 1)),
-        long,
-        u64_at(SPELLED, 7),
-    ];
-    assert_eq!(rt; read, [0x12, 0x3456, 0x789a_bcde, 0x0123_4567_89ab_cdef]);
+    assert!(rt; u8_at(SPELLED, 0) == 0x12 && u16_at(SPELLED, 1) == 0x3456);
+    assert!(rt; u32_at(SPELLED, 3) == 0x789a_bcde && u64_at(SPELLED, 7) == 0x0123_4567_89ab_cdef);
     let words: [u16; 2] = words_at(SPELLED, 15);
-    assert_eq!(rt; words, [0x1122, 0x3344]);
+    assert!(rt; words == [0x1122, 0x3344]);
+}
+
+/// The place of the first wrong of six fields, of which so many are right.
+#[tactic(auto, unfolding(md_fields::specs::Fields::sizes))]
+fn place_behind(right: u8) -> Option<usize> {
+    first_wrong(&[
+        Field::Byte(0x12, right > 0),
+        Field::Word(0x3456, right > 1),
+        Field::Long(0x789a_bcde, right > 2),
+        Field::Quad(0x0123_4567_89ab_cdef, right > 3),
+        Field::Words(&[0x1122, 0x3344], right > 4),
+        Field::Block(b"RAM", false),
+    ])
 }
 
 // From which field on the rules fail, and the place of that field.
 #[test]
 #[tactic(auto, unfolding(md_fields::specs::Fields::sizes))]
 fn the_first_wrong_field_has_its_place(rt: HostRuntime) {
-    let rows = [(0, 0), (1, 1), (2, 3), (3, 7), (4, 15), (5, 19)];
-    for (right, want) in rows {
-        let fields = [
-            Field::Byte(0x12, right > 0),
-            Field::Word(0x3456, right > 1),
-            Field::Long(0x789a_bcde, right > 2),
-            Field::Quad(0x0123_4567_89ab_cdef, right > 3),
-            Field::Words(&[0x1122, 0x3344], right > 4),
-            Field::Block(b"RAM", false),
-        ];
-        assert_eq!(rt; first_wrong(&fields), Some(want));
+    for (right, want) in [(0, 0), (1, 1), (2, 3), (3, 7), (4, 15), (5, 19)] {
+        assert!(rt; place_behind(right) == Some(want), "{right}");
     }
-    assert_eq!(rt; first_wrong(&[]), None);
+    assert!(rt; first_wrong(&[]).is_none());
 }

@@ -19,101 +19,132 @@ fn longest(alloc: Global) -> Result<Vec<u8>, AllocError> {
     Ok(bytes)
 }
 
+/// The place at which bytes are refused.
+fn place_of(alloc: Global, bytes: &[u8]) -> Option<u64> {
+    match Recording::read(alloc, bytes) {
+        Err(RecFault::Form { place }) => Some(place),
+        _ => None,
+    }
+}
+
+static REFUSED: [(&[u8], u64); 10] = [
+    (b"", 0),
+    (b"MDREC002\0\0\0\0", 7),
+    (b"MDREC001\x01", 8),
+    (b"MDREC001\0\x11", 9),
+    (b"MDREC001\0\x10\0\x01", 11),
+    (b"MDREC001\0\0\0\x01\x01\0\0\0", 12),
+    (b"MDREC001\0\0\0\x01\x01\0\0", 12),
+    (b"MDREC001\0\0\0\x01\0\0\0", 15),
+    (b"MDREC001\0\0\0\x01\0\x01\x80\0", 14),
+    (b"MDREC001\0\0\0\x01\0\x01\0\0\0", 16),
+];
+
 #[test]
 fn refuses_at_the_first_wrong_byte(rt: HostRuntime) {
-    let cases: [(&[u8], u64); 10] = [
-        (b"", 0),
-        (b"MDREC002\0\0\0\0", 7),
-        (b"MDREC001\x01", 8),
-        (b"MDREC001\0\x11", 9),
-        (b"MDREC001\0\x10\0\x01", 11),
-        (b"MDREC001\0\0\0\x01\x01\0\0\0", 12),
-        (b"MDREC001\0\0\0\x01\x01\0\0", 12),
-        (b"MDREC001\0\0\0\x01\0\0\0", 15),
-        (b"MDREC001\0\0\0\x01\0\x01\x80\0", 14),
-        (b"MDREC001\0\0\0\x01\0\x01\0\0\0", 16),
-    ];
-    for (bytes, place) in cases {
-        let fault = Recording::read(rt.alloc(), bytes).err();
-        assert_eq!(rt; fault, Some(RecFault::Form { place }));
+    for (number, (bytes, place)) in REFUSED.iter().enumerate() {
+        assert!(rt; place_of(rt.alloc(), bytes) == Some(*place), "row {number}");
     }
 }
 
 #[test]
 fn a_prefix_is_refused_at_its_end(rt: HostRuntime) {
     for len in 0..20 {
-        let fault = Recording::read(rt.alloc(), &TWO_FRAMES[..len]).err();
-        assert_eq!(rt; fault, Some(RecFault::Form { place: len as u64 }));
+        let place = place_of(rt.alloc(), &TWO_FRAMES[..len]);
+        assert!(rt; place == Some(len as u64), "{len}");
     }
 }
 
-// A recording, a frame, and the buttons of both pads in it; behind the last frame none is pressed.
+/// A recording, a frame, and the buttons of both pads in it.
+type Shown = (&'static [u8], u64, (u16, u16));
+
+// Behind the last frame none is pressed.
+static SHOWN: [Shown; 6] = [
+    (b"MDREC001\0\0\0\0", 0, (0, 0)),
+    (TWO_FRAMES, 0, (0x80, 0x01)),
+    (TWO_FRAMES, 1, (0x10, 0xff)),
+    (TWO_FRAMES, 2, (0, 0)),
+    (TWO_FRAMES, u64::MAX, (0, 0)),
+    (ONE_FRAME, 0, (1, 0)),
+];
+
+/// Whether a recording shows what its row says.
+fn is_shown(alloc: Global, row: &Shown) -> Result<bool, Fail> {
+    let (bytes, frame, want) = *row;
+    Ok(Recording::read(alloc, bytes)?.pads_at(frame) == want)
+}
+
 #[test]
 fn frames(rt: HostRuntime) -> Result<(), Fail> {
-    let cases: [(&[u8], u64, (u16, u16)); 6] = [
-        (b"MDREC001\0\0\0\0", 0, (0, 0)),
-        (TWO_FRAMES, 0, (0x80, 0x01)),
-        (TWO_FRAMES, 1, (0x10, 0xff)),
-        (TWO_FRAMES, 2, (0, 0)),
-        (TWO_FRAMES, u64::MAX, (0, 0)),
-        (ONE_FRAME, 0, (1, 0)),
-    ];
-    for (bytes, frame, want) in cases {
-        let recording = Recording::read(rt.alloc(), bytes)?;
-        assert_eq!(rt; recording.pads_at(frame), want, "{frame}");
+    for (number, row) in SHOWN.iter().enumerate() {
+        assert!(rt; is_shown(rt.alloc(), row)?, "row {number}");
     }
-    assert_eq!(rt; Recording::empty(rt.alloc()).pads_at(0), (0, 0));
+    assert!(rt; Recording::empty(rt.alloc()).pads_at(0) == (0, 0));
     Ok(())
+}
+
+/// Whether the recording that is read of bytes is written so.
+fn is_again(alloc: Global, bytes: &[u8]) -> Result<bool, Fail> {
+    let recording = Recording::read(alloc, bytes)?;
+    Ok(recording.write(alloc)?.as_slice() == bytes)
 }
 
 #[test]
 fn what_is_read_is_written(rt: HostRuntime) -> Result<(), Fail> {
     let longest = longest(rt.alloc())?;
-    let cases: [&[u8]; 3] = [ONE_FRAME, TWO_FRAMES, &longest];
-    for bytes in cases {
-        let recording = Recording::read(rt.alloc(), bytes)?;
-        assert!(rt; recording.write(rt.alloc())?.as_slice() == bytes);
+    for bytes in [ONE_FRAME.as_slice(), TWO_FRAMES, &longest] {
+        assert!(rt; is_again(rt.alloc(), bytes)?, "{}", bytes.len());
     }
     Ok(())
 }
 
 // The value that is written, the buttons that are pressed, and what is read, with TH an output.
+const READ: [(u8, u16, u8); 4] = [
+    (0x40, 0x01, 0x7e),
+    (0x00, 0x01, 0x32),
+    (0xc0, 0x3f, 0xc0),
+    (0xc0, 0x00, 0xff),
+];
+
 #[test]
 fn a_port(rt: HostRuntime) {
-    let rows: [(u8, u16, u8); 4] = [
-        (0x40, 0x01, 0x7e),
-        (0x00, 0x01, 0x32),
-        (0xc0, 0x3f, 0xc0),
-        (0xc0, 0x00, 0xff),
-    ];
     let mut port = PadPort::power_on();
-    assert_eq!(rt; port.read(0), 0x7f);
+    assert!(rt; port.read(0) == 0x7f);
     port.write_control(0x40);
-    for (value, pressed, want) in rows {
+    for (value, pressed, want) in READ {
         port.write_value(value);
-        assert_eq!(rt; port.read(pressed), want);
+        assert!(rt; port.read(pressed) == want, "{value:02x} {pressed:02x}");
     }
-    assert_eq!(rt; port.control(), 0x40);
+    assert!(rt; port.control() == 0x40);
+}
+
+/// The bytes of a port that was written to.
+fn spelled(alloc: Global) -> Result<Vec<u8>, Fail> {
+    let mut port = PadPort::power_on();
+    port.write_control(0x40);
+    port.write_value(0xc0);
+    let mut bytes = Vec::with_capacity(alloc, 2)?;
+    port.spell(1, &mut bytes);
+    Ok(bytes)
+}
+
+/// What the port that is kept by bytes reads, or where they are refused.
+fn read_again(alloc: Global, bytes: &[u8]) -> Result<u8, Unspell> {
+    Ok(PadPort::unspell(alloc, bytes, 1)?.read(0x3f))
 }
 
 #[test]
 fn a_port_is_spelled(rt: HostRuntime) -> Result<(), Fail> {
-    let mut port = PadPort::power_on();
-    port.write_control(0x40);
-    port.write_value(0xc0);
-    let mut bytes = Vec::with_capacity(rt.alloc(), 2)?;
-    port.spell(1, &mut bytes);
-    assert_eq!(rt; bytes.as_slice(), [0xc0, 0x40].as_slice());
-    let again = PadPort::unspell(rt.alloc(), &bytes, 1)?;
-    assert_eq!(rt; again.read(0x3f), 0xc0);
-    let fault = PadPort::unspell(rt.alloc(), &bytes[..1], 1).err();
-    assert_eq!(rt; fault, Some(Unspell::Rule { place: 1 }));
+    assert!(rt; spelled(rt.alloc())?.as_slice() == [0xc0, 0x40].as_slice());
+    assert!(rt; read_again(rt.alloc(), &[0xc0, 0x40]) == Ok(0xc0));
+    let short = read_again(rt.alloc(), &[0xc0]);
+    assert!(rt; short == Err(Unspell::Rule { place: 1 }));
     Ok(())
 }
 
 #[test]
 fn buttons_of_a_word(rt: HostRuntime) {
     for (bits, held) in [(0x00ff, true), (0x0100, false)] {
-        assert_eq!(rt; Buttons::from_bits(bits).is_some(), held);
+        assert!(rt; Buttons::from_bits(bits).is_some() == held, "{bits:04x}");
     }
 }
