@@ -17,7 +17,7 @@ struct Row {
 // rate 56 goes on adding 4. At rate 53 the row 1 1 1 2 is doubled, so the counters 1 to 4 give 2, 2,
 // 4, 2. Release at rate 63 adds 8 up to 1,023. Rate 4 steps where 1,024 divides the counter, by the
 // row 0 1 0 1 0 1 0 1; rate 1 never.
-const ROWS: [Row; 7] = [
+static ROWS: [Row; 7] = [
     Row {
         v: 1023,
         state: ATTACK,
@@ -83,22 +83,38 @@ const ROWS: [Row; 7] = [
     },
 ];
 
+/// Whether four ticks go as a row says.
+fn is_right(row: &Row) -> bool {
+    let mut envelope = Envelope {
+        v: row.v % 1024,
+        state: row.state % 4,
+        on: true,
+    };
+    for (counter, want) in row.counters.iter().zip(&row.want) {
+        envelope.tick(*counter, row.rate % 64, row.level.min(992));
+        if envelope.v != *want {
+            return false;
+        }
+    }
+    envelope.state == row.last
+}
+
 #[test]
 fn envelopes_over_time(rt: HostRuntime) {
-    for row in &ROWS {
-        let mut envelope = Envelope {
-            v: row.v % 1024,
-            state: row.state % 4,
-            on: true,
-        };
-        let mut heard = [0; 4];
-        for k in 0..4 {
-            envelope.tick(row.counters[k], row.rate % 64, row.level.min(992));
-            heard[k] = envelope.v;
-        }
-        assert_eq!(rt; heard, row.want);
-        assert_eq!(rt; envelope.state, row.last);
+    for (number, row) in ROWS.iter().enumerate() {
+        assert!(rt; is_right(row), "row {number}");
     }
+}
+
+/// An envelope in sustain, with its key on or off, behind a key at this rate.
+fn keyed(was: bool, on: bool, rate: u32) -> Envelope {
+    let mut envelope = Envelope {
+        v: 500,
+        state: SUSTAIN,
+        on: was,
+    };
+    envelope.key(on, rate);
+    envelope
 }
 
 // A key that goes on starts an attack, at once at full level from rate 62 on; one that is on already
@@ -111,12 +127,10 @@ fn keys(rt: HostRuntime) {
         (true, true, 63, 500, SUSTAIN),
         (true, false, 63, 500, RELEASE),
     ] {
-        let mut envelope = Envelope {
-            v: 500,
-            state: SUSTAIN,
-            on: was,
-        };
-        envelope.key(on, rate);
-        assert_eq!(rt; (envelope.v, envelope.state, envelope.on), (v, state, on));
+        let found = keyed(was, on, rate);
+        assert!(rt;
+            found.v == v && found.state == state && found.on == on,
+            "{was} {on} {rate}"
+        );
     }
 }

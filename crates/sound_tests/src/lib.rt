@@ -4,6 +4,8 @@
 #[cfg(test)]
 mod envelopes;
 #[cfg(test)]
+mod fm_spelling;
+#[cfg(test)]
 mod pairs;
 #[cfg(test)]
 mod ports;

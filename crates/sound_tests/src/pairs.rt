@@ -82,8 +82,33 @@ fn cuts_change_no_pair(rt: HostRuntime) {
     for at_a_time in [2, 4] {
         let mut pairs = [(0, 0); 64];
         pairs_of(at_a_time, &mut pairs);
-        assert_eq!(rt; pairs, each);
+        assert!(rt; pairs == each, "{at_a_time}");
     }
+}
+
+/// The first three pairs of a batch, in which the converter is given a byte and its sides.
+fn converted(sides: u8, value: u8) -> [(i32, i32); 3] {
+    let mut port = FmPort::power_on();
+    let mut list = FmList::new();
+    let key = Key { cycle: 0, chip: 1 };
+    for (address, byte) in [
+        (0, 0x2b),
+        (1, 0x80),
+        (0, 0x2a),
+        (1, value),
+        (2, 0xb6),
+        (3, sides),
+    ] {
+        port.write(key, address % 4, byte);
+    }
+    port.reset(Key {
+        cycle: 1_008,
+        chip: 0,
+    });
+    port.take(BATCH, &mut list);
+    let mut out = [(0, 0); 16];
+    FmSynth::power_on().batch(0, &list, &mut out);
+    [out[0], out[1], out[2]]
 }
 
 // The converter takes the place of channel 6 from the first sample on that comes after its writes:
@@ -96,26 +121,9 @@ fn the_converter_is_heard(rt: HostRuntime) {
         (0x80, 255, (8_128, 0)),
         (0x40, 0, (0, -8_192)),
     ] {
-        let mut port = FmPort::power_on();
-        let mut list = FmList::new();
-        let key = Key { cycle: 0, chip: 1 };
-        for (address, byte) in [
-            (0, 0x2b),
-            (1, 0x80),
-            (0, 0x2a),
-            (1, value),
-            (2, 0xb6),
-            (3, sides),
-        ] {
-            port.write(key, address % 4, byte);
-        }
-        port.reset(Key {
-            cycle: 1_008,
-            chip: 0,
-        });
-        port.take(BATCH, &mut list);
-        let mut out = [(0, 0); 16];
-        FmSynth::power_on().batch(0, &list, &mut out);
-        assert_eq!(rt; [out[0], out[1], out[2]], [(0, 0), want, (0, 0)]);
+        assert!(rt;
+            converted(sides, value) == [(0, 0), want, (0, 0)],
+            "{sides:02x}"
+        );
     }
 }

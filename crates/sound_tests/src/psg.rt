@@ -9,37 +9,70 @@ fn byte(cycle: u64, value: u8) -> PsgWrite {
     }
 }
 
+/// The first batch from power-on with these bytes at their cycles.
+fn heard(bytes: &[(u32, u8)]) -> [i32; 16] {
+    let mut list = PsgList::new();
+    for (cycle, value) in bytes {
+        let _there_is_room = list.try_push(byte(u64::from(*cycle), *value));
+    }
+    let mut out = [1; 16];
+    PsgSynth::power_on().batch(0, &list, &mut out);
+    out
+}
+
 // One tone with the period 0, which counts as 1, so that its bit turns at each tick. Up to the
 // samples 1 to 15 there are 4, 8, 12, 16, 21, 25, 29, 33, 37, 42, 46, 50, 54, 58 and 63 ticks: the
 // bit is 0 at samples 1 to 4 and 10 to 14, and 1 at samples 5 to 9 and 15. At sample 0 it is
 // silent.
+const TONE: [i32; 16] = [
+    0, -2048, -2048, -2048, -2048, 2048, 2048, 2048, 2048, 2048, -2048, -2048, -2048, -2048, -2048,
+    2048,
+];
+
 #[test]
 fn a_tone_from_power_on(rt: HostRuntime) {
-    let mut list = PsgList::new();
-    list.push(byte(196, 0x90));
-    let mut out = [1; 16];
-    PsgSynth::power_on().batch(0, &list, &mut out);
-    let want = [
-        0, -2048, -2048, -2048, -2048, 2048, 2048, 2048, 2048, 2048, -2048, -2048, -2048, -2048,
-        -2048, 2048,
-    ];
-    assert_eq!(rt; out, want);
+    assert!(rt; heard(&[(196, 0x90)]) == TONE);
 }
 
 // The same tone, made softer by two steps of 2 dB at the cycle of sample 5, 5,040, which does not
 // hear it yet, and silent from cycle 12,097 on, which is behind sample 12.
+const SOFTER: [i32; 16] = [
+    0, -2048, -2048, -2048, -2048, 2048, 1292, 1292, 1292, 1292, -1292, -1292, -1292, 0, 0, 0,
+];
+
 #[test]
 fn a_volume_changes_in_mid_batch(rt: HostRuntime) {
+    assert!(rt; heard(&[(196, 0x90), (5_040, 0x02), (12_097, 0x9f)]) == SOFTER);
+}
+
+/// Two batches from power-on with this control of the noise.
+fn noise(control: u8, first: &mut [i32; 16], second: &mut [i32; 16]) {
     let mut list = PsgList::new();
-    list.push(byte(196, 0x90));
-    list.push(byte(5_040, 0x02));
-    list.push(byte(12_097, 0x9f));
-    let mut out = [1; 16];
-    PsgSynth::power_on().batch(0, &list, &mut out);
-    let want = [
-        0, -2048, -2048, -2048, -2048, 2048, 1292, 1292, 1292, 1292, -1292, -1292, -1292, 0, 0, 0,
-    ];
-    assert_eq!(rt; out, want);
+    for value in [0xc2, control, 0xf0] {
+        let _there_is_room = list.try_push(byte(0, value));
+    }
+    let mut synth = PsgSynth::power_on();
+    synth.batch(0, &list, first);
+    list.clear();
+    synth.batch(16, &list, second);
+}
+
+/// The first of 32 samples that is not heard: 0 at sample 0, positive at these, and else negative.
+fn first_wrong(control: u8, positive: &[usize]) -> Option<usize> {
+    let mut first = [0; 16];
+    let mut second = [0; 16];
+    noise(control, &mut first, &mut second);
+    for (place, level) in first.iter().chain(&second).enumerate() {
+        let want = match place {
+            0 => 0,
+            _ if positive.contains(&place) => 2048,
+            _ => -2048,
+        };
+        if *level != want {
+            return Some(place);
+        }
+    }
+    None
 }
 
 // The noise takes tone 3's period, 2, so its bit turns to 1 at ticks 1, 5, 9 and so on, and the
@@ -57,32 +90,12 @@ fn a_volume_changes_in_mid_batch(rt: HostRuntime) {
 #[test]
 fn noise_by_its_register(rt: HostRuntime) {
     for (control, positive) in [(0xe3, [14, 29, 29]), (0xe7, [14, 26, 29])] {
-        let mut list = PsgList::new();
-        list.push(byte(0, 0xc2));
-        list.push(byte(0, control));
-        list.push(byte(0, 0xf0));
-        let mut synth = PsgSynth::power_on();
-        let mut heard = [0; 16];
-        synth.batch(0, &list, &mut heard);
-        assert_eq!(rt; heard[0], 0);
-        let mut later = [0; 16];
-        list.clear();
-        synth.batch(16, &list, &mut later);
-        for k in 1..32 {
-            let level = if k < 16 { heard[k] } else { later[k - 16] };
-            let want = if positive.contains(&k) { 2048 } else { -2048 };
-            assert_eq!(rt; level, want, "sample {k}");
-        }
+        assert_eq!(rt; first_wrong(control, &positive), None, "{control:02x}");
     }
 }
 
-// A tone of period 17 (a low part of 1 and a high part of 1), whose bit turns to 1 at tick 1 and
-// back and forth every 17 ticks, at ticks 18, 35, 52, 69 (cycle 16,560), 86, 103, 120: samples 1 to
-// 4 hear it 1, 5 to 8 0, 9 to 12 1, 13 to 16 0, 17 to 20 1, 21 to 24 0, 25 to 28 1, 29 to 31 0. The
-// byte at 16,127 is taken by the first batch and heard from sample 16 on; that at 16,128 from
-// sample 17 on.
-#[test]
-fn a_run_in_two_batches(rt: HostRuntime) {
+/// How many bytes two batches took, and what they give.
+fn two_batches(first: &mut [i32; 16], second: &mut [i32; 16]) -> [usize; 2] {
     let mut port = PsgPort::power_on();
     let mut synth = PsgSynth::power_on();
     let mut list = PsgList::new();
@@ -96,29 +109,47 @@ fn a_run_in_two_batches(rt: HostRuntime) {
         port.write(Key { cycle, chip: 1 }, value);
     }
     port.take(16_128, &mut list);
-    assert_eq!(rt; list.len(), 4);
-    let mut first = [0; 16];
-    synth.batch(0, &list, &mut first);
+    let taken = list.len();
+    synth.batch(0, &list, first);
     port.take(32_256, &mut list);
-    assert_eq!(rt; list.len(), 1);
-    let mut second = [0; 16];
-    synth.batch(16, &list, &mut second);
-    let want_first = [
-        0, 2048, 2048, 2048, 2048, -2048, -2048, -2048, -2048, 2048, 2048, 2048, 2048, -2048,
-        -2048, -2048,
-    ];
-    let want_second = [
-        -1627, 1292, 1292, 1292, 1292, -1292, -1292, -1292, -1292, 1292, 1292, 1292, 1292, -1292,
-        -1292, -1292,
-    ];
-    assert_eq!(rt; first, want_first);
-    assert_eq!(rt; second, want_second);
+    synth.batch(16, &list, second);
+    [taken, list.len()]
 }
+
+const FIRST: [i32; 16] = [
+    0, 2048, 2048, 2048, 2048, -2048, -2048, -2048, -2048, 2048, 2048, 2048, 2048, -2048, -2048,
+    -2048,
+];
+
+const SECOND: [i32; 16] = [
+    -1627, 1292, 1292, 1292, 1292, -1292, -1292, -1292, -1292, 1292, 1292, 1292, 1292, -1292,
+    -1292, -1292,
+];
+
+// A tone of period 17 (a low part of 1 and a high part of 1), whose bit turns to 1 at tick 1 and
+// back and forth every 17 ticks, at ticks 18, 35, 52, 69 (cycle 16,560), 86, 103, 120: samples 1 to
+// 4 hear it 1, 5 to 8 0, 9 to 12 1, 13 to 16 0, 17 to 20 1, 21 to 24 0, 25 to 28 1, 29 to 31 0. The
+// byte at 16,127 is taken by the first batch and heard from sample 16 on; that at 16,128 from
+// sample 17 on.
+#[test]
+fn a_run_in_two_batches(rt: HostRuntime) {
+    let mut first = [0; 16];
+    let mut second = [0; 16];
+    assert!(rt; two_batches(&mut first, &mut second) == [4, 1]);
+    assert!(rt; first == FIRST && second == SECOND);
+}
+
+// The sums of the FM chip, the level of the PSG, and the pair.
+const MIXED: [((i32, i32), i32, (i16, i16)); 4] = [
+    ((-3, 3), 10, (8, 11)),
+    ((-1, 1), 0, (-1, 0)),
+    ((60_000, -60_000), 8_192, (32_767, -21_808)),
+    ((i32::MIN, i32::MAX), i32::MIN, (-32_768, -32_768)),
+];
 
 #[test]
 fn a_pair_is_halved_and_clamped(rt: HostRuntime) {
-    assert_eq!(rt; mix((-3, 3), 10), (8, 11));
-    assert_eq!(rt; mix((-1, 1), 0), (-1, 0));
-    assert_eq!(rt; mix((60_000, -60_000), 8_192), (32_767, -21_808));
-    assert_eq!(rt; mix((i32::MIN, i32::MAX), i32::MIN), (-32_768, -32_768));
+    for (fm, psg, want) in MIXED {
+        assert!(rt; mix(fm, psg) == want, "{psg}");
+    }
 }
