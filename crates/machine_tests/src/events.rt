@@ -37,9 +37,10 @@ const FOUR: [Event; 4] = [
 ];
 
 // The cycle below which events lie, a list, and how many of its events happen from power-on on. The
-// Z80's bound is above the 68000's, which has to move first. The last event of the last row, the 68000's
-// second sample at cycle 70, waits for the Z80, whose bound is at cycle 45.
-static ROWS: [(u32, &[Event], usize); 4] = [
+// Z80's bound is above the 68000's, which writes its pins and has to move first. The 68000's second sample
+// at cycle 70 waits for the event of the first line, since the VDP writes its pins, and not for the Z80,
+// whose bound is at cycle 45; the second line waits for both.
+static ROWS: [(u32, &[Event], usize); 6] = [
     (1, &[Event::Sample(1)], 0),
     (
         1,
@@ -53,8 +54,29 @@ static ROWS: [(u32, &[Event], usize); 4] = [
             Event::Sample(0),
             Event::Announce(0),
             Event::Sample(1),
+            Event::Sample(0),
+        ],
+        3,
+    ),
+    (
+        100,
+        &[
+            Event::Sample(0),
+            Event::Announce(0),
+            Event::Sample(1),
             Event::Perform(2),
             Event::Sample(0),
+        ],
+        5,
+    ),
+    (
+        4_000,
+        &[
+            Event::Sample(0),
+            Event::Announce(0),
+            Event::Sample(1),
+            Event::Perform(2),
+            Event::Perform(2),
         ],
         4,
     ),

@@ -4,7 +4,7 @@ use md_word::{Entry, Key};
 use std::alloc::{AllocError, Global};
 use std::test::Fail;
 
-/// The first events of the five, of which the last has to wait.
+/// The first events of the five.
 const FIRST: [Event; 5] = [
     Event::Sample(0),
     Event::Announce(0),
@@ -13,11 +13,30 @@ const FIRST: [Event; 5] = [
     Event::Sample(0),
 ];
 
-// The cycle below which events lie, a list, and how many of its events happen from power-on on.
+/// Events of which the last, a sample at cycle 70, waits for chip 2, which writes all pins.
+const WAITS_FOR_THE_WRITER: [Event; 4] = [
+    Event::Sample(0),
+    Event::Announce(0),
+    Event::Sample(1),
+    Event::Sample(0),
+];
+
+/// Events of which the last, an access at cycle 3,420, waits for chips 0 and 1.
+const WAITS_FOR_ALL: [Event; 5] = [
+    Event::Sample(0),
+    Event::Announce(0),
+    Event::Sample(1),
+    Event::Perform(2),
+    Event::Perform(2),
+];
+
+// The cycle below which events lie, a list, and how many of its events happen from power-on on. The last
+// of `FIRST` does not look at chip 1, whose bound is below its key.
 #[test]
 fn a_list_stops_at_the_first_event_that_is_not_enabled(rt: HostRuntime) -> Result<(), Fail> {
-    let rows: [(u64, &[Event], usize); 5] = [
-        (1, &[Event::Sample(1)], 0),
+    let rows: [(u64, &[Event], usize); 8] = [
+        (1, &[Event::Sample(1)], 1),
+        (1, &[Event::Perform(2)], 0),
         (
             1,
             &[Event::Sample(0), Event::Sample(1), Event::Sample(0)],
@@ -25,11 +44,13 @@ fn a_list_stops_at_the_first_event_that_is_not_enabled(rt: HostRuntime) -> Resul
         ),
         (1, &[Event::Sample(5)], 0),
         (1, &FIRST[..4], 4),
-        (100, &FIRST, 4),
+        (100, &WAITS_FOR_THE_WRITER, 3),
+        (100, &FIRST, 5),
+        (4_000, &WAITS_FOR_ALL, 4),
     ];
     for (t, list, want) in rows {
         let mut core = power_on(rt.alloc(), 5)?;
-        assert!(rt; t <= 100 && list.len() <= 5);
+        assert!(rt; t <= 4_000 && list.len() <= 5);
         assert_eq!(rt; core.run_events(t, list), want);
     }
     Ok(())
@@ -38,7 +59,7 @@ fn a_list_stops_at_the_first_event_that_is_not_enabled(rt: HostRuntime) -> Resul
 #[test]
 fn four_events_leave_their_chips_and_bounds(rt: HostRuntime) -> Result<(), Fail> {
     let mut core = power_on(rt.alloc(), 5)?;
-    assert_eq!(rt; core.run_events(100, &FIRST), 4);
+    assert_eq!(rt; core.run_events(100, &FIRST[..4]), 4);
     let (board, chips, bounds, journal) = core.into_parts();
     let want = [
         seen(0, 70),

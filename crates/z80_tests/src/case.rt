@@ -22,8 +22,15 @@ use z80_exec::{Finish80, Progress80, Regs80, Step80, go};
 /// The address of the instruction.
 const START: u16 = 0x100;
 
-/// A shared access: its kind, as in a line, its address, and what is written.
-type Access = (u8, u16, u8);
+/// A shared access.
+#[derive(Clone, Copy, PartialEq, Eq, Default)]
+enum Access {
+    Read(u16),
+    Write(u16, u8),
+    /// One that no instruction makes.
+    #[default]
+    Other,
+}
 
 /// A sample, and what it is to come to.
 #[derive(Drop)]
@@ -138,9 +145,9 @@ fn bytes(regs: &Regs80) -> [u8; 5] {
 /// The access that a request asks for.
 fn access_of(request: &Request80) -> Access {
     match request {
-        Request80::Read(at) => (b'r', *at, 0),
-        Request80::Write(at, value) => (b'w', *at, *value),
-        _ => (0, 0, 0),
+        Request80::Read(at) => Access::Read(*at),
+        Request80::Write(at, value) => Access::Write(*at, *value),
+        _ => Access::Other,
     }
 }
 
@@ -265,8 +272,8 @@ impl Case {
     fn expect_value(&mut self, name: &[u8], value: &[u8]) {
         match name {
             [b'.', at @ ..] => self.expect_write(number(at), byte(value)),
-            [b'r', b':', at @ ..] => self.expect_access(((b'r', number(at), 0), byte(value))),
-            [b'w', b':', at @ ..] => self.expect_access(((b'w', number(at), byte(value)), 0)),
+            [b'r', b':', at @ ..] => self.expect_access(Access::Read(number(at)), byte(value)),
+            [b'w', b':', at @ ..] => self.expect_access(Access::Write(number(at), byte(value)), 0),
             b"T" => self.t = decimal(value),
             name => set(&mut self.after, name, value),
         }
@@ -278,9 +285,9 @@ impl Case {
         }
     }
 
-    fn expect_access(&mut self, access: (Access, u8)) {
+    fn expect_access(&mut self, access: Access, answer: u8) {
         if !self.accesses.is_full() {
-            self.accesses.push(access);
+            self.accesses.push((access, answer));
         }
     }
 
