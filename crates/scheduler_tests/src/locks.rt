@@ -117,7 +117,7 @@ fn an_access_waits_for_the_bound_of_another_chip(rt: HostRuntime) -> Result<(), 
         other: 1,
         bound: key(1, 45),
     };
-    assert_eq!(rt; first_turn(core, 100), Some((blocked, Some(key(0, 70)))));
+    assert!(rt; first_turn(core, 100) == Some((blocked, Some(key(0, 70)))));
     Ok(())
 }
 
@@ -125,20 +125,14 @@ fn an_access_waits_for_the_bound_of_another_chip(rt: HostRuntime) -> Result<(), 
 #[test]
 fn an_access_below_all_bounds_is_made(rt: HostRuntime) -> Result<(), Fail> {
     let core = at_access(rt.alloc(), 70, 4)?;
-    assert_eq!(rt;
-        first_turn(core, 100),
-        Some((Turn::Moved, Some(key(0, 98))))
-    );
+    assert!(rt; first_turn(core, 100) == Some((Turn::Moved, Some(key(0, 98)))));
     Ok(())
 }
 
 #[test]
 fn an_access_at_the_end_is_not_made(rt: HostRuntime) -> Result<(), Fail> {
     let core = at_access(rt.alloc(), 90, 4)?;
-    assert_eq!(rt;
-        first_turn(core, 70),
-        Some((Turn::Finished, Some(key(0, 70))))
-    );
+    assert!(rt; first_turn(core, 70) == Some((Turn::Finished, Some(key(0, 70)))));
     Ok(())
 }
 
@@ -147,6 +141,6 @@ fn an_access_at_the_end_is_not_made(rt: HostRuntime) -> Result<(), Fail> {
 #[test]
 fn a_run_of_all_chips_ends_on_one_thread(rt: HostRuntime) -> Result<(), Fail> {
     let core = power_on(rt.alloc(), 100)?;
-    assert_eq!(rt; moves_to(&rt, core, 1000), Some([15, 23, 1, 0, 0]));
+    assert!(rt; moves_to(&rt, core, 1000) == Some([15, 23, 1, 0, 0]));
     Ok(())
 }

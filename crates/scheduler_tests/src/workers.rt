@@ -16,9 +16,12 @@ fn every_number_of_workers_gives_the_run_of_the_least_key(rt: HostRuntime) -> Re
         let (board, chips, _bounds, journal) = run_core(
             &rt, core, 40000, workers, &FreeGate,
         ).into_parts();
-        assert_eq!(rt; board.line, plain_board.line);
-        assert!(rt; chips.as_slice() == plain_chips.as_slice());
-        assert!(rt; journal.as_slice() == plain_journal.as_slice());
+        assert!(rt;
+            board.line == plain_board.line
+                && chips.as_slice() == plain_chips.as_slice()
+                && journal.as_slice() == plain_journal.as_slice(),
+            "with {workers} workers"
+        );
     }
     Ok(())
 }
