@@ -2,6 +2,8 @@
 #![tactic(auto)]
 
 #[cfg(test)]
+mod depots;
+#[cfg(test)]
 mod frames;
 #[cfg(test)]
 mod meeting;
@@ -11,6 +13,8 @@ mod program;
 mod recordings;
 #[cfg(test)]
 mod refusals;
+#[cfg(test)]
+mod rows;
 #[cfg(test)]
 mod runs;
 #[cfg(test)]

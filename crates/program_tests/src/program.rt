@@ -1,57 +1,6 @@
-use crate::runs::{BEEP, Cart, Fails, IDLE, Lengths, answer, has_lengths, is_put};
-use md_outer::MemDepot;
-use std::alloc::{AllocError, Global};
+use crate::rows::{ROW, Row, first_wrong};
+use crate::runs::{BEEP, Cart};
 use std::test::Fail;
-
-/// A file's name, a place in it, and the bytes that stand there.
-type Piece = (&'static str, usize, &'static [u8]);
-
-/// A run that ends well: the cartridge and the words, what it puts, and of the files `W` and `J` the
-/// lengths, some bytes, and whether `W` is silent.
-#[derive(Clone, Copy)]
-struct Run {
-    cart: Cart,
-    words: &'static str,
-    text: &'static str,
-    lengths: Lengths,
-    pieces: &'static [Piece],
-    silent: bool,
-}
-
-/// The bytes of a file from a place on, as many as are wanted, or none.
-fn part(file: &[u8], place: usize, length: usize) -> &[u8] {
-    file.get(place..place.wrapping_add(length)).unwrap_or(&[])
-}
-
-fn has_pieces(depot: &MemDepot, pieces: &[Piece]) -> bool {
-    for (name, place, want) in pieces {
-        let file = depot.file(name).unwrap_or(&[]);
-        if part(file, *place, want.len()) != *want {
-            return false;
-        }
-    }
-    true
-}
-
-/// Whether each sample behind the head of a sound file is 0.
-fn is_silent(sound: &[u8]) -> bool {
-    part(sound, 44, sound.len().wrapping_sub(44))
-        .iter()
-        .all(|byte| *byte == 0)
-}
-
-impl Run {
-    fn is_right(&self, alloc: Global) -> Result<bool, AllocError> {
-        let (status, depot, out) = answer(alloc, self.words, &self.cart, &[], Fails::Nothing)?;
-        Ok(
-            status == 0
-                && is_put(&out, 0, self.text)
-                && has_lengths(&depot, &self.cart, self.lengths)
-                && has_pieces(&depot, self.pieces)
-                && is_silent(depot.file("W").unwrap_or(&[])) == self.silent,
-        )
-    }
-}
 
 /// A sample of silence, and then the tone of power-on's period on both sides: -2,048 is F800h, and
 /// 2,048 is 0800h. The level turns at each tick of 240 cycles, and sample k stands after 4.2 k ticks,
@@ -99,55 +48,47 @@ const HEADER: Cart = Cart {
 // samples' bytes, and the samples' bytes. The run of three segments has lines to number 584 at
 // 1,997,280, and 124 batches, the last at 1,999,872; its second segment begins with line 0 of the
 // second frame.
-const RUNS: [Run; 13] = [
-    Run {
-        cart: IDLE,
+static RUNS: [Row; 13] = [
+    Row {
         words: "run Z --cycles 16129 --sound W",
         text: "cycles 0 to 16129\nframes 0\nsamples 16\naccesses 7\n",
-        lengths: (Some(108), None),
+        lengths: (None, Some(108), None),
         pieces: &[("W", 4, &[0x64, 0, 0, 0]), ("W", 40, &[0x40, 0, 0, 0])],
-        silent: true,
+        ..ROW
     },
-    Run {
-        cart: IDLE,
+    Row {
         words: "run Z --cycles 16128 --sound W",
         text: "cycles 0 to 16128\nframes 0\nsamples 0\naccesses 5\n",
-        lengths: (Some(44), None),
-        pieces: &[],
-        silent: true,
+        lengths: (None, Some(44), None),
+        ..ROW
     },
-    Run {
-        cart: IDLE,
+    Row {
         words: "run Z --cycles 00000000000000016129 --sound W",
         text: "cycles 0 to 16129\nframes 0\nsamples 16\naccesses 7\n",
-        lengths: (Some(108), None),
-        pieces: &[],
-        silent: true,
+        lengths: (None, Some(108), None),
+        ..ROW
     },
-    Run {
-        cart: IDLE,
+    Row {
         words: "run Z --cycles 896040 --sound W --journal J",
         text: "cycles 0 to 896040\nframes 1\nsamples 880\naccesses 372\n",
-        lengths: (Some(3564), Some(5952)),
+        lengths: (None, Some(3564), Some(5952)),
         pieces: &[
             ("W", 4, &[0xe4, 0x0d, 0, 0]),
             ("W", 40, &[0xc0, 0x0d, 0, 0]),
         ],
-        silent: true,
+        ..ROW
     },
-    Run {
-        cart: IDLE,
+    Row {
         words: "run Z --cycles 1 --journal J",
         text: "cycles 0 to 1\nframes 0\nsamples 0\naccesses 1\n",
-        lengths: (None, Some(16)),
+        lengths: (None, None, Some(16)),
         pieces: &[("J", 0, b"\0\0\0\0\0\0\0\0\x02\x0a\0\0\0\0\0\0")],
-        silent: true,
+        ..ROW
     },
-    Run {
-        cart: IDLE,
+    Row {
         words: "run Z --cycles 2000000 --sound W --journal J",
         text: "cycles 0 to 2000000\nframes 2\nsamples 1984\naccesses 833\n",
-        lengths: (Some(7980), Some(13328)),
+        lengths: (None, Some(7980), Some(13328)),
         pieces: &[
             ("W", 4, &[0x24, 0x1f, 0, 0]),
             ("W", 40, &[0x00, 0x1f, 0, 0]),
@@ -158,75 +99,64 @@ const RUNS: [Run; 13] = [
                 b"\0\0\0\0\0\x1e\x84\x00\x03\x0b\0\0\0\x7c\0\0\0\0\0\0\0\x1e\x84\x00\x04\x0c\0\0\0\x7c\0\0",
             ),
         ],
-        silent: true,
+        ..ROW
     },
-    Run {
+    Row {
         cart: BEEP,
         words: "run Z --cycles 16129 --sound W",
         text: "cycles 0 to 16129\nframes 0\nsamples 16\naccesses 8\n",
-        lengths: (Some(108), None),
+        lengths: (None, Some(108), None),
         pieces: &[
             ("W", 4, &[0x64, 0, 0, 0]),
             ("W", 40, &[0x40, 0, 0, 0]),
             ("W", 44, BEEP_PAIRS),
         ],
         silent: false,
+        ..ROW
     },
-    Run {
+    Row {
         cart: BEEP,
         words: "run Z --cycles 16128 --sound W",
         text: "cycles 0 to 16128\nframes 0\nsamples 0\naccesses 6\n",
-        lengths: (Some(44), None),
-        pieces: &[],
-        silent: true,
+        lengths: (None, Some(44), None),
+        ..ROW
     },
-    Run {
+    Row {
         cart: COUNTER,
         words: "run Z --cycles 991284",
         text: "cycles 0 to 991284\nframes 1\nsamples 976\naccesses 412\n",
-        lengths: (None, None),
-        pieces: &[],
-        silent: true,
+        ..ROW
     },
-    Run {
+    Row {
         cart: COUNTER,
         words: "run Z --cycles 991285 --sound W --journal J",
         text: "cycles 0 to 991285\nframes 1\nsamples 976\naccesses 412\nhalted at 991284\n",
-        lengths: (Some(3948), Some(6592)),
-        pieces: &[],
-        silent: true,
+        lengths: (None, Some(3948), Some(6592)),
+        ..ROW
     },
-    Run {
+    Row {
         cart: HALTED,
         words: "run Z --cycles 896040",
         text: "cycles 0 to 896040\nframes 1\nsamples 880\naccesses 372\nhalted at 0\n",
-        lengths: (None, None),
-        pieces: &[],
-        silent: true,
+        ..ROW
     },
-    Run {
+    Row {
         cart: HEADER,
         words: "info Z",
         text: "domestic: \noverseas: \nserial: \nregion: \nsize: 512\n\
             checksum: 1234 computed 0000 differs\n",
-        lengths: (None, None),
-        pieces: &[],
-        silent: true,
+        ..ROW
     },
-    Run {
-        cart: IDLE,
+    Row {
         words: "run Z --cycles 16129 --workers 5 --sound W",
         text: "cycles 0 to 16129\nframes 0\nsamples 16\naccesses 7\n",
-        lengths: (Some(108), None),
-        pieces: &[],
-        silent: true,
+        lengths: (None, Some(108), None),
+        ..ROW
     },
 ];
 
 #[test]
 fn runs_put_their_lines_and_write_their_files(rt: HostRuntime) -> Result<(), Fail> {
-    for run in RUNS {
-        assert!(rt; run.is_right(rt.alloc())?, "{}", run.words);
-    }
+    assert_eq!(rt; first_wrong(rt.alloc(), &RUNS)?, None);
     Ok(())
 }

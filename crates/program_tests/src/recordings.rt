@@ -1,12 +1,12 @@
-use crate::runs::{Cart, Fails, IDLE, answer, words_of, write_at};
-use md_outer::{MemDepot, MemSink};
-use md_top::drive_one;
+use crate::depots::{Further, depot_of, first_not_refused, put_file};
+use crate::runs::{Cart, Fails, IDLE, answer, write_at};
+use md_outer::MemDepot;
 use std::alloc::{AllocError, Global};
 use std::test::Fail;
 
 /// The bytes of recordings, and the lines of a run to cycle 5 with them, in which line 0 begins. A place
 /// is that of the first byte that no recording has there behind the bytes before it.
-const RECORDINGS: [(&[u8], u8, &str); 10] = [
+static RECORDINGS: [(&[u8], u8, &str); 10] = [
     (b"MDREC001\0\0\0\0", 0, LINES),
     (b"MDREC001\0\0\0\x01\0\xff\0\xff", 0, LINES),
     (
@@ -36,31 +36,52 @@ const LINES: &str = "cycles 0 to 5\nframes 0\nsamples 0\naccesses 1\n";
 /// Whether a recording gives that status and line, and with a refusal no file is begun.
 fn is_told(alloc: Global, recording: &[u8], wanted: u8, line: &str) -> Result<bool, AllocError> {
     let words = "run Z --cycles 5 --in P --sound W";
-    let (status, depot, out) = answer(alloc, words, &IDLE, recording, Fails::Nothing)?;
-    let begun = depot.file("W").is_some();
-    Ok(status == wanted && out.bytes() == line.as_bytes() && begun == (wanted == 0))
+    let outside = answer(alloc, words, &IDLE, recording, Fails::Nothing)?;
+    let begun = outside.length("W").is_some();
+    Ok(outside.is_left(wanted, line) && begun == (wanted == 0))
+}
+
+/// The first of these recordings that gives another status or line.
+fn first_told_otherwise(
+    alloc: Global,
+    rows: &[(&[u8], u8, &str)],
+) -> Result<Option<usize>, AllocError> {
+    for (number, (recording, wanted, line)) in rows.iter().enumerate() {
+        if !is_told(alloc, recording, *wanted, line)? {
+            return Ok(Some(number));
+        }
+    }
+    Ok(None)
 }
 
 #[test]
 fn recordings_are_read_or_refused_at_their_place(rt: HostRuntime) -> Result<(), Fail> {
-    for (recording, wanted, line) in RECORDINGS {
-        assert!(rt; is_told(rt.alloc(), recording, wanted, line)?, "{line}");
-    }
+    assert_eq!(rt; first_told_otherwise(rt.alloc(), &RECORDINGS)?, None);
     Ok(())
+}
+
+/// The length of the longest recording where it is not read, and of one with a byte more where that is not
+/// refused.
+fn first_wrong_length(alloc: Global) -> Result<Option<usize>, AllocError> {
+    let mut longer = vec![in alloc; 0u8; 4_194_317]?;
+    write_at(&mut longer, 0, b"MDREC001\0\x10\0\0");
+    let longest = longer.get(..4_194_316).unwrap_or(&[]);
+    if !is_told(alloc, longest, 0, LINES)? {
+        return Ok(Some(longest.len()));
+    }
+    if !is_told(alloc, &longer, 14, "refused: P is too long\n")? {
+        return Ok(Some(longer.len()));
+    }
+    Ok(None)
 }
 
 #[test]
 fn a_recording_has_a_greatest_length(rt: HostRuntime) -> Result<(), Fail> {
-    let alloc = rt.alloc();
-    let mut longest = vec![in alloc; 0u8; 4_194_316]?;
-    write_at(&mut longest, 0, b"MDREC001\0\x10\0\0");
-    assert!(rt; is_told(alloc, &longest, 0, LINES)?);
-    longest.push(0)?;
-    assert!(rt; is_told(alloc, &longest, 14, "refused: P is too long\n")?);
+    assert_eq!(rt; first_wrong_length(rt.alloc())?, None);
     Ok(())
 }
 
-const INPUTS: [(&str, &[u8]); 3] = [
+static INPUTS: [(&str, &[u8]); 3] = [
     ("S", b"SEGA"),
     ("G", b"MDREC001\0\0\0\0"),
     ("P", b"MDREC002\0\0\0\0"),
@@ -70,56 +91,69 @@ const INPUTS: [(&str, &[u8]); 3] = [
 /// eighth byte, and a file `Q` that is too long as either.
 fn inputs(alloc: Global) -> Result<MemDepot, AllocError> {
     let mut files = Vec::new(alloc);
-    for (name, bytes) in INPUTS {
-        files.push((String::from_str(alloc, name)?, bytes.to_vec(alloc)?))?;
+    for (name, bytes) in &INPUTS {
+        put_file(&mut files, alloc, name, bytes, &[])?;
     }
-    files.push((String::from_str(alloc, "Z")?, IDLE.image(alloc)?))?;
     let long = vec![in alloc; 0u8; 4_194_317]?;
-    files.push((String::from_str(alloc, "Q")?, long))?;
-    MemDepot::new(alloc, files, 1 << 16, Vec::new(alloc), Vec::new(alloc))
+    put_file(&mut files, alloc, "Z", &IDLE.image(alloc)?, &[])?;
+    put_file(&mut files, alloc, "Q", &long, &[])?;
+    depot_of(alloc, files)
 }
 
-/// Words, each with `--sound W` behind them, and the refusal: of the words, of an end that is too far, of
-/// the cartridge, of the recording, and of an end that is not above the start.
-const REFUSALS: [(&str, u8, &str); 13] = [
-    ("run Z --cycles 0 --in Z", 2, "refused: usage\n"),
-    ("run Z --cycles 0 --in W", 2, "refused: usage\n"),
+// The refusal of the words, of an end that is too far, of the cartridge, of the recording, and of an end
+// that is not above the start.
+static REFUSALS: [Further; 13] = [
+    ("run Z --cycles 0 --in Z --sound=W", 2, "refused: usage\n"),
+    ("run Z --cycles 0 --in W --sound=W", 2, "refused: usage\n"),
     (
-        "run X --cycles 549755813889 --in Y",
+        "run X --cycles 549755813889 --in Y --sound=W",
         11,
         "refused: cycle 549755813889 is too far\n",
     ),
-    ("run X --cycles 0 --in Y", 3, "fault: reading X\n"),
-    ("run X --cycles 0 --in P", 3, "fault: reading X\n"),
-    ("run Q --cycles 0 --in Y", 14, "refused: Q is too long\n"),
-    ("run Q --cycles 0 --in P", 14, "refused: Q is too long\n"),
-    ("run S --cycles 0 --in Y", 5, "refused: cartridge: short\n"),
-    ("run S --cycles 0 --in Q", 5, "refused: cartridge: short\n"),
-    ("run Z --cycles 0 --in Y", 3, "fault: reading Y\n"),
-    ("run Z --cycles 0 --in Q", 14, "refused: Q is too long\n"),
-    ("run Z --cycles 0 --in P", 6, "refused: recording at 7\n"),
+    ("run X --cycles 0 --in Y --sound=W", 3, "fault: reading X\n"),
+    ("run X --cycles 0 --in P --sound=W", 3, "fault: reading X\n"),
     (
-        "run Z --cycles 0 --in G",
+        "run Q --cycles 0 --in Y --sound=W",
+        14,
+        "refused: Q is too long\n",
+    ),
+    (
+        "run Q --cycles 0 --in P --sound=W",
+        14,
+        "refused: Q is too long\n",
+    ),
+    (
+        "run S --cycles 0 --in Y --sound=W",
+        5,
+        "refused: cartridge: short\n",
+    ),
+    (
+        "run S --cycles 0 --in Q --sound=W",
+        5,
+        "refused: cartridge: short\n",
+    ),
+    ("run Z --cycles 0 --in Y --sound=W", 3, "fault: reading Y\n"),
+    (
+        "run Z --cycles 0 --in Q --sound=W",
+        14,
+        "refused: Q is too long\n",
+    ),
+    (
+        "run Z --cycles 0 --in P --sound=W",
+        6,
+        "refused: recording at 7\n",
+    ),
+    (
+        "run Z --cycles 0 --in G --sound=W",
         9,
         "refused: cycle 0 is not above 0\n",
     ),
 ];
 
-/// Whether the words are refused so, and no file is begun.
-fn is_refused(alloc: Global, text: &str, wanted: u8, line: &str) -> Result<bool, AllocError> {
-    let mut depot = inputs(alloc)?;
-    let mut out = MemSink::new(alloc, 1 << 16, Vec::new(alloc))?;
-    let mut words = words_of(alloc, text)?;
-    words.push(String::from_str(alloc, "--sound=W")?)?;
-    let status = drive_one(alloc, &words, &mut depot, &mut out);
-    Ok(status == wanted && out.bytes() == line.as_bytes() && depot.file("W").is_none())
-}
-
 #[test]
 fn refusals_stand_in_their_order(rt: HostRuntime) -> Result<(), Fail> {
-    for (text, wanted, line) in REFUSALS {
-        assert!(rt; is_refused(rt.alloc(), text, wanted, line)?, "{text}");
-    }
+    let mut depot = inputs(rt.alloc())?;
+    assert_eq!(rt; first_not_refused(rt.alloc(), &mut depot, &REFUSALS)?, None);
     Ok(())
 }
 
@@ -158,7 +192,7 @@ fn sounding(sound: &[u8]) -> (usize, usize, usize) {
 /// from the line at 766,080 to that at 1,662,120, and never without `--in`. By the clocks of the M68000
 /// User's Manual, section 8, the volume is written at 766,430 and at 1,662,528, and pair k hears the
 /// writes below 1,008 k.
-const HEARD: [(&str, usize, usize); 2] = [
+static HEARD: [(&str, usize, usize); 2] = [
     ("run Z --cycles 1792080 --sound W --in P", 761, 1_649),
     ("run Z --cycles 1792080 --sound W", usize::MAX, 0),
 ];
@@ -166,15 +200,14 @@ const HEARD: [(&str, usize, usize); 2] = [
 /// Whether a sound is heard from one pair to another.
 fn is_heard(alloc: Global, words: &str, first: usize, last: usize) -> Result<bool, AllocError> {
     let recording = b"MDREC001\0\0\0\x01\0\x10\0\0";
-    let (status, depot, _) = answer(alloc, words, &PADS, recording, Fails::Nothing)?;
-    let sound = depot.file("W").unwrap_or(&[]);
-    Ok(status == 0 && sounding(sound) == (first, last, 1_776))
+    let outside = answer(alloc, words, &PADS, recording, Fails::Nothing)?;
+    Ok(outside.status == 0 && sounding(outside.file("W")) == (first, last, 1_776))
 }
 
 #[test]
 fn a_tone_while_a_recorded_button_is_held(rt: HostRuntime) -> Result<(), Fail> {
-    for (words, first, last) in HEARD {
-        assert!(rt; is_heard(rt.alloc(), words, first, last)?, "{words}");
+    for (words, first, last) in &HEARD {
+        assert!(rt; is_heard(rt.alloc(), words, *first, *last)?, "{words}");
     }
     Ok(())
 }

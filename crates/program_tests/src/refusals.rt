@@ -1,4 +1,5 @@
-use crate::runs::{Cart, Fails, IDLE, Lengths, answer, has_lengths, is_put};
+use crate::rows::{ROW, Row, first_wrong};
+use crate::runs::{Cart, Fails};
 use std::alloc::{AllocError, Global};
 use std::test::Fail;
 
@@ -17,191 +18,274 @@ const NO_MARK: Cart = Cart {
     patches: &[(0x100, b"sega")],
 };
 
-/// Words that are refused, with the status and the line.
-type Refusal = (Cart, &'static str, u8, &'static str);
+/// Words that have no meaning.
+const USAGE: Row = Row {
+    status: 2,
+    text: "refused: usage\n",
+    ..ROW
+};
 
 // An end that is too far is refused before the cartridge is read, and one that is not above the
 // start behind it.
-const REFUSALS: [Refusal; 24] = [
-    (IDLE, "", 2, "refused: usage\n"),
-    (IDLE, "run", 2, "refused: usage\n"),
-    (IDLE, "run Z --cycles +5", 2, "refused: usage\n"),
-    (
-        IDLE,
-        "run Z --cycles 9 --sound W --journal W",
-        2,
-        "refused: usage\n",
-    ),
-    (
-        IDLE,
-        "run Z --cycles 5 --sound W --sound V",
-        2,
-        "refused: usage\n",
-    ),
-    (IDLE, "run Z --cycles 5 --sound=Z", 2, "refused: usage\n"),
-    (IDLE, "walk Z --cycles 5 --sound W", 2, "refused: usage\n"),
-    (IDLE, "info", 2, "refused: usage\n"),
-    (IDLE, "info Z W", 2, "refused: usage\n"),
-    (
-        IDLE,
-        "run Z --cycles 5 --sound W --workers 6",
-        2,
-        "refused: usage\n",
-    ),
-    (
-        IDLE,
-        "run Z --cycles 0 --sound W",
-        9,
-        "refused: cycle 0 is not above 0\n",
-    ),
-    (IDLE, "run Y --cycles 0 --sound W", 3, "fault: reading Y\n"),
-    (
-        IDLE,
-        "run Y --cycles 549755813888 --sound W",
-        3,
-        "fault: reading Y\n",
-    ),
-    (
-        IDLE,
-        "run Y --cycles 549755813889 --sound W",
-        11,
-        "refused: cycle 549755813889 is too far\n",
-    ),
-    (
-        IDLE,
-        "run Z --cycles 18446744073709551615 --sound W",
-        11,
-        "refused: cycle 18446744073709551615 is too far\n",
-    ),
-    (IDLE, "run Y --cycles 5 --sound W", 3, "fault: reading Y\n"),
-    (IDLE, "info Y", 3, "fault: reading Y\n"),
-    (
-        SHORT,
-        "run Z --cycles 896040 --sound W --journal J",
-        5,
-        "refused: cartridge: short\n",
-    ),
-    (SHORT, "info Z", 5, "refused: cartridge: short\n"),
-    (
-        LONG,
-        "run Z --cycles 896040 --sound W --journal J",
-        14,
-        "refused: Z is too long\n",
-    ),
-    (LONG, "info Z", 14, "refused: Z is too long\n"),
-    (
-        NO_MARK,
-        "run Z --cycles 896040 --sound W --journal J",
-        5,
-        "refused: cartridge: no mark\n",
-    ),
-    (NO_MARK, "info Z", 5, "refused: cartridge: no mark\n"),
-    (
-        IDLE,
-        "run Z --cycles 0 --sound W --workers 5",
-        9,
-        "refused: cycle 0 is not above 0\n",
-    ),
+static REFUSALS: [Row; 24] = [
+    Row { words: "", ..USAGE },
+    Row {
+        words: "run",
+        ..USAGE
+    },
+    Row {
+        words: "run Z --cycles +5",
+        ..USAGE
+    },
+    Row {
+        words: "run Z --cycles 9 --sound W --journal W",
+        ..USAGE
+    },
+    Row {
+        words: "run Z --cycles 5 --sound W --sound V",
+        ..USAGE
+    },
+    Row {
+        words: "run Z --cycles 5 --sound=Z",
+        ..USAGE
+    },
+    Row {
+        words: "walk Z --cycles 5 --sound W",
+        ..USAGE
+    },
+    Row {
+        words: "info",
+        ..USAGE
+    },
+    Row {
+        words: "info Z W",
+        ..USAGE
+    },
+    Row {
+        words: "run Z --cycles 5 --sound W --workers 6",
+        ..USAGE
+    },
+    Row {
+        words: "run Z --cycles 0 --sound W",
+        status: 9,
+        text: "refused: cycle 0 is not above 0\n",
+        ..ROW
+    },
+    Row {
+        words: "run Y --cycles 0 --sound W",
+        status: 3,
+        text: "fault: reading Y\n",
+        ..ROW
+    },
+    Row {
+        words: "run Y --cycles 549755813888 --sound W",
+        status: 3,
+        text: "fault: reading Y\n",
+        ..ROW
+    },
+    Row {
+        words: "run Y --cycles 549755813889 --sound W",
+        status: 11,
+        text: "refused: cycle 549755813889 is too far\n",
+        ..ROW
+    },
+    Row {
+        words: "run Z --cycles 18446744073709551615 --sound W",
+        status: 11,
+        text: "refused: cycle 18446744073709551615 is too far\n",
+        ..ROW
+    },
+    Row {
+        words: "run Y --cycles 5 --sound W",
+        status: 3,
+        text: "fault: reading Y\n",
+        ..ROW
+    },
+    Row {
+        words: "info Y",
+        status: 3,
+        text: "fault: reading Y\n",
+        ..ROW
+    },
+    Row {
+        cart: SHORT,
+        words: "run Z --cycles 896040 --sound W --journal J",
+        status: 5,
+        text: "refused: cartridge: short\n",
+        ..ROW
+    },
+    Row {
+        cart: SHORT,
+        words: "info Z",
+        status: 5,
+        text: "refused: cartridge: short\n",
+        ..ROW
+    },
+    Row {
+        cart: LONG,
+        words: "run Z --cycles 896040 --sound W --journal J",
+        status: 14,
+        text: "refused: Z is too long\n",
+        ..ROW
+    },
+    Row {
+        cart: LONG,
+        words: "info Z",
+        status: 14,
+        text: "refused: Z is too long\n",
+        ..ROW
+    },
+    Row {
+        cart: NO_MARK,
+        words: "run Z --cycles 896040 --sound W --journal J",
+        status: 5,
+        text: "refused: cartridge: no mark\n",
+        ..ROW
+    },
+    Row {
+        cart: NO_MARK,
+        words: "info Z",
+        status: 5,
+        text: "refused: cartridge: no mark\n",
+        ..ROW
+    },
+    Row {
+        words: "run Z --cycles 0 --sound W --workers 5",
+        status: 9,
+        text: "refused: cycle 0 is not above 0\n",
+        ..ROW
+    },
 ];
-
-fn is_refused(alloc: Global, refusal: &Refusal) -> Result<bool, AllocError> {
-    let (cart, words, wanted, line) = refusal;
-    let (status, depot, out) = answer(alloc, words, cart, &[], Fails::Nothing)?;
-    Ok(status == *wanted && is_put(&out, 0, line) && has_lengths(&depot, cart, (None, None)))
-}
 
 #[test]
 fn a_refusal_begins_no_file(rt: HostRuntime) -> Result<(), Fail> {
-    for refusal in REFUSALS {
-        assert!(rt; is_refused(rt.alloc(), &refusal)?, "{}", refusal.1);
-    }
+    assert_eq!(rt; first_wrong(rt.alloc(), &REFUSALS)?, None);
     Ok(())
 }
 
-/// Words, a call that fails, the status and the text, and the lengths of the files `W` and `J`.
-type Fault = (&'static str, Fails, u8, &'static str, Lengths);
+const RUN: Row = Row {
+    words: "run Z --cycles 16129 --sound W --journal J",
+    text: "cycles 0 to 16129\nframes 0\nsamples 16\naccesses 7\n",
+    lengths: (None, Some(108), Some(112)),
+    ..ROW
+};
 
-const RUN: &str = "run Z --cycles 16129 --sound W --journal J";
-
-const RECORDED: &str = "run Z --cycles 16129 --in P";
-
-const LINES: &str = "cycles 0 to 16129\nframes 0\nsamples 16\naccesses 7\n";
+const RECORDED: Row = Row {
+    words: "run Z --cycles 16129 --in P",
+    text: "cycles 0 to 16129\nframes 0\nsamples 16\naccesses 7\n",
+    ..ROW
+};
 
 // The writes of a run are two begins, the head, the pairs and the records.
-const FAULTS: [Fault; 14] = [
-    (RUN, Fails::Fetch(0), 3, "fault: reading Z\n", (None, None)),
-    (RUN, Fails::Fetch(1), 0, LINES, (Some(108), Some(112))),
-    (
-        RECORDED,
-        Fails::Fetch(0),
-        3,
-        "fault: reading Z\n",
-        (None, None),
-    ),
-    (
-        RECORDED,
-        Fails::Fetch(1),
-        3,
-        "fault: reading P\n",
-        (None, None),
-    ),
-    (RECORDED, Fails::Fetch(2), 0, LINES, (None, None)),
-    (RUN, Fails::Write(0), 4, "fault: writing W\n", (None, None)),
-    (
-        RUN,
-        Fails::Write(1),
-        4,
-        "fault: writing J\n",
-        (Some(0), None),
-    ),
-    (
-        RUN,
-        Fails::Write(2),
-        4,
-        "fault: writing W\n",
-        (Some(0), Some(0)),
-    ),
-    (
-        RUN,
-        Fails::Write(3),
-        4,
-        "fault: writing W\n",
-        (Some(44), Some(0)),
-    ),
-    (
-        RUN,
-        Fails::Write(4),
-        4,
-        "fault: writing J\n",
-        (Some(108), Some(0)),
-    ),
-    (RUN, Fails::Write(5), 0, LINES, (Some(108), Some(112))),
-    (RUN, Fails::Put(14), 0, LINES, (Some(108), Some(112))),
-    ("info Z", Fails::Put(0), 13, "", (None, None)),
-    ("info Y", Fails::Put(0), 3, "", (None, None)),
+static FAULTS: [Row; 14] = [
+    Row {
+        fails: Fails::Fetch(0),
+        status: 3,
+        text: "fault: reading Z\n",
+        lengths: (None, None, None),
+        ..RUN
+    },
+    Row {
+        fails: Fails::Fetch(1),
+        ..RUN
+    },
+    Row {
+        fails: Fails::Fetch(0),
+        status: 3,
+        text: "fault: reading Z\n",
+        ..RECORDED
+    },
+    Row {
+        fails: Fails::Fetch(1),
+        status: 3,
+        text: "fault: reading P\n",
+        ..RECORDED
+    },
+    Row {
+        fails: Fails::Fetch(2),
+        ..RECORDED
+    },
+    Row {
+        fails: Fails::Write(0),
+        status: 4,
+        text: "fault: writing W\n",
+        lengths: (None, None, None),
+        ..RUN
+    },
+    Row {
+        fails: Fails::Write(1),
+        status: 4,
+        text: "fault: writing J\n",
+        lengths: (None, Some(0), None),
+        ..RUN
+    },
+    Row {
+        fails: Fails::Write(2),
+        status: 4,
+        text: "fault: writing W\n",
+        lengths: (None, Some(0), Some(0)),
+        ..RUN
+    },
+    Row {
+        fails: Fails::Write(3),
+        status: 4,
+        text: "fault: writing W\n",
+        lengths: (None, Some(44), Some(0)),
+        ..RUN
+    },
+    Row {
+        fails: Fails::Write(4),
+        status: 4,
+        text: "fault: writing J\n",
+        lengths: (None, Some(108), Some(0)),
+        ..RUN
+    },
+    Row {
+        fails: Fails::Write(5),
+        ..RUN
+    },
+    Row {
+        fails: Fails::Put(14),
+        ..RUN
+    },
+    Row {
+        fails: Fails::Put(0),
+        words: "info Z",
+        status: 13,
+        ..ROW
+    },
+    Row {
+        fails: Fails::Put(0),
+        words: "info Y",
+        status: 3,
+        ..ROW
+    },
 ];
-
-fn is_faulty(alloc: Global, fault: &Fault) -> Result<bool, AllocError> {
-    let (words, fails, wanted, text, lengths) = fault;
-    let (status, depot, out) = answer(alloc, words, &IDLE, b"MDREC001\0\0\0\0", *fails)?;
-    Ok(status == *wanted && is_put(&out, status, text) && has_lengths(&depot, &IDLE, *lengths))
-}
 
 #[test]
 fn each_failing_read_and_write(rt: HostRuntime) -> Result<(), Fail> {
-    for fault in FAULTS {
-        let right = is_faulty(rt.alloc(), &fault)?;
-        assert!(rt; right, "{} {}", fault.0, fault.3);
-    }
+    assert_eq!(rt; first_wrong(rt.alloc(), &FAULTS)?, None);
     Ok(())
+}
+
+/// The first piece of the lines that does not fail so.
+fn first_wrong_piece(alloc: Global) -> Result<Option<u64>, AllocError> {
+    for number in 0..14 {
+        let row = Row {
+            fails: Fails::Put(number),
+            status: 13,
+            ..RUN
+        };
+        if !row.is_right(alloc)? {
+            return Ok(Some(number));
+        }
+    }
+    Ok(None)
 }
 
 // The four lines of a run are put in fourteen pieces, of which those before the failing one were put.
 #[test]
 fn each_failing_piece_of_the_lines(rt: HostRuntime) -> Result<(), Fail> {
-    for number in 0..14 {
-        let fault = (RUN, Fails::Put(number), 13, LINES, (Some(108), Some(112)));
-        assert!(rt; is_faulty(rt.alloc(), &fault)?, "piece {number}");
-    }
+    assert_eq!(rt; first_wrong_piece(rt.alloc())?, None);
     Ok(())
 }

@@ -1,4 +1,5 @@
 // Runs of a cartridge from a store in memory, and what they leave.
+use crate::depots::{Files, put_file};
 use md_outer::{MemDepot, MemSink};
 use md_top::drive_one;
 use std::alloc::{AllocError, Global};
@@ -88,54 +89,71 @@ impl Fails {
     }
 }
 
-/// A depot that holds a cartridge as `Z` and a recording as `P`, and a stream.
-pub(crate) fn outside(
+/// A depot and a stream, and the status that words came to.
+#[derive(Drop)]
+pub(crate) struct Outside {
+    pub depot: MemDepot,
+    pub out: MemSink,
+    pub status: u8,
+}
+
+impl Outside {
+    /// Whether the words came to this status and put this text, or with the status 13 a front of it.
+    pub(crate) fn is_left(&self, status: u8, text: &str) -> bool {
+        let put = self.out.bytes();
+        let right = if status == 13 {
+            text.as_bytes().starts_with(put)
+        } else {
+            put == text.as_bytes()
+        };
+        right && self.status == status
+    }
+
+    /// What a file holds; nothing where there is none.
+    pub(crate) fn file(&self, name: &str) -> &[u8] {
+        self.depot.file(name).unwrap_or(&[])
+    }
+
+    /// The length of a file, where there is one.
+    pub(crate) fn length(&self, name: &str) -> Option<usize> {
+        self.depot.file(name).map(|bytes| bytes.len())
+    }
+}
+
+/// A cartridge as `Z` and a recording as `P`.
+fn files_of(alloc: Global, cart: &Cart, recording: &[u8]) -> Result<Files, AllocError> {
+    let mut files = Vec::new(alloc);
+    put_file(&mut files, alloc, "Z", &cart.image(alloc)?, &[])?;
+    put_file(&mut files, alloc, "P", recording, &[])?;
+    Ok(files)
+}
+
+/// A depot that holds them, and a stream.
+pub(crate) fn prepared(
     alloc: Global,
     cart: &Cart,
     recording: &[u8],
     fails: Fails,
-) -> Result<(MemDepot, MemSink), AllocError> {
+) -> Result<Outside, AllocError> {
     let (fetches, writes, puts) = fails.lists(alloc)?;
-    let cart = (String::from_str(alloc, "Z")?, cart.image(alloc)?);
-    let recording = (String::from_str(alloc, "P")?, recording.to_vec(alloc)?);
-    let files = Vec::from_array(alloc, [cart, recording])?;
-    let depot = MemDepot::new(alloc, files, 1 << 19, fetches, writes)?;
-    Ok((depot, MemSink::new(alloc, 1 << 16, puts)?))
+    let files = files_of(alloc, cart, recording)?;
+    Ok(Outside {
+        depot: MemDepot::new(alloc, files, 1 << 20, fetches, writes)?,
+        out: MemSink::new(alloc, 1 << 16, puts)?,
+        status: 255,
+    })
 }
 
-/// What words come to: the status, and what they leave.
+/// What words come to.
 pub(crate) fn answer(
     alloc: Global,
     words: &str,
     cart: &Cart,
     recording: &[u8],
     fails: Fails,
-) -> Result<(u8, MemDepot, MemSink), AllocError> {
-    let (mut depot, mut out) = outside(alloc, cart, recording, fails)?;
+) -> Result<Outside, AllocError> {
+    let mut outside = prepared(alloc, cart, recording, fails)?;
     let words = words_of(alloc, words)?;
-    let status = drive_one(alloc, &words, &mut depot, &mut out);
-    Ok((status, depot, out))
-}
-
-fn length_of(depot: &MemDepot, name: &str) -> Option<usize> {
-    depot.file(name).map(|bytes| bytes.len())
-}
-
-/// The lengths of the files `W` and `J`, where there are any.
-pub(crate) type Lengths = (Option<usize>, Option<usize>);
-
-/// Whether they have these lengths, and the cartridge's file still has its own.
-pub(crate) fn has_lengths(depot: &MemDepot, cart: &Cart, lengths: Lengths) -> bool {
-    length_of(depot, "W") == lengths.0
-        && length_of(depot, "J") == lengths.1
-        && length_of(depot, "Z") == Some(cart.length)
-}
-
-/// Whether a text was put, or with the status 13 a front of it.
-pub(crate) fn is_put(out: &MemSink, status: u8, text: &str) -> bool {
-    if status == 13 {
-        text.as_bytes().starts_with(out.bytes())
-    } else {
-        out.bytes() == text.as_bytes()
-    }
+    outside.status = drive_one(alloc, &words, &mut outside.depot, &mut outside.out);
+    Ok(outside)
 }

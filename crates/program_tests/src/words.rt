@@ -30,7 +30,7 @@ fn told(alloc: Global, read: Option<CommandWords<'_>>) -> Result<String, AllocEr
 // Worked out by the rules: options in any order among the other words, each at most once, as two
 // words or with `=`; behind `--` no options; names that are not empty, begin with no hyphen and are
 // pairwise different; numbers of 1 to 20 digits below 2^64.
-const READ: [(&str, &str); 27] = [
+static READ: [(&str, &str); 27] = [
     ("info Z", "Z"),
     ("info -- Z", "Z"),
     ("info info", "info"),
@@ -75,7 +75,7 @@ const READ: [(&str, &str); 27] = [
     ),
 ];
 
-const REFUSED: [&str; 80] = [
+static REFUSED: [&str; 80] = [
     "",
     "walk Z",
     "RUN Z --cycles 5",
@@ -158,25 +158,50 @@ const REFUSED: [&str; 80] = [
     "info Z --workers 2",
 ];
 
+/// What a text reads as.
+fn read(alloc: Global, text: &str) -> Result<String, AllocError> {
+    let words = words_of(alloc, text)?;
+    told(alloc, read_words(alloc, words.as_slice())?)
+}
+
+/// The first text that reads as something else.
+fn first_misread(
+    alloc: Global,
+    rows: &[(&'static str, &'static str)],
+) -> Result<Option<&'static str>, AllocError> {
+    for (text, want) in rows {
+        if read(alloc, text)?.as_str() != *want {
+            return Ok(Some(*text));
+        }
+    }
+    Ok(None)
+}
+
+/// The first text that is not refused.
+fn first_read(alloc: Global, texts: &[&'static str]) -> Result<Option<&'static str>, AllocError> {
+    for text in texts {
+        if read(alloc, text)?.as_str() != "refused" {
+            return Ok(Some(*text));
+        }
+    }
+    Ok(None)
+}
+
 #[test]
 fn words_are_read(rt: HostRuntime) -> Result<(), Fail> {
-    let alloc = rt.alloc();
-    for (text, want) in READ {
-        let words = words_of(alloc, text)?;
-        let read = told(alloc, read_words(alloc, words.as_slice())?)?;
-        assert!(rt; read.as_str() == want, "{text}");
-    }
+    assert_eq!(rt; first_misread(rt.alloc(), &READ)?, None);
     Ok(())
 }
 
 #[test]
 fn words_are_refused(rt: HostRuntime) -> Result<(), Fail> {
-    let alloc = rt.alloc();
-    for text in REFUSED {
-        let words = words_of(alloc, text)?;
-        assert!(rt; read_words(alloc, words.as_slice())?.is_none(), "{text}");
-    }
-    let none = Vec::new(alloc);
-    assert!(rt; read_words(alloc, none.as_slice())?.is_none());
+    assert_eq!(rt; first_read(rt.alloc(), &REFUSED)?, None);
+    Ok(())
+}
+
+#[test]
+fn no_words_are_refused(rt: HostRuntime) -> Result<(), Fail> {
+    let none = Vec::new(rt.alloc());
+    assert!(rt; read_words(rt.alloc(), none.as_slice())?.is_none());
     Ok(())
 }
