@@ -108,6 +108,10 @@ part c n = if (n == 0) then c.red else (if (n == 1) then c.green else c.blue)
 unfoldable pub line_byte : LineView → List Dot → List Dot → List Dot → ℕ → ℕ
 line_byte view a b s n = part (rgb_of view (shown_at view a b s (n / 3))) (n % 3)
 
+-- byte n of a line on which the backdrop alone shows
+unfoldable pub backdrop_byte : LineView → ℕ → ℕ
+backdrop_byte view n = part (rgb_of view (shown (backdrop view) shades.Normal)) (n % 3)
+
 -- the number of a shade: of each there are 64 among the 192 colours that a line can show
 abbrev pub shade_number : Shade → ℕ
 shade_number shades.Shadow = 0

@@ -36,7 +36,7 @@ fn printed(shade: Shade, level: u8) -> u8
 /// A colour of the colour memory in a shade.
 #[inline(always)]
 #[tactic(auto, unfolding(crate::specs::Mixing::rgb_of))]
-fn rgb_of(scene: &Scene, colour: usize, shade: Shade) -> Rgb
+pub fn rgb_of(scene: &Scene, colour: usize, shade: Shade) -> Rgb
     requires { colour < 64 }
     ensures { result ≡ rgb_of (seen scene.now) (shown colour shade) }
 {

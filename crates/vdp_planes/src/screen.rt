@@ -1,9 +1,9 @@
 ghost use Rattle.std.specs.Prelude.{◌≡◌, ℕ, ◌+◌, ◌-◌, ◌*◌, ◌/◌, ◌%◌, ◌<◌, ◌≤◌, Bool, nat_le, nat_lt, length, slice_index, slice_index_or};
 ghost use Rattle.vdp_planes.specs.View.{AllColours, IsFilled, dot_at, has_bit, register, seen};
 ghost use Rattle.vdp_planes.specs.Planes.{width_of};
-ghost use Rattle.vdp_planes.specs.Mixing.{IsSpan, back_at, backdrop, black, in_picture, index_at, index_of, line_byte, mixed_at, part, printed_byte, shaded_at, table_colour, unshaded_at};
+ghost use Rattle.vdp_planes.specs.Mixing.{IsSpan, back_at, backdrop, backdrop_byte, black, in_picture, index_at, index_of, line_byte, mixed_at, part, printed_byte, shaded_at, table_colour, unshaded_at};
 
-use crate::colours::{Rgb, Shade, fill_table};
+use crate::colours::{Rgb, Shade, fill_table, rgb_of};
 use crate::mix::{index_of, shaded, unshaded};
 use crate::register::{BACKDROP, MODE_2, MODE_4};
 use crate::view::{Dot, LineView, Scene};
@@ -25,6 +25,36 @@ pub fn mix_line(view: &LineView, a: &[Dot; 320], b: &[Dot; 320], s: &[Dot; 320],
 
 /// `mix_line` from borrowed registers and memories.
 pub fn mix_dots(scene: &Scene, a: &[Dot; 320], b: &[Dot; 320], s: &[Dot; 320], rgb: &mut [u8])
+    requires a { AllColours a.now }
+    requires b { AllColours b.now }
+    requires s { AllColours s.now }
+    requires room { length rgb.old ≡ 960 }
+    ensures { (n : ℕ) → n < 960 → slice_index rgb.new n ≡ line_byte (seen scene.now) a.now b.now s.now n }
+{
+    if scene.registers[MODE_2] / 64 % 2 == 1 {
+        mix_shown(scene, a, b, s, rgb);
+    } else {
+        fill_row(scene, rgb);
+    }
+}
+
+/// Writes the backdrop's colour into each dot of the line.
+#[tactic(auto, unfolding(crate::specs::Mixing::backdrop, crate::specs::Mixing::backdrop_byte))]
+fn fill_row(scene: &Scene, rgb: &mut [u8])
+    requires room { length rgb.old ≡ 960 }
+    ensures { (n : ℕ) → n < 960 → slice_index rgb.new n ≡ backdrop_byte (seen scene.now) n }
+{
+    let back = scene.registers[BACKDROP] % 64;
+    let colour = rgb_of(scene, usize::from(back), Shade::Normal);
+    for x in 0..320 {
+        rgb[3 * x] = colour.red;
+        rgb[3 * x + 1] = colour.green;
+        rgb[3 * x + 2] = colour.blue;
+    }
+}
+
+/// Mixes a line whose dots show, dot by dot.
+fn mix_shown(scene: &Scene, a: &[Dot; 320], b: &[Dot; 320], s: &[Dot; 320], rgb: &mut [u8])
     requires a { AllColours a.now }
     requires b { AllColours b.now }
     requires s { AllColours s.now }
