@@ -13,37 +13,37 @@ use crate::{Decoded, Op};
 use md_word::{Size, Task};
 
 #[tactic(auto, unfolding(crate::specs::Instructions::made))]
-fn divu(words: &[u16; 5]) -> Decoded
-    ensures value { result ≡ instructions.made rows.Divu words.now }
-    ensures instruction { IsInstruction result }
+fn divu(words: &[u16; 5], into: &mut Decoded)
+    ensures value { into.new ≡ instructions.made rows.Divu words.now }
+    ensures instruction { IsInstruction into.new }
 {
     let operand = low_operand(words, Size::Word, 1);
-    Decoded::of_words(operand.end, Op::Divu(high_register(words), operand.mode))
+    *into = Decoded::of_words(operand.end, Op::Divu(high_register(words), operand.mode))
 }
 
 #[tactic(auto, unfolding(crate::specs::Instructions::made))]
-fn divs(words: &[u16; 5]) -> Decoded
-    ensures value { result ≡ instructions.made rows.Divs words.now }
-    ensures instruction { IsInstruction result }
+fn divs(words: &[u16; 5], into: &mut Decoded)
+    ensures value { into.new ≡ instructions.made rows.Divs words.now }
+    ensures instruction { IsInstruction into.new }
 {
     let operand = low_operand(words, Size::Word, 1);
-    Decoded::of_words(operand.end, Op::Divs(high_register(words), operand.mode))
+    *into = Decoded::of_words(operand.end, Op::Divs(high_register(words), operand.mode))
 }
 
 /// DIVU, DIVS, SBCD and OR.
 #[tactic(auto, unfolding(crate::specs::Nested::group_8))]
-pub fn group_8(words: &[u16; 5]) -> Decoded
-    ensures value { result ≡ instructions.picked (nested.group_8 (slice_index words.now 0)) words.now }
-    ensures instruction { IsInstruction result }
+pub fn group_8(words: &[u16; 5], into: &mut Decoded)
+    ensures value { into.new ≡ instructions.picked (nested.group_8 (slice_index words.now 0)) words.now }
+    ensures instruction { IsInstruction into.new }
 {
     let word = words[0];
     match (word >> 6 & 3, word >> 8 & 1) {
-        (3, 0) if is_data(word) => divu(words),
-        (3, 1) if is_data(word) => divs(words),
-        (3, _) => unmatched(words),
-        (_, 0) if is_data(word) => to_register(Task::Or, words),
-        (0, 1) if word >> 4 & 3 == 0 => decimal(Task::Sbcd, words),
-        (_, 1) if is_memory_alterable(word) => to_memory(Task::Or, words),
-        _ => unmatched(words),
+        (3, 0) if is_data(word) => divu(words, into),
+        (3, 1) if is_data(word) => divs(words, into),
+        (3, _) => unmatched(words, into),
+        (_, 0) if is_data(word) => to_register(Task::Or, words, into),
+        (0, 1) if word >> 4 & 3 == 0 => decimal(Task::Sbcd, words, into),
+        (_, 1) if is_memory_alterable(word) => to_memory(Task::Or, words, into),
+        _ => unmatched(words, into),
     }
 }

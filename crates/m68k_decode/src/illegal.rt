@@ -7,9 +7,9 @@ use crate::{Decoded, Op};
 
 /// A first word that is no instruction.
 #[tactic(auto, unfolding(crate::specs::Instructions::unmatched))]
-pub fn unmatched(words: &[u16; 5]) -> Decoded
-    ensures value { result ≡ instructions.unmatched words.now }
-    ensures instruction { IsInstruction result }
+pub fn unmatched(words: &[u16; 5], into: &mut Decoded)
+    ensures value { into.new ≡ instructions.unmatched words.now }
+    ensures instruction { IsInstruction into.new }
 {
     let word = words[0];
     let op = match word >> 12 {
@@ -17,15 +17,15 @@ pub fn unmatched(words: &[u16; 5]) -> Decoded
         15 => Op::LineF(word),
         _ => Op::Illegal(word),
     };
-    Decoded::of_words(1, op)
+    *into = Decoded::of_words(1, op)
 }
 
 /// ILLEGAL, whose place is that of TAS #.
 #[tactic(auto, unfolding(crate::specs::Instructions::made))]
-pub fn illegal(words: &[u16; 5]) -> Decoded
-    ensures value { result ≡ instructions.made rows.Illegal words.now }
-    ensures instruction { IsInstruction result }
+pub fn illegal(words: &[u16; 5], into: &mut Decoded)
+    ensures value { into.new ≡ instructions.made rows.Illegal words.now }
+    ensures instruction { IsInstruction into.new }
 {
     let word = words[0];
-    Decoded::of_words(1, Op::Illegal(word))
+    *into = Decoded::of_words(1, Op::Illegal(word))
 }

@@ -24,6 +24,6 @@ mod operand;
 
 pub use condition::Condition;
 pub use decoded::Decoded;
-pub use decoder::decode;
+pub use decoder::{decode, decode_into};
 pub use displacement::Displacement;
 pub use op::Op;

@@ -13,23 +13,23 @@ use md_word::Size;
 
 #[inline(always)]
 #[tactic(auto, unfolding(crate::specs::Instructions::made))]
-fn move_to(size: Size, words: &[u16; 5]) -> Decoded
-    ensures value { result ≡ instructions.made (rows.Move size) words.now }
-    ensures instruction { IsInstruction result }
+fn move_to(size: Size, words: &[u16; 5], into: &mut Decoded)
+    ensures value { into.new ≡ instructions.made (rows.Move size) words.now }
+    ensures instruction { IsInstruction into.new }
 {
     let source = low_operand(words, size, 1);
     let target = high_operand(words, size, source.end);
-    Decoded::of_words(target.end, Op::Move(size, source.mode, target.mode))
+    *into = Decoded::of_words(target.end, Op::Move(size, source.mode, target.mode))
 }
 
 #[inline(always)]
 #[tactic(auto, unfolding(crate::specs::Instructions::made))]
-fn movea(size: Size, words: &[u16; 5]) -> Decoded
-    ensures value { result ≡ instructions.made (rows.Movea size) words.now }
-    ensures instruction { IsInstruction result }
+fn movea(size: Size, words: &[u16; 5], into: &mut Decoded)
+    ensures value { into.new ≡ instructions.made (rows.Movea size) words.now }
+    ensures instruction { IsInstruction into.new }
 {
     let operand = low_operand(words, size, 1);
-    Decoded::of_words(
+    *into = Decoded::of_words(
         operand.end,
         Op::Movea(size, high_register(words), operand.mode),
     )
@@ -38,29 +38,29 @@ fn movea(size: Size, words: &[u16; 5]) -> Decoded
 /// MOVE.B
 #[inline(always)]
 #[tactic(auto, unfolding(crate::specs::Nested::group_1))]
-pub fn group_1(words: &[u16; 5]) -> Decoded
-    ensures value { result ≡ instructions.picked (nested.group_1 (slice_index words.now 0)) words.now }
-    ensures instruction { IsInstruction result }
+pub fn group_1(words: &[u16; 5], into: &mut Decoded)
+    ensures value { into.new ≡ instructions.picked (nested.group_1 (slice_index words.now 0)) words.now }
+    ensures instruction { IsInstruction into.new }
 {
     let word = words[0];
     if is_data(word) && is_data_alterable_target(word) {
-        move_to(Size::Byte, words)
+        move_to(Size::Byte, words, into)
     } else {
-        unmatched(words)
+        unmatched(words, into)
     }
 }
 
 /// MOVE.L, MOVE.W, and MOVEA in the place of An.
 #[inline(always)]
 #[tactic(auto, unfolding(crate::specs::Nested::group_2_or_3))]
-pub fn group_2_or_3(size: Size, words: &[u16; 5]) -> Decoded
-    ensures value { result ≡ instructions.picked (nested.group_2_or_3 size (slice_index words.now 0)) words.now }
-    ensures instruction { IsInstruction result }
+pub fn group_2_or_3(size: Size, words: &[u16; 5], into: &mut Decoded)
+    ensures value { into.new ≡ instructions.picked (nested.group_2_or_3 size (slice_index words.now 0)) words.now }
+    ensures instruction { IsInstruction into.new }
 {
     let word = words[0];
     match word >> 6 & 7 {
-        1 if is_any(word) => movea(size, words),
-        _ if is_any(word) && is_data_alterable_target(word) => move_to(size, words),
-        _ => unmatched(words),
+        1 if is_any(word) => movea(size, words, into),
+        _ if is_any(word) && is_data_alterable_target(word) => move_to(size, words, into),
+        _ => unmatched(words, into),
     }
 }

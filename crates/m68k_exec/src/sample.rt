@@ -19,7 +19,7 @@ use arrayvec::ArrayVec;
 use entry::enter;
 use exception::{ADDRESS_ERROR, Exception};
 use execution::execute;
-use m68k_decode::{Decoded, Op, decode};
+use m68k_decode::{Decoded, Op, decode_into};
 use md_word::{Regs, Request68, Spent, TRACE};
 use rom_header::Cart;
 
@@ -267,8 +267,12 @@ fn run(
         answers: answers.as_slice(),
     };
     let words = instruction_words(regs.pc, &around);
-    let decoded = &decode(&words);
-    sample(cause, decoded, words[0], &around, regs, progress, step)
+    let mut decoded = Decoded {
+        op: Op::Nop,
+        length: 2,
+    };
+    decode_into(&words, &mut decoded);
+    sample(cause, &decoded, words[0], &around, regs, progress, step)
 }
 
 /// What the 68000 does at a sample, as far as the answers of its shared accesses go: it starts
