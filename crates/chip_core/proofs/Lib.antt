@@ -6,9 +6,9 @@ pub mod Keys
 pub mod Led
 pub mod Lists
 pub mod Looking
-pub mod On
 pub mod Parts
 pub mod Runs
+pub mod Sampling
 pub mod Stages
 pub mod Stands
 pub mod Turns

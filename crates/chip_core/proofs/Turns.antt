@@ -35,7 +35,7 @@ least-step key i least now is (inl p) = p.1 ∙ sym (least-true key i (subst (λ
 least-step key i least now is (inr p) = p.1 ∙ is ∙ sym (least-false key i (subst (λ n. key_lt (key i) (key n) ≡ false) is p.0)) ∙ ap (least_below key) (sym (add-one i))
 
 -- a place that is replaced twice
-put-twice : {X : Type 0} (f : ℕ → X) (i : ℕ) (x y : X) → put (put f i x) i y ≡ put f i y
+pub put-twice : {X : Type 0} (f : ℕ → X) (i : ℕ) (x y : X) → put (put f i x) i y ≡ put f i y
 put-twice f i x y =
     fun_ext (λ k. put-each (λ n z. z ≡ put f i y n) (put f i x) i y k (λ _. sym (put-same f i y)) (λ ne. put-other f i x k ne ∙ sym (put-other f i y k ne)))
 

@@ -1,8 +1,9 @@
 -- What a set of chips does, as functions on the plain data that contracts see.
-use Rattle.std.specs.Prelude.{◌≡◌, ℕ, ◌+◌, ◌^◌, ◌<◌, ◌≤◌, Bool, true, false}
+use Rattle.std.specs.Prelude.{◌≡◌, ℕ, zero, suc, ◌+◌, ◌^◌, ◌<◌, ◌≤◌, Bool, true, false}
 use Rattle.md_word.specs.declared.event.Entry.{Entry}
 use Rattle.md_word.specs.declared.event.Next.{Next}
 use Rattle.md_word.specs.declared.key.Key.{Key}
+use Rattle.md_word.specs.Keys.{key_lt}
 
 -- what the locked part of an access leaves
 pub record Accessed (Chip Shared : Type 0) : Type 0 where
@@ -22,6 +23,23 @@ pub record Rules (Chip Shared Pins : Type 0) : Type 0 where
   pub gap : ℕ → ℕ
   -- stands for a chip past the count, of which nothing is asked
   pub blank : Chip
+
+module _ {Chip Shared Pins : Type 0} (rules : Rules Chip Shared Pins) where
+  -- the chip after n samples of the same pins
+  unfoldable pub sampled : ℕ → Pins → Chip → Chip
+  sampled zero pins c = c
+  sampled (suc n) pins c = rules.sample (sampled n pins c) pins
+
+  -- the chip's next event is a sample, and comes before this key
+  abbrev pub SamplesBelow : Key → Chip → Type 0
+  SamplesBelow end c = ((rules.next c).sample ≡ true) × (key_lt (rules.next c).key end ≡ true)
+
+  -- one sample of these pins or more, each before this key, lead from one chip to the other
+  pub record SamplesTo (end : Key) (pins : Pins) (before after : Chip) : Type 0 where
+    pub samples : ℕ
+    pub some : 1 ≤ samples
+    pub each : (k : ℕ) → k < samples → SamplesBelow end (sampled k pins before)
+    pub is : after ≡ sampled samples pins before
 
 -- an event leads to a next event of the same chip, at least a gap later
 pub record Follows (gap : ℕ → ℕ) (before after : Key) : Type 0 where

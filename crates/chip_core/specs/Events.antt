@@ -1,11 +1,11 @@
 -- The events of a core: where each is enabled, and what it does.
-use Rattle.std.specs.Prelude.{◌≡◌, ◌≢◌, ℕ, ◌+◌, ◌<◌, ◌≤◌, Bool, true, false, cond, List, [], ◌∷◌, ◌++◌, length}
+use Rattle.std.specs.Prelude.{◌≡◌, ◌≢◌, ℕ, zero, suc, ◌+◌, ◌<◌, ◌≤◌, Bool, true, false, cond, List, [], ◌∷◌, ◌++◌, length}
 use Rattle.md_word.specs.declared.event.Entry.{Entry}
 use Rattle.md_word.specs.declared.key.Key.{Key}
 use Rattle.md_word.specs.Keys.{key_lt}
 use Rattle.chip_core.specs.declared.event.Event.{Event}
 use Rattle.chip_core.specs.declared.event.Event.TheVariants.{Announce, Perform, Sample}
-use Rattle.chip_core.specs.Chips.{Rules}
+use Rattle.chip_core.specs.Chips.{Rules, SamplesBelow}
 use Rattle.chip_core.specs.Machines.{Machine, put, key_of, is_sample, accessed, move, mover, IsSound}
 use Rattle.chip_core.specs.Standing.{StandsFor}
 
@@ -79,6 +79,18 @@ module _ {Chip Shared Pins : Type 0} (rules : Rules Chip Shared Pins) where
   -- some list of enabled events leads from one core to the other
   abbrev pub Reaches : ℕ → Seen Chip Shared → Seen Chip Shared → Type 0
   Reaches t s z = (events : List Event) × Leads t s events z
+
+  -- the core after n samples of chip i, each with the announcement of its next event
+  unfoldable pub sampled_on : ℕ → Seen Chip Shared → ℕ → Seen Chip Shared
+  sampled_on zero s i = s
+  sampled_on (suc n) s i = after (after (sampled_on n s i) (Sample i)) (Announce i)
+
+  -- one sample of chip i or more, each before this key, lead from one core to the other
+  pub record SamplesOn (end : Key) (i : ℕ) (s z : Seen Chip Shared) : Type 0 where
+    pub samples : ℕ
+    pub some : 1 ≤ samples
+    pub each : (k : ℕ) → k < samples → SamplesBelow rules end ((sampled_on k s i).machine.chip i)
+    pub is : z ≡ sampled_on samples s i
 
   -- the bound of each chip below n is the chip's key
   abbrev pub AreKeys : Seen Chip Shared → ℕ → Type 0

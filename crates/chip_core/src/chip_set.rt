@@ -1,13 +1,13 @@
-ghost use Rattle.std.specs.Prelude.{◌≡◌, ℕ, ◌^◌, ◌<◌, true, false, List};
+ghost use Rattle.std.specs.Prelude.{◌≡◌, ℕ, ◌^◌, ◌<◌, ◌≤◌, true, false, List};
 
-use md_word::{Entry, Next};
+use md_word::{Entry, Key, Next};
 
 /// Up to five chips, numbered from 0, that share a state.
 ///
 /// Each chip waits at an event to come: an access to the shared state, or a sample of its input
 /// pins. An event has a key, its cycle of the master clock and the chip's number.
 pub trait ChipSet: Send + Sync {
-    ghost use Rattle.chip_core.specs.Chips.{IsDue, IsPerformed, Lawful, Rules};
+    ghost use Rattle.chip_core.specs.Chips.{IsDue, IsPerformed, Lawful, Rules, SamplesBelow, SamplesTo};
     ghost use Rattle.chip_core.specs.Cores.{CoreValue, IsCoded};
 
     /// A chip, at its next event.
@@ -80,6 +80,17 @@ pub trait ChipSet: Send + Sync {
         requires sample { (rules.next chip.old).sample ≡ true }
         requires cycle { (rules.next chip.old).key.cycle < 2 ^ 50 }
         ensures { chip.new ≡ rules.sample chip.old pins.now };
+
+    /// The sample that is due and, if the chip knows what they come to, samples of the same pins after
+    /// it, each before the key `end`.
+    fn sample_ahead(chip: &mut Self::Chip, pins: &Self::Pins, end: &Key)
+        requires sample { SamplesBelow rules end.now chip.old }
+        requires cycle { (rules.next chip.old).key.cycle < 2 ^ 50 }
+        requires time { end.now.cycle ≤ 2 ^ 50 }
+        ensures { SamplesTo rules end.now pins.now chip.old chip.new }
+    {
+        Self::sample(chip, pins);
+    }
 
     /// Whether accesses of the one chip can change the input pins of the other.
     fn writes(writer: u8, chip: u8) -> bool

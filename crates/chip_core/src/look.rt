@@ -43,7 +43,7 @@ pub(crate) fn is_below_writers<C: ChipSet>(key: &Key, bounds: &[Key], chip: u8) 
     ensures { IsTrue result ↔ IsBelowWriters C.rules key.now bounds.now chip }
 {
     for i in 0..bounds.len() {
-        if cuts::<C>(i, chip) && !key.is_below(&bounds[i]) {
+        if is_other_writer::<C>(i, chip) && !key.is_below(&bounds[i]) {
             return false;
         }
     }
@@ -51,7 +51,7 @@ pub(crate) fn is_below_writers<C: ChipSet>(key: &Key, bounds: &[Key], chip: u8) 
 }
 
 /// Whether chip `i` is another than `chip` and writes its pins.
-fn cuts<C: ChipSet>(i: usize, chip: u8) -> bool
+fn is_other_writer<C: ChipSet>(i: usize, chip: u8) -> bool
     requires { i < 5 }
     ensures { IsTrue result ↔ ((i ≢ chip) × (C.rules.writes i chip ≡ true)) }
 {
@@ -66,7 +66,7 @@ pub(crate) fn limit_of<C: ChipSet>(bounds: &[Key], t: u64, chip: u8) -> Key
 {
     let mut end = Key { cycle: t, chip: 0 };
     for i in 0..bounds.len() {
-        if cuts::<C>(i, chip) && bounds[i].is_below(&end) {
+        if is_other_writer::<C>(i, chip) && bounds[i].is_below(&end) {
             end = bounds[i];
         }
     }

@@ -1,10 +1,10 @@
-ghost use Rattle.std.specs.Prelude.{◌≡◌, ℕ, ◌^◌, ◌<◌, ◌≤◌, ◌↔◌, true, [], IsTrue, length, MatchOption};
-ghost use Rattle.md_word.specs.Keys.{key_lt};
+ghost use Rattle.std.specs.Prelude.{◌≡◌, ℕ, ◌^◌, ◌<◌, ◌≤◌, ◌↔◌, [], IsTrue, length, MatchOption};
 ghost use Rattle.chip_core.specs.declared.event.Event.{Event};
-ghost use Rattle.chip_core.specs.Cores.{IsCore, ReachesEnd, machine_of, seen};
-ghost use Rattle.chip_core.specs.Events.{AreKeys, HasPlace, HasRoom, IsEnabled, Reaches, after, own_event, turned};
+ghost use Rattle.chip_core.specs.Chips.{SamplesBelow};
+ghost use Rattle.chip_core.specs.Cores.{IsCore, ReachesEnd, chip_in, machine_of, seen};
+ghost use Rattle.chip_core.specs.Events.{AreKeys, HasPlace, HasRoom, IsEnabled, Reaches, SamplesOn, after, own_event, turned};
 ghost use Rattle.chip_core.specs.Looks.{IsLimit};
-ghost use Rattle.chip_core.specs.Machines.{IsRunTo, is_sample, key_of, least_below};
+ghost use Rattle.chip_core.specs.Machines.{IsRunTo, least_below};
 
 use crate::look::{least_of, limit_of};
 use crate::{ChipSet, Core};
@@ -102,9 +102,18 @@ impl<C: ChipSet> Core<C> {
         ensures core { IsCore C.rules C.chip_ok C.shared_ok self.new }
     {
         let end = self.limit(t, chip);
+        let pins = self.pins_of(chip);
         while self.samples_below(chip, &end) {
-            self.turn_sample(chip);
+            self.turn_samples(chip, &pins, &end);
         }
+    }
+
+    /// The input pins of a chip.
+    fn pins_of(&self, chip: u8) -> C::Pins
+        ensures value { result ≡ C.rules.pins self.now.shared chip }
+        ensures core { IsCore C.rules C.chip_ok C.shared_ok self.now }
+    {
+        C::pins(&self.shared, chip)
     }
 
     /// The key below which the chip may sample.
@@ -118,8 +127,7 @@ impl<C: ChipSet> Core<C> {
     /// Whether the chip's next event is a sample below a key.
     fn samples_below(&self, chip: u8, end: &Key) -> bool
         requires { chip < C.rules.count }
-        ensures value { IsTrue result ↔ ((is_sample C.rules (machine_of C.rules self.now) chip ≡ true)
-            × (key_lt (key_of C.rules (machine_of C.rules self.now) chip) end.now ≡ true)) }
+        ensures value { IsTrue result ↔ SamplesBelow C.rules end.now (chip_in C.rules self.now.chips chip) }
         ensures core { IsCore C.rules C.chip_ok C.shared_ok self.now }
     {
         let next = C::next(&self.chips[chip as usize]);
@@ -137,6 +145,27 @@ impl<C: ChipSet> Core<C> {
         let pins = C::pins(&self.shared, chip);
         let held = &mut self.chips[i];
         C::sample(held, &pins);
+        let next = C::next(held);
+        let bound = &mut self.bounds[i];
+        bound.cycle = next.key.cycle;
+        bound.chip = next.key.chip;
+    }
+
+    /// The chip makes the sample of these pins that is due, and perhaps more of them before a key, and
+    /// its bound becomes the key of its next event.
+    fn turn_samples(&mut self, chip: u8, pins: &C::Pins, end: &Key)
+        requires chip { chip < C.rules.count }
+        requires pins { pins.now ≡ C.rules.pins self.old.shared chip }
+        requires sample { SamplesBelow C.rules end.now (chip_in C.rules self.old.chips chip) }
+        requires limit { IsLimit C.rules (2 ^ 50) (seen C.rules self.old).bound C.rules.count chip end.now }
+        ensures on { SamplesOn C.rules end.now chip (seen C.rules self.old) (seen C.rules self.new) }
+        ensures shared { self.new.shared ≡ self.old.shared }
+        ensures room { self.new.room ≡ self.old.room }
+        ensures core { IsCore C.rules C.chip_ok C.shared_ok self.new }
+    {
+        let i = chip as usize;
+        let held = &mut self.chips[i];
+        C::sample_ahead(held, pins, end);
         let next = C::next(held);
         let bound = &mut self.bounds[i];
         bound.cycle = next.key.cycle;

@@ -3,9 +3,8 @@ use Rattle.chip_core.specs.Cores.{seen}
 use Rattle.chip_core.specs.Events.{AreKeys, HasRoom, Reaches, own_event}
 use Rattle.chip_core.proofs.Keeps.{enabled-wider}
 use Rattle.chip_core.proofs.Lists.{tidy-core}
-use Rattle.chip_core.proofs.On.{reaches-less}
+use Rattle.chip_core.proofs.Works.{work, work-leads}
 use Rattle.chip_core.proofs.Turns.{ends-there, first-enabled, first-quiet, first-there, keys-turned, own-place, reaches-on, room-there, turn-less, turn-reaches}
-use Rattle.chip_core.proofs.Works.{work}
 use Rattle.chip_core.proofs.scheduler.run_least.run_least.Goals as goal
 
 pub turn-requires-clause-chip : goal.turn-requires-clause-chip
@@ -43,7 +42,7 @@ loop-chip-smaller g c =
     c.args.t c.requires.time (seen g.C.ChipSet.rules c.loop-chip.core) (tidy-core g.C.ChipSet.rules g.C.ChipSet.chip_ok g.C.ChipSet.shared_ok c.loop-chip.core c.loop-chip.invariant.core) c.loop-chip.invariant.keys c.in-Some.chip c.in-Some.ensures.found.0 c.in-Some.ensures.found.1).0
     (first-enabled g.C.ChipSet.rules g.C.ChipSet.chip_ok g.C.ChipSet.shared_ok (g.met.C.ChipSet g.world.𝓛 g.world.𝓜 g.world.𝓡 ((λ s x. x), (λ x. x), (λ x. x), (λ x. x))).lawful
     c.args.t c.requires.time (seen g.C.ChipSet.rules c.loop-chip.core) (tidy-core g.C.ChipSet.rules g.C.ChipSet.chip_ok g.C.ChipSet.shared_ok c.loop-chip.core c.loop-chip.invariant.core) c.loop-chip.invariant.keys c.in-Some.chip c.in-Some.ensures.found.0 c.in-Some.ensures.found.1).1) in
-    let on = reaches-less g.C.ChipSet.rules g.C.ChipSet.chip_ok g.C.ChipSet.shared_ok (g.met.C.ChipSet g.world.𝓛 g.world.𝓜 g.world.𝓡 ((λ s x. x), (λ x. x), (λ x. x), (λ x. x))).lawful c.args.t c.requires.time (seen g.C.ChipSet.rules c.turn.new.self) (tidy-core g.C.ChipSet.rules g.C.ChipSet.chip_ok g.C.ChipSet.shared_ok c.turn.new.self c.turn.ensures.core) (seen g.C.ChipSet.rules c.sample_on.new.self) c.sample_on.ensures.led in
+    let on = work-leads g.C.ChipSet.rules g.C.ChipSet.chip_ok g.C.ChipSet.shared_ok (g.met.C.ChipSet g.world.𝓛 g.world.𝓜 g.world.𝓡 ((λ s x. x), (λ x. x), (λ x. x), (λ x. x))).lawful c.args.t c.requires.time (seen g.C.ChipSet.rules c.turn.new.self) (tidy-core g.C.ChipSet.rules g.C.ChipSet.chip_ok g.C.ChipSet.shared_ok c.turn.new.self c.turn.ensures.core) c.sample_on.ensures.led.0 (seen g.C.ChipSet.rules c.sample_on.new.self) c.sample_on.ensures.led.1 in
     omega (arith, turned, on)
 
 pub loop-chip-preserved : goal.loop-chip-preserved
