@@ -2,10 +2,11 @@
 use Rattle.std.proofs.Common.{◌≡◌, ℕ, true, false, List, [], sym, ◌∙◌, ap, subst}
 use Rattle.md_word.specs.declared.pins.Pins80.{Pins80}
 use Rattle.z80_parcel.specs.Requests.{Fits, Told}
-use Rattle.z80_chip.specs.Events.{answered, asked_of, begun, handed}
+use Rattle.z80_chip.specs.Events.{WentAhead, answered, asked_of, begun, begun_after, handed}
 use Rattle.z80_chip.specs.Sound.{Chip80Value, IsChip80}
 use Rattle.z80_chip.specs.States.{State80, next_of}
 use Rattle.z80_chip.proofs.Laws.{answered-ok, begun-ok, handed-ok, of, sampling}
+use Rattle.z80_chip.proofs.Resting.{ahead-ok}
 
 -- a state that is another's, over a cartridge that is another's
 sound_at : (image : List ℕ) (new at : State80) → new ≡ at → IsChip80 (of image at) → IsChip80 (of image new)
@@ -21,6 +22,13 @@ pub after_sample : (image bytes : List ℕ) (old new : State80) (value : Chip80V
     → (next_of value.state).sample ≡ true → bytes ≡ image → new ≡ begun bytes old pins → IsChip80 (of image new)
 after_sample image bytes old new value pins is ok kind same e =
     sound_at image new (begun image old pins) (e ∙ ap (λ (b : List ℕ). begun b old pins) same) (begun-ok (of image old) pins ok (samples old image value is kind))
+
+-- so is one that went ahead
+pub ahead_kept : (image bytes : List ℕ) (old new : State80) (value : Chip80Value) (pins : Pins80) (end : ℕ) → of image old ≡ value → IsChip80 (of image old)
+    → (next_of value.state).sample ≡ true → bytes ≡ image → WentAhead end bytes pins old new → IsChip80 (of image new)
+ahead_kept image bytes old new value pins end is ok kind same went =
+    let on : WentAhead end image pins old new = subst (λ (b : List ℕ). WentAhead end b pins old new) same went in
+    sound_at image new (begun_after on.samples image old pins) on.is (ahead-ok image old pins on.samples ok (samples old image value is kind) on.sample)
 
 pub after_answer : (image bytes : List ℕ) (old new : State80) (value : Chip80Value) (answer : Told) → of image old ≡ value → IsChip80 (of image old)
     → (next_of value.state).sample ≡ false → Fits (asked_of value.cart value.state) answer → bytes ≡ image → new ≡ answered bytes old answer → IsChip80 (of image new)

@@ -1,6 +1,7 @@
 pub mod Kept
 pub mod Laws
 pub mod Recent
+pub mod Resting
 pub mod RuleLaws
 pub mod SavedLaws
 pub mod SpellingLaws

@@ -41,6 +41,12 @@ bus_case false true running = running
 unfoldable pub case_of : State80 → Pins80 → Case
 case_of state pins = bus_case pins.request (is_some state.store) (running_case state pins)
 
+-- whether it does nothing, and at the samples after it neither while the pins stay
+abbrev pub is_rest : Case → Bool
+is_rest Suspended = true
+is_rest InReset = true
+is_rest case = false
+
 -- something is carried out only where the Z80 has its RAM
 abbrev pub RunsWithRam : Case → Bool → Type 0
 RunsWithRam Interrupt has = IsTrue has

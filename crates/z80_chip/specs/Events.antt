@@ -1,6 +1,6 @@
 -- What an event of the Z80 leaves, and what it asks for. Cycles are master cycles, of which a clock
 -- has 15. Zilog UM0080, "CPU Timing"; the places of events are this project's profile.
-use Rattle.std.specs.Prelude.{◌≡◌, IsSome, ℕ, ◌+◌, ◌*◌, List, [], ◌∷◌, ◌++◌, length, Option, Some, None, option_map, unwrap_or, Result, Ok, Err}
+use Rattle.std.specs.Prelude.{◌≡◌, IsSome, ℕ, zero, suc, ◌+◌, ◌-◌, ◌*◌, ◌/◌, ◌%◌, ◌<◌, ◌≤◌, min, List, [], ◌∷◌, ◌++◌, length, Option, Some, None, option_map, unwrap_or, Result, Ok, Err}
 use Rattle.md_word.specs.declared.pins.Pins80.{Pins80}
 use Rattle.md_word.specs.declared.sub_bus.Request80.{Request80}
 use Rattle.z80_exec.specs.Access.Actions.{Done}
@@ -114,6 +114,24 @@ begun_as cases.Instruction cart state = went_on cart state 0
 -- after a sample of these pins
 unfoldable pub begun : List ℕ → State80 → Pins80 → State80
 begun cart state pins = begun_as (case_of (seen state pins) pins) cart (seen state pins)
+
+-- how many steps lead from a cycle to the first one that is not before another
+abbrev pub steps_to : ℕ → ℕ → ℕ
+steps_to start end = (end - start) / step + min 1 ((end - start) % step)
+
+-- after n samples of the same pins
+unfoldable pub begun_after : ℕ → List ℕ → State80 → Pins80 → State80
+begun_after zero cart state pins = state
+begun_after (suc n) cart state pins = begun cart (begun_after n cart state pins) pins
+
+-- one sample or more of the same pins lead from one state to the other, where each but the first
+-- lies below a cycle
+pub record WentAhead (cycle : ℕ) (cart : List ℕ) (pins : Pins80) (before after : State80) : Type 0 where
+  pub samples : ℕ
+  pub some : 1 ≤ samples
+  pub sample : (k : ℕ) → 1 ≤ k → k < samples → (begun_after k cart before pins).stage ≡ Sample
+  pub below : (k : ℕ) → 1 ≤ k → k < samples → (begun_after k cart before pins).next < cycle
+  pub is : after ≡ begun_after samples cart before pins
 
 -- after a yield or a take: the Z80 has what the answer gives back, and samples 105 cycles after it
 -- saw the request change

@@ -1,3 +1,6 @@
+ghost use Rattle.std.specs.Prelude.{◌≡◌};
+ghost use Rattle.z80_chip.specs.Cases as cases;
+
 /// What the Z80 does at a sample.
 #[derive(Clone, Copy)]
 pub enum Case {
@@ -15,4 +18,13 @@ pub enum Case {
     Halted,
     /// The instruction at the program counter.
     Instruction,
+}
+
+impl Case {
+    /// Whether the Z80 does nothing, and at the samples after it neither while its pins stay.
+    pub fn is_rest(self) -> bool
+        ensures { result ≡ cases.is_rest self }
+    {
+        matches!(self, Case::Suspended | Case::InReset)
+    }
 }

@@ -1,4 +1,4 @@
-ghost use Rattle.std.specs.Prelude.{◌≡◌, ◌^◌, ◌<◌, true, false, IfOk};
+ghost use Rattle.std.specs.Prelude.{◌≡◌, ◌^◌, ◌<◌, ◌≤◌, true, false, IfOk};
 
 use crate::sequencer::Sequencer;
 use crate::stage::Stage;
@@ -36,7 +36,7 @@ impl Model for Chip80 {
 
 impl Chip80 {
     ghost use Rattle.std.specs.Arc.{arc_value};
-    ghost use Rattle.z80_chip.specs.Events.{answered, asked_of, begun, handed};
+    ghost use Rattle.z80_chip.specs.Events.{WentAhead, answered, asked_of, begun, handed};
     ghost use Rattle.z80_chip.specs.Sound.{IsChip80};
     ghost use Rattle.z80_parcel.specs.Requests.{Fits, asked, told};
     ghost use Rattle.z80_chip.specs.States.{next_of, power_on};
@@ -107,5 +107,17 @@ impl Chip80 {
     {
         self.sequencer
             .begin(&pins, &self.cart, &mut self.parcel, &mut self.progress);
+    }
+
+    /// Takes the sample that is the next event, as `sample` does. Where the Z80 does nothing, since the
+    /// bus has its RAM or its reset is held, it takes all samples of these pins below cycle `end` too.
+    pub fn sample_ahead(&mut self, pins: Pins80, end: u64)
+        requires sampling { (next_of self.old.state).sample ≡ true }
+        requires far { self.old.state.next < 2 ^ 50 }
+        requires end { end ≤ 2 ^ 50 }
+        ensures state { WentAhead end self.old.cart pins self.old.state self.new.state }
+        ensures cart { self.new.cart ≡ self.old.cart }
+    {
+        self.sequencer.begin_ahead(&pins, end, &self.cart, &mut self.parcel, &mut self.progress);
     }
 }

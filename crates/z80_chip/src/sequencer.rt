@@ -1,9 +1,9 @@
-ghost use Rattle.std.specs.Prelude.{◌≡◌, ◌+◌, ◌^◌, ◌<◌, ◌≤◌, ℕ, List, [], length, IfSome, IsSome, Option, Some, None, option_map, is_some};
+ghost use Rattle.std.specs.Prelude.{◌≡◌, ◌+◌, ◌*◌, ◌^◌, ◌<◌, ◌≤◌, ℕ, List, [], length, IfSome, IsSome, Option, Some, None, option_map, is_some};
 ghost use Rattle.arrayvec.specs.ArrayVec.{array_vec_len};
 ghost use Rattle.md_word.specs.declared.sub_bus.Parcel.{Parcel as Held};
 ghost use Rattle.z80_chip.specs.Cases as cases;
 ghost use Rattle.z80_chip.specs.Events as events;
-ghost use Rattle.z80_chip.specs.Events.{answered, asked_of, begun, carried_out, handed, went_on};
+ghost use Rattle.z80_chip.specs.Events.{WentAhead, answered, asked_of, begun, carried_out, handed, went_on};
 ghost use Rattle.z80_exec.specs.Access.Clauses.{done_of};
 ghost use Rattle.z80_chip.specs.States.{State80, no_regs, power_on, state_of};
 ghost use Rattle.z80_parcel.specs.Parcels.{Store, store_of};
@@ -142,8 +142,8 @@ impl Sequencer {
 
     /// Rests until a sample so many cycles after the last.
     fn wait(&mut self, cycles: u64)
-        requires start { self.old.start < 2 ^ 50 }
-        requires cycles { cycles < 2 ^ 50 }
+        requires start { self.old.start < 2 ^ 51 }
+        requires cycles { cycles < 2 ^ 51 }
         ensures { (parcel : Option Held) → state_of self.new parcel ≡ events.waited (state_of self.old parcel) cycles }
     {
         self.next = self.start + cycles;
@@ -258,6 +258,39 @@ impl Sequencer {
             Case::Interrupt => self.carry_out(1, cart, parcel, progress),
             Case::Halted => self.wait(FIRST_STEP),
             Case::Instruction => self.carry_out(0, cart, parcel, progress),
+        }
+    }
+
+    /// Rests on, to the first sample at cycle `end` or later.
+    fn rest_to(&mut self, end: u64)
+        requires start { self.old.start < 2 ^ 50 + 2 ^ 6 }
+        requires end { end ≤ 2 ^ 50 }
+        ensures { (parcel : Option Held) → state_of self.new parcel
+            ≡ events.waited (state_of self.old parcel) (events.step * events.steps_to self.old.start end) }
+    {
+        let steps = end.saturating_sub(self.start).div_ceil(STEP);
+        self.wait(STEP * steps);
+    }
+
+    /// Goes on from a sample with these pins; where the Z80 rests, from the samples below cycle `end`
+    /// after it too.
+    pub fn begin_ahead(
+        &mut self,
+        pins: &Pins80,
+        end: u64,
+        cart: &Cart,
+        parcel: &mut Option<Parcel>,
+        progress: &mut Progress80,
+    )
+        requires start { self.old.start < 2 ^ 50 }
+        requires end { end ≤ 2 ^ 50 }
+        requires answers { self.old.answers.items ≡ [] }
+        ensures { WentAhead end cart.now pins.now (state_of self.old parcel.old) (state_of self.new parcel.new) }
+    {
+        let rests = self.case_at(pins, parcel).is_rest();
+        self.begin(pins, cart, parcel, progress);
+        if rests {
+            self.rest_to(end);
         }
     }
 

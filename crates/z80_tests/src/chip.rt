@@ -55,6 +55,35 @@ fn released_from_its_reset(rt: HostRuntime) -> Result<(), Fail> {
     Ok(())
 }
 
+/// As `sample`; where the Z80 does nothing, behind all samples of these pins below `end`.
+#[tactic(auto, unfolding(z80_chip::specs::States::next_of))]
+fn sample_ahead(chip: &mut Chip80, reset: bool, end: u64) -> Option<u64> {
+    let next = chip.next();
+    if !next.sample || next.key.cycle >= 1_000_000 || end >= 1_000_000 {
+        return None;
+    }
+    let pins = Pins80 {
+        request: false,
+        reset,
+        resets: 0,
+        int_from: 0,
+        int_to: 0,
+    };
+    chip.sample_ahead(pins, end);
+    Some(chip.next().key.cycle)
+}
+
+// The same in two steps: all samples in the reset that lie below 1,000 at once, and the instruction alone,
+// however far it might go.
+#[test]
+fn goes_ahead_in_its_reset(rt: HostRuntime) -> Result<(), Fail> {
+    let mut chip = power_on(rt.alloc())?;
+    let held = sample_ahead(&mut chip, true, 1_000);
+    let released = sample_ahead(&mut chip, false, 100_000);
+    assert_eq!(rt; (held, released), (Some(1_035), Some(1_095)));
+    Ok(())
+}
+
 /// Where the Z80 stands behind a sample, behind one with its bus requested, and whether a sample is next.
 fn requested(chip: &mut Chip80) -> (Option<u64>, Option<u64>, bool) {
     let first = sample(chip, false, false);

@@ -1,0 +1,20 @@
+use Rattle.std.proofs.Common.{sym, ap, ◌∙◌, arith}
+use Rattle.z80_chip.specs.Cases.{is_rest}
+use Rattle.z80_chip.specs.States.{State80, state_of}
+use Rattle.z80_chip.proofs.Resting.{first-start, one-ahead, rested-ahead}
+use Rattle.z80_chip.proofs.sequencer.Sequencer.begin_ahead.Goals as goal
+
+pub rest_to-requires-clause-start : goal.rest_to-requires-clause-start
+rest_to-requires-clause-start c =
+    let start = ap (λ (state : State80). state.start) c.begin.ensures
+    ∙ first-start c.args.cart.now (state_of c.args.self.now c.args.parcel.now) c.args.pins.now (ap is_rest (sym c.case_at.ensures.value) ∙ sym c.is_rest-rests.ensures ∙ c.if-rests.true) in
+    let low = c.requires.start in
+    omega (arith, start, low)
+
+pub returns-then-rests : goal.returns-then-rests
+returns-then-rests c =
+    rested-ahead c.args.cart.now (state_of c.args.self.now c.args.parcel.now) c.args.pins.now (ap is_rest (sym c.case_at.ensures.value) ∙ sym c.is_rest-rests.ensures ∙ c.if-rests.true) c.args.end (state_of c.begin.new.self c.begin.new.parcel) (state_of c.rest_to.new.self c.begin.new.parcel)
+    c.begin.ensures (c.rest_to.ensures c.begin.new.parcel)
+
+pub returns-else-rests : goal.returns-else-rests
+returns-else-rests c = one-ahead c.args.cart.now (state_of c.args.self.now c.args.parcel.now) c.args.pins.now c.args.end (state_of c.begin.new.self c.begin.new.parcel) c.begin.ensures
