@@ -1,3 +1,4 @@
+pub mod Ahead
 pub mod Advances
 pub mod Appended
 pub mod Assembled

@@ -8,7 +8,7 @@ use crate::chips::Chip;
 use crate::pins::Pins;
 use bus_shared::{Shared, pins68, pins80};
 use chip_core::ChipSet;
-use md_word::{Entry, Next};
+use md_word::{Entry, Key, Next};
 
 /// The five chips of the machine, as a set for the scheduler.
 pub struct MdChips;
@@ -93,6 +93,15 @@ impl ChipSet for MdChips {
             Chip::Sub(sub) => sub.sample(pins.sub()),
             Chip::Line(_) | Chip::Fm(_) | Chip::Psg(_) => {}
         }
+    }
+
+    /// The Z80 passes over samples at which it does nothing.
+    #[tactic(auto, unfolding(m68k_chip::specs::States::next_of, z80_chip::specs::States::next_of))]
+    fn sample_ahead(chip: &mut Chip, pins: &Pins, end: &Key) {
+        if let Chip::Sub(sub) = chip {
+            return sub.sample_ahead(pins.sub(), end.cycle);
+        }
+        Self::sample(chip, pins);
     }
 
     fn writes(writer: u8, _chip: u8) -> bool {

@@ -1,5 +1,5 @@
-ghost use Rattle.std.specs.Prelude.{◌≡◌, ◌^◌, ◌<◌, false, true, IfSome, IsSome};
-ghost use Rattle.z80_chip.specs.Events.{asked_of};
+ghost use Rattle.std.specs.Prelude.{◌≡◌, ◌^◌, ◌<◌, ◌≤◌, false, true, IfSome, IsSome};
+ghost use Rattle.z80_chip.specs.Events.{WentAhead, asked_of};
 ghost use Rattle.z80_chip.specs.States.{next_of};
 ghost use Rattle.z80_parcel.specs.Requests.{Fits};
 ghost use Rattle.md_machine.specs.Rules as rules;
@@ -71,5 +71,17 @@ impl SubChip {
         ensures { self.new ≡ rules.sub_sample self.old pins }
     {
         self.chip.sample(pins);
+    }
+
+    /// A sample and, where the Z80 does nothing at it, those of the same pins below cycle `end` after it.
+    pub(crate) fn sample_ahead(&mut self, pins: Pins80, end: u64)
+        requires sample { (next_of self.old.chip.state).sample ≡ true }
+        requires cycle { self.old.chip.state.next < 2 ^ 50 }
+        requires end { end ≤ 2 ^ 50 }
+        ensures state { WentAhead end self.old.chip.cart pins self.old.chip.state self.new.chip.state }
+        ensures cart { self.new.chip.cart ≡ self.old.chip.cart }
+        ensures answer { self.new.answer ≡ self.old.answer }
+    {
+        self.chip.sample_ahead(pins, end);
     }
 }
