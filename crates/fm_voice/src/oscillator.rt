@@ -24,13 +24,19 @@ fn power(n: u32) -> u32
     power_entry(n)
 }
 
+/// From this attenuation on nothing of the wave is left.
+const SILENT: u32 = 832;
+
 /// The wave without its sign.
-#[tactic(auto, using(crate::proofs::Weaker::weaker), unfolding(crate::specs::Wave::magnitude))]
+#[tactic(auto, using(crate::proofs::Weaker::weaker, crate::proofs::Silent::silenced), unfolding(crate::specs::Wave::magnitude))]
 fn magnitude(index: u32, attenuation: u32) -> u32
     requires attenuation { attenuation ≤ 1023 }
     ensures value { result ≡ meaning.magnitude index attenuation }
     ensures below { result ≤ 8191 }
 {
+    if attenuation >= SILENT {
+        return 0;
+    }
     let product = sine(index % 512) * power(attenuation % 64);
     product >> (11 + attenuation / 64)
 }
