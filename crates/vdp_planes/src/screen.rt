@@ -1,7 +1,7 @@
-ghost use Rattle.std.specs.Prelude.{◌≡◌, ℕ, ◌+◌, ◌-◌, ◌*◌, ◌/◌, ◌%◌, ◌<◌, ◌≤◌, Bool, nat_le, nat_lt, length, slice_index, slice_index_or};
-ghost use Rattle.vdp_planes.specs.View.{AllColours, IsFilled, dot_at, has_bit, register, seen};
+ghost use Rattle.std.specs.Prelude.{◌≡◌, ℕ, ◌+◌, ◌-◌, ◌*◌, ◌/◌, ◌%◌, ◌<◌, ◌≤◌, length, slice_index};
+ghost use Rattle.vdp_planes.specs.View.{AllColours, IsFilled, register, seen};
 ghost use Rattle.vdp_planes.specs.Planes.{width_of};
-ghost use Rattle.vdp_planes.specs.Mixing.{IsSpan, back_at, backdrop, backdrop_byte, black, in_picture, index_at, index_of, line_byte, mixed_at, part, printed_byte, shaded_at, table_colour, unshaded_at};
+ghost use Rattle.vdp_planes.specs.Mixing.{IsSpan, back_at, backdrop, backdrop_byte, in_picture, index_at, index_of, line_byte, mixed_at, part, printed_byte, shaded_at, unshaded_at};
 
 use crate::colours::{Rgb, Shade, fill_table, rgb_of};
 use crate::mix::{index_of, shaded, unshaded};
@@ -38,7 +38,7 @@ pub fn mix_dots(scene: &Scene, a: &[Dot; 320], b: &[Dot; 320], s: &[Dot; 320], r
     }
 }
 
-/// Writes the backdrop's colour into each dot of the line.
+/// Writes the backdrop's colour into each dot of the line, sixteen dots at a time.
 #[tactic(auto, unfolding(crate::specs::Mixing::backdrop, crate::specs::Mixing::backdrop_byte))]
 fn fill_row(scene: &Scene, rgb: &mut [u8])
     requires room { length rgb.old ≡ 960 }
@@ -46,11 +46,24 @@ fn fill_row(scene: &Scene, rgb: &mut [u8])
 {
     let back = scene.registers[BACKDROP] % 64;
     let colour = rgb_of(scene, usize::from(back), Shade::Normal);
-    for x in 0..320 {
-        rgb[3 * x] = colour.red;
-        rgb[3 * x + 1] = colour.green;
-        rgb[3 * x + 2] = colour.blue;
+    let dots = sixteen_dots(&colour);
+    for x in 0..20 {
+        rgb[48 * x..48 * x + 48].copy_from_slice(&dots);
     }
+}
+
+/// The bytes of sixteen dots of one colour.
+fn sixteen_dots(colour: &Rgb) -> [u8; 48]
+    ensures whole { length result ≡ 48 }
+    ensures value { (n : ℕ) → n < 48 → slice_index result n ≡ part colour.now (n % 3) }
+{
+    let mut dots = [0; 48];
+    for x in 0..16 {
+        dots[3 * x] = colour.red;
+        dots[3 * x + 1] = colour.green;
+        dots[3 * x + 2] = colour.blue;
+    }
+    dots
 }
 
 /// Mixes a line whose dots show, dot by dot.

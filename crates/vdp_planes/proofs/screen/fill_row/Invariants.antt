@@ -1,8 +1,7 @@
 use Rattle.std.proofs.Common.{◌≡◌, ℕ, ◌*◌, ◌%◌, ◌<◌, length}
 use Rattle.std.specs.Prelude.{slice_index}
-use Rattle.vdp_planes.specs.Mixing.{part}
 use Rattle.vdp_planes.proofs.screen.fill_row.Given as goal
 
--- the dots so far have the colour
+-- the dots so far are the sixteen again and again
 abbrev pub invariant-loop-x : goal.invariant-loop-x
-invariant-loop-x l = (length l.rgb ≡ 960) × ((n : ℕ) → n < 3 * l.x → slice_index l.rgb n ≡ part l.colour (n % 3))
+invariant-loop-x l = (length l.rgb ≡ 960) × ((n : ℕ) → n < 48 * l.x → slice_index l.rgb n ≡ slice_index l.dots (n % 48))
