@@ -11,10 +11,12 @@ use Rattle.vdp_planes.specs.Planes.{plane_dot}
 use Rattle.vdp_planes.specs.Mixing.{border_of, in_picture, line_byte, shown_at}
 use Rattle.vdp_chip.specs.Picture.{picture_length, plane_dots, row_length, row_of, with_row}
 
--- clear dots are colours
-pub clear_colours : (dots : List Dot) → dots ≡ replicate 320 clear → AllColours dots
-clear_colours dots is x below =
-    subst (λ (dot : Dot). dot.colour < 64) (sym (ap (λ (l : List Dot). dot_at l x) is ∙ get_or-replicate 320 x clear clear below)) (lit< tt)
+-- clear dots, and that they are colours
+pub clear_at : (x : ℕ) → x < 320 → dot_at (replicate 320 clear) x ≡ clear
+clear_at x below = get_or-replicate 320 x clear clear below
+
+pub clear_colours : AllColours (replicate 320 clear)
+clear_colours x below = subst (λ (dot : Dot). dot.colour < 64) (sym (clear_at x below)) (lit< tt)
 
 -- a byte of a line reads the dots of the line alone
 line_byte_same : (view : LineView) (a b c d s : List Dot) (n : ℕ) → n < 960

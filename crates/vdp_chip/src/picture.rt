@@ -1,6 +1,6 @@
-ghost use Rattle.std.specs.Prelude.{◌≡◌, ℕ, ◌<◌, ◌≤◌, true, false, length, slice_index};
+ghost use Rattle.std.specs.Prelude.{◌≡◌, ℕ, ◌<◌, true, false, length};
 ghost use Rattle.vdp_planes.specs.Planes.{plane_dot};
-ghost use Rattle.vdp_planes.specs.View.{AllColours, dot_at, has_bit, register, seen};
+ghost use Rattle.vdp_planes.specs.View.{AllColours, clear, dot_at, has_bit, register, seen};
 ghost use Rattle.vdp_chip.specs.Picture.{blank, picture_length, row_of, with_row};
 
 use vdp_planes::register::MODE_2;
@@ -50,7 +50,8 @@ fn draw_planes(scene: &Scene, line: u32, a: &mut [Dot; 320], b: &mut [Dot; 320])
 
 /// The dots of a line on which nothing is drawn yet.
 pub fn clear_dots() -> [Dot; 320]
-    ensures { AllColours result }
+    ensures dots { (x : ℕ) → x < 320 → dot_at result x ≡ clear }
+    ensures colours { AllColours result }
 {
     [CLEAR; 320]
 }
