@@ -1,3 +1,4 @@
+pub mod Ahead
 pub mod Choices
 pub mod Fitting
 pub mod Kept

@@ -1,4 +1,4 @@
-ghost use Rattle.std.specs.Prelude.{◌≡◌, ◌^◌, ◌<◌, ◌≤◌, true, false, replicate, IfOk};
+ghost use Rattle.std.specs.Prelude.{◌≡◌, ◌^◌, ◌<◌, ◌≤◌, ◌↔◌, true, false, replicate, IfOk, IsTrue};
 
 use crate::case::Case;
 use crate::sequencer::Sequencer;
@@ -38,7 +38,7 @@ impl Model for Chip68 {
 impl Chip68 {
     ghost use Rattle.std.specs.Arc.{arc_value};
     ghost use Rattle.m68k_chip.specs.Cases.{begins_at, case_of};
-    ghost use Rattle.m68k_chip.specs.Events.{answered, begun, request_of};
+    ghost use Rattle.m68k_chip.specs.Events.{WentAhead, answered, begun, request_of};
     ghost use Rattle.m68k_chip.specs.Sound.{Fits, IsChip68};
     ghost use Rattle.m68k_chip.specs.States.{next_of, power_on};
 
@@ -105,6 +105,30 @@ impl Chip68 {
     {
         self.sequencer
             .begin(pins.level, &self.cart, &mut self.ram, &mut self.progress);
+    }
+
+    /// Takes the sample that is the next event, as `sample` does, and then all samples of these pins
+    /// below cycle `end`, up to the first access.
+    pub fn sample_ahead(&mut self, pins: Pins68, end: u64)
+        requires sampling { (next_of self.old.state).sample ≡ true }
+        requires far { self.old.state.next < 2 ^ 50 }
+        requires end { end ≤ 2 ^ 50 }
+        ensures state { WentAhead end self.old.cart pins.level self.old.state self.new.state }
+        ensures cart { self.new.cart ≡ self.old.cart }
+    {
+        self.sample(pins);
+        while self.samples_below(end) {
+            self.sample(pins);
+        }
+    }
+
+    /// Whether the next event is a sample below a cycle.
+    #[tactic(auto, unfolding(crate::specs::States::next_of))]
+    fn samples_below(&self, end: u64) -> bool
+        ensures value { IsTrue result ↔ ((next_of self.now.state).sample ≡ true) × (self.now.state.next < end) }
+        ensures sound { IsChip68 self.now }
+    {
+        matches!(self.sequencer.stage, Stage::Sample) && self.sequencer.next < end
     }
 
     /// The address of the instruction that the next event begins, which is a sample with these

@@ -187,6 +187,31 @@ fn a_stop_that_an_interrupt_ends(rt: HostRuntime) -> Result<(), Fail> {
     follow(rt.alloc(), &mut chip, &events)
 }
 
+/// Takes the samples that are next at an interrupt level, below `end`: the cycle of the event behind them,
+/// and whether it is a sample.
+#[tactic(auto, unfolding(m68k_chip::specs::States::next_of))]
+fn ahead(chip: &mut Chip68, level: u8, end: u64) -> Option<(u64, bool)> {
+    let next = chip.next();
+    if !next.sample || next.key.cycle >= 1 << 50 || end > 1 << 50 {
+        return None;
+    }
+    chip.sample_ahead(pins(level), end);
+    let next = chip.next();
+    Some((next.key.cycle, next.sample))
+}
+
+// The same stop in two steps: all its samples below 1,000, the last at 980, and then the interrupt,
+// whose access comes first however far it might go.
+#[test]
+fn samples_up_to_an_access(rt: HostRuntime) -> Result<(), Fail> {
+    let mut chip = with_program(rt.alloc(), 0xff_f000, 0x1c0, &[0x4e72, 0x2300])?;
+    let stopped = ahead(&mut chip, 0, 1_000);
+    let interrupted = ahead(&mut chip, 4, 100_000);
+    let expected = (Some((1_008, true)), Some((1_036, false)));
+    assert_eq!(rt; (stopped, interrupted), expected);
+    Ok(())
+}
+
 /// Access k of MOVEM, which writes half of a register.
 fn written(k: u32) -> Event {
     let value = match k {

@@ -1,0 +1,28 @@
+use Rattle.std.proofs.Common.{ℕ, List, refl, ap, ◌∙◌, arith}
+use Rattle.m68k_chip.specs.Events.{begun}
+use Rattle.m68k_chip.specs.Sound.{Chip68Value}
+use Rattle.m68k_chip.proofs.Ahead.{more-ahead, one-ahead}
+use Rattle.m68k_chip.proofs.Laws.{begun-later}
+use Rattle.m68k_chip.proofs.chip.Chip68.sample_ahead.Goals as goal
+
+pub loop-pins-init : goal.loop-pins-init
+loop-pins-init c = record {
+  led = one-ahead c.args.self.now.cart c.args.self.now.state c.args.pins.level c.args.end c.sample.new.self.state (ap (λ (v : Chip68Value). v.state) c.sample.ensures);
+  cart = ap (λ (v : Chip68Value). v.cart) c.sample.ensures;
+}
+
+pub loop-pins-smaller : goal.loop-pins-smaller
+loop-pins-smaller c =
+    let test = c.loop-pins-test.ensures {u = tt} in
+    let later = begun-later c.loop-pins.self c.args.pins.level test.sound (test.value.0 refl).0 in
+    let next = ap (λ (v : Chip68Value). v.state.next) c.sample-in-loop-pins.ensures in
+    let low = (test.value.0 refl).1 in
+    omega (arith, later, next, low)
+
+pub loop-pins-preserved : goal.loop-pins-preserved
+loop-pins-preserved c =
+    let found = (c.loop-pins-test.ensures {u = tt}).value.0 refl in record {
+      led = more-ahead c.args.self.now.cart c.args.self.now.state c.args.pins.level c.args.end c.loop-pins.self.state c.sample-in-loop-pins.new.self.state c.loop-pins.invariant.led found.0 found.1
+          (ap (λ (v : Chip68Value). v.state) c.sample-in-loop-pins.ensures ∙ ap (λ (image : List ℕ). begun image c.loop-pins.self.state c.args.pins.level) c.loop-pins.invariant.cart);
+      cart = ap (λ (v : Chip68Value). v.cart) c.sample-in-loop-pins.ensures ∙ c.loop-pins.invariant.cart;
+    }
