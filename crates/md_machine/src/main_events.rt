@@ -1,5 +1,5 @@
-ghost use Rattle.std.specs.Prelude.{◌≡◌, ◌^◌, ◌<◌, true, false, IfSome, IsSome};
-ghost use Rattle.m68k_chip.specs.Events.{request_of};
+ghost use Rattle.std.specs.Prelude.{◌≡◌, ◌^◌, ◌<◌, ◌≤◌, true, false, IfSome, IsSome};
+ghost use Rattle.m68k_chip.specs.Events.{WentAhead, request_of};
 ghost use Rattle.m68k_chip.specs.Sound.{Fits};
 ghost use Rattle.m68k_chip.specs.States.{next_of};
 ghost use Rattle.bus_shared.specs.Board.{Board};
@@ -53,5 +53,17 @@ impl MainChip {
         ensures { self.new ≡ rules.main_sample self.old pins.level }
     {
         self.chip.sample(pins);
+    }
+
+    /// A sample, and those of the same pins below cycle `end` after it.
+    pub(crate) fn sample_ahead(&mut self, pins: Pins68, end: u64)
+        requires sample { (next_of self.old.chip.state).sample ≡ true }
+        requires cycle { self.old.chip.state.next < 2 ^ 50 }
+        requires end { end ≤ 2 ^ 50 }
+        ensures state { WentAhead end self.old.chip.cart pins.level self.old.chip.state self.new.chip.state }
+        ensures cart { self.new.chip.cart ≡ self.old.chip.cart }
+        ensures answer { self.new.answer ≡ self.old.answer }
+    {
+        self.chip.sample_ahead(pins, end);
     }
 }

@@ -95,13 +95,14 @@ impl ChipSet for MdChips {
         }
     }
 
-    /// The Z80 passes over samples at which it does nothing.
+    /// The 68000 goes on to its next access, and the Z80 passes over samples at which it does nothing.
     #[tactic(auto, unfolding(m68k_chip::specs::States::next_of, z80_chip::specs::States::next_of))]
     fn sample_ahead(chip: &mut Chip, pins: &Pins, end: &Key) {
-        if let Chip::Sub(sub) = chip {
-            return sub.sample_ahead(pins.sub(), end.cycle);
+        match chip {
+            Chip::Main(main) => main.sample_ahead(pins.main(), end.cycle),
+            Chip::Sub(sub) => sub.sample_ahead(pins.sub(), end.cycle),
+            Chip::Line(_) | Chip::Fm(_) | Chip::Psg(_) => {}
         }
-        Self::sample(chip, pins);
     }
 
     fn writes(writer: u8, _chip: u8) -> bool {
