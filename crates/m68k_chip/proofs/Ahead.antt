@@ -1,5 +1,5 @@
 -- A 68000 that goes ahead.
-use Rattle.std.proofs.Common.{◌≡◌, ◌⊎◌, inl, inr, ℕ, suc, ◌<◌, true, List, sym, ap, subst, ◌∙◌, arith}
+use Rattle.std.proofs.Common.{◌≡◌, ◌⊎◌, inl, inr, ℕ, suc, ◌<◌, ◌≤◌, false, true, List, sym, ap, subst, ◌∙◌, arith}
 use Rattle.m68k_chip.specs.Events.{WentAhead, begun, begun_after}
 use Rattle.m68k_chip.specs.States.{State68, next_of}
 
@@ -13,6 +13,15 @@ one-ahead cart state level end after is = record {
   below = λ k some most. absurd (omega arith);
   is = is;
 }
+
+below_or : (a b : ℕ) → (a < b) ⊎ (b ≤ a)
+below_or a b = grind arith
+
+pub not-below : (a b : ℕ) → (a < b → false ≡ true) → b ≤ a
+not-below a b wrong = elim (below_or a b) [
+  | inl low ↦ (let no_way = wrong low in cc)
+  | inr late ↦ late
+]
 
 last_or : (k n : ℕ) → k < suc n → (k < n) ⊎ (k ≡ n)
 last_or k n h = grind arith

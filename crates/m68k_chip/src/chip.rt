@@ -114,6 +114,7 @@ impl Chip68 {
         requires far { self.old.state.next < 2 ^ 50 }
         requires end { end ≤ 2 ^ 50 }
         ensures state { WentAhead end self.old.cart pins.level self.old.state self.new.state }
+        ensures all { (next_of self.new.state).sample ≡ true → end ≤ self.new.state.next }
         ensures cart { self.new.cart ≡ self.old.cart }
     {
         self.sample(pins);

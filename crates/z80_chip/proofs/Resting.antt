@@ -110,6 +110,10 @@ module _ (cart : List ℕ) (state : State80) (pins : Pins80) (rest : is_rest (ca
       below zero some most = absurd (omega arith)
       below (suc k) some most = subst (λ (x : State80). x.next < end) (sym (all-rest k)) (low k (omega arith))
 
+-- no step to a cycle falls short of it
+pub rested-late : (end start next : ℕ) → next ≡ start + step * steps_to start end → end ≤ next
+rested-late end start next is = let most = (div_ceil_times (end - start) step (omega arith)).0 in omega (arith, is, most)
+
 -- one sample alone
 pub one-ahead : (cart : List ℕ) (state : State80) (pins : Pins80) (end : ℕ) (after : State80) → after ≡ begun cart state pins → WentAhead end cart pins state after
 unfolding begun_after

@@ -36,6 +36,7 @@ impl Model for Chip80 {
 
 impl Chip80 {
     ghost use Rattle.std.specs.Arc.{arc_value};
+    ghost use Rattle.z80_chip.specs.Cases.{case_of, is_rest};
     ghost use Rattle.z80_chip.specs.Events.{WentAhead, answered, asked_of, begun, handed};
     ghost use Rattle.z80_chip.specs.Sound.{IsChip80};
     ghost use Rattle.z80_parcel.specs.Requests.{Fits, asked, told};
@@ -116,6 +117,7 @@ impl Chip80 {
         requires far { self.old.state.next < 2 ^ 50 }
         requires end { end ≤ 2 ^ 50 }
         ensures state { WentAhead end self.old.cart pins self.old.state self.new.state }
+        ensures all { is_rest (case_of self.old.state pins) ≡ true → end ≤ self.new.state.next }
         ensures cart { self.new.cart ≡ self.old.cart }
     {
         self.sequencer.begin_ahead(&pins, end, &self.cart, &mut self.parcel, &mut self.progress);

@@ -1,4 +1,4 @@
-ghost use Rattle.std.specs.Prelude.{◌≡◌, ◌+◌, ◌*◌, ◌^◌, ◌<◌, ◌≤◌, ℕ, List, [], length, IfSome, IsSome, Option, Some, None, option_map, is_some};
+ghost use Rattle.std.specs.Prelude.{◌≡◌, ◌+◌, ◌*◌, ◌^◌, ◌<◌, ◌≤◌, ℕ, List, [], length, IfSome, IsSome, true, Option, Some, None, option_map, is_some};
 ghost use Rattle.arrayvec.specs.ArrayVec.{array_vec_len};
 ghost use Rattle.md_word.specs.declared.sub_bus.Parcel.{Parcel as Held};
 ghost use Rattle.z80_chip.specs.Cases as cases;
@@ -285,7 +285,8 @@ impl Sequencer {
         requires start { self.old.start < 2 ^ 50 }
         requires end { end ≤ 2 ^ 50 }
         requires answers { self.old.answers.items ≡ [] }
-        ensures { WentAhead end cart.now pins.now (state_of self.old parcel.old) (state_of self.new parcel.new) }
+        ensures state { WentAhead end cart.now pins.now (state_of self.old parcel.old) (state_of self.new parcel.new) }
+        ensures all { cases.is_rest (cases.case_of (state_of self.old parcel.old) pins.now) ≡ true → end ≤ self.new.next }
     {
         let rests = self.case_at(pins, parcel).is_rest();
         self.begin(pins, cart, parcel, progress);

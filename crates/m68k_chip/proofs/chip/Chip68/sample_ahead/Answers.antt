@@ -1,7 +1,7 @@
 use Rattle.std.proofs.Common.{ℕ, List, refl, ap, ◌∙◌, arith}
 use Rattle.m68k_chip.specs.Events.{begun}
 use Rattle.m68k_chip.specs.Sound.{Chip68Value}
-use Rattle.m68k_chip.proofs.Ahead.{more-ahead, one-ahead}
+use Rattle.m68k_chip.proofs.Ahead.{more-ahead, not-below, one-ahead}
 use Rattle.m68k_chip.proofs.Laws.{begun-later}
 use Rattle.m68k_chip.proofs.chip.Chip68.sample_ahead.Goals as goal
 
@@ -26,3 +26,6 @@ loop-pins-preserved c =
           (ap (λ (v : Chip68Value). v.state) c.sample-in-loop-pins.ensures ∙ ap (λ (image : List ℕ). begun image c.loop-pins.self.state c.args.pins.level) c.loop-pins.invariant.cart);
       cart = ap (λ (v : Chip68Value). v.cart) c.sample-in-loop-pins.ensures ∙ c.loop-pins.invariant.cart;
     }
+
+pub returns-clause-all : goal.returns-clause-all
+returns-clause-all c sample = not-below c.loop-pins.self.state.next c.args.end (λ low. (c.loop-pins-test.ensures {u = tt}).value.1 (sample, low))

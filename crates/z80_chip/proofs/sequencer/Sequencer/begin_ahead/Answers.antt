@@ -1,7 +1,7 @@
 use Rattle.std.proofs.Common.{sym, ap, ◌∙◌, arith}
 use Rattle.z80_chip.specs.Cases.{is_rest}
 use Rattle.z80_chip.specs.States.{State80, state_of}
-use Rattle.z80_chip.proofs.Resting.{first-start, one-ahead, rested-ahead}
+use Rattle.z80_chip.proofs.Resting.{first-start, one-ahead, rested-ahead, rested-late}
 use Rattle.z80_chip.proofs.sequencer.Sequencer.begin_ahead.Goals as goal
 
 pub rest_to-requires-clause-start : goal.rest_to-requires-clause-start
@@ -11,10 +11,16 @@ rest_to-requires-clause-start c =
     let low = c.requires.start in
     omega (arith, start, low)
 
-pub returns-then-rests : goal.returns-then-rests
-returns-then-rests c =
+pub returns-then-rests-clause-state : goal.returns-then-rests-clause-state
+returns-then-rests-clause-state c =
     rested-ahead c.args.cart.now (state_of c.args.self.now c.args.parcel.now) c.args.pins.now (ap is_rest (sym c.case_at.ensures.value) ∙ sym c.is_rest-rests.ensures ∙ c.if-rests.true) c.args.end (state_of c.begin.new.self c.begin.new.parcel) (state_of c.rest_to.new.self c.begin.new.parcel)
     c.begin.ensures (c.rest_to.ensures c.begin.new.parcel)
 
-pub returns-else-rests : goal.returns-else-rests
-returns-else-rests c = one-ahead c.args.cart.now (state_of c.args.self.now c.args.parcel.now) c.args.pins.now c.args.end (state_of c.begin.new.self c.begin.new.parcel) c.begin.ensures
+pub returns-else-rests-clause-state : goal.returns-else-rests-clause-state
+returns-else-rests-clause-state c = one-ahead c.args.cart.now (state_of c.args.self.now c.args.parcel.now) c.args.pins.now c.args.end (state_of c.begin.new.self c.begin.new.parcel) c.begin.ensures
+
+pub returns-then-rests-clause-all : goal.returns-then-rests-clause-all
+returns-then-rests-clause-all c rest = rested-late c.args.end c.begin.new.self.start c.rest_to.new.self.next (ap (λ (state : State80). state.next) (c.rest_to.ensures c.begin.new.parcel))
+
+pub returns-else-rests-clause-all : goal.returns-else-rests-clause-all
+returns-else-rests-clause-all c rest = let wrong = sym c.if-rests.false ∙ c.is_rest-rests.ensures ∙ ap is_rest c.case_at.ensures.value ∙ rest in cc
