@@ -12,7 +12,8 @@ drawn in each, and written in none. Then it runs `chord` for a tenth of them wit
 The times are those of the clock on the wall, the program's start and the writing of its files included;
 the switches are those of all its threads, those that wait and those that are made to. Of `idle` and `mix`
 the moves are known, and a second line has the nanoseconds of one: the 68000's, one an instruction, the
-Z80's, which is held in its reset and looks at its pins each 45 cycles, and those of lines and samples.
+Z80's, which is held in its reset and looks at its pins each 45 cycles, so that it passes over many of them
+at once, and those of lines and samples.
 """
 import os
 import pathlib
