@@ -1,11 +1,13 @@
 pub mod Chosen
 pub mod Ends
+pub mod Going
 pub mod Joins
 pub mod Keeps
 pub mod Keys
 pub mod Led
 pub mod Lists
 pub mod Looking
+pub mod Lowering
 pub mod Parts
 pub mod Runs
 pub mod Sampling

@@ -36,7 +36,7 @@ module _ {Chip Shared Pins : Type 0} (rules : Rules Chip Shared Pins) where
       go (suc c) e = let low = (limit (record { cycle = c; chip = 0 }) (below c e)).0 in omega arith
 
   -- the limit, and the keys, after a sample
-  limit-sampled : (t : ℕ) (s : Seen Chip Shared) (n i : ℕ) (end : Key) → IsLimit rules t s.bound n i end → IsLimit rules t (after rules (after rules s (Sample i)) (Announce i)).bound n i end
+  pub limit-sampled : (t : ℕ) (s : Seen Chip Shared) (n i : ℕ) (end : Key) → IsLimit rules t s.bound n i end → IsLimit rules t (after rules (after rules s (Sample i)) (Announce i)).bound n i end
   limit-sampled t s n i end limit key below =
       let found = limit key below in
       let moved : Seen Chip Shared = after rules s (Sample i) in (
@@ -53,9 +53,9 @@ module _ {Chip Shared Pins : Type 0} (rules : Rules Chip Shared Pins) where
   sample-enabled t s i end h next limit = let found = limit (key_of rules s.machine i) next.1 in (h, next.0, found.0, found.1)
 
   -- one sample is as many as there may be
-  pub one-sample : (end : Key) (pins : Pins) (c d : Chip) → SamplesBelow rules end c → d ≡ rules.sample c pins → SamplesTo rules end pins c d
+  pub one-sample : (end : Key) (pins : Pins) (c d : Chip) → SamplesBelow rules end c → d ≡ rules.sample c pins → SamplesTo rules 1 end pins c d
   unfolding sampled
-  one-sample end pins c d next is = record { samples = 1; some = omega arith; each = go; is = is }
+  one-sample end pins c d next is = record { some = omega arith; each = go; is = is }
     where
       go : (k : ℕ) → k < 1 → SamplesBelow rules end (sampled rules k pins c)
       go zero h = next
@@ -111,15 +111,15 @@ module _ {Chip Shared Pins : Type 0} (rules : Rules Chip Shared Pins) where
         ∙ next-on s i (sampled rules (suc n) pins (s.machine.chip i)) (each (suc n) (omega arith))
         ∙ ap (λ p. with_chip s i (rules.sample (sampled rules (suc n) pins (s.machine.chip i)) p)) (sym shown)
 
-    chip-on : (n : ℕ) → ((k : ℕ) → k < n → (rules.next (sampled rules k pins (s.machine.chip i))).sample ≡ true)
+    pub chip-on : (n : ℕ) → ((k : ℕ) → k < n → (rules.next (sampled rules k pins (s.machine.chip i))).sample ≡ true)
         → (sampled_on rules n s i).machine.chip i ≡ sampled rules n pins (s.machine.chip i)
     unfolding sampled sampled_on
     chip-on zero each = refl
     chip-on (suc n) each =
         ap (λ (z : Seen Chip Shared). z.machine.chip i) (all-on n each) ∙ put-same s.machine.chip i (sampled rules (suc n) pins (s.machine.chip i))
 
-    pub samples-on : (end : Key) (c : Chip) (z : Seen Chip Shared) → SamplesTo rules end pins (s.machine.chip i) c → z ≡ with_chip s i c → SamplesOn rules end i s z
-    samples-on end c z to is = go to.samples to.some to.each to.is
+    pub samples-on : (m : ℕ) (end : Key) (c : Chip) (z : Seen Chip Shared) → SamplesTo rules m end pins (s.machine.chip i) c → z ≡ with_chip s i c → SamplesOn rules end i s z
+    samples-on m end c z to is = go m to.some to.each to.is
       where
         go : (n : ℕ) → 1 ≤ n → ((k : ℕ) → k < n → SamplesBelow rules end (sampled rules k pins (s.machine.chip i))) → c ≡ sampled rules n pins (s.machine.chip i) → SamplesOn rules end i s z
         go zero some each came = absurd (omega arith)

@@ -34,12 +34,23 @@ module _ {Chip Shared Pins : Type 0} (rules : Rules Chip Shared Pins) where
   abbrev pub SamplesBelow : Key → Chip → Type 0
   SamplesBelow end c = ((rules.next c).sample ≡ true) × (key_lt (rules.next c).key end ≡ true)
 
-  -- one sample of these pins or more, each before this key, lead from one chip to the other
-  pub record SamplesTo (end : Key) (pins : Pins) (before after : Chip) : Type 0 where
-    pub samples : ℕ
+  -- so many samples of these pins, at least one and each before this key, lead from one chip to the
+  -- other
+  pub record SamplesTo (samples : ℕ) (end : Key) (pins : Pins) (before after : Chip) : Type 0 where
     pub some : 1 ≤ samples
     pub each : (k : ℕ) → k < samples → SamplesBelow end (sampled k pins before)
     pub is : after ≡ sampled samples pins before
+
+  -- the same, up to an event that is no sample before the key
+  pub record RunsTo (samples : ℕ) (end : Key) (pins : Pins) (before after : Chip) : Type 0 where
+    pub led : SamplesTo samples end pins before after
+    pub ended : SamplesBelow end after → ⊥
+
+  -- the pins of the chip of this number, of a shared state that the laws speak of
+  pub record ArePins (shared_ok : Shared → Type 0) (pins : Pins) (i : ℕ) : Type 0 where
+    pub shared : Shared
+    pub ok : shared_ok shared
+    pub is : pins ≡ rules.pins shared i
 
 -- an event leads to a next event of the same chip, at least a gap later
 pub record Follows (gap : ℕ → ℕ) (before after : Key) : Type 0 where

@@ -29,3 +29,8 @@ module _ {Chip Shared Pins : Type 0} (rules : Rules Chip Shared Pins) where
   abbrev pub IsLimit : ℕ → (ℕ → Key) → ℕ → ℕ → Key → Type 0
   IsLimit t bound n i end = (key : Key) → key_lt key end ≡ true
       → (key.cycle < t) × ((j : ℕ) → j < n → j ≢ i → rules.writes j i ≡ true → key_lt key (bound j) ≡ true)
+
+  -- and each key that lies so lies below this one
+  abbrev pub IsLeastLimit : ℕ → (ℕ → Key) → ℕ → ℕ → Key → Type 0
+  IsLeastLimit t bound n i end = (key : Key) → key.cycle < t → ((j : ℕ) → j < n → j ≢ i → rules.writes j i ≡ true → key_lt key (bound j) ≡ true)
+      → key_lt key end ≡ true

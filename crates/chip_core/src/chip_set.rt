@@ -82,14 +82,15 @@ pub trait ChipSet: Send + Sync {
         ensures { chip.new ≡ rules.sample chip.old pins.now };
 
     /// The sample that is due and, if the chip knows what they come to, samples of the same pins after
-    /// it, each before the key `end`.
-    fn sample_ahead(chip: &mut Self::Chip, pins: &Self::Pins, end: &Key)
+    /// it, each before the key `end`; answers how many that were.
+    fn sample_ahead(chip: &mut Self::Chip, pins: &Self::Pins, end: &Key) -> u64
         requires sample { SamplesBelow rules end.now chip.old }
         requires cycle { (rules.next chip.old).key.cycle < 2 ^ 50 }
         requires time { end.now.cycle ≤ 2 ^ 50 }
-        ensures { SamplesTo rules end.now pins.now chip.old chip.new }
+        ensures { SamplesTo rules result end.now pins.now chip.old chip.new }
     {
         Self::sample(chip, pins);
+        1
     }
 
     /// Whether accesses of the one chip can change the input pins of the other.

@@ -2,12 +2,15 @@
 //! of enabled events leads to the same.
 #![tactic(auto)]
 
+mod ahead;
 mod chip_set;
 mod event;
 pub mod laws;
 mod look;
 mod scheduler;
 
+pub use ahead::run;
 pub use chip_set::ChipSet;
 pub use event::Event;
+pub use look::limit_of;
 pub use scheduler::Core;

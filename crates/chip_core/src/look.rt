@@ -1,7 +1,7 @@
-ghost use Rattle.std.specs.Prelude.{◌≡◌, ◌≢◌, ℕ, ◌<◌, ◌≤◌, ◌↔◌, true, All, IsTrue, length, if◌then◌else◌};
+ghost use Rattle.std.specs.Prelude.{◌≡◌, ◌≢◌, ℕ, ◌<◌, ◌≤◌, ◌↔◌, true, All, IsTrue, length, if◌then◌else◌, ◌&&◌};
 ghost use Rattle.md_word.specs.Keys.{key_lt};
 ghost use Rattle.chip_core.specs.Cores.{bound_in, chip_in, key_in};
-ghost use Rattle.chip_core.specs.Looks.{or_else, least_lagging, IsBelowOthers, IsBelowWriters, IsLimit};
+ghost use Rattle.chip_core.specs.Looks.{or_else, least_lagging, IsBelowOthers, IsBelowWriters, IsLeastLimit, IsLimit};
 ghost use Rattle.chip_core.specs.Machines.{least_below};
 
 use crate::{ChipSet, Event};
@@ -58,17 +58,26 @@ fn is_other_writer<C: ChipSet>(i: usize, chip: u8) -> bool
     i != chip as usize && C::writes(i as u8, chip)
 }
 
+/// Takes the lesser of two keys, where a test holds.
+fn lower(end: &mut Key, key: &Key, counts: bool)
+    ensures { end.new ≡ (if counts && key_lt key.now end.old then key.now else end.old) }
+{
+    if counts && key.is_below(end) {
+        end.cycle = key.cycle;
+        end.chip = key.chip;
+    }
+}
+
 /// The key below which a chip may sample its pins up to cycle `t`: the least of the first key at that
 /// cycle and of the bounds of the other chips that write its pins.
-pub(crate) fn limit_of<C: ChipSet>(bounds: &[Key], t: u64, chip: u8) -> Key
+pub fn limit_of<C: ChipSet>(bounds: &[Key], t: u64, chip: u8) -> Key
     requires few { length bounds.now ≤ 5 }
-    ensures { IsLimit C.rules t (bound_in bounds.now) (length bounds.now) chip result }
+    ensures limit { IsLimit C.rules t (bound_in bounds.now) (length bounds.now) chip result }
+    ensures least { IsLeastLimit C.rules t (bound_in bounds.now) (length bounds.now) chip result }
 {
     let mut end = Key { cycle: t, chip: 0 };
     for i in 0..bounds.len() {
-        if is_other_writer::<C>(i, chip) && bounds[i].is_below(&end) {
-            end = bounds[i];
-        }
+        lower(&mut end, &bounds[i], is_other_writer::<C>(i, chip));
     }
     end
 }

@@ -43,7 +43,7 @@ is_blocked Finished = false
 module _ {Chip Shared Pins : Type 0} (rules : Rules Chip Shared Pins) (i : ℕ) (p : PartsValue Shared) (h : HeldValue Chip Pins) where
   not-blocked : (other : ℕ) (bound : Key) → IsBlocked rules p i h.chip other bound → HasTurn rules p i h.chip → ⊥
   not-blocked other bound b turn =
-      not-both bound (rules.next h.chip).key b.below (subst (λ (k : Key). key_lt (rules.next h.chip).key k ≡ true) (sym b.is) (turn.first other b.inside b.apart))
+      not-both bound (rules.next h.chip).key b.below (subst (λ (k : Key). key_lt (rules.next h.chip).key k ≡ true) (sym b.is) (turn.first other b.inside b.looked))
 
   moved-turn : (answer : Turn) (q : PartsValue Shared) (k : HeldValue Chip Pins) → IsTurn rules i p h answer q k → (answer ≡ Moved) ↔ HasTurn rules p i h.chip
   moved-turn Moved q k is = (λ _. is.turn, λ _. refl)

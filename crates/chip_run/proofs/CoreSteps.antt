@@ -1,6 +1,6 @@
 -- A section is the core's announcement of the chip where it is enabled, and the chip's own event in its
 -- turn.
-use Rattle.std.proofs.Common.{◌≡◌, ◌≢◌, ℕ, ◌+◌, ◌<◌, ◌≤◌, true, false, cond, refl, sym, ◌∙◌, ap, ap₂, subst, arith, ◌⊎◌, inl, inr, List, [], ◌∷◌, ◌++◌, Some, None, length, length-set, get_or-set_other, get_or-set_same}
+use Rattle.std.proofs.Common.{◌≡◌, ◌≢◌, ℕ, ◌+◌, ◌<◌, ◌≤◌, true, false, cond, refl, sym, ◌∙◌, ap, ap₂, subst, arith, ◌⊎◌, inl, inr, List, [], ◌∷◌, ◌++◌, Some, None, length, length-set, get_or-set_other, get_or-set_same, true≢false}
 use Rattle.std.proofs.lemmas.Option.{same_Some}
 use mathlib.Core.Path.{fun_ext}
 use Rattle.md_word.specs.declared.key.Key.{Key}
@@ -10,11 +10,11 @@ use Rattle.chip_core.specs.declared.event.Event.TheVariants.{Announce, Perform, 
 use Rattle.chip_core.specs.Chips.{Rules}
 use Rattle.chip_core.specs.Cores.{bound_in, no_key}
 use Rattle.chip_core.specs.Equations.{by_test, move-access, move-sample, put-other, put-same, same_or}
-use Rattle.chip_core.specs.Events.{IsBelowAll, IsEnabled, Seen, after, left_bound, own_event}
+use Rattle.chip_core.specs.Events.{IsEnabled, Seen, after, left_bound, own_event}
 use Rattle.chip_core.specs.Machines.{Machine, is_sample, key_of, put}
 use Rattle.chip_core.proofs.Keys.{put-each}
 use Rattle.chip_core.proofs.Lists.{set-put}
-use Rattle.chip_run.specs.CoreSteps.{IsAfterEnabled, IsAfterTurn, IsCoreSection, IsCoreTurn, core_with}
+use Rattle.chip_run.specs.CoreSteps.{IsAfterEnabled, IsCoreSection, IsCoreTurn, core_with}
 use Rattle.chip_run.specs.Held.{HeldValue, settled}
 use Rattle.chip_run.specs.Locked.{LockedValue, seen_at}
 use Rattle.chip_run.specs.Parts.{PartsValue}
@@ -77,48 +77,51 @@ module _ {Chip Shared Pins : Type 0} (rules : Rules Chip Shared Pins) where
     own-sample e = ap (λ b. cond b (Sample i) (Perform i)) e
 
     abbrev Leaves : Seen Chip Shared → Type 0
-    Leaves z = IsAfterTurn rules p.end between i (own_event rules between i) z
+    Leaves z = IsAfterEnabled rules p.end between (own_event rules between i) z
 
     -- at its turn the chip's event is enabled
     module _ (turn : HasTurn rules p i (chips i)) where
-      above : (j : ℕ) → j < rules.count → j ≢ i → key_lt (key_of rules machine i) (between.bound j) ≡ true
-      above j q ne = ap (key_lt (key_of rules machine i)) (other-bound j ne) ∙ turn.first j (omega (arith, count)) ne
+      above : is_sample rules machine i ≡ false → (j : ℕ) → j < rules.count → j ≢ i → key_lt (key_of rules machine i) (between.bound j) ≡ true
+      above access j q ne = ap (key_lt (key_of rules machine i)) (other-bound j ne) ∙ turn.first j (omega (arith, count)) (ne, λ s. absurd (true≢false (sym s ∙ access)))
+
+      looked : (j : ℕ) → j < rules.count → j ≢ i → rules.writes j i ≡ true → key_lt (key_of rules machine i) (between.bound j) ≡ true
+      looked j q ne w = ap (key_lt (key_of rules machine i)) (other-bound j ne) ∙ turn.first j (omega (arith, count)) (ne, λ _. w)
 
       raised-is : (λ (k : ℕ). bound_in (raised rules i (chips i) p.bounds) k) ≡ put between.bound i (left_bound rules machine i)
       raised-is = bounds-raised p.bounds i (chips i) (omega (arith, inside, count))
 
       performs : is_sample rules machine i ≡ false → Leaves (seen_at (record { shared = (rules.perform (chips i) p.shared).shared; chip = put chips i (rules.advance (rules.perform (chips i) p.shared).chip) }) (after_access rules p i (chips i)))
       performs access =
-          subst (λ (e : Event). IsAfterTurn rules p.end between i e (seen_at (record { shared = (rules.perform (chips i) p.shared).shared; chip = put chips i (rules.advance (rules.perform (chips i) p.shared).chip) }) (after_access rules p i (chips i)))) (sym (own-access access))
+          subst (λ (e : Event). IsAfterEnabled rules p.end between e (seen_at (record { shared = (rules.perform (chips i) p.shared).shared; chip = put chips i (rules.advance (rules.perform (chips i) p.shared).chip) }) (after_access rules p i (chips i)))) (sym (own-access access))
           (record {
-            moved = λ _. ap₂ (λ (w : Machine Chip Shared) (b : ℕ → Key). record { machine = w; bound = b; journal = p.journal ++ (rules.perform (chips i) p.shared).entry ∷ [] }) (sym (move-access rules machine i access)) raised-is;
-            stayed = λ no. absurd (no ((inside, access, turn.early, above), above));
+            enabled = λ _. ap₂ (λ (w : Machine Chip Shared) (b : ℕ → Key). record { machine = w; bound = b; journal = p.journal ++ (rules.perform (chips i) p.shared).entry ∷ [] }) (sym (move-access rules machine i access)) raised-is;
+            refused = λ no. absurd (no (inside, access, turn.early, above access));
           })
 
       samples : is_sample rules machine i ≡ true → Leaves (seen_at (record { shared = p.shared; chip = put chips i (rules.sample (chips i) (rules.pins p.shared i)) }) (record p { bounds = raised rules i (chips i) p.bounds }))
       samples sample =
-          subst (λ (e : Event). IsAfterTurn rules p.end between i e (seen_at (record { shared = p.shared; chip = put chips i (rules.sample (chips i) (rules.pins p.shared i)) }) (record p { bounds = raised rules i (chips i) p.bounds }))) (sym (own-sample sample))
+          subst (λ (e : Event). IsAfterEnabled rules p.end between e (seen_at (record { shared = p.shared; chip = put chips i (rules.sample (chips i) (rules.pins p.shared i)) }) (record p { bounds = raised rules i (chips i) p.bounds }))) (sym (own-sample sample))
           (record {
-            moved = λ _. ap₂ (λ (w : Machine Chip Shared) (b : ℕ → Key). record { machine = w; bound = b; journal = p.journal }) (sym (move-sample rules machine i sample)) raised-is;
-            stayed = λ no. absurd (no ((inside, sample, turn.early, λ j q ne _. above j q ne), above));
+            enabled = λ _. ap₂ (λ (w : Machine Chip Shared) (b : ℕ → Key). record { machine = w; bound = b; journal = p.journal }) (sym (move-sample rules machine i sample)) raised-is;
+            refused = λ no. absurd (no (inside, sample, turn.early, looked));
           })
 
     -- where neither kind of event is in its turn all stays
-    stays : (IsEnabled rules between p.end (Perform i) × IsBelowAll rules between i → ⊥) → (IsEnabled rules between p.end (Sample i) × IsBelowAll rules between i → ⊥)
+    stays : (IsEnabled rules between p.end (Perform i) → ⊥) → (IsEnabled rules between p.end (Sample i) → ⊥)
         → (z : Seen Chip Shared) → z ≡ between → Leaves z
     stays no-access no-sample z same =
         by_test (is_sample rules machine i)
-        (λ e. subst (λ (x : Event). IsAfterTurn rules p.end between i x z) (sym (own-sample e)) (record { moved = λ en. absurd (no-sample en); stayed = λ _. same }))
-        (λ e. subst (λ (x : Event). IsAfterTurn rules p.end between i x z) (sym (own-access e)) (record { moved = λ en. absurd (no-access en); stayed = λ _. same }))
+        (λ e. subst (λ (x : Event). IsAfterEnabled rules p.end between x z) (sym (own-sample e)) (record { enabled = λ en. absurd (no-sample en); refused = λ _. same }))
+        (λ e. subst (λ (x : Event). IsAfterEnabled rules p.end between x z) (sym (own-access e)) (record { enabled = λ en. absurd (no-access en); refused = λ _. same }))
 
     ended : p.end ≤ (rules.next (chips i)).key.cycle → (z : Seen Chip Shared) → z ≡ between → Leaves z
-    ended late = stays (λ en. let low = en.0.2 in omega arith) (λ en. let low = en.0.2 in omega arith)
+    ended late = stays (λ en. let low = en.2 in omega arith) (λ en. let low = en.2 in omega arith)
 
     waits : (other : ℕ) (bound : Key) → IsBlocked rules p i (chips i) other bound → (z : Seen Chip Shared) → z ≡ between → Leaves z
     waits other bound b =
         stays
-        (λ en. not-both bound (key_of rules machine i) b.below (ap (key_lt (key_of rules machine i)) (b.is ∙ sym (other-bound other b.apart)) ∙ en.1 other in-count b.apart))
-        (λ en. not-both bound (key_of rules machine i) b.below (ap (key_lt (key_of rules machine i)) (b.is ∙ sym (other-bound other b.apart)) ∙ en.1 other in-count b.apart))
+        (λ en. not-both bound (key_of rules machine i) b.below (ap (key_lt (key_of rules machine i)) (b.is ∙ sym (other-bound other b.looked.0)) ∙ en.3 other in-count b.looked.0))
+        (λ en. not-both bound (key_of rules machine i) b.below (ap (key_lt (key_of rules machine i)) (b.is ∙ sym (other-bound other b.looked.0)) ∙ en.3 other in-count b.looked.0 (b.looked.1 en.1)))
       where
         in-count : other < rules.count
         in-count = let q = b.inside in omega (arith, count)
@@ -137,7 +140,7 @@ module _ {Chip Shared Pins : Type 0} (rules : Rules Chip Shared Pins) where
     middle = seen_at (record { shared = p.shared; chip = chips }) (record p { bounds = announced rules i (chips i) p.bounds })
 
     abbrev Ends : Seen Chip Shared → Type 0
-    Ends z = IsAfterTurn rules p.end middle i (own_event rules middle i) z
+    Ends z = IsAfterEnabled rules p.end middle (own_event rules middle i) z
 
     turn-of : (z : Seen Chip Shared) → Ends z → IsCoreTurn rules i p.end start z
     turn-of z ends = record {
@@ -160,8 +163,8 @@ module _ {Chip Shared Pins : Type 0} (rules : Rules Chip Shared Pins) where
         (subst (λ (c : Chip). Ends (seen_at (record { shared = (rules.perform c p.shared).shared; chip = put chips i (rules.advance (rules.perform c p.shared).chip) }) (after_access rules p i c))) own
         (performs chips p i found.inside found.bound_count (here turn) (ap (λ (c : Chip). (rules.next c).sample) own ∙ access)))
 
-    sampled-ends : HasTurn rules p i h.chip → (rules.next h.chip).sample ≡ true → Ends (core_with rules others i (record p { bounds = raised rules i h.chip p.bounds }) (sampled rules p i h))
-    sampled-ends turn sample =
+    sampled-ends : (end : Key) → HasTurn rules p i h.chip → (rules.next h.chip).sample ≡ true → Ends (core_with rules others i (record p { bounds = raised rules i h.chip p.bounds }) (sampled rules p i end h))
+    sampled-ends end turn sample =
         over p.shared (rules.sample h.chip (rules.pins p.shared i)) (record p { bounds = raised rules i h.chip p.bounds })
         (subst (λ (c : Chip). Ends (seen_at (record { shared = p.shared; chip = put chips i (rules.sample c (rules.pins p.shared i)) }) (record p { bounds = raised rules i c p.bounds }))) own
         (samples chips p i found.inside found.bound_count (here turn) (ap (λ (c : Chip). (rules.next c).sample) own ∙ sample)))
@@ -176,7 +179,7 @@ module _ {Chip Shared Pins : Type 0} (rules : Rules Chip Shared Pins) where
     ends-of : (answer : Turn) (q : PartsValue Shared) (k : HeldValue Chip Pins) → IsTurn rules i p h answer q k → Ends (core_with rules others i q k)
     ends-of Moved q k is =
         by_test (rules.next h.chip).sample
-        (λ s. as-left q (record p { bounds = raised rules i h.chip p.bounds }) k (sampled rules p i h) ((is.sample s).0) ((is.sample s).1) (sampled-ends is.turn s))
+        (λ s. as-left q (record p { bounds = raised rules i h.chip p.bounds }) k (sampled rules p i ((is.sample s).1.0) h) ((is.sample s).0) ((is.sample s).1.2) (sampled-ends ((is.sample s).1.0) is.turn s))
         (λ a. as-left q (after_access rules p i h.chip) k (performed rules p h) ((is.access a).0) ((is.access a).1) (accessed-ends is.turn a))
     ends-of (Blocked other bound) q k is =
         as-left q (record p { bounds = announced rules i h.chip p.bounds }) k h is.1.parts is.1.held

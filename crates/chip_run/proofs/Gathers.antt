@@ -68,15 +68,16 @@ module _ {Chip Shared Pins : Type 0} (rules : Rules Chip Shared Pins) where
 module _ {Chip Shared Pins : Type 0} (rules : Rules Chip Shared Pins) (chip_ok : Chip → Type 0) (shared_ok : Shared → Type 0) where
   -- the same of a held chip
   pub put-held : (base : CoreValue Chip Shared) (t k total : ℕ) (chips now : List Chip) (b v : HeldValue Chip Pins) → b ≡ v → IsHeld rules chip_ok shared_ok base t b → (o : Option (HeldValue Chip Pins)) → o ≡ Some v
-      → IfSome o (λ h. h.number ≡ k) → IfSome o (λ h. h.due ≡ Nothing) → IfSome o (λ h. t ≤ (rules.next h.chip).key.cycle) → b.amount ≡ total → now ≡ chips ++ b.chip ∷ []
+      → IfSome o (λ h. h.number ≡ k) → IfSome o (λ h. h.due ≡ Nothing) → IfSome o (λ h. t ≤ (rules.next h.chip).key.cycle) → IfSome o (λ h. h.amount ≡ total) → now ≡ chips ++ b.chip ∷ []
       → (m : Machine Chip Shared) → (k < rules.count → OnPath rules (machine_of rules base) t k total (m.chip k)) → Gathered rules m t k chips → Gathered rules m t (k + 1) now
   put-held base t k total chips now b v view hd o is number free late booked e m at g =
       let num : b.number ≡ k = ap (λ (h : HeldValue Chip Pins). h.number) view ∙ subst (λ (x : Option (HeldValue Chip Pins)). IfSome x (λ h. h.number ≡ k)) is number in
       let none : b.due ≡ Nothing = ap (λ (h : HeldValue Chip Pins). h.due) view ∙ subst (λ (x : Option (HeldValue Chip Pins)). IfSome x (λ h. h.due ≡ Nothing)) is free in
+      let paid : b.amount ≡ total = ap (λ (h : HeldValue Chip Pins). h.amount) view ∙ subst (λ (x : Option (HeldValue Chip Pins)). IfSome x (λ h. h.amount ≡ total)) is booked in
       let past : t ≤ (rules.next v.chip).key.cycle = subst (λ (x : Option (HeldValue Chip Pins)). IfSome x (λ h. t ≤ (rules.next h.chip).key.cycle)) is late in
       put-some rules base t k total chips now b
       (subst (λ n. OnPath rules (machine_of rules base) t n b.amount b.chip) num (subst (λ (d : Due Pins). OnPath rules (machine_of rules base) t b.number b.amount (settled rules d b.chip)) none hd.path))
-      booked (subst (λ (h : HeldValue Chip Pins). t ≤ (rules.next h.chip).key.cycle) (sym view) past) (let h = hd.inside in omega (arith, num)) e m at g
+      paid (subst (λ (h : HeldValue Chip Pins). t ≤ (rules.next h.chip).key.cycle) (sym view) past) (let h = hd.inside in omega (arith, num)) e m at g
 
 module _ {Chip Shared Pins : Type 0} (rules : Rules Chip Shared Pins) (chip_ok : Chip → Type 0) (shared_ok : Shared → Type 0) (law : Lawful rules chip_ok shared_ok) where
   module _ (base : CoreValue Chip Shared) (t : ℕ) (p : PartsValue Shared) (counts : List ℕ) (lk : IsLocked rules chip_ok shared_ok base t p counts) (chips : List Chip) (g : Gathered rules lk.machine t 5 chips) where

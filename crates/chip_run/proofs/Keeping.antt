@@ -1,15 +1,18 @@
 -- What a section keeps: the locked parts stay a core that stands for the base, and the held chip
 -- stays on its path.
-use Rattle.std.proofs.Common.{◌≡◌, ◌≢◌, ℕ, ◌+◌, ◌^◌, ◌<◌, ◌≤◌, true, false, refl, sym, ◌∙◌, ap, subst, arith, List, [], ◌∷◌, length, slice_set, length-set, length-append}
-use Rattle.std.proofs.lemmas.List.{set-get_or}
+use Rattle.std.proofs.Common.{◌≡◌, ◌≢◌, ℕ, zero, suc, ◌+◌, ◌^◌, ◌<◌, ◌≤◌, true, false, refl, sym, ◌∙◌, ap, subst, arith, List, [], ◌∷◌, length, slice_set, length-set, length-append, get_or-set_same, get_or-set_other, true≢false}
+use Rattle.std.proofs.lemmas.List.{set-set}
 use Rattle.md_word.specs.declared.key.Key.{Key}
 use Rattle.md_word.specs.Keys.{key_lt}
 use Rattle.chip_core.specs.declared.event.Event.{Event}
 use Rattle.chip_core.specs.declared.event.Event.TheVariants.{Announce, Perform, Sample}
-use Rattle.chip_core.specs.Chips.{Rules, Lawful}
-use Rattle.chip_core.specs.Cores.{CoreValue, IsCore, bound_in, machine_of, seen}
+use Rattle.chip_core.specs.Chips.{Rules, Lawful, SamplesBelow}
+use Rattle.chip_core.specs.Chips.{sampled as sampled_n}
+use Rattle.chip_core.specs.Cores.{CoreValue, IsCore, bound_in, machine_of, no_key, seen}
+use Rattle.chip_core.specs.Looks.{IsLimit}
+use Rattle.chip_core.proofs.Sampling.{chip-on, limit-sampled, sample-enabled}
 use Rattle.chip_core.specs.Equations.{by_test, chip-access, chip-sample, put-same, put-other, shared-access, shared-sample}
-use Rattle.chip_core.specs.Events.{IsEnabled, IsTidy, Seen, after, counted, left_bound}
+use Rattle.chip_core.specs.Events.{IsEnabled, IsTidy, Seen, after, counted, left_bound, sampled_on}
 use Rattle.chip_core.specs.Limits.{all_moves_left}
 use Rattle.chip_core.specs.Machines.{Machine, OnPath, key_of, is_sample, move, put}
 use Rattle.chip_core.specs.Standing.{StandsFor}
@@ -18,14 +21,16 @@ use Rattle.chip_core.proofs.Keeps.{enabled-wider, stands_move, tidy-after}
 use Rattle.chip_core.proofs.Lists.{set-put, sound-core}
 use Rattle.chip_core.proofs.Runs.{chip-at}
 use Rattle.chip_core.proofs.Works.{entries-few}
-use Rattle.chip_run.specs.Held.{HeldValue, IsHeld, settled}
+use Rattle.chip_run.specs.Held.{AreSamples, HeldValue, IsAhead, IsHeld, IsLease, settled}
 use Rattle.chip_run.specs.Locked.{IsLocked, count_of, seen_at}
 use Rattle.chip_run.specs.Parts.{PartsValue}
 use Rattle.chip_run.specs.Sections.{IsBlocked, IsFound, IsLockedAt, performed, sampled}
-use Rattle.chip_run.specs.Steps.{FindsOther, HasPlaceFor, HasTurn, IsStep, after_access, announced, raised}
+use Rattle.chip_run.specs.Steps.{FindsOther, HasPlaceFor, HasTurn, IsLeaseEnd, IsStep, LooksAt, after_access, announced, raised}
+use Rattle.chip_run.proofs.Booking.{found-number, found-under, kept-booked}
 use Rattle.chip_run.proofs.CoreSteps.{announced-same, bounds-announced, bounds-raised}
 use Rattle.chip_run.proofs.KeyOrder.{same-key}
 use Rattle.chip_run.specs.declared.step.Step.TheVariants.{Performed, Sampled}
+use Rattle.chip_run.specs.declared.held.Due.{Due}
 use Rattle.chip_run.specs.declared.held.Due.TheVariants.{Nothing, Advance}
 use Rattle.chip_run.specs.declared.held.Due.TheVariants as Dues
 
@@ -61,8 +66,8 @@ module _ {Chip Shared Pins : Type 0} (rules : Rules Chip Shared Pins) (chip_ok :
         let few = entries-few rules chip_ok shared_ok law t small (machine_of rules base) (sound-core rules chip_ok shared_ok base base_core) st.accesses st.prefix_below in
         omega arith
 
-  module _ (base : CoreValue Chip Shared) (t : ℕ) (p : PartsValue Shared) (counts : List ℕ) (lk : IsLocked rules chip_ok shared_ok base t p counts) (h : HeldValue Chip Pins) (hd : IsHeld rules chip_ok shared_ok base t h)
-      (free : h.due ≡ Nothing) (inside : h.number < length counts) (booked : count_of counts h.number ≡ h.amount) where
+  module _ (base : CoreValue Chip Shared) (t : ℕ) (p : PartsValue Shared) (counts : List ℕ) (lk : IsLocked rules chip_ok shared_ok base t p counts) (h : HeldValue Chip Pins) (low : h.number < rules.count)
+      (path : OnPath rules (machine_of rules base) t h.number h.amount h.chip) (inside : h.number < length counts) (booked : count_of counts h.number ≡ h.amount) where
     abbrev i : ℕ
     i = h.number
 
@@ -72,75 +77,54 @@ module _ {Chip Shared Pins : Type 0} (rules : Rules Chip Shared Pins) (chip_ok :
     -- the held chip is the one that the booked count leads to
     pub same_chip : m.chip i ≡ h.chip
     same_chip =
-        let a = lk.stands.path i hd.inside in
-        let b = hd.path in
-        a.is ∙ chip-at rules (machine_of rules base) i b.moves a.moves (a.made ∙ booked ∙ sym b.made) ∙ sym b.is ∙ ap (λ d. settled rules d h.chip) free
+        let a = lk.stands.path i low in
+        let b = path in
+        a.is ∙ chip-at rules (machine_of rules base) i b.moves a.moves (a.made ∙ booked ∙ sym b.made) ∙ sym b.is
 
     -- the core once the chip has announced
     abbrev s : Seen Chip Shared
     s = after rules (seen_at m p) (Announce i)
 
     tidy-s : IsTidy rules chip_ok shared_ok s
-    tidy-s = tidy-announced (seen_at m p) lk.tidy i hd.inside
+    tidy-s = tidy-announced (seen_at m p) lk.tidy i low
 
     stands-s : StandsFor rules (machine_of rules base) (seen rules base).bound t s.machine s.bound s.journal (count_of counts)
-    stands-s = stands-announced base lk.base_core t lk.small (seen_at m p) lk.tidy (count_of counts) lk.stands i hd.inside
+    stands-s = stands-announced base lk.base_core t lk.small (seen_at m p) lk.tidy (count_of counts) lk.stands i low
 
     abbrev announced_bounds : List Key
     announced_bounds = announced rules i (m.chip i) p.bounds
 
     bounds-s : (λ (k : ℕ). bound_in announced_bounds k) ≡ s.bound
-    bounds-s = bounds-announced rules p.bounds i (m.chip i) (omega (arith, lk.bound_count, hd.inside))
+    bounds-s = bounds-announced rules p.bounds i (m.chip i) (omega (arith, lk.bound_count, low))
 
     abbrev raised_bounds : List Key
     raised_bounds = raised rules i (m.chip i) p.bounds
 
     bounds-z : (λ (k : ℕ). bound_in raised_bounds k) ≡ put s.bound i (left_bound rules m i)
-    bounds-z = bounds-raised rules p.bounds i (m.chip i) (omega (arith, lk.bound_count, hd.inside)) ∙ ap (λ b. put b i (left_bound rules m i)) bounds-s
+    bounds-z = bounds-raised rules p.bounds i (m.chip i) (omega (arith, lk.bound_count, low)) ∙ ap (λ b. put b i (left_bound rules m i)) bounds-s
 
     length-raised : length raised_bounds ≡ rules.count
     length-raised = length-set announced_bounds i (left_bound rules m i) ∙ length-set p.bounds i (key_of rules m i) ∙ lk.bound_count
 
-    -- booking nothing new changes no count
-    counts-same : slice_set counts i h.amount ≡ counts
-    counts-same = ap (slice_set counts i) (sym booked) ∙ set-get_or counts i 0
-
     counts-next : count_of (slice_set counts i (h.amount + 1)) ≡ put (count_of counts) i (count_of counts i + 1)
     counts-next = set-put counts i (h.amount + 1) 0 inside ∙ ap (λ n. put (count_of counts) i (n + 1)) (sym booked)
-
-    -- announced, and nothing else
-    pub kept-still : IsLocked rules chip_ok shared_ok base t (record p { bounds = announced rules i h.chip p.bounds }) (slice_set counts i h.amount)
-    kept-still =
-        subst (λ c. IsLocked rules chip_ok shared_ok base t (record p { bounds = announced rules i c p.bounds }) (slice_set counts i h.amount)) same_chip
-        (subst (λ cs. IsLocked rules chip_ok shared_ok base t (record p { bounds = announced_bounds }) cs) (sym counts-same)
-        (record {
-          base_core = lk.base_core;
-          time = lk.time;
-          small = lk.small;
-          room = lk.room;
-          bound_count = length-set p.bounds i (key_of rules m i) ∙ lk.bound_count;
-          machine = m;
-          shared = lk.shared;
-          tidy = subst (λ (b : ℕ → Key). IsTidy rules chip_ok shared_ok (record { machine = m; bound = b; journal = p.journal })) (sym bounds-s) tidy-s;
-          stands = subst (λ (b : ℕ → Key). StandsFor rules (machine_of rules base) (seen rules base).bound t m b p.journal (count_of counts)) (sym bounds-s) stands-s;
-        }))
 
     -- the chip's turn is an enabled event
     module _ (turn : HasTurn rules p i h.chip) where
       early : (key_of rules m i).cycle < t
       early = let e = turn.early in let c = ap (λ (x : Chip). (rules.next x).key.cycle) same_chip in omega (arith, lk.time)
 
-      above : (j : ℕ) → j < rules.count → j ≢ i → key_lt (key_of rules m i) (s.bound j) ≡ true
-      above j q ne =
-          ap (key_lt (key_of rules m i)) (put-other (seen_at m p).bound i (key_of rules m i) j ne)
-          ∙ ap (λ (x : Chip). key_lt (rules.next x).key (bound_in p.bounds j)) same_chip ∙ turn.first j (omega (arith, lk.bound_count)) ne
+      above : (j : ℕ) → j < rules.count → LooksAt rules (rules.next h.chip) i j → key_lt (key_of rules m i) (s.bound j) ≡ true
+      above j q looks =
+          ap (key_lt (key_of rules m i)) (put-other (seen_at m p).bound i (key_of rules m i) j looks.0)
+          ∙ ap (λ (x : Chip). key_lt (rules.next x).key (bound_in p.bounds j)) same_chip ∙ turn.first j (omega (arith, lk.bound_count)) looks
 
       kind : (b : _) → (rules.next h.chip).sample ≡ b → is_sample rules m i ≡ b
       kind b e = ap (λ (x : Chip). (rules.next x).sample) same_chip ∙ e
 
       module _ (access : (rules.next h.chip).sample ≡ false) where
         enabled-access : IsEnabled rules s t (Perform i)
-        enabled-access = (hd.inside, kind false access, early, above)
+        enabled-access = (low, kind false access, early, λ j q ne. above j q (ne, λ s. absurd (true≢false (sym s ∙ access))))
 
         stands-access : StandsFor rules (machine_of rules base) (seen rules base).bound t (after rules s (Perform i)).machine (after rules s (Perform i)).bound (after rules s (Perform i)).journal (counted (count_of counts) (Perform i))
         stands-access = stands-next base lk.base_core t lk.small s tidy-s (count_of counts) stands-s (Perform i) enabled-access
@@ -175,21 +159,22 @@ module _ {Chip Shared Pins : Type 0} (rules : Rules Chip Shared Pins) (chip_ok :
             subst (λ c. IsHeld rules chip_ok shared_ok base t (performed rules p (record h { chip = c }))) same_chip
             (subst (λ x. IsHeld rules chip_ok shared_ok base t (performed rules (record p { shared = x }) (record h { chip = m.chip i }))) lk.shared
             (record {
-              inside = hd.inside;
+              inside = low;
+              lease = tt;
               path = subst (λ n. OnPath rules (machine_of rules base) t i n (rules.advance (rules.perform (m.chip i) m.shared).chip)) (put-same (count_of counts) i (count_of counts i + 1) ∙ ap (λ n. n + 1) booked)
-                  (subst (λ c. OnPath rules (machine_of rules base) t i (put (count_of counts) i (count_of counts i + 1) i) c) (chip-access rules m i (kind false access)) (stands-access.path i hd.inside));
+                  (subst (λ c. OnPath rules (machine_of rules base) t i (put (count_of counts) i (count_of counts i + 1) i) c) (chip-access rules m i (kind false access)) (stands-access.path i low));
               due = record {
                 before = m.chip i;
                 shared = m.shared;
                 number = i;
-                due = record { chip = lk.tidy.sound.chip i hd.inside; shared = lk.tidy.sound.shared; number = lk.tidy.sound.number i hd.inside; kind = kind false access; cycle = let e = early in omega (arith, lk.small) };
+                due = record { chip = lk.tidy.sound.chip i low; shared = lk.tidy.sound.shared; number = lk.tidy.sound.number i low; kind = kind false access; cycle = let e = early in omega (arith, lk.small) };
                 is = refl;
               };
             }))
 
       module _ (sample : (rules.next h.chip).sample ≡ true) where
         enabled-sample : IsEnabled rules s t (Sample i)
-        enabled-sample = (hd.inside, kind true sample, early, λ j q ne _. above j q ne)
+        enabled-sample = (low, kind true sample, early, λ j q ne w. above j q (ne, λ _. w))
 
         stands-sample : StandsFor rules (machine_of rules base) (seen rules base).bound t (move rules m i) (after rules s (Sample i)).bound p.journal (counted (count_of counts) (Sample i))
         stands-sample = stands-next base lk.base_core t lk.small s tidy-s (count_of counts) stands-s (Sample i) enabled-sample
@@ -211,25 +196,96 @@ module _ {Chip Shared Pins : Type 0} (rules : Rules Chip Shared Pins) (chip_ok :
                   (subst (λ (n : ℕ → ℕ). StandsFor rules (machine_of rules base) (seen rules base).bound t (move rules m i) (after rules s (Sample i)).bound p.journal n) (sym counts-next) stands-sample);
             })
 
-        pub held-sample : IsHeld rules chip_ok shared_ok base t (sampled rules p i h)
-        held-sample =
-            subst (λ c. IsHeld rules chip_ok shared_ok base t (sampled rules p i (record h { chip = c }))) same_chip
-            (subst (λ x. IsHeld rules chip_ok shared_ok base t (sampled rules (record p { shared = x }) i (record h { chip = m.chip i }))) lk.shared
-            (record {
-              inside = hd.inside;
-              path = subst (λ n. OnPath rules (machine_of rules base) t i n (rules.sample (m.chip i) (rules.pins m.shared i))) (put-same (count_of counts) i (count_of counts i + 1) ∙ ap (λ n. n + 1) booked)
-                  (subst (λ c. OnPath rules (machine_of rules base) t i (put (count_of counts) i (count_of counts i + 1) i) c) (chip-sample rules m i (kind true sample)) (stands-sample.path i hd.inside));
-              due = (kind true sample, let e = early in omega (arith, lk.small));
-            }))
+        -- the samples of a lease, one behind the other
+        module _ (end : Key) (until : IsLeaseEnd rules (record p { bounds = raised rules i h.chip p.bounds }) i end) where
+          outer : (j : ℕ) → j ≢ i → bound_in (raised rules i h.chip p.bounds) j ≡ s.bound j
+          outer j ne =
+              get_or-set_other (announced rules i h.chip p.bounds) i j (record { cycle = (rules.next h.chip).key.cycle + rules.gap i; chip = i }) no_key ne
+              ∙ get_or-set_other p.bounds i j (rules.next h.chip).key no_key ne ∙ sym (put-other (seen_at m p).bound i (key_of rules m i) j ne)
+
+          many : length (raised rules i h.chip p.bounds) ≡ rules.count
+          many = length-set (announced rules i h.chip p.bounds) i (record { cycle = (rules.next h.chip).key.cycle + rules.gap i; chip = i }) ∙ length-set p.bounds i (rules.next h.chip).key ∙ lk.bound_count
+
+          limit : IsLimit rules t s.bound rules.count i end
+          limit key below =
+              let found = until.limit key below in (
+                (let early = found.0 in omega (arith, lk.time)),
+                λ j q ne w. subst (λ (b : Key). key_lt key b ≡ true) (outer j ne) (found.1 j (omega (arith, many)) ne w),
+              )
+
+          -- the first of them is one
+          first : SamplesBelow rules end h.chip
+          first = (
+            sample,
+            until.least (rules.next h.chip).key turn.early (λ j q ne w. ap (key_lt (rules.next h.chip).key) (outer j ne) ∙ ap (λ (x : Chip). key_lt (rules.next x).key (s.bound j)) (sym same_chip) ∙ above j (omega (arith, many)) (ne, λ _. w)),
+          )
+
+          small-end : key_lt (record { cycle = 2 ^ 50; chip = 0 }) end ≡ false
+          small-end =
+              by_test (key_lt (record { cycle = 2 ^ 50; chip = 0 }) end)
+              (λ e. absurd (let far = (limit (record { cycle = 2 ^ 50; chip = 0 }) e).0 in let low = lk.small in omega arith))
+              (λ e. e)
+
+          record Goes (n : ℕ) (z : Seen Chip Shared) : Type 0 where
+            tidy : IsTidy rules chip_ok shared_ok z
+            limit : IsLimit rules t z.bound rules.count i end
+            count : ℕ → ℕ
+            more : count i ≡ h.amount + n
+            stands : StandsFor rules (machine_of rules base) (seen rules base).bound t z.machine z.bound z.journal count
+
+          one-more : (n : ℕ) (z : Seen Chip Shared) → Goes n z → SamplesBelow rules end (z.machine.chip i) → Goes (suc n) (after rules (after rules z (Sample i)) (Announce i))
+          one-more n z g next = record {
+            tidy = tidy-announced (after rules z (Sample i)) tidy i low;
+            limit = limit-sampled rules t z rules.count i end g.limit;
+            count = counted g.count (Sample i);
+            more = put-same g.count i (g.count i + 1) ∙ (let e = g.more in omega arith);
+            stands = stands-announced base lk.base_core t lk.small (after rules z (Sample i)) tidy (counted g.count (Sample i))
+                (stands-next base lk.base_core t lk.small z g.tidy g.count g.stands (Sample i) en) i low;
+          }
+            where
+              en : IsEnabled rules z t (Sample i)
+              en = sample-enabled rules t z i end low next g.limit
+
+              tidy : IsTidy rules chip_ok shared_ok (after rules z (Sample i))
+              tidy = tidy-after rules chip_ok shared_ok law z g.tidy (Sample i) (enabled-wider rules chip_ok shared_ok law z t (2 ^ 50) lk.small (Sample i) en)
+
+          goes : (n : ℕ) → ((j : ℕ) → j < n → SamplesBelow rules end (sampled_n rules j (rules.pins m.shared i) (m.chip i))) → Goes n (sampled_on rules n s i)
+          unfolding sampled_on
+          goes zero each = record { tidy = tidy-s; limit = limit; count = count_of counts; more = booked ∙ (let e : h.amount ≡ h.amount + 0 = omega arith in e); stands = stands-s }
+          goes (suc n) each =
+              one-more n (sampled_on rules n s i) (goes n (λ j q. each j (omega arith)))
+              (subst (λ (x : Chip). SamplesBelow rules end x) (sym (chip-on rules s i (rules.pins m.shared i) refl n (λ j q. (each j (omega arith)).0))) (each n (omega arith)))
+
+          leased : IsLease rules chip_ok shared_ok base t i (h.amount + 1) (rules.pins m.shared i) end (m.chip i)
+          leased k each =
+              let g = goes (suc k) each in
+              subst (λ n. OnPath rules (machine_of rules base) t i n (sampled_n rules (suc k) (rules.pins m.shared i) (m.chip i))) (g.more ∙ (let e : h.amount + suc k ≡ h.amount + 1 + k = omega arith in e))
+              (subst (λ (x : Chip). OnPath rules (machine_of rules base) t i (g.count i) x) (chip-on rules s i (rules.pins m.shared i) refl (suc k) (λ j q. (each j q).0)) (g.stands.path i low))
+
+          pub held-sample : IsHeld rules chip_ok shared_ok base t (sampled rules p i end h)
+          held-sample =
+              subst (λ x. IsHeld rules chip_ok shared_ok base t (sampled rules (record p { shared = x }) i end h)) lk.shared
+              (record {
+                inside = low;
+                path = subst (λ n. OnPath rules (machine_of rules base) t i n (rules.sample h.chip (rules.pins m.shared i))) (put-same (count_of counts) i (count_of counts i + 1) ∙ ap (λ n. n + 1) booked)
+                    (subst (λ c. OnPath rules (machine_of rules base) t i (put (count_of counts) i (count_of counts i + 1) i) c) (chip-sample rules m i (kind true sample) ∙ ap (λ x. rules.sample x (rules.pins m.shared i)) same_chip) (stands-sample.path i low));
+                due = (
+                  first,
+                  small-end,
+                  record { shared = m.shared; ok = lk.tidy.sound.shared; is = ap (rules.pins m.shared) (sym (lk.tidy.sound.number i low) ∙ ap (λ (x : Chip). (rules.next x).key.chip) same_chip) },
+                  (let own = ap (λ (x : Chip). (rules.next x).key.chip) same_chip in let num = lk.tidy.sound.number i low in omega (arith, low)),
+                );
+                lease = subst (λ (x : Chip). IsLease rules chip_ok shared_ok base t i (h.amount + 1) (rules.pins m.shared i) end x) same_chip leased;
+              })
 
   -- the bound that is not above the key of the chip that was found is below it, since their numbers
   -- differ
-  pub blocked-found : (p : PartsValue Shared) (i total : ℕ) (h : HeldValue Chip Pins) → IsFound rules i p h total → (other : ℕ) (bound : Key) → (rules.next h.chip).key.cycle < p.end → FindsOther (rules.next h.chip).key p.bounds i other
+  pub blocked-found : (p : PartsValue Shared) (i total : ℕ) (h : HeldValue Chip Pins) → IsFound rules i p h total → (other : ℕ) (bound : Key) → (rules.next h.chip).key.cycle < p.end → FindsOther rules (rules.next h.chip) p.bounds i other
       → bound ≡ bound_in p.bounds other → IsBlocked rules p i h.chip other bound
   blocked-found p i total h found other bound early finds is =
       let count = found.bound_count in
       let room = finds.0 in
-      let apart = finds.1 in
+      let apart = finds.1.0 in
       let own = found.number in
       let inside = found.inside in
       let theirs = found.bound_number other (omega arith) in
@@ -238,83 +294,125 @@ module _ {Chip Shared Pins : Type 0} (rules : Rules Chip Shared Pins) (chip_ok :
       record {
         early = early;
         inside = finds.0;
-        apart = finds.1;
+        looked = finds.1;
         is = is;
         below = ap (λ (b : Key). key_lt b (rules.next h.chip).key) is ∙ rank-key_lt (bound_in p.bounds other) (rules.next h.chip).key (omega arith) (omega arith) (omega arith);
       }
 
-  -- the same, where the code has the chip's number beside the held chip, and the step's answer
+  -- the same, where the chip has samples that are not booked yet, and the code has its number beside it
+  module _ (base : CoreValue Chip Shared) (t : ℕ) (p : PartsValue Shared) (i : ℕ) (h : HeldValue Chip Pins) (hd : IsHeld rules chip_ok shared_ok base t h) (free : h.due ≡ Nothing) (number : h.number ≡ i)
+      (paid ahead : ℕ) (all : h.amount ≡ paid + ahead) (on : IsAhead rules chip_ok shared_ok base t h.number h.due paid ahead) where
+    inside-count : i < rules.count
+    inside-count = let low = hd.inside in omega (arith, number)
 
-  module _ (base : CoreValue Chip Shared) (t : ℕ) (p : PartsValue Shared) (i : ℕ) (h : HeldValue Chip Pins) (hd : IsHeld rules chip_ok shared_ok base t h) (free : h.due ≡ Nothing) (number : h.number ≡ i) where
-    turn-at : HasTurn rules p i h.chip → HasTurn rules p h.number h.chip
-    turn-at turn = subst (λ n. HasTurn rules p n h.chip) (sym number) turn
+    path-here : OnPath rules (machine_of rules base) t i h.amount h.chip
+    path-here = subst (λ n. OnPath rules (machine_of rules base) t n h.amount h.chip) number (subst (λ (d : Due Pins). OnPath rules (machine_of rules base) t h.number h.amount (settled rules d h.chip)) free hd.path)
 
-    module _ (total : ℕ) (at : IsLockedAt rules chip_ok shared_ok base t p i total) (whole : h.amount ≡ total) where
-      inside-at : h.number < length at.counts
-      inside-at = let q = at.inside in omega (arith, number)
+    -- the held chip under the number that the code has
+    abbrev numbered : HeldValue Chip Pins
+    numbered = record h { number = i }
 
-      booked-at : count_of at.counts h.number ≡ h.amount
-      booked-at = ap (count_of at.counts) number ∙ at.booked ∙ sym whole
+    same-held : numbered ≡ h
+    same-held = ap (λ n. record h { number = n }) (sym number)
 
-      pub place-at : HasPlaceFor rules p i h.chip
-      place-at turn access = place base t p at.counts at.locked h hd free inside-at booked-at (turn-at turn) access
+    module _ (counts : List ℕ) (inside : i < length counts) (booked : count_of counts i ≡ paid) (lk : IsLocked rules chip_ok shared_ok base t p counts) where
+      samples-here : AreSamples rules chip_ok shared_ok base t i (count_of counts i) ahead
+      samples-here = subst (λ n. AreSamples rules chip_ok shared_ok base t i n ahead) (sym booked) (subst (λ n. AreSamples rules chip_ok shared_ok base t n paid ahead) number on.samples)
 
-      -- how the section finds the chip
-      pub found-at : (k : HeldValue Chip Pins) → h ≡ k → IsFound rules i p k total
-      found-at k same =
-          let lk = at.locked in
-          let there = hd.inside in
-          subst (λ (x : HeldValue Chip Pins). IsFound rules i p x total) same
-          (record {
-            inside = omega (arith, number);
-            free = free;
-            number = ap (λ (x : Chip). (rules.next x).key.chip) (sym (same_chip base t p at.counts lk h hd free inside-at booked-at)) ∙ lk.tidy.sound.number h.number hd.inside ∙ number;
-            bound_count = lk.bound_count;
-            bound_number = lk.tidy.bound_number;
-            under =
-                ap (λ n. key_lt (rules.next h.chip).key (bound_in p.bounds n)) (sym number)
-                ∙ ap (λ (x : Chip). key_lt (rules.next x).key (bound_in p.bounds h.number)) (sym (same_chip base t p at.counts lk h hd free inside-at booked-at)) ∙ lk.tidy.under h.number hd.inside;
-            booked = whole;
-          })
+      all-here : h.amount ≡ count_of counts i + ahead
+      all-here = all ∙ ap (λ n. n + ahead) (sym booked)
 
-      pub held-performed : (q : PartsValue Shared) (d : Chip) → IsStep rules p i h.chip Performed q d → (n : ℕ) → n ≡ h.amount + 1 → IsHeld rules chip_ok shared_ok base t (record h { chip = d; due = Advance; amount = n })
-      held-performed q d is n e =
-          subst (λ (x : Chip). IsHeld rules chip_ok shared_ok base t (record h { chip = x; due = Advance; amount = n })) (sym is.3)
-          (subst (λ k. IsHeld rules chip_ok shared_ok base t (record h { chip = (rules.perform h.chip p.shared).chip; due = Advance; amount = k })) (sym e)
-          (held-access base t p at.counts at.locked h hd free inside-at booked-at (turn-at is.0) is.1))
+      abbrev told : PartsValue Shared
+      told = record p { bounds = announced rules i h.chip p.bounds }
 
-      pub held-sampled : (q : PartsValue Shared) (d : Chip) (pins : Pins) → IsStep rules p i h.chip (Sampled pins) q d → (n : ℕ) → n ≡ h.amount + 1
-          → IsHeld rules chip_ok shared_ok base t (record h { chip = d; due = Dues.Sample pins; amount = n })
-      held-sampled q d pins is n e =
-          subst (λ (x : Chip). IsHeld rules chip_ok shared_ok base t (record h { chip = x; due = Dues.Sample pins; amount = n })) (sym is.4)
-          (subst (λ (x : Pins). IsHeld rules chip_ok shared_ok base t (record h { due = Dues.Sample x; amount = n })) (ap (rules.pins p.shared) number ∙ sym is.2)
-          (subst (λ k. IsHeld rules chip_ok shared_ok base t (record h { due = Dues.Sample (rules.pins p.shared h.number); amount = k })) (sym e)
-          (held-sample base t p at.counts at.locked h hd free inside-at booked-at (turn-at is.0) is.1)))
+      abbrev paid_counts : List ℕ
+      paid_counts = slice_set counts i h.amount
 
-    module _ (counts : List ℕ) (inside : i < length counts) (booked : count_of counts i ≡ h.amount) (lk : IsLocked rules chip_ok shared_ok base t p counts) where
-      inside-here : h.number < length counts
-      inside-here = omega (arith, number)
+      pub kept-told : IsLocked rules chip_ok shared_ok base t told paid_counts
+      kept-told = kept-booked rules chip_ok shared_ok law base t p counts lk i ahead h.amount h.chip inside-count path-here samples-here all-here inside
 
-      booked-here : count_of counts h.number ≡ h.amount
-      booked-here = ap (count_of counts) number ∙ booked
+      inside-told : i < length paid_counts
+      inside-told = let n = length-set counts i h.amount in omega arith
+
+      booked-told : count_of paid_counts i ≡ h.amount
+      booked-told = get_or-set_same counts i h.amount 0 inside
+
+      -- announcing twice is announcing once
+      raised-told : raised rules i h.chip told.bounds ≡ raised rules i h.chip p.bounds
+      raised-told = ap (λ bs. slice_set bs i (record { cycle = (rules.next h.chip).key.cycle + rules.gap i; chip = i })) (set-set p.bounds i (rules.next h.chip).key (rules.next h.chip).key)
+
+      counts-told : (n : ℕ) → slice_set paid_counts i n ≡ slice_set counts i n
+      counts-told n = set-set counts i h.amount n
+
+      turn-told : HasTurn rules p i h.chip → HasTurn rules told i h.chip
+      turn-told turn = record {
+        early = turn.early;
+        first = λ j q looks. ap (key_lt (rules.next h.chip).key) (get_or-set_other p.bounds i j (rules.next h.chip).key no_key looks.0)
+            ∙ turn.first j (let n = length-set p.bounds i (rules.next h.chip).key in omega arith) looks;
+      }
+
+      pub place-here : HasPlaceFor rules p i h.chip
+      place-here turn access = place base t told paid_counts kept-told numbered inside-count path-here inside-told booked-told (turn-told turn) access
 
       pub kept-performed : (q : PartsValue Shared) (d : Chip) → IsStep rules p i h.chip Performed q d → (n : ℕ) → n ≡ h.amount + 1 → IsLocked rules chip_ok shared_ok base t q (slice_set counts i n)
       kept-performed q d is n e =
           subst (λ (x : PartsValue Shared). IsLocked rules chip_ok shared_ok base t x (slice_set counts i n)) (sym is.2)
           (subst (λ k. IsLocked rules chip_ok shared_ok base t (after_access rules p i h.chip) (slice_set counts i k)) (sym e)
-          (subst (λ k. IsLocked rules chip_ok shared_ok base t (after_access rules p k h.chip) (slice_set counts k (h.amount + 1))) number
-          (kept-access base t p counts lk h hd free inside-here booked-here (turn-at is.0) is.1)))
+          (subst (λ cs. IsLocked rules chip_ok shared_ok base t (after_access rules p i h.chip) cs) (counts-told (h.amount + 1))
+          (subst (λ bs. IsLocked rules chip_ok shared_ok base t (record (after_access rules p i h.chip) { bounds = bs }) (slice_set paid_counts i (h.amount + 1))) raised-told
+          (kept-access base t told paid_counts kept-told numbered inside-count path-here inside-told booked-told (turn-told is.0) is.1))))
 
-      pub kept-sampled : (q : PartsValue Shared) (d : Chip) (pins : Pins) → IsStep rules p i h.chip (Sampled pins) q d → (n : ℕ) → n ≡ h.amount + 1 → IsLocked rules chip_ok shared_ok base t q (slice_set counts i n)
-      kept-sampled q d pins is n e =
+      pub kept-sampled : (q : PartsValue Shared) (d : Chip) (pins : Pins) (end : Key) → IsStep rules p i h.chip (Sampled pins end) q d → (n : ℕ) → n ≡ h.amount + 1 → IsLocked rules chip_ok shared_ok base t q (slice_set counts i n)
+      kept-sampled q d pins end is n e =
           subst (λ (x : PartsValue Shared). IsLocked rules chip_ok shared_ok base t x (slice_set counts i n)) (sym is.3)
           (subst (λ k. IsLocked rules chip_ok shared_ok base t (record p { bounds = raised rules i h.chip p.bounds }) (slice_set counts i k)) (sym e)
-          (subst (λ k. IsLocked rules chip_ok shared_ok base t (record p { bounds = raised rules k h.chip p.bounds }) (slice_set counts k (h.amount + 1))) number
-          (kept-sample base t p counts lk h hd free inside-here booked-here (turn-at is.0) is.1)))
+          (subst (λ cs. IsLocked rules chip_ok shared_ok base t (record p { bounds = raised rules i h.chip p.bounds }) cs) (counts-told (h.amount + 1))
+          (subst (λ bs. IsLocked rules chip_ok shared_ok base t (record p { bounds = bs }) (slice_set paid_counts i (h.amount + 1))) raised-told
+          (kept-sample base t told paid_counts kept-told numbered inside-count path-here inside-told booked-told (turn-told is.0) is.1))))
 
       pub kept-stayed : (q : PartsValue Shared) → q ≡ record p { bounds = announced rules i h.chip p.bounds } → (n : ℕ) → n ≡ h.amount → IsLocked rules chip_ok shared_ok base t q (slice_set counts i n)
       kept-stayed q is n e =
           subst (λ (x : PartsValue Shared). IsLocked rules chip_ok shared_ok base t x (slice_set counts i n)) (sym is)
-          (subst (λ k. IsLocked rules chip_ok shared_ok base t (record p { bounds = announced rules i h.chip p.bounds }) (slice_set counts i k)) (sym e)
-          (subst (λ k. IsLocked rules chip_ok shared_ok base t (record p { bounds = announced rules k h.chip p.bounds }) (slice_set counts k h.amount)) number
-          (kept-still base t p counts lk h hd free inside-here booked-here)))
+          (subst (λ k. IsLocked rules chip_ok shared_ok base t told (slice_set counts i k)) (sym e) kept-told)
+
+      pub held-performed : (q : PartsValue Shared) (d : Chip) → IsStep rules p i h.chip Performed q d → (n : ℕ) → n ≡ h.amount + 1 → IsHeld rules chip_ok shared_ok base t (record h { chip = d; due = Advance; amount = n })
+      held-performed q d is n e =
+          subst (λ (x : Chip). IsHeld rules chip_ok shared_ok base t (record h { chip = x; due = Advance; amount = n })) (sym is.3)
+          (subst (λ k. IsHeld rules chip_ok shared_ok base t (record h { chip = (rules.perform h.chip p.shared).chip; due = Advance; amount = k })) (sym e)
+          (subst (λ (x : HeldValue Chip Pins). IsHeld rules chip_ok shared_ok base t (performed rules p x)) same-held
+          (held-access base t told paid_counts kept-told numbered inside-count path-here inside-told booked-told (turn-told is.0) is.1)))
+
+      pub held-sampled : (q : PartsValue Shared) (d : Chip) (pins : Pins) (end : Key) → IsStep rules p i h.chip (Sampled pins end) q d → (n : ℕ) → n ≡ h.amount + 1
+          → IsHeld rules chip_ok shared_ok base t (record h { chip = d; due = Dues.Sample pins end; amount = n })
+      held-sampled q d pins end is n e =
+          subst (λ (x : Chip). IsHeld rules chip_ok shared_ok base t (record h { chip = x; due = Dues.Sample pins end; amount = n })) (sym is.4)
+          (subst (λ (x : Pins). IsHeld rules chip_ok shared_ok base t (record h { due = Dues.Sample x end; amount = n })) (sym is.2)
+          (subst (λ k. IsHeld rules chip_ok shared_ok base t (record h { due = Dues.Sample (rules.pins p.shared i) end; amount = k })) (sym e)
+          (subst (λ (x : HeldValue Chip Pins). IsHeld rules chip_ok shared_ok base t (sampled rules p i end x)) same-held
+          (held-sample base t told paid_counts kept-told numbered inside-count path-here inside-told booked-told (turn-told is.0) is.1 end
+          (subst (λ (bs : List Key). IsLeaseEnd rules (record p { bounds = bs }) i end) (sym raised-told) (subst (λ (x : PartsValue Shared). IsLeaseEnd rules x i end) is.3 is.5))))))
+
+    module _ (at : IsLockedAt rules chip_ok shared_ok base t p i paid) where
+      pub place-at : HasPlaceFor rules p i h.chip
+      place-at = place-here at.counts at.inside at.booked at.locked
+
+      -- how the section finds the chip
+      pub found-at : (k : HeldValue Chip Pins) → h ≡ k → IsFound rules i p k paid
+      found-at k same =
+          subst (λ (x : HeldValue Chip Pins). IsFound rules i p x paid) same
+          (record {
+            inside = inside-count;
+            free = free;
+            number = found-number rules chip_ok shared_ok law base t p at.counts at.locked i ahead h.amount h.chip inside-count path-here (samples-here at.counts at.inside at.booked at.locked) (all-here at.counts at.inside at.booked at.locked) at.inside;
+            bound_count = at.locked.bound_count;
+            bound_number = at.locked.tidy.bound_number;
+            under = found-under rules chip_ok shared_ok law base t p at.counts at.locked i ahead h.amount h.chip inside-count path-here (samples-here at.counts at.inside at.booked at.locked) (all-here at.counts at.inside at.booked at.locked) at.inside;
+            booked = omega (arith, all);
+          })
+
+      pub held-performed-at : (q : PartsValue Shared) (d : Chip) → IsStep rules p i h.chip Performed q d → (n : ℕ) → n ≡ h.amount + 1 → IsHeld rules chip_ok shared_ok base t (record h { chip = d; due = Advance; amount = n })
+      held-performed-at = held-performed at.counts at.inside at.booked at.locked
+
+      pub held-sampled-at : (q : PartsValue Shared) (d : Chip) (pins : Pins) (end : Key) → IsStep rules p i h.chip (Sampled pins end) q d → (n : ℕ) → n ≡ h.amount + 1
+          → IsHeld rules chip_ok shared_ok base t (record h { chip = d; due = Dues.Sample pins end; amount = n })
+      held-sampled-at = held-sampled at.counts at.inside at.booked at.locked

@@ -1,4 +1,6 @@
 pub mod Answered
+pub mod Booking
+pub mod Books
 pub mod CoreSteps
 pub mod Gathers
 pub mod Keeping
@@ -6,3 +8,4 @@ pub mod KeyOrder
 pub mod Makes
 pub mod Places
 pub mod Rounds
+pub mod Settling

@@ -108,6 +108,7 @@ module _ {Chip Shared Pins : Type 0} (rules : Rules Chip Shared Pins) (chip_ok :
     inside = remains-inside rules base k chips r h;
     path = subst (λ n. OnPath rules (machine_of rules base) t k n c) (sym none) (path-first rules base t k chips now c e r h);
     due = tt;
+    lease = tt;
   }
 
 module _ {Chip Shared Pins : Type 0} (rules : Rules Chip Shared Pins) (chip_ok : Chip → Type 0) (shared_ok : Shared → Type 0) (law : Lawful rules chip_ok shared_ok) where

@@ -12,11 +12,12 @@ use Rattle.chip_core.specs.Equations.{by_test, same_or}
 use Rattle.chip_run.specs.Held.{HeldValue}
 use Rattle.chip_run.specs.Locked.{LockedValue}
 use Rattle.chip_run.specs.Parts.{PartsValue}
-use Rattle.chip_run.specs.Places.{AllFree, IsFree, Places, place}
+use Rattle.chip_run.specs.Places.{AllFree, HasNumber, IsFree, Places, place}
 use Rattle.chip_run.proofs.Places.{place-in}
-use Rattle.chip_run.specs.Rounds.{IsEnded, IsEndedAt, IsRound, IsSeenTurn, Keeps, Made, bare, bares, is_there, occupied, settled_held}
+use Rattle.chip_run.specs.Rounds.{IsEnded, IsEndedAt, IsRound, IsSeenTurn, Keeps, Made, Settles, SettlesAt, bare, bares, is_there, occupied}
 use Rattle.chip_run.specs.Sections.{IsSection, IsTurn, Moves}
-use Rattle.chip_run.specs.declared.held.Due.TheVariants.{Nothing}
+use Rattle.chip_run.specs.declared.held.Due.{Due}
+use Rattle.chip_run.specs.declared.held.Due.TheVariants.{Nothing, Advance, Sample}
 use Rattle.chip_run.specs.declared.round.Round.{Round}
 use Rattle.chip_run.specs.declared.round.Round.TheVariants as Rounds
 use Rattle.chip_run.specs.declared.turn.Turn.{Turn}
@@ -137,32 +138,70 @@ module _ {Chip Shared Pins : Type 0} (rules : Rules Chip Shared Pins) where
   pub round-keeps-ended : (hs hs2 : Places Chip Pins) → bares hs2 ≡ bares hs → AllFree hs2 → Keeps hs hs2
   round-keeps-ended hs hs2 same free = record { same = sym (occupied-bares hs2) ∙ ap occupied same ∙ occupied-bares hs; free = free }
 
+  settled-amount : (d : Due Pins) (h k : HeldValue Chip Pins) → Settles rules d h k → (n : ℕ) × (k.amount ≡ h.amount + n)
+  settled-amount Nothing h k is = (0, ap (λ (x : HeldValue Chip Pins). x.amount) is ∙ (let e : h.amount ≡ h.amount + 0 = omega arith in e))
+  settled-amount Advance h k is = (0, ap (λ (x : HeldValue Chip Pins). x.amount) is ∙ (let e : h.amount ≡ h.amount + 0 = omega arith in e))
+  settled-amount (Sample pins end) h k is = (is.0, ap (λ (x : HeldValue Chip Pins). x.amount) is.2)
+
+  settled-free : (d : Due Pins) (h k : HeldValue Chip Pins) → h.due ≡ d → Settles rules d h k → k.due ≡ Nothing
+  settled-free Nothing h k e is = ap (λ (x : HeldValue Chip Pins). x.due) is ∙ e
+  settled-free Advance h k e is = ap (λ (x : HeldValue Chip Pins). x.due) is
+  settled-free (Sample pins end) h k e is = ap (λ (x : HeldValue Chip Pins). x.due) is.2
+
+  settled-number : (d : Due Pins) (h k : HeldValue Chip Pins) → Settles rules d h k → k.number ≡ h.number
+  settled-number Nothing h k is = ap (λ (x : HeldValue Chip Pins). x.number) is
+  settled-number Advance h k is = ap (λ (x : HeldValue Chip Pins). x.number) is
+  settled-number (Sample pins end) h k is = ap (λ (x : HeldValue Chip Pins). x.number) is.2
+
   -- the held chips once the one that moved has done its private work
-  moved-settled : (t k : ℕ) (hs1 hs2 hs3 : Places Chip Pins) (m : Made rules t k hs1 hs2) → hs3 ≡ slice_set hs2 k (option_map (settled_held rules) (place hs2 k)) → hs3 ≡ slice_set hs1 k (Some (settled_held rules m.after))
-  moved-settled t k hs1 hs2 hs3 m e =
+  record Goes (k : ℕ) (hs1 hs3 : Places Chip Pins) (after : HeldValue Chip Pins) : Type 0 where
+    last : HeldValue Chip Pins
+    settles : Settles rules after.due after last
+    now : hs3 ≡ slice_set hs1 k (Some last)
+
+  moved-settled : (t k : ℕ) (hs1 hs2 hs3 : Places Chip Pins) (m : Made rules t k hs1 hs2) → SettlesAt rules (place hs2 k) (place hs3 k) → hs3 ≡ slice_set hs2 k (place hs3 k) → Goes k hs1 hs3 m.after
+  moved-settled t k hs1 hs2 hs3 m settles e =
       let at : place hs2 k ≡ Some m.after = ap (λ xs. place xs k) m.now ∙ get_or-set_same hs1 k (Some m.after) None (place-in hs1 k m.before m.there) in
-      e ∙ ap (λ (o : Option (HeldValue Chip Pins)). slice_set hs2 k (option_map (settled_held rules) o)) at
-      ∙ ap (λ xs. slice_set xs k (Some (settled_held rules m.after))) m.now ∙ set-set hs1 k (Some m.after) (Some (settled_held rules m.after))
+      let s : SettlesAt rules (Some m.after) (place hs3 k) = subst (λ (o : Option (HeldValue Chip Pins)). SettlesAt rules o (place hs3 k)) at settles in
+      record {
+        last = s.0;
+        settles = s.2;
+        now = e ∙ ap (slice_set hs2 k) s.1 ∙ ap (λ xs. slice_set xs k (Some s.0)) m.now ∙ set-set hs1 k (Some m.after) (Some s.0);
+      }
 
-  pub round-made : (t k : ℕ) (hs0 hs1 hs2 hs3 : Places Chip Pins) → bares hs1 ≡ bares hs0 → Made rules t k hs1 hs2 → hs3 ≡ slice_set hs2 k (option_map (settled_held rules) (place hs2 k)) → Made rules t k (bares hs0) (bares hs3)
-  round-made t k hs0 hs1 hs2 hs3 same m e = record {
-    before = bare m.before;
-    after = bare (settled_held rules m.after);
-    there = ap (λ xs. place xs k) (sym same) ∙ place-bares hs1 k ∙ ap (option_map bare) m.there;
-    early = m.early;
-    more = m.more;
-    now = ap bares (moved-settled t k hs1 hs2 hs3 m e) ∙ map-set (option_map bare) hs1 k (Some (settled_held rules m.after)) ∙ ap (λ xs. slice_set xs k (Some (bare (settled_held rules m.after)))) same;
-  }
+  pub round-made : (t k : ℕ) (hs0 hs1 hs2 hs3 : Places Chip Pins) → bares hs1 ≡ bares hs0 → Made rules t k hs1 hs2 → SettlesAt rules (place hs2 k) (place hs3 k) → hs3 ≡ slice_set hs2 k (place hs3 k)
+      → Made rules t k (bares hs0) (bares hs3)
+  round-made t k hs0 hs1 hs2 hs3 same m settles e =
+      let g = moved-settled t k hs1 hs2 hs3 m settles e in
+      let n = settled-amount m.after.due m.after g.last g.settles in
+      record {
+        before = bare m.before;
+        after = bare g.last;
+        there = ap (λ xs. place xs k) (sym same) ∙ place-bares hs1 k ∙ ap (option_map bare) m.there;
+        early = m.early;
+        leased = m.leased + n.0;
+        more = (let a = n.1 in let b = m.more in omega arith);
+        now = ap bares g.now ∙ map-set (option_map bare) hs1 k (Some g.last) ∙ ap (λ xs. slice_set xs k (Some (bare g.last))) same;
+      }
 
-  pub round-free : (t k : ℕ) (hs1 hs2 hs3 : Places Chip Pins) → AllFree hs1 → Made rules t k hs1 hs2 → hs3 ≡ slice_set hs2 k (option_map (settled_held rules) (place hs2 k)) → AllFree hs3
-  round-free t k hs1 hs2 hs3 free m e i h there = go (same_or i k)
+  pub round-free : (t k : ℕ) (hs1 hs2 hs3 : Places Chip Pins) → AllFree hs1 → Made rules t k hs1 hs2 → SettlesAt rules (place hs2 k) (place hs3 k) → hs3 ≡ slice_set hs2 k (place hs3 k) → AllFree hs3
+  round-free t k hs1 hs2 hs3 free m settles e i h there = go (same_or i k)
     where
+      g : Goes k hs1 hs3 m.after
+      g = moved-settled t k hs1 hs2 hs3 m settles e
+
       go : (i ≡ k) ⊎ (i ≢ k) → h.due ≡ Nothing
       go (inl same) =
-          sym (ap (λ (x : HeldValue Chip Pins). x.due) (same_Some (settled_held rules m.after) h
-          (sym (get_or-set_same hs1 k (Some (settled_held rules m.after)) None (place-in hs1 k m.before m.there))
-          ∙ ap (λ xs. place xs k) (sym (moved-settled t k hs1 hs2 hs3 m e)) ∙ ap (place hs3) (sym same) ∙ there)))
-      go (inr ne) = free i h (sym (get_or-set_other hs1 k i (Some (settled_held rules m.after)) None ne) ∙ ap (λ xs. place xs i) (sym (moved-settled t k hs1 hs2 hs3 m e)) ∙ there)
+          sym (ap (λ (x : HeldValue Chip Pins). x.due) (same_Some g.last h
+          (sym (get_or-set_same hs1 k (Some g.last) None (place-in hs1 k m.before m.there))
+          ∙ ap (λ xs. place xs k) (sym g.now) ∙ ap (place hs3) (sym same) ∙ there)))
+          ∙ settled-free m.after.due m.after g.last refl g.settles
+      go (inr ne) = free i h (sym (get_or-set_other hs1 k i (Some g.last) None ne) ∙ ap (λ xs. place xs i) (sym g.now) ∙ there)
+
+  -- a place keeps its number
+  pub settled-place : (n : ℕ) (o q : Option (HeldValue Chip Pins)) → SettlesAt rules o q → HasNumber n o → HasNumber n q
+  settled-place n None q is number = subst (λ (x : Option (HeldValue Chip Pins)). HasNumber n x) (sym is) tt
+  settled-place n (Some h) q is number = subst (λ (x : Option (HeldValue Chip Pins)). HasNumber n x) (sym is.1) (settled-number h.due h is.0 is.2 ∙ number)
 
   pub at-ended : (t : ℕ) (hs0 hs : Places Chip Pins) → hs0 ≡ hs → (i : ℕ) → IsEndedAt rules t hs i → IsEndedAt rules t hs0 i
   at-ended t hs0 hs e i late = subst (λ xs. IsEndedAt rules t xs i) (sym e) late
@@ -178,12 +217,12 @@ module _ {Chip Shared Pins : Type 0} (rules : Rules Chip Shared Pins) where
   one-more : (i : ℕ) (p : PartsValue Shared) (h : HeldValue Chip Pins) (q : PartsValue Shared) (k : HeldValue Chip Pins) → Moves rules i p h q k → k.amount ≡ h.amount + 1
   one-more i p h q k m =
       by_test (rules.next h.chip).sample
-      (λ e. ap (λ (x : HeldValue Chip Pins). x.amount) ((m.sample e).1))
+      (λ e. ap (λ (x : HeldValue Chip Pins). x.amount) ((m.sample e).1.2))
       (λ e. ap (λ (x : HeldValue Chip Pins). x.amount) ((m.access e).1))
 
   seen-by : (t i : ℕ) (l : LockedValue Shared) (hs : Places Chip Pins) (answer : Turn) (l2 : LockedValue Shared) (hs2 : Places Chip Pins) → l.parts.end ≡ t
       → (before after : HeldValue Chip Pins) → place hs i ≡ Some before → IsTurn rules i l.parts before answer l2.parts after → hs2 ≡ slice_set hs i (Some after) → IsSeenTurn rules t i hs answer hs2
-  seen-by t i l hs Moved l2 hs2 end before after there is now = record { before = before; after = after; there = there; early = (let low = is.turn.early in omega (arith, end)); more = one-more i l.parts before l2.parts after is; now = now }
+  seen-by t i l hs Moved l2 hs2 end before after there is now = record { before = before; after = after; there = there; early = (let low = is.turn.early in omega (arith, end)); leased = 0; more = one-more i l.parts before l2.parts after is ∙ (let e : before.amount + 1 ≡ before.amount + 1 + 0 = omega arith in e); now = now }
   seen-by t i l hs (Blocked other bound) l2 hs2 end before after there is now = now ∙ stays hs i before after there is.1.held
   seen-by t i l hs Finished l2 hs2 end before after there is now = (
     now ∙ stays hs i before after there is.1.held,

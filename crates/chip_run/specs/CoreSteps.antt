@@ -3,7 +3,7 @@ use Rattle.std.specs.Prelude.{◌≡◌, ℕ, Some}
 use Rattle.chip_core.specs.declared.event.Event.{Event}
 use Rattle.chip_core.specs.declared.event.Event.TheVariants.{Announce}
 use Rattle.chip_core.specs.Chips.{Rules}
-use Rattle.chip_core.specs.Events.{IsBelowAll, IsEnabled, Seen, after, own_event}
+use Rattle.chip_core.specs.Events.{IsEnabled, Seen, after, own_event}
 use Rattle.chip_core.specs.Machines.{put}
 use Rattle.chip_run.specs.Held.{HeldValue, settled}
 use Rattle.chip_run.specs.Locked.{LockedValue, seen_at}
@@ -16,22 +16,17 @@ module _ {Chip Shared Pins : Type 0} (rules : Rules Chip Shared Pins) where
     pub enabled : IsEnabled rules s t e → z ≡ after rules s e
     pub refused : (IsEnabled rules s t e → ⊥) → z ≡ s
 
-  -- the core after an event of chip i where that is enabled below t and the chip's key lies below the
-  -- bound of each other chip, and the same core where it is not so
-  pub record IsAfterTurn (t : ℕ) (s : Seen Chip Shared) (i : ℕ) (e : Event) (z : Seen Chip Shared) : Type 0 where
-    pub moved : IsEnabled rules s t e × IsBelowAll rules s i → z ≡ after rules s e
-    pub stayed : (IsEnabled rules s t e × IsBelowAll rules s i → ⊥) → z ≡ s
-
-  -- the core that the locked parts make with the held chip, its due work done, and other chips
+  -- the core that the locked parts make with the held chip, the work of its last booked event done, and
+  -- other chips
   abbrev pub core_with : (ℕ → Chip) → ℕ → PartsValue Shared → HeldValue Chip Pins → Seen Chip Shared
   core_with others i p h = seen_at (record { shared = p.shared; chip = put others i (settled rules h.due h.chip) }) p
 
   -- from the one core to the other by the chip's announcement where it is enabled, and then by the
-  -- chip's own event where that is enabled and comes before those of all others
+  -- chip's own event where that is enabled
   pub record IsCoreTurn (i t : ℕ) (s z : Seen Chip Shared) : Type 0 where
     pub between : Seen Chip Shared
     pub announced : IsAfterEnabled t s (Announce i) between
-    pub moved : IsAfterTurn t between i (own_event rules between i) z
+    pub moved : IsAfterEnabled t between (own_event rules between i) z
 
   -- a section is that of the core, whatever the other chips are
   abbrev pub IsCoreSection : ℕ → LockedValue Shared → Places Chip Pins → LockedValue Shared → Places Chip Pins → Type 0

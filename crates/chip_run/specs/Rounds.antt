@@ -1,12 +1,13 @@
 -- What a round does with the chips that a worker holds.
-use Rattle.std.specs.Prelude.{◌≡◌, Bool, true, false, ℕ, ◌+◌, ◌<◌, ◌≤◌, Option, Some, None, IfSome, List, map, slice_set}
+use Rattle.std.specs.Prelude.{◌≡◌, Bool, true, false, ℕ, suc, ◌+◌, ◌<◌, ◌≤◌, Option, Some, None, IfSome, List, map, slice_set}
 use Rattle.std.specs.Option.{option_map}
-use Rattle.chip_core.specs.Chips.{Rules}
-use Rattle.chip_run.specs.Held.{HeldValue, settled}
+use Rattle.chip_core.specs.Chips.{Rules, RunsTo}
+use Rattle.chip_run.specs.Held.{HeldValue}
 use Rattle.chip_run.specs.Places.{AllFree, Places, place}
 use Rattle.chip_run.specs.declared.round.Round.{Round}
 use Rattle.chip_run.specs.declared.round.Round.TheVariants as Rounds
-use Rattle.chip_run.specs.declared.held.Due.TheVariants.{Nothing}
+use Rattle.chip_run.specs.declared.held.Due.{Due}
+use Rattle.chip_run.specs.declared.held.Due.TheVariants.{Nothing, Advance, Sample}
 use Rattle.chip_run.specs.declared.turn.Turn.{Turn}
 use Rattle.chip_run.specs.declared.turn.Turn.TheVariants as Turns
 use Rattle.chip_run.specs.declared.sweep.Swept.{Swept}
@@ -36,9 +37,17 @@ module _ {Chip Pins : Type 0} where
     pub free : AllFree hs2
 
 module _ {Chip Shared Pins : Type 0} (rules : Rules Chip Shared Pins) where
-  -- the held chip once the due work is done
-  abbrev pub settled_held : HeldValue Chip Pins → HeldValue Chip Pins
-  settled_held h = record h { chip = settled rules h.due h.chip; due = Nothing }
+  -- what the due work leaves of a held chip: after a sample all samples of the lease are made
+  abbrev pub Settles : Due Pins → HeldValue Chip Pins → HeldValue Chip Pins → Type 0
+  Settles Nothing h k = k ≡ h
+  Settles Advance h k = k ≡ record h { chip = rules.advance h.chip; due = Nothing }
+  Settles (Sample pins end) h k =
+      (ahead : ℕ) × RunsTo rules (suc ahead) end pins h.chip k.chip × (k ≡ record h { chip = k.chip; due = Nothing; amount = h.amount + ahead })
+
+  -- the same of a place
+  abbrev pub SettlesAt : Option (HeldValue Chip Pins) → Option (HeldValue Chip Pins) → Type 0
+  SettlesAt None o = o ≡ None
+  SettlesAt (Some h) o = (k : HeldValue Chip Pins) × (o ≡ Some k) × Settles h.due h k
 
   -- the next event of the chip held there, if one is, does not lie below the end
   abbrev pub IsEndedAt : ℕ → Places Chip Pins → ℕ → Type 0
@@ -48,14 +57,15 @@ module _ {Chip Shared Pins : Type 0} (rules : Rules Chip Shared Pins) where
   abbrev pub IsEnded : ℕ → Places Chip Pins → Type 0
   IsEnded t hs = (i : ℕ) → IsEndedAt t hs i
 
-  -- the chip of this number, whose event lies below the end, made one more move, and the others are
-  -- as they were
+  -- the chip of this number, whose event lies below the end, made one more move and the samples under its
+  -- lease, and the others are as they were
   pub record Made (t i : ℕ) (hs hs2 : Places Chip Pins) : Type 0 where
     pub before : HeldValue Chip Pins
     pub after : HeldValue Chip Pins
     pub there : place hs i ≡ Some before
     pub early : (rules.next before.chip).key.cycle < t
-    pub more : after.amount ≡ before.amount + 1
+    pub leased : ℕ
+    pub more : after.amount ≡ before.amount + 1 + leased
     pub now : hs2 ≡ slice_set hs i (Some after)
 
   -- what a section leaves of the held chips

@@ -1,5 +1,5 @@
 -- What a section does with a held chip.
-use Rattle.std.specs.Prelude.{◌≡◌, ◌≢◌, ℕ, ◌+◌, ◌<◌, ◌≤◌, true, false, Some, IfSome, List, length, slice_set}
+use Rattle.std.specs.Prelude.{◌≡◌, ℕ, ◌+◌, ◌<◌, ◌≤◌, true, false, Some, IfSome, List, length, slice_set}
 use Rattle.md_word.specs.declared.key.Key.{Key}
 use Rattle.md_word.specs.Keys.{key_lt}
 use Rattle.chip_core.specs.Chips.{Rules}
@@ -8,14 +8,14 @@ use Rattle.chip_run.specs.Held.{HeldValue}
 use Rattle.chip_run.specs.Locked.{IsLocked, LockedValue, count_of}
 use Rattle.chip_run.specs.Parts.{PartsValue}
 use Rattle.chip_run.specs.Places.{Places, place}
-use Rattle.chip_run.specs.Steps.{HasTurn, after_access, announced, raised}
+use Rattle.chip_run.specs.Steps.{HasTurn, IsLeaseEnd, LooksAt, after_access, announced, raised}
 use Rattle.chip_run.specs.declared.held.Due.TheVariants.{Nothing, Advance, Sample}
 use Rattle.chip_run.specs.declared.turn.Turn.{Turn}
 use Rattle.chip_run.specs.declared.turn.Turn.TheVariants.{Moved, Blocked, Finished}
 
 module _ {Chip Shared Pins : Type 0} (rules : Rules Chip Shared Pins) where
-  -- how a section finds a held chip: at its number, with a bound not above its key, and with all its
-  -- moves booked
+  -- how a section finds a held chip: at its number, with a bound not above its key, and with no more
+  -- moves booked than it has made
   pub record IsFound (i : ℕ) (p : PartsValue Shared) (h : HeldValue Chip Pins) (total : ℕ) : Type 0 where
     pub inside : i < rules.count
     pub free : h.due ≡ Nothing
@@ -23,32 +23,32 @@ module _ {Chip Shared Pins : Type 0} (rules : Rules Chip Shared Pins) where
     pub bound_count : length p.bounds ≡ rules.count
     pub bound_number : (j : ℕ) → j < rules.count → (bound_in p.bounds j).chip ≡ j
     pub under : key_lt (rules.next h.chip).key (bound_in p.bounds i) ≡ false
-    pub booked : h.amount ≡ total
+    pub booked : total ≤ h.amount
 
   -- the held chip after the locked part of its access
   abbrev pub performed : PartsValue Shared → HeldValue Chip Pins → HeldValue Chip Pins
   performed p h = record h { chip = (rules.perform h.chip p.shared).chip; due = Advance; amount = h.amount + 1 }
 
-  -- the held chip once the pins of its sample are read
-  abbrev pub sampled : PartsValue Shared → ℕ → HeldValue Chip Pins → HeldValue Chip Pins
-  sampled p i h = record h { due = Sample (rules.pins p.shared i); amount = h.amount + 1 }
+  -- the held chip once the pins of its sample are read, with a lease up to this end
+  abbrev pub sampled : PartsValue Shared → ℕ → Key → HeldValue Chip Pins → HeldValue Chip Pins
+  sampled p i end h = record h { due = Sample (rules.pins p.shared i) end; amount = h.amount + 1 }
 
   -- the chip has its turn, and makes its event but for the private work
   pub record Moves (i : ℕ) (p : PartsValue Shared) (h : HeldValue Chip Pins) (q : PartsValue Shared) (k : HeldValue Chip Pins) : Type 0 where
     pub turn : HasTurn rules p i h.chip
     pub access : (rules.next h.chip).sample ≡ false → (q ≡ after_access rules p i h.chip) × (k ≡ performed p h)
-    pub sample : (rules.next h.chip).sample ≡ true → (q ≡ record p { bounds = raised rules i h.chip p.bounds }) × (k ≡ sampled p i h)
+    pub sample : (rules.next h.chip).sample ≡ true → (q ≡ record p { bounds = raised rules i h.chip p.bounds }) × ((end : Key) × IsLeaseEnd rules q i end × (k ≡ sampled p i end h))
 
   -- the chip announces its event, and does nothing else
   pub record Announces (i : ℕ) (p : PartsValue Shared) (h : HeldValue Chip Pins) (q : PartsValue Shared) (k : HeldValue Chip Pins) : Type 0 where
     pub parts : q ≡ record p { bounds = announced rules i h.chip p.bounds }
     pub held : k ≡ h
 
-  -- the chip's event lies below the end, but not below this bound of another chip
+  -- the chip's event lies below the end, but not below this bound of another chip, at which it looks
   pub record IsBlocked (p : PartsValue Shared) (i : ℕ) (c : Chip) (other : ℕ) (bound : Key) : Type 0 where
     pub early : (rules.next c).key.cycle < p.end
     pub inside : other < length p.bounds
-    pub apart : other ≢ i
+    pub looked : LooksAt rules (rules.next c) i other
     pub is : bound ≡ bound_in p.bounds other
     pub below : key_lt bound (rules.next c).key ≡ true
 

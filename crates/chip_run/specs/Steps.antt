@@ -1,22 +1,29 @@
 -- What the turn of a chip does under the lock.
 use Rattle.std.specs.Prelude.{◌≡◌, ◌≢◌, ℕ, ◌+◌, ◌<◌, ◌≤◌, true, false, List, [], ◌∷◌, ◌++◌, length, slice_set}
+use Rattle.md_word.specs.declared.event.Next.{Next}
 use Rattle.md_word.specs.declared.key.Key.{Key}
 use Rattle.md_word.specs.Keys.{key_lt}
 use Rattle.chip_core.specs.Chips.{Rules}
 use Rattle.chip_core.specs.Cores.{bound_in}
+use Rattle.chip_core.specs.Looks.{IsLeastLimit, IsLimit}
 use Rattle.chip_run.specs.Parts.{PartsValue}
 use Rattle.chip_run.specs.declared.step.Step.{Step}
 use Rattle.chip_run.specs.declared.step.Step.TheVariants.{Performed, Sampled, Blocked, Finished}
 
--- the key is below each bound but that of its own number
-abbrev pub IsFirst : Key → List Key → ℕ → Type 0
-IsFirst key bounds i = (j : ℕ) → j < length bounds → j ≢ i → key_lt key (bound_in bounds j) ≡ true
-
--- the bound of this other number is not above the key
-abbrev pub FindsOther : Key → List Key → ℕ → ℕ → Type 0
-FindsOther key bounds i other = (other < length bounds) × (other ≢ i) × (key_lt key (bound_in bounds other) ≡ false)
-
 module _ {Chip Shared Pins : Type 0} (rules : Rules Chip Shared Pins) where
+  -- chip i's next event looks at the bound of chip j: an access at those of all others, a sample at
+  -- those of the others that write its pins
+  abbrev pub LooksAt : Next → ℕ → ℕ → Type 0
+  LooksAt next i j = (j ≢ i) × (next.sample ≡ true → rules.writes j i ≡ true)
+
+  -- the event's key is below each bound that it looks at
+  abbrev pub IsFirst : Next → List Key → ℕ → Type 0
+  IsFirst next bounds i = (j : ℕ) → j < length bounds → LooksAt next i j → key_lt next.key (bound_in bounds j) ≡ true
+
+  -- the event looks at the bound of this number, and that bound is not above its key
+  abbrev pub FindsOther : Next → List Key → ℕ → ℕ → Type 0
+  FindsOther next bounds i other = (other < length bounds) × LooksAt next i other × (key_lt next.key (bound_in bounds other) ≡ false)
+
   -- the bounds once the chip has announced its next event
   abbrev pub announced : ℕ → Chip → List Key → List Key
   announced i c bounds = slice_set bounds i (rules.next c).key
@@ -25,14 +32,20 @@ module _ {Chip Shared Pins : Type 0} (rules : Rules Chip Shared Pins) where
   abbrev pub raised : ℕ → Chip → List Key → List Key
   raised i c bounds = slice_set (announced i c bounds) i (record { cycle = (rules.next c).key.cycle + rules.gap i; chip = i })
 
-  -- it is this chip's turn: its event lies below the end and below the bounds of all others
+  -- it is this chip's turn: its event lies below the end and below the bounds that it looks at
   pub record HasTurn (p : PartsValue Shared) (i : ℕ) (c : Chip) : Type 0 where
     pub early : (rules.next c).key.cycle < p.end
-    pub first : IsFirst (rules.next c).key p.bounds i
+    pub first : IsFirst (rules.next c) p.bounds i
 
   -- where an access has its turn, the journal has a free place
   abbrev pub HasPlaceFor : PartsValue Shared → ℕ → Chip → Type 0
   HasPlaceFor p i c = HasTurn p i c → (rules.next c).sample ≡ false → length p.journal < p.room
+
+  -- the end of a lease of chip i: the least of the first key at the run's end and of the bounds of the
+  -- other chips that write its pins
+  pub record IsLeaseEnd (p : PartsValue Shared) (i : ℕ) (end : Key) : Type 0 where
+    pub limit : IsLimit rules p.end (bound_in p.bounds) (length p.bounds) i end
+    pub least : IsLeastLimit rules p.end (bound_in p.bounds) (length p.bounds) i end
 
   -- the locked part once an access of chip i is made: its bound is raised, and its entry joins the
   -- journal
@@ -47,9 +60,9 @@ module _ {Chip Shared Pins : Type 0} (rules : Rules Chip Shared Pins) where
   abbrev pub IsStep : PartsValue Shared → ℕ → Chip → Step Pins → PartsValue Shared → Chip → Type 0
   IsStep p i c Performed q d =
       HasTurn p i c × ((rules.next c).sample ≡ false) × (q ≡ after_access p i c) × (d ≡ (rules.perform c p.shared).chip)
-  IsStep p i c (Sampled pins) q d =
-      HasTurn p i c × ((rules.next c).sample ≡ true) × (pins ≡ rules.pins p.shared i) × (q ≡ record p { bounds = raised i c p.bounds }) × (d ≡ c)
+  IsStep p i c (Sampled pins end) q d =
+      HasTurn p i c × ((rules.next c).sample ≡ true) × (pins ≡ rules.pins p.shared i) × (q ≡ record p { bounds = raised i c p.bounds }) × (d ≡ c) × IsLeaseEnd q i end
   IsStep p i c (Blocked other bound) q d =
-      ((rules.next c).key.cycle < p.end) × FindsOther (rules.next c).key p.bounds i other × (bound ≡ bound_in p.bounds other)
+      ((rules.next c).key.cycle < p.end) × FindsOther (rules.next c) p.bounds i other × (bound ≡ bound_in p.bounds other)
       × (q ≡ record p { bounds = announced i c p.bounds }) × (d ≡ c)
   IsStep p i c Finished q d = (p.end ≤ (rules.next c).key.cycle) × (q ≡ record p { bounds = announced i c p.bounds }) × (d ≡ c)

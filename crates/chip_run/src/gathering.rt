@@ -1,10 +1,11 @@
 ghost use Rattle.std.specs.Prelude.{◌≡◌, ℕ, ◌+◌, ◌<◌, ◌≤◌, IfSome, IsSome, Option, vec_capacity, length};
 ghost use Rattle.chip_core.specs.Cores.{machine_of};
 ghost use Rattle.chip_core.specs.Machines.{IsRunTo, Machine, OnPath};
-ghost use Rattle.chip_run.specs.Gathering.{Gathered};
+ghost use Rattle.chip_run.specs.Gathering.{AreBooked, Gathered, booked_at};
 ghost use Rattle.chip_run.specs.Places.{AllFree, HasNumber, place};
 ghost use Rattle.chip_run.specs.Rounds.{IsEnded, IsEndedAt};
 
+use crate::sections::section_on;
 use crate::{Bus, Due, Held, Helds, Locked, Named, Parts};
 use chip_core::{ChipSet, Core};
 use std::sync::ledger::{Book, Ledger};
@@ -12,7 +13,7 @@ use std::sync::ledger::{Book, Ledger};
 /// Puts the chip of this number behind those of lower numbers.
 fn put_chip<C: ChipSet, N: Named, L: Ledger>(
     chips: &mut Vec<C::Chip>,
-    book: &mut Book<L>,
+    book: &Book<L>,
     held: Option<Held<C, N, L>>,
     number: u8,
 )
@@ -21,9 +22,9 @@ fn put_chip<C: ChipSet, N: Named, L: Ledger>(
     requires ended { IfSome held (λ h. N.end ≤ (C.rules.next h.chip).key.cycle) }
     requires there { number < C.rules.count → IsSome held }
     requires room { number < C.rules.count → length chips.old.items < vec_capacity chips.old }
-    requires whole { L.parts ≡ 1 }
+    requires booked { IfSome held (λ h. h.amount ≡ book.now.total) }
     ensures gathered { (m : Machine C.Chip C.Shared)
-        → (number < C.rules.count → OnPath C.rules (machine_of C.rules (C.core_of N.base)) N.end number book.old.total (m.chip number))
+        → (number < C.rules.count → OnPath C.rules (machine_of C.rules (C.core_of N.base)) N.end number book.now.total (m.chip number))
         → Gathered C.rules m N.end number chips.old.items → Gathered C.rules m N.end (number + 1) chips.new.items }
     ensures capacity { vec_capacity chips.new ≡ vec_capacity chips.old }
 {
@@ -33,15 +34,51 @@ fn put_chip<C: ChipSet, N: Named, L: Ledger>(
                 number: _,
                 chip,
                 due: _,
-                share,
+                share: _,
+                ahead: _,
                 passes: _,
                 run: _,
             } = held;
-            let mut share = share;
-            book.audit(&mut share);
+            let _book = book;
             chips.push_reserved(chip);
         }
         None => {}
+    }
+}
+
+/// Books all moves of the held chip of this number, if it is held, which is finished: a section on it.
+fn book_one<C: ChipSet, N: Named, L0: Ledger, L1: Ledger, L2: Ledger, L3: Ledger, L4: Ledger>(
+    locked: &mut Locked<C, N, L0, L1, L2, L3, L4>,
+    helds: &mut Helds<C, N, L0, L1, L2, L3, L4>,
+    chip: u8,
+)
+    requires free { AllFree helds.old }
+    requires ended { IsEndedAt C.rules N.end helds.old chip }
+    requires whole { (L0.parts ≡ 1) × (L1.parts ≡ 1) × (L2.parts ≡ 1) × (L3.parts ≡ 1) × (L4.parts ≡ 1) }
+    ensures same { helds.new ≡ helds.old }
+    ensures counts { locked.new.counts ≡ booked_at (place helds.old chip) chip locked.old.counts }
+    ensures five { (length locked.old.counts ≡ 5) × (length locked.new.counts ≡ 5) }
+{
+    let _end = locked.end();
+    if helds.has(chip) {
+        section_on(locked, helds, chip);
+        let _after = locked.end();
+    }
+}
+
+/// Books all moves of the held chips, which are finished.
+fn book_all<C: ChipSet, N: Named, L0: Ledger, L1: Ledger, L2: Ledger, L3: Ledger, L4: Ledger>(
+    locked: &mut Locked<C, N, L0, L1, L2, L3, L4>,
+    helds: &mut Helds<C, N, L0, L1, L2, L3, L4>,
+)
+    requires free { AllFree helds.old }
+    requires ended { IsEnded C.rules N.end helds.old }
+    requires whole { (L0.parts ≡ 1) × (L1.parts ≡ 1) × (L2.parts ≡ 1) × (L3.parts ≡ 1) × (L4.parts ≡ 1) }
+    ensures same { helds.new ≡ helds.old }
+    ensures booked { AreBooked locked.new.counts helds.old }
+{
+    for chip in 0..helds.places() {
+        book_one(locked, helds, chip);
     }
 }
 
@@ -58,6 +95,9 @@ pub fn gather<C: ChipSet, N: Named, L0: Ledger, L1: Ledger, L2: Ledger, L3: Ledg
     ensures run { IsRunTo C.rules (machine_of C.rules (C.core_of N.base)) N.end (machine_of C.rules result) result.journal }
     ensures room { result.room ≡ N.room }
 {
+    let mut locked = bus.into_locked();
+    let mut helds = helds;
+    book_all(&mut locked, &mut helds);
     let Locked {
         parts,
         emptied,
@@ -67,7 +107,7 @@ pub fn gather<C: ChipSet, N: Named, L0: Ledger, L1: Ledger, L2: Ledger, L3: Ledg
         book3,
         book4,
         run: _,
-    } = bus.into_locked();
+    } = locked;
     let Parts {
         end: _,
         shared,
@@ -82,15 +122,10 @@ pub fn gather<C: ChipSet, N: Named, L0: Ledger, L1: Ledger, L2: Ledger, L3: Ledg
         place4,
     } = helds;
     let mut chips = emptied;
-    let mut book0 = book0;
-    let mut book1 = book1;
-    let mut book2 = book2;
-    let mut book3 = book3;
-    let mut book4 = book4;
-    put_chip(&mut chips, &mut book0, place0, 0);
-    put_chip(&mut chips, &mut book1, place1, 1);
-    put_chip(&mut chips, &mut book2, place2, 2);
-    put_chip(&mut chips, &mut book3, place3, 3);
-    put_chip(&mut chips, &mut book4, place4, 4);
+    put_chip(&mut chips, &book0, place0, 0);
+    put_chip(&mut chips, &book1, place1, 1);
+    put_chip(&mut chips, &book2, place2, 2);
+    put_chip(&mut chips, &book3, place3, 3);
+    put_chip(&mut chips, &book4, place4, 4);
     Core::make(shared, chips, bounds, journal)
 }

@@ -1,10 +1,11 @@
 ghost use Rattle.std.specs.Prelude.{◌≡◌, ◌+◌, ◌-◌, ◌^◌, if◌then◌else◌, min, nat_lt};
-ghost use Rattle.chip_run.specs.Held.{HeldValue, IsHeld, settled};
-ghost use Rattle.chip_run.specs.Rounds.{bare};
+ghost use Rattle.chip_run.specs.Held.{HeldValue, IsAhead, IsHeld};
+ghost use Rattle.chip_run.specs.Rounds.{Settles, bare};
 
 use crate::Named;
-use chip_core::ChipSet;
+use chip_core::{ChipSet, run};
 use md_outer::Gate;
+use md_word::Key;
 use std::marker::{Model, PhantomData};
 use std::sync::ledger::{Ledger, Share};
 
@@ -14,18 +15,20 @@ pub enum Due<P> {
     Nothing,
     /// What follows an access.
     Advance,
-    /// A sample of these pins, and what follows it.
-    Sample(P),
+    /// A sample of these pins, and further ones before the end of the lease, as long as no access comes.
+    Sample { pins: P, end: Key },
 }
 
 /// A chip that a worker holds, with the whole share of its ledger, whose amount is the number of the
-/// chip's moves since the run began, and the number of passes made for it.
+/// chip's booked moves since the run began, the number of samples that it made beyond these under its
+/// lease, and the number of passes made for it.
 #[derive(Drop)]
 pub struct Held<C: ChipSet, N: Named, L: Ledger> {
     pub(crate) number: u8,
     pub(crate) chip: C::Chip,
     pub(crate) due: Due<C::Pins>,
     pub(crate) share: Share<L>,
+    pub(crate) ahead: u64,
     pub(crate) passes: u64,
     pub(crate) run: PhantomData<N>,
 }
@@ -37,7 +40,7 @@ impl<C: ChipSet, N: Named, L: Ledger> Model for Held<C, N, L> {
       number = h.number;
       chip = h.chip;
       due = h.due;
-      amount = h.share.amount;
+      amount = h.share.amount + h.ahead;
       passes = h.passes;
     } };
 
@@ -45,22 +48,30 @@ impl<C: ChipSet, N: Named, L: Ledger> Model for Held<C, N, L> {
       number = h.number;
       chip = h.chip;
       due = h.due;
-      amount = h.share.amount;
+      amount = h.share.amount + h.ahead;
       passes = h.passes;
-    }) };
+    }) × IsAhead C.rules C.chip_ok C.shared_ok (C.core_of N.base) N.end h.number h.due h.share.amount h.ahead };
 }
 
 impl<C: ChipSet, N: Named, L: Ledger> Held<C, N, L> {
-    /// Does the private work that is due, outside the lock.
+    /// Does the private work that is due, outside the lock. A chip that samples goes on with the pins that
+    /// were read, up to the end of its lease; its next section books these samples.
     pub(crate) fn settle(&mut self)
-        ensures { self.new ≡ record self.old { chip = settled C.rules self.old.due self.old.chip; due = Due.Nothing } }
+        ensures { Settles C.rules self.old.due self.old self.new }
     {
         match &self.due {
-            Due::Nothing => {}
-            Due::Advance => C::advance(&mut self.chip),
-            Due::Sample(pins) => C::sample(&mut self.chip, pins),
+            Due::Nothing => return,
+            Due::Advance => {
+                C::advance(&mut self.chip);
+                self.due = Due::Nothing;
+                return;
+            }
+            Due::Sample { pins, end } => {
+                self.ahead = run::<C>(&mut self.chip, pins, end) - 1;
+                self.due = Due::Nothing;
+                return;
+            }
         }
-        self.due = Due::Nothing;
     }
 
     /// Passes the gate for the chip where it is not finished, with the number of earlier passes,

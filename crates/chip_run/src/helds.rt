@@ -2,7 +2,7 @@ ghost use Rattle.std.specs.Option.{option_map};
 ghost use Rattle.std.specs.Prelude.{◌≡◌, ◌≢◌, ℕ, ◌↔◌, IsTrue, IsSome, IfSome, List, [], ◌∷◌, Option, None, length, slice_set};
 ghost use Rattle.chip_run.specs.Held.{HeldValue, IsHeld};
 ghost use Rattle.chip_run.specs.Places.{AreOnPaths, HasNumber, place};
-ghost use Rattle.chip_run.specs.Rounds.{bare, bares, settled_held};
+ghost use Rattle.chip_run.specs.Rounds.{SettlesAt, bare, bares};
 
 use crate::{Held, Named};
 use chip_core::ChipSet;
@@ -140,7 +140,8 @@ impl<C: ChipSet, N: Named, L0: Ledger, L1: Ledger, L2: Ledger, L3: Ledger, L4: L
 
     /// Does the private work that is due for the chip of this number.
     pub(crate) fn settle(&mut self, chip: u8)
-        ensures { self.new ≡ slice_set self.old chip (option_map (settled_held C.rules) (place self.old chip)) }
+        ensures settled { SettlesAt C.rules (place self.old chip) (place self.new chip) }
+        ensures others { self.new ≡ slice_set self.old chip (place self.new chip) }
     {
         match chip {
             0 => settle_place(&mut self.place0),
@@ -185,7 +186,7 @@ fn key_of<C: ChipSet, N: Named, L: Ledger>(held: &Option<Held<C, N, L>>) -> Opti
 }
 
 fn settle_place<C: ChipSet, N: Named, L: Ledger>(held: &mut Option<Held<C, N, L>>)
-    ensures settled { held.new ≡ option_map (settled_held C.rules) held.old }
+    ensures settled { SettlesAt C.rules held.old held.new }
     ensures number { (n : ℕ) → HasNumber n held.old → HasNumber n held.new }
 {
     match held {

@@ -18,7 +18,7 @@ use std::sync::ledger::Ledger;
 /// next event, and makes it where it has its turn. After `Moved` its private work is due.
 ///
 /// With the due work done, that is the core's announcement of the chip where it is enabled, and then
-/// the chip's own event where that is enabled and comes before those of all others.
+/// the chip's own event where that is enabled.
 pub fn section<C: ChipSet, N: Named, L0: Ledger, L1: Ledger, L2: Ledger, L3: Ledger, L4: Ledger>(
     locked: &mut Locked<C, N, L0, L1, L2, L3, L4>,
     helds: &mut Helds<C, N, L0, L1, L2, L3, L4>,

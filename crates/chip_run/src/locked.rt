@@ -1,4 +1,4 @@
-ghost use Rattle.std.specs.Prelude.{◌≡◌, ◌≤◌, [], ◌∷◌, slice_get, vec_capacity};
+ghost use Rattle.std.specs.Prelude.{◌≡◌, ◌≤◌, [], ◌∷◌, length, slice_get, vec_capacity};
 ghost use Rattle.chip_run.specs.Locked.{IsLocked, LockedValue};
 
 use crate::{Named, Parts};
@@ -56,6 +56,7 @@ impl<C: ChipSet, N: Named, L0: Ledger, L1: Ledger, L2: Ledger, L3: Ledger, L4: L
     /// The cycle that the run goes to.
     pub(crate) fn end(&self) -> u64
         ensures value { result ≡ self.now.parts.end }
+        ensures counts { length self.now.counts ≡ 5 }
         ensures end { self.now.parts.end ≡ N.end }
     {
         self.parts.end

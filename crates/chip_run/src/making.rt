@@ -35,6 +35,7 @@ fn hold<C: ChipSet, N: Named, L: Ledger>(
         chip,
         due: Due::Nothing,
         share,
+        ahead: 0,
         passes: 0,
         run: PhantomData,
     })

@@ -2,11 +2,11 @@ ghost use Rattle.std.specs.Prelude.{◌≡◌, ℕ, ◌+◌, ◌^◌, ◌<◌, �
 ghost use Rattle.md_word.specs.Keys.{key_lt};
 ghost use Rattle.chip_core.specs.Cores.{bound_in, no_key};
 ghost use Rattle.chip_run.specs.Parts.{PartsValue};
-ghost use Rattle.chip_run.specs.Steps.{FindsOther, HasPlaceFor, IsFirst, IsStep};
+ghost use Rattle.chip_run.specs.Steps.{FindsOther, HasPlaceFor, IsFirst, IsStep, LooksAt};
 
 use crate::step::Step;
-use chip_core::ChipSet;
-use md_word::{Entry, Key};
+use chip_core::{ChipSet, limit_of};
+use md_word::{Entry, Key, Next};
 use std::marker::Model;
 
 /// What the chips of a run share, with their bounds, the journal of their accesses, and the cycle
@@ -31,13 +31,26 @@ impl<C: ChipSet> Model for Parts<C> {
     } };
 }
 
-/// The first number whose bound the key is not below.
-fn find_other(key: &Key, bounds: &[Key], number: u8) -> Option<u8>
+/// Whether the next event of chip `number` looks at the bound of chip `i`.
+fn looks_at<C: ChipSet>(next: &Next, i: u8, number: u8) -> bool
+    ensures { IsTrue result ↔ LooksAt C.rules next.now number i }
+{
+    if i == number {
+        return false;
+    }
+    if next.sample {
+        return C::writes(i, number);
+    }
+    true
+}
+
+/// The first number at whose bound the event looks, and whose bound its key is not below.
+fn find_other<C: ChipSet>(next: &Next, bounds: &[Key], number: u8) -> Option<u8>
     requires few { length bounds.now ≤ 5 }
-    ensures { MatchOption result (IsFirst key.now bounds.now number) (λ other. FindsOther key.now bounds.now number other) }
+    ensures { MatchOption result (IsFirst C.rules next.now bounds.now number) (λ other. FindsOther C.rules next.now bounds.now number other) }
 {
     for (i, bound) in bounds.iter().enumerate() {
-        if i != number as usize && !key.is_below(bound) {
+        if looks_at::<C>(next, i as u8, number) && !next.key.is_below(bound) {
             return Some(i as u8);
         }
     }
@@ -60,7 +73,7 @@ impl<C: ChipSet> Parts<C> {
         if next.key.cycle >= self.end {
             return Step::Finished;
         }
-        if let Some(other) = find_other(&next.key, &self.bounds, number) {
+        if let Some(other) = find_other::<C>(&next, &self.bounds, number) {
             return Step::Blocked {
                 other,
                 bound: self.bounds[other as usize],
@@ -71,7 +84,10 @@ impl<C: ChipSet> Parts<C> {
             chip: number,
         };
         if next.sample {
-            return Step::Sampled(C::pins(&self.shared, number));
+            return Step::Sampled {
+                pins: C::pins(&self.shared, number),
+                end: limit_of::<C>(&self.bounds, self.end, number),
+            };
         }
         let entry = C::perform(chip, &mut self.shared);
         self.journal.push_reserved(entry);

@@ -8,7 +8,8 @@ use crate::{Due, Held, Helds, Locked, Named, Parts, Turn};
 use chip_core::ChipSet;
 use std::sync::ledger::{Book, Ledger};
 
-/// A section on a held chip: the locked part of its turn, which its ledger books.
+/// A section on a held chip: its ledger books the samples that it made under its lease, and then the
+/// locked part of its turn.
 pub(crate) fn step_held<C: ChipSet, N: Named, L: Ledger>(
     parts: &mut Parts<C>,
     book: &mut Book<L>,
@@ -27,15 +28,17 @@ pub(crate) fn step_held<C: ChipSet, N: Named, L: Ledger>(
     ensures turn { IsTurn C.rules number parts.old held.old result parts.new held.new }
 {
     book.audit(&mut held.share);
+    book.add(&mut held.share, held.ahead);
+    held.ahead = 0;
     match parts.step(&mut held.chip, number) {
         Step::Performed => {
             book.add(&mut held.share, 1);
             held.due = Due::Advance;
             return Turn::Moved;
         }
-        Step::Sampled(pins) => {
+        Step::Sampled { pins, end } => {
             book.add(&mut held.share, 1);
-            held.due = Due::Sample(pins);
+            held.due = Due::Sample { pins, end };
             return Turn::Moved;
         }
         Step::Blocked { other, bound } => return Turn::Blocked { other, bound },

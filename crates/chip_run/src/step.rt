@@ -4,8 +4,8 @@ use md_word::Key;
 pub(crate) enum Step<P> {
     /// The locked part of its access.
     Performed,
-    /// It read the pins of its sample.
-    Sampled(P),
+    /// It read the pins of its sample, and may make samples of them before this key.
+    Sampled { pins: P, end: Key },
     /// Its event waits for this bound of another chip.
     Blocked { other: u8, bound: Key },
     /// Its next event does not lie below the run's end.

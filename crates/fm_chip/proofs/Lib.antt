@@ -5,6 +5,7 @@ pub mod Mixed
 pub mod Overflows
 pub mod PortBytes
 pub mod Ports
+pub mod Quiet
 pub mod Shaped
 pub mod SynthBytes
 pub mod SynthKept

@@ -1,6 +1,6 @@
 -- A channel at a sample: its envelopes' tick, what is heard, and its phases' steps.
 -- Yamaha, YM2608 Application Manual, channels; Sega, Genesis Software Manual, FM registers 2A and 2B.
-use Rattle.std.specs.Prelude.{◌≡◌, ℕ, ◌/◌, ◌%◌, ◌==◌, nat_le, ℤ, pos, ◌-ℤ◌, ◌*ℤ◌, Bool, ◌&&◌, if◌then◌else◌, List, [], ◌∷◌, length, All, false, slice_index_or}
+use Rattle.std.specs.Prelude.{◌≡◌, ℕ, ◌/◌, ◌%◌, ◌≤◌, ◌==◌, nat_le, ℤ, pos, ◌-ℤ◌, ◌*ℤ◌, Bool, ◌&&◌, if◌then◌else◌, List, [], ◌∷◌, length, All, false, slice_index_or}
 use Rattle.fm_voice.specs.Channel.{Voice, voice, heard, last_after, IsLevel}
 use Rattle.fm_chip.specs.declared.operator.Operator.{Operator}
 use Rattle.fm_chip.specs.declared.channels.Channel.{Channel}
@@ -31,6 +31,13 @@ pub record IsChannel (ch : Channel) : Type 0 where
   pub four : IsOperator ch.four
   pub last : All IsLevel ch.last
   pub pair : length ch.last ≡ 2
+
+-- the envelopes leave nothing of the waves of all four operators
+pub record IsQuiet (ch : Channel) : Type 0 where
+  pub one : 832 ≤ ch.one.v
+  pub two : 832 ≤ ch.two.v
+  pub three : 832 ≤ ch.three.v
+  pub four : 832 ≤ ch.four.v
 
 -- all four envelopes tick
 unfoldable pub all_enveloped : List ℕ → ℕ → ℕ → Channel → Channel

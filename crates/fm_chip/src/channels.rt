@@ -1,6 +1,6 @@
-ghost use Rattle.std.specs.Prelude.{◌/◌, ◌≡◌, ◌+◌, ◌*◌, ◌^◌, ◌<◌, ◌≤◌, ◌≤ℤ◌, pos, negsuc, All};
+ghost use Rattle.std.specs.Prelude.{◌/◌, ◌≡◌, ◌+◌, ◌*◌, ◌^◌, ◌<◌, ◌≤◌, ◌≤ℤ◌, pos, negsuc, All, IsTrue};
 ghost use Rattle.fm_chip.specs.Channels as meaning;
-ghost use Rattle.fm_chip.specs.Channels.{IsChannel};
+ghost use Rattle.fm_chip.specs.Channels.{IsChannel, IsQuiet};
 ghost use Rattle.fm_chip.specs.Steps.{IsSmall, steps_of};
 ghost use Rattle.fm_chip.specs.Shapes.{AreInRange, all_enveloped_by, attenuations_by, ready_by, shapes_of};
 ghost use Rattle.fm_voice.specs.Channel.{IsLevel, heard};
@@ -11,7 +11,7 @@ use crate::operator::Operator;
 use crate::registers::{FEEDBACK_ALGORITHM, Registers, SIDES_DEPTHS, of_channel};
 use crate::shapes::Shapes;
 use crate::steps::Steps;
-use fm_voice::channel;
+use fm_voice::{SILENT, channel};
 
 /// A channel: four operators.
 #[derive(Clone, Copy)]
@@ -81,9 +81,38 @@ impl Channel {
         ]
     }
 
+    /// Whether the envelopes leave nothing of the waves of all four operators.
+    fn is_silent(&self) -> bool
+        ensures { IsTrue result → IsQuiet self.now }
+    {
+        u32::from(self.one.v) >= SILENT
+            && u32::from(self.two.v) >= SILENT
+            && u32::from(self.three.v) >= SILENT
+            && u32::from(self.four.v) >= SILENT
+    }
+
     /// The level where the oscillator stands at `t`.
-    #[tactic(auto, using(crate::proofs::Shaped::attenuations_is), unfolding(crate::specs::Channels::voice_of, crate::specs::Channels::sounded))]
     fn sound(&mut self, registers: &Registers, shapes: &Shapes, t: u32, number: u32) -> i32
+        requires channel { IsChannel self.old }
+        requires shapes { shapes.now ≡ shapes_of registers.now number }
+        requires range { AreInRange shapes.now }
+        requires t { t < 128 }
+        requires number { number < 6 }
+        ensures value { result ≡ heard (meaning.voice_of registers.now t number self.old) }
+        ensures after { self.new ≡ meaning.sounded registers.now t number self.old }
+        ensures level { IsLevel result }
+        ensures channel { IsChannel self.new }
+    {
+        if self.is_silent() {
+            self.last = [self.last[1], 0];
+            return 0;
+        }
+        self.sound_all(registers, shapes, t, number)
+    }
+
+    /// `sound`, operator by operator.
+    #[tactic(auto, using(crate::proofs::Shaped::attenuations_is), unfolding(crate::specs::Channels::voice_of, crate::specs::Channels::sounded))]
+    fn sound_all(&mut self, registers: &Registers, shapes: &Shapes, t: u32, number: u32) -> i32
         requires channel { IsChannel self.old }
         requires shapes { shapes.now ≡ shapes_of registers.now number }
         requires range { AreInRange shapes.now }

@@ -28,6 +28,13 @@ impl FmSynth {
         self.saved().put(into);
     }
 
+    /// Tells that the bytes of this chip are read again.
+    pub fn is_read_again(&self)
+        ensures { SpellsSynth (synth_bytes self.now) self.now }
+    {
+        let _ = &self.latches;
+    }
+
     fn saved(&self) -> SavedSynth
         ensures { result ≡ saved_synth self.now }
     {

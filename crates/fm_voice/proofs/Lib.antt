@@ -4,3 +4,4 @@ pub mod Silent
 pub mod Sounding
 pub mod Tables
 pub mod Weaker
+pub mod Quiet

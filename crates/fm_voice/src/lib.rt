@@ -8,6 +8,6 @@ mod routes;
 mod table;
 mod voice;
 
-pub use oscillator::wave;
+pub use oscillator::{SILENT, wave};
 pub use phase::{key_code, step_of};
 pub use voice::channel;

@@ -24,8 +24,8 @@ fn power(n: u32) -> u32
     power_entry(n)
 }
 
-/// From this attenuation on nothing of the wave is left.
-const SILENT: u32 = 832;
+/// From this attenuation on nothing of a wave is left.
+pub const SILENT: u32 = 832;
 
 /// The wave without its sign.
 #[tactic(auto, using(crate::proofs::Weaker::weaker, crate::proofs::Silent::silenced), unfolding(crate::specs::Wave::magnitude))]

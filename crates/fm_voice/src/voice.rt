@@ -1,8 +1,9 @@
-ghost use Rattle.std.specs.Prelude.{◌≡◌, ◌<◌, ◌≤◌, ◌^◌, All};
+ghost use Rattle.std.specs.Prelude.{◌≡◌, ◌<◌, ◌≤◌, ◌^◌, All, IsTrue};
 ghost use Rattle.fm_voice.specs.Channel as meaning;
 ghost use Rattle.fm_voice.specs.Channel.{IsOutput, IsWithin};
+ghost use Rattle.fm_voice.specs.Silence.{AreSilent};
 
-use crate::oscillator::output;
+use crate::oscillator::{SILENT, output};
 use crate::routes::{carried, into_four, into_three, into_two};
 
 /// The nearest level from −8,192 to 8,191.
@@ -41,15 +42,9 @@ fn fed_back(feedback: u8, sum: i32) -> i32
     }
 }
 
-/// One sample of a channel: its level, from −8,192 to 8,191.
-///
-/// `phases` and `attenuations` are those of operators 1 to 4: phases below 2^20, attenuations at
-/// most 1,023. `last` has the last two outputs of operator 1, the older one first, and then this
-/// sample's in place of the older. Algorithm and feedback are below 8.
-///
-/// Source: Yamaha, YM2608 Application Manual, algorithms and self-feedback.
+/// `channel`, operator by operator.
 #[tactic(auto, using(std::proofs::lemmas::Int::ints))]
-pub fn channel(
+fn sounding(
     algorithm: u8,
     feedback: u8,
     phases: &[u32; 4],
@@ -81,4 +76,46 @@ pub fn channel(
     );
     *last = [newer, one];
     clamped(carried(algorithm, one, two, three, four))
+}
+
+/// Whether nothing is left of the waves of all four operators.
+fn are_silent(attenuations: &[u32; 4]) -> bool
+    ensures { IsTrue result → AreSilent attenuations.now }
+{
+    attenuations[0] >= SILENT
+        && attenuations[1] >= SILENT
+        && attenuations[2] >= SILENT
+        && attenuations[3] >= SILENT
+}
+
+/// One sample of a channel: its level, from −8,192 to 8,191.
+///
+/// `phases` and `attenuations` are those of operators 1 to 4: phases below 2^20, attenuations at
+/// most 1,023. `last` has the last two outputs of operator 1, the older one first, and then this
+/// sample's in place of the older. Algorithm and feedback are below 8.
+///
+/// Source: Yamaha, YM2608 Application Manual, algorithms and self-feedback.
+#[tactic(auto, using(std::proofs::lemmas::Int::ints))]
+pub fn channel(
+    algorithm: u8,
+    feedback: u8,
+    phases: &[u32; 4],
+    attenuations: &[u32; 4],
+    last: &mut [i32; 2],
+) -> i32
+    requires algorithm { algorithm < 8 }
+    requires feedback { feedback < 8 }
+    requires phases { All (λ p. p < 2 ^ 20) phases.now }
+    requires attenuations { All (λ a. a ≤ 1023) attenuations.now }
+    requires last { All meaning.IsLevel last.old }
+    ensures value { result ≡ meaning.heard (meaning.voice algorithm feedback phases.now attenuations.now last.old) }
+    ensures last { last.new ≡ meaning.last_after (meaning.voice algorithm feedback phases.now attenuations.now last.old) }
+    ensures range { meaning.IsLevel result }
+    ensures kept { All meaning.IsLevel last.new }
+{
+    if are_silent(attenuations) {
+        *last = [last[1], 0];
+        return 0;
+    }
+    sounding(algorithm, feedback, phases, attenuations, last)
 }

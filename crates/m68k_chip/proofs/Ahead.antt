@@ -1,13 +1,12 @@
 -- A 68000 that goes ahead.
-use Rattle.std.proofs.Common.{◌≡◌, ◌⊎◌, inl, inr, ℕ, suc, ◌<◌, ◌≤◌, false, true, List, sym, ap, subst, ◌∙◌, arith}
+use Rattle.std.proofs.Common.{◌≡◌, ◌⊎◌, inl, inr, ℕ, suc, ◌+◌, ◌<◌, ◌≤◌, false, true, List, sym, ap, subst, ◌∙◌, arith}
 use Rattle.m68k_chip.specs.Events.{WentAhead, begun, begun_after}
 use Rattle.m68k_chip.specs.States.{State68, next_of}
 
 -- one sample alone
-pub one-ahead : (cart : List ℕ) (state : State68) (level end : ℕ) (after : State68) → after ≡ begun cart state level → WentAhead end cart level state after
+pub one-ahead : (cart : List ℕ) (state : State68) (level end : ℕ) (after : State68) → after ≡ begun cart state level → WentAhead 1 end cart level state after
 unfolding begun_after
 one-ahead cart state level end after is = record {
-  samples = 1;
   some = omega arith;
   sample = λ k some most. absurd (omega arith);
   below = λ k some most. absurd (omega arith);
@@ -27,19 +26,23 @@ last_or : (k n : ℕ) → k < suc n → (k < n) ⊎ (k ≡ n)
 last_or k n h = grind arith
 
 -- and one more, which lies below the cycle
-pub more-ahead : (cart : List ℕ) (state : State68) (level end : ℕ) (now after : State68) → WentAhead end cart level state now → (next_of now).sample ≡ true → now.next < end
-    → after ≡ begun cart now level → WentAhead end cart level state after
+suc-ahead : (cart : List ℕ) (state : State68) (level end n : ℕ) (now after : State68) → WentAhead n end cart level state now → (next_of now).sample ≡ true → now.next < end
+    → after ≡ begun cart now level → WentAhead (suc n) end cart level state after
 unfolding begun_after
-more-ahead cart state level end now after went kind low is = record {
-  samples = suc went.samples;
+suc-ahead cart state level end n now after went kind low is = record {
   some = omega arith;
-  sample = λ k some most. elim (last_or k went.samples most) [
+  sample = λ k some most. elim (last_or k n most) [
     | inl before ↦ went.sample k some before
-    | inr last ↦ subst (λ n. (next_of (begun_after n cart state level)).sample ≡ true) (sym last) (subst (λ (x : State68). (next_of x).sample ≡ true) went.is kind)
+    | inr last ↦ subst (λ m. (next_of (begun_after m cart state level)).sample ≡ true) (sym last) (subst (λ (x : State68). (next_of x).sample ≡ true) went.is kind)
   ];
-  below = λ k some most. elim (last_or k went.samples most) [
+  below = λ k some most. elim (last_or k n most) [
     | inl before ↦ went.below k some before
-    | inr last ↦ subst (λ n. (begun_after n cart state level).next < end) (sym last) (subst (λ (x : State68). x.next < end) went.is low)
+    | inr last ↦ subst (λ m. (begun_after m cart state level).next < end) (sym last) (subst (λ (x : State68). x.next < end) went.is low)
   ];
   is = is ∙ ap (λ x. begun cart x level) went.is;
 }
+
+pub more-ahead : (cart : List ℕ) (state : State68) (level end n : ℕ) (now after : State68) → WentAhead n end cart level state now → (next_of now).sample ≡ true → now.next < end
+    → after ≡ begun cart now level → WentAhead (n + 1) end cart level state after
+more-ahead cart state level end n now after went kind low is =
+    subst (λ m. WentAhead m end cart level state after) (let e : suc n ≡ n + 1 = omega arith in e) (suc-ahead cart state level end n now after went kind low is)

@@ -4,6 +4,7 @@ pub mod Fitting
 pub mod Kept
 pub mod Laws
 pub mod Recent
+pub mod Rested
 pub mod Resting
 pub mod RuleLaws
 pub mod SampleTimes

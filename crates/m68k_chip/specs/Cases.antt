@@ -1,5 +1,5 @@
 -- What the 68000 does at a sample. M68000 User's Manual, section 6.
-use Rattle.std.specs.Prelude.{ℕ, ◌/◌, ◌%◌, nat_lt, if◌then◌else◌, Option, Some, None, is_some}
+use Rattle.std.specs.Prelude.{ℕ, Bool, true, false, ◌/◌, ◌%◌, nat_lt, if◌then◌else◌, Option, Some, None, is_some}
 use Rattle.md_word.specs.declared.regs.Regs.{Regs}
 use Rattle.m68k_chip.specs.States.{State68}
 use Rattle.m68k_chip.specs.declared.case.Case.{Case}
@@ -25,6 +25,14 @@ cause_of Trace = Some 8
 cause_of (Interrupt level) = Some level
 cause_of Stopped = None
 cause_of Instruction = Some 0
+
+-- whether it does nothing, and at the samples after it neither while its pins stay
+abbrev pub is_rest : Case → Bool
+is_rest Halted = true
+is_rest Trace = false
+is_rest (Interrupt level) = false
+is_rest Stopped = true
+is_rest Instruction = false
 
 -- the address of the instruction that a sample begins, if it begins one
 abbrev pub begins_at : Case → ℕ → Option ℕ

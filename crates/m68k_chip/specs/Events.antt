@@ -1,6 +1,6 @@
 -- What an event of the 68000 leaves, and what it asks for. Cycles are master cycles, of which a clock
 -- has 7. M68000 User's Manual, the bus cycles; the places of events are this project's profile.
-use Rattle.std.specs.Prelude.{◌≡◌, ℕ, zero, suc, ◌+◌, ◌-◌, ◌*◌, ◌/◌, ◌%◌, ◌^◌, ◌<◌, ◌≤◌, nat_le, true, ◌==◌, if◌then◌else◌, List, [], ◌∷◌, ◌++◌, length, Option, Some, None, Result, Ok, Err}
+use Rattle.std.specs.Prelude.{◌≡◌, ℕ, zero, suc, ◌+◌, ◌-◌, ◌*◌, ◌/◌, ◌%◌, ◌^◌, ◌<◌, ◌≤◌, nat_le, min, true, ◌==◌, if◌then◌else◌, List, [], ◌∷◌, ◌++◌, length, Option, Some, None, Result, Ok, Err}
 use Rattle.md_word.specs.declared.main_bus.Answer68.{Answer68}
 use Rattle.md_word.specs.declared.main_bus.Request68.{Request68}
 use Rattle.md_word.specs.declared.main_bus.Request68.TheVariants as requests
@@ -88,15 +88,18 @@ begun_with cart state (Some cause) = went_on cart state cause []
 unfoldable pub begun : List ℕ → State68 → ℕ → State68
 begun cart state level = begun_with cart state (cause_of (case_of state level))
 
+-- how many steps lead from a cycle to the first one that is not before another
+abbrev pub steps_to : ℕ → ℕ → ℕ
+steps_to start end = (end - start) / step + min 1 ((end - start) % step)
+
 -- after n samples at which an interrupt of this level is asked for
 unfoldable pub begun_after : ℕ → List ℕ → State68 → ℕ → State68
 begun_after zero cart state level = state
 begun_after (suc n) cart state level = begun cart (begun_after n cart state level) level
 
--- one sample or more with the same level lead from one state to the other, where each but the first
--- lies below a cycle
-pub record WentAhead (cycle : ℕ) (cart : List ℕ) (level : ℕ) (before after : State68) : Type 0 where
-  pub samples : ℕ
+-- so many samples with the same level, at least one, lead from one state to the other, where each but
+-- the first lies below a cycle
+pub record WentAhead (samples cycle : ℕ) (cart : List ℕ) (level : ℕ) (before after : State68) : Type 0 where
   pub some : 1 ≤ samples
   pub sample : (k : ℕ) → 1 ≤ k → k < samples → (next_of (begun_after k cart before level)).sample ≡ true
   pub below : (k : ℕ) → 1 ≤ k → k < samples → (begun_after k cart before level).next < cycle

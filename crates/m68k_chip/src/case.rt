@@ -17,6 +17,13 @@ pub enum Case {
 }
 
 impl Case {
+    /// Whether the 68000 does nothing, and at the samples after it neither while its pins stay.
+    pub fn is_rest(self) -> bool
+        ensures { result ≡ cases.is_rest self }
+    {
+        matches!(self, Case::Halted | Case::Stopped)
+    }
+
     /// What the sample carries out: 0 the instruction, 1 to 7 an interrupt of that level, 8 a
     /// trace.
     pub fn cause(self) -> Option<u8>

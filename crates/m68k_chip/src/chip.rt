@@ -37,7 +37,7 @@ impl Model for Chip68 {
 
 impl Chip68 {
     ghost use Rattle.std.specs.Arc.{arc_value};
-    ghost use Rattle.m68k_chip.specs.Cases.{begins_at, case_of};
+    ghost use Rattle.m68k_chip.specs.Cases.{begins_at, case_of, is_rest};
     ghost use Rattle.m68k_chip.specs.Events.{WentAhead, answered, begun, request_of};
     ghost use Rattle.m68k_chip.specs.Sound.{Fits, IsChip68};
     ghost use Rattle.m68k_chip.specs.States.{next_of, power_on};
@@ -108,19 +108,51 @@ impl Chip68 {
     }
 
     /// Takes the sample that is the next event, as `sample` does, and then all samples of these pins
-    /// below cycle `end`, up to the first access.
-    pub fn sample_ahead(&mut self, pins: Pins68, end: u64)
+    /// below cycle `end`, up to the first access; answers how many that were.
+    pub fn sample_ahead(&mut self, pins: Pins68, end: u64) -> u64
         requires sampling { (next_of self.old.state).sample ≡ true }
         requires far { self.old.state.next < 2 ^ 50 }
         requires end { end ≤ 2 ^ 50 }
-        ensures state { WentAhead end self.old.cart pins.level self.old.state self.new.state }
+        ensures state { WentAhead result end self.old.cart pins.level self.old.state self.new.state }
+        ensures all { (next_of self.new.state).sample ≡ true → end ≤ self.new.state.next }
+        ensures cart { self.new.cart ≡ self.old.cart }
+    {
+        if self.sequencer.rests(pins.level) {
+            self.rest_ahead(pins, end)
+        } else {
+            self.sample_each(pins, end)
+        }
+    }
+
+    /// `sample_ahead` where the 68000 does nothing, being halted or stopped.
+    fn rest_ahead(&mut self, pins: Pins68, end: u64) -> u64
+        requires sampling { (next_of self.old.state).sample ≡ true }
+        requires far { self.old.state.next < 2 ^ 50 }
+        requires rest { is_rest (case_of self.old.state pins.level) ≡ true }
+        requires end { end ≤ 2 ^ 50 }
+        ensures state { WentAhead result end self.old.cart pins.level self.old.state self.new.state }
+        ensures all { (next_of self.new.state).sample ≡ true → end ≤ self.new.state.next }
+        ensures cart { self.new.cart ≡ self.old.cart }
+    {
+        self.sequencer.rest_ahead(end)
+    }
+
+    /// `sample_ahead`, sample by sample.
+    fn sample_each(&mut self, pins: Pins68, end: u64) -> u64
+        requires sampling { (next_of self.old.state).sample ≡ true }
+        requires far { self.old.state.next < 2 ^ 50 }
+        requires end { end ≤ 2 ^ 50 }
+        ensures state { WentAhead result end self.old.cart pins.level self.old.state self.new.state }
         ensures all { (next_of self.new.state).sample ≡ true → end ≤ self.new.state.next }
         ensures cart { self.new.cart ≡ self.old.cart }
     {
         self.sample(pins);
+        let mut samples = 1;
         while self.samples_below(end) {
             self.sample(pins);
+            samples += 1;
         }
+        samples
     }
 
     /// Whether the next event is a sample below a cycle.

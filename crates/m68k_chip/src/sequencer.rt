@@ -169,6 +169,28 @@ impl Sequencer {
         self.rest_at_sample(cycle);
     }
 
+    /// Whether the next sample at this interrupt level does nothing, and those after it neither.
+    pub fn rests(&self, level: u8) -> bool
+        ensures { (ram : List ℕ) → result ≡ cases.is_rest (cases.case_of (state_of self.now ram) level) }
+    {
+        self.case_at(level).is_rest()
+    }
+
+    /// Does nothing at the next sample and at those below cycle `end` after it; answers how many samples
+    /// that were.
+    pub fn rest_ahead(&mut self, end: u64) -> u64
+        requires start { self.old.start < 2 ^ 50 }
+        requires end { end ≤ 2 ^ 50 }
+        ensures samples { result ≡ 1 + events.steps_to (self.old.start + events.step) end }
+        ensures state { (ram : List ℕ) → state_of self.new ram ≡ events.at_sample (state_of self.old ram)
+            (self.old.start + events.step + events.step * events.steps_to (self.old.start + events.step) end) }
+    {
+        let first = self.start + STEP;
+        let steps = end.saturating_sub(first).div_ceil(STEP);
+        self.rest_at_sample(first + STEP * steps);
+        1 + steps
+    }
+
     /// Goes to the access that waits for the next answer.
     fn ask(&mut self, cause: u8, request: Request68)
         requires start { self.old.start < 2 ^ 50 }

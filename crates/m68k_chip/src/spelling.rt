@@ -33,6 +33,15 @@ impl Chip68 {
         );
     }
 
+    /// Tells that the bytes of this 68000 are read again, where no event stands below a cycle and the rules hold
+    /// there.
+    pub fn is_read_again(&self)
+        ensures { (at : ℕ) → at ≤ self.now.state.next → HasRules at self.now.state → Spells self.now.cart at (chip_bytes self.now.state) self.now.state }
+    {
+        known_regs(&self.sequencer.regs);
+        known_next(&self.sequencer);
+    }
+
     /// The 68000 that the bytes of a saved state at a cycle keep, over its cartridge. Bytes that are not
     /// 65,714 are refused at the lesser of the two lengths, others at the place of the first field whose
     /// rule fails. An access of what does not ask for one more answer, or was answered by what does not

@@ -33,22 +33,21 @@ sub-samples-before : (end : Key) (c : SubValue) (state : State80) → state.stag
 unfolding next_of
 sub-samples-before end c state stage low = (ap is_sample stage, sub-before state.next end low)
 
-all-sub-before : (end : Key) (pins : Pins) (c : SubValue) (after : State80) → SamplesBelow five end (Sub c) → (went : WentAhead end.cycle c.chip.cart (sub_in pins) c.chip.state after)
-    → (k : ℕ) → k < went.samples → SamplesBelow five end (sampled five k pins (Sub c))
+all-sub-before : (n : ℕ) (end : Key) (pins : Pins) (c : SubValue) (after : State80) → SamplesBelow five end (Sub c) → (went : WentAhead n end.cycle c.chip.cart (sub_in pins) c.chip.state after)
+    → (k : ℕ) → k < n → SamplesBelow five end (sampled five k pins (Sub c))
 unfolding sampled
-all-sub-before end pins c after first went zero h = first
-all-sub-before end pins c after first went (suc k) h =
+all-sub-before n end pins c after first went zero h = first
+all-sub-before n end pins c after first went (suc k) h =
     subst (λ x. SamplesBelow five end x) (sym (all-sub-begun c pins (suc k)))
     (sub-samples-before end c (begun_after (suc k) c.chip.cart c.chip.state (sub_in pins)) (went.sample (suc k) (omega arith) h) (went.below (suc k) (omega arith) h))
 
-pub sub_gone_ahead : (end : Key) (pins : Pins) (c d : SubValue) → SamplesBelow five end (Sub c) → WentAhead end.cycle c.chip.cart (sub_in pins) c.chip.state d.chip.state
-    → d.chip.cart ≡ c.chip.cart → d.answer ≡ c.answer → SamplesTo five end pins (Sub c) (Sub d)
-sub_gone_ahead end pins c d first went cart answer = record {
-  samples = went.samples;
+pub sub_gone_ahead : (n : ℕ) (end : Key) (pins : Pins) (c d : SubValue) → SamplesBelow five end (Sub c) → WentAhead n end.cycle c.chip.cart (sub_in pins) c.chip.state d.chip.state
+    → d.chip.cart ≡ c.chip.cart → d.answer ≡ c.answer → SamplesTo five n end pins (Sub c) (Sub d)
+sub_gone_ahead n end pins c d first went cart answer = record {
   some = went.some;
-  each = all-sub-before end pins c d.chip.state first went;
+  each = all-sub-before n end pins c d.chip.state first went;
   is = ap₂ (λ image told. Sub (record { chip = record { cart = image; state = d.chip.state }; answer = told })) cart answer
-      ∙ ap (λ state. Sub (sub_in_state c state)) went.is ∙ sym (all-sub-begun c pins went.samples);
+      ∙ ap (λ state. Sub (sub_in_state c state)) went.is ∙ sym (all-sub-begun c pins n);
 }
 
 -- the same of the 68000
@@ -67,20 +66,19 @@ main-samples-before : (end : Key) (c : MainChip) (state : State68) → (states68
 unfolding states68.next_of
 main-samples-before end c state sample low = (sample, main-before state.next end low)
 
-all-main-before : (end : Key) (pins : Pins) (c : MainChip) (after : State68) → SamplesBelow five end (Main c) → (went : events68.WentAhead end.cycle c.chip.cart (level_in pins) c.chip.state after)
-    → (k : ℕ) → k < went.samples → SamplesBelow five end (sampled five k pins (Main c))
+all-main-before : (n : ℕ) (end : Key) (pins : Pins) (c : MainChip) (after : State68) → SamplesBelow five end (Main c) → (went : events68.WentAhead n end.cycle c.chip.cart (level_in pins) c.chip.state after)
+    → (k : ℕ) → k < n → SamplesBelow five end (sampled five k pins (Main c))
 unfolding sampled
-all-main-before end pins c after first went zero h = first
-all-main-before end pins c after first went (suc k) h =
+all-main-before n end pins c after first went zero h = first
+all-main-before n end pins c after first went (suc k) h =
     subst (λ x. SamplesBelow five end x) (sym (all-main-begun c pins (suc k)))
     (main-samples-before end c (events68.begun_after (suc k) c.chip.cart c.chip.state (level_in pins)) (went.sample (suc k) (omega arith) h) (went.below (suc k) (omega arith) h))
 
-pub main_gone_ahead : (end : Key) (pins : Pins) (c d : MainChip) → SamplesBelow five end (Main c) → events68.WentAhead end.cycle c.chip.cart (level_in pins) c.chip.state d.chip.state
-    → d.chip.cart ≡ c.chip.cart → d.answer ≡ c.answer → SamplesTo five end pins (Main c) (Main d)
-main_gone_ahead end pins c d first went cart answer = record {
-  samples = went.samples;
+pub main_gone_ahead : (n : ℕ) (end : Key) (pins : Pins) (c d : MainChip) → SamplesBelow five end (Main c) → events68.WentAhead n end.cycle c.chip.cart (level_in pins) c.chip.state d.chip.state
+    → d.chip.cart ≡ c.chip.cart → d.answer ≡ c.answer → SamplesTo five n end pins (Main c) (Main d)
+main_gone_ahead n end pins c d first went cart answer = record {
   some = went.some;
-  each = all-main-before end pins c d.chip.state first went;
+  each = all-main-before n end pins c d.chip.state first went;
   is = ap₂ (λ image told. Main (record { chip = record { cart = image; state = d.chip.state }; answer = told })) cart answer
-      ∙ ap (λ state. Main (main_in_state c state)) went.is ∙ sym (all-main-begun c pins went.samples);
+      ∙ ap (λ state. Main (main_in_state c state)) went.is ∙ sym (all-main-begun c pins n);
 }

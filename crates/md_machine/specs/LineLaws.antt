@@ -7,7 +7,7 @@ use Rattle.std.proofs.lemmas.List.FromFn.{get_or-map-range_with_len}
 use Rattle.md_word.specs.Clock.{line}
 use Rattle.vdp_ports.specs.Vdp.{Vdp}
 use Rattle.vdp_time.specs.Lines.{line_of}
-use Rattle.vdp_planes.specs.declared.view.Dot.{Dot}
+use Rattle.vdp_planes.specs.Dots.{Dot}
 use Rattle.vdp_planes.specs.declared.view.LineView.{LineView}
 use Rattle.vdp_planes.specs.declared.view.SpriteNote.{SpriteNote}
 use Rattle.vdp_planes.specs.Mixing.{border_of, line_byte, shown_at}

@@ -55,15 +55,15 @@ impl MainChip {
         self.chip.sample(pins);
     }
 
-    /// A sample, and those of the same pins below cycle `end` after it.
-    pub(crate) fn sample_ahead(&mut self, pins: Pins68, end: u64)
+    /// A sample, and those of the same pins below cycle `end` after it; answers how many that were.
+    pub(crate) fn sample_ahead(&mut self, pins: Pins68, end: u64) -> u64
         requires sample { (next_of self.old.chip.state).sample ≡ true }
         requires cycle { self.old.chip.state.next < 2 ^ 50 }
         requires end { end ≤ 2 ^ 50 }
-        ensures state { WentAhead end self.old.chip.cart pins.level self.old.chip.state self.new.chip.state }
+        ensures state { WentAhead result end self.old.chip.cart pins.level self.old.chip.state self.new.chip.state }
         ensures cart { self.new.chip.cart ≡ self.old.chip.cart }
         ensures answer { self.new.answer ≡ self.old.answer }
     {
-        self.chip.sample_ahead(pins, end);
+        self.chip.sample_ahead(pins, end)
     }
 }

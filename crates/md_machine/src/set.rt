@@ -95,13 +95,13 @@ impl ChipSet for MdChips {
         }
     }
 
-    /// The 68000 goes on to its next access, and the Z80 passes over samples at which it does nothing.
+    /// The 68000 and the Z80 go on to their next access.
     #[tactic(auto, unfolding(m68k_chip::specs::States::next_of, z80_chip::specs::States::next_of))]
-    fn sample_ahead(chip: &mut Chip, pins: &Pins, end: &Key) {
+    fn sample_ahead(chip: &mut Chip, pins: &Pins, end: &Key) -> u64 {
         match chip {
             Chip::Main(main) => main.sample_ahead(pins.main(), end.cycle),
             Chip::Sub(sub) => sub.sample_ahead(pins.sub(), end.cycle),
-            Chip::Line(_) | Chip::Fm(_) | Chip::Psg(_) => {}
+            Chip::Line(_) | Chip::Fm(_) | Chip::Psg(_) => 1,
         }
     }
 

@@ -63,6 +63,17 @@ pub fn put_writes(writes: &[PsgWrite], into: &mut Vec<u8>)
     }
 }
 
+/// Each number of each write fits its field.
+pub fn known_writes(writes: &[PsgWrite])
+    ensures { AreFit meaning.write_fields writes.now }
+{
+    let mut rest = writes;
+    while let [write, after @ ..] = rest {
+        known_write(write);
+        rest = after;
+    }
+}
+
 /// The write that stands at a place.
 fn write_at(bytes: &[u8], place: usize) -> PsgWrite
     requires { place + 10 ≤ length bytes.now }

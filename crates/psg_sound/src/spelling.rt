@@ -7,7 +7,7 @@ ghost use Rattle.psg_sound.specs.Synth.{Synth};
 ghost use Rattle.psg_sound.specs.declared.write.PsgWrite.{PsgWrite as Write};
 
 use crate::port::PsgPort;
-use crate::saved_port::{MOST, WRITE, are_kept, put_writes, writes_at};
+use crate::saved_port::{MOST, WRITE, are_kept, known_writes, put_writes, writes_at};
 use crate::saved_synth::{SavedSynth, tone_from};
 use crate::synth::PsgSynth;
 use crate::write::PsgList;
@@ -35,6 +35,13 @@ impl PsgPort {
         put_count(count as u16, into);
         put_writes(self.writes.as_slice(), into);
         put_zeros(WRITE * (MOST - count), into);
+    }
+
+    /// Tells that the bytes of this port are read again, where the writes' keys are those of a state at a cycle.
+    pub fn is_read_again(&self)
+        ensures { (at : ℕ) → are_kept at (map key_of self.now) ≡ true → SpellsPort at (port_bytes self.now) self.now }
+    {
+        known_writes(self.writes.as_slice());
     }
 
     /// The port that the bytes of a saved state at a cycle keep. It takes no memory. Bytes that are not
@@ -90,6 +97,14 @@ impl PsgSynth {
     {
         let _ = &self.latch;
         put(&self.saved().fields(), into);
+    }
+
+    /// Tells that the bytes of this chip are read again.
+    #[tactic(auto, using(crate::proofs::SynthKept::synth_spelled))]
+    pub fn is_read_again(&self)
+        ensures { SpellsSynth (synth_bytes self.now) self.now }
+    {
+        let _ = &self.latch;
     }
 
     fn saved(&self) -> SavedSynth

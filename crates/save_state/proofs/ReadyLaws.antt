@@ -19,7 +19,7 @@ use Rattle.bus_shared.specs.Spelling as shared
 use Rattle.md_machine.specs.Console.{Console, drawing_in, key_in}
 use Rattle.md_machine.specs.Starts.{IsStart}
 use Rattle.save_state.specs.Ready.{IsReady}
-use Rattle.save_state.specs.States.{IsSaved, settled_console}
+use Rattle.save_state.specs.States.{IsSaved, IsState, settled_console, state_bytes}
 use Rattle.save_state.proofs.Holders.{holder_right}
 
 -- what each chip's spelling says of it
@@ -80,4 +80,12 @@ saved at m of_main of_sub of_board of_drawing of_fm of_psg ready = record {
   resets = ready.resets;
   fm_writes = ready.fm_writes;
   psg_writes = ready.psg_writes;
+}
+
+-- and so the bytes of a machine that may be kept are a state of its cartridge, which keeps it settled
+pub state_kept : (at : ℕ) (m : Console) → MainKept at (record { cart = m.cart; state = m.main }) → SubKept at m.sub → BoardKept at m.shared → DrawingKept at (drawing_in m)
+    → FmKept m.fm → PsgKept m.psg → IsReady at m → IsState m.cart (state_bytes at m) (record { at = at; console = settled_console at m })
+state_kept at m of_main of_sub of_board of_drawing of_fm of_psg ready = record {
+  saved = saved at m of_main of_sub of_board of_drawing of_fm of_psg ready;
+  all = refl;
 }

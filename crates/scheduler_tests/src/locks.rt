@@ -136,11 +136,11 @@ fn an_access_at_the_end_is_not_made(rt: HostRuntime) -> Result<(), Fail> {
     Ok(())
 }
 
-// Below cycle 1,000 the five have an event each 70, 45, 3,420, 16,128 and 16,128 cycles, the last
-// two from 16,128 on.
+// Below cycle 1,000 the first two sample each 70 and 45 cycles, up to (0, 2), where the third makes its one
+// access, and then, with one lease each, up to the end. The last two have no event there.
 #[test]
 fn a_run_of_all_chips_ends_on_one_thread(rt: HostRuntime) -> Result<(), Fail> {
     let core = power_on(rt.alloc(), 100)?;
-    assert!(rt; moves_to(&rt, core, 1000) == Some([15, 23, 1, 0, 0]));
+    assert!(rt; moves_to(&rt, core, 1000) == Some([2, 2, 1, 0, 0]));
     Ok(())
 }

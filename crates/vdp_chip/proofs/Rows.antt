@@ -4,7 +4,7 @@ use Rattle.std.specs.Prelude.{slice_index}
 use Rattle.std.proofs.lemmas.List.{append_assoc, drop-drop, ext_get_or, get_or-append_right, get_or-drop, get_or-replicate, length-append, length-drop, length-take-le}
 use Rattle.std.proofs.lemmas.List.FromFn.{get_or-map-range_with_len, length-map-range_with_len}
 use borrow.Rule.Slice.PartMut.{put_mid}
-use Rattle.vdp_planes.specs.declared.view.Dot.{Dot}
+use Rattle.vdp_planes.specs.Dots.{Dot}
 use Rattle.vdp_planes.specs.declared.view.LineView.{LineView}
 use Rattle.vdp_planes.specs.View.{AllColours, clear, dot_at, has_bit, register}
 use Rattle.vdp_planes.specs.Planes.{plane_dot}
@@ -17,6 +17,12 @@ clear_at x below = get_or-replicate 320 x clear clear below
 
 pub clear_colours : AllColours (replicate 320 clear)
 clear_colours x below = subst (λ (dot : Dot). dot.colour < 64) (sym (clear_at x below)) (lit< tt)
+
+pub all_clear : (d : Dot) → d ≡ clear → (x : ℕ) → x < 320 → dot_at (replicate 320 d) x ≡ clear
+all_clear d e x below = get_or-replicate 320 x d clear below ∙ e
+
+pub all_colours : (d : Dot) → d ≡ clear → AllColours (replicate 320 d)
+all_colours d e x below = subst (λ (dot : Dot). dot.colour < 64) (sym (all_clear d e x below)) (lit< tt)
 
 -- a byte of a line reads the dots of the line alone
 line_byte_same : (view : LineView) (a b c d s : List Dot) (n : ℕ) → n < 960

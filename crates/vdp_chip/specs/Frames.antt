@@ -1,7 +1,7 @@
 -- A whole frame by the events of its lines. This project's profile.
 use Rattle.std.specs.Prelude.{◌≡◌, ℕ, ◌+◌, List, [], ◌∷◌, ◌++◌, length, Some}
 use Rattle.vdp_time.specs.Lines.{line_of}
-use Rattle.vdp_planes.specs.declared.view.Dot.{Dot}
+use Rattle.vdp_planes.specs.Dots.{Dot}
 use Rattle.vdp_planes.specs.declared.view.LineView.{LineView}
 use Rattle.vdp_planes.specs.declared.view.SpriteNote.{SpriteNote}
 use Rattle.vdp_chip.specs.Picture.{height, row_of}

@@ -2,7 +2,7 @@
 -- bytes of a picture are this project's profile.
 use Rattle.std.specs.Prelude.{ℕ, ◌+◌, ◌*◌, ◌==◌, nat_lt, Bool, true, false, if◌then◌else◌, List, map, replicate, Option, Some}
 use Rattle.std.specs.List.{range_with_len, replace_range}
-use Rattle.vdp_planes.specs.declared.view.Dot.{Dot}
+use Rattle.vdp_planes.specs.Dots.{Dot}
 use Rattle.vdp_planes.specs.declared.view.LineView.{LineView}
 use Rattle.vdp_planes.specs.Planes.{plane_dot}
 use Rattle.vdp_planes.specs.Mixing.{line_byte}

@@ -15,12 +15,6 @@ pub const HEIGHT: u32 = 224;
 /// Bytes of the picture.
 pub const PICTURE: usize = 215_040;
 
-/// A dot where nothing is drawn yet.
-const CLEAR: Dot = Dot {
-    colour: 0,
-    priority: false,
-};
-
 /// Clears the picture.
 pub fn clear(picture: &mut [u8; PICTURE])
     requires { length picture.old ≡ picture_length }
@@ -53,7 +47,7 @@ pub fn clear_dots() -> [Dot; 320]
     ensures dots { (x : ℕ) → x < 320 → dot_at result x ≡ clear }
     ensures colours { AllColours result }
 {
-    [CLEAR; 320]
+    [Dot::new(0, false); 320]
 }
 
 /// Draws a row of the picture from the two planes and the sprites' dots.

@@ -48,6 +48,14 @@ impl ChipVdp {
         put(&self.saved().fields(at), into);
     }
 
+    /// Tells that the bytes of this chip are read again where its next event is the first of a line from a cycle
+    /// on, with its view here and without a frame.
+    pub fn is_read_again(&self)
+        ensures { (at : ℕ) → IsReady at self.now → Spells at (drawing_bytes self.now) (drained self.now) }
+    {
+        self.known();
+    }
+
     /// The chip that the bytes of a saved state at a cycle keep, with its view here and without a
     /// frame. Bytes that are not 215,050 are refused at the lesser of the two lengths, others at the place
     /// of the first field whose rule fails. The picture is copied.

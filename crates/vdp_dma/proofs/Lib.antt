@@ -1,4 +1,5 @@
 pub mod Counts
 pub mod Kept
+pub mod Ranges
 pub mod Same
 pub mod Settled

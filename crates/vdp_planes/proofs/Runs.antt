@@ -1,6 +1,6 @@
 -- Dots of one cell.
 use Rattle.std.proofs.Common.{◌≡◌, ◌∙◌, refl, sym, ap, ℕ, ◌+◌, ◌-◌, ◌*◌, ◌/◌, ◌%◌, ◌<◌, ◌≤◌, Bool, true, false, ◌⊎◌, inl, inr, arith, List}
-use Rattle.vdp_planes.specs.declared.view.Dot.{Dot}
+use Rattle.vdp_planes.specs.Dots.{Dot}
 use Rattle.vdp_planes.specs.declared.view.LineView.{LineView}
 use Rattle.vdp_planes.specs.View.{IsFilled, clear, register, word_at, has_bit}
 use Rattle.vdp_planes.specs.Planes.{across, cell_dot, cells_of, down, name_place, pattern_index, pixel_dot, pixel_of, point_x, point_y, run_dot, scrolled_dot, turned, window_dot, window_place}

@@ -1,6 +1,6 @@
 -- The dots beside the picture.
 use Rattle.std.specs.Prelude.{ℕ}
-use Rattle.vdp_planes.specs.declared.view.Dot.{Dot}
+use Rattle.vdp_planes.specs.Dots.{Dot}
 use Rattle.vdp_planes.specs.View.{clear}
 
 -- nothing stands beside the picture

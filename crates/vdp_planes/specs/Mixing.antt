@@ -1,7 +1,7 @@
 -- What a dot of the picture shows, and the bytes that it prints. Genesis Technical Overview, priority,
 -- shadow and highlight; the bytes of a level are this project's profile.
 use Rattle.std.specs.Prelude.{◌≡◌, ℕ, ◌+◌, ◌-◌, ◌*◌, ◌/◌, ◌%◌, ◌<◌, ◌≤◌, Bool, ◌==◌, ◌||◌, ◌&&◌, not, nat_lt, nat_le, if◌then◌else◌, List, slice_index, slice_index_or}
-use Rattle.vdp_planes.specs.declared.view.Dot.{Dot}
+use Rattle.vdp_planes.specs.Dots.{Dot}
 use Rattle.vdp_planes.specs.declared.view.LineView.{LineView}
 use Rattle.vdp_planes.specs.declared.colours.Rgb.{Rgb}
 use Rattle.vdp_planes.specs.declared.colours.Shade.{Shade}

@@ -1,6 +1,6 @@
 -- The order of dots as numbers: the one in front has the greatest.
 use Rattle.std.specs.Prelude.{ℕ, ◌+◌, ◌*◌, max, if◌then◌else◌}
-use Rattle.vdp_planes.specs.declared.view.Dot.{Dot}
+use Rattle.vdp_planes.specs.Dots.{Dot}
 use Rattle.vdp_planes.specs.Mixing.{is_opaque}
 
 -- a dot's place in the order with its colour; a transparent one has none

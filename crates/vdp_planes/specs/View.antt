@@ -1,6 +1,6 @@
 -- What a line is drawn from, and its dots.
 use Rattle.std.specs.Prelude.{◌≡◌, ℕ, ◌+◌, ◌*◌, ◌/◌, ◌%◌, ◌<◌, ◌≤◌, Bool, false, ◌==◌, List, length, slice_index, slice_index_or}
-use Rattle.vdp_planes.specs.declared.view.Dot.{Dot}
+use Rattle.vdp_planes.specs.Dots.{Dot}
 use Rattle.vdp_planes.specs.declared.view.LineView.{LineView}
 use Rattle.vdp_planes.specs.declared.view.Scene.{Scene}
 use Rattle.vdp_ports.specs.Vdp.{Vdp}

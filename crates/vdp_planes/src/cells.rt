@@ -52,12 +52,21 @@ fn pixels(scene: &Scene, pattern: u32, row: u32, flip: bool) -> u32
 /// A digit of these.
 #[inline(always)]
 #[tactic(auto, unfolding(crate::specs::Planes::pixel_of))]
-fn pixel(pixels: u32, column: u32) -> u8
+fn pixel(pixels: u32, column: u32) -> u16
     requires { column < 8 }
     ensures value { result ≡ pixel_of pixels column }
     ensures below { result < 16 }
 {
-    ((pixels >> (28 - 4 * column)) % 16) as u8
+    ((pixels >> (28 - 4 * column)) % 16) as u16
+}
+
+/// The word of a transparent dot of a name.
+#[inline(always)]
+fn base(name: u32) -> u16
+    requires { name < 2 ^ 16 }
+    ensures { result ≡ name / 32768 % 2 * 256 + name / 8192 % 4 * 16 }
+{
+    (name / 32768 % 2 * 256 + name / 8192 % 4 * 16) as u16
 }
 
 /// Draws dots of this name from these pixels, the one in `column` at `from`, up to `to`.
@@ -70,13 +79,24 @@ fn pixel_run(name: u32, pixels: u32, column: u32, from: u32, to: u32, out: &mut 
     requires cell { column + to ≤ from + 8 }
     ensures { IsFilled clear from to out.old out.new (pixel_dot name pixels column from) }
 {
-    let palette = (name / 8192 % 4) as u8 * 16;
-    let priority = name / 32768 % 2 == 1;
+    let base = base(name);
     for x in from..to {
-        out[x as usize] = Dot {
-            colour: palette + pixel(pixels, column + (x - from)),
-            priority,
-        };
+        out[x as usize] = Dot::of_word(base + pixel(pixels, column + (x - from)));
+    }
+}
+
+/// Draws the eight dots of a cell's row: their number is known to the compiler.
+#[inline(always)]
+#[tactic(auto, using(crate::proofs::Filled::filled_next))]
+fn whole_run(name: u32, pixels: u32, from: u32, out: &mut [Dot; 320])
+    requires name { name < 2 ^ 16 }
+    requires within { from + 8 ≤ 320 }
+    ensures { IsFilled clear from (from + 8) out.old out.new (pixel_dot name pixels 0 from) }
+{
+    let base = base(name);
+    let at = from as usize;
+    for column in 0..8 {
+        out[at + column as usize] = Dot::of_word(base + pixel(pixels, column));
     }
 }
 
@@ -102,7 +122,7 @@ pub fn cell_run(
     let pixels = pixels(scene, name % 2048, line, name / 2048 % 2 == 1);
     // a whole cell apart: its number of dots is known to the compiler
     if to == from + 8 {
-        pixel_run(name, pixels, 0, from, from + 8, out);
+        whole_run(name, pixels, from, out);
     } else {
         pixel_run(name, pixels, column, from, to, out);
     }

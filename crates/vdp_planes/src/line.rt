@@ -71,9 +71,6 @@ fn clear_from(from: u32, out: &mut [Dot; 320])
     ensures { IsFilled clear from 320 out.old out.new clear_at }
 {
     for x in from..320 {
-        out[x as usize] = Dot {
-            colour: 0,
-            priority: false,
-        };
+        out[x as usize] = Dot::new(0, false);
     }
 }

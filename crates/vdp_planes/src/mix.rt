@@ -14,12 +14,8 @@ fn rank_key(dot: Dot, rank: u16) -> u16
     requires rank { rank < 4 }
     ensures { result ≡ rank_key rank dot }
 {
-    let place = if dot.priority { rank + 4 } else { rank };
-    if dot.colour % 16 == 0 {
-        0
-    } else {
-        place * 64 + u16::from(dot.colour)
-    }
+    let word = dot.word();
+    if word % 16 == 0 { 0 } else { word + 64 * rank }
 }
 
 /// The greatest key of the planes and the backdrop.
@@ -68,7 +64,7 @@ pub fn index_of(colour: u8, shade: Shade) -> u8
 fn base_shade(a: Dot, b: Dot) -> Shade
     ensures { result ≡ base_shade a b }
 {
-    if a.priority || b.priority {
+    if a.priority() || b.priority() {
         Shade::Normal
     } else {
         Shade::Shadow
@@ -95,11 +91,11 @@ fn shaded_sprite(under: u8, base: Shade, s: Dot) -> u8
     ensures value { result ≡ index_of (shaded_sprite under base s) }
     ensures below { result < 192 }
 {
-    match s.colour {
+    match s.colour() {
         62 => index_of(under, brighter(base)),
         63 => index_of(under, Shade::Shadow),
         colour => {
-            if s.priority || colour % 16 == 14 {
+            if s.priority() || colour % 16 == 14 {
                 index_of(colour, Shade::Normal)
             } else {
                 index_of(colour, base)

@@ -9,7 +9,7 @@ use crate::register::{MODE_3, PLANE_A, PLANE_B, PLANE_SIZE, SCROLLS};
 use crate::view::{Dot, Scene};
 
 /// What stays the same along a line of a plane.
-#[derive(Drop)]
+#[derive(Clone, Copy)]
 pub struct Scroll {
     /// The line.
     pub y: u32,
@@ -141,8 +141,11 @@ pub fn draw_scrolled(scene: &Scene, scroll: &Scroll, from: u32, to: u32, out: &m
     requires within { to ≤ 320 }
     ensures { IsFilled clear from to out.old out.new (scrolled_dot (seen scene.now) scroll.now.second scroll.now.y) }
 {
+    // copies stay in registers, since no dot is written over them
+    let scene = *scene;
+    let scroll = *scroll;
     let mut x = from;
     while x < to {
-        x = scrolled_cell(scene, scroll, x, to, out);
+        x = scrolled_cell(&scene, &scroll, x, to, out);
     }
 }

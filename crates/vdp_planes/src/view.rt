@@ -1,6 +1,8 @@
-ghost use Rattle.std.specs.Prelude.{◌≡◌};
+ghost use Rattle.std.specs.Prelude.{◌≡◌, ◌<◌, ◌%◌};
 ghost use Rattle.vdp_planes.specs.View.{seen, view_of};
+ghost use Rattle.vdp_planes.specs.Dots.{dot_of, word_of};
 
+use std::marker::Model;
 use vdp_ports::VdpState;
 
 /// What a line is drawn from: the registers and memories of the VDP at the line's event. It takes
@@ -23,12 +25,77 @@ pub struct Scene<'a> {
 }
 
 /// A dot of a plane or of the sprites. A plane's dot has its name's priority also where it is
-/// transparent.
+/// transparent. A contract sees its colour and its priority.
 #[derive(Clone, Copy)]
 pub struct Dot {
-    /// Palette · 16 + index, 0 to 63; index 0 is transparent.
-    pub colour: u8,
-    pub priority: bool,
+    /// The colour, and 256 more with priority.
+    word: u16,
+}
+
+impl Model for Dot {
+    ghost use Rattle.std.specs.Prelude.{ℕ, ◌<◌};
+    ghost use Rattle.std.proofs.Common.{ap};
+    ghost use Rattle.vdp_planes.specs.Dots.{Dot as TheDot, dot_of, word_of};
+    ghost use Rattle.vdp_planes.proofs.Words.{word_again};
+
+    ghost Value = { TheDot };
+
+    ghost view = { λ d. dot_of d.word };
+
+    ghost invariant = { λ d. d.word < 512 };
+
+    ghost inverse = { λ d. record { word = word_of d } };
+
+    ghost inverse_ok = { λ d h. ap (λ (w : ℕ). record { word = w }) (word_again d.word h) };
+}
+
+impl Dot {
+    /// A dot of a colour, palette · 16 + index, 0 to 63; index 0 is transparent.
+    #[inline(always)]
+    pub fn new(colour: u8, priority: bool) -> Dot
+        ensures colour { result.colour ≡ colour }
+        ensures priority { result.priority ≡ priority }
+    {
+        if priority {
+            Dot::of_word(u16::from(colour) + 256)
+        } else {
+            Dot::of_word(u16::from(colour))
+        }
+    }
+
+    /// The dot that a word holds.
+    #[inline(always)]
+    pub(crate) fn of_word(word: u16) -> Dot
+        requires { word < 512 }
+        ensures { result ≡ dot_of word }
+    {
+        Dot { word }
+    }
+
+    /// The word that holds this dot.
+    #[inline(always)]
+    pub(crate) fn word(self) -> u16
+        ensures value { result ≡ word_of self }
+        ensures below { result < 512 }
+    {
+        self.word
+    }
+
+    /// Palette · 16 + index.
+    #[inline(always)]
+    pub fn colour(self) -> u8
+        ensures { result ≡ self.colour }
+    {
+        (self.word % 256) as u8
+    }
+
+    /// Whether it is before others.
+    #[inline(always)]
+    pub fn priority(self) -> bool
+        ensures { result ≡ self.priority }
+    {
+        self.word >= 256
+    }
 }
 
 impl LineView {

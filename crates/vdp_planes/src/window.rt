@@ -63,9 +63,10 @@ pub fn draw_window(scene: &Scene, y: u32, from: u32, to: u32, out: &mut [Dot; 32
     requires within { to ≤ 320 }
     ensures { IsFilled clear from to out.old out.new (window_dot (seen scene.now) y) }
 {
+    let scene = *scene;
     let mut x = from;
     while x < to {
-        x = window_cell(scene, y, x, to, out);
+        x = window_cell(&scene, y, x, to, out);
     }
 }
 

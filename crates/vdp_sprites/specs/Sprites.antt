@@ -1,6 +1,6 @@
 -- The sprites of a line, as lists. Genesis Technical Overview, sprites.
 use Rattle.std.specs.Prelude.{ℕ, zero, suc, ◌+◌, ◌-◌, ◌*◌, ◌/◌, ◌%◌, Bool, false, ◌==◌, ◌||◌, ◌&&◌, not, nat_lt, nat_le, min, if◌then◌else◌, List, [], ◌∷◌, filter, map, take, length, sum_by, Option, Some, None}
-use Rattle.vdp_planes.specs.declared.view.Dot.{Dot}
+use Rattle.vdp_planes.specs.Dots.{Dot}
 use Rattle.vdp_planes.specs.declared.view.LineView.{LineView}
 use Rattle.vdp_planes.specs.View.{clear, dot_at, has_bit, register, word_at}
 use Rattle.vdp_planes.specs.Planes.{pattern_index, width_of}

@@ -16,7 +16,7 @@ use vdp_planes::{Dot, LineView, Scene, SpriteNote, width_of};
 fn is_opaque(dot: Dot) -> bool
     ensures { result ≡ is_opaque dot }
 {
-    dot.colour % 16 != 0
+    dot.colour() % 16 != 0
 }
 
 /// A dot drawn where nothing opaque stands yet.
@@ -133,10 +133,7 @@ fn clear_line(out: &mut [Dot; 320])
     ensures clear { (x : ℕ) → x < 320 → dot_at out.new x ≡ clear }
 {
     for x in 0..320 {
-        out[x] = Dot {
-            colour: 0,
-            priority: false,
-        };
+        out[x] = Dot::new(0, false);
     }
 }
 

@@ -39,10 +39,8 @@ pub fn own_dot(scene: &Scene, y: u32, sprite: Sprite, x: u32) -> Dot
     let across = within(name / 2048 % 2 == 1, 8 * u32::from(sprite.width), left);
     let down = within(name / 4096 % 2 == 1, 8 * height, top);
     let pattern = (name + across / 8 * height + down / 8) % 2048;
-    Dot {
-        colour: (name / 8192 % 4) as u8 * 16 + pattern_index(scene, pattern, across % 8, down % 8),
-        priority: name / 32768 % 2 == 1,
-    }
+    let index = pattern_index(scene, pattern, across % 8, down % 8);
+    Dot::new((name / 8192 % 4) as u8 * 16 + index, name / 32768 % 2 == 1)
 }
 
 /// Whether the chosen sprites have more pixels than a line counts.

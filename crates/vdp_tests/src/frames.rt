@@ -6,11 +6,6 @@ use vdp_planes::{Dot, fill_view};
 use vdp_ports::VdpState;
 use vdp_sprites::sprite_line;
 
-const CLEAR: Dot = Dot {
-    colour: 0,
-    priority: false,
-};
-
 /// Makes the event of the chip's next line, of this number, from the VDP as it stands.
 pub(crate) fn make_event(chip: &mut ChipVdp, vdp: &VdpState, line: u32) {
     if !chip.has_view() || chip.next().key.cycle >= LAST_CYCLE {
@@ -18,7 +13,7 @@ pub(crate) fn make_event(chip: &mut ChipVdp, vdp: &VdpState, line: u32) {
     }
     let (mut view, _) = chip.request();
     fill_view(&mut view, vdp);
-    let mut sprites = [CLEAR; 320];
+    let mut sprites = [Dot::new(0, false); 320];
     let note = sprite_line(&view, line % 224, &mut sprites);
     chip.answer_with(view, &sprites, note);
 }

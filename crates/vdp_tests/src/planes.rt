@@ -7,11 +7,6 @@ use vdp_planes::{Dot, draw_plane, mix_dots, scene_of};
 use vdp_ports::VdpState;
 use vdp_sprites::draw_sprites;
 
-const CLEAR: Dot = Dot {
-    colour: 0,
-    priority: false,
-};
-
 /// Puts a word at an even address of VRAM.
 fn put(vdp: &mut VdpState, address: u16, word: u16) {
     vdp.vram[usize::from(address)] = (word >> 8) as u8;
@@ -47,9 +42,9 @@ fn prepare(vdp: &mut VdpState, mode: u8) {
 /// Draws a line of the picture.
 fn draw(vdp: &VdpState, y: u8, rgb: &mut [u8; 960]) {
     let scene = scene_of(vdp);
-    let mut a = [CLEAR; 320];
-    let mut b = [CLEAR; 320];
-    let mut sprites = [CLEAR; 320];
+    let mut a = [Dot::new(0, false); 320];
+    let mut b = [Dot::new(0, false); 320];
+    let mut sprites = [Dot::new(0, false); 320];
     let line = u32::from(y % 224);
     draw_plane(&scene, line, false, &mut a);
     draw_plane(&scene, line, true, &mut b);
@@ -178,7 +173,7 @@ fn the_narrow_picture_has_borders(rt: HostRuntime) -> Result<(), Fail> {
 
 /// A dot of plane A on a line.
 fn dot(vdp: &VdpState, line: u32, x: usize) -> Dot {
-    let mut a = [CLEAR; 320];
+    let mut a = [Dot::new(0, false); 320];
     draw_plane(&scene_of(vdp), line % 224, false, &mut a);
     a[x % 320]
 }
@@ -186,12 +181,12 @@ fn dot(vdp: &VdpState, line: u32, x: usize) -> Dot {
 fn is_scrolled(vdp: &VdpState) -> bool {
     let last = dot(vdp, 0, 7);
     [
-        dot(vdp, 0, 0).colour,
-        dot(vdp, 0, 1).colour,
-        dot(vdp, 0, 2).colour,
+        dot(vdp, 0, 0).colour(),
+        dot(vdp, 0, 1).colour(),
+        dot(vdp, 0, 2).colour(),
     ] == [26, 27, 28]
-        && last.colour == 47
-        && last.priority
+        && last.colour() == 47
+        && last.priority()
 }
 
 // A plane of 64 by 32 cells, scrolled by 511 to the right and by 1,023 up: the dot at (0, 0) is that
@@ -239,7 +234,7 @@ fn first_wrong_edge(vdp: &mut VdpState) -> Option<usize> {
     for (number, (across, down, y, x, palette)) in EDGES.into_iter().enumerate() {
         vdp.registers[WINDOW_ACROSS] = across;
         vdp.registers[WINDOW_DOWN] = down;
-        if dot(vdp, u32::from(y), x).colour / 16 != palette {
+        if dot(vdp, u32::from(y), x).colour() / 16 != palette {
             return Some(number);
         }
     }

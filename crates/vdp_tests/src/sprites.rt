@@ -5,11 +5,6 @@ use vdp_planes::{Dot, LineView, fill_view, mix_line, plane_line};
 use vdp_ports::VdpState;
 use vdp_sprites::sprite_line;
 
-const CLEAR: Dot = Dot {
-    colour: 0,
-    priority: false,
-};
-
 /// Puts sprite `number`, which is `further` cells wider than one, into the table at F000h, on line 0.
 fn put_sprite(vdp: &mut VdpState, number: u8, x: u16, further: u8, link: u8) {
     let at = 0xf000 + usize::from(number % 128) * 8;
@@ -65,7 +60,7 @@ fn blank_view(alloc: Global) -> Result<Box<LineView>, Fail> {
 fn are_opaque(dots: &[Dot; 320], first: usize, second: usize) -> bool {
     for (place, dot) in dots.iter().enumerate() {
         let opaque = place < first || place >= 200 && place < second;
-        if (dot.colour == 1) != opaque {
+        if (dot.colour() == 1) != opaque {
             return false;
         }
     }
@@ -78,7 +73,7 @@ const STRETCHES: [(u16, usize, usize); 2] = [(128 + 32, 160, 216), (0, 40, 200)]
 
 /// Whether line 0 has these stretches, too many sprites and two that meet.
 fn has_stretches(view: &LineView, first: usize, second: usize) -> bool {
-    let mut dots = [CLEAR; 320];
+    let mut dots = [Dot::new(0, false); 320];
     let note = sprite_line(view, 0, &mut dots);
     note.overflow && note.collision && are_opaque(&dots, first, second)
 }
@@ -106,9 +101,9 @@ fn a_line_has_its_limits(rt: HostRuntime) -> Result<(), Fail> {
 
 /// Bytes of the dots beside the ends of both stretches, as line 0 is drawn.
 fn drawn(view: &LineView) -> [u8; 5] {
-    let mut a = [CLEAR; 320];
-    let mut b = [CLEAR; 320];
-    let mut dots = [CLEAR; 320];
+    let mut a = [Dot::new(0, false); 320];
+    let mut b = [Dot::new(0, false); 320];
+    let mut dots = [Dot::new(0, false); 320];
     plane_line(view, 0, false, &mut a);
     plane_line(view, 0, true, &mut b);
     sprite_line(view, 0, &mut dots);

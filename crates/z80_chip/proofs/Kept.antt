@@ -24,11 +24,11 @@ after_sample image bytes old new value pins is ok kind same e =
     sound_at image new (begun image old pins) (e ∙ ap (λ (b : List ℕ). begun b old pins) same) (begun-ok (of image old) pins ok (samples old image value is kind))
 
 -- so is one that went ahead
-pub ahead_kept : (image bytes : List ℕ) (old new : State80) (value : Chip80Value) (pins : Pins80) (end : ℕ) → of image old ≡ value → IsChip80 (of image old)
-    → (next_of value.state).sample ≡ true → bytes ≡ image → WentAhead end bytes pins old new → IsChip80 (of image new)
-ahead_kept image bytes old new value pins end is ok kind same went =
-    let on : WentAhead end image pins old new = subst (λ (b : List ℕ). WentAhead end b pins old new) same went in
-    sound_at image new (begun_after on.samples image old pins) on.is (ahead-ok image old pins on.samples ok (samples old image value is kind) on.sample)
+pub ahead_kept : (image bytes : List ℕ) (old new : State80) (value : Chip80Value) (pins : Pins80) (n end : ℕ) → of image old ≡ value → IsChip80 (of image old)
+    → (next_of value.state).sample ≡ true → bytes ≡ image → WentAhead n end bytes pins old new → IsChip80 (of image new)
+ahead_kept image bytes old new value pins n end is ok kind same went =
+    let on : WentAhead n end image pins old new = subst (λ (b : List ℕ). WentAhead n end b pins old new) same went in
+    sound_at image new (begun_after n image old pins) on.is (ahead-ok image old pins n ok (samples old image value is kind) on.sample)
 
 pub after_answer : (image bytes : List ℕ) (old new : State80) (value : Chip80Value) (answer : Told) → of image old ≡ value → IsChip80 (of image old)
     → (next_of value.state).sample ≡ false → Fits (asked_of value.cart value.state) answer → bytes ≡ image → new ≡ answered bytes old answer → IsChip80 (of image new)

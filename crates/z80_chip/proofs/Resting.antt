@@ -84,14 +84,13 @@ module _ (cart : List ℕ) (state : State80) (pins : Pins80) (rest : is_rest (ca
   first-start = ap (λ (x : State80). x.start) first
 
   -- a Z80 that rests went ahead to the first sample that is not below a cycle
-  pub rested-ahead : (end : ℕ) (begun' after : State80) → begun' ≡ begun cart state pins → after ≡ waited begun' (step * steps_to begun'.start end) → WentAhead end cart pins state after
-  rested-ahead end begun' after first-is is = record {
-    samples = suc count;
+  pub rested-ahead : (end : ℕ) (begun' after : State80) → begun' ≡ begun cart state pins → after ≡ waited begun' (step * steps_to begun'.start end) → (n : ℕ) → n ≡ steps_to begun'.start end → WentAhead (1 + n) end cart pins state after
+  rested-ahead end begun' after first-is is n same = subst (λ m. WentAhead m end cart pins state after) (let e = same ∙ ap (λ (x : State80). steps_to x.start end) (first-is ∙ first) in omega (arith, e)) (record {
     some = omega arith;
     sample = sample;
     below = below;
     is = is ∙ ap (λ (x : State80). waited x (step * steps_to x.start end)) (first-is ∙ first) ∙ ap (at_sample reset) (omega arith) ∙ sym (all-rest count);
-  }
+  })
     where
       start : ℕ
       start = state.start + step
@@ -115,10 +114,9 @@ pub rested-late : (end start next : ℕ) → next ≡ start + step * steps_to st
 rested-late end start next is = let most = (div_ceil_times (end - start) step (omega arith)).0 in omega (arith, is, most)
 
 -- one sample alone
-pub one-ahead : (cart : List ℕ) (state : State80) (pins : Pins80) (end : ℕ) (after : State80) → after ≡ begun cart state pins → WentAhead end cart pins state after
+pub one-ahead : (cart : List ℕ) (state : State80) (pins : Pins80) (end : ℕ) (after : State80) → after ≡ begun cart state pins → WentAhead 1 end cart pins state after
 unfolding begun_after
 one-ahead cart state pins end after is = record {
-  samples = 1;
   some = omega arith;
   sample = λ k some most. absurd (omega arith);
   below = λ k some most. absurd (omega arith);

@@ -124,10 +124,9 @@ unfoldable pub begun_after : ℕ → List ℕ → State80 → Pins80 → State80
 begun_after zero cart state pins = state
 begun_after (suc n) cart state pins = begun cart (begun_after n cart state pins) pins
 
--- one sample or more of the same pins lead from one state to the other, where each but the first
--- lies below a cycle
-pub record WentAhead (cycle : ℕ) (cart : List ℕ) (pins : Pins80) (before after : State80) : Type 0 where
-  pub samples : ℕ
+-- so many samples of the same pins, at least one, lead from one state to the other, where each but the
+-- first lies below a cycle
+pub record WentAhead (samples cycle : ℕ) (cart : List ℕ) (pins : Pins80) (before after : State80) : Type 0 where
   pub some : 1 ≤ samples
   pub sample : (k : ℕ) → 1 ≤ k → k < samples → (begun_after k cart before pins).stage ≡ Sample
   pub below : (k : ℕ) → 1 ≤ k → k < samples → (begun_after k cart before pins).next < cycle

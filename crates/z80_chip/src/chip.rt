@@ -1,4 +1,4 @@
-ghost use Rattle.std.specs.Prelude.{◌≡◌, ◌^◌, ◌<◌, ◌≤◌, true, false, IfOk};
+ghost use Rattle.std.specs.Prelude.{◌≡◌, ◌+◌, ◌^◌, ◌<◌, ◌≤◌, ◌↔◌, true, false, IfOk, IsTrue};
 
 use crate::sequencer::Sequencer;
 use crate::stage::Stage;
@@ -110,16 +110,44 @@ impl Chip80 {
             .begin(&pins, &self.cart, &mut self.parcel, &mut self.progress);
     }
 
-    /// Takes the sample that is the next event, as `sample` does. Where the Z80 does nothing, since the
-    /// bus has its RAM or its reset is held, it takes all samples of these pins below cycle `end` too.
-    pub fn sample_ahead(&mut self, pins: Pins80, end: u64)
+    /// Takes the sample that is the next event, as `sample` does, and then all samples of these pins
+    /// below cycle `end`, up to the first access; answers how many that were.
+    pub fn sample_ahead(&mut self, pins: Pins80, end: u64) -> u64
         requires sampling { (next_of self.old.state).sample ≡ true }
         requires far { self.old.state.next < 2 ^ 50 }
         requires end { end ≤ 2 ^ 50 }
-        ensures state { WentAhead end self.old.cart pins self.old.state self.new.state }
+        ensures state { WentAhead result end self.old.cart pins self.old.state self.new.state }
         ensures all { is_rest (case_of self.old.state pins) ≡ true → end ≤ self.new.state.next }
         ensures cart { self.new.cart ≡ self.old.cart }
     {
-        self.sequencer.begin_ahead(&pins, end, &self.cart, &mut self.parcel, &mut self.progress);
+        let mut samples = self.rest_ahead(pins, end);
+        while self.samples_below(end) {
+            self.sample(pins);
+            samples += 1;
+        }
+        samples
+    }
+
+    /// Takes the sample that is the next event and, where the Z80 does nothing, all samples of these
+    /// pins below cycle `end` too; answers how many that were.
+    fn rest_ahead(&mut self, pins: Pins80, end: u64) -> u64
+        requires sampling { (next_of self.old.state).sample ≡ true }
+        requires far { self.old.state.next < 2 ^ 50 }
+        requires end { end ≤ 2 ^ 50 }
+        ensures state { WentAhead result end self.old.cart pins self.old.state self.new.state }
+        ensures few { result ≤ 2 ^ 50 + 1 }
+        ensures all { is_rest (case_of self.old.state pins) ≡ true → end ≤ self.new.state.next }
+        ensures cart { self.new.cart ≡ self.old.cart }
+    {
+        self.sequencer.begin_ahead(&pins, end, &self.cart, &mut self.parcel, &mut self.progress)
+    }
+
+    /// Whether the next event is a sample below a cycle.
+    #[tactic(auto, unfolding(crate::specs::States::next_of))]
+    fn samples_below(&self, end: u64) -> bool
+        ensures value { IsTrue result ↔ ((next_of self.now.state).sample ≡ true) × (self.now.state.next < end) }
+        ensures sound { IsChip80 self.now }
+    {
+        matches!(self.sequencer.stage, Stage::Sample) && self.sequencer.next < end
     }
 }

@@ -261,19 +261,22 @@ impl Sequencer {
         }
     }
 
-    /// Rests on, to the first sample at cycle `end` or later.
-    fn rest_to(&mut self, end: u64)
+    /// Rests on, to the first sample at cycle `end` or later; answers how many samples it passes over.
+    fn rest_to(&mut self, end: u64) -> u64
         requires start { self.old.start < 2 ^ 50 + 2 ^ 6 }
         requires end { end ≤ 2 ^ 50 }
-        ensures { (parcel : Option Held) → state_of self.new parcel
+        ensures steps { result ≡ events.steps_to self.old.start end }
+        ensures few { result ≤ 2 ^ 50 }
+        ensures state { (parcel : Option Held) → state_of self.new parcel
             ≡ events.waited (state_of self.old parcel) (events.step * events.steps_to self.old.start end) }
     {
         let steps = end.saturating_sub(self.start).div_ceil(STEP);
         self.wait(STEP * steps);
+        steps
     }
 
     /// Goes on from a sample with these pins; where the Z80 rests, from the samples below cycle `end`
-    /// after it too.
+    /// after it too. Answers how many samples it took.
     pub fn begin_ahead(
         &mut self,
         pins: &Pins80,
@@ -281,18 +284,20 @@ impl Sequencer {
         cart: &Cart,
         parcel: &mut Option<Parcel>,
         progress: &mut Progress80,
-    )
+    ) -> u64
         requires start { self.old.start < 2 ^ 50 }
         requires end { end ≤ 2 ^ 50 }
         requires answers { self.old.answers.items ≡ [] }
-        ensures state { WentAhead end cart.now pins.now (state_of self.old parcel.old) (state_of self.new parcel.new) }
+        ensures state { WentAhead result end cart.now pins.now (state_of self.old parcel.old) (state_of self.new parcel.new) }
+        ensures few { result ≤ 2 ^ 50 + 1 }
         ensures all { cases.is_rest (cases.case_of (state_of self.old parcel.old) pins.now) ≡ true → end ≤ self.new.next }
     {
         let rests = self.case_at(pins, parcel).is_rest();
         self.begin(pins, cart, parcel, progress);
         if rests {
-            self.rest_to(end);
+            return 1 + self.rest_to(end);
         }
+        1
     }
 
     /// The request of the access that is the next event. A yield hands over the RAM.

@@ -45,6 +45,17 @@ impl Chip80 {
         put_store(&self.parcel, into);
     }
 
+    /// Tells that the bytes of this Z80 are read again, where no event stands below a cycle and the rules hold
+    /// there.
+    pub fn is_read_again(&self)
+        ensures { (at : ℕ) → at ≤ self.now.state.next → HasRules self.now.cart at self.now.state → Spells self.now.cart at (chip_bytes self.now.state) self.now.state }
+    {
+        known_pairs(&self.sequencer.regs);
+        known_pointers(&self.sequencer.regs);
+        known_counts(&self.sequencer);
+        let _ = &self.parcel;
+    }
+
     /// The Z80 that the bytes of a saved state at a cycle keep, over its cartridge. Bytes that are
     /// neither 62 nor 8,256 are refused at the lesser of their number and 8,256, others at the place of
     /// the first field whose rule fails. An access and a yield without RAM, a take with it, and an

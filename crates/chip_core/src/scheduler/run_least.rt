@@ -101,6 +101,9 @@ impl<C: ChipSet> Core<C> {
         ensures room { self.new.room ≡ self.old.room }
         ensures core { IsCore C.rules C.chip_ok C.shared_ok self.new }
     {
+        if !C::next(&self.chips[chip as usize]).sample {
+            return;
+        }
         let end = self.limit(t, chip);
         let pins = self.pins_of(chip);
         while self.samples_below(chip, &end) {

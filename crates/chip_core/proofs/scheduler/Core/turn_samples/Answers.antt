@@ -27,8 +27,8 @@ inside g c = omega (arith, c.requires.chip, c.self.invariant.shape.chip_count)
 on : (g : Over) (c : goal.After-self-2-1 g) → SamplesOn g.C.ChipSet.rules c.args.end.now c.args.chip (seen g.C.ChipSet.rules (before g c)) (seen g.C.ChipSet.rules (now g c))
 on g c =
     samples-on g.C.ChipSet.rules (seen g.C.ChipSet.rules (before g c)) c.args.chip c.args.pins.now
-    (c.requires.pins ∙ ap (λ (v : CoreValue g.row.C-Chip.Denot g.row.C-Shared.Denot). g.C.ChipSet.rules.pins v.shared c.args.chip) (sym c.self.view_is)) c.args.end.now c.sample_ahead.new.chip (seen g.C.ChipSet.rules (now g c))
-    (subst (λ x. SamplesTo g.C.ChipSet.rules c.args.end.now c.args.pins.now x c.sample_ahead.new.chip)
+    (c.requires.pins ∙ ap (λ (v : CoreValue g.row.C-Chip.Denot g.row.C-Shared.Denot). g.C.ChipSet.rules.pins v.shared c.args.chip) (sym c.self.view_is)) c.sample_ahead.result c.args.end.now c.sample_ahead.new.chip (seen g.C.ChipSet.rules (now g c))
+    (subst (λ x. SamplesTo g.C.ChipSet.rules c.sample_ahead.result c.args.end.now c.args.pins.now x c.sample_ahead.new.chip)
     (get_or_read c.self.inside.chips.items c.args.chip c.index_mut-held.result.now (inside g c) c.index_mut-held.ensures.value g.C.ChipSet.rules.blank) c.sample_ahead.ensures)
     (chip-seen g.C.ChipSet.rules c.self.inside.shared c.self.inside.chips.items c.self.inside.bounds.items c.self.inside.journal.items (vec_capacity c.self.inside.journal) c.args.chip c.sample_ahead.new.chip c.next-next.result.key
     (inside g c) (omega (arith, c.requires.chip, c.self.invariant.shape.bound_count)) (ap (λ n. n.key) c.next-next.ensures.value))

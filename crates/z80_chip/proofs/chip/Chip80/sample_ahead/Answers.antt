@@ -1,10 +1,25 @@
-use Rattle.z80_chip.specs.States.{state_of}
-use Rattle.z80_chip.proofs.Kept.{ahead_kept, no_answers}
+use Rattle.std.proofs.Common.{ℕ, List, refl, ap, ◌∙◌, arith}
+use Rattle.z80_chip.specs.Events.{begun}
+use Rattle.z80_chip.specs.Sound.{Chip80Value}
+use Rattle.z80_chip.proofs.Ahead.{more-ahead}
+use Rattle.z80_chip.proofs.Laws.{begun-later}
 use Rattle.z80_chip.proofs.chip.Chip80.sample_ahead.Goals as goal
 
-pub begin_ahead-requires-clause-answers : goal.begin_ahead-requires-clause-answers
-begin_ahead-requires-clause-answers c = no_answers _ (state_of c.self.inside.sequencer c.self.inside.parcel) _ c.self.view_is c.self.invariant c.requires.sampling
+pub loop-pins-smaller : goal.loop-pins-smaller
+loop-pins-smaller c =
+    let test = c.loop-pins-test.ensures {u = tt} in
+    let later = begun-later c.loop-pins.self c.args.pins test.sound (test.value.0 refl).0 in
+    let next = ap (λ (v : Chip80Value). v.state.next) c.sample.ensures in
+    let low = (test.value.0 refl).1 in
+    omega (arith, later, next, low)
 
-pub invariant_of-self : goal.invariant_of-self
-invariant_of-self c =
-    ahead_kept _ c.deref.result.now (state_of c.self.inside.sequencer c.self.inside.parcel) _ _ c.args.pins c.args.end c.self.view_is c.self.invariant c.requires.sampling c.deref.ensures c.begin_ahead.ensures.state
+pub loop-pins-preserved : goal.loop-pins-preserved
+loop-pins-preserved c =
+    let test = c.loop-pins-test.ensures {u = tt} in
+    let found = test.value.0 refl in record {
+      led = more-ahead c.args.self.now.cart c.args.self.now.state c.args.pins c.args.end c.loop-pins.samples c.loop-pins.self.state c.sample.new.self.state c.loop-pins.invariant.led found.0 found.1
+          (ap (λ (v : Chip80Value). v.state) c.sample.ensures ∙ ap (λ (image : List ℕ). begun image c.loop-pins.self.state c.args.pins) c.loop-pins.invariant.cart);
+      all = λ rest. let late = c.loop-pins.invariant.all rest in let low = found.1 in absurd (omega (arith, late, low));
+      cart = ap (λ (v : Chip80Value). v.cart) c.sample.ensures ∙ c.loop-pins.invariant.cart;
+      few = (let later = begun-later c.loop-pins.self c.args.pins test.sound found.0 in let next = ap (λ (v : Chip80Value). v.state.next) c.sample.ensures in let before = c.loop-pins.invariant.few in omega (arith, later, next, before));
+    }

@@ -14,13 +14,13 @@ rest_to-requires-clause-start c =
 pub returns-then-rests-clause-state : goal.returns-then-rests-clause-state
 returns-then-rests-clause-state c =
     rested-ahead c.args.cart.now (state_of c.args.self.now c.args.parcel.now) c.args.pins.now (ap is_rest (sym c.case_at.ensures.value) ∙ sym c.is_rest-rests.ensures ∙ c.if-rests.true) c.args.end (state_of c.begin.new.self c.begin.new.parcel) (state_of c.rest_to.new.self c.begin.new.parcel)
-    c.begin.ensures (c.rest_to.ensures c.begin.new.parcel)
+    c.begin.ensures (c.rest_to.ensures.state c.begin.new.parcel) c.rest_to.result c.rest_to.ensures.steps
 
-pub returns-else-rests-clause-state : goal.returns-else-rests-clause-state
-returns-else-rests-clause-state c = one-ahead c.args.cart.now (state_of c.args.self.now c.args.parcel.now) c.args.pins.now c.args.end (state_of c.begin.new.self c.begin.new.parcel) c.begin.ensures
+pub returns-clause-state : goal.returns-clause-state
+returns-clause-state c = one-ahead c.args.cart.now (state_of c.args.self.now c.args.parcel.now) c.args.pins.now c.args.end (state_of c.begin.new.self c.begin.new.parcel) c.begin.ensures
 
 pub returns-then-rests-clause-all : goal.returns-then-rests-clause-all
-returns-then-rests-clause-all c rest = rested-late c.args.end c.begin.new.self.start c.rest_to.new.self.next (ap (λ (state : State80). state.next) (c.rest_to.ensures c.begin.new.parcel))
+returns-then-rests-clause-all c rest = rested-late c.args.end c.begin.new.self.start c.rest_to.new.self.next (ap (λ (state : State80). state.next) (c.rest_to.ensures.state c.begin.new.parcel))
 
-pub returns-else-rests-clause-all : goal.returns-else-rests-clause-all
-returns-else-rests-clause-all c rest = let wrong = sym c.if-rests.false ∙ c.is_rest-rests.ensures ∙ ap is_rest c.case_at.ensures.value ∙ rest in cc
+pub returns-clause-all : goal.returns-clause-all
+returns-clause-all c rest = let wrong = sym c.if-rests.false ∙ c.is_rest-rests.ensures ∙ ap is_rest c.case_at.ensures.value ∙ rest in cc

@@ -3,12 +3,13 @@ use Rattle.m68k_chip.specs.Events.{begun}
 use Rattle.m68k_chip.specs.Sound.{Chip68Value}
 use Rattle.m68k_chip.proofs.Ahead.{more-ahead, not-below, one-ahead}
 use Rattle.m68k_chip.proofs.Laws.{begun-later}
-use Rattle.m68k_chip.proofs.chip.Chip68.sample_ahead.Goals as goal
+use Rattle.m68k_chip.proofs.chip.Chip68.sample_each.Goals as goal
 
 pub loop-pins-init : goal.loop-pins-init
 loop-pins-init c = record {
   led = one-ahead c.args.self.now.cart c.args.self.now.state c.args.pins.level c.args.end c.sample.new.self.state (ap (λ (v : Chip68Value). v.state) c.sample.ensures);
   cart = ap (λ (v : Chip68Value). v.cart) c.sample.ensures;
+  few = omega arith;
 }
 
 pub loop-pins-smaller : goal.loop-pins-smaller
@@ -21,10 +22,11 @@ loop-pins-smaller c =
 
 pub loop-pins-preserved : goal.loop-pins-preserved
 loop-pins-preserved c =
-    let found = (c.loop-pins-test.ensures {u = tt}).value.0 refl in record {
-      led = more-ahead c.args.self.now.cart c.args.self.now.state c.args.pins.level c.args.end c.loop-pins.self.state c.sample-in-loop-pins.new.self.state c.loop-pins.invariant.led found.0 found.1
+    let test = c.loop-pins-test.ensures {u = tt} in let found = test.value.0 refl in record {
+      led = more-ahead c.args.self.now.cart c.args.self.now.state c.args.pins.level c.args.end c.loop-pins.samples c.loop-pins.self.state c.sample-in-loop-pins.new.self.state c.loop-pins.invariant.led found.0 found.1
           (ap (λ (v : Chip68Value). v.state) c.sample-in-loop-pins.ensures ∙ ap (λ (image : List ℕ). begun image c.loop-pins.self.state c.args.pins.level) c.loop-pins.invariant.cart);
       cart = ap (λ (v : Chip68Value). v.cart) c.sample-in-loop-pins.ensures ∙ c.loop-pins.invariant.cart;
+      few = (let later = begun-later c.loop-pins.self c.args.pins.level test.sound found.0 in let next = ap (λ (v : Chip68Value). v.state.next) c.sample-in-loop-pins.ensures in let before = c.loop-pins.invariant.few in omega (arith, later, next, before));
     }
 
 pub returns-clause-all : goal.returns-clause-all

@@ -1,12 +1,13 @@
-use Rattle.std.proofs.Common.{◌≡◌, ◌-◌}
+use Rattle.std.proofs.Common.{◌≡◌, ◌+◌, ◌-◌, ◌≤◌}
 use Rattle.m68k_chip.specs.Events.{WentAhead}
-use Rattle.m68k_chip.proofs.chip.Chip68.sample_ahead.Given as goal
+use Rattle.m68k_chip.proofs.chip.Chip68.sample_each.Given as goal
 
 -- samples led here, over the same cartridge
 abbrev pub invariant-loop-pins : goal.invariant-loop-pins
 invariant-loop-pins l = record {
-  led : WentAhead l.end l.fn.self.cart l.pins.level l.fn.self.state l.self.state;
+  led : WentAhead l.samples l.end l.fn.self.cart l.pins.level l.fn.self.state l.self.state;
   cart : l.self.cart ≡ l.fn.self.cart;
+  few : l.samples ≤ l.self.state.next + 1;
 }
 
 abbrev pub decreases-loop-pins : goal.decreases-loop-pins
