@@ -34,9 +34,8 @@ pub struct Dot {
 
 impl Model for Dot {
     ghost use Rattle.std.specs.Prelude.{ℕ, ◌<◌};
-    ghost use Rattle.std.proofs.Common.{ap};
+    ghost use Rattle.std.proofs.Common.{ap, arith};
     ghost use Rattle.vdp_planes.specs.Dots.{Dot as TheDot, dot_of, word_of};
-    ghost use Rattle.vdp_planes.proofs.Words.{word_again};
 
     ghost Value = { TheDot };
 
@@ -46,7 +45,7 @@ impl Model for Dot {
 
     ghost inverse = { λ d. record { word = word_of d } };
 
-    ghost inverse_ok = { λ d h. ap (λ (w : ℕ). record { word = w }) (word_again d.word h) };
+    ghost inverse_ok = { λ d h. ap (λ (w : ℕ). record { word = w }) (Prim.grind (arith, h)) };
 }
 
 impl Dot {
