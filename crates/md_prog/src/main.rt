@@ -4,10 +4,11 @@
 use md_outer::{FileDepot, FreeGate, OutSink, Sink};
 use md_top::drive;
 use std::process::ExitCode;
-use std::rt::Env;
-use std::{env, io};
+use std::rt::{Env, Files};
+use std::{env, fs, io};
 
 fn main(rt: HostRuntime) -> ExitCode {
+    let _standard = standard_streams(&rt);
     let alloc = rt.alloc();
     let mut out = OutSink::new(rt);
     let words = match words(&rt) {
@@ -21,6 +22,17 @@ fn main(rt: HostRuntime) -> ExitCode {
     };
     let mut depot = FileDepot::new(rt, alloc);
     ExitCode::from(drive(&rt, alloc, &words, &mut depot, &mut out, &FreeGate))
+}
+
+/// Sees to it that no file that is opened later takes the place of a standard stream that the program was
+/// started without: the three lowest numbers are taken while these are kept. What is put to such a stream
+/// fails.
+fn standard_streams<R: Files>(rt: &R) -> [io::Result<R::File>; 3] {
+    [
+        fs::open(rt, "/dev/null"),
+        fs::open(rt, "/dev/null"),
+        fs::open(rt, "/dev/null"),
+    ]
 }
 
 /// The words behind the program's name.
