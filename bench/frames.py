@@ -4,10 +4,12 @@ built.
 
     bench/frames.py [FRAMES [IMAGE]]
 
-It runs the cartridge IMAGE, or six if none is named, for FRAMES frames of 896,040 cycles, 600 if not
+It runs the cartridge IMAGE, or eight if none is named, for FRAMES frames of 896,040 cycles, 600 if not
 given, with one worker and with sound and journal: `idle` is a branch to itself, `mix` a loop of thirteen
-instructions that each frame has some 9,400 of, `scale`, `chord` and `show` are those of examples, and
-`transfer` moves 7,500 bytes into the VDP's memory in the vertical blanking of each frame. Frames are
+instructions that each frame has some 9,400 of, `scale`, `chord` and `show` are those of examples,
+`transfer` moves 7,500 bytes into the VDP's memory in the vertical blanking of each frame, `data` writes a
+word to the VDP's data port 5,818 times a frame, and in `busy` the Z80 writes the FM chip's converter 1,810
+times a frame, while the 68000 sleeps and writes 275 words in each vertical interrupt. Frames are
 drawn in each, and written in none. Then it runs `chord` for a tenth of them with 1, 2, 3 and 5 workers.
 The times are those of the clock on the wall, the program's start and the writing of its files included;
 the switches are those of all its threads, those that wait and those that are made to. Of `idle` and `mix`
@@ -66,6 +68,58 @@ at 200
     66f8                ; bne.b   $232
     60d2                ; bra.b   $20e
 """
+DATA = """at 000
+    00ff f000 0000 0200
+at 100
+    5345 4741
+at 200
+    43f9 00c0 0000      ; lea     $00c00000.l,a1    the VDP's data port
+    33fc 8f02 00c0 0004 ; move.w  #,$00c00004.l     increment 2
+    33fc 8144 00c0 0004 ; move.w  #,$00c00004.l     display on
+    23fc 4000 0000 00c0 0004 ; move.l #,$00c00004.l to VRAM at 0
+; at 220
+    3280                ; move.w  d0,(a1)           8 clocks
+    5240                ; addq.w  #1,d0             4
+    60fa                ; bra.b   $220              10
+"""
+BUSY = """at 000
+    00ff f000 0000 0200
+at 078
+    0000 0270           ; the vertical interrupt
+at 100
+    5345 4741
+at 200
+    43f9 00a1 1100      ; lea     $00a11100.l,a1    the request for the Z80's bus
+    33fc 0100 00a1 1200 ; move.w  #,$00a11200.l     release the Z80's reset
+    32bc 0100           ; move.w  #$0100,(a1)       request its bus
+; at 212: wait for the grant
+    0811 0000 66fa      ; btst #0,(a1); bne.b $212
+    41f9 00a0 0000      ; lea     $00a00000.l,a0    the Z80's RAM
+    45f9 0000 02c0      ; lea     $000002c0.l,a2    its program
+    700f                ; moveq   #15,d0
+; at 226
+    10da 51c8 fffc      ; move.b  (a2)+,(a0)+; dbf d0,$226
+    33fc 0000 00a1 1200 ; move.w  #,$00a11200.l     reset it
+    33fc 0100 00a1 1200 ; move.w  #,$00a11200.l
+    32bc 0000           ; move.w  #$0000,(a1)       and let it go
+    43f9 00c0 0000      ; lea     $00c00000.l,a1    the VDP's data port
+    33fc 8f02 00c0 0004 ; move.w  #,$00c00004.l     increment 2
+    33fc 8164 00c0 0004 ; move.w  #,$00c00004.l     display and vertical interrupt on
+    33fc 8c81 00c0 0004 ; move.w  #,$00c00004.l     320 dots
+; at 25e
+    4e72 2000 60fa      ; stop    #$2000; bra.b $25e
+at 270
+    23fc 4000 0000 00c0 0004 ; move.l #,$00c00004.l to VRAM at 0
+    323c 0112           ; move.w  #274,d1
+; at 27e
+    3280 5240 51c9 fffa ; move.w  d0,(a1); addq.w #1,d0; dbf d1,$27e
+    4e73                ; rte
+; the program of the Z80
+at 2c0
+    2100 4036 2a23      ; ld hl,$4000; ld (hl),$2a; inc hl     the converter's register
+    7781 0300 18fa      ; ld (hl),a; add a,c; inc bc; nop; jr *-4   33 clocks
+    0000 0000
+"""
 # how many moves a frame has: the 68000's, 19,912 of the Z80, 262 lines and twice 55.6 batches
 MOVES = {"idle": 12_801 + 20_285, "mix": 9_401 + 20_285}
 
@@ -123,10 +177,10 @@ def main():
             example: TOP / "examples" / example / f"{example}.src"
             for example in ("scale", "chord", "show")
         }
-        for cartridge, text in (("idle", IDLE), ("mix", MIX), ("transfer", TRANSFER)):
+        for cartridge, text in (("idle", IDLE), ("mix", MIX), ("transfer", TRANSFER), ("data", DATA), ("busy", BUSY)):
             sources[cartridge] = folder / f"{cartridge}.src"
             sources[cartridge].write_text(text)
-        for cartridge in ("idle", "mix", "scale", "chord", "transfer", "show"):
+        for cartridge in ("idle", "mix", "scale", "chord", "transfer", "data", "busy", "show"):
             image = folder / f"{cartridge}.bin"
             build(sources[cartridge], image)
             measure(cartridge, image, frames, folder)
