@@ -1,4 +1,4 @@
-use Rattle.std.proofs.Common.{◌≡◌, ℕ, ◌<◌, Bool, true, get_or}
+use Rattle.std.proofs.Common.{◌≡◌, ℕ, ◌<◌, true, get_or}
 use Rattle.page_ring.proofs.ring.differ.Given as goal
 
 abbrev pub invariant-loop-index : goal.invariant-loop-index
