@@ -54,6 +54,18 @@ fn obey(ring: &mut PageRing, letters: &[u8; 2]) -> bool
     }
 }
 
+/// Does all of it, one after another.
+fn obey_all(ring: &mut PageRing, done: &[&[u8; 2]]) -> bool
+    requires { ring.old.per_state ≡ 2 }
+    ensures { ring.new.per_state ≡ 2 }
+{
+    let mut is_right = true;
+    for letters in done {
+        is_right &= obey(ring, letters);
+    }
+    is_right
+}
+
 /// Whether the ring keeps exactly these states, the newest first.
 fn keeps(ring: &PageRing, states: &[&[u8; 2]]) -> bool
     requires { ring.now.per_state ≡ 2 }
@@ -73,10 +85,7 @@ fn keeps(ring: &PageRing, states: &[&[u8; 2]]) -> bool
 fn the_newest_that_fit_are_kept(rt: HostRuntime) -> Result<(), Fail> {
     for (pages, done, kept) in ROWS {
         let mut ring = PageRing::make(rt.alloc(), pages, 2)?;
-        let mut is_right = true;
-        for letters in done {
-            is_right &= obey(&mut ring, letters);
-        }
+        let is_right = obey_all(&mut ring, done);
         assert!(rt; is_right && keeps(&ring, kept));
     }
     Ok(())
