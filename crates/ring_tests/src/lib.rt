@@ -1,0 +1,5 @@
+//! Tests of kept states.
+#![tactic(auto)]
+
+#[cfg(test)]
+mod kept;
