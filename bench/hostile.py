@@ -209,6 +209,24 @@ def streams(folder):
         yield f"output {name}, the state", differs(size, expected.STATE_SIZE)
 
 
+def descriptors(folder):
+    """A run with standard input or the stream of errors closed, which it does not use."""
+    for number, name in ((0, "input"), (2, "errors")):
+        status, text = run(folder, *RUN, "--save", "t", preexec_fn=lambda: os.close(number))
+        fault = differs(status, 0) or ("" if text.startswith("cycles 0 to ") else f"the text {text!r}")
+        yield f"{name} closed", fault or differs((folder / "t").stat().st_size, expected.STATE_SIZE)
+
+
+def limited(folder):
+    """Outputs that come to the most bytes that a file may have."""
+    most = 100_000
+    for option in ("--frames", "--journal", "--save"):
+        bound = lambda: resource.setrlimit(resource.RLIMIT_FSIZE, (most, most))
+        found = run(folder, *RUN, option, "big", preexec_fn=bound)
+        fault = differs(found, (4, "fault: writing big\n"))
+        yield f"{option} past the limit of a file", fault or differs((folder / "big").stat().st_size, most)
+
+
 def read_some(path, count):
     """Reads a first part of a pipe and closes it."""
     with open(path, "rb", buffering=0) as pipe:
@@ -273,7 +291,7 @@ def stores(folder, step):
     """Stores and streams that fail."""
     save(folder, FRAME)
     folder.chmod(0o755)
-    for part in (inputs, outputs, streams, pipes, shrinking, spellings):
+    for part in (inputs, outputs, streams, descriptors, limited, pipes, shrinking, spellings):
         yield from part(folder)
 
 
