@@ -219,7 +219,7 @@ def descriptors(folder):
 
 def limited(folder):
     """Outputs that come to the most bytes that a file may have."""
-    most = 100_000
+    most = 40_000
     for option in ("--frames", "--journal", "--save"):
         bound = lambda: resource.setrlimit(resource.RLIMIT_FSIZE, (most, most))
         found = run(folder, *RUN, option, "big", preexec_fn=bound)

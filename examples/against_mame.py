@@ -11,7 +11,8 @@ played in both. Then are compared
   be one colour there in all pictures, and each colour there one here. MAME's frames may stand some frames
   earlier or later; the distance at which most are the same is found and printed. Pictures without
   partner at the beginning and the end are not counted.
-- the sound: the strongest tone of each half second, to 1 Hz and 0.3 of a hundred, or silence.
+- the sound: the strongest tone of each half second, to 1 Hz and 0.3 of a hundred, or silence. Of tones
+  that are nearly as strong as the strongest, at least 0.7 of it, either emulator may play any loudest.
 
 MAME is Debian's package `mame`; no other is needed. Its frames take 300 KB each in a temporary folder.
 The exit status is 0 where all is the same, 1 where something differs, 2 where something is missing.
@@ -37,7 +38,7 @@ PPM_HEAD, WIDTH, HEIGHT = 15, 320, 224
 FARTHEST = 4
 TRIED = range(40, 60)
 WINDOW = 16_384
-SILENCE = 20.0
+SILENCE, NEARLY = 20.0, 0.7
 # Each frame as it is done: width and height, four bytes each, and four bytes a dot, low byte first. The
 # words of the pads are set as the recording has them.
 SCRIPT = """
@@ -121,11 +122,13 @@ def dots_here(data, start, width):
     return zip(dots[0::3], dots[1::3], dots[2::3])
 
 
-def colours(here, start, there, other):
-    """The pairs of colours of a picture here and one there."""
-    width, height = struct.unpack_from("<II", there, other)
-    dots = there[other + 8 : other + 8 + 4 * width * height].cast("I")
-    return set(zip(dots_here(here, start, width), dots)) if height == HEIGHT else {(None, 0), (None, 1)}
+def colours(here, start, there, at):
+    """The pairs of colours of a picture here and one there, whose upper byte is no colour."""
+    width, height = struct.unpack_from("<II", there, at)
+    dots = there[at + 8 : at + 8 + 4 * width * height].cast("I")
+    if height != HEIGHT:
+        return {(None, 0), (None, 1)}
+    return {(dot, other & 0xFFFFFF) for dot, other in set(zip(dots_here(here, start, width), dots))}
 
 
 def is_one_to_one(pairs):
@@ -181,41 +184,60 @@ def transform(values):
     return [a + b for a, b in zip(even, turned)] + [a - b for a, b in zip(even, turned)]
 
 
-def strongest(samples, rate):
-    """The frequency of the strongest tone, or None of silence."""
+def spectrum(samples):
+    """How strong the frequencies are, each a step of rate / WINDOW behind the last, or None of silence."""
     mean = sum(samples) / len(samples)
     if max(abs(value - mean) for value in samples) < SILENCE:
         return None
     step = 2 * math.pi / len(samples)
     shaped = [(value - mean) * (1 - math.cos(step * k)) for k, value in enumerate(samples)]
     bins = transform(shaped + [0.0] * (WINDOW - len(shaped)))
-    size = [abs(value) + 1e-9 for value in bins[: WINDOW // 2]]
-    top = max(range(5, len(size) - 1), key=size.__getitem__)
-    low, mid, high = (math.log(size[top + k]) for k in (-1, 0, 1))
-    return (top + (low - high) / (2 * (low - 2 * mid + high))) * rate / WINDOW
+    return [abs(value) + 1e-9 for value in bins[: WINDOW // 2]]
+
+
+def tones(samples, rate):
+    """The frequencies of the tones that are nearly as strong as the strongest, which comes first."""
+    size = spectrum(samples)
+    if size is None:
+        return []
+    tops = [k for k in range(5, len(size) - 1) if size[k - 1] < size[k] >= size[k + 1]]
+    tops.sort(key=size.__getitem__, reverse=True)
+    found = []
+    for top in (k for k in tops if size[k] >= NEARLY * size[tops[0]]):
+        low, mid, high = (math.log(size[top + k]) for k in (-1, 0, 1))
+        found.append((top + (low - high) / (2 * (low - 2 * mid + high))) * rate / WINDOW)
+    return found
 
 
 def tones_of(path):
-    """The strongest tone of each half second."""
+    """The strongest tones of each half second."""
     rate, samples = samples_of(path)
     length = int(rate / 2)
-    return [strongest(samples[at : at + length], rate) for at in range(0, len(samples) - length + 1, length)]
+    return [tones(samples[at : at + length], rate) for at in range(0, len(samples) - length + 1, length)]
 
 
-def is_near(one, other):
-    if one is None or other is None:
-        return one is other
-    return abs(one - other) < 1 + 0.003 * one
+def is_among(tone, others):
+    return any(abs(tone - other) < 1 + 0.003 * tone for other in others)
+
+
+def are_same(here, there):
+    """Whether the strongest tone of each is among the strongest of the other, or both are silent."""
+    if not here or not there:
+        return here == there
+    return is_among(here[0], there) and is_among(there[0], here)
+
+
+def told(tones):
+    return "+".join(f"{tone:.1f}" for tone in sorted(tones)) or "silent"
 
 
 def compare_tones(here, there):
     """A line about the sound, and whether it is the same."""
     count = min(len(here), len(there))
-    wrong = [k for k in range(count) if not is_near(here[k], there[k])]
-    told = ["silent" if tone is None else f"{tone:.1f}" for tone in here[:count]]
-    line = f"{count - len(wrong)} of {count} half seconds the same: {' '.join(told)}"
+    wrong = [k for k in range(count) if not are_same(here[k], there[k])]
+    line = f"{count - len(wrong)} of {count} half seconds the same: {' '.join(map(told, here[:count]))}"
     for k in wrong:
-        line += f"; {k} is {there[k]} in MAME"
+        line += f"; {k} is {told(there[k])} in MAME"
     return line, not wrong
 
 
