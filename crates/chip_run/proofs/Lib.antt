@@ -9,3 +9,4 @@ pub mod Makes
 pub mod Places
 pub mod Rounds
 pub mod Settling
+pub mod Sweeps

@@ -223,7 +223,10 @@ module _ {Chip Shared Pins : Type 0} (rules : Rules Chip Shared Pins) where
   seen-by : (t i : ℕ) (l : LockedValue Shared) (hs : Places Chip Pins) (answer : Turn) (l2 : LockedValue Shared) (hs2 : Places Chip Pins) → l.parts.end ≡ t
       → (before after : HeldValue Chip Pins) → place hs i ≡ Some before → IsTurn rules i l.parts before answer l2.parts after → hs2 ≡ slice_set hs i (Some after) → IsSeenTurn rules t i hs answer hs2
   seen-by t i l hs Moved l2 hs2 end before after there is now = record { before = before; after = after; there = there; early = (let low = is.turn.early in omega (arith, end)); leased = 0; more = one-more i l.parts before l2.parts after is ∙ (let e : before.amount + 1 ≡ before.amount + 1 + 0 = omega arith in e); now = now }
-  seen-by t i l hs (Blocked other bound) l2 hs2 end before after there is now = now ∙ stays hs i before after there is.1.held
+  seen-by t i l hs (Blocked other bound) l2 hs2 end before after there is now = (
+    now ∙ stays hs i before after there is.1.held,
+    record { held = before; there = there; early = (let low = is.0.early in omega (arith, end)); looks = is.0.looked },
+  )
   seen-by t i l hs Finished l2 hs2 end before after there is now = (
     now ∙ stays hs i before after there is.1.held,
     subst (λ (o : Option (HeldValue Chip Pins)). IfSome o (λ h. t ≤ (rules.next h.chip).key.cycle)) (sym there) (let late = is.0 in omega (arith, end)),

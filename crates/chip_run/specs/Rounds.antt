@@ -1,9 +1,13 @@
 -- What a round does with the chips that a worker holds.
-use Rattle.std.specs.Prelude.{◌≡◌, Bool, true, false, ℕ, suc, ◌+◌, ◌<◌, ◌≤◌, Option, Some, None, IfSome, List, map, slice_set}
+use Rattle.std.specs.Prelude.{◌≡◌, ◌≢◌, Bool, true, false, ℕ, suc, ◌+◌, ◌<◌, ◌≤◌, Option, Some, None, IfSome, List, length, map, slice_set}
 use Rattle.std.specs.Option.{option_map}
+use Rattle.md_word.specs.Keys.{key_lt}
+use Rattle.md_word.specs.declared.key.Key.{Key}
 use Rattle.chip_core.specs.Chips.{Rules, RunsTo}
+use Rattle.chip_core.specs.Cores.{bound_in}
 use Rattle.chip_run.specs.Held.{HeldValue}
 use Rattle.chip_run.specs.Places.{AllFree, Places, place}
+use Rattle.chip_run.specs.Steps.{LooksAt}
 use Rattle.chip_run.specs.declared.round.Round.{Round}
 use Rattle.chip_run.specs.declared.round.Round.TheVariants as Rounds
 use Rattle.chip_run.specs.declared.held.Due.{Due}
@@ -35,6 +39,19 @@ module _ {Chip Pins : Type 0} where
   pub record Keeps (hs hs2 : Places Chip Pins) : Type 0 where
     pub same : occupied hs2 ≡ occupied hs
     pub free : AllFree hs2
+
+-- the bounds, one by one, are as they were
+abbrev pub AreUnchanged : List Key → List Key → Type 0
+AreUnchanged old new = (i : ℕ) → bound_in new i ≡ bound_in old i
+
+-- a bound changed
+abbrev pub IsChanged : List Key → List Key → Type 0
+IsChanged old new = (i : ℕ) × (bound_in new i ≢ bound_in old i)
+
+-- no bound changed but that of this number
+pub record KeepsOthers (i : ℕ) (old new : List Key) : Type 0 where
+  pub count : length new ≡ length old
+  pub others : (j : ℕ) → j ≢ i → bound_in new j ≡ bound_in old j
 
 module _ {Chip Shared Pins : Type 0} (rules : Rules Chip Shared Pins) where
   -- what the due work leaves of a held chip: after a sample all samples of the lease are made
@@ -68,16 +85,29 @@ module _ {Chip Shared Pins : Type 0} (rules : Rules Chip Shared Pins) where
     pub more : after.amount ≡ before.amount + 1 + leased
     pub now : hs2 ≡ slice_set hs i (Some after)
 
+  -- the event of the chip held at this number, which lies below the end, looks at the bound of the other
+  pub record Waits (t i : ℕ) (hs : Places Chip Pins) (other : ℕ) : Type 0 where
+    pub held : HeldValue Chip Pins
+    pub there : place hs i ≡ Some held
+    pub early : (rules.next held.chip).key.cycle < t
+    pub looks : LooksAt rules (rules.next held.chip) i other
+
+  -- of the held chips whose events lie below the end the one of least key waits for the other
+  pub record LeastWaits (t : ℕ) (hs : Places Chip Pins) (other : ℕ) : Type 0 where
+    pub chip : ℕ
+    pub waits : Waits t chip hs other
+    pub least : (i : ℕ) → IfSome (place hs i) (λ h. (rules.next h.chip).key.cycle < t → key_lt (rules.next h.chip).key (rules.next waits.held.chip).key ≡ false)
+
   -- what a section leaves of the held chips
   abbrev pub IsSeenTurn : ℕ → ℕ → Places Chip Pins → Turn → Places Chip Pins → Type 0
   IsSeenTurn t i hs Turns.Moved hs2 = Made t i hs hs2
-  IsSeenTurn t i hs (Turns.Blocked other bound) hs2 = hs2 ≡ hs
+  IsSeenTurn t i hs (Turns.Blocked other bound) hs2 = (hs2 ≡ hs) × Waits t i hs other
   IsSeenTurn t i hs Turns.Finished hs2 = (hs2 ≡ hs) × IsEndedAt t hs i
 
   -- what a sweep over them leaves
   abbrev pub IsSwept : ℕ → Places Chip Pins → Swept → Places Chip Pins → Type 0
   IsSwept t hs (Sweeps.Moved k) hs2 = Made t k hs hs2
-  IsSwept t hs (Sweeps.Blocked other) hs2 = hs2 ≡ hs
+  IsSwept t hs (Sweeps.Blocked other) hs2 = (hs2 ≡ hs) × LeastWaits t hs other
   IsSwept t hs Sweeps.Finished hs2 = (hs2 ≡ hs) × IsEnded t hs
 
   -- what the rounds up to an answer leave, but for the passes

@@ -126,7 +126,7 @@ impl<C: ChipSet, N: Named, L0: Ledger, L1: Ledger, L2: Ledger, L3: Ledger, L4: L
 
     /// The key of the next event of the chip of this number, if it is held.
     pub(crate) fn key(&self, chip: u8) -> Option<Key>
-        ensures { IsSome result ↔ IsSome (place self.now chip) }
+        ensures { result ≡ option_map (λ h. (C.rules.next h.chip).key) (place self.now chip) }
     {
         match chip {
             0 => key_of(&self.place0),
@@ -177,7 +177,7 @@ fn know_place<C: ChipSet, N: Named, L: Ledger>(held: &Option<Held<C, N, L>>)
 }
 
 fn key_of<C: ChipSet, N: Named, L: Ledger>(held: &Option<Held<C, N, L>>) -> Option<Key>
-    ensures { IsSome result ↔ IsSome held.now }
+    ensures { result ≡ option_map (λ h. (C.rules.next h.chip).key) held.now }
 {
     match held {
         Some(held) => Some(C::next(&held.chip).key),

@@ -1,6 +1,7 @@
-ghost use Rattle.std.specs.Prelude.{◌≡◌, ℕ, IsSome};
+ghost use Rattle.std.specs.Prelude.{◌≡◌, ◌≢◌, ◌⊎◌, ℕ, IfSome, IsSome, Some, true, false};
+ghost use Rattle.md_word.specs.Keys.{key_lt};
 ghost use Rattle.chip_run.specs.Places.{AllFree, IsFree};
-ghost use Rattle.chip_run.specs.Rounds.{IsSeenTurn, IsSwept};
+ghost use Rattle.chip_run.specs.Rounds.{AreUnchanged, IsChanged, IsSeenTurn, IsSwept, KeepsOthers};
 
 use crate::sections::section_on;
 use crate::{Helds, Locked, Named, Turn};
@@ -26,7 +27,12 @@ struct Waiting {
     other: u8,
 }
 
-fn lesser(found: Option<Waiting>, next: Waiting) -> Waiting {
+/// The one of lesser key.
+fn lesser(found: Option<Waiting>, next: Waiting) -> Waiting
+    ensures one { (result ≡ next) ⊎ (found ≡ Some result) }
+    ensures next { key_lt next.key result.key ≡ false }
+    ensures found { IfSome found (λ first. key_lt first.key result.key ≡ false) }
+{
     match found {
         Some(first) => if next.key.is_below(&first.key) {
             next
@@ -37,7 +43,17 @@ fn lesser(found: Option<Waiting>, next: Waiting) -> Waiting {
     }
 }
 
-/// A section, of which the held chips alone are seen.
+/// Notes whether a bound changed.
+fn note(changed: &mut bool, before: Option<Key>, after: Option<Key>)
+    ensures same { changed.new ≡ false → (changed.old ≡ false) × (after ≡ before) }
+    ensures differs { changed.new ≡ true → (changed.old ≡ true) ⊎ (after ≢ before) }
+{
+    if after != before {
+        *changed = true;
+    }
+}
+
+/// A section, of which the held chips and the bounds alone are seen.
 fn turn_of<C: ChipSet, N: Named, L0: Ledger, L1: Ledger, L2: Ledger, L3: Ledger, L4: Ledger>(
     locked: &mut Locked<C, N, L0, L1, L2, L3, L4>,
     helds: &mut Helds<C, N, L0, L1, L2, L3, L4>,
@@ -45,7 +61,8 @@ fn turn_of<C: ChipSet, N: Named, L0: Ledger, L1: Ledger, L2: Ledger, L3: Ledger,
 ) -> Turn
     requires held { IsFree helds.old chip }
     requires whole { (L0.parts ≡ 1) × (L1.parts ≡ 1) × (L2.parts ≡ 1) × (L3.parts ≡ 1) × (L4.parts ≡ 1) }
-    ensures { IsSeenTurn C.rules N.end chip helds.old result helds.new }
+    ensures turn { IsSeenTurn C.rules N.end chip helds.old result helds.new }
+    ensures bounds { KeepsOthers chip locked.old.parts.bounds locked.new.parts.bounds }
 {
     let _end = locked.end();
     section_on(locked, helds, chip)
@@ -53,7 +70,7 @@ fn turn_of<C: ChipSet, N: Named, L0: Ledger, L1: Ledger, L2: Ledger, L3: Ledger,
 
 /// Takes sections on all held chips, in the order of their numbers, until one moves.
 ///
-/// `changed` becomes true where a bound changed.
+/// `changed` becomes true exactly where a bound changed.
 fn sweep<C: ChipSet, N: Named, L0: Ledger, L1: Ledger, L2: Ledger, L3: Ledger, L4: Ledger>(
     locked: &mut Locked<C, N, L0, L1, L2, L3, L4>,
     helds: &mut Helds<C, N, L0, L1, L2, L3, L4>,
@@ -61,24 +78,27 @@ fn sweep<C: ChipSet, N: Named, L0: Ledger, L1: Ledger, L2: Ledger, L3: Ledger, L
 ) -> Swept
     requires free { AllFree helds.old }
     requires whole { (L0.parts ≡ 1) × (L1.parts ≡ 1) × (L2.parts ≡ 1) × (L3.parts ≡ 1) × (L4.parts ≡ 1) }
-    ensures { IsSwept C.rules N.end helds.old result helds.new }
+    ensures swept { IsSwept C.rules N.end helds.old result helds.new }
+    ensures unchanged { changed.new ≡ false → (changed.old ≡ false) × AreUnchanged locked.old.parts.bounds locked.new.parts.bounds }
+    ensures changed { changed.new ≡ true → (changed.old ≡ true) ⊎ IsChanged locked.old.parts.bounds locked.new.parts.bounds }
 {
     let mut waiting = None;
     for chip in 0..helds.places() {
-        if let Some(key) = helds.key(chip) {
-            let before = locked.bound(chip);
-            let turn = turn_of(locked, helds, chip);
-            if locked.bound(chip) != before {
-                *changed = true;
+        match helds.key(chip) {
+            Some(key) => {
+                let before = locked.bound(chip);
+                let turn = turn_of(locked, helds, chip);
+                note(changed, before, locked.bound(chip));
+                match turn {
+                    Turn::Moved => return Swept::Moved(chip),
+                    Turn::Blocked { other, bound: _ } => waiting = Some(lesser(
+                        waiting,
+                        Waiting { key, other },
+                    )),
+                    Turn::Finished => {}
+                }
             }
-            match turn {
-                Turn::Moved => return Swept::Moved(chip),
-                Turn::Blocked { other, bound: _ } => waiting = Some(lesser(
-                    waiting,
-                    Waiting { key, other },
-                )),
-                Turn::Finished => {}
-            }
+            None => {}
         }
     }
     match waiting {
@@ -103,7 +123,8 @@ pub(crate) fn look<
 ) -> Swept
     requires free { AllFree helds.old }
     requires whole { (L0.parts ≡ 1) × (L1.parts ≡ 1) × (L2.parts ≡ 1) × (L3.parts ≡ 1) × (L4.parts ≡ 1) }
-    ensures { IsSwept C.rules N.end helds.old result helds.new }
+    ensures swept { IsSwept C.rules N.end helds.old result helds.new }
+    ensures unchanged { changed.new ≡ false → (changed.old ≡ false) × AreUnchanged locked.old.parts.bounds locked.new.parts.bounds }
 {
     match sweep(locked, helds, changed) {
         Swept::Moved(chip) => return Swept::Moved(chip),
