@@ -1,5 +1,6 @@
 pub mod Appends
 pub mod Carts
+pub mod Demos
 pub mod Ends
 pub mod Fetched
 pub mod Heard

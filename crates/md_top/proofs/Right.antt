@@ -22,7 +22,7 @@ use Rattle.md_pads.proofs.Whole.{one_recording}
 pub not_below : (limit n : ℕ) → n ≤ limit → nat_lt limit n ≡ false
 not_below limit n within = grind (arith, nat_tests)
 
-is_below : (limit n : ℕ) → limit < n → nat_lt limit n ≡ true
+pub is_below : (limit n : ℕ) → limit < n → nat_lt limit n ≡ true
 is_below limit n above = grind (arith, nat_tests)
 
 -- BEHIND THE CARTRIDGE'S FILE
@@ -212,10 +212,10 @@ judged_inputs : (run : Run) (files : Files) (verdict : Verdict) (state : StateVe
 judged_inputs run files verdict state inputs are is judged =
     subst (λ (given : Inputs). IsLoadJudged run.load given files state) (sym (inputs_same run files verdict inputs are is)) judged
 
-is_behind : (end at : ℕ) → end ≤ at → nat_le end at ≡ true
+pub is_behind : (end at : ℕ) → end ≤ at → nat_le end at ≡ true
 is_behind end at behind = grind (arith, nat_tests)
 
-is_ahead : (end at : ℕ) → at < end → nat_le end at ≡ false
+pub is_ahead : (end at : ℕ) → at < end → nat_le end at ≡ false
 is_ahead end at ahead = grind (arith, nat_tests)
 
 right_run : (run : Run) (files : Files) (verdict : Verdict) (state : StateVerdict) (start : Start) → run.cycles ≤ last_cycle → Begins run files start

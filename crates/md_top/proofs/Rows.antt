@@ -12,9 +12,10 @@ use Rattle.md_top.specs.Loads.{IsStateJudged, Keeps, StateVerdict, StateWrongAt}
 use Rattle.md_top.specs.Runs.{pieces_of, pieces_until}
 use Rattle.md_top.specs.Endings.{HasCause, InfoEnds, LeavesFiles, RunEnds, RunFiles, accepted_ending, file_ending, loaded_ending, right_ending, status_of}
 use Rattle.md_top.specs.Outputs.{LeavesParts, Parts, Pieces, all_of, nothing, with_part, written}
-use Rattle.md_words.specs.Words.{Command, Info, Run, RunCart}
+use Rattle.md_words.specs.Words.{Command, Info, Run, RunCart, RunDemo}
 use Rattle.md_top.specs.declared.ending.Ending.{Ending}
-use Rattle.md_top.specs.declared.ending.Ending.TheVariants.{Shown, Done, Usage, TooFar, RecordingFault, RecordingTooLong, RecordingWrong, StateFault, StateTooLong, StateWrong, OtherCart, Behind, FramesFault, SoundFault, JournalFault, SaveFault, Unsaved, Memory}
+use Rattle.md_top.specs.declared.ending.Ending.TheVariants.{Shown, Done, DemoDone, Usage, TooFar, RecordingFault, RecordingTooLong, RecordingWrong, StateFault, StateTooLong, StateWrong, OtherCart, Behind, FramesFault, SoundFault, JournalFault, SaveFault, Unsaved, Memory}
+use Rattle.md_top.proofs.Demos.{demo_behind, demo_far, demo_far_only, demo_never, demo_right, right_demo_done}
 use Rattle.md_top.proofs.Right.{cart_right, recording_judged, recording_right, right_accepted, right_behind, right_behind_cart, right_done, right_far, right_load, right_near, state_judged}
 use Rattle.md_top.proofs.Statuses.{reported, of_ending, info_usage, run_usage, info_far, run_far, info_read_fault, run_read_fault, info_wrong, run_wrong, info_state, run_state, info_other, run_other, info_behind, run_behind, info_write_fault, run_write_fault, far_only}
 
@@ -188,7 +189,7 @@ causes_of told sink (Info rom) old new out out' status ending cause leaves repor
       usage = λ two. absurd (info_usage told rom old new ending cause (of_ending status (status_of ending) 2 by two (λ is. omega (arith, is))));
       refused = λ none. absurd (is_asked (Info rom) none);
       too_far = λ eleven. absurd (info_far told rom old new ending cause (of_ending status (status_of ending) 11 by eleven (λ is. omega (arith, is))));
-      far_refused = λ far. absurd far;
+      far_refused = λ far. absurd (omega (arith, far));
       read_fault = λ three. info_read_fault told rom old new ending cause (of_ending status (status_of ending) 3 by three (λ is. omega (arith, is)));
       wrong = λ six. absurd (info_wrong told rom old new ending cause (of_ending status (status_of ending) 6 by six (λ is. omega (arith, is))));
       state_wrong = λ seven. info_state told rom old new ending cause (of_ending status (status_of ending) 7 by seven (λ is. omega (arith, is)));
@@ -235,16 +236,43 @@ causes_of told sink (RunCart run) old new out out' status ending cause leaves re
           (right_done run old.files verdict state ready.1.0 ready.0.1 ready.1.2 begins is judged);
       others = λ t. leaves_other run old.files new.files ending (leaves t);
     }
+causes_of told sink (RunDemo demo) old new out out' status ending (same, ends) leaves reports =
+    let by = reported sink (Some (RunDemo demo)) ending out out' status reports in
+    let never = λ (n : ℕ) (is : status_of ending ≡ n) (some : 1 ≤ n) (few : n ≤ 8). demo_never demo ending n ends is some few in
+    record {
+      usage = λ two. absurd (never 2 (of_ending status (status_of ending) 2 by two (λ is. omega (arith, is))) (omega arith) (omega arith));
+      refused = λ none. absurd (is_asked (RunDemo demo) none);
+      too_far = λ eleven. demo_far demo ending ends (of_ending status (status_of ending) 11 by eleven (λ is. omega (arith, is)));
+      far_refused = λ far. demo_far_only sink demo out out' status ending ends reports far;
+      read_fault = λ three. absurd (never 3 (of_ending status (status_of ending) 3 by three (λ is. omega (arith, is))) (omega arith) (omega arith));
+      wrong = λ six. absurd (never 6 (of_ending status (status_of ending) 6 by six (λ is. omega (arith, is))) (omega arith) (omega arith));
+      state_wrong = λ seven. absurd (never 7 (of_ending status (status_of ending) 7 by seven (λ is. omega (arith, is))) (omega arith) (omega arith));
+      other_cart = λ eight. absurd (never 8 (of_ending status (status_of ending) 8 by eight (λ is. omega (arith, is))) (omega arith) (omega arith));
+      behind = λ nine. demo_behind demo ending ends (of_ending status (status_of ending) 9 by nine (λ is. omega (arith, is)));
+      write_fault = λ four. absurd (never 4 (of_ending status (status_of ending) 4 by four (λ is. omega (arith, is))) (omega arith) (omega arith));
+      out_fault = λ thirteen. out_fault status (status_of ending) by (not_out ending) thirteen;
+      exact = λ clean t verdict is state judged.
+          exact_is status (status_of ending) (status_of (right_ending (Some (RunDemo demo)) old.files verdict state)) by clean.puts
+          (demo_right demo old.files verdict state ending ends);
+      complete = λ clean t ready.
+          ready_ends status (status_of (right_ending (Some (RunDemo demo)) old.files (Recorded []) (StateWrongAt 0)))
+          (exact_is status (status_of ending) (status_of (right_ending (Some (RunDemo demo)) old.files (Recorded []) (StateWrongAt 0))) by clean.puts
+          (demo_right demo old.files (Recorded []) (StateWrongAt 0) ending ends))
+          (right_demo_done demo old.files (Recorded []) (StateWrongAt 0) ready);
+      others = λ t name no_frames no_sound no_journal no_save. ap (λ (files : Files). files name) (leaves t);
+    }
 
 -- where memory was wanting for the words
 memory_cause : (told : Type 0) (command : Option Command) (old : DepotState) → HasCause told command old old Memory
 memory_cause told None old = tt
 memory_cause told (Some (Info rom)) old = tt
 memory_cause told (Some (RunCart run)) old = tt
+memory_cause told (Some (RunDemo demo)) old = (refl, tt)
 
 memory_leaves : (command : Option Command) (files : Files) → LeavesFiles command files files Memory
 memory_leaves None files = refl
 memory_leaves (Some (Info rom)) files = refl
+memory_leaves (Some (RunDemo demo)) files = refl
 memory_leaves (Some (RunCart run)) files = record {
   parts = record { frames = None; sound = None; journal = None; state = None };
   frames = tt;

@@ -10,7 +10,7 @@ use Rattle.md_top.specs.Loads.{IsLoadFound, OfOther, StateWrongAt}
 use Rattle.md_top.specs.Endings.{InfoEnds, RunEnds, status_of, text_of}
 use Rattle.md_words.specs.Words.{Command, Info, Run, RunCart}
 use Rattle.md_top.specs.declared.ending.Ending.{Ending}
-use Rattle.md_top.specs.declared.ending.Ending.TheVariants.{Shown, Done, Usage, TooFar, ReadFault, RecordingFault, RecordingWrong, StateFault, StateWrong, OtherCart, Behind, FramesFault, SoundFault, JournalFault, SaveFault, Unsaved, Memory}
+use Rattle.md_top.specs.declared.ending.Ending.TheVariants.{Shown, Done, DemoDone, Usage, TooFar, ReadFault, RecordingFault, RecordingWrong, StateFault, StateWrong, OtherCart, Behind, FramesFault, SoundFault, JournalFault, SaveFault, Unsaved, Memory}
 
 -- the status is the ending's, but where the sink failed within an output
 pub put_output : (told : Type 0) (text : List ℕ) (out out' : SinkState) (status : ℕ) → PutsOutput told text out out' status
@@ -22,6 +22,7 @@ pub reported : (sink : Type 0) (command : Option Command) (ending : Ending) (out
     → (status ≡ status_of ending) ⊎ ((status ≡ 13) × Rose out.faults out'.faults)
 reported sink command (Shown lines) out out' status reports = put_output sink (text_of command (Shown lines)) out out' status reports
 reported sink command (Done from accesses halted) out out' status reports = put_output sink (text_of command (Done from accesses halted)) out out' status reports
+reported sink command (DemoDone summary) out out' status reports = put_output sink (text_of command (DemoDone summary)) out out' status reports
 reported sink command _ out out' status reports = inl reports.0
 
 -- a status other than 13 is the ending's
@@ -119,7 +120,7 @@ pub info_behind : (told : Type 0) (rom : List ℕ) (old new : DepotState) (endin
 info_behind told rom old new (Behind from) cause is = absurd cause
 info_behind told rom old new _ cause is = absurd (omega (arith, is))
 
-pub run_behind : (told : Type 0) (run : Run) (old new : DepotState) (ending : Ending) → RunEnds told run old new ending → status_of ending ≡ 9 → IsBehind told run old.files
+pub run_behind : (told : Type 0) (run : Run) (old new : DepotState) (ending : Ending) → RunEnds told run old new ending → status_of ending ≡ 9 → IsBehind told (RunCart run) old.files
 run_behind told run old new (Behind from) (near, behind, may, cause) is = (from, may, behind, cause)
 run_behind told run old new _ cause is = absurd (omega (arith, is))
 
@@ -142,6 +143,7 @@ pub far_only : (told sink : Type 0) (run : Run) (old new : DepotState) (out out'
     → RunEnds told run old new ending → Reports sink (Some (RunCart run)) ending out out' status → last_cycle < run.cycles → (status ≡ 11) ⊎ (status ≡ 10)
 far_only told sink run old new out out' status (Shown lines) cause reports far = absurd cause.1
 far_only told sink run old new out out' status (Done from accesses halted) cause reports far = absurd (omega (arith, cause.0.1))
+far_only told sink run old new out out' status (DemoDone summary) cause reports far = absurd cause.1
 far_only told sink run old new out out' status TooFar cause reports far = inl reports.0
 far_only told sink run old new out out' status FramesFault cause reports far = absurd (omega (arith, cause.0.1))
 far_only told sink run old new out out' status SoundFault cause reports far = absurd (omega (arith, cause.0.1))

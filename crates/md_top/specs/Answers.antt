@@ -6,10 +6,10 @@ use Rattle.md_top.specs.Inputs.{IsJudged, IsMissing, Verdict}
 use Rattle.md_top.specs.Limits.{last_cycle}
 use Rattle.md_top.specs.Loads.{Begins, IsLoadFound, IsStateJudged, MayBeginAt, OfOther, StateVerdict, StateWrongAt}
 use Rattle.md_machine.specs.Starts.{Start}
-use Rattle.md_words.specs.Words.{Command, Run, frames_name, journal_name, recording_name, run_in, save_name, sound_name}
+use Rattle.md_words.specs.Words.{Command, Info, RunCart, RunDemo, end_of, frames_name, journal_name, recording_name, run_in, save_name, sound_name}
 use Rattle.md_top.specs.Endings.{HasCause, IsReady, LeavesFiles, right_ending, status_of, text_of}
 use Rattle.md_top.specs.declared.ending.Ending.{Ending}
-use Rattle.md_top.specs.declared.ending.Ending.TheVariants.{Done, Shown}
+use Rattle.md_top.specs.declared.ending.Ending.TheVariants.{DemoDone, Done, Shown}
 
 -- the text was put, where the sink tells it
 pub record PutsAll (told : Type 0) (text : List ℕ) (old new : SinkState) : Type 0 where
@@ -29,6 +29,7 @@ PutsOutput told text old new status = ((status ≡ 0) × PutsAll told text old n
 abbrev pub Reports : Type 0 → Option Command → Ending → SinkState → SinkState → ℕ → Type 0
 Reports told command (Shown lines) old new status = PutsOutput told (text_of command (Shown lines)) old new status
 Reports told command (Done from accesses halted) old new status = PutsOutput told (text_of command (Done from accesses halted)) old new status
+Reports told command (DemoDone summary) old new status = PutsOutput told (text_of command (DemoDone summary)) old new status
 Reports told command ending old new status =
     (status ≡ status_of ending) × (PutsAll told (text_of command ending) old new ⊎ PutsPart told (text_of command ending) old new)
 
@@ -46,21 +47,23 @@ pub record NoFaults (old new : DepotState) (out out' : SinkState) : Type 0 where
   pub puts : ¬ Rose out.faults out'.faults
 
 -- the end of a run is not above the cycle at which it begins
-abbrev pub IsBehind : Type 0 → Run → Files → Type 0
-IsBehind told run files =
+abbrev pub IsBehind : Type 0 → Command → Files → Type 0
+IsBehind told (Info rom) files = ⊥
+IsBehind told (RunDemo demo) files = demo.cycles ≡ 0
+IsBehind told (RunCart run) files =
     (from : ℕ) × MayBeginAt run from × (run.cycles ≤ from) × (told → (start : Start) × Begins run files start × (from ≡ start.at))
 
 -- The same, answer by answer.
 pub record Causes (depot_told : Type 0) (command : Option Command) (old new : DepotState) (out out' : SinkState) (status : ℕ) : Type 0 where
   pub usage : status ≡ 2 → command ≡ None
   pub refused : command ≡ None → (status ≡ 2) ⊎ (status ≡ 10)
-  pub too_far : status ≡ 11 → IsSomeAnd (option_and_then run_in command) (λ run. last_cycle < run.cycles)
-  pub far_refused : IsSomeAnd (option_and_then run_in command) (λ run. last_cycle < run.cycles) → (status ≡ 11) ⊎ (status ≡ 10)
+  pub too_far : status ≡ 11 → IsSomeAnd command (λ asked. last_cycle < end_of asked)
+  pub far_refused : IsSomeAnd command (λ asked. last_cycle < end_of asked) → (status ≡ 11) ⊎ (status ≡ 10)
   pub read_fault : status ≡ 3 → Rose old.read_faults new.read_faults ⊎ (depot_told × IsSomeAnd command (λ asked. IsMissing asked old.files))
   pub wrong : status ≡ 6 → IsSomeAnd (option_and_then recording_name command) (λ name. depot_told → ¬ IsSpelled (bytes_of old.files name))
   pub state_wrong : status ≡ 7 → IsSomeAnd (option_and_then run_in command) (λ run. (place : ℕ) × IsLoadFound depot_told run old.files (StateWrongAt place))
   pub other_cart : status ≡ 8 → IsSomeAnd (option_and_then run_in command) (λ run. (kept : List ℕ) × (given : List ℕ) × IsLoadFound depot_told run old.files (OfOther kept given))
-  pub behind : status ≡ 9 → IsSomeAnd (option_and_then run_in command) (λ run. IsBehind depot_told run old.files)
+  pub behind : status ≡ 9 → IsSomeAnd command (λ asked. IsBehind depot_told asked old.files)
   pub write_fault : status ≡ 4 → Rose old.write_faults new.write_faults
   pub out_fault : status ≡ 13 → Rose out.faults out'.faults
   -- each refusal comes exactly where it should, in this order; want of memory may come between

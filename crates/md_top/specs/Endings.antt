@@ -8,21 +8,24 @@ use Rattle.hex.specs.Hex.{encode_lower}
 use Rattle.md_outer.specs.Outside.{DepotState, Files}
 use Rattle.md_pads.specs.Recording.{Frame}
 use Rattle.md_machine.specs.Starts.{Start}
+use Rattle.md_top.specs.Demos.{DemoEnds, demo_start, summary_from}
 use Rattle.md_top.specs.Inputs.{CartCause, InputCause, IsAccepted, Recorded, Verdict, WrongAt, cart_limit, cart_of, recording_limit, refusal_of}
 use Rattle.md_top.specs.Limits.{IsEnd, last_cycle}
 use Rattle.md_top.specs.Loads.{Begins, CanRun, Keeps, LoadCause, MayBeginAt, OfOther, StateVerdict, StateWrongAt, state_limit}
 use Rattle.md_top.specs.Heard.{IsHeard}
 use Rattle.md_top.specs.Runs.{entries_from, halted_from, pieces_of, pieces_until, powered_on}
 use Rattle.md_top.specs.Outputs.{Holds, IsUnwritten, LeavesParts, nothing}
-use Rattle.md_words.specs.Words.{Command, Info, Run, RunCart, end_of, frames_name, journal_name, load_name, recording_name, rom_of, save_name, sound_name}
+use Rattle.md_words.specs.Words.{Command, Demo, Info, Run, RunCart, RunDemo, end_of, frames_name, journal_name, load_name, recording_name, rom_of, save_name, sound_name}
+use Rattle.md_top.specs.declared.digests.Digests.{Digests}
 use Rattle.md_top.specs.declared.ending.Ending.{Ending}
 use Rattle.md_top.specs.declared.inputs.Inputs.{Inputs}
-use Rattle.md_top.specs.declared.ending.Ending.TheVariants.{Shown, Done, Usage, TooFar, ReadFault, TooLong, Short, NoMark, RecordingFault, RecordingTooLong, RecordingWrong, StateFault, StateTooLong, StateWrong, OtherCart, Behind, FramesFault, SoundFault, JournalFault, SaveFault, Unsaved, Memory}
+use Rattle.md_top.specs.declared.ending.Ending.TheVariants.{Shown, Done, DemoDone, Usage, TooFar, ReadFault, TooLong, Short, NoMark, RecordingFault, RecordingTooLong, RecordingWrong, StateFault, StateTooLong, StateWrong, OtherCart, Behind, FramesFault, SoundFault, JournalFault, SaveFault, Unsaved, Memory}
 
 -- the status that the program ends with
 abbrev pub status_of : Ending → ℕ
 status_of (Shown lines) = 0
 status_of (Done from accesses halted) = 0
+status_of (DemoDone summary) = 0
 status_of Usage = 2
 status_of ReadFault = 3
 status_of RecordingFault = 3
@@ -90,10 +93,21 @@ counts_of from end accesses =
 abbrev pub lines_of : ℕ → ℕ → ℕ → Option ℕ → List ℕ
 lines_of from end accesses halted = counts_of from end accesses ++ halted_line halted
 
+-- the line of a digest, in hexadecimal
+abbrev pub digest_line : List ℕ → List ℕ → List ℕ
+digest_line word digest = word ++ encode_lower digest ++ codes "\n"
+
+-- the lines of the digests of a run's outputs
+abbrev pub digest_lines : Digests → List ℕ
+digest_lines digests =
+    (digest_line (codes "frames sha256 ") digests.frames ++ digest_line (codes "samples sha256 ") digests.samples)
+    ++ digest_line (codes "journal sha256 ") digests.journal
+
 -- what is put: the output, or the one line of a refusal
 abbrev pub text_of : Option Command → Ending → List ℕ
 text_of (Some command) (Shown lines) = lines
 text_of (Some command) (Done from accesses halted) = lines_of from (end_of command) accesses halted
+text_of (Some command) (DemoDone summary) = lines_of 0 (end_of command) summary.accesses summary.halted ++ digest_lines summary.digests
 text_of (Some command) TooFar = codes "refused: cycle " ++ decimal (end_of command) ++ codes " is too far\n"
 text_of (Some command) ReadFault = codes "fault: reading " ++ rom_of command ++ codes "\n"
 text_of (Some command) TooLong = codes "refused: " ++ rom_of command ++ codes " is too long\n"
@@ -119,6 +133,7 @@ text_of command ending = codes "refused: usage\n"
 abbrev pub IsReady : Command → Files → Type 0
 IsReady (Info rom) files = IsAccepted (files rom)
 IsReady (RunCart run) files = IsEnd run.cycles × CanRun run files
+IsReady (RunDemo demo) files = IsEnd demo.cycles
 
 -- why a run from a start ends, once it has begun
 abbrev pub RunCause : Start → Run → DepotState → DepotState → Ending → Type 0
@@ -163,6 +178,7 @@ HasCause told None old new Memory = Unit {0}
 HasCause told None old new ending = ⊥
 HasCause told (Some (Info rom)) old new ending = InfoEnds told rom old new ending
 HasCause told (Some (RunCart run)) old new ending = RunEnds told run old new ending
+HasCause told (Some (RunDemo demo)) old new ending = (new ≡ old) × DemoEnds demo ending
 
 -- the outputs hold what the run from a start made below a cycle
 abbrev pub HoldsUntil : Start → Run → Files → Files → ℕ → Type 0
@@ -199,6 +215,7 @@ abbrev pub LeavesFiles : Option Command → Files → Files → Ending → Type 
 LeavesFiles None old new ending = new ≡ old
 LeavesFiles (Some (Info rom)) old new ending = new ≡ old
 LeavesFiles (Some (RunCart run)) old new ending = RunFiles run old new ending
+LeavesFiles (Some (RunDemo demo)) old new ending = new ≡ old
 
 -- The ending where neither a fault nor want of memory comes between: the refusals in their order.
 
@@ -254,6 +271,10 @@ accepted_ending run files verdict state =
     recorded_ending run.recording files verdict
     (λ recording. loaded_ending run.load files state (record { cart = cart_of run.rom files; recording = recording }) run.cycles)
 
+-- where a run of a demonstration cartridge begins
+abbrev pub demo_ending : Demo → Ending
+demo_ending demo = if nat_le demo.cycles 0 then Behind 0 else DemoDone (summary_from (demo_start demo.number) demo.cycles)
+
 -- what a command line comes to, with these files and these verdicts on the recording and on the saved
 -- state that it names
 abbrev pub right_ending : Option Command → Files → Verdict → StateVerdict → Ending
@@ -261,3 +282,4 @@ right_ending None files verdict state = Usage
 right_ending (Some (Info rom)) files verdict state = file_ending (files rom) (Shown (header_lines (cart_of rom files)))
 right_ending (Some (RunCart run)) files verdict state =
     if nat_lt last_cycle run.cycles then TooFar else file_ending (files run.rom) (accepted_ending run files verdict state)
+right_ending (Some (RunDemo demo)) files verdict state = if nat_lt last_cycle demo.cycles then TooFar else demo_ending demo

@@ -1,5 +1,6 @@
 pub mod Answers
 pub mod Courses
+pub mod Demos
 pub mod Endings
 pub mod Heard
 pub mod Inputs

@@ -1,3 +1,4 @@
+use crate::summary::Summary;
 use crate::text::Text;
 
 /// What a command line comes to.
@@ -14,6 +15,8 @@ pub(crate) enum Ending {
         /// Where the 68000 is halted, the start of what halted it.
         halted: Option<u64>,
     },
+    /// The run of a demonstration cartridge ended well.
+    DemoDone(Summary),
     /// The words ask for nothing that there is.
     Usage,
     /// The run's end lies behind the last cycle.

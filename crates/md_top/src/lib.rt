@@ -2,7 +2,10 @@
 #![tactic(auto)]
 
 mod course;
+mod demo;
+mod digests;
 mod ending;
+mod hashers;
 mod inputs;
 pub mod laws;
 mod loading;
@@ -12,10 +15,13 @@ mod perform;
 mod put;
 mod reading;
 mod report;
+mod report_demo;
 mod run_on;
 mod saving;
 mod segment;
+mod summary;
 mod text;
 mod top;
 
+pub use md_demo::demo_cart;
 pub use top::{drive, drive_one};

@@ -84,7 +84,7 @@ fn kept_machine(alloc: Global, bytes: &[u8], inputs: Inputs) -> Result<Machine, 
 }
 
 /// The machine of these inputs at power-on.
-fn power_on(alloc: Global, inputs: Inputs) -> Result<Machine, NoMemory>
+pub(crate) fn power_on(alloc: Global, inputs: Inputs) -> Result<Machine, NoMemory>
     ensures start { IfOk result (λ machine. start_at machine ≡ powered_on inputs) }
     ensures fresh { IfOk result IsFresh }
 {

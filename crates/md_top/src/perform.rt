@@ -3,6 +3,7 @@ ghost use Rattle.md_top.specs.Endings.{HasCause, InfoEnds, LeavesFiles, RunEnds,
 ghost use Rattle.md_top.specs.Workers.{CanGoOn, WentOn};
 ghost use Rattle.md_words.specs.Shown.{shown_command, shown_run};
 
+use crate::demo::run_demo;
 use crate::ending::Ending;
 use crate::loading::first_machine;
 use crate::reading::{read_cart, read_inputs};
@@ -16,7 +17,7 @@ use md_words::{CommandWords, RunWords};
 use std::alloc::Global;
 
 /// The last cycle to which a run may go.
-const LAST_CYCLE: u64 = 549_755_813_888;
+pub(crate) const LAST_CYCLE: u64 = 549_755_813_888;
 
 /// Does what the words ask for, up to what is to be put. `go_on` makes each segment of a run.
 pub(crate) fn perform<F: Fn(&mut Machine, u64), D: Depot>(
@@ -33,6 +34,7 @@ pub(crate) fn perform<F: Fn(&mut Machine, u64), D: Depot>(
     match command {
         CommandWords::Info(rom) => show_header(alloc, rom, depot),
         CommandWords::Run(run) => run_cart(alloc, go_on, run, depot),
+        CommandWords::Demo(demo) => run_demo(alloc, go_on, demo),
     }
 }
 

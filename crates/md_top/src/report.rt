@@ -8,6 +8,7 @@ ghost use Rattle.md_words.specs.Shown.{shown_command};
 
 use crate::ending::Ending;
 use crate::put::{put_three, put_two};
+use crate::report_demo::put_summary;
 use crate::run_on::{frames_between, pairs_between};
 use hex::encode_to_slice;
 use itoa::Buffer;
@@ -25,6 +26,7 @@ pub(crate) fn report<S: Sink>(command: &CommandWords<'_>, ending: Ending, out: &
             accesses,
             halted,
         } => status_of(put_lines(out, from, command.end(), accesses, halted)),
+        Ending::DemoDone(summary) => status_of(put_summary(out, command.end(), &summary)),
         Ending::Usage => refuse(out, 2, "refused: usage\n", "", ""),
         Ending::TooFar => refuse_cycle(out, 11, command.end(), " is too far\n"),
         Ending::ReadFault => refuse(out, 3, "fault: reading ", command.rom(), "\n"),
@@ -137,7 +139,7 @@ fn put_digest<S: Sink>(out: &mut S, digest: &[u8; 32]) -> Result<(), Failed>
 }
 
 /// A digest in hexadecimal.
-fn hexadecimal(digest: &[u8; 32]) -> [u8; 64]
+pub(crate) fn hexadecimal(digest: &[u8; 32]) -> [u8; 64]
     ensures { result ≡ encode_lower digest.now }
 {
     let mut digits = [0; 64];
@@ -164,7 +166,7 @@ fn refuse_file<S: Sink>(
 }
 
 /// Puts the lines of a run that ends well.
-fn put_lines<S: Sink>(
+pub(crate) fn put_lines<S: Sink>(
     out: &mut S,
     from: u64,
     end: u64,

@@ -114,7 +114,7 @@ fn append_head<D: Depot>(
 }
 
 /// Where the segment ends that begins at the cycle `at` of a run to `end`.
-fn segment_end(at: u64, end: u64) -> u64
+pub(crate) fn segment_end(at: u64, end: u64) -> u64
     requires { at ≤ last_cycle }
     ensures { result ≡ limits.segment_end at end }
 {

@@ -36,7 +36,7 @@ rom_wanted : (b : Bool) → (not b || false) ≡ true → b ≡ false
 rom_wanted true is = absurd (true≢false (sym is))
 rom_wanted false is = refl
 
-is_none : {X : Type 0} (o : Option X) → is_some o ≡ false → o ≡ None
+pub is_none : {X : Type 0} (o : Option X) → is_some o ≡ false → o ≡ None
 is_none None is = refl
 is_none (Some x) is = absurd (true≢false is)
 

@@ -1,6 +1,7 @@
 pub mod Alike
 pub mod Apart
 pub mod Commands
+pub mod Demos
 pub mod Digits
 pub mod Gives
 pub mod Lookups

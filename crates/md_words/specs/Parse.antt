@@ -4,7 +4,7 @@ use Rattle.std.specs.Prelude.{◌∷◌, [], List, Option, Some, None, true, fol
 use Rattle.clap.specs.Walk.{Row, Rule, Text, first_of, is_empty}
 use Rattle.clap.specs.Simple.{App, matches_of, new_app, new_rule, with_rule}
 use Rattle.clap.specs.Faults.{fault_of}
-use Rattle.md_words.specs.Words.{Run, info_by, run_by}
+use Rattle.md_words.specs.Words.{Demo, Run, demo_by, info_by, run_by}
 
 -- what a simple command makes of the words: the rows that it finds, or none where it refuses them
 abbrev pub parse_of : App → List Text → Option (List Row)
@@ -38,6 +38,12 @@ run_app =
     (required (positional (codes "rom")) ∷ required (option (codes "cycles")) ∷ option (codes "in") ∷ option (codes "load") ∷ option (codes "save") ∷ option (codes "frames") ∷ option (codes "sound")
     ∷ option (codes "journal") ∷ option (codes "workers") ∷ [])
 
+-- `demo NUMBER --cycles N --workers W`
+unfoldable pub demo_app : App
+demo_app =
+    fold with_rule (bare (codes "demo"))
+    (required (positional (codes "number")) ∷ required (option (codes "cycles")) ∷ required (option (codes "workers")) ∷ [])
+
 -- the value that was found for an argument
 abbrev pub found_by : List Row → Text → Option Text
 found_by rows name = first_of name rows
@@ -49,3 +55,7 @@ info_parsed words = option_and_then (λ rows. info_by (found_by rows)) (parse_of
 -- the run that the words behind `run` give
 abbrev pub run_parsed : List Text → Option Run
 run_parsed words = option_and_then (λ rows. run_by (found_by rows)) (parse_of run_app words)
+
+-- the run of a demonstration cartridge that the words behind `demo` give
+abbrev pub demo_parsed : List Text → Option Demo
+demo_parsed words = option_and_then (λ rows. demo_by (found_by rows)) (parse_of demo_app words)

@@ -1,9 +1,10 @@
 -- What the reader of the words found, as the definition's command.
 use Rattle.std.specs.Option.{option_copied}
 use Rattle.md_words.specs.Words as words
-use Rattle.md_words.specs.Words.{Command, Run, RunCart, Values}
+use Rattle.md_words.specs.Words.{Command, Demo, Run, RunCart, RunDemo, Values}
 use Rattle.md_words.specs.declared.command_words.CommandWords.{CommandWords}
 use Rattle.md_words.specs.declared.command_words.CommandWords.TheVariants as read
+use Rattle.md_words.specs.declared.demo_words.DemoWords.{DemoWords}
 use Rattle.md_words.specs.declared.run_values.RunValues.{RunValues}
 use Rattle.md_words.specs.declared.run_words.RunWords.{RunWords}
 
@@ -37,7 +38,12 @@ shown_values values =
       workers = option_copied values.workers;
     }
 
+-- the run of a demonstration cartridge that words were read as
+abbrev pub shown_demo : DemoWords → Demo
+shown_demo demo = record { number = demo.number; cycles = demo.cycles; workers = demo.workers }
+
 -- the command that words were read as
 abbrev pub shown_command : CommandWords → Command
 shown_command (read.Info rom) = words.Info rom.now
 shown_command (read.Run run) = RunCart (shown_run run)
+shown_command (read.Demo demo) = RunDemo (shown_demo demo)

@@ -22,60 +22,79 @@ pub record Run : Type 0 where
   pub journal : Option (List ℕ)
   pub workers : ℕ
 
--- what a command line asks for: the lines of a cartridge's header, by the cartridge's name, or a run
+-- a run of a demonstration cartridge from power-on: the cartridge's number, the cycle of the run's end,
+-- and how many workers make it
+pub record Demo : Type 0 where
+  pub number : ℕ
+  pub cycles : ℕ
+  pub workers : ℕ
+
+-- what a command line asks for: the lines of a cartridge's header, by the cartridge's name, a run, or a
+-- run of a demonstration cartridge
 pub data Command : Type 0 where
   Info : List ℕ → Command
   RunCart : Run → Command
+  RunDemo : Demo → Command
 
--- the name of the cartridge
+-- the name of the cartridge; a demonstration cartridge has none
 abbrev pub rom_of : Command → List ℕ
 rom_of (Info rom) = rom
 rom_of (RunCart run) = run.rom
+rom_of (RunDemo demo) = []
 
--- the run, if one is asked for
+-- the run of a cartridge that is named, if one is asked for
 abbrev pub run_in : Command → Option Run
 run_in (Info rom) = None
 run_in (RunCart run) = Some run
+run_in (RunDemo demo) = None
 
 -- the cycle of the run's end; 0 where none is asked for
 abbrev pub end_of : Command → ℕ
 end_of (Info rom) = 0
 end_of (RunCart run) = run.cycles
+end_of (RunDemo demo) = demo.cycles
 
 -- the name of the recording, if one is given
 abbrev pub recording_name : Command → Option (List ℕ)
 recording_name (Info rom) = None
 recording_name (RunCart run) = run.recording
+recording_name (RunDemo demo) = None
 
 -- the name of the saved state to go on from, if one is given
 abbrev pub load_name : Command → Option (List ℕ)
 load_name (Info rom) = None
 load_name (RunCart run) = run.load
+load_name (RunDemo demo) = None
 
 -- the name of the state to save, if it is asked for
 abbrev pub save_name : Command → Option (List ℕ)
 save_name (Info rom) = None
 save_name (RunCart run) = run.save
+save_name (RunDemo demo) = None
 
 -- the name of the frames file, if one is asked for
 abbrev pub frames_name : Command → Option (List ℕ)
 frames_name (Info rom) = None
 frames_name (RunCart run) = run.frames
+frames_name (RunDemo demo) = None
 
 -- the name of the sound file, if one is asked for
 abbrev pub sound_name : Command → Option (List ℕ)
 sound_name (Info rom) = None
 sound_name (RunCart run) = run.sound
+sound_name (RunDemo demo) = None
 
 -- the name of the journal, if one is asked for
 abbrev pub journal_name : Command → Option (List ℕ)
 journal_name (Info rom) = None
 journal_name (RunCart run) = run.journal
+journal_name (RunDemo demo) = None
 
 -- how many workers make it; 1 where none is asked for
 abbrev pub workers_in : Command → ℕ
 workers_in (Info rom) = 1
 workers_in (RunCart run) = run.workers
+workers_in (RunDemo demo) = demo.workers
 
 -- a word that can be a name: it is not empty and does not begin with a hyphen
 abbrev pub is_name : List ℕ → Bool
@@ -197,12 +216,39 @@ run_of_arguments = meant_by run_by
 abbrev pub run_of : List Text → Option Run
 run_of words = option_and_then run_of_arguments (given (codes "rom" ∷ []) run_options between words)
 
+-- the value of a number that has to be there
+abbrev pub wanted_number : Option Text → Option ℕ
+wanted_number word = option_and_then number_of word
+
+-- a number of workers that has to be there
+abbrev pub wanted_workers : Option Text → Option ℕ
+wanted_workers word = option_and_then some_workers (wanted_number word)
+
+-- the run of the demonstration cartridge of this number, with this cycle of its end and this number of
+-- workers
+abbrev pub demo_from : Option ℕ → Option ℕ → Option ℕ → Option Demo
+demo_from (Some number) (Some end) (Some workers) = Some (record { number = number; cycles = end; workers = workers })
+demo_from number end workers = None
+
+-- `demo` has a number, `--cycles N` and `--workers W`
+abbrev pub demo_given : Option Text → Option Text → Option Text → Option Demo
+demo_given number cycles workers = demo_from (wanted_number number) (wanted_number cycles) (wanted_workers workers)
+
+-- the run, by the names of the arguments
+abbrev pub demo_by : (Text → Option Text) → Option Demo
+demo_by value = demo_given (value (codes "number")) (value (codes "cycles")) (value (codes "workers"))
+
+-- the run that the words behind `demo` give
+abbrev pub demo_of : List Text → Option Demo
+demo_of words = option_and_then (meant_by demo_by) (given (codes "number" ∷ []) (codes "cycles" ∷ codes "workers" ∷ []) between words)
+
 -- the first word chooses the command
 unfoldable pub command_of : List Text → Option Command
 command_of [] = None
 command_of (command ∷ words) =
     if bytes_eq command (codes "info") then option_map Info (info_of words)
     else if bytes_eq command (codes "run") then option_map RunCart (run_of words)
+    else if bytes_eq command (codes "demo") then option_map RunDemo (demo_of words)
     else None
 
 -- the run but for the number of its workers

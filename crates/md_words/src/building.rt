@@ -30,6 +30,16 @@ pub(crate) fn run_command<'a>(alloc: Global) -> Result<Command<'a>, AllocError>
     Ok(workers)
 }
 
+/// The command `demo NUMBER --cycles N --workers W`, behind its word.
+pub(crate) fn demo_command<'a>(alloc: Global) -> Result<Command<'a>, AllocError>
+    ensures { IfOk result (λ command. app_of command ≡ meaning.demo_app) }
+{
+    let number = with_wanted_word(bare(alloc, "demo"), alloc, "number")?;
+    let cycles = with_wanted_option(number, alloc, "cycles")?;
+    let workers = with_wanted_option(cycles, alloc, "workers")?;
+    Ok(workers)
+}
+
 /// A command with no argument yet, which reads no program's name and has no help.
 fn bare<'a>(alloc: Global, name: &'a str) -> Command<'a>
     ensures { app_of result ≡ meaning.bare name.entry.now }

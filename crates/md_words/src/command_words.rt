@@ -3,6 +3,7 @@ ghost use Rattle.std.specs.Option.{option_copied};
 ghost use Rattle.md_words.specs.Shown.{shown_command};
 ghost use Rattle.md_words.specs.Words.{end_of, frames_name, journal_name, load_name, recording_name, rom_of, save_name, sound_name, workers_in};
 
+use crate::demo_words::DemoWords;
 use crate::run_words::RunWords;
 
 /// What the words of the command line ask for.
@@ -12,16 +13,19 @@ pub enum CommandWords<'a> {
     Info(&'a str),
     /// A run.
     Run(RunWords<'a>),
+    /// A run of a demonstration cartridge.
+    Demo(DemoWords),
 }
 
 impl<'a> CommandWords<'a> {
-    /// The cartridge's name.
+    /// The cartridge's name. A demonstration cartridge has none.
     pub fn rom(&self) -> &'a str
         ensures { result.now ≡ rom_of (shown_command self.now) }
     {
         match self {
             CommandWords::Info(rom) => rom,
             CommandWords::Run(run) => run.rom,
+            CommandWords::Demo(_) => "",
         }
     }
 
@@ -32,6 +36,7 @@ impl<'a> CommandWords<'a> {
         match self {
             CommandWords::Info(_) => 0,
             CommandWords::Run(run) => run.cycles,
+            CommandWords::Demo(demo) => demo.cycles,
         }
     }
 
@@ -40,7 +45,7 @@ impl<'a> CommandWords<'a> {
         ensures { option_copied result ≡ recording_name (shown_command self.now) }
     {
         match self {
-            CommandWords::Info(_) => None,
+            CommandWords::Info(_) | CommandWords::Demo(_) => None,
             CommandWords::Run(run) => run.recording,
         }
     }
@@ -50,7 +55,7 @@ impl<'a> CommandWords<'a> {
         ensures { option_copied result ≡ load_name (shown_command self.now) }
     {
         match self {
-            CommandWords::Info(_) => None,
+            CommandWords::Info(_) | CommandWords::Demo(_) => None,
             CommandWords::Run(run) => run.load,
         }
     }
@@ -60,7 +65,7 @@ impl<'a> CommandWords<'a> {
         ensures { option_copied result ≡ save_name (shown_command self.now) }
     {
         match self {
-            CommandWords::Info(_) => None,
+            CommandWords::Info(_) | CommandWords::Demo(_) => None,
             CommandWords::Run(run) => run.save,
         }
     }
@@ -70,7 +75,7 @@ impl<'a> CommandWords<'a> {
         ensures { option_copied result ≡ frames_name (shown_command self.now) }
     {
         match self {
-            CommandWords::Info(_) => None,
+            CommandWords::Info(_) | CommandWords::Demo(_) => None,
             CommandWords::Run(run) => run.frames,
         }
     }
@@ -80,7 +85,7 @@ impl<'a> CommandWords<'a> {
         ensures { option_copied result ≡ sound_name (shown_command self.now) }
     {
         match self {
-            CommandWords::Info(_) => None,
+            CommandWords::Info(_) | CommandWords::Demo(_) => None,
             CommandWords::Run(run) => run.sound,
         }
     }
@@ -90,7 +95,7 @@ impl<'a> CommandWords<'a> {
         ensures { option_copied result ≡ journal_name (shown_command self.now) }
     {
         match self {
-            CommandWords::Info(_) => None,
+            CommandWords::Info(_) | CommandWords::Demo(_) => None,
             CommandWords::Run(run) => run.journal,
         }
     }
@@ -104,6 +109,7 @@ impl<'a> CommandWords<'a> {
         match self {
             CommandWords::Info(_) => 1,
             CommandWords::Run(run) => run.workers,
+            CommandWords::Demo(demo) => demo.workers,
         }
     }
 }

@@ -8,6 +8,7 @@ ghost use Rattle.md_words.specs.Words as meaning;
 
 use crate::building::{info_command, run_command};
 use crate::command_words::CommandWords;
+use crate::demo_reading::read_demo;
 use crate::names::{have_names, is_name};
 use crate::numbers::{read_number, read_workers};
 use crate::parse::parse;
@@ -19,11 +20,12 @@ use std::alloc::{AllocError, Global};
 /// Reads the words of the command line, those behind the program's name; none: they ask for nothing
 /// that there is.
 ///
-/// They are `info ROM`, or `run ROM --cycles N` with `--in P`, `--load S`, `--save S`, `--frames F`,
-/// `--sound W`, `--journal J` and `--workers K` where they are wanted. Options stand in any order among
-/// the other words, each at most once, as two words or as `--name=value`; `--` ends the options. Names
-/// are not empty, do not begin with a hyphen, and are pairwise different. Numbers are 1 to 20 decimal
-/// digits with a value below 2^64; K is 1 to 5.
+/// They are `info ROM`, `run ROM --cycles N` with `--in P`, `--load S`, `--save S`, `--frames F`,
+/// `--sound W`, `--journal J` and `--workers K` where they are wanted, or
+/// `demo NUMBER --cycles N --workers W`. Options stand in any order among the other words, each at most
+/// once, as two words or as `--name=value`; `--` ends the options. Names are not empty, do not begin
+/// with a hyphen, and are pairwise different. Numbers are 1 to 20 decimal digits with a value below
+/// 2^64; K and W are 1 to 5.
 #[tactic(auto, unfolding(crate::specs::Words::command_of))]
 pub fn read_words<'a>(
     alloc: Global,
@@ -44,6 +46,13 @@ pub fn read_words<'a>(
     if command.as_str() == "run" {
         return match read_run(alloc, rest) {
             Ok(Some(run)) => Ok(Some(CommandWords::Run(run))),
+            Ok(None) => Ok(None),
+            Err(error) => Err(error),
+        };
+    }
+    if command.as_str() == "demo" {
+        return match read_demo(alloc, rest) {
+            Ok(Some(demo)) => Ok(Some(CommandWords::Demo(demo))),
             Ok(None) => Ok(None),
             Err(error) => Err(error),
         };
@@ -108,7 +117,7 @@ fn values_of<'a>(matches: &ArgMatches<'a>) -> RunValues<'a>
 }
 
 /// The value of an argument, if it has one.
-fn value<'a>(matches: &ArgMatches<'a>, name: &str) -> Option<&'a str>
+pub(crate) fn value<'a>(matches: &ArgMatches<'a>, name: &str) -> Option<&'a str>
     ensures { option_copied result ≡ found_by (rows_of (found_of matches.now)) name.now }
 {
     matches.get_str(name)
@@ -142,7 +151,7 @@ fn run_given<'a>(values: &RunValues<'a>) -> Option<RunWords<'a>>
 }
 
 /// A number that has to be there.
-fn count(word: Option<&str>) -> Option<u64>
+pub(crate) fn count(word: Option<&str>) -> Option<u64>
     ensures { result ≡ option_and_then meaning.number_of (option_copied word.entry) }
 {
     match word {

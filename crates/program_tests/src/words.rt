@@ -9,7 +9,8 @@ fn name_of(name: Option<&str>) -> &str {
 }
 
 /// What was read, as a text: the cartridge, and of a run its count and the names of the recording, of
-/// the frames file, of the sound file and of the journal, and how many workers make it.
+/// the frames file, of the sound file and of the journal, and how many workers make it; of a
+/// demonstration cartridge its number, the count and the workers.
 fn told(alloc: Global, read: Option<CommandWords<'_>>) -> Result<String, AllocError> {
     match read {
         None => String::from_str(alloc, "refused"),
@@ -24,13 +25,16 @@ fn told(alloc: Global, read: Option<CommandWords<'_>>) -> Result<String, AllocEr
             name_of(run.journal),
             run.workers
         ),
+        Some(CommandWords::Demo(demo)) => {
+            format!(in alloc; "{} {} {}", demo.number, demo.cycles, demo.workers)
+        }
     }
 }
 
 // Worked out by the rules: options in any order among the other words, each at most once, as two
 // words or with `=`; behind `--` no options; names that are not empty, begin with no hyphen and are
 // pairwise different; numbers of 1 to 20 digits below 2^64.
-static READ: [(&str, &str); 27] = [
+static READ: [(&str, &str); 31] = [
     ("info Z", "Z"),
     ("info -- Z", "Z"),
     ("info info", "info"),
@@ -73,9 +77,16 @@ static READ: [(&str, &str); 27] = [
         "run Z --cycles 4 --sound workers --workers 4",
         "Z 4 - - workers - 4",
     ),
+    ("demo 7 --cycles 5 --workers 2", "7 5 2"),
+    ("demo --workers=1 --cycles=5 -- 7", "7 5 1"),
+    ("demo --cycles 0 007 --workers 5", "7 0 5"),
+    (
+        "demo 18446744073709551615 --workers 3 --cycles 5",
+        "18446744073709551615 5 3",
+    ),
 ];
 
-static REFUSED: [&str; 80] = [
+static REFUSED: [&str; 90] = [
     "",
     "walk Z",
     "RUN Z --cycles 5",
@@ -156,6 +167,16 @@ static REFUSED: [&str; 80] = [
     "run Z --cycles 5 --worker 2",
     "run Z --workers 2",
     "info Z --workers 2",
+    "demo",
+    "demo 7 --cycles 5",
+    "demo 7 --workers 2",
+    "demo --cycles 5 --workers 2",
+    "demo 7 8 --cycles 5 --workers 2",
+    "demo 7 --cycles 5 --workers 6",
+    "demo 7 --cycles 5 --workers 0",
+    "demo seven --cycles 5 --workers 2",
+    "demo 18446744073709551616 --cycles 5 --workers 2",
+    "demo 7 --cycles 5 --workers 2 --sound W",
 ];
 
 /// What a text reads as.

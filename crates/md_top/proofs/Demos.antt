@@ -1,0 +1,119 @@
+-- The run of a demonstration cartridge: what its digests hold, and what a status tells of its ending.
+use Rattle.std.proofs.Common.{◌≡◌, ◌⊎◌, inl, inr, ℕ, ◌^◌, ◌<◌, ◌≤◌, List, [], ◌++◌, Bool, true, false, cond, Option, Some, refl, sym, ap, subst, ◌∙◌, arith}
+use Rattle.std.specs.Prelude.{nat_le}
+use Rattle.std.proofs.lemmas.Bool.Decides.{nat_tests}
+use Rattle.sha2.specs.Hashers.{Holds256}
+use Rattle.sha2.specs.Sha256.{sha256}
+use Rattle.md_outer.specs.Outside.{Files, SinkState}
+use Rattle.md_word.specs.declared.event.Entry.{Entry}
+use Rattle.md_machine.specs.Media.{Media}
+use Rattle.md_machine.specs.Outputs.{frames_bytes, journal_bytes, sound_bytes}
+use Rattle.md_machine.specs.Starts.{IsStart, Start}
+use Rattle.md_words.specs.Words.{Demo, RunDemo}
+use Rattle.md_top.specs.Answers.{Reports}
+use Rattle.md_top.specs.Demos.{DemoEnds, HaveUntil, demo_start, digests_from, summary_from}
+use Rattle.md_top.specs.Endings.{demo_ending, right_ending, status_of}
+use Rattle.md_top.specs.Inputs.{Verdict}
+use Rattle.md_top.specs.Limits.{IsEnd, last_cycle}
+use Rattle.md_top.specs.Loads.{StateVerdict}
+use Rattle.md_top.specs.Runs.{RunLaws, entries_from, media_from}
+use Rattle.md_top.specs.declared.digests.Digests.{Digests}
+use Rattle.md_top.specs.declared.ending.Ending.{Ending}
+use Rattle.md_top.specs.declared.ending.Ending.TheVariants.{Behind, DemoDone, Memory, TooFar}
+use Rattle.md_top.specs.declared.hashers.Hashers.{Hashers}
+use Rattle.md_top.proofs.Right.{is_ahead, is_below, is_behind, not_below}
+use Rattle.md_top.proofs.Segments.{no-entries, no-media}
+
+-- THE DIGESTS
+
+-- at the start nothing was made
+pub have-none : (start : Start) (hashers : Hashers) → IsStart start → RunLaws start → start.at ≤ 2 ^ 50
+    → Holds256 hashers.frames [] → Holds256 hashers.samples [] → Holds256 hashers.journal [] → HaveUntil start start.at hashers
+unfolding frames_bytes sound_bytes journal_bytes
+have-none start hashers is laws small frames samples journal = record {
+  frames = subst (λ (m : Media). Holds256 hashers.frames (frames_bytes m.frames)) (sym (no-media start is laws small)) frames;
+  samples = subst (λ (m : Media). Holds256 hashers.samples (sound_bytes m)) (sym (no-media start is laws small)) samples;
+  journal = subst (λ (l : List Entry). Holds256 hashers.journal (journal_bytes l)) (sym (no-entries start is laws small)) journal;
+}
+
+-- behind a segment
+pub have-more : (start : Start) (at to : ℕ) (old new : Hashers) (frames samples journal : List ℕ) → HaveUntil start at old
+    → ((bytes : List ℕ) → Holds256 old.frames bytes → Holds256 new.frames (bytes ++ frames))
+    → ((bytes : List ℕ) → Holds256 old.samples bytes → Holds256 new.samples (bytes ++ samples))
+    → ((bytes : List ℕ) → Holds256 old.journal bytes → Holds256 new.journal (bytes ++ journal))
+    → frames_bytes (media_from start to).frames ≡ frames_bytes (media_from start at).frames ++ frames
+    → sound_bytes (media_from start to) ≡ sound_bytes (media_from start at) ++ samples
+    → journal_bytes (entries_from start to) ≡ journal_bytes (entries_from start at) ++ journal → HaveUntil start to new
+have-more start at to old new frames samples journal have more_frames more_samples more_journal frames_are samples_are journal_is = record {
+  frames = subst (λ (l : List ℕ). Holds256 new.frames l) (sym frames_are) (more_frames (frames_bytes (media_from start at).frames) have.frames);
+  samples = subst (λ (l : List ℕ). Holds256 new.samples l) (sym samples_are) (more_samples (sound_bytes (media_from start at)) have.samples);
+  journal = subst (λ (l : List ℕ). Holds256 new.journal l) (sym journal_is) (more_journal (journal_bytes (entries_from start at)) have.journal);
+}
+
+-- the digests at the end
+pub digests-are : (start : Start) (end : ℕ) (digests : Digests) → digests.frames ≡ sha256 (frames_bytes (media_from start end).frames)
+    → digests.samples ≡ sha256 (sound_bytes (media_from start end)) → digests.journal ≡ sha256 (journal_bytes (entries_from start end))
+    → digests ≡ digests_from start end
+unfolding digests_from
+digests-are start end digests frames samples journal = λ i. record { frames = frames i; samples = samples i; journal = journal i }
+
+-- WHAT A STATUS TELLS
+
+-- no other status comes than 0, 9, 10 and 11
+pub demo_never : (demo : Demo) (ending : Ending) (n : ℕ) → DemoEnds demo ending → status_of ending ≡ n → 1 ≤ n → n ≤ 8 → ⊥
+demo_never demo (DemoDone summary) n ends is some few = omega (arith, is, some)
+demo_never demo (Behind from) n ends is some few = omega (arith, is, few)
+demo_never demo Memory n ends is some few = omega (arith, is, few)
+demo_never demo TooFar n ends is some few = omega (arith, is, few)
+demo_never demo _ n ends is some few = absurd ends
+
+pub demo_far : (demo : Demo) (ending : Ending) → DemoEnds demo ending → status_of ending ≡ 11 → last_cycle < demo.cycles
+demo_far demo TooFar ends is = ends
+demo_far demo _ ends is = absurd (omega (arith, is))
+
+pub demo_behind : (demo : Demo) (ending : Ending) → DemoEnds demo ending → status_of ending ≡ 9 → demo.cycles ≡ 0
+demo_behind demo (Behind from) ends is = ends.0
+demo_behind demo _ ends is = absurd (omega (arith, is))
+
+-- where the end is too far no other ending comes
+pub demo_far_only : (sink : Type 0) (demo : Demo) (out out' : SinkState) (status : ℕ) (ending : Ending) → DemoEnds demo ending
+    → Reports sink (Some (RunDemo demo)) ending out out' status → last_cycle < demo.cycles → (status ≡ 11) ⊎ (status ≡ 10)
+demo_far_only sink demo out out' status TooFar ends reports far = inl reports.0
+demo_far_only sink demo out out' status Memory ends reports far = inr reports.0
+demo_far_only sink demo out out' status (Behind from) ends reports far = absurd (omega (arith, ends.0, far))
+demo_far_only sink demo out out' status (DemoDone summary) ends reports far = absurd (omega (arith, ends.0.1, far))
+demo_far_only sink demo out out' status _ ends reports far = absurd ends
+
+-- WITHOUT A FAULT
+
+right_demo_far : (demo : Demo) (files : Files) (verdict : Verdict) (state : StateVerdict) → last_cycle < demo.cycles
+    → right_ending (Some (RunDemo demo)) files verdict state ≡ TooFar
+right_demo_far demo files verdict state far = ap (λ (b : Bool). cond b TooFar (demo_ending demo)) (is_below last_cycle demo.cycles far)
+
+right_demo_near : (demo : Demo) (files : Files) (verdict : Verdict) (state : StateVerdict) → demo.cycles ≤ last_cycle
+    → right_ending (Some (RunDemo demo)) files verdict state ≡ demo_ending demo
+right_demo_near demo files verdict state near = ap (λ (b : Bool). cond b TooFar (demo_ending demo)) (not_below last_cycle demo.cycles near)
+
+demo_ending_behind : (demo : Demo) → demo.cycles ≤ 0 → demo_ending demo ≡ Behind 0
+demo_ending_behind demo none =
+    ap (λ (b : Bool). cond b (Behind 0) (DemoDone (summary_from (demo_start demo.number) demo.cycles))) (is_behind demo.cycles 0 none)
+
+demo_ending_done : (demo : Demo) → 0 < demo.cycles → demo_ending demo ≡ DemoDone (summary_from (demo_start demo.number) demo.cycles)
+demo_ending_done demo some =
+    ap (λ (b : Bool). cond b (Behind 0) (DemoDone (summary_from (demo_start demo.number) demo.cycles))) (is_ahead demo.cycles 0 some)
+
+-- a run with an end within the limits ends well
+pub right_demo_done : (demo : Demo) (files : Files) (verdict : Verdict) (state : StateVerdict) → IsEnd demo.cycles
+    → status_of (right_ending (Some (RunDemo demo)) files verdict state) ≡ 0
+right_demo_done demo files verdict state end =
+    ap status_of (right_demo_near demo files verdict state end.1 ∙ demo_ending_done demo (omega (arith, end.0)))
+
+-- the ending is the right one, or memory is wanting
+pub demo_right : (demo : Demo) (files : Files) (verdict : Verdict) (state : StateVerdict) (ending : Ending) → DemoEnds demo ending
+    → (status_of ending ≡ status_of (right_ending (Some (RunDemo demo)) files verdict state)) ⊎ (status_of ending ≡ 10)
+demo_right demo files verdict state TooFar ends = inl (sym (ap status_of (right_demo_far demo files verdict state ends)))
+demo_right demo files verdict state Memory ends = inr refl
+demo_right demo files verdict state (Behind from) ends =
+    inl (sym (ap status_of (right_demo_near demo files verdict state (omega (arith, ends.0)) ∙ demo_ending_behind demo (omega (arith, ends.0)))))
+demo_right demo files verdict state (DemoDone summary) ends = inl (sym (right_demo_done demo files verdict state ends.0))
+demo_right demo files verdict state _ ends = absurd ends

@@ -1,0 +1,53 @@
+use Rattle.std.proofs.Common.{rules, ◌≡◌, ℕ, length, ap, subst, ◌∙◌, arith}
+use Rattle.md_machine.specs.Outputs.{frames_bytes, journal_bytes, sound_bytes}
+use Rattle.md_machine.specs.Starts.{Start}
+use Rattle.md_top.specs.Courses.{cycle_of, start_in}
+use Rattle.md_top.specs.Demos.{HaveUntil, digests_from}
+use Rattle.md_top.specs.Heard.{HearsWrites}
+use Rattle.md_top.specs.Runs.{entries_from, halted_from, media_from}
+use Rattle.md_top.proofs.Demos.{digests-are, have-none}
+use Rattle.md_top.proofs.Segments.{halted-found}
+use Rattle.md_top.proofs.demo.sum_up.Goals as goal
+
+pub segments-init : goal.segments-init
+segments-init g c = (
+  omega (arith, c.requires.before),
+  c.requires.start,
+  have-none (start_in c.args.course) c.new-hashers.result c.requires.start.from c.requires.start.laws (omega (arith, c.requires.before, c.requires.end.1))
+      c.new-hashers.ensures.frames c.new-hashers.ensures.samples c.new-hashers.ensures.journal,
+)
+
+pub sum_segment-requires-clause-underway : goal.sum_segment-requires-clause-underway
+sum_segment-requires-clause-underway g c = (start_in c.args.course, c.segments.invariant.1)
+
+pub segments-preserved : goal.segments-preserved
+segments-preserved g c = (
+  search rules,
+  c.sum_segment.ensures.underway (start_in c.args.course) c.segments.invariant.1,
+  c.sum_segment.ensures.taken (start_in c.args.course) c.segments.invariant.1 c.segments.invariant.2,
+)
+
+pub returns : goal.returns
+returns g c =
+    let course = c.segments.course in
+    let start : Start = start_in c.args.course in
+    let at : cycle_of course ≡ c.args.end = omega (arith, c.segments.invariant.0, c.segments-test.false, c.at.ensures) in
+    let small = c.requires.end.1 in
+    let have : HaveUntil start c.args.end c.segments.hashers = subst (λ (n : ℕ). HaveUntil start n c.segments.hashers) at c.segments.invariant.2 in
+    let accesses : course.accesses ≡ length (entries_from start c.args.end) =
+    c.segments.invariant.1.counted ∙ ap (λ (n : ℕ). length (entries_from start n)) at in
+    let halted : c.halted.result ≡ halted_from start c.args.end =
+    (rw c.main_chip.ensures at c.halted.ensures)
+    ∙ halted-found start course.machine course.accesses c.segments.invariant.1 (omega (arith, at, small))
+    ∙ ap (λ (n : ℕ). halted_from start n) at in
+    let digests : c.digests.result ≡ digests_from start c.args.end =
+    digests-are start c.args.end c.digests.result
+    (c.digests.ensures.frames (frames_bytes (media_from start c.args.end).frames) have.frames)
+    (c.digests.ensures.samples (sound_bytes (media_from start c.args.end)) have.samples)
+    (c.digests.ensures.journal (journal_bytes (entries_from start c.args.end)) have.journal) in
+    record {
+      is = λ i. record { accesses = accesses i; halted = halted i; digests = digests i };
+      heard = λ inputs same. subst (λ (n : ℕ). HearsWrites n (entries_from start n) (media_from start n)) at
+          (c.segments.invariant.1.heard inputs course.machine.console (cycle_of course) (entries_from start (cycle_of course))
+          (media_from start (cycle_of course)) same (omega (arith, at, small)) c.segments.invariant.1.run);
+    }

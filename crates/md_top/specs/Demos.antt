@@ -1,0 +1,54 @@
+-- The run of a demonstration cartridge: where it begins, what is told of it, and why it ends.
+use Rattle.std.specs.Prelude.{◌≡◌, ℕ, ◌<◌, [], length, Option, Some, None}
+use Rattle.sha2.specs.Hashers.{Holds256}
+use Rattle.sha2.specs.Sha256.{sha256}
+use Rattle.md_demo.specs.Demo.{demo_cart}
+use Rattle.md_machine.specs.Outputs.{frames_bytes, journal_bytes, sound_bytes}
+use Rattle.md_machine.specs.Starts.{Start}
+use Rattle.md_words.specs.Words.{Demo}
+use Rattle.md_top.specs.Heard.{IsHeard}
+use Rattle.md_top.specs.Limits.{IsEnd, last_cycle}
+use Rattle.md_top.specs.Runs.{entries_from, halted_from, media_from, powered_on}
+use Rattle.md_top.specs.declared.digests.Digests.{Digests}
+use Rattle.md_top.specs.declared.ending.Ending.{Ending}
+use Rattle.md_top.specs.declared.ending.Ending.TheVariants.{Behind, DemoDone, Memory, TooFar}
+use Rattle.md_top.specs.declared.hashers.Hashers.{Hashers}
+use Rattle.md_top.specs.declared.summary.Summary.{Summary}
+
+-- it begins at power-on, with its cartridge and nothing pressed on the pads
+abbrev pub demo_start : ℕ → Start
+demo_start number = powered_on (record { cart = demo_cart number; recording = [] })
+
+-- the digests of a run from a start to a cycle: of its frames, each with its head, of its pairs of
+-- samples, and of the records of its journal
+unfoldable pub digests_from : Start → ℕ → Digests
+digests_from start end =
+    record {
+      frames = sha256 (frames_bytes (media_from start end).frames);
+      samples = sha256 (sound_bytes (media_from start end));
+      journal = sha256 (journal_bytes (entries_from start end));
+    }
+
+-- what is told of a run from a start to a cycle
+abbrev pub summary_from : Start → ℕ → Summary
+summary_from start end =
+    record { accesses = length (entries_from start end); halted = halted_from start end; digests = digests_from start end }
+
+-- this is told of a run, which is heard
+pub record IsSummary (start : Start) (end : ℕ) (summary : Summary) : Type 0 where
+  pub is : summary ≡ summary_from start end
+  pub heard : IsHeard start end
+
+-- digests on their way have what a run from a start made below a cycle
+pub record HaveUntil (start : Start) (at : ℕ) (hashers : Hashers) : Type 0 where
+  pub frames : Holds256 hashers.frames (frames_bytes (media_from start at).frames)
+  pub samples : Holds256 hashers.samples (sound_bytes (media_from start at))
+  pub journal : Holds256 hashers.journal (journal_bytes (entries_from start at))
+
+-- why the run of a demonstration cartridge ends
+abbrev pub DemoEnds : Demo → Ending → Type 0
+DemoEnds demo Memory = Unit {0}
+DemoEnds demo TooFar = last_cycle < demo.cycles
+DemoEnds demo (Behind from) = (demo.cycles ≡ 0) × (from ≡ 0)
+DemoEnds demo (DemoDone summary) = IsEnd demo.cycles × IsSummary (demo_start demo.number) demo.cycles summary
+DemoEnds demo ending = ⊥

@@ -1,0 +1,122 @@
+ghost use Rattle.std.specs.Prelude.{◌≡◌, ℕ, ◌<◌, IfOk};
+ghost use Rattle.md_machine.specs.Starts.{Start};
+ghost use Rattle.md_top.specs.Courses.{CameFrom, IsAtStart, IsFresh, IsUnderway, cycle_of, start_at, start_in};
+ghost use Rattle.md_top.specs.Demos.{DemoEnds, HaveUntil, IsSummary, demo_start};
+ghost use Rattle.md_top.specs.Limits.{IsEnd};
+ghost use Rattle.md_top.specs.Limits as limits;
+ghost use Rattle.md_top.specs.Workers.{CanGoOn, WentOn};
+ghost use Rattle.md_words.specs.Shown.{shown_demo};
+ghost use Rattle.md_demo.specs.Demo as meaning;
+
+use crate::course::Course;
+use crate::ending::Ending;
+use crate::hashers::Hashers;
+use crate::inputs::Inputs;
+use crate::loading::power_on;
+use crate::perform::LAST_CYCLE;
+use crate::run_on::segment_end;
+use crate::segment::{advance, begin};
+use crate::summary::Summary;
+use md_demo::demo_cart;
+use md_machine::Machine;
+use md_pads::Recording;
+use md_word::NoMemory;
+use md_words::DemoWords;
+use rom_header::Cart;
+use std::alloc::Global;
+
+/// Runs the demonstration cartridge that the words ask for, from power-on and with nothing pressed on
+/// the pads, and sums up what it makes. `go_on` makes each segment.
+pub(crate) fn run_demo<F: Fn(&mut Machine, u64)>(
+    alloc: Global,
+    go_on: &F,
+    demo: &DemoWords,
+) -> Ending
+    requires may { (m : _) (to : ℕ) → CanGoOn m.now to → F.pre go_on.now m to }
+    requires goes { (m : _) (to : ℕ) (after : _) → F.post go_on.now m to tt after → WentOn m.now to after.now }
+    ensures { DemoEnds (shown_demo demo.now) result }
+{
+    let demo = *demo;
+    if demo.cycles > LAST_CYCLE {
+        return Ending::TooFar;
+    }
+    if demo.cycles == 0 {
+        return Ending::Behind(0);
+    }
+    let machine = match demo_machine(alloc, demo.number) {
+        Ok(machine) => machine,
+        Err(NoMemory) => return Ending::Memory,
+    };
+    match begin(alloc, machine) {
+        Ok(course) => Ending::DemoDone(sum_up(go_on, demo.cycles, course)),
+        Err(NoMemory) => Ending::Memory,
+    }
+}
+
+/// The machine with the demonstration cartridge of a number, at power-on.
+fn demo_machine(alloc: Global, number: u64) -> Result<Machine, NoMemory>
+    ensures start { IfOk result (λ machine. start_at machine ≡ demo_start number) }
+    ensures fresh { IfOk result IsFresh }
+{
+    let cart = accepted_cart(alloc, number)?;
+    let recording = Recording::empty(alloc);
+    power_on(alloc, Inputs { cart, recording })
+}
+
+/// The demonstration cartridge of a number. None is refused.
+fn accepted_cart(alloc: Global, number: u64) -> Result<Cart, NoMemory>
+    ensures { IfOk result (λ cart. cart ≡ meaning.demo_cart number) }
+{
+    let bytes = demo_cart(alloc, number)?;
+    match Cart::accept(alloc, bytes) {
+        Ok(cart) => Ok(cart),
+        Err(_) => unreachable!(),
+    }
+}
+
+/// Runs from its start to the end in as few segments as reach it, and sums up what each makes.
+fn sum_up<F: Fn(&mut Machine, u64)>(go_on: &F, end: u64, course: Course) -> Summary
+    requires may { (m : _) (to : ℕ) → CanGoOn m.now to → F.pre go_on.now m to }
+    requires goes { (m : _) (to : ℕ) (after : _) → F.post go_on.now m to tt after → WentOn m.now to after.now }
+    requires end { IsEnd end }
+    requires before { cycle_of course < end }
+    requires start { IsAtStart course }
+    ensures { IsSummary (start_in course) end result }
+{
+    let mut course = course;
+    let mut hashers = Hashers::new();
+    'segments: while course.machine.at() < end {
+        sum_segment(go_on, end, &mut course, &mut hashers);
+    }
+    Summary {
+        accesses: course.accesses,
+        halted: course.machine.main_chip().halted(),
+        digests: hashers.digests(),
+    }
+}
+
+/// Runs on for a segment, and takes what it makes.
+fn sum_segment<F: Fn(&mut Machine, u64)>(
+    go_on: &F,
+    end: u64,
+    course: &mut Course,
+    hashers: &mut Hashers,
+)
+    requires may { (m : _) (to : ℕ) → CanGoOn m.now to → F.pre go_on.now m to }
+    requires goes { (m : _) (to : ℕ) (after : _) → F.post go_on.now m to tt after → WentOn m.now to after.now }
+    requires end { IsEnd end }
+    requires before { cycle_of course.old < end }
+    requires underway { IsUnderway course.old }
+    ensures cycle { cycle_of course.new ≡ limits.segment_end (cycle_of course.old) end }
+    ensures underway { (start : Start) → CameFrom start course.old → CameFrom start course.new }
+    ensures taken { (start : Start) → CameFrom start course.old → HaveUntil start (cycle_of course.old) hashers.old
+        → HaveUntil start (cycle_of course.new) hashers.new }
+{
+    let to = segment_end(course.machine.at(), end);
+    advance(go_on, course, to);
+    hashers.update(
+        course.frames.as_slice(),
+        course.pairs.as_slice(),
+        course.records.as_slice(),
+    );
+}

@@ -1,0 +1,14 @@
+ghost use Rattle.std.specs.Prelude.{◌≤◌};
+
+/// What the words of the command line ask for: a run of a demonstration cartridge from power-on.
+#[derive(Clone, Copy)]
+pub struct DemoWords {
+    /// The cartridge's number.
+    pub number: u64,
+    /// The cycle of the run's end.
+    pub cycles: u64,
+    /// How many workers make it.
+    pub workers: u32,
+    ghost some_workers: { 1 ≤ workers },
+    ghost few_workers: { workers ≤ 5 },
+}
