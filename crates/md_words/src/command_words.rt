@@ -1,8 +1,9 @@
 ghost use Rattle.std.specs.Prelude.{◌≡◌, ◌≤◌};
 ghost use Rattle.std.specs.Option.{option_copied};
 ghost use Rattle.md_words.specs.Shown.{shown_command};
-ghost use Rattle.md_words.specs.Words.{end_of, frames_name, journal_name, load_name, recording_name, rom_of, save_name, sound_name, workers_in};
+ghost use Rattle.md_words.specs.Words.{end_of, frames_name, journal_name, load_name, output_of, recording_name, rom_of, save_name, sound_name, workers_in};
 
+use crate::convert_words::ConvertWords;
 use crate::run_words::RunWords;
 
 /// What the words of the command line ask for.
@@ -12,16 +13,29 @@ pub enum CommandWords<'a> {
     Info(&'a str),
     /// A run.
     Run(RunWords<'a>),
+    /// A file that is made of another one.
+    Convert(ConvertWords<'a>),
 }
 
 impl<'a> CommandWords<'a> {
-    /// The cartridge's name.
+    /// The name of the first file that is read: the cartridge, or the input of a conversion.
     pub fn rom(&self) -> &'a str
         ensures { result.now ≡ rom_of (shown_command self.now) }
     {
         match self {
             CommandWords::Info(rom) => rom,
             CommandWords::Run(run) => run.rom,
+            CommandWords::Convert(words) => words.input,
+        }
+    }
+
+    /// The name of a conversion's output, and no name where none is asked for.
+    pub fn output(&self) -> &'a str
+        ensures { result.now ≡ output_of (shown_command self.now) }
+    {
+        match self {
+            CommandWords::Info(_) | CommandWords::Run(_) => "",
+            CommandWords::Convert(words) => words.output,
         }
     }
 
@@ -30,7 +44,7 @@ impl<'a> CommandWords<'a> {
         ensures { result ≡ end_of (shown_command self.now) }
     {
         match self {
-            CommandWords::Info(_) => 0,
+            CommandWords::Info(_) | CommandWords::Convert(_) => 0,
             CommandWords::Run(run) => run.cycles,
         }
     }
@@ -40,7 +54,7 @@ impl<'a> CommandWords<'a> {
         ensures { option_copied result ≡ recording_name (shown_command self.now) }
     {
         match self {
-            CommandWords::Info(_) => None,
+            CommandWords::Info(_) | CommandWords::Convert(_) => None,
             CommandWords::Run(run) => run.recording,
         }
     }
@@ -50,7 +64,7 @@ impl<'a> CommandWords<'a> {
         ensures { option_copied result ≡ load_name (shown_command self.now) }
     {
         match self {
-            CommandWords::Info(_) => None,
+            CommandWords::Info(_) | CommandWords::Convert(_) => None,
             CommandWords::Run(run) => run.load,
         }
     }
@@ -60,7 +74,7 @@ impl<'a> CommandWords<'a> {
         ensures { option_copied result ≡ save_name (shown_command self.now) }
     {
         match self {
-            CommandWords::Info(_) => None,
+            CommandWords::Info(_) | CommandWords::Convert(_) => None,
             CommandWords::Run(run) => run.save,
         }
     }
@@ -70,7 +84,7 @@ impl<'a> CommandWords<'a> {
         ensures { option_copied result ≡ frames_name (shown_command self.now) }
     {
         match self {
-            CommandWords::Info(_) => None,
+            CommandWords::Info(_) | CommandWords::Convert(_) => None,
             CommandWords::Run(run) => run.frames,
         }
     }
@@ -80,7 +94,7 @@ impl<'a> CommandWords<'a> {
         ensures { option_copied result ≡ sound_name (shown_command self.now) }
     {
         match self {
-            CommandWords::Info(_) => None,
+            CommandWords::Info(_) | CommandWords::Convert(_) => None,
             CommandWords::Run(run) => run.sound,
         }
     }
@@ -90,7 +104,7 @@ impl<'a> CommandWords<'a> {
         ensures { option_copied result ≡ journal_name (shown_command self.now) }
     {
         match self {
-            CommandWords::Info(_) => None,
+            CommandWords::Info(_) | CommandWords::Convert(_) => None,
             CommandWords::Run(run) => run.journal,
         }
     }
@@ -102,7 +116,7 @@ impl<'a> CommandWords<'a> {
         ensures few { result ≤ 5 }
     {
         match self {
-            CommandWords::Info(_) => 1,
+            CommandWords::Info(_) | CommandWords::Convert(_) => 1,
             CommandWords::Run(run) => run.workers,
         }
     }

@@ -3,6 +3,8 @@
 
 mod building;
 mod command_words;
+mod convert_reading;
+mod convert_words;
 pub mod laws;
 mod names;
 mod numbers;
@@ -12,5 +14,6 @@ mod run_values;
 mod run_words;
 
 pub use command_words::CommandWords;
+pub use convert_words::{ConvertWords, Product};
 pub use reading::read_words;
 pub use run_words::RunWords;

@@ -8,6 +8,8 @@ ghost use Rattle.md_words.specs.Words as meaning;
 
 use crate::building::{info_command, run_command};
 use crate::command_words::CommandWords;
+use crate::convert_reading::read_conversion;
+use crate::convert_words::Product;
 use crate::names::{have_names, is_name};
 use crate::numbers::{read_number, read_workers};
 use crate::parse::parse;
@@ -44,6 +46,20 @@ pub fn read_words<'a>(
     if command.as_str() == "run" {
         return match read_run(alloc, rest) {
             Ok(Some(run)) => Ok(Some(CommandWords::Run(run))),
+            Ok(None) => Ok(None),
+            Err(error) => Err(error),
+        };
+    }
+    if command.as_str() == "vgm" {
+        return match read_conversion(alloc, "vgm", Product::Vgm, rest) {
+            Ok(Some(words)) => Ok(Some(CommandWords::Convert(words))),
+            Ok(None) => Ok(None),
+            Err(error) => Err(error),
+        };
+    }
+    if command.as_str() == "play" {
+        return match read_conversion(alloc, "play", Product::Sound, rest) {
+            Ok(Some(words)) => Ok(Some(CommandWords::Convert(words))),
             Ok(None) => Ok(None),
             Err(error) => Err(error),
         };
@@ -108,7 +124,7 @@ fn values_of<'a>(matches: &ArgMatches<'a>) -> RunValues<'a>
 }
 
 /// The value of an argument, if it has one.
-fn value<'a>(matches: &ArgMatches<'a>, name: &str) -> Option<&'a str>
+pub(crate) fn value<'a>(matches: &ArgMatches<'a>, name: &str) -> Option<&'a str>
     ensures { option_copied result ≡ found_by (rows_of (found_of matches.now)) name.now }
 {
     matches.get_str(name)
