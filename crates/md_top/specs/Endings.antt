@@ -14,15 +14,20 @@ use Rattle.md_top.specs.Loads.{Begins, CanRun, Keeps, LoadCause, MayBeginAt, OfO
 use Rattle.md_top.specs.Heard.{IsHeard}
 use Rattle.md_top.specs.Runs.{entries_from, halted_from, pieces_of, pieces_until, powered_on}
 use Rattle.md_top.specs.Outputs.{Holds, IsUnwritten, LeavesParts, nothing}
-use Rattle.md_words.specs.Words.{Command, Info, Run, RunCart, end_of, frames_name, journal_name, load_name, recording_name, rom_of, save_name, sound_name}
+use Rattle.md_vgm.specs.Outcomes.{Outcome}
+use Rattle.md_top.specs.Conversions.{CanConvert, ConvertEnds, ConvertFiles, convert_ending, fault_line}
+use Rattle.md_words.specs.Words.{Command, Convert, Info, Run, RunCart, end_of, frames_name, journal_name, load_name, output_of, recording_name, rom_of, save_name, sound_name}
 use Rattle.md_top.specs.declared.ending.Ending.{Ending}
 use Rattle.md_top.specs.declared.inputs.Inputs.{Inputs}
-use Rattle.md_top.specs.declared.ending.Ending.TheVariants.{Shown, Done, Usage, TooFar, ReadFault, TooLong, Short, NoMark, RecordingFault, RecordingTooLong, RecordingWrong, StateFault, StateTooLong, StateWrong, OtherCart, Behind, FramesFault, SoundFault, JournalFault, SaveFault, Unsaved, Memory}
+use Rattle.md_top.specs.declared.ending.Ending.TheVariants.{Shown, Done, Converted, InputRefused, OutputFault, Usage, TooFar, ReadFault, TooLong, Short, NoMark, RecordingFault, RecordingTooLong, RecordingWrong, StateFault, StateTooLong, StateWrong, OtherCart, Behind, FramesFault, SoundFault, JournalFault, SaveFault, Unsaved, Memory}
 
 -- the status that the program ends with
 abbrev pub status_of : Ending → ℕ
 status_of (Shown lines) = 0
 status_of (Done from accesses halted) = 0
+status_of (Converted size) = 0
+status_of (InputRefused fault) = 17
+status_of OutputFault = 4
 status_of Usage = 2
 status_of ReadFault = 3
 status_of RecordingFault = 3
@@ -94,6 +99,9 @@ lines_of from end accesses halted = counts_of from end accesses ++ halted_line h
 abbrev pub text_of : Option Command → Ending → List ℕ
 text_of (Some command) (Shown lines) = lines
 text_of (Some command) (Done from accesses halted) = lines_of from (end_of command) accesses halted
+text_of (Some command) (Converted size) = number_line (codes "bytes ") size
+text_of (Some command) (InputRefused fault) = fault_line fault
+text_of (Some command) OutputFault = codes "fault: writing " ++ output_of command ++ codes "\n"
 text_of (Some command) TooFar = codes "refused: cycle " ++ decimal (end_of command) ++ codes " is too far\n"
 text_of (Some command) ReadFault = codes "fault: reading " ++ rom_of command ++ codes "\n"
 text_of (Some command) TooLong = codes "refused: " ++ rom_of command ++ codes " is too long\n"
@@ -115,10 +123,11 @@ text_of (Some command) Unsaved = codes "refused: memory\n"
 text_of command Memory = codes "refused: memory\n"
 text_of command ending = codes "refused: usage\n"
 
--- the inputs are there, and a run's end lies above its start and within the limits
+-- the inputs are there and accepted, and a run's end lies above its start and within the limits
 abbrev pub IsReady : Command → Files → Type 0
 IsReady (Info rom) files = IsAccepted (files rom)
 IsReady (RunCart run) files = IsEnd run.cycles × CanRun run files
+IsReady (Convert conversion) files = CanConvert conversion files
 
 -- why a run from a start ends, once it has begun
 abbrev pub RunCause : Start → Run → DepotState → DepotState → Ending → Type 0
@@ -163,6 +172,7 @@ HasCause told None old new Memory = Unit {0}
 HasCause told None old new ending = ⊥
 HasCause told (Some (Info rom)) old new ending = InfoEnds told rom old new ending
 HasCause told (Some (RunCart run)) old new ending = RunEnds told run old new ending
+HasCause told (Some (Convert conversion)) old new ending = ConvertEnds told conversion old new ending
 
 -- the outputs hold what the run from a start made below a cycle
 abbrev pub HoldsUntil : Start → Run → Files → Files → ℕ → Type 0
@@ -199,6 +209,7 @@ abbrev pub LeavesFiles : Option Command → Files → Files → Ending → Type 
 LeavesFiles None old new ending = new ≡ old
 LeavesFiles (Some (Info rom)) old new ending = new ≡ old
 LeavesFiles (Some (RunCart run)) old new ending = RunFiles run old new ending
+LeavesFiles (Some (Convert conversion)) old new ending = ConvertFiles conversion old new ending
 
 -- The ending where neither a fault nor want of memory comes between: the refusals in their order.
 
@@ -254,10 +265,15 @@ accepted_ending run files verdict state =
     recorded_ending run.recording files verdict
     (λ recording. loaded_ending run.load files state (record { cart = cart_of run.rom files; recording = recording }) run.cycles)
 
--- what a command line comes to, with these files and these verdicts on the recording and on the saved
--- state that it names
-abbrev pub right_ending : Option Command → Files → Verdict → StateVerdict → Ending
-right_ending None files verdict state = Usage
-right_ending (Some (Info rom)) files verdict state = file_ending (files rom) (Shown (header_lines (cart_of rom files)))
-right_ending (Some (RunCart run)) files verdict state =
+-- what a run comes to, with these files and these verdicts on its recording and on its saved state
+abbrev pub asked_ending : Run → Files → Verdict → StateVerdict → Ending
+asked_ending run files verdict state =
     if nat_lt last_cycle run.cycles then TooFar else file_ending (files run.rom) (accepted_ending run files verdict state)
+
+-- what a command line comes to, with these files, these verdicts on the recording and on the saved state that it
+-- names, and this outcome of the input of the conversion that it asks for
+abbrev pub right_ending : Option Command → Files → Verdict → StateVerdict → Outcome → Ending
+right_ending None files verdict state outcome = Usage
+right_ending (Some (Info rom)) files verdict state outcome = file_ending (files rom) (Shown (header_lines (cart_of rom files)))
+right_ending (Some (RunCart run)) files verdict state outcome = asked_ending run files verdict state
+right_ending (Some (Convert conversion)) files verdict state outcome = convert_ending conversion files outcome

@@ -1,4 +1,5 @@
 pub mod Answers
+pub mod Conversions
 pub mod Courses
 pub mod Endings
 pub mod Heard
