@@ -9,6 +9,7 @@ use Rattle.md_word.specs.declared.event.Entry.{Entry}
 use Rattle.md_machine.specs.Media.{Media}
 use Rattle.md_machine.specs.Outputs.{frames_bytes, journal_bytes, sound_bytes}
 use Rattle.md_machine.specs.Starts.{IsStart, Start}
+use Rattle.md_vgm.specs.Outcomes.{Outcome}
 use Rattle.md_words.specs.Words.{Demo, RunDemo}
 use Rattle.md_top.specs.Answers.{Reports}
 use Rattle.md_top.specs.Demos.{DemoEnds, HaveUntil, demo_start, digests_from, summary_from}
@@ -75,6 +76,13 @@ pub demo_behind : (demo : Demo) (ending : Ending) → DemoEnds demo ending → s
 demo_behind demo (Behind from) ends is = ends.0
 demo_behind demo _ ends is = absurd (omega (arith, is))
 
+pub demo_refused : (demo : Demo) (ending : Ending) → DemoEnds demo ending → status_of ending ≡ 17 → ⊥
+demo_refused demo (DemoDone summary) ends is = omega (arith, is)
+demo_refused demo (Behind from) ends is = omega (arith, is)
+demo_refused demo Memory ends is = omega (arith, is)
+demo_refused demo TooFar ends is = omega (arith, is)
+demo_refused demo _ ends is = absurd ends
+
 -- where the end is too far no other ending comes
 pub demo_far_only : (sink : Type 0) (demo : Demo) (out out' : SinkState) (status : ℕ) (ending : Ending) → DemoEnds demo ending
     → Reports sink (Some (RunDemo demo)) ending out out' status → last_cycle < demo.cycles → (status ≡ 11) ⊎ (status ≡ 10)
@@ -86,13 +94,13 @@ demo_far_only sink demo out out' status _ ends reports far = absurd ends
 
 -- WITHOUT A FAULT
 
-right_demo_far : (demo : Demo) (files : Files) (verdict : Verdict) (state : StateVerdict) → last_cycle < demo.cycles
-    → right_ending (Some (RunDemo demo)) files verdict state ≡ TooFar
-right_demo_far demo files verdict state far = ap (λ (b : Bool). cond b TooFar (demo_ending demo)) (is_below last_cycle demo.cycles far)
+right_demo_far : (demo : Demo) (files : Files) (verdict : Verdict) (state : StateVerdict) (outcome : Outcome) → last_cycle < demo.cycles
+    → right_ending (Some (RunDemo demo)) files verdict state outcome ≡ TooFar
+right_demo_far demo files verdict state outcome far = ap (λ (b : Bool). cond b TooFar (demo_ending demo)) (is_below last_cycle demo.cycles far)
 
-right_demo_near : (demo : Demo) (files : Files) (verdict : Verdict) (state : StateVerdict) → demo.cycles ≤ last_cycle
-    → right_ending (Some (RunDemo demo)) files verdict state ≡ demo_ending demo
-right_demo_near demo files verdict state near = ap (λ (b : Bool). cond b TooFar (demo_ending demo)) (not_below last_cycle demo.cycles near)
+right_demo_near : (demo : Demo) (files : Files) (verdict : Verdict) (state : StateVerdict) (outcome : Outcome) → demo.cycles ≤ last_cycle
+    → right_ending (Some (RunDemo demo)) files verdict state outcome ≡ demo_ending demo
+right_demo_near demo files verdict state outcome near = ap (λ (b : Bool). cond b TooFar (demo_ending demo)) (not_below last_cycle demo.cycles near)
 
 demo_ending_behind : (demo : Demo) → demo.cycles ≤ 0 → demo_ending demo ≡ Behind 0
 demo_ending_behind demo none =
@@ -103,17 +111,17 @@ demo_ending_done demo some =
     ap (λ (b : Bool). cond b (Behind 0) (DemoDone (summary_from (demo_start demo.number) demo.cycles))) (is_ahead demo.cycles 0 some)
 
 -- a run with an end within the limits ends well
-pub right_demo_done : (demo : Demo) (files : Files) (verdict : Verdict) (state : StateVerdict) → IsEnd demo.cycles
-    → status_of (right_ending (Some (RunDemo demo)) files verdict state) ≡ 0
-right_demo_done demo files verdict state end =
-    ap status_of (right_demo_near demo files verdict state end.1 ∙ demo_ending_done demo (omega (arith, end.0)))
+pub right_demo_done : (demo : Demo) (files : Files) (verdict : Verdict) (state : StateVerdict) (outcome : Outcome) → IsEnd demo.cycles
+    → status_of (right_ending (Some (RunDemo demo)) files verdict state outcome) ≡ 0
+right_demo_done demo files verdict state outcome end =
+    ap status_of (right_demo_near demo files verdict state outcome end.1 ∙ demo_ending_done demo (omega (arith, end.0)))
 
 -- the ending is the right one, or memory is wanting
-pub demo_right : (demo : Demo) (files : Files) (verdict : Verdict) (state : StateVerdict) (ending : Ending) → DemoEnds demo ending
-    → (status_of ending ≡ status_of (right_ending (Some (RunDemo demo)) files verdict state)) ⊎ (status_of ending ≡ 10)
-demo_right demo files verdict state TooFar ends = inl (sym (ap status_of (right_demo_far demo files verdict state ends)))
-demo_right demo files verdict state Memory ends = inr refl
-demo_right demo files verdict state (Behind from) ends =
-    inl (sym (ap status_of (right_demo_near demo files verdict state (omega (arith, ends.0)) ∙ demo_ending_behind demo (omega (arith, ends.0)))))
-demo_right demo files verdict state (DemoDone summary) ends = inl (sym (right_demo_done demo files verdict state ends.0))
-demo_right demo files verdict state _ ends = absurd ends
+pub demo_right : (demo : Demo) (files : Files) (verdict : Verdict) (state : StateVerdict) (outcome : Outcome) (ending : Ending) → DemoEnds demo ending
+    → (status_of ending ≡ status_of (right_ending (Some (RunDemo demo)) files verdict state outcome)) ⊎ (status_of ending ≡ 10)
+demo_right demo files verdict state outcome TooFar ends = inl (sym (ap status_of (right_demo_far demo files verdict state outcome ends)))
+demo_right demo files verdict state outcome Memory ends = inr refl
+demo_right demo files verdict state outcome (Behind from) ends =
+    inl (sym (ap status_of (right_demo_near demo files verdict state outcome (omega (arith, ends.0)) ∙ demo_ending_behind demo (omega (arith, ends.0)))))
+demo_right demo files verdict state outcome (DemoDone summary) ends = inl (sym (right_demo_done demo files verdict state outcome ends.0))
+demo_right demo files verdict state outcome _ ends = absurd ends

@@ -1,5 +1,6 @@
 pub mod Appends
 pub mod Carts
+pub mod Conversions
 pub mod Demos
 pub mod Ends
 pub mod Fetched

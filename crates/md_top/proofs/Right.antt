@@ -7,7 +7,7 @@ use Rattle.rom_header.specs.declared.cart.CartFault.{CartFault}
 use Rattle.rom_header.specs.declared.cart.CartFault.TheVariants as fault
 use Rattle.md_outer.specs.Outside.{DepotState, Files, Rose}
 use Rattle.md_pads.specs.Recording.{Frame, GoesWrongAt, Spells}
-use Rattle.md_top.specs.Endings.{accepted_ending, cart_ending, file_ending, kept_ending, loaded_ending, recorded_ending, recording_ending, right_ending, run_ending, state_ending, status_of, verdict_ending}
+use Rattle.md_top.specs.Endings.{accepted_ending, asked_ending, cart_ending, file_ending, kept_ending, loaded_ending, recorded_ending, recording_ending, run_ending, state_ending, status_of, verdict_ending}
 use Rattle.md_top.specs.Inputs.{AreInputs, CartCause, IsAccepted, IsJudged, IsVerdict, Recorded, RecordingCause, Records, Verdict, WrongAt, cart_limit, cart_of, recording_limit}
 use Rattle.md_top.specs.Limits.{last_cycle}
 use Rattle.md_top.specs.Loads.{Begins, BeginsWith, IsFoundIn, IsLoadJudged, IsStateJudged, IsStateVerdict, Keeps, LoadCause, OfOther, StateCause, StateVerdict, StateWrongAt, inputs_by, recording_by, state_limit}
@@ -180,17 +180,17 @@ load_right told (Some name) inputs old new state end _ cause judged clean t = ab
 
 -- OF A RUN
 
-pub right_far : (run : Run) (files : Files) (verdict : Verdict) (state : StateVerdict) → last_cycle < run.cycles → right_ending (Some (RunCart run)) files verdict state ≡ TooFar
+pub right_far : (run : Run) (files : Files) (verdict : Verdict) (state : StateVerdict) → last_cycle < run.cycles → asked_ending run files verdict state ≡ TooFar
 right_far run files verdict state far =
     ap (λ (b : Bool). cond b TooFar (file_ending (files run.rom) (accepted_ending run files verdict state))) (is_below last_cycle run.cycles far)
 
 pub right_near : (run : Run) (files : Files) (verdict : Verdict) (state : StateVerdict) → run.cycles ≤ last_cycle
-    → right_ending (Some (RunCart run)) files verdict state ≡ file_ending (files run.rom) (accepted_ending run files verdict state)
+    → asked_ending run files verdict state ≡ file_ending (files run.rom) (accepted_ending run files verdict state)
 right_near run files verdict state near =
     ap (λ (b : Bool). cond b TooFar (file_ending (files run.rom) (accepted_ending run files verdict state))) (not_below last_cycle run.cycles near)
 
 pub right_behind_cart : (run : Run) (files : Files) (verdict : Verdict) (state : StateVerdict) → run.cycles ≤ last_cycle → IsAccepted (files run.rom)
-    → right_ending (Some (RunCart run)) files verdict state ≡ accepted_ending run files verdict state
+    → asked_ending run files verdict state ≡ accepted_ending run files verdict state
 right_behind_cart run files verdict state near accepted = right_near run files verdict state near ∙ right_accepted (files run.rom) (accepted_ending run files verdict state) accepted
 
 -- behind both inputs: they are those that the verdict on the recording tells
@@ -200,7 +200,7 @@ inputs_same run files verdict inputs are is = λ i. record { cart = are.cart i; 
 
 -- behind both inputs
 right_inputs : (run : Run) (files : Files) (verdict : Verdict) (state : StateVerdict) (inputs : Inputs) → run.cycles ≤ last_cycle → AreInputs run files inputs
-    → IsJudged run.recording files verdict → right_ending (Some (RunCart run)) files verdict state ≡ loaded_ending run.load files state inputs run.cycles
+    → IsJudged run.recording files verdict → asked_ending run files verdict state ≡ loaded_ending run.load files state inputs run.cycles
 right_inputs run files verdict state inputs near are is =
     right_behind_cart run files verdict state near are.accepted
     ∙ right_recorded run.recording files verdict inputs.recording
@@ -220,29 +220,29 @@ is_ahead end at ahead = grind (arith, nat_tests)
 
 right_run : (run : Run) (files : Files) (verdict : Verdict) (state : StateVerdict) (start : Start) → run.cycles ≤ last_cycle → Begins run files start
     → IsJudged run.recording files verdict → IsStateJudged (Some run) files verdict state
-    → status_of (right_ending (Some (RunCart run)) files verdict state) ≡ cond (nat_le run.cycles start.at) 9 0
+    → status_of (asked_ending run files verdict state) ≡ cond (nat_le run.cycles start.at) 9 0
 right_run run files verdict state start near begins is judged =
     ap status_of (right_inputs run files verdict state begins.inputs near begins.are is)
     ∙ loaded_run run.load files begins.inputs state start run.cycles begins.with (judged_inputs run files verdict state begins.inputs begins.are is judged)
 
 pub right_behind : (run : Run) (files : Files) (verdict : Verdict) (state : StateVerdict) (start : Start) → run.cycles ≤ last_cycle → run.cycles ≤ start.at → Begins run files start
-    → IsJudged run.recording files verdict → IsStateJudged (Some run) files verdict state → status_of (right_ending (Some (RunCart run)) files verdict state) ≡ 9
+    → IsJudged run.recording files verdict → IsStateJudged (Some run) files verdict state → status_of (asked_ending run files verdict state) ≡ 9
 right_behind run files verdict state start near behind begins is judged =
     right_run run files verdict state start near begins is judged ∙ ap (λ (b : Bool). cond b 9 0) (is_behind run.cycles start.at behind)
 
 pub right_done : (run : Run) (files : Files) (verdict : Verdict) (state : StateVerdict) (start : Start) → run.cycles ≤ last_cycle → start.at < run.cycles → Begins run files start
-    → IsJudged run.recording files verdict → IsStateJudged (Some run) files verdict state → status_of (right_ending (Some (RunCart run)) files verdict state) ≡ 0
+    → IsJudged run.recording files verdict → IsStateJudged (Some run) files verdict state → status_of (asked_ending run files verdict state) ≡ 0
 right_done run files verdict state start near ahead begins is judged =
     right_run run files verdict state start near begins is judged ∙ ap (λ (b : Bool). cond b 9 0) (is_ahead run.cycles start.at ahead)
 
 pub right_load : (told : Type 0) (run : Run) (old new : DepotState) (verdict : Verdict) (state : StateVerdict) (ending : Ending) → run.cycles ≤ last_cycle
     → LoadCause told run old new ending → IsJudged run.recording old.files verdict → IsStateJudged (Some run) old.files verdict state
-    → ¬ Rose old.read_faults new.read_faults → told → (status_of ending ≡ status_of (right_ending (Some (RunCart run)) old.files verdict state)) ⊎ (status_of ending ≡ 10)
+    → ¬ Rose old.read_faults new.read_faults → told → (status_of ending ≡ status_of (asked_ending run old.files verdict state)) ⊎ (status_of ending ≡ 10)
 right_load told run old new verdict state ending near (inputs, are, cause) is judged clean t =
     same (load_right told run.load inputs old new state run.cycles ending cause (judged_inputs run old.files verdict state inputs (are t) is judged) clean t)
   where
     same : (status_of ending ≡ status_of (loaded_ending run.load old.files state inputs run.cycles)) ⊎ (status_of ending ≡ 10)
-        → (status_of ending ≡ status_of (right_ending (Some (RunCart run)) old.files verdict state)) ⊎ (status_of ending ≡ 10)
+        → (status_of ending ≡ status_of (asked_ending run old.files verdict state)) ⊎ (status_of ending ≡ 10)
     same (inl right) = inl (right ∙ sym (ap status_of (right_inputs run old.files verdict state inputs near (are t) is)))
     same (inr memory) = inr memory
 

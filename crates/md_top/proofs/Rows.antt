@@ -10,46 +10,49 @@ use Rattle.md_top.specs.Inputs.{IsAccepted, IsJudged, Recorded, RecordingCause, 
 use Rattle.md_top.specs.Limits.{last_cycle}
 use Rattle.md_top.specs.Loads.{IsStateJudged, Keeps, StateVerdict, StateWrongAt}
 use Rattle.md_top.specs.Runs.{pieces_of, pieces_until}
-use Rattle.md_top.specs.Endings.{HasCause, InfoEnds, LeavesFiles, RunEnds, RunFiles, accepted_ending, file_ending, loaded_ending, right_ending, status_of}
+use Rattle.md_top.specs.Endings.{HasCause, InfoEnds, LeavesFiles, RunEnds, RunFiles, accepted_ending, asked_ending, file_ending, loaded_ending, right_ending, status_of}
 use Rattle.md_top.specs.Outputs.{LeavesParts, Parts, Pieces, all_of, nothing, with_part, written}
-use Rattle.md_words.specs.Words.{Command, Info, Run, RunCart, RunDemo}
+use Rattle.md_vgm.specs.Outcomes.{Made, Outcome}
+use Rattle.md_words.specs.Words.{Command, Convert, Info, Run, RunCart, RunDemo}
+use Rattle.md_top.specs.Conversions.{convert_ending}
 use Rattle.md_top.specs.declared.ending.Ending.{Ending}
 use Rattle.md_top.specs.declared.ending.Ending.TheVariants.{Shown, Done, DemoDone, Usage, TooFar, RecordingFault, RecordingTooLong, RecordingWrong, StateFault, StateTooLong, StateWrong, OtherCart, Behind, FramesFault, SoundFault, JournalFault, SaveFault, Unsaved, Memory}
-use Rattle.md_top.proofs.Demos.{demo_behind, demo_far, demo_far_only, demo_never, demo_right, right_demo_done}
+use Rattle.md_top.proofs.Conversions.{convert_behind, convert_done, convert_far, convert_other, convert_read_fault, convert_refused, convert_right, convert_state, convert_usage, convert_write_fault, convert_wrong, converted_other, info_refused, made_outcome, run_refused}
+use Rattle.md_top.proofs.Demos.{demo_behind, demo_far, demo_far_only, demo_never, demo_refused, demo_right, right_demo_done}
 use Rattle.md_top.proofs.Right.{cart_right, recording_judged, recording_right, right_accepted, right_behind, right_behind_cart, right_done, right_far, right_load, right_near, state_judged}
 use Rattle.md_top.proofs.Statuses.{reported, of_ending, info_usage, run_usage, info_far, run_far, info_read_fault, run_read_fault, info_wrong, run_wrong, info_state, run_state, info_other, run_other, info_behind, run_behind, info_write_fault, run_write_fault, far_only}
 
 -- WITHOUT A FAULT
 
 -- the ending is the right one, or memory is wanting
-info_right : (told : Type 0) (rom : List ℕ) (old new : DepotState) (verdict : Verdict) (state : StateVerdict) (ending : Ending) → InfoEnds told rom old new ending
-    → ¬ Rose old.read_faults new.read_faults → told → (status_of ending ≡ status_of (right_ending (Some (Info rom)) old.files verdict state)) ⊎ (status_of ending ≡ 10)
-info_right told rom old new verdict state (Shown lines) cause clean t =
+info_right : (told : Type 0) (rom : List ℕ) (old new : DepotState) (verdict : Verdict) (state : StateVerdict) (outcome : Outcome) (ending : Ending) → InfoEnds told rom old new ending
+    → ¬ Rose old.read_faults new.read_faults → told → (status_of ending ≡ status_of (right_ending (Some (Info rom)) old.files verdict state outcome)) ⊎ (status_of ending ≡ 10)
+info_right told rom old new verdict state outcome (Shown lines) cause clean t =
     inl (sym (ap status_of (right_accepted (old.files rom) (Shown (header_lines (cart_of rom old.files))) (cause t).0)))
-info_right told rom old new verdict state other cause clean t = cart_right told rom old new (Shown (header_lines (cart_of rom old.files))) other cause clean t
+info_right told rom old new verdict state outcome other cause clean t = cart_right told rom old new (Shown (header_lines (cart_of rom old.files))) other cause clean t
 
 -- behind the cartridge's file
 run_near : (run : Run) (files : Files) (verdict : Verdict) (state : StateVerdict) (ending : Ending) → run.cycles ≤ last_cycle
     → (status_of ending ≡ status_of (file_ending (files run.rom) (accepted_ending run files verdict state))) ⊎ (status_of ending ≡ 10)
-    → (status_of ending ≡ status_of (right_ending (Some (RunCart run)) files verdict state)) ⊎ (status_of ending ≡ 10)
+    → (status_of ending ≡ status_of (asked_ending run files verdict state)) ⊎ (status_of ending ≡ 10)
 run_near run files verdict state ending near (inl is) = inl (is ∙ sym (ap status_of (right_near run files verdict state near)))
 run_near run files verdict state ending near (inr memory) = inr memory
 
 -- behind the recording's file
 run_recorded : (told : Type 0) (run : Run) (old new : DepotState) (verdict : Verdict) (state : StateVerdict) (ending : Ending) → run.cycles ≤ last_cycle → IsAccepted (old.files run.rom)
     → RecordingCause told run.recording old new ending → IsJudged run.recording old.files verdict → ¬ Rose old.read_faults new.read_faults → told
-    → (status_of ending ≡ status_of (right_ending (Some (RunCart run)) old.files verdict state)) ⊎ (status_of ending ≡ 10)
+    → (status_of ending ≡ status_of (asked_ending run old.files verdict state)) ⊎ (status_of ending ≡ 10)
 run_recorded told run old new verdict state ending near accepted cause is clean t =
     same (recording_right told run.recording old new verdict (λ recording. loaded_ending run.load old.files state (record { cart = cart_of run.rom old.files; recording = recording }) run.cycles) ending cause is clean t)
   where
     same : (status_of ending ≡ status_of (accepted_ending run old.files verdict state)) ⊎ (status_of ending ≡ 10)
-        → (status_of ending ≡ status_of (right_ending (Some (RunCart run)) old.files verdict state)) ⊎ (status_of ending ≡ 10)
+        → (status_of ending ≡ status_of (asked_ending run old.files verdict state)) ⊎ (status_of ending ≡ 10)
     same (inl right) = inl (right ∙ sym (ap status_of (right_behind_cart run old.files verdict state near accepted)))
     same (inr memory) = inr memory
 
 run_right : (told : Type 0) (run : Run) (old new : DepotState) (verdict : Verdict) (state : StateVerdict) (ending : Ending) → RunEnds told run old new ending
     → IsJudged run.recording old.files verdict → IsStateJudged (Some run) old.files verdict state → ¬ Rose old.read_faults new.read_faults → ¬ Rose old.write_faults new.write_faults → told
-    → (status_of ending ≡ status_of (right_ending (Some (RunCart run)) old.files verdict state)) ⊎ (status_of ending ≡ 10)
+    → (status_of ending ≡ status_of (asked_ending run old.files verdict state)) ⊎ (status_of ending ≡ 10)
 run_right told run old new verdict state (Done from accesses halted) (end, may, cause) is judged reads writes t =
     let found = cause t in inl (sym (right_done run old.files verdict state found.0 end.1 found.2 found.1 is judged))
 run_right told run old new verdict state TooFar cause is judged reads writes t = inl (sym (ap status_of (right_far run old.files verdict state cause)))
@@ -157,9 +160,10 @@ none_causes told old out out' status (inl two) = record {
   state_wrong = λ is. absurd (omega (arith, two, is));
   other_cart = λ is. absurd (omega (arith, two, is));
   behind = λ is. absurd (omega (arith, two, is));
+  input_refused = λ is. absurd (omega (arith, two, is));
   write_fault = λ is. absurd (omega (arith, two, is));
   out_fault = λ is. absurd (omega (arith, two, is));
-  exact = λ clean t verdict is state judged. inl two;
+  exact = λ clean t verdict is state judged outcome known. inl two;
   complete = λ clean t ready. absurd ready;
   others = λ t. tt;
 }
@@ -173,9 +177,10 @@ none_causes told old out out' status (inr ten) = record {
   state_wrong = λ is. absurd (omega (arith, ten, is));
   other_cart = λ is. absurd (omega (arith, ten, is));
   behind = λ is. absurd (omega (arith, ten, is));
+  input_refused = λ is. absurd (omega (arith, ten, is));
   write_fault = λ is. absurd (omega (arith, ten, is));
   out_fault = λ is. absurd (omega (arith, ten, is));
-  exact = λ clean t verdict is state judged. inr ten;
+  exact = λ clean t verdict is state judged outcome known. inr ten;
   complete = λ clean t ready. absurd ready;
   others = λ t. tt;
 }
@@ -195,17 +200,18 @@ causes_of told sink (Info rom) old new out out' status ending cause leaves repor
       state_wrong = λ seven. info_state told rom old new ending cause (of_ending status (status_of ending) 7 by seven (λ is. omega (arith, is)));
       other_cart = λ eight. info_other told rom old new ending cause (of_ending status (status_of ending) 8 by eight (λ is. omega (arith, is)));
       behind = λ nine. info_behind told rom old new ending cause (of_ending status (status_of ending) 9 by nine (λ is. omega (arith, is)));
+      input_refused = λ seventeen. absurd (info_refused told rom old new ending cause (of_ending status (status_of ending) 17 by seventeen (λ is. omega (arith, is))));
       write_fault = λ four. info_write_fault told rom old new ending cause (of_ending status (status_of ending) 4 by four (λ is. omega (arith, is)));
       out_fault = λ thirteen. out_fault status (status_of ending) by (not_out ending) thirteen;
-      exact = λ clean t verdict is state judged.
-          exact_is status (status_of ending) (status_of (right_ending (Some (Info rom)) old.files verdict state)) by clean.puts
-          (info_right told rom old new verdict state ending cause clean.reads t);
+      exact = λ clean t verdict is state judged outcome known.
+          exact_is status (status_of ending) (status_of (right_ending (Some (Info rom)) old.files verdict state outcome)) by clean.puts
+          (info_right told rom old new verdict state outcome ending cause clean.reads t);
       complete = λ clean t ready.
-          ready_ends status (status_of (right_ending (Some (Info rom)) old.files (Recorded []) (StateWrongAt 0)))
-          (exact_is status (status_of ending) (status_of (right_ending (Some (Info rom)) old.files (Recorded []) (StateWrongAt 0))) by clean.puts
-          (info_right told rom old new (Recorded []) (StateWrongAt 0) ending cause clean.reads t))
+          ready_ends status (status_of (right_ending (Some (Info rom)) old.files (Recorded []) (StateWrongAt 0) (Made [])))
+          (exact_is status (status_of ending) (status_of (right_ending (Some (Info rom)) old.files (Recorded []) (StateWrongAt 0) (Made []))) by clean.puts
+          (info_right told rom old new (Recorded []) (StateWrongAt 0) (Made []) ending cause clean.reads t))
           (ap status_of (right_accepted (old.files rom) (Shown (header_lines (cart_of rom old.files))) ready));
-      others = λ t name no_frames no_sound no_journal no_save. ap (λ (files : Files). files name) (leaves t);
+      others = λ t name no_frames no_sound no_journal no_save no_output. ap (λ (files : Files). files name) (leaves t);
     }
 causes_of told sink (RunCart run) old new out out' status ending cause leaves reports =
     let by = reported sink (Some (RunCart run)) ending out out' status reports in
@@ -219,10 +225,11 @@ causes_of told sink (RunCart run) old new out out' status ending cause leaves re
       state_wrong = λ seven. run_state told run old new ending cause (of_ending status (status_of ending) 7 by seven (λ is. omega (arith, is)));
       other_cart = λ eight. run_other told run old new ending cause (of_ending status (status_of ending) 8 by eight (λ is. omega (arith, is)));
       behind = λ nine. run_behind told run old new ending cause (of_ending status (status_of ending) 9 by nine (λ is. omega (arith, is)));
+      input_refused = λ seventeen. absurd (run_refused told run old new ending cause (of_ending status (status_of ending) 17 by seventeen (λ is. omega (arith, is))));
       write_fault = λ four. run_write_fault told run old new ending cause (of_ending status (status_of ending) 4 by four (λ is. omega (arith, is)));
       out_fault = λ thirteen. out_fault status (status_of ending) by (not_out ending) thirteen;
-      exact = λ clean t verdict is state judged.
-          exact_is status (status_of ending) (status_of (right_ending (Some (RunCart run)) old.files verdict state)) by clean.puts
+      exact = λ clean t verdict is state judged outcome known.
+          exact_is status (status_of ending) (status_of (asked_ending run old.files verdict state)) by clean.puts
           (run_right told run old new verdict state ending cause is judged clean.reads clean.writes t);
       complete = λ clean t ready.
           let begins = ready.1.1 in
@@ -230,11 +237,37 @@ causes_of told sink (RunCart run) old new out out' status ending cause leaves re
           let state = Keeps ready.1.0 in
           let is = recording_judged run.recording old.files begins.inputs.recording begins.are.recording in
           let judged = state_judged run old.files begins.inputs ready.1.0 begins.are begins.with in
-          ready_ends status (status_of (right_ending (Some (RunCart run)) old.files verdict state))
-          (exact_is status (status_of ending) (status_of (right_ending (Some (RunCart run)) old.files verdict state)) by clean.puts
+          ready_ends status (status_of (asked_ending run old.files verdict state))
+          (exact_is status (status_of ending) (status_of (asked_ending run old.files verdict state)) by clean.puts
           (run_right told run old new verdict state ending cause is judged clean.reads clean.writes t))
           (right_done run old.files verdict state ready.1.0 ready.0.1 ready.1.2 begins is judged);
-      others = λ t. leaves_other run old.files new.files ending (leaves t);
+      others = λ t name no_frames no_sound no_journal no_save no_output. leaves_other run old.files new.files ending (leaves t) name no_frames no_sound no_journal no_save;
+    }
+causes_of told sink (Convert conversion) old new out out' status ending cause leaves reports =
+    let by = reported sink (Some (Convert conversion)) ending out out' status reports in
+    record {
+      usage = λ two. absurd (convert_usage told conversion old new ending cause (of_ending status (status_of ending) 2 by two (λ is. omega (arith, is))));
+      refused = λ none. absurd (is_asked (Convert conversion) none);
+      too_far = λ eleven. absurd (convert_far told conversion old new ending cause (of_ending status (status_of ending) 11 by eleven (λ is. omega (arith, is))));
+      far_refused = λ far. absurd (omega (arith, far));
+      read_fault = λ three. convert_read_fault told conversion old new ending cause (of_ending status (status_of ending) 3 by three (λ is. omega (arith, is)));
+      wrong = λ six. absurd (convert_wrong told conversion old new ending cause (of_ending status (status_of ending) 6 by six (λ is. omega (arith, is))));
+      state_wrong = λ seven. absurd (convert_state told conversion old new ending cause (of_ending status (status_of ending) 7 by seven (λ is. omega (arith, is))));
+      other_cart = λ eight. absurd (convert_other told conversion old new ending cause (of_ending status (status_of ending) 8 by eight (λ is. omega (arith, is))));
+      behind = λ nine. absurd (convert_behind told conversion old new ending cause (of_ending status (status_of ending) 9 by nine (λ is. omega (arith, is))));
+      input_refused = λ seventeen. convert_refused told conversion old new ending cause (of_ending status (status_of ending) 17 by seventeen (λ is. omega (arith, is)));
+      write_fault = λ four. convert_write_fault told conversion old new ending cause (of_ending status (status_of ending) 4 by four (λ is. omega (arith, is)));
+      out_fault = λ thirteen. out_fault status (status_of ending) by (not_out ending) thirteen;
+      exact = λ clean t verdict is state judged outcome known.
+          exact_is status (status_of ending) (status_of (convert_ending conversion old.files outcome)) by clean.puts
+          (convert_right told conversion old new outcome ending cause known clean.reads clean.writes t);
+      complete = λ clean t ready.
+          let known = made_outcome conversion (old.files conversion.input) ready.0 ready.1.0 in
+          ready_ends status (status_of (convert_ending conversion old.files (Made ready.0)))
+          (exact_is status (status_of ending) (status_of (convert_ending conversion old.files (Made ready.0))) by clean.puts
+          (convert_right told conversion old new (Made ready.0) ending cause known clean.reads clean.writes t))
+          (convert_done conversion (old.files conversion.input) ready.0 ready.1.0);
+      others = λ t name no_frames no_sound no_journal no_save no_output. converted_other conversion old.files new.files ending (leaves t) name no_output;
     }
 causes_of told sink (RunDemo demo) old new out out' status ending (same, ends) leaves reports =
     let by = reported sink (Some (RunDemo demo)) ending out out' status reports in
@@ -249,17 +282,18 @@ causes_of told sink (RunDemo demo) old new out out' status ending (same, ends) l
       state_wrong = λ seven. absurd (never 7 (of_ending status (status_of ending) 7 by seven (λ is. omega (arith, is))) (omega arith) (omega arith));
       other_cart = λ eight. absurd (never 8 (of_ending status (status_of ending) 8 by eight (λ is. omega (arith, is))) (omega arith) (omega arith));
       behind = λ nine. demo_behind demo ending ends (of_ending status (status_of ending) 9 by nine (λ is. omega (arith, is)));
+      input_refused = λ seventeen. absurd (demo_refused demo ending ends (of_ending status (status_of ending) 17 by seventeen (λ is. omega (arith, is))));
       write_fault = λ four. absurd (never 4 (of_ending status (status_of ending) 4 by four (λ is. omega (arith, is))) (omega arith) (omega arith));
       out_fault = λ thirteen. out_fault status (status_of ending) by (not_out ending) thirteen;
-      exact = λ clean t verdict is state judged.
-          exact_is status (status_of ending) (status_of (right_ending (Some (RunDemo demo)) old.files verdict state)) by clean.puts
-          (demo_right demo old.files verdict state ending ends);
+      exact = λ clean t verdict is state judged outcome known.
+          exact_is status (status_of ending) (status_of (right_ending (Some (RunDemo demo)) old.files verdict state outcome)) by clean.puts
+          (demo_right demo old.files verdict state outcome ending ends);
       complete = λ clean t ready.
-          ready_ends status (status_of (right_ending (Some (RunDemo demo)) old.files (Recorded []) (StateWrongAt 0)))
-          (exact_is status (status_of ending) (status_of (right_ending (Some (RunDemo demo)) old.files (Recorded []) (StateWrongAt 0))) by clean.puts
-          (demo_right demo old.files (Recorded []) (StateWrongAt 0) ending ends))
-          (right_demo_done demo old.files (Recorded []) (StateWrongAt 0) ready);
-      others = λ t name no_frames no_sound no_journal no_save. ap (λ (files : Files). files name) (leaves t);
+          ready_ends status (status_of (right_ending (Some (RunDemo demo)) old.files (Recorded []) (StateWrongAt 0) (Made [])))
+          (exact_is status (status_of ending) (status_of (right_ending (Some (RunDemo demo)) old.files (Recorded []) (StateWrongAt 0) (Made []))) by clean.puts
+          (demo_right demo old.files (Recorded []) (StateWrongAt 0) (Made []) ending ends))
+          (right_demo_done demo old.files (Recorded []) (StateWrongAt 0) (Made []) ready);
+      others = λ t name no_frames no_sound no_journal no_save no_output. ap (λ (files : Files). files name) (leaves t);
     }
 
 -- where memory was wanting for the words
@@ -268,11 +302,13 @@ memory_cause told None old = tt
 memory_cause told (Some (Info rom)) old = tt
 memory_cause told (Some (RunCart run)) old = tt
 memory_cause told (Some (RunDemo demo)) old = (refl, tt)
+memory_cause told (Some (Convert conversion)) old = tt
 
 memory_leaves : (command : Option Command) (files : Files) → LeavesFiles command files files Memory
 memory_leaves None files = refl
 memory_leaves (Some (Info rom)) files = refl
 memory_leaves (Some (RunDemo demo)) files = refl
+memory_leaves (Some (Convert conversion)) files = refl
 memory_leaves (Some (RunCart run)) files = record {
   parts = record { frames = None; sound = None; journal = None; state = None };
   frames = tt;

@@ -10,7 +10,7 @@ use Rattle.md_top.specs.Loads.{IsLoadFound, OfOther, StateWrongAt}
 use Rattle.md_top.specs.Endings.{InfoEnds, RunEnds, status_of, text_of}
 use Rattle.md_words.specs.Words.{Command, Info, Run, RunCart}
 use Rattle.md_top.specs.declared.ending.Ending.{Ending}
-use Rattle.md_top.specs.declared.ending.Ending.TheVariants.{Shown, Done, DemoDone, Usage, TooFar, ReadFault, RecordingFault, RecordingWrong, StateFault, StateWrong, OtherCart, Behind, FramesFault, SoundFault, JournalFault, SaveFault, Unsaved, Memory}
+use Rattle.md_top.specs.declared.ending.Ending.TheVariants.{Shown, Done, DemoDone, Converted, OutputFault, Usage, TooFar, ReadFault, RecordingFault, RecordingWrong, StateFault, StateWrong, OtherCart, Behind, FramesFault, SoundFault, JournalFault, SaveFault, Unsaved, Memory}
 
 -- the status is the ending's, but where the sink failed within an output
 pub put_output : (told : Type 0) (text : List ℕ) (out out' : SinkState) (status : ℕ) → PutsOutput told text out out' status
@@ -23,6 +23,7 @@ pub reported : (sink : Type 0) (command : Option Command) (ending : Ending) (out
 reported sink command (Shown lines) out out' status reports = put_output sink (text_of command (Shown lines)) out out' status reports
 reported sink command (Done from accesses halted) out out' status reports = put_output sink (text_of command (Done from accesses halted)) out out' status reports
 reported sink command (DemoDone summary) out out' status reports = put_output sink (text_of command (DemoDone summary)) out out' status reports
+reported sink command (Converted size) out out' status reports = put_output sink (text_of command (Converted size)) out out' status reports
 reported sink command _ out out' status reports = inl reports.0
 
 -- a status other than 13 is the ending's
@@ -129,6 +130,7 @@ info_write_fault told rom old new FramesFault cause is = absurd cause
 info_write_fault told rom old new SoundFault cause is = absurd cause
 info_write_fault told rom old new JournalFault cause is = absurd cause
 info_write_fault told rom old new SaveFault cause is = absurd cause
+info_write_fault told rom old new OutputFault cause is = absurd cause
 info_write_fault told rom old new _ cause is = absurd (omega (arith, is))
 
 pub run_write_fault : (told : Type 0) (run : Run) (old new : DepotState) (ending : Ending) → RunEnds told run old new ending → status_of ending ≡ 4 → Rose old.write_faults new.write_faults
@@ -136,6 +138,7 @@ run_write_fault told run old new FramesFault cause is = cause.2.1
 run_write_fault told run old new SoundFault cause is = cause.2.1
 run_write_fault told run old new JournalFault cause is = cause.2.1
 run_write_fault told run old new SaveFault cause is = cause.2.1
+run_write_fault told run old new OutputFault cause is = absurd cause.1
 run_write_fault told run old new _ cause is = absurd (omega (arith, is))
 
 -- where the end is too far no other ending comes

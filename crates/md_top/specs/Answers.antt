@@ -6,10 +6,12 @@ use Rattle.md_top.specs.Inputs.{IsJudged, IsMissing, Verdict}
 use Rattle.md_top.specs.Limits.{last_cycle}
 use Rattle.md_top.specs.Loads.{Begins, IsLoadFound, IsStateJudged, MayBeginAt, OfOther, StateVerdict, StateWrongAt}
 use Rattle.md_machine.specs.Starts.{Start}
-use Rattle.md_words.specs.Words.{Command, Info, RunCart, RunDemo, end_of, frames_name, journal_name, recording_name, run_in, save_name, sound_name}
+use Rattle.md_vgm.specs.Outcomes.{Outcome}
+use Rattle.md_words.specs.Words.{Command, Convert, Info, RunCart, RunDemo, conversion_in, end_of, frames_name, journal_name, recording_name, run_in, save_name, sound_name}
+use Rattle.md_top.specs.Conversions.{IsInputOutcome, IsRefusedInput}
 use Rattle.md_top.specs.Endings.{HasCause, IsReady, LeavesFiles, right_ending, status_of, text_of}
 use Rattle.md_top.specs.declared.ending.Ending.{Ending}
-use Rattle.md_top.specs.declared.ending.Ending.TheVariants.{DemoDone, Done, Shown}
+use Rattle.md_top.specs.declared.ending.Ending.TheVariants.{Converted, DemoDone, Done, Shown}
 
 -- the text was put, where the sink tells it
 pub record PutsAll (told : Type 0) (text : List ℕ) (old new : SinkState) : Type 0 where
@@ -30,6 +32,7 @@ abbrev pub Reports : Type 0 → Option Command → Ending → SinkState → Sink
 Reports told command (Shown lines) old new status = PutsOutput told (text_of command (Shown lines)) old new status
 Reports told command (Done from accesses halted) old new status = PutsOutput told (text_of command (Done from accesses halted)) old new status
 Reports told command (DemoDone summary) old new status = PutsOutput told (text_of command (DemoDone summary)) old new status
+Reports told command (Converted size) old new status = PutsOutput told (text_of command (Converted size)) old new status
 Reports told command ending old new status =
     (status ≡ status_of ending) × (PutsAll told (text_of command ending) old new ⊎ PutsPart told (text_of command ending) old new)
 
@@ -50,6 +53,7 @@ pub record NoFaults (old new : DepotState) (out out' : SinkState) : Type 0 where
 abbrev pub IsBehind : Type 0 → Command → Files → Type 0
 IsBehind told (Info rom) files = ⊥
 IsBehind told (RunDemo demo) files = demo.cycles ≡ 0
+IsBehind told (Convert conversion) files = ⊥
 IsBehind told (RunCart run) files =
     (from : ℕ) × MayBeginAt run from × (run.cycles ≤ from) × (told → (start : Start) × Begins run files start × (from ≡ start.at))
 
@@ -64,13 +68,16 @@ pub record Causes (depot_told : Type 0) (command : Option Command) (old new : De
   pub state_wrong : status ≡ 7 → IsSomeAnd (option_and_then run_in command) (λ run. (place : ℕ) × IsLoadFound depot_told run old.files (StateWrongAt place))
   pub other_cart : status ≡ 8 → IsSomeAnd (option_and_then run_in command) (λ run. (kept : List ℕ) × (given : List ℕ) × IsLoadFound depot_told run old.files (OfOther kept given))
   pub behind : status ≡ 9 → IsSomeAnd command (λ asked. IsBehind depot_told asked old.files)
+  pub input_refused : status ≡ 17 → IsSomeAnd (option_and_then conversion_in command) (λ conversion. IsRefusedInput depot_told conversion old.files)
   pub write_fault : status ≡ 4 → Rose old.write_faults new.write_faults
   pub out_fault : status ≡ 13 → Rose out.faults out'.faults
   -- each refusal comes exactly where it should, in this order; want of memory may come between
   pub exact : NoFaults old new out out' → depot_told → (verdict : Verdict) → IsJudged (option_and_then recording_name command) old.files verdict
       → (state : StateVerdict) → IsStateJudged (option_and_then run_in command) old.files verdict state
-      → (status ≡ status_of (right_ending command old.files verdict state)) ⊎ (status ≡ 10)
+      → (outcome : Outcome) → IsInputOutcome (option_and_then conversion_in command) old.files outcome
+      → (status ≡ status_of (right_ending command old.files verdict state outcome)) ⊎ (status ≡ 10)
   -- where nothing is wrong the command ends well, or memory is wanting
   pub complete : NoFaults old new out out' → depot_told → IsSomeAnd command (λ asked. IsReady asked old.files) → (status ≡ 0) ⊎ (status ≡ 10)
   -- no file but the outputs changes
-  pub others : depot_told → IfSome command (λ asked. (name : List ℕ) → frames_name asked ≢ Some name → sound_name asked ≢ Some name → journal_name asked ≢ Some name → save_name asked ≢ Some name → new.files name ≡ old.files name)
+  pub others : depot_told → IfSome command (λ asked. (name : List ℕ) → frames_name asked ≢ Some name → sound_name asked ≢ Some name → journal_name asked ≢ Some name → save_name asked ≢ Some name
+      → IfSome (conversion_in asked) (λ conversion. conversion.output ≢ name) → new.files name ≡ old.files name)

@@ -15,17 +15,22 @@ use Rattle.md_top.specs.Loads.{Begins, CanRun, Keeps, LoadCause, MayBeginAt, OfO
 use Rattle.md_top.specs.Heard.{IsHeard}
 use Rattle.md_top.specs.Runs.{entries_from, halted_from, pieces_of, pieces_until, powered_on}
 use Rattle.md_top.specs.Outputs.{Holds, IsUnwritten, LeavesParts, nothing}
-use Rattle.md_words.specs.Words.{Command, Demo, Info, Run, RunCart, RunDemo, end_of, frames_name, journal_name, load_name, recording_name, rom_of, save_name, sound_name}
+use Rattle.md_vgm.specs.Outcomes.{Outcome}
+use Rattle.md_words.specs.Words.{Command, Convert, Demo, Info, Run, RunCart, RunDemo, end_of, frames_name, journal_name, load_name, output_of, recording_name, rom_of, save_name, sound_name}
+use Rattle.md_top.specs.Conversions.{CanConvert, ConvertEnds, ConvertFiles, convert_ending, fault_line}
 use Rattle.md_top.specs.declared.digests.Digests.{Digests}
 use Rattle.md_top.specs.declared.ending.Ending.{Ending}
 use Rattle.md_top.specs.declared.inputs.Inputs.{Inputs}
-use Rattle.md_top.specs.declared.ending.Ending.TheVariants.{Shown, Done, DemoDone, Usage, TooFar, ReadFault, TooLong, Short, NoMark, RecordingFault, RecordingTooLong, RecordingWrong, StateFault, StateTooLong, StateWrong, OtherCart, Behind, FramesFault, SoundFault, JournalFault, SaveFault, Unsaved, Memory}
+use Rattle.md_top.specs.declared.ending.Ending.TheVariants.{Shown, Done, DemoDone, Converted, InputRefused, OutputFault, Usage, TooFar, ReadFault, TooLong, Short, NoMark, RecordingFault, RecordingTooLong, RecordingWrong, StateFault, StateTooLong, StateWrong, OtherCart, Behind, FramesFault, SoundFault, JournalFault, SaveFault, Unsaved, Memory}
 
 -- the status that the program ends with
 abbrev pub status_of : Ending → ℕ
 status_of (Shown lines) = 0
 status_of (Done from accesses halted) = 0
 status_of (DemoDone summary) = 0
+status_of (Converted size) = 0
+status_of (InputRefused fault) = 17
+status_of OutputFault = 4
 status_of Usage = 2
 status_of ReadFault = 3
 status_of RecordingFault = 3
@@ -108,6 +113,9 @@ abbrev pub text_of : Option Command → Ending → List ℕ
 text_of (Some command) (Shown lines) = lines
 text_of (Some command) (Done from accesses halted) = lines_of from (end_of command) accesses halted
 text_of (Some command) (DemoDone summary) = lines_of 0 (end_of command) summary.accesses summary.halted ++ digest_lines summary.digests
+text_of (Some command) (Converted size) = number_line (codes "bytes ") size
+text_of (Some command) (InputRefused fault) = fault_line fault
+text_of (Some command) OutputFault = codes "fault: writing " ++ output_of command ++ codes "\n"
 text_of (Some command) TooFar = codes "refused: cycle " ++ decimal (end_of command) ++ codes " is too far\n"
 text_of (Some command) ReadFault = codes "fault: reading " ++ rom_of command ++ codes "\n"
 text_of (Some command) TooLong = codes "refused: " ++ rom_of command ++ codes " is too long\n"
@@ -129,11 +137,12 @@ text_of (Some command) Unsaved = codes "refused: memory\n"
 text_of command Memory = codes "refused: memory\n"
 text_of command ending = codes "refused: usage\n"
 
--- the inputs are there, and a run's end lies above its start and within the limits
+-- the inputs are there and accepted, and a run's end lies above its start and within the limits
 abbrev pub IsReady : Command → Files → Type 0
 IsReady (Info rom) files = IsAccepted (files rom)
 IsReady (RunCart run) files = IsEnd run.cycles × CanRun run files
 IsReady (RunDemo demo) files = IsEnd demo.cycles
+IsReady (Convert conversion) files = CanConvert conversion files
 
 -- why a run from a start ends, once it has begun
 abbrev pub RunCause : Start → Run → DepotState → DepotState → Ending → Type 0
@@ -179,6 +188,7 @@ HasCause told None old new ending = ⊥
 HasCause told (Some (Info rom)) old new ending = InfoEnds told rom old new ending
 HasCause told (Some (RunCart run)) old new ending = RunEnds told run old new ending
 HasCause told (Some (RunDemo demo)) old new ending = (new ≡ old) × DemoEnds demo ending
+HasCause told (Some (Convert conversion)) old new ending = ConvertEnds told conversion old new ending
 
 -- the outputs hold what the run from a start made below a cycle
 abbrev pub HoldsUntil : Start → Run → Files → Files → ℕ → Type 0
@@ -216,6 +226,7 @@ LeavesFiles None old new ending = new ≡ old
 LeavesFiles (Some (Info rom)) old new ending = new ≡ old
 LeavesFiles (Some (RunCart run)) old new ending = RunFiles run old new ending
 LeavesFiles (Some (RunDemo demo)) old new ending = new ≡ old
+LeavesFiles (Some (Convert conversion)) old new ending = ConvertFiles conversion old new ending
 
 -- The ending where neither a fault nor want of memory comes between: the refusals in their order.
 
@@ -275,11 +286,16 @@ accepted_ending run files verdict state =
 abbrev pub demo_ending : Demo → Ending
 demo_ending demo = if nat_le demo.cycles 0 then Behind 0 else DemoDone (summary_from (demo_start demo.number) demo.cycles)
 
--- what a command line comes to, with these files and these verdicts on the recording and on the saved
--- state that it names
-abbrev pub right_ending : Option Command → Files → Verdict → StateVerdict → Ending
-right_ending None files verdict state = Usage
-right_ending (Some (Info rom)) files verdict state = file_ending (files rom) (Shown (header_lines (cart_of rom files)))
-right_ending (Some (RunCart run)) files verdict state =
+-- what a run comes to, with these files and these verdicts on its recording and on its saved state
+abbrev pub asked_ending : Run → Files → Verdict → StateVerdict → Ending
+asked_ending run files verdict state =
     if nat_lt last_cycle run.cycles then TooFar else file_ending (files run.rom) (accepted_ending run files verdict state)
-right_ending (Some (RunDemo demo)) files verdict state = if nat_lt last_cycle demo.cycles then TooFar else demo_ending demo
+
+-- what a command line comes to, with these files, these verdicts on the recording and on the saved state that it
+-- names, and this outcome of the input of the conversion that it asks for
+abbrev pub right_ending : Option Command → Files → Verdict → StateVerdict → Outcome → Ending
+right_ending None files verdict state outcome = Usage
+right_ending (Some (Info rom)) files verdict state outcome = file_ending (files rom) (Shown (header_lines (cart_of rom files)))
+right_ending (Some (RunCart run)) files verdict state outcome = asked_ending run files verdict state
+right_ending (Some (RunDemo demo)) files verdict state outcome = if nat_lt last_cycle demo.cycles then TooFar else demo_ending demo
+right_ending (Some (Convert conversion)) files verdict state outcome = convert_ending conversion files outcome

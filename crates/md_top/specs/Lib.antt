@@ -1,4 +1,5 @@
 pub mod Answers
+pub mod Conversions
 pub mod Courses
 pub mod Demos
 pub mod Endings

@@ -1,5 +1,6 @@
 use crate::summary::Summary;
 use crate::text::Text;
+use md_vgm::VgmFault;
 
 /// What a command line comes to.
 #[derive(Drop)]
@@ -17,13 +18,19 @@ pub(crate) enum Ending {
     },
     /// The run of a demonstration cartridge ended well.
     DemoDone(Summary),
+    /// A file was made of another one, with so many bytes.
+    Converted(u64),
+    /// The input of a conversion is refused, at a place in it.
+    InputRefused(VgmFault),
+    /// The output of a conversion could not be written.
+    OutputFault,
     /// The words ask for nothing that there is.
     Usage,
     /// The run's end lies behind the last cycle.
     TooFar,
-    /// The cartridge's file could not be read.
+    /// The cartridge's file, or the input of a conversion, could not be read.
     ReadFault,
-    /// The cartridge's file is longer than its limit.
+    /// The cartridge's file, or the input of a conversion, is longer than its limit.
     TooLong,
     /// The cartridge's file is too short.
     Short,

@@ -6,6 +6,7 @@ ghost use Rattle.md_top.specs.Answers.{PutsAll, PutsOutput, PutsPart, Reports};
 ghost use Rattle.md_top.specs.Endings.{carts_line, counts_of, frames_between, halted_line, lines_of, number_line, numbers_line};
 ghost use Rattle.md_words.specs.Shown.{shown_command};
 
+use crate::converting::refuse_input;
 use crate::ending::Ending;
 use crate::put::{put_three, put_two};
 use crate::report_demo::put_summary;
@@ -53,6 +54,9 @@ pub(crate) fn report<S: Sink>(command: &CommandWords<'_>, ending: Ending, out: &
         Ending::SoundFault => refuse_file(out, 4, "fault: writing ", command.sound(), "\n"),
         Ending::JournalFault => refuse_file(out, 4, "fault: writing ", command.journal(), "\n"),
         Ending::SaveFault => refuse_file(out, 4, "fault: writing ", command.save(), "\n"),
+        Ending::Converted(size) => status_of(put_number(out, "bytes ", size)),
+        Ending::InputRefused(fault) => refuse_input(out, fault),
+        Ending::OutputFault => refuse(out, 4, "fault: writing ", command.output(), "\n"),
         Ending::Unsaved | Ending::Memory => refuse(out, 10, "refused: memory\n", "", ""),
     }
 }
@@ -100,7 +104,7 @@ fn refuse_behind<S: Sink>(out: &mut S, end: u64, from: u64) -> u8
 }
 
 /// Refuses an input that goes wrong at this byte.
-fn refuse_place<S: Sink>(out: &mut S, status: u8, before: &str, place: u64) -> u8
+pub(crate) fn refuse_place<S: Sink>(out: &mut S, status: u8, before: &str, place: u64) -> u8
     ensures status { result ≡ status }
     ensures put { let line = before.now ++ decimal place ++ codes "\n" in
         PutsAll S.told line (S.state out.old) (S.state out.new) ⊎ PutsPart S.told line (S.state out.old) (S.state out.new) }

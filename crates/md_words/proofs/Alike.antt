@@ -16,20 +16,20 @@ use Rattle.md_words.proofs.Tails.{Alike, Stays, alike_meant, alike_stays, behind
 -- ---- an option and its value in two words, and in one
 
 written_here : (name value : Text) (after : List Text) → list_any (has_name name) run_options ≡ true → is_marked value ≡ false → (free : Bool) (place : Place)
-    → Alike (given (left_of free) run_options place (words_of (apart name value) ++ after)) (given (left_of free) run_options place (words_of (joined name value) ++ after))
+    → Alike (given (left_of free) run_options [] place (words_of (apart name value) ++ after)) (given (left_of free) run_options [] place (words_of (joined name value) ++ after))
 written_here name value after listed unmarked true ended =
     inr (
-      refused_here (codes "--" ++ name) (given [] run_options ended (value ∷ after)) refl,
-      refused_here (codes "--" ++ name ++ codes "=" ++ value) (given [] run_options ended after) refl,
+      refused_here (codes "--" ++ name) (given [] run_options [] ended (value ∷ after)) refl,
+      refused_here (codes "--" ++ name ++ codes "=" ++ value) (given [] run_options [] ended after) refl,
     )
 written_here name value after listed unmarked false ended = inl refl
 written_here name value after listed unmarked free (value_of other) = inl refl
 written_here name value after listed unmarked free between =
     let known = readable_among run_options name run_readable listed in
     inl
-    (sym (given_open run_options (left_of free) (codes "--" ++ name) (value ∷ after) name known.apart_no_end refl known.apart_word listed)
-    ∙ sym (given_value run_options (left_of free) value after name unmarked)
-    ∙ given_option run_options (left_of free) (codes "--" ++ name ++ codes "=" ++ value) after name value (known.joined_no_end value) refl (known.joined_word value) listed)
+    (sym (given_open run_options [] (left_of free) (codes "--" ++ name) (value ∷ after) name known.apart_no_end refl known.apart_word listed)
+    ∙ sym (given_value run_options [] (left_of free) value after name unmarked)
+    ∙ given_option run_options [] (left_of free) (codes "--" ++ name ++ codes "=" ++ value) after name value (known.joined_no_end value) refl (known.joined_word value) listed)
 
 pub written_alike : (before after : List Text) (name value : Text) → list_any (has_name name) run_options ≡ true → is_marked value ≡ false
     → run_of (before ++ (words_of (apart name value) ++ after)) ≡ run_of (before ++ (words_of (joined name value) ++ after))
@@ -169,16 +169,16 @@ module _ (count other : Text) (fits : IsSome (workers_of (Some count))) (other_f
       (λ alike. ap (option_map but_workers) (alike_meant first second alike)) nearly
 
   workers_here : (after : List Text) (free : Bool) (place : Place)
-      → Nearly (given (left_of free) run_options place (words_of (joined workers count) ++ after)) (given (left_of free) run_options place (words_of (joined workers other) ++ after))
+      → Nearly (given (left_of free) run_options [] place (words_of (joined workers count) ++ after)) (given (left_of free) run_options [] place (words_of (joined workers other) ++ after))
   workers_here after true ended =
       inr
       (inr (
-        refused_here (codes "--" ++ workers ++ codes "=" ++ count) (given [] run_options ended after) refl,
-        refused_here (codes "--" ++ workers ++ codes "=" ++ other) (given [] run_options ended after) refl,
+        refused_here (codes "--" ++ workers ++ codes "=" ++ count) (given [] run_options [] ended after) refl,
+        refused_here (codes "--" ++ workers ++ codes "=" ++ other) (given [] run_options [] ended after) refl,
       ))
   workers_here after false ended = inr (inl refl)
   workers_here after free (value_of name) = inr (inl refl)
-  workers_here after free between = go (given (left_of free) run_options between after)
+  workers_here after free between = go (given (left_of free) run_options [] between after)
     where
       go : (behind : Option (List Argument)) → Nearly (with_value workers count behind) (with_value workers other behind)
       go None = inr (inl refl)

@@ -1,4 +1,4 @@
--- `info` and `run` are read as their words are meant.
+-- The words of each command are read as they are meant.
 use Rattle.std.proofs.Common.{◌≡◌, ◌∙◌, refl, sym, ap, ℕ, Bool, true, false, cond, not, ◌||◌, codes, string_bytes, List, [], ◌∷◌, map, Option, Some, None}
 use Rattle.std.specs.Option.{is_some, option_and_then}
 use Rattle.std.proofs.lemmas.Bool.{true≢false}
@@ -8,9 +8,10 @@ use Rattle.clap.specs.Simple.{built}
 use Rattle.clap.specs.Walk.{Rule, Text, is_empty, nothing_held, rows_after}
 use Rattle.clap.proofs.FaultLemmas.{leaf_fault}
 use Rattle.md_words.specs.Given.{Argument, value_in}
-use Rattle.md_words.specs.Parse.{info_app, info_parsed, parse_of, run_app, run_parsed}
-use Rattle.md_words.specs.Words.{Values, info_by, info_of, run_by, run_from, run_of, run_options, values_by, workers_of}
-use Rattle.md_words.proofs.Lookups.{AreFound, are_found, option_rule, word_rule}
+use Rattle.md_words.specs.Parse.{conversion_app, conversion_parsed, info_app, info_parsed, parse_of, run_app, run_parsed}
+use Rattle.md_words.specs.Words.{Values, conversion_by, conversion_given, conversion_of, info_by, info_of, run_by, run_from, run_of, run_options, values_by, workers_of}
+use Rattle.md_words.specs.declared.convert_words.Product.{Product}
+use Rattle.md_words.proofs.Lookups.{AreFound, are_found, flag_found, flag_rule, option_rule, word_rule}
 use Rattle.md_words.proofs.Parsed.{means, options_have_none, parsed}
 use Rattle.md_words.proofs.Rows.{given_is, row}
 use Rattle.md_words.proofs.Turns.{lacks}
@@ -49,13 +50,13 @@ info_parse_is : (words : List Text) → parse_of info_app words ≡ parsed (code
 unfolding info_app
 info_parse_is words = ap (λ kinds. cond (is_empty kinds) (Some (rows_after (rom ∷ []) [] words)) None) (leaf_fault (built info_app) nothing_held words refl)
 
-info_found : AreFound (rom ∷ []) []
+info_found : AreFound (rom ∷ []) [] []
 info_found = are_found (rom ∷ []) [] (λ name. refl) tt
 
 pub info_means : (words : List Text) → AreTexts words → info_parsed words ≡ info_of words
 info_means words texts =
     ap (option_and_then _) (info_parse_is words)
-    ∙ means (codes "info") (rom ∷ []) (codes "rom" ∷ []) [] info_found (λ letter. refl) (refl, refl, refl) (refl, tt) info_by info_wants words texts
+    ∙ means (codes "info") (rom ∷ []) (codes "rom" ∷ []) [] [] info_found (λ letter. refl) (refl, refl, refl) (refl, tt) info_by info_wants words texts
 
 same_none : {X : Type 0} (b : Bool) → ◌≡◌ {A = Option X} (cond b None None) None
 same_none true = refl
@@ -80,10 +81,39 @@ run_parse_is : (words : List Text) → parse_of run_app words ≡ parsed (codes 
 unfolding run_app
 run_parse_is words = ap (λ kinds. cond (is_empty kinds) (Some (rows_after run_rules [] words)) None) (leaf_fault (built run_app) nothing_held words refl)
 
-run_found : AreFound run_rules run_options
+run_found : AreFound run_rules run_options []
 run_found = are_found run_rules run_arguments (λ name. refl) (refl, (refl, (refl, (refl, (refl, (refl, (refl, (refl, tt))))))))
 
 pub run_means : (words : List Text) → AreTexts words → run_parsed words ≡ run_of words
 run_means words texts =
     ap (option_and_then _) (run_parse_is words)
-    ∙ means (codes "run") run_rules (codes "rom" ∷ []) run_options run_found (λ letter. refl) (refl, refl, refl) (refl, options_have_none run_arguments) run_by run_wants words texts
+    ∙ means (codes "run") run_rules (codes "rom" ∷ []) run_options [] run_found (λ letter. refl) (refl, refl, refl) (refl, options_have_none run_arguments) run_by run_wants words texts
+
+abbrev conversion_rules : List Rule
+conversion_rules = word_rule (codes "input") 1 ∷ word_rule (codes "output") 2 ∷ flag_rule (codes "pal") ∷ []
+
+no_output : (product : Product) (input : Option Text) (pal : Bool) → conversion_given product input None pal ≡ None
+no_output product None pal = refl
+no_output product (Some input) pal = refl
+
+conversion_without : (product : Product) (value : Text → Option Text) (input_given output_given : Bool) → is_some (value (codes "input")) ≡ input_given
+    → is_some (value (codes "output")) ≡ output_given → (not input_given || (not output_given || false)) ≡ true → conversion_by product value ≡ None
+conversion_without product value false output_given input_is output_is lacking = rw (is_none _ input_is) refl
+conversion_without product value true false input_is output_is lacking =
+    rw (is_none _ output_is) (no_output product (value (codes "input")) (is_some (value (codes "pal"))))
+conversion_without product value true true input_is output_is lacking = absurd (true≢false (sym lacking))
+
+conversion_wants : (product : Product) (arguments : List Argument) → lacks conversion_rules (map row arguments) ≡ true → conversion_by product (value_in arguments) ≡ None
+conversion_wants product arguments is =
+    conversion_without product (value_in arguments) _ _ (sym (given_is arguments (codes "input"))) (sym (given_is arguments (codes "output"))) is
+
+conversion_parse_is : (name : Text) (words : List Text) → parse_of (conversion_app name) words ≡ parsed name conversion_rules words
+unfolding conversion_app
+conversion_parse_is name words =
+    ap (λ kinds. cond (is_empty kinds) (Some (rows_after conversion_rules [] words)) None) (leaf_fault (built (conversion_app name)) nothing_held words refl)
+
+pub conversion_means : (name : Text) (product : Product) (words : List Text) → AreTexts words → conversion_parsed name product words ≡ conversion_of product words
+conversion_means name product words texts =
+    ap (option_and_then _) (conversion_parse_is name words)
+    ∙ means name conversion_rules (codes "input" ∷ codes "output" ∷ []) [] (codes "pal" ∷ []) (flag_found conversion_rules (codes "pal") (λ other. refl)) (λ letter. refl)
+    ((refl, refl, (refl, refl, refl))) (refl, (refl, (refl, tt))) (conversion_by product) (conversion_wants product) words texts

@@ -48,10 +48,10 @@ demo_parse_is : (words : List Text) → parse_of demo_app words ≡ parsed (code
 unfolding demo_app
 demo_parse_is words = ap (λ kinds. cond (is_empty kinds) (Some (rows_after demo_rules [] words)) None) (leaf_fault (built demo_app) nothing_held words refl)
 
-demo_found : AreFound demo_rules (codes "cycles" ∷ codes "workers" ∷ [])
+demo_found : AreFound demo_rules (codes "cycles" ∷ codes "workers" ∷ []) []
 demo_found = are_found demo_rules demo_arguments (λ name. refl) (refl, (refl, tt))
 
 pub demo_means : (words : List Text) → AreTexts words → demo_parsed words ≡ demo_of words
 demo_means words texts =
     ap (option_and_then _) (demo_parse_is words)
-    ∙ means (codes "demo") demo_rules (codes "number" ∷ []) (codes "cycles" ∷ codes "workers" ∷ []) demo_found (λ letter. refl) (refl, refl, refl) (refl, options_have_none demo_arguments) demo_by demo_wants words texts
+    ∙ means (codes "demo") demo_rules (codes "number" ∷ []) (codes "cycles" ∷ codes "workers" ∷ []) [] demo_found (λ letter. refl) (refl, refl, refl) (refl, options_have_none demo_arguments) demo_by demo_wants words texts

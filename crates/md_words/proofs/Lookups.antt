@@ -37,6 +37,14 @@ single id long index required =
 abbrev pub option_rule : Text × Bool → Rule
 option_rule option = single option.0 (Some option.0) None option.1
 
+-- a flag, by its name: it takes no value, and its value is then empty
+abbrev pub flag_rule : Text → Rule
+flag_rule name =
+    record (single name (Some name) None false) {
+      range = Some (record { start_inclusive = 0; end_inclusive = 0 });
+      missing = [] ∷ [];
+    }
+
 -- a positional word that has to be there, by its name and its place
 abbrev pub word_rule : Text → ℕ → Rule
 word_rule name place = single name None (Some place) true
@@ -48,13 +56,20 @@ pub record IsKnown (rules : List Rule) (options : List Text) (name : Text) : Typ
   pub id : arg_by_id rules name ≡ Some (single name (Some name) None required)
   pub listed : list_any (has_name name) options ≡ true
 
-pub record IsUnknown (rules : List Rule) (options : List Text) (name : Text) : Type 0 where
-  pub long : arg_by_long rules name ≡ None
-  pub listed : list_any (has_name name) options ≡ false
+-- the name is a flag's, which `clap` finds
+pub record IsFlag (rules : List Rule) (options flags : List Text) (name : Text) : Type 0 where
+  pub long : arg_by_long rules name ≡ Some (flag_rule name)
+  pub other : list_any (has_name name) options ≡ false
+  pub listed : list_any (has_name name) flags ≡ true
 
--- every name is one or the other
-abbrev pub AreFound : List Rule → List Text → Type 0
-AreFound rules options = (name : Text) → IsKnown rules options name ⊎ IsUnknown rules options name
+pub record IsUnknown (rules : List Rule) (options flags : List Text) (name : Text) : Type 0 where
+  pub long : arg_by_long rules name ≡ None
+  pub other : list_any (has_name name) options ≡ false
+  pub unlisted : list_any (has_name name) flags ≡ false
+
+-- every name is one of these
+abbrev pub AreFound : List Rule → List Text → List Text → Type 0
+AreFound rules options flags = (name : Text) → IsKnown rules options name ⊎ (IsFlag rules options flags name ⊎ IsUnknown rules options flags name)
 
 abbrev is_named : Text → Text × Bool → Bool
 is_named name option = bytes_eq option.0 name
@@ -107,18 +122,32 @@ id_among rules (first ∷ options) name option have found = go (is_named name fi
         (ap (λ o. o.0) (sym same) ∙ (bytes_eq-Decides first.0 name).0 is, subst (λ o. arg_by_id rules o.0 ≡ Some (option_rule o)) same have.0)
     go false is here later = later here
 
+-- a command whose one option is this flag
+pub flag_found : (rules : List Rule) (flag : Text) → ((name : Text) → arg_by_long rules name ≡ arg_by_long (flag_rule flag ∷ []) name) → AreFound rules [] (flag ∷ [])
+flag_found rules flag longs name = go (bytes_eq flag name) refl
+  where
+    go : (b : Bool) → bytes_eq flag name ≡ b → IsKnown rules [] name ⊎ (IsFlag rules [] (flag ∷ []) name ⊎ IsUnknown rules [] (flag ∷ []) name)
+    go true is =
+        let same : flag_rule flag ≡ flag_rule name = ap flag_rule ((bytes_eq-Decides flag name).0 is) in
+        inr (inl (record { long = longs name ∙ rw (is) (ap Some same); other = refl; listed = rw (is) refl }))
+    go false is = inr (inr (record { long = longs name ∙ rw (is) refl; other = refl; unlisted = rw (is) refl }))
+
 -- a command whose options are these, each found by its own name
 pub are_found : (rules : List Rule) (options : List (Text × Bool)) → ((name : Text) → arg_by_long rules name ≡ arg_by_long (map option_rule options) name) → HaveIds rules options
-    → AreFound rules (map (λ option. option.0) options)
+    → AreFound rules (map (λ option. option.0) options) []
 are_found rules options longs have name = go (find (is_named name) options) refl
   where
-    go : (o : Option (Text × Bool)) → find (is_named name) options ≡ o → IsKnown rules (map (λ option. option.0) options) name ⊎ IsUnknown rules (map (λ option. option.0) options) name
+    go : (o : Option (Text × Bool)) → find (is_named name) options ≡ o
+        → IsKnown rules (map (λ option. option.0) options) name
+        ⊎ (IsFlag rules (map (λ option. option.0) options) [] name ⊎ IsUnknown rules (map (λ option. option.0) options) [] name)
     go None is =
         inr
+        (inr
         (record {
           long = longs name ∙ long_among options name ∙ ap (option_map option_rule) is;
-          listed = listed_among options name ∙ ap (λ o. is_some o) is;
-        })
+          other = listed_among options name ∙ ap (λ o. is_some o) is;
+          unlisted = refl;
+        }))
     go (Some option) is =
         let own = id_among rules options name option have is in
         let rule_is : option_rule option ≡ single name (Some name) None option.1 = ap (λ n. single n (Some n) None option.1) own.0 in

@@ -72,11 +72,11 @@ parsed_is command rules none words =
     ∙ rw (no_defaults rules none rows, no_default_fault rules none rows)
     (fine_both walk_kinds (or_else end_kinds check_kinds) (Some rows) ∙ ap (if_fine walk_kinds) (fine_both end_kinds check_kinds (Some rows) ∙ ap (if_fine end_kinds) (checked command rules rows)))
 
-module _ (command : Text) (rules : List Rule) (positionals options : List Text) (found : AreFound rules options) (no_short : (letter : ℕ) → arg_by_short rules letter ≡ None)
+module _ (command : Text) (rules : List Rule) (positionals options flags : List Text) (found : AreFound rules options flags) (no_short : (letter : ℕ) → arg_by_short rules letter ≡ None)
     (left : AreLeft rules 1 positionals) (none : HaveNone rules) where
   -- the rows that are found are the arguments that are given
-  rows_given : (words : List Text) → AreTexts words → parsed command rules words ≡ taken rules (given positionals options between words) []
-  rows_given words texts = parsed_is command rules none words ∙ (both command rules options found no_short words texts).0 1 positionals left [] None
+  rows_given : (words : List Text) → AreTexts words → parsed command rules words ≡ taken rules (given positionals options flags between words) []
+  rows_given words texts = parsed_is command rules none words ∙ (both command rules options flags found no_short words texts).0 1 positionals left [] None
 
   -- a meaning of the arguments' values, which has none where one is wanting that has to be there
   module _ {X : Type 0} (meaning : (Text → Option Text) → Option X) (wants : (arguments : List Argument) → lacks rules (map row arguments) ≡ true → meaning (value_in arguments) ≡ None) where
@@ -97,5 +97,5 @@ module _ (command : Text) (rules : List Rule) (positionals options : List Text) 
 
     -- `clap` reads the words as they are meant
     pub means : (words : List Text) → AreTexts words
-        → option_and_then (λ rows. meaning (found_by rows)) (parsed command rules words) ≡ option_and_then (meant_by meaning) (given positionals options between words)
-    means words texts = ap (option_and_then (λ rows. meaning (found_by rows))) (rows_given words texts) ∙ of_taken (given positionals options between words)
+        → option_and_then (λ rows. meaning (found_by rows)) (parsed command rules words) ≡ option_and_then (meant_by meaning) (given positionals options flags between words)
+    means words texts = ap (option_and_then (λ rows. meaning (found_by rows))) (rows_given words texts) ∙ of_taken (given positionals options flags between words)

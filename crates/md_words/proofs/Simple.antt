@@ -6,7 +6,7 @@ use Rattle.clap.specs.Matches.{found_of}
 use Rattle.clap.specs.Simple.{App}
 use Rattle.clap.specs.Walk.{Row, Text, rows_of}
 use Rattle.clap.specs.declared.parser.matches.ArgMatches.{ArgMatches}
-use Rattle.md_words.specs.Parse.{demo_app, info_app, parse_of, run_app}
+use Rattle.md_words.specs.Parse.{conversion_app, demo_app, info_app, parse_of, run_app}
 
 pub info_is_simple : is_simple_and_free info_app ≡ true
 unfolding info_app
@@ -19,6 +19,10 @@ run_is_simple = refl
 pub demo_is_simple : is_simple_and_free demo_app ≡ true
 unfolding demo_app
 demo_is_simple = refl
+
+pub conversion_is_simple : (name : Text) → is_simple_and_free (conversion_app name) ≡ true
+unfolding conversion_app
+conversion_is_simple name = refl
 
 abbrev pub rows_in : Option ArgMatches → Option (List Row)
 rows_in = option_map (λ m. rows_of (found_of m))

@@ -116,22 +116,22 @@ with_cond name value false arguments = refl
 
 module _ (options : List Text) (readable : AreReadable options) where
   given_written : (free : Bool) (written : List Written) → AreWritten options written
-      → given (left_of free) options between (all_words written) ≡ cond (fits free written) (Some (map argument_of written)) None
+      → given (left_of free) options [] between (all_words written) ≡ cond (fits free written) (Some (map argument_of written)) None
   given_written true [] are = refl
   given_written false [] are = refl
   given_written free (apart name value ∷ written) are =
       let known = readable_among options name readable are.0.0 in
-      sym (given_open options (left_of free) (codes "--" ++ name) (value ∷ all_words written) name known.apart_no_end refl known.apart_word are.0.0)
-      ∙ sym (given_value options (left_of free) value (all_words written) name are.0.1)
+      sym (given_open options [] (left_of free) (codes "--" ++ name) (value ∷ all_words written) name known.apart_no_end refl known.apart_word are.0.0)
+      ∙ sym (given_value options [] (left_of free) value (all_words written) name are.0.1)
       ∙ ap (with_value name value) (given_written free written are.1) ∙ with_cond name value (fits free written) (map argument_of written)
   given_written free (joined name value ∷ written) are =
       let known = readable_among options name readable are.0 in
-      sym (given_option options (left_of free) (codes "--" ++ name ++ codes "=" ++ value) (all_words written) name value (known.joined_no_end value) refl (known.joined_word value) are.0)
+      sym (given_option options [] (left_of free) (codes "--" ++ name ++ codes "=" ++ value) (all_words written) name value (known.joined_no_end value) refl (known.joined_word value) are.0)
       ∙ ap (with_value name value) (given_written free written are.1) ∙ with_cond name value (fits free written) (map argument_of written)
   given_written true (rom name ∷ written) are =
-      sym (given_word options [] name (all_words written) (codes "rom") (plain_word name are.0).no_end are.0)
+      sym (given_word options [] [] name (all_words written) (codes "rom") (plain_word name are.0).no_end are.0)
       ∙ ap (with_value (codes "rom") name) (given_written false written are.1) ∙ with_cond (codes "rom") name (fits false written) (map argument_of written)
-  given_written false (rom name ∷ written) are = sym (given_stray options [] name (all_words written) (plain_word name are.0).no_end are.0)
+  given_written false (rom name ∷ written) are = sym (given_stray options [] [] name (all_words written) (plain_word name are.0).no_end are.0)
 
 -- a second name of the cartridge stands twice
 fits_no_other : (written : List Written) → fits false written ≡ false → stands (codes "rom") (map argument_of written) ≡ true

@@ -11,7 +11,7 @@ use Rattle.clap.specs.Simple.{Shape, new_shape}
 use Rattle.clap.specs.Takes.{is_given}
 use Rattle.clap.specs.Walk.{Held, Row, Rule, Text, Waiting, Walk, arg_by_id, arg_by_index, arg_by_long, arg_by_short, has_row, idle, is_pending, option, settled_rows, subcommand_met, used, walked}
 use Rattle.clap.specs.declared.error.kind.ErrorKind.TheVariants as kind
-use Rattle.md_words.proofs.Lookups.{single, word_rule}
+use Rattle.md_words.proofs.Lookups.{flag_rule, single, word_rule}
 
 -- a command without subcommands, help or version, as `clap` builds it
 abbrev pub shape : Text → List Rule → Shape
@@ -119,6 +119,32 @@ module _ (name : Text) (rules : List Rule) where
   unfolding walked
   at_open_option position rows pending word id required words no_end long known =
       one_word (at idle position false rows pending) word words ∙ rw (no_end, long, known) (fine_both (settle_fault rules false (held rows pending)) [] _)
+
+  -- a flag
+  pub at_flag : (position : ℕ) (rows : List Row) (pending : Option (Text × List Text)) (word id : Text) (words : List Text)
+      → bytes_eq word (45 ∷ 45 ∷ []) ≡ false → long_of word ≡ Some (id, None) → arg_by_long rules id ≡ Some (flag_rule id)
+      → outcome (at idle position false rows pending) (word ∷ words)
+      ≡ if_fine (settle_fault rules false (held rows pending)) (added_once (λ next. outcome (at idle position false next None) words) id [] (settled_rows rules pending rows))
+  unfolding walked
+  at_flag position rows pending word id words no_end long known =
+      one_word (at idle position false rows pending) word words ∙ rw (no_end, long, known)
+      (used_fine (settle_fault rules false (held rows pending)) (has_row id (settled_rows rules pending rows)) _)
+
+  -- a flag with a value
+  pub at_flag_value : (waiting : Waiting) (position : ℕ) (rows : List Row) (pending : Option (Text × List Text)) (word id value : Text) (words : List Text)
+      → subcommand_met [] waiting word ≡ None → bytes_eq word (45 ∷ 45 ∷ []) ≡ false → long_of word ≡ Some (id, Some value) → arg_by_long rules id ≡ Some (flag_rule id)
+      → outcome (at waiting position false rows pending) (word ∷ words) ≡ None
+  unfolding walked
+  at_flag_value waiting position rows pending word id value words no_subcommand no_end long known =
+      one_word (at waiting position false rows pending) word words ∙ rw (no_subcommand, no_end, long, known) refl
+
+  -- a flag in place of a value
+  pub value_at_flag : (id : Text) (position : ℕ) (rows : List Row) (word other : Text) (wanted : Bool) (words : List Text)
+      → bytes_eq word (45 ∷ 45 ∷ []) ≡ false → long_of word ≡ Some (other, None) → arg_by_long rules other ≡ Some (flag_rule other)
+      → arg_by_id rules id ≡ Some (single id (Some id) None wanted) → outcome (at (option id) position false rows (Some (id, []))) (word ∷ words) ≡ None
+  unfolding walked
+  value_at_flag id position rows word other wanted words no_end long known own =
+      one_word (at (option id) position false rows (Some (id, []))) word words ∙ rw (no_end, long, known, own) refl
 
   -- an option that the command does not have
   pub at_unknown : (waiting : Waiting) (position : ℕ) (rows : List Row) (pending : Option (Text × List Text)) (word : Text) (given : Text × Option Text) (words : List Text)

@@ -31,31 +31,34 @@ is_marked word = false
 abbrev pub has_name : Text → Text → Bool
 has_name name other = bytes_eq other name
 
--- an option and its value in one word, or an option whose value is the next word
-abbrev pub option_word : List Text → Option (Text × Option Text) → Option (List Argument) → (Text → Option (List Argument)) → Option (List Argument)
-option_word options (Some (name, Some value)) behind waiting = if list_any (has_name name) options then with_value name value behind else None
-option_word options (Some (name, None)) behind waiting = if list_any (has_name name) options then waiting name else None
-option_word options None behind waiting = None
+-- an option and its value in one word, an option whose value is the next word, or a flag, whose value is empty
+abbrev pub option_word : List Text → List Text → Option (Text × Option Text) → Option (List Argument) → (Text → Option (List Argument)) → Option (List Argument)
+option_word options flags (Some (name, Some value)) behind waiting = if list_any (has_name name) options then with_value name value behind else None
+option_word options flags (Some (name, None)) behind waiting =
+    if list_any (has_name name) options then waiting name
+    else if list_any (has_name name) flags then with_value name [] behind
+    else None
+option_word options flags None behind waiting = None
 
 -- a positional word is the value of the first of the names that are left
 abbrev pub positional_word : List Text → Text → (List Text → Option (List Argument)) → Option (List Argument)
 positional_word [] word behind = None
 positional_word (name ∷ left) word behind = with_value name word (behind left)
 
--- The arguments that words give in their order, where these are the names of the positional words and
--- those of the options; none where the words are refused.
-abbrev pub given : List Text → List Text → Place → List Text → Option (List Argument)
-given positionals options between [] = Some []
-given positionals options ended [] = Some []
-given positionals options (value_of name) [] = None
-given positionals options ended (word ∷ words) = positional_word positionals word (λ left. given left options ended words)
-given positionals options (value_of name) (word ∷ words) =
-    if is_marked word then None else with_value name word (given positionals options between words)
-given positionals options between (word ∷ words) =
-    if bytes_eq word (codes "--") then given positionals options ended words
+-- The arguments that words give in their order, where these are the names of the positional words, those of
+-- the options with values and those of the flags; none where the words are refused.
+abbrev pub given : List Text → List Text → List Text → Place → List Text → Option (List Argument)
+given positionals options flags between [] = Some []
+given positionals options flags ended [] = Some []
+given positionals options flags (value_of name) [] = None
+given positionals options flags ended (word ∷ words) = positional_word positionals word (λ left. given left options flags ended words)
+given positionals options flags (value_of name) (word ∷ words) =
+    if is_marked word then None else with_value name word (given positionals options flags between words)
+given positionals options flags between (word ∷ words) =
+    if bytes_eq word (codes "--") then given positionals options flags ended words
     else if is_marked word
-    then option_word options (long_of word) (given positionals options between words) (λ name. given positionals options (value_of name) words)
-    else positional_word positionals word (λ left. given left options between words)
+    then option_word options flags (long_of word) (given positionals options flags between words) (λ name. given positionals options flags (value_of name) words)
+    else positional_word positionals word (λ left. given left options flags between words)
 
 -- no argument stands twice
 abbrev pub are_single : List Argument → Bool

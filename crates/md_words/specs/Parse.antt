@@ -4,7 +4,9 @@ use Rattle.std.specs.Prelude.{◌∷◌, [], List, Option, Some, None, true, fol
 use Rattle.clap.specs.Walk.{Row, Rule, Text, first_of, is_empty}
 use Rattle.clap.specs.Simple.{App, matches_of, new_app, new_rule, with_rule}
 use Rattle.clap.specs.Faults.{fault_of}
-use Rattle.md_words.specs.Words.{Demo, Run, demo_by, info_by, run_by}
+use Rattle.clap.specs.declared.builder.action.ArgAction.TheVariants.{Set}
+use Rattle.md_words.specs.Words.{Conversion, Demo, Run, conversion_by, demo_by, info_by, run_by}
+use Rattle.md_words.specs.declared.convert_words.Product.{Product}
 
 -- what a simple command makes of the words: the rows that it finds, or none where it refuses them
 abbrev pub parse_of : App → List Text → Option (List Row)
@@ -17,6 +19,16 @@ option name = record (new_rule name) { long = Some name }
 -- a positional word
 abbrev pub positional : Text → Rule
 positional name = new_rule name
+
+-- a flag, `--name`: it takes no value, and its value is then empty
+abbrev pub flag : Text → Rule
+flag name =
+    record (new_rule name) {
+      long = Some name;
+      action = Some Set;
+      range = Some (record { start_inclusive = 0; end_inclusive = 0 });
+      missing = [] ∷ [];
+    }
 
 -- an argument that has to be there
 abbrev pub required : Rule → Rule
@@ -44,6 +56,11 @@ demo_app =
     fold with_rule (bare (codes "demo"))
     (required (positional (codes "number")) ∷ required (option (codes "cycles")) ∷ required (option (codes "workers")) ∷ [])
 
+-- `vgm JOURNAL OUT` and `play VGM OUT`, with `--pal` if wanted
+unfoldable pub conversion_app : Text → App
+conversion_app name =
+    fold with_rule (bare name) (required (positional (codes "input")) ∷ required (positional (codes "output")) ∷ flag (codes "pal") ∷ [])
+
 -- the value that was found for an argument
 abbrev pub found_by : List Row → Text → Option Text
 found_by rows name = first_of name rows
@@ -59,3 +76,7 @@ run_parsed words = option_and_then (λ rows. run_by (found_by rows)) (parse_of r
 -- the run of a demonstration cartridge that the words behind `demo` give
 abbrev pub demo_parsed : List Text → Option Demo
 demo_parsed words = option_and_then (λ rows. demo_by (found_by rows)) (parse_of demo_app words)
+
+-- the conversion that the words behind `vgm` or `play` give
+abbrev pub conversion_parsed : Text → Product → List Text → Option Conversion
+conversion_parsed name product words = option_and_then (λ rows. conversion_by product (found_by rows)) (parse_of (conversion_app name) words)

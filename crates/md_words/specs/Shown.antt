@@ -1,9 +1,10 @@
 -- What the reader of the words found, as the definition's command.
 use Rattle.std.specs.Option.{option_copied}
 use Rattle.md_words.specs.Words as words
-use Rattle.md_words.specs.Words.{Command, Demo, Run, RunCart, RunDemo, Values}
+use Rattle.md_words.specs.Words.{Command, Conversion, Convert, Demo, Run, RunCart, RunDemo, Values}
 use Rattle.md_words.specs.declared.command_words.CommandWords.{CommandWords}
 use Rattle.md_words.specs.declared.command_words.CommandWords.TheVariants as read
+use Rattle.md_words.specs.declared.convert_words.ConvertWords.{ConvertWords}
 use Rattle.md_words.specs.declared.demo_words.DemoWords.{DemoWords}
 use Rattle.md_words.specs.declared.run_values.RunValues.{RunValues}
 use Rattle.md_words.specs.declared.run_words.RunWords.{RunWords}
@@ -22,6 +23,10 @@ shown_run run =
       journal = option_copied run.journal;
       workers = run.workers;
     }
+
+-- the conversion that words were read as
+abbrev pub shown_conversion : ConvertWords → Conversion
+shown_conversion words = record { product = words.product; input = words.input.now; output = words.output.now; pal = words.pal }
 
 -- what is given for the arguments
 abbrev pub shown_values : RunValues → Values
@@ -47,3 +52,4 @@ abbrev pub shown_command : CommandWords → Command
 shown_command (read.Info rom) = words.Info rom.now
 shown_command (read.Run run) = RunCart (shown_run run)
 shown_command (read.Demo demo) = RunDemo (shown_demo demo)
+shown_command (read.Convert words) = Convert (shown_conversion words)

@@ -2,11 +2,13 @@
 use Rattle.std.specs.Prelude.{ℕ, ◌^◌, ◌==◌, nat_lt, nat_le, Bool, true, false, ◌&&◌, not, if◌then◌else◌, List, [], ◌∷◌, length, codes, Option, Some, None, option_and_then}
 use Rattle.std.specs.Char.{is_ascii_digit}
 use Rattle.std.specs.List.{list_all}
-use Rattle.std.specs.Option.{option_map}
+use Rattle.std.specs.Option.{is_some, option_map}
 use Rattle.std.specs.Str.{bytes_eq}
 use Rattle.std.specs.Str.Parse.{digits_value}
 use Rattle.clap.specs.Walk.{Text}
 use Rattle.md_words.specs.Given.{Argument, between, given, meant_by}
+use Rattle.md_words.specs.declared.convert_words.Product.{Product}
+use Rattle.md_words.specs.declared.convert_words.Product.TheVariants.{Vgm, Sound}
 
 -- a run of a cartridge, from power-on or from a saved state: the cartridge's name, the cycle of its end, the name of the
 -- recording and that of the saved state, each if one is given, those of the state to save, of the frames
@@ -29,72 +31,106 @@ pub record Demo : Type 0 where
   pub cycles : ℕ
   pub workers : ℕ
 
--- what a command line asks for: the lines of a cartridge's header, by the cartridge's name, a run, or a
--- run of a demonstration cartridge
+-- a file that is made of another one: which, the names of the one that is read and of the one that is written, and
+-- whether the master clock is that of PAL
+pub record Conversion : Type 0 where
+  pub product : Product
+  pub input : List ℕ
+  pub output : List ℕ
+  pub pal : Bool
+
+-- what a command line asks for: the lines of a cartridge's header, by the cartridge's name, a run, a run of
+-- a demonstration cartridge, or a conversion
 pub data Command : Type 0 where
   Info : List ℕ → Command
   RunCart : Run → Command
   RunDemo : Demo → Command
+  Convert : Conversion → Command
 
--- the name of the cartridge; a demonstration cartridge has none
+-- the name of the first file that is read: the cartridge, or the input of a conversion; a demonstration
+-- cartridge has none
 abbrev pub rom_of : Command → List ℕ
 rom_of (Info rom) = rom
 rom_of (RunCart run) = run.rom
 rom_of (RunDemo demo) = []
+rom_of (Convert conversion) = conversion.input
+
+-- the name of a conversion's output; none where none is asked for
+abbrev pub output_of : Command → List ℕ
+output_of (Info rom) = []
+output_of (RunCart run) = []
+output_of (RunDemo demo) = []
+output_of (Convert conversion) = conversion.output
+
+-- the conversion, if one is asked for
+abbrev pub conversion_in : Command → Option Conversion
+conversion_in (Info rom) = None
+conversion_in (RunCart run) = None
+conversion_in (RunDemo demo) = None
+conversion_in (Convert conversion) = Some conversion
 
 -- the run of a cartridge that is named, if one is asked for
 abbrev pub run_in : Command → Option Run
 run_in (Info rom) = None
 run_in (RunCart run) = Some run
 run_in (RunDemo demo) = None
+run_in (Convert conversion) = None
 
 -- the cycle of the run's end; 0 where none is asked for
 abbrev pub end_of : Command → ℕ
 end_of (Info rom) = 0
 end_of (RunCart run) = run.cycles
 end_of (RunDemo demo) = demo.cycles
+end_of (Convert conversion) = 0
 
 -- the name of the recording, if one is given
 abbrev pub recording_name : Command → Option (List ℕ)
 recording_name (Info rom) = None
 recording_name (RunCart run) = run.recording
 recording_name (RunDemo demo) = None
+recording_name (Convert conversion) = None
 
 -- the name of the saved state to go on from, if one is given
 abbrev pub load_name : Command → Option (List ℕ)
 load_name (Info rom) = None
 load_name (RunCart run) = run.load
 load_name (RunDemo demo) = None
+load_name (Convert conversion) = None
 
 -- the name of the state to save, if it is asked for
 abbrev pub save_name : Command → Option (List ℕ)
 save_name (Info rom) = None
 save_name (RunCart run) = run.save
 save_name (RunDemo demo) = None
+save_name (Convert conversion) = None
 
 -- the name of the frames file, if one is asked for
 abbrev pub frames_name : Command → Option (List ℕ)
 frames_name (Info rom) = None
 frames_name (RunCart run) = run.frames
 frames_name (RunDemo demo) = None
+frames_name (Convert conversion) = None
 
 -- the name of the sound file, if one is asked for
 abbrev pub sound_name : Command → Option (List ℕ)
 sound_name (Info rom) = None
 sound_name (RunCart run) = run.sound
 sound_name (RunDemo demo) = None
+sound_name (Convert conversion) = None
 
 -- the name of the journal, if one is asked for
 abbrev pub journal_name : Command → Option (List ℕ)
 journal_name (Info rom) = None
 journal_name (RunCart run) = run.journal
 journal_name (RunDemo demo) = None
+journal_name (Convert conversion) = None
 
 -- how many workers make it; 1 where none is asked for
 abbrev pub workers_in : Command → ℕ
 workers_in (Info rom) = 1
 workers_in (RunCart run) = run.workers
 workers_in (RunDemo demo) = demo.workers
+workers_in (Convert conversion) = 1
 
 -- a word that can be a name: it is not empty and does not begin with a hyphen
 abbrev pub is_name : List ℕ → Bool
@@ -175,7 +211,7 @@ info_by value = info_from (value (codes "rom"))
 
 -- the cartridge's name that the words behind `info` give
 abbrev pub info_of : List Text → Option Text
-info_of words = option_and_then (meant_by info_by) (given (codes "rom" ∷ []) [] between words)
+info_of words = option_and_then (meant_by info_by) (given (codes "rom" ∷ []) [] [] between words)
 
 -- the run of the cartridge of this name, with this cycle of its end and this number of workers
 abbrev pub run_from : Values → Option Text → Option ℕ → Option ℕ → Option Run
@@ -214,7 +250,22 @@ run_of_arguments = meant_by run_by
 
 -- the run that the words behind `run` give
 abbrev pub run_of : List Text → Option Run
-run_of words = option_and_then run_of_arguments (given (codes "rom" ∷ []) run_options between words)
+run_of words = option_and_then run_of_arguments (given (codes "rom" ∷ []) run_options [] between words)
+
+-- the conversion of these names, which are two
+abbrev pub conversion_given : Product → Option Text → Option Text → Bool → Option Conversion
+conversion_given product (Some input) (Some output) pal =
+    if are_names (Some input ∷ Some output ∷ []) then Some (record { product = product; input = input; output = output; pal = pal }) else None
+conversion_given product input output pal = None
+
+-- `vgm` and `play` have the names of an input and of an output, with `--pal` if wanted
+abbrev pub conversion_by : Product → (Text → Option Text) → Option Conversion
+conversion_by product value = conversion_given product (value (codes "input")) (value (codes "output")) (is_some (value (codes "pal")))
+
+-- the conversion that the words behind `vgm` or `play` give
+abbrev pub conversion_of : Product → List Text → Option Conversion
+conversion_of product words =
+    option_and_then (meant_by (conversion_by product)) (given (codes "input" ∷ codes "output" ∷ []) [] (codes "pal" ∷ []) between words)
 
 -- the value of a number that has to be there
 abbrev pub wanted_number : Option Text → Option ℕ
@@ -240,7 +291,7 @@ demo_by value = demo_given (value (codes "number")) (value (codes "cycles")) (va
 
 -- the run that the words behind `demo` give
 abbrev pub demo_of : List Text → Option Demo
-demo_of words = option_and_then (meant_by demo_by) (given (codes "number" ∷ []) (codes "cycles" ∷ codes "workers" ∷ []) between words)
+demo_of words = option_and_then (meant_by demo_by) (given (codes "number" ∷ []) (codes "cycles" ∷ codes "workers" ∷ []) [] between words)
 
 -- the first word chooses the command
 unfoldable pub command_of : List Text → Option Command
@@ -249,6 +300,8 @@ command_of (command ∷ words) =
     if bytes_eq command (codes "info") then option_map Info (info_of words)
     else if bytes_eq command (codes "run") then option_map RunCart (run_of words)
     else if bytes_eq command (codes "demo") then option_map RunDemo (demo_of words)
+    else if bytes_eq command (codes "vgm") then option_map Convert (conversion_of Vgm words)
+    else if bytes_eq command (codes "play") then option_map Convert (conversion_of Sound words)
     else None
 
 -- the run but for the number of its workers

@@ -2,7 +2,7 @@ ghost use Rattle.std.specs.Prelude.{◌≡◌, IfOk};
 ghost use Rattle.clap.specs.Simple.{app_of, with_rule};
 ghost use Rattle.md_words.specs.Parse as meaning;
 
-use clap::{Arg, Command};
+use clap::{Arg, ArgAction, Command};
 use std::alloc::{AllocError, Global};
 
 /// The command `info ROM`, behind its word.
@@ -38,6 +38,20 @@ pub(crate) fn demo_command<'a>(alloc: Global) -> Result<Command<'a>, AllocError>
     let cycles = with_wanted_option(number, alloc, "cycles")?;
     let workers = with_wanted_option(cycles, alloc, "workers")?;
     Ok(workers)
+}
+
+/// A command of this name, as `vgm JOURNAL OUT --pal` and `play VGM OUT --pal`, behind its word.
+#[tactic(auto, unfolding(crate::specs::Parse::conversion_app))]
+pub(crate) fn conversion_command<'a>(
+    alloc: Global,
+    name: &'a str,
+) -> Result<Command<'a>, AllocError>
+    ensures { IfOk result (λ command. app_of command ≡ meaning.conversion_app name.entry.now) }
+{
+    let input = with_wanted_word(bare(alloc, name), alloc, "input")?;
+    let output = with_wanted_word(input, alloc, "output")?;
+    let pal = with_flag(output, alloc, "pal")?;
+    Ok(pal)
 }
 
 /// A command with no argument yet, which reads no program's name and has no help.
@@ -82,5 +96,21 @@ fn with_option<'a>(
     ensures { IfOk result (λ c. app_of c ≡ with_rule (app_of command.entry) (meaning.option name.entry.now)) }
 {
     let arg = Arg::new(alloc, name).long(name);
+    command.arg(arg)
+}
+
+/// Adds a flag: an option without a value. Where it stands, its value is empty.
+fn with_flag<'a>(
+    command: Command<'a>,
+    alloc: Global,
+    name: &'a str,
+) -> Result<Command<'a>, AllocError>
+    ensures { IfOk result (λ c. app_of c ≡ with_rule (app_of command.entry) (meaning.flag name.entry.now)) }
+{
+    let arg = Arg::new(alloc, name)
+        .long(name)
+        .action(ArgAction::Set)
+        .num_args(0usize)
+        .default_missing_value("");
     command.arg(arg)
 }

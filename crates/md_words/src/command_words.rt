@@ -1,8 +1,9 @@
 ghost use Rattle.std.specs.Prelude.{◌≡◌, ◌≤◌};
 ghost use Rattle.std.specs.Option.{option_copied};
 ghost use Rattle.md_words.specs.Shown.{shown_command};
-ghost use Rattle.md_words.specs.Words.{end_of, frames_name, journal_name, load_name, recording_name, rom_of, save_name, sound_name, workers_in};
+ghost use Rattle.md_words.specs.Words.{end_of, frames_name, journal_name, load_name, output_of, recording_name, rom_of, save_name, sound_name, workers_in};
 
+use crate::convert_words::ConvertWords;
 use crate::demo_words::DemoWords;
 use crate::run_words::RunWords;
 
@@ -15,10 +16,13 @@ pub enum CommandWords<'a> {
     Run(RunWords<'a>),
     /// A run of a demonstration cartridge.
     Demo(DemoWords),
+    /// A file that is made of another one.
+    Convert(ConvertWords<'a>),
 }
 
 impl<'a> CommandWords<'a> {
-    /// The cartridge's name. A demonstration cartridge has none.
+    /// The name of the first file that is read: the cartridge, or the input of a conversion. A demonstration
+    /// cartridge has none.
     pub fn rom(&self) -> &'a str
         ensures { result.now ≡ rom_of (shown_command self.now) }
     {
@@ -26,6 +30,17 @@ impl<'a> CommandWords<'a> {
             CommandWords::Info(rom) => rom,
             CommandWords::Run(run) => run.rom,
             CommandWords::Demo(_) => "",
+            CommandWords::Convert(words) => words.input,
+        }
+    }
+
+    /// The name of a conversion's output, and no name where none is asked for.
+    pub fn output(&self) -> &'a str
+        ensures { result.now ≡ output_of (shown_command self.now) }
+    {
+        match self {
+            CommandWords::Info(_) | CommandWords::Run(_) | CommandWords::Demo(_) => "",
+            CommandWords::Convert(words) => words.output,
         }
     }
 
@@ -34,7 +49,7 @@ impl<'a> CommandWords<'a> {
         ensures { result ≡ end_of (shown_command self.now) }
     {
         match self {
-            CommandWords::Info(_) => 0,
+            CommandWords::Info(_) | CommandWords::Convert(_) => 0,
             CommandWords::Run(run) => run.cycles,
             CommandWords::Demo(demo) => demo.cycles,
         }
@@ -45,7 +60,7 @@ impl<'a> CommandWords<'a> {
         ensures { option_copied result ≡ recording_name (shown_command self.now) }
     {
         match self {
-            CommandWords::Info(_) | CommandWords::Demo(_) => None,
+            CommandWords::Info(_) | CommandWords::Demo(_) | CommandWords::Convert(_) => None,
             CommandWords::Run(run) => run.recording,
         }
     }
@@ -55,7 +70,7 @@ impl<'a> CommandWords<'a> {
         ensures { option_copied result ≡ load_name (shown_command self.now) }
     {
         match self {
-            CommandWords::Info(_) | CommandWords::Demo(_) => None,
+            CommandWords::Info(_) | CommandWords::Demo(_) | CommandWords::Convert(_) => None,
             CommandWords::Run(run) => run.load,
         }
     }
@@ -65,7 +80,7 @@ impl<'a> CommandWords<'a> {
         ensures { option_copied result ≡ save_name (shown_command self.now) }
     {
         match self {
-            CommandWords::Info(_) | CommandWords::Demo(_) => None,
+            CommandWords::Info(_) | CommandWords::Demo(_) | CommandWords::Convert(_) => None,
             CommandWords::Run(run) => run.save,
         }
     }
@@ -75,7 +90,7 @@ impl<'a> CommandWords<'a> {
         ensures { option_copied result ≡ frames_name (shown_command self.now) }
     {
         match self {
-            CommandWords::Info(_) | CommandWords::Demo(_) => None,
+            CommandWords::Info(_) | CommandWords::Demo(_) | CommandWords::Convert(_) => None,
             CommandWords::Run(run) => run.frames,
         }
     }
@@ -85,7 +100,7 @@ impl<'a> CommandWords<'a> {
         ensures { option_copied result ≡ sound_name (shown_command self.now) }
     {
         match self {
-            CommandWords::Info(_) | CommandWords::Demo(_) => None,
+            CommandWords::Info(_) | CommandWords::Demo(_) | CommandWords::Convert(_) => None,
             CommandWords::Run(run) => run.sound,
         }
     }
@@ -95,7 +110,7 @@ impl<'a> CommandWords<'a> {
         ensures { option_copied result ≡ journal_name (shown_command self.now) }
     {
         match self {
-            CommandWords::Info(_) | CommandWords::Demo(_) => None,
+            CommandWords::Info(_) | CommandWords::Demo(_) | CommandWords::Convert(_) => None,
             CommandWords::Run(run) => run.journal,
         }
     }
@@ -107,7 +122,7 @@ impl<'a> CommandWords<'a> {
         ensures few { result ≤ 5 }
     {
         match self {
-            CommandWords::Info(_) => 1,
+            CommandWords::Info(_) | CommandWords::Convert(_) => 1,
             CommandWords::Run(run) => run.workers,
             CommandWords::Demo(demo) => demo.workers,
         }

@@ -3,6 +3,8 @@
 
 mod building;
 mod command_words;
+mod convert_reading;
+mod convert_words;
 mod demo_reading;
 mod demo_words;
 pub mod laws;
@@ -14,6 +16,7 @@ mod run_values;
 mod run_words;
 
 pub use command_words::CommandWords;
+pub use convert_words::{ConvertWords, Product};
 pub use demo_words::DemoWords;
 pub use reading::read_words;
 pub use run_words::RunWords;

@@ -27,7 +27,8 @@ pub(crate) fn have_names(values: &RunValues<'_>) -> bool
     ])
 }
 
-fn are_names(names: &[Option<&str>]) -> bool
+/// Whether what is given can be names of files, and no two are the same.
+pub(crate) fn are_names(names: &[Option<&str>]) -> bool
     ensures { result ≡ meaning.are_names (map option_copied names.now) }
 {
     match names {

@@ -8,6 +8,8 @@ ghost use Rattle.md_words.specs.Words as meaning;
 
 use crate::building::{info_command, run_command};
 use crate::command_words::CommandWords;
+use crate::convert_reading::read_conversion;
+use crate::convert_words::Product;
 use crate::demo_reading::read_demo;
 use crate::names::{have_names, is_name};
 use crate::numbers::{read_number, read_workers};
@@ -53,6 +55,20 @@ pub fn read_words<'a>(
     if command.as_str() == "demo" {
         return match read_demo(alloc, rest) {
             Ok(Some(demo)) => Ok(Some(CommandWords::Demo(demo))),
+            Ok(None) => Ok(None),
+            Err(error) => Err(error),
+        };
+    }
+    if command.as_str() == "vgm" {
+        return match read_conversion(alloc, "vgm", Product::Vgm, rest) {
+            Ok(Some(words)) => Ok(Some(CommandWords::Convert(words))),
+            Ok(None) => Ok(None),
+            Err(error) => Err(error),
+        };
+    }
+    if command.as_str() == "play" {
+        return match read_conversion(alloc, "play", Product::Sound, rest) {
+            Ok(Some(words)) => Ok(Some(CommandWords::Convert(words))),
             Ok(None) => Ok(None),
             Err(error) => Err(error),
         };

@@ -2,6 +2,7 @@
 #![tactic(auto)]
 
 #[cfg(test)]
+mod conversions;
 mod demos;
 #[cfg(test)]
 mod depots;

@@ -10,7 +10,8 @@ fn name_of(name: Option<&str>) -> &str {
 
 /// What was read, as a text: the cartridge, and of a run its count and the names of the recording, of
 /// the frames file, of the sound file and of the journal, and how many workers make it; of a
-/// demonstration cartridge its number, the count and the workers.
+/// demonstration cartridge its number, the count and the workers; of a conversion both names and whether
+/// PAL is asked for.
 fn told(alloc: Global, read: Option<CommandWords<'_>>) -> Result<String, AllocError> {
     match read {
         None => String::from_str(alloc, "refused"),
@@ -28,13 +29,17 @@ fn told(alloc: Global, read: Option<CommandWords<'_>>) -> Result<String, AllocEr
         Some(CommandWords::Demo(demo)) => {
             format!(in alloc; "{} {} {}", demo.number, demo.cycles, demo.workers)
         }
+        Some(CommandWords::Convert(words)) => format!(in alloc;
+            "{} {} {}",
+            words.input, words.output, words.pal
+        ),
     }
 }
 
 // Worked out by the rules: options in any order among the other words, each at most once, as two
 // words or with `=`; behind `--` no options; names that are not empty, begin with no hyphen and are
 // pairwise different; numbers of 1 to 20 digits below 2^64.
-static READ: [(&str, &str); 31] = [
+static READ: [(&str, &str); 36] = [
     ("info Z", "Z"),
     ("info -- Z", "Z"),
     ("info info", "info"),
@@ -84,9 +89,21 @@ static READ: [(&str, &str); 31] = [
         "demo 18446744073709551615 --workers 3 --cycles 5",
         "18446744073709551615 5 3",
     ),
+    ("vgm J V", "J V false"),
+    ("play --pal V W", "V W true"),
+    ("vgm J --pal -- V", "J V true"),
+    ("play vgm play --pal", "vgm play true"),
+    ("vgm -- J V", "J V false"),
 ];
 
-static REFUSED: [&str; 90] = [
+static REFUSED: [&str; 97] = [
+    "play V",
+    "vgm J V W",
+    "play V V",
+    "vgm J V --pal --pal",
+    "vgm J V --pal=",
+    "vgm J -- V --pal",
+    "info Z --pal",
     "",
     "walk Z",
     "RUN Z --cycles 5",

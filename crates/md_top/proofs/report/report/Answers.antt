@@ -30,3 +30,9 @@ returns-in-StateTooLong g c =
 
 pub returns-in-StateWrong : goal.returns-in-StateWrong
 returns-in-StateWrong g c = rw c.in-StateWrong.is (c.refuse_place-in-StateWrong.ensures.status, c.refuse_place-in-StateWrong.ensures.put)
+
+pub returns-in-InputRefused : goal.returns-in-InputRefused
+returns-in-InputRefused g c = rw c.in-InputRefused.is (c.refuse_input.ensures.status, c.refuse_input.ensures.put)
+
+pub returns-in-OutputFault : goal.returns-in-OutputFault
+returns-in-OutputFault g c = rw c.in-OutputFault.is (c.refuse-in-OutputFault.ensures.status, rw c.output.ensures at c.refuse-in-OutputFault.ensures.put)

@@ -1,0 +1,62 @@
+-- How a conversion ends: its causes, what it leaves and what is put.
+use Rattle.std.specs.Prelude.{◌≡◌, ℕ, List, ◌++◌, Option, Some, None, codes, decimal}
+use Rattle.md_outer.specs.Outside.{DepotState, Files, bytes_of}
+use Rattle.md_vgm.specs.Outcomes.{Failed, Outcome}
+use Rattle.md_vgm.specs.declared.fault.VgmFault.{VgmFault}
+use Rattle.md_vgm.specs.declared.fault.VgmFault.TheVariants.{Form, Dense, Long, NoMemory}
+use Rattle.md_words.specs.Words.{Conversion}
+use Rattle.vgm_files.specs.Conversions as files
+use Rattle.vgm_files.specs.Conversions.{IsFound, IsMadeOf, IsOutcome}
+use Rattle.vgm_files.specs.declared.converted.Converted.TheVariants as converted
+use Rattle.vgm_files.specs.declared.converted.Converted.{Converted as Comes}
+use Rattle.md_top.specs.declared.ending.Ending.{Ending}
+use Rattle.md_top.specs.declared.ending.Ending.TheVariants.{Converted, InputRefused, OutputFault, ReadFault, TooLong, Memory}
+
+-- the line of an input that is refused, by the place of the fault
+abbrev pub fault_line : VgmFault → List ℕ
+fault_line (Form place) = codes "refused: vgm form at " ++ decimal place ++ codes "\n"
+fault_line (Dense place) = codes "refused: vgm dense at " ++ decimal place ++ codes "\n"
+fault_line (Long place) = codes "refused: vgm long at " ++ decimal place ++ codes "\n"
+fault_line NoMemory = codes "refused: memory\n"
+
+-- why a conversion ends
+abbrev pub ConvertEnds : Type 0 → Conversion → DepotState → DepotState → Ending → Type 0
+ConvertEnds told conversion old new (Converted size) = files.HasCause told conversion old new (converted.Made size)
+ConvertEnds told conversion old new ReadFault = files.HasCause told conversion old new converted.Unread
+ConvertEnds told conversion old new TooLong = files.HasCause told conversion old new converted.TooLong
+ConvertEnds told conversion old new (InputRefused fault) = files.HasCause told conversion old new (converted.Refused fault)
+ConvertEnds told conversion old new OutputFault = files.HasCause told conversion old new converted.Unwritten
+ConvertEnds told conversion old new Memory = Unit {0}
+ConvertEnds told conversion old new ending = ⊥
+
+-- what the files hold once a conversion has ended, or was refused
+abbrev pub ConvertFiles : Conversion → Files → Files → Ending → Type 0
+ConvertFiles conversion old new (Converted size) = files.LeavesFiles conversion old new (converted.Made size)
+ConvertFiles conversion old new OutputFault = files.LeavesFiles conversion old new converted.Unwritten
+ConvertFiles conversion old new ending = new ≡ old
+
+-- the input of a conversion is held, within its limit and accepted
+abbrev pub CanConvert : Conversion → Files → Type 0
+CanConvert conversion held = (made : List ℕ) × IsMadeOf conversion (held conversion.input) made
+
+-- what a conversion comes to, as its ending
+abbrev pub as_ending : Comes → Ending
+as_ending (converted.Made size) = Converted size
+as_ending converted.Unread = ReadFault
+as_ending converted.TooLong = TooLong
+as_ending (converted.Refused fault) = InputRefused fault
+as_ending converted.Unwritten = OutputFault
+as_ending converted.NoMemory = Memory
+
+-- the ending where neither a fault nor want of memory comes between, with this outcome of the input
+abbrev pub convert_ending : Conversion → Files → Outcome → Ending
+convert_ending conversion held outcome = as_ending (files.right_ending (held conversion.input) outcome)
+
+-- the input of a conversion comes to this, if one is asked for
+abbrev pub IsInputOutcome : Option Conversion → Files → Outcome → Type 0
+IsInputOutcome None held outcome = Unit {0}
+IsInputOutcome (Some conversion) held outcome = IsOutcome conversion (bytes_of held conversion.input) outcome
+
+-- the input of a conversion is refused
+abbrev pub IsRefusedInput : Type 0 → Conversion → Files → Type 0
+IsRefusedInput told conversion held = (fault : VgmFault) × (told → IsFound conversion (held conversion.input) (Failed fault))
