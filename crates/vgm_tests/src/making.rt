@@ -107,7 +107,7 @@ fn has_head(alloc: Global, rows: &[Row], pal: bool, head: &[u8]) -> bool {
         _ => return false,
     };
     match file {
-        Ok(file) => file.len() == 70 && &file[..64] == head,
+        Ok(file) => file.len() == 70 && file.as_slice().starts_with(head),
         Err(_) => false,
     }
 }
