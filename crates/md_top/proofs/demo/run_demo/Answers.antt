@@ -9,10 +9,10 @@ begin-requires-clause-near g c = omega (arith, ap (λ (s : Start). s.at) c.in-Ok
 
 pub sum_up-requires-clause-before : goal.sum_up-requires-clause-before
 sum_up-requires-clause-before g c =
-    omega (arith, c.if-demo.false, ap (λ (s : Start). s.at) (c.in-Ok-begin.ensures.start ∙ c.in-Ok.ensures.start))
+    omega (arith, c.if-demo-eq0.false, ap (λ (s : Start). s.at) (c.in-Ok-begin.ensures.start ∙ c.in-Ok.ensures.start))
 
 pub returns-in-Ok-begin : goal.returns-in-Ok-begin
 returns-in-Ok-begin g c = (
-  (omega (arith, c.if-demo.false), omega (arith, c.if-demo-gt-LAST_CYCLE.false)),
+  (omega (arith, c.if-demo-eq0.false), omega (arith, c.if-demo-gt-LAST_CYCLE.false)),
   subst (λ (start : Start). IsSummary start c.args.demo.now.cycles c.sum_up.result) (c.in-Ok-begin.ensures.start ∙ c.in-Ok.ensures.start) c.sum_up.ensures,
 )
