@@ -1,9 +1,11 @@
-//! Tests of the outside: stores and streams, cartridges, the files of a run, control pads, and the
-//! fields of saved states.
+//! Tests of the outside: stores and streams, cartridges, the files of a run, control pads, the fields of
+//! saved states, and demonstration cartridges.
 #![tactic(auto)]
 
 #[cfg(test)]
 mod cartridges;
+#[cfg(test)]
+mod demo_carts;
 #[cfg(test)]
 mod depots;
 #[cfg(test)]

@@ -1,0 +1,2 @@
+mod Carts
+mod Streams

@@ -1,0 +1,15 @@
+pub mod Clocks
+pub mod Commands
+pub mod Course
+pub mod File
+pub mod Filling
+pub mod Head
+pub mod Journal
+pub mod Outcomes
+pub mod Pace
+pub mod Playable
+pub mod Playing
+pub mod Sounding
+pub mod Walk
+pub mod Windows
+pub mod Written
