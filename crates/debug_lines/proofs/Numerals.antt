@@ -1,5 +1,5 @@
 -- A number of a line is what its digits are read as.
-use Rattle.std.proofs.Common.{◌≡◌, ℕ, ◌<◌, ◌^◌, Bool, true, false, arith, refl, ap, subst, List, [], ◌∷◌, length, Result, Ok, Err, Some, rules}
+use Rattle.std.proofs.Common.{◌≡◌, ℕ, ◌<◌, ◌^◌, true, false, arith, refl, ap, subst, List, [], ◌∷◌, length, Result, Ok, Err, Some, rules}
 use Rattle.std.specs.Prelude.{nat_lt, ◌==◌}
 use Rattle.std.specs.Char.{is_ascii_digit, digit_value}
 use Rattle.std.specs.List.{list_all}
