@@ -148,7 +148,8 @@ def altered_words(chance, words):
 
 
 class Corpus:
-    """The cartridges and the states to begin with, and the longest usual time of a run."""
+    """The cartridges and the states to begin with, and the longest usual times of a run by one worker and by
+    five, which wait for one another so often that a busy machine takes seconds for a frame."""
 
     def __init__(self, seed, folder):
         chance = random.Random(f"corpus {seed}")
@@ -159,6 +160,15 @@ class Corpus:
         for image in self.images + [random_cartridge(chance) for _ in range(4)]:
             for _ in range(3):
                 self.save(image, chance.randint(1, 8 * FRAME), folder)
+        start = time.monotonic()
+        run([b"run", b"game.bin", b"--cycles", b"%d" % (3 * FRAME), b"--workers=5"], folder, 600)
+        self.longest_by_five = time.monotonic() - start
+
+    def limit(self, words):
+        """Ten times the longest usual time of such words."""
+        command = expected.read_words(words) or {}
+        is_alone = command.get("workers", 1) == 1
+        return max(1.0, 10 * self.longest) if is_alone else max(5.0, 10 * self.longest_by_five)
 
     def save(self, image, cycle, folder):
         """Keeps the state of a cartridge at a cycle."""
@@ -263,7 +273,7 @@ def same_by_workers(chance, answer, outputs, files, folder, seconds):
     """The same run by another number of workers writes the same."""
     command = answer.run
     workers = chance.choice([count for count in range(1, 6) if count != command["workers"]])
-    other = tried(words_for(command, workers=workers), files, (), folder, 10 * seconds)[2]
+    other = tried(words_for(command, workers=workers), files, (), folder, seconds)[2]
     if other != outputs:
         raise Found(f"{workers} workers write other files")
 
@@ -294,7 +304,7 @@ def try_case(number, seed, corpus, folder, counts):
     chance = random.Random(f"{seed} {number}")
     kind = chance.choices(list(KINDS), WEIGHTS)[0]
     files, words = KINDS[kind](chance, corpus)
-    seconds = max(1.0, 10 * corpus.longest)
+    seconds = corpus.limit(words)
     try:
         answer, status, outputs, slow = tried(words, files, corpus.kept, folder, seconds)
         counts[f"{kind}: status {status}"] += 1
@@ -304,7 +314,7 @@ def try_case(number, seed, corpus, folder, counts):
             more = chance.randrange(16)
             if more == 0:
                 counts["again with other workers"] += 1
-                same_by_workers(chance, answer, outputs, files, folder, seconds)
+                same_by_workers(chance, answer, outputs, files, folder, max(5.0, 10 * corpus.longest_by_five))
             elif more < 3:
                 counts["again in two parts"] += 1
                 same_in_two(chance, answer, outputs, files, folder, seconds)

@@ -15,8 +15,9 @@ The tables, all if none is named:
     forged      a state whose video memories and Z80's RAM are random: 1 to 5 workers write the same files
     stores      inputs and outputs that are missing, folders, not allowed, full, pipes that end, files that
                 shrink; output that is closed, full or a pipe that ends: each ends with its status
-    memory      a run from a saved state within less and less address space: status 10 and no changed file,
-                or the whole run
+    memory      a run from a saved state within more and more memory, page by page: status 10 and no changed
+                file, or the whole run
+    space       the same within more and more address space, of which the stack takes its part
 
 Each prints how many cases it tried and what was wrong. The status is 0 where nothing was, else 1.
 """
@@ -295,17 +296,17 @@ def stores(folder, step):
         yield from part(folder)
 
 
-def bounded(folder, limit, *words):
-    """Runs within so many bytes of address space."""
-    return run(folder, *words, preexec_fn=lambda: resource.setrlimit(resource.RLIMIT_AS, (limit, limit)))
+def bounded(folder, kind, limit, *words):
+    """Runs within so many bytes of memory or of address space."""
+    return run(folder, *words, preexec_fn=lambda: resource.setrlimit(kind, (limit, limit)))
 
 
-def least_limit(folder, status, low, *words):
+def least_limit(folder, kind, status, low, *words):
     """The least limit, a multiple of a page, at which the words end with this status."""
     high = 1 << 30
     while high - low > PAGE:
         middle = (low + high) // 2 // PAGE * PAGE
-        low, high = (low, middle) if bounded(folder, middle, *words)[0] == status else (middle, high)
+        low, high = (low, middle) if bounded(folder, kind, middle, *words)[0] == status else (middle, high)
     return high
 
 
@@ -320,20 +321,30 @@ def memory_wrong(folder, status, text, whole):
     return "" if is_behind or not any(made.values()) else "files that are not empty"
 
 
-def memory(folder, step):
-    """A run from a saved state within less and less address space."""
+def within(folder, kind):
+    """A run from a saved state within more and more of what a limit bounds."""
     state = save(folder, FRAME)
     words = (*RUN, "--load", "old.mds", "--frames", "f", "--sound", "s", "--journal", "j", "--save", "t")
     run(folder, *words)
     whole = {name: (folder / name).read_bytes() for name in "fsjt"}
-    low = least_limit(folder, 2, 0, "run")
-    high = least_limit(folder, 0, low, *words) + 16 * PAGE
+    low = least_limit(folder, kind, 2, 0, "run")
+    high = least_limit(folder, kind, 0, low, *words) + 16 * PAGE
     for limit in range(low, high, PAGE):
         for name in "fsjt":
             (folder / name).unlink(missing_ok=True)
-        fault = memory_wrong(folder, *bounded(folder, limit, *words), whole)
+        fault = memory_wrong(folder, *bounded(folder, kind, limit, *words), whole)
         kept = (folder / "old.mds").read_bytes() == state
         yield f"{limit} bytes", fault or ("" if kept else "the state that is loaded has changed")
+
+
+def memory(folder, step):
+    """More and more memory; the stack is not bounded."""
+    return within(folder, resource.RLIMIT_DATA)
+
+
+def space(folder, step):
+    """More and more address space."""
+    return within(folder, resource.RLIMIT_AS)
 
 
 TABLES = {
@@ -343,6 +354,7 @@ TABLES = {
     "forged": forged,
     "stores": stores,
     "memory": memory,
+    "space": space,
 }
 
 

@@ -5,7 +5,7 @@
 
 Of each EXAMPLE, all if none is named, a cartridge is built and played for N seconds, 4 if not given, by
 MAME's `genesis` and by the program that `rt ci` has built; a recording beside it, as that of `pads`, is
-played in both. Then are compared
+played in both. An EXAMPLE that ends in .bin is the name of a cartridge. Then are compared
 
 - the pictures, dot by dot. The levels of a colour are other numbers in MAME, so each colour here has to
   be one colour there in all pictures, and each colour there one here. MAME's frames may stand some frames
@@ -38,7 +38,7 @@ PPM_HEAD, WIDTH, HEIGHT = 15, 320, 224
 FARTHEST = 4
 TRIED = range(40, 60)
 WINDOW = 16_384
-SILENCE, NEARLY = 20.0, 0.7
+LOWEST, SILENCE, NEARLY = 20, 20.0, 0.7
 # Each frame as it is done: width and height, four bytes each, and four bytes a dot, low byte first. The
 # words of the pads are set as the recording has them.
 SCRIPT = """
@@ -185,22 +185,17 @@ def transform(values):
 
 
 def spectrum(samples):
-    """How strong the frequencies are, each a step of rate / WINDOW behind the last, or None of silence."""
-    mean = sum(samples) / len(samples)
-    if max(abs(value - mean) for value in samples) < SILENCE:
-        return None
-    step = 2 * math.pi / len(samples)
+    """How strong the frequencies are, each a step of rate / WINDOW behind the last."""
+    mean, step = sum(samples) / len(samples), 2 * math.pi / len(samples)
     shaped = [(value - mean) * (1 - math.cos(step * k)) for k, value in enumerate(samples)]
     bins = transform(shaped + [0.0] * (WINDOW - len(shaped)))
-    return [abs(value) + 1e-9 for value in bins[: WINDOW // 2]]
+    return [2 * abs(value) / len(samples) + 1e-9 for value in bins[: WINDOW // 2]]
 
 
 def tones(samples, rate):
     """The frequencies of the tones that are nearly as strong as the strongest, which comes first."""
-    size = spectrum(samples)
-    if size is None:
-        return []
-    tops = [k for k in range(5, len(size) - 1) if size[k - 1] < size[k] >= size[k + 1]]
+    size, lowest = spectrum(samples), int(LOWEST * WINDOW / rate)
+    tops = [k for k in range(lowest, len(size) - 1) if size[k - 1] < size[k] >= size[k + 1] and size[k] > SILENCE]
     tops.sort(key=size.__getitem__, reverse=True)
     found = []
     for top in (k for k in tops if size[k] >= NEARLY * size[tops[0]]):
@@ -241,14 +236,22 @@ def compare_tones(here, there):
     return line, not wrong
 
 
+def cartridge_of(example):
+    """The image of an example, or of a file, and the lines of its recording's text."""
+    if example.endswith(".bin"):
+        return pathlib.Path(example).read_bytes(), []
+    with open(HERE / example / f"{example}.src") as source:
+        image = build.build(source)
+    pads = HERE / example / f"{example}.txt"
+    return image, pads.read_text().splitlines() if pads.exists() else []
+
+
 def compare(example, seconds):
     """Plays one example in both, prints two lines, and tells whether both are the same."""
     with tempfile.TemporaryDirectory() as name:
         folder = pathlib.Path(name)
-        with open(HERE / example / f"{example}.src") as source:
-            (folder / "cart.bin").write_bytes(build.build(source))
-        pads = HERE / example / f"{example}.txt"
-        lines = pads.read_text().splitlines() if pads.exists() else []
+        image, lines = cartridge_of(example)
+        (folder / "cart.bin").write_bytes(image)
         (folder / "cart.rec").write_bytes(record.record(lines))
         play_there(folder, seconds)
         play_here(folder, seconds)
