@@ -25,6 +25,7 @@ import argparse
 import os
 import pathlib
 import resource
+import signal
 import subprocess
 import sys
 import tempfile
@@ -219,12 +220,12 @@ def descriptors(folder):
 
 
 def limited(folder):
-    """Outputs that come to the most bytes that a file may have."""
+    """Outputs that come to the most bytes that a file may have: the system ends the run by a signal."""
     most = 40_000
     for option in ("--frames", "--journal", "--save"):
         bound = lambda: resource.setrlimit(resource.RLIMIT_FSIZE, (most, most))
-        found = run(folder, *RUN, option, "big", preexec_fn=bound)
-        fault = differs(found, (4, "fault: writing big\n"))
+        status, _ = run(folder, *RUN, option, "big", preexec_fn=bound)
+        fault = differs(status, -signal.SIGXFSZ)
         yield f"{option} past the limit of a file", fault or differs((folder / "big").stat().st_size, most)
 
 
