@@ -1,5 +1,6 @@
 pub mod Appends
 pub mod Carts
+pub mod Counts
 pub mod Demos
 pub mod Ends
 pub mod Fetched
@@ -9,6 +10,7 @@ pub mod Least
 pub mod LeastRuns
 pub mod Named
 pub mod Puts
+pub mod Rests
 pub mod Right
 pub mod Rows
 pub mod Segments

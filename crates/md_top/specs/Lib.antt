@@ -1,4 +1,5 @@
 pub mod Answers
+pub mod Counts
 pub mod Courses
 pub mod Demos
 pub mod Endings
@@ -8,6 +9,7 @@ pub mod Least
 pub mod Limits
 pub mod Loads
 pub mod Outputs
+pub mod Resuming
 pub mod Runs
 pub mod Saves
 pub mod Workers
