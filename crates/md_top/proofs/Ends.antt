@@ -178,7 +178,7 @@ refused-leaves told run old new _ cause same = same
 pub run-ends : (told : Type 0) (run : Run) (start : Start) (old mid new : DepotState) (ending : Ending) → IsEnd run.cycles → MayBeginAt run start.at
     → (told → Begins run old.files start) → start.at < run.cycles → GoesOn old mid → RunCause start run mid new ending → RunEnds told run old new ending
 run-ends told run start old mid new (Done from accesses halted) end may begins ahead on cause =
-    (end, (λ none. cause.0 ∙ may none), λ t. (start, begins t, ahead, cause))
+    (end, (λ none. cause.from ∙ may none), λ t. (start, begins t, ahead, cause))
 run-ends told run start old mid new Memory end may begins ahead on cause = tt
 run-ends told run start old mid new FramesFault end may begins ahead on cause =
     (end, λ t. (start, begins t, ahead), cause-before start run old mid new FramesFault on cause)

@@ -94,15 +94,27 @@ pub record Later (start : Start) (s t : ℕ) : Type 0 where
   pub output : Media
   pub more_entries : entries_from start t ≡ entries_from start s ++ entries
   pub more_media : media_from start t ≡ joined (media_from start s) output
+  pub run : IsRunTo (run_from start s) t (run_from start t) entries output
 
 pub later : (start : Start) (s t : ℕ) → RunLaws start → t ≤ 2 ^ 50 → s ≤ t → Later start s t
 unfolding entries_from media_from
 later start s t laws small within =
     let on : moves_from start s ≤ moves_from start t = moves-later start s t laws small within in
+    let whole : IsRunTo start.console t (run_from start t) (entries_from start t) (media_from start t) = run-made start t laws small in
+    let count : moves_from start t ≡ whole.moves = moves-found start t laws small whole in
     let between : moves_from start t ≡ moves_from start s + (moves_from start t - moves_from start s) = omega (arith, on) in
     record {
       entries = journal (run_from start s) (moves_from start t - moves_from start s);
       output = media (run_from start s) (moves_from start t - moves_from start s);
       more_entries = ap (journal start.console) between ∙ laws.entries_added (moves_from start s) (moves_from start t - moves_from start s);
       more_media = ap (media start.console) between ∙ laws.output_added (moves_from start s) (moves_from start t - moves_from start s);
+      run = record {
+        moves = moves_from start t - moves_from start s;
+        below = λ k less. subst (λ (m : Console). (key_in m (mover m)).cycle < t) (laws.moves_added (moves_from start s) k)
+            (whole.below (moves_from start s + k) (omega (arith, count, between, less)));
+        quiet = whole.quiet;
+        console = ap (ran start.console) between ∙ laws.moves_added (moves_from start s) (moves_from start t - moves_from start s);
+        entered = refl;
+        rendered_to = refl;
+      };
     }

@@ -1,6 +1,7 @@
 pub mod Appends
 pub mod Carts
 pub mod Conversions
+pub mod Counts
 pub mod Demos
 pub mod Ends
 pub mod Fetched
@@ -10,6 +11,7 @@ pub mod Least
 pub mod LeastRuns
 pub mod Named
 pub mod Puts
+pub mod Rests
 pub mod Right
 pub mod Rows
 pub mod Segments

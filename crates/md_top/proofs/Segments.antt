@@ -12,10 +12,11 @@ use Rattle.md_machine.specs.Outputs.{frame_bytes, frames_bytes, journal_bytes, m
 use Rattle.md_machine.specs.Media.{Media, joined, no_media}
 use Rattle.md_machine.specs.Movers.{mover-lt}
 use Rattle.md_machine.specs.Starts.{IsStart, Start, batches_below}
+use Rattle.md_reached.specs.Reached.{IsReached}
 use Rattle.save_state.specs.States.{state_bytes}
 use Rattle.md_top.specs.Courses.{CameTo}
 use Rattle.md_top.specs.Heard.{HearsRuns}
-use Rattle.md_top.specs.Endings.{pairs_between}
+use Rattle.md_top.specs.Counts.{pairs_between}
 use Rattle.md_top.specs.Limits.{IsEnd}
 use Rattle.md_top.specs.Outputs.{Pieces, lengthened, nothing}
 use Rattle.md_top.specs.Runs.{RunLaws, entries_from, frames_to, halted_from, journal_to, media_from, moves_from, pieces_of, pieces_until, run_from, sound_until, state_to}
@@ -129,10 +130,10 @@ pieces-front start end s is laws small within = record {
 }
 
 -- a machine at its start, with nothing made
-pub at-start : (start : Start) → IsStart start → RunLaws start → HearsRuns start → start.at ≤ 2 ^ 50
+pub at-start : (start : Start) → IsStart start → RunLaws start → HearsRuns start → IsReached start.at start.console → start.at ≤ 2 ^ 50
     → CameTo start (record { at = start.at; console = start.console; entries = []; media = no_media }) 0
 unfolding ran
-at-start start is laws heard small = record {
+at-start start is laws heard reached small = record {
   from = is;
   laws = laws;
   later = omega arith;
@@ -142,15 +143,16 @@ at-start start is laws heard small = record {
   media = refl;
   counted = sym (ap length (no-entries start is laws small));
   heard = heard;
+  reached = reached;
 }
 
 -- behind a segment
-pub came-to : (start : Start) (at to accesses : ℕ) (after machine : MachineValue) → IsStart start → RunLaws start → HearsRuns start → start.at ≤ to → Segment start at to after
+pub came-to : (start : Start) (at to accesses : ℕ) (after machine : MachineValue) → IsStart start → RunLaws start → HearsRuns start → IsReached start.at start.console → start.at ≤ to → Segment start at to after
     → machine ≡ record { at = to; console = after.console; entries = []; media = no_media } → accesses ≡ length (entries_from start to)
     → CameTo start machine accesses
-came-to start at to accesses after machine is laws heard later made same counted =
+came-to start at to accesses after machine is laws heard reached later made same counted =
     subst (λ (m : MachineValue). CameTo start m accesses) (sym same)
-    (record { from = is; laws = laws; later = later; run = made.run; entries = refl; media = refl; counted = counted; heard = heard })
+    (record { from = is; laws = laws; later = later; run = made.run; entries = refl; media = refl; counted = counted; heard = heard; reached = reached })
 
 -- the outputs behind a segment
 sound-next : (start : Start) (end at to : ℕ) (pairs : List ℕ) → sound_bytes (media_from start to) ≡ sound_bytes (media_from start at) ++ pairs

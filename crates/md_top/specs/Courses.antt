@@ -4,6 +4,7 @@ use Rattle.md_machine.specs.Console.{IsRunTo}
 use Rattle.md_machine.specs.Machines.{MachineValue}
 use Rattle.md_machine.specs.Media.{no_media}
 use Rattle.md_machine.specs.Starts.{IsStart, Start}
+use Rattle.md_reached.specs.Reached.{IsReached}
 use Rattle.md_top.specs.Heard.{HearsRuns}
 use Rattle.md_top.specs.Runs.{RunLaws, entries_from, media_from}
 use Rattle.md_top.specs.declared.course.Course.{Course}
@@ -20,14 +21,16 @@ start_in course = start_at course.machine
 abbrev pub cycle_of : Course → ℕ
 cycle_of course = course.machine.at
 
--- a machine with which a run may begin: it is a start, and was drained
+-- a machine with which a run may begin: it is a start, was drained, and is as a run reaches it
 pub record IsFresh (machine : MachineValue) : Type 0 where
   pub from : IsStart (start_at machine)
   pub entries : machine.entries ≡ []
   pub media : machine.media ≡ no_media
+  pub reached : IsReached machine.at machine.console
 
 -- a machine came from a start to its cycle with so many accesses, and its records were drained; the
--- machine's laws hold of the runs from that start, and from power-on all runs are heard
+-- machine's laws hold of the runs from that start, and from power-on all runs are heard; the start is as a
+-- run reaches it
 pub record CameTo (start : Start) (machine : MachineValue) (accesses : ℕ) : Type 0 where
   pub from : IsStart start
   pub laws : RunLaws start
@@ -37,6 +40,7 @@ pub record CameTo (start : Start) (machine : MachineValue) (accesses : ℕ) : Ty
   pub media : machine.media ≡ no_media
   pub counted : accesses ≡ length (entries_from start machine.at)
   pub heard : HearsRuns start
+  pub reached : IsReached start.at start.console
 
 -- a run came from this start to where it is
 abbrev pub CameFrom : Start → Course → Type 0

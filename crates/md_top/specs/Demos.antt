@@ -6,8 +6,8 @@ use Rattle.md_demo.specs.Demo.{demo_cart}
 use Rattle.md_machine.specs.Outputs.{frames_bytes, journal_bytes, sound_bytes}
 use Rattle.md_machine.specs.Starts.{Start}
 use Rattle.md_words.specs.Words.{Demo}
-use Rattle.md_top.specs.Heard.{IsHeard}
 use Rattle.md_top.specs.Limits.{IsEnd, last_cycle}
+use Rattle.md_top.specs.Resuming.{RunsWell}
 use Rattle.md_top.specs.Runs.{entries_from, halted_from, media_from, powered_on}
 use Rattle.md_top.specs.declared.digests.Digests.{Digests}
 use Rattle.md_top.specs.declared.ending.Ending.{Ending}
@@ -29,15 +29,15 @@ digests_from start end =
       journal = sha256 (journal_bytes (entries_from start end));
     }
 
--- what is told of a run from a start to a cycle
+-- what is told of a run from a start to a cycle that ends well
 abbrev pub summary_from : Start → ℕ → Summary
 summary_from start end =
     record { accesses = length (entries_from start end); halted = halted_from start end; digests = digests_from start end }
 
--- this is told of a run, which is heard
+-- a run from a start to a cycle ends well, and this is told of it
 pub record IsSummary (start : Start) (end : ℕ) (summary : Summary) : Type 0 where
-  pub is : summary ≡ summary_from start end
-  pub heard : IsHeard start end
+  pub well : RunsWell start end None start.at summary.accesses summary.halted
+  pub digests : summary.digests ≡ digests_from start end
 
 -- digests on their way have what a run from a start made below a cycle
 pub record HaveUntil (start : Start) (at : ℕ) (hashers : Hashers) : Type 0 where

@@ -8,11 +8,12 @@ use Rattle.hex.specs.Hex.{encode_lower}
 use Rattle.md_outer.specs.Outside.{DepotState, Files}
 use Rattle.md_pads.specs.Recording.{Frame}
 use Rattle.md_machine.specs.Starts.{Start}
+use Rattle.md_top.specs.Counts.{frames_between, pairs_between}
 use Rattle.md_top.specs.Demos.{DemoEnds, demo_start, summary_from}
 use Rattle.md_top.specs.Inputs.{CartCause, InputCause, IsAccepted, Recorded, Verdict, WrongAt, cart_limit, cart_of, recording_limit, refusal_of}
 use Rattle.md_top.specs.Limits.{IsEnd, last_cycle}
 use Rattle.md_top.specs.Loads.{Begins, CanRun, Keeps, LoadCause, MayBeginAt, OfOther, StateVerdict, StateWrongAt, state_limit}
-use Rattle.md_top.specs.Heard.{IsHeard}
+use Rattle.md_top.specs.Resuming.{RunsWell}
 use Rattle.md_top.specs.Runs.{entries_from, halted_from, pieces_of, pieces_until, powered_on}
 use Rattle.md_top.specs.Outputs.{Holds, IsUnwritten, LeavesParts, nothing}
 use Rattle.md_vgm.specs.Outcomes.{Outcome}
@@ -51,23 +52,6 @@ status_of TooFar = 11
 status_of TooLong = 14
 status_of RecordingTooLong = 14
 status_of StateTooLong = 14
-
--- the frames that are finished below a cycle: one in each 896040 cycles, and one more behind the start
--- of line 224
-abbrev pub count_of_frames : ℕ → ℕ
-count_of_frames cycles = cycles / 896040 + (if nat_lt 766080 (cycles % 896040) then 1 else 0)
-
--- the pairs that are made below a cycle: 16 for each multiple of 16128 from 16128 on that lies below it
-abbrev pub pairs_of : ℕ → ℕ
-pairs_of cycles = 16 * ((cycles - 1) / 16128)
-
--- the frames of a run: finished below its end, and not below its start
-abbrev pub frames_between : ℕ → ℕ → ℕ
-frames_between from end = count_of_frames end - count_of_frames from
-
--- the pairs of a run: made below its end, and not below its start
-abbrev pub pairs_between : ℕ → ℕ → ℕ
-pairs_between from end = pairs_of end - pairs_of from
 
 -- a line of a word and a number
 abbrev pub number_line : List ℕ → ℕ → List ℕ
@@ -146,8 +130,7 @@ IsReady (Convert conversion) files = CanConvert conversion files
 
 -- why a run from a start ends, once it has begun
 abbrev pub RunCause : Start → Run → DepotState → DepotState → Ending → Type 0
-RunCause start run old new (Done from accesses halted) =
-    (from ≡ start.at) × (accesses ≡ length (entries_from start run.cycles)) × (halted ≡ halted_from start run.cycles) × IsHeard start run.cycles
+RunCause start run old new (Done from accesses halted) = RunsWell start run.cycles run.save from accesses halted
 RunCause start run old new Unsaved = IsSome run.save
 RunCause start run old new ending = IsUnwritten run old new ending
 

@@ -1,5 +1,6 @@
 pub mod Answers
 pub mod Conversions
+pub mod Counts
 pub mod Courses
 pub mod Demos
 pub mod Endings
@@ -9,6 +10,7 @@ pub mod Least
 pub mod Limits
 pub mod Loads
 pub mod Outputs
+pub mod Resuming
 pub mod Runs
 pub mod Saves
 pub mod Workers

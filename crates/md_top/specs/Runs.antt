@@ -5,7 +5,7 @@ use Rattle.md_files.specs.Wav.{wav_head}
 use Rattle.md_machine.specs.Console.{AllBelow, Console, IsRunTo, journal, key_in, media, mover, power_on, ran}
 use Rattle.md_machine.specs.Media.{Media, joined}
 use Rattle.md_machine.specs.Outputs.{frames_bytes, journal_bytes, sound_bytes}
-use Rattle.md_machine.specs.Starts.{IsStart, Start, batches_below}
+use Rattle.md_machine.specs.Starts.{IsStart, Start, batches_below, frames_below}
 use Rattle.save_state.specs.States.{state_bytes}
 use Rattle.md_top.specs.Least.{least}
 use Rattle.md_top.specs.Outputs.{Pieces}
@@ -75,7 +75,9 @@ pub record RunLaws (start : Start) : Type 0 where
   pub mover_first : (m : Console) (i : ℕ) → i < 5 → (key_in m (mover m)).cycle ≤ (key_in m i).cycle
   -- there are no more entries than moves
   pub few_entries : (moves : ℕ) → length (journal start.console moves) ≤ moves
-  -- moves, and behind them later ones, have the entries, the frames and the samples of both
+  -- moves, and behind them later ones, lead where both do, and have the entries, the frames and the
+  -- samples of both
+  pub moves_added : (first later : ℕ) → ran start.console (first + later) ≡ ran (ran start.console first) later
   pub entries_added : (first later : ℕ) → journal start.console (first + later) ≡ journal start.console first ++ journal (ran start.console first) later
   pub output_added : (first later : ℕ) → media start.console (first + later) ≡ joined (media start.console first) (media (ran start.console first) later)
   -- a run, and behind it one that goes on from where it ended, are a run with those of both
@@ -87,3 +89,6 @@ pub record RunLaws (start : Start) : Type 0 where
       → IsRunTo start.console end z entries output → length output.sides ≡ 16 * (batches_below end - batches_below start.at)
   pub levels_counted : (z : Console) (end : ℕ) (entries : List Entry) (output : Media) → IsStart start
       → IsRunTo start.console end z entries output → length output.levels ≡ 16 * (batches_below end - batches_below start.at)
+  -- and a frame for each start of a line 224
+  pub frames_counted : (z : Console) (end : ℕ) (entries : List Entry) (output : Media) → IsStart start
+      → IsRunTo start.console end z entries output → length output.frames ≡ frames_below end - frames_below start.at

@@ -12,6 +12,7 @@ use crate::course::Course;
 use crate::ending::Ending;
 use crate::hashers::Hashers;
 use crate::inputs::Inputs;
+use crate::laws::states_keep_laws;
 use crate::loading::power_on;
 use crate::perform::LAST_CYCLE;
 use crate::run_on::segment_end;
@@ -88,6 +89,7 @@ fn sum_up<F: Fn(&mut Machine, u64)>(go_on: &F, end: u64, course: Course) -> Summ
     'segments: while course.machine.at() < end {
         sum_segment(go_on, end, &mut course, &mut hashers);
     }
+    states_keep_laws();
     Summary {
         accesses: course.accesses,
         halted: course.machine.main_chip().halted(),

@@ -2,12 +2,14 @@
 ghost use Rattle.std.specs.Prelude.{◌≡◌, ◌<◌, ◌^◌, true, length};
 ghost use Rattle.md_machine.specs.Starts.{IsStart};
 ghost use Rattle.md_top.specs.Courses.{start_at};
-ghost use Rattle.md_top.specs.Endings.{frames_between, pairs_between};
+ghost use Rattle.md_top.specs.Counts.{frames_between, pairs_between};
 ghost use Rattle.md_top.specs.Inputs.{IsVerdict, Verdict};
+ghost use Rattle.md_top.specs.Resuming.{StateLaws};
 ghost use Rattle.md_top.specs.Runs.{RunLaws, is_quiet, media_from, run_from};
 
 use md_machine::{Machine, laws};
 use md_pads::Recording;
+use md_reached::{saved, settling};
 use std::alloc::Global;
 
 /// What the laws of the machine say of the runs from where a machine is.
@@ -20,6 +22,17 @@ pub(crate) fn runs_keep_laws(machine: &Machine)
     laws::moves_added();
     laws::joined();
     laws::samples_counted();
+    laws::frames_counted();
+}
+
+/// What the laws on saved states say.
+pub(crate) fn states_keep_laws()
+    ensures { StateLaws }
+{
+    saved::runs_reach();
+    saved::reached_may_be_kept();
+    settling::settled_machines_go_on();
+    laws::one_run();
 }
 
 /// A machine after a run from where it is to the cycle `end` has no event left below it.
@@ -48,7 +61,6 @@ pub fn frames_are_counted(machine: &Machine, end: u64)
     ensures { length (media_from (start_at machine.now) end).frames ≡ frames_between machine.now.at end }
 {
     runs_keep_laws(machine);
-    laws::frames_counted();
 }
 
 /// Whatever bytes the file of a recording holds, there is a verdict on them. It is found by reading

@@ -1,7 +1,8 @@
-ghost use Rattle.std.specs.Prelude.{◌≡◌, Some, None, IfOk, IfErr};
+ghost use Rattle.std.specs.Prelude.{◌≡◌, All, Some, None, IfOk, IfErr};
 ghost use Rattle.std.specs.Arc.{arc_value};
 ghost use Rattle.std.specs.Option.{option_copied};
 ghost use Rattle.md_outer.specs.Outside.{GoesOn};
+ghost use Rattle.md_pads.specs.Recording.{IsFrame};
 ghost use Rattle.md_top.specs.Courses.{IsFresh, start_at};
 ghost use Rattle.md_top.specs.Loads.{BeginsWith, IsFound, IsRefused, Keeps, StateCause};
 ghost use Rattle.md_top.specs.Runs.{powered_on};
@@ -11,6 +12,7 @@ use crate::inputs::Inputs;
 use md_machine::{Machine, laws};
 use md_outer::{Depot, Fetch};
 use md_pads::Recording;
+use md_reached::saved;
 use md_word::NoMemory;
 use rom_header::Cart;
 use save_state::{StateFault, read};
@@ -28,6 +30,7 @@ pub(crate) fn first_machine<D: Depot>(
     inputs: Inputs,
     depot: &mut D,
 ) -> Result<Machine, Ending>
+    requires { All IsFrame inputs.recording }
     ensures begins { IfOk result (λ machine. D.told → BeginsWith (option_copied load.entry) (D.state depot.old).files inputs (start_at machine)) }
     ensures at { IfOk result (λ machine. option_copied load.entry ≡ None → machine.at ≡ 0) }
     ensures fresh { IfOk result IsFresh }
@@ -51,6 +54,7 @@ fn load_machine<D: Depot>(
     inputs: Inputs,
     depot: &mut D,
 ) -> Result<Machine, Ending>
+    requires { All IsFrame inputs.recording }
     ensures begins { IfOk result (λ machine. D.told → BeginsWith (Some name.now) (D.state depot.old).files inputs (start_at machine)) }
     ensures fresh { IfOk result IsFresh }
     ensures err { IfErr result (StateCause D.told (Some name.now) inputs (D.state depot.old) (D.state depot.new)) }
@@ -67,6 +71,7 @@ fn load_machine<D: Depot>(
 
 /// The machine that the bytes of a saved state keep.
 fn kept_machine(alloc: Global, bytes: &[u8], inputs: Inputs) -> Result<Machine, Ending>
+    requires { All IsFrame inputs.recording }
     ensures found { IfOk result (λ machine. IsFound inputs bytes.now (Keeps (start_at machine))) }
     ensures fresh { IfOk result IsFresh }
     ensures err { IfErr result (IsRefused inputs bytes.now) }
@@ -76,7 +81,10 @@ fn kept_machine(alloc: Global, bytes: &[u8], inputs: Inputs) -> Result<Machine, 
         Err(NoMemory) => return Err(Ending::Memory),
     };
     match read(alloc, bytes, cart, recording) {
-        Ok(machine) => Ok(machine),
+        Ok(machine) => {
+            saved::states_are_reached(&machine);
+            Ok(machine)
+        }
         Err(StateFault::Form { place }) => Err(Ending::StateWrong(place)),
         Err(StateFault::OtherCart { kept, given }) => Err(Ending::OtherCart { kept, given }),
         Err(StateFault::NoMemory) => Err(Ending::Memory),
@@ -85,10 +93,12 @@ fn kept_machine(alloc: Global, bytes: &[u8], inputs: Inputs) -> Result<Machine, 
 
 /// The machine of these inputs at power-on.
 pub(crate) fn power_on(alloc: Global, inputs: Inputs) -> Result<Machine, NoMemory>
+    requires { All IsFrame inputs.recording }
     ensures start { IfOk result (λ machine. start_at machine ≡ powered_on inputs) }
     ensures fresh { IfOk result IsFresh }
 {
     laws::power_on_is_start();
+    saved::power_on_is_reached(&inputs.cart);
     let (cart, recording) = shared(alloc, inputs)?;
     Machine::power_on(alloc, cart, recording)
 }

@@ -1,6 +1,7 @@
-ghost use Rattle.std.specs.Prelude.{◌≡◌, ◌≤◌, Some, None, OnOk, IfOk, IfErr};
+ghost use Rattle.std.specs.Prelude.{◌≡◌, ◌≤◌, All, Some, None, OnOk, IfOk, IfErr};
 ghost use Rattle.std.specs.Option.{option_copied};
 ghost use Rattle.md_outer.specs.Outside.{GoesOn};
+ghost use Rattle.md_pads.specs.Recording.{IsFrame};
 ghost use Rattle.md_top.specs.Inputs.{AreInputs, CartCause, InputCause, IsAccepted, RecordingCause, Records, cart_of, refusal_of};
 ghost use Rattle.md_words.specs.Shown.{shown_run};
 
@@ -21,6 +22,7 @@ pub(crate) fn read_inputs<D: Depot>(
     run: &RunWords<'_>,
     depot: &mut D,
 ) -> Result<Inputs, Ending>
+    ensures buttons { IfOk result (λ inputs. All IsFrame inputs.recording) }
     ensures inputs { IfOk result (λ inputs. D.told → AreInputs (shown_run run.now) (D.state depot.old).files inputs) }
     ensures err { IfErr result (InputCause D.told (shown_run run.now) (D.state depot.old) (D.state depot.new)) }
     ensures files { D.told → (D.state depot.new).files ≡ (D.state depot.old).files }
@@ -73,6 +75,7 @@ fn read_recording<D: Depot>(
     name: Option<&str>,
     depot: &mut D,
 ) -> Result<Recording, Ending>
+    ensures buttons { IfOk result (λ recording. All IsFrame recording) }
     ensures recording { IfOk result (λ recording. D.told → Records (option_copied name.entry) (D.state depot.old).files recording) }
     ensures err { IfErr result (RecordingCause D.told (option_copied name.entry) (D.state depot.old) (D.state depot.new)) }
     ensures files { D.told → (D.state depot.new).files ≡ (D.state depot.old).files }
@@ -86,6 +89,7 @@ fn read_recording<D: Depot>(
 
 /// Fetches the recording of this name and reads it.
 fn fetch_recording<D: Depot>(alloc: Global, name: &str, depot: &mut D) -> Result<Recording, Ending>
+    ensures buttons { IfOk result (λ recording. All IsFrame recording) }
     ensures recording { IfOk result (λ recording. D.told → Records (Some name.now) (D.state depot.old).files recording) }
     ensures err { IfErr result (RecordingCause D.told (Some name.now) (D.state depot.old) (D.state depot.new)) }
     ensures files { D.told → (D.state depot.new).files ≡ (D.state depot.old).files }

@@ -3,7 +3,8 @@ ghost use Rattle.std.specs.Option.{option_copied};
 ghost use Rattle.hex.specs.Hex.{encode_lower};
 ghost use Rattle.md_outer.specs.Outside.{PutsText};
 ghost use Rattle.md_top.specs.Answers.{PutsAll, PutsOutput, PutsPart, Reports};
-ghost use Rattle.md_top.specs.Endings.{carts_line, counts_of, frames_between, halted_line, lines_of, number_line, numbers_line};
+ghost use Rattle.md_top.specs.Counts.{frames_between};
+ghost use Rattle.md_top.specs.Endings.{carts_line, counts_of, halted_line, lines_of, number_line, numbers_line};
 ghost use Rattle.md_words.specs.Shown.{shown_command};
 
 use crate::converting::refuse_input;

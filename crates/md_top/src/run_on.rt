@@ -2,7 +2,8 @@ ghost use Rattle.std.specs.Prelude.{◌≡◌, ℕ, ◌≤◌, ◌<◌, OnOk, On
 ghost use Rattle.md_outer.specs.Outside.{Files, GoesOn};
 ghost use Rattle.md_machine.specs.Starts.{Start};
 ghost use Rattle.md_top.specs.Courses.{CameFrom, IsAtStart, IsUnderway, cycle_of, start_in};
-ghost use Rattle.md_top.specs.Endings.{HoldsUntil, RunCause, RunLeaves, count_of_frames, frames_between, pairs_between, pairs_of};
+ghost use Rattle.md_top.specs.Counts.{count_of_frames, frames_between, pairs_between, pairs_of};
+ghost use Rattle.md_top.specs.Endings.{HoldsUntil, RunCause, RunLeaves};
 ghost use Rattle.md_top.specs.Limits.{IsEnd, last_cycle, segment_cycles};
 ghost use Rattle.md_top.specs.Limits as limits;
 ghost use Rattle.md_top.specs.Outputs.{AreBegun, Holds, IsWriteFault, LeavesParts, nothing};
@@ -12,6 +13,7 @@ ghost use Rattle.md_words.specs.Shown.{shown_run};
 
 use crate::course::Course;
 use crate::ending::Ending;
+use crate::laws::states_keep_laws;
 use crate::output::{append_all, append_sound, begin_all};
 use crate::outputs::Outputs;
 use crate::saving::save;
@@ -186,6 +188,7 @@ fn run_on<F: Fn(&mut Machine, u64), D: Depot>(
             return ending;
         }
     }
+    states_keep_laws();
     match save(alloc, run, outputs, depot, &course.machine) {
         Ok(()) => Ending::Done {
             from,

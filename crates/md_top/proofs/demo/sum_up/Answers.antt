@@ -1,12 +1,12 @@
-use Rattle.std.proofs.Common.{rules, ◌≡◌, ℕ, length, ap, subst, ◌∙◌, arith}
+use Rattle.std.proofs.Common.{rules, ◌≡◌, ℕ, Option, None, sym, subst, arith}
 use Rattle.md_machine.specs.Outputs.{frames_bytes, journal_bytes, sound_bytes}
 use Rattle.md_machine.specs.Starts.{Start}
 use Rattle.md_top.specs.Courses.{cycle_of, start_in}
 use Rattle.md_top.specs.Demos.{HaveUntil, digests_from}
-use Rattle.md_top.specs.Heard.{HearsWrites}
-use Rattle.md_top.specs.Runs.{entries_from, halted_from, media_from}
+use Rattle.md_top.specs.Resuming.{RunsWell}
+use Rattle.md_top.specs.Runs.{entries_from, media_from}
 use Rattle.md_top.proofs.Demos.{digests-are, have-none}
-use Rattle.md_top.proofs.Segments.{halted-found}
+use Rattle.md_top.proofs.Rests.{ends-well}
 use Rattle.md_top.proofs.demo.sum_up.Goals as goal
 
 pub segments-init : goal.segments-init
@@ -32,22 +32,15 @@ returns g c =
     let course = c.segments.course in
     let start : Start = start_in c.args.course in
     let at : cycle_of course ≡ c.args.end = omega (arith, c.segments.invariant.0, c.segments-test.false, c.at.ensures) in
-    let small = c.requires.end.1 in
     let have : HaveUntil start c.args.end c.segments.hashers = subst (λ (n : ℕ). HaveUntil start n c.segments.hashers) at c.segments.invariant.2 in
-    let accesses : course.accesses ≡ length (entries_from start c.args.end) =
-    c.segments.invariant.1.counted ∙ ap (λ (n : ℕ). length (entries_from start n)) at in
-    let halted : c.halted.result ≡ halted_from start c.args.end =
-    (rw c.main_chip.ensures at c.halted.ensures)
-    ∙ halted-found start course.machine course.accesses c.segments.invariant.1 (omega (arith, at, small))
-    ∙ ap (λ (n : ℕ). halted_from start n) at in
+    let halted : c.halted.result ≡ course.machine.console.main.halted = rw c.main_chip.ensures at c.halted.ensures in
     let digests : c.digests.result ≡ digests_from start c.args.end =
     digests-are start c.args.end c.digests.result
     (c.digests.ensures.frames (frames_bytes (media_from start c.args.end).frames) have.frames)
     (c.digests.ensures.samples (sound_bytes (media_from start c.args.end)) have.samples)
     (c.digests.ensures.journal (journal_bytes (entries_from start c.args.end)) have.journal) in
     record {
-      is = λ i. record { accesses = accesses i; halted = halted i; digests = digests i };
-      heard = λ inputs same. subst (λ (n : ℕ). HearsWrites n (entries_from start n) (media_from start n)) at
-          (c.segments.invariant.1.heard inputs course.machine.console (cycle_of course) (entries_from start (cycle_of course))
-          (media_from start (cycle_of course)) same (omega (arith, at, small)) c.segments.invariant.1.run);
+      well = subst (λ (since : Option ℕ). RunsWell start c.args.end None start.at course.accesses since) (sym halted)
+          (ends-well start c.args.end course.machine course.accesses None at c.segments.invariant.1 c.states_keep_laws.ensures c.requires.end (λ some. absurd some));
+      digests = digests;
     }

@@ -2,7 +2,7 @@ use Rattle.std.proofs.Common.{◌≡◌, List, ℕ, ◌++◌, ap, ◌∙◌, ari
 use Rattle.md_files.specs.Wav.{wav_head}
 use Rattle.md_machine.specs.Starts.{Start}
 use Rattle.md_top.specs.Courses.{start_in}
-use Rattle.md_top.specs.Endings.{pairs_between}
+use Rattle.md_top.specs.Counts.{pairs_between}
 use Rattle.md_top.specs.Outputs.{nothing}
 use Rattle.md_top.specs.Runs.{sound_until}
 use Rattle.md_words.specs.Shown.{shown_run}

@@ -1,13 +1,14 @@
-use Rattle.std.proofs.Common.{rules, ◌≡◌, ℕ, length, ap, subst, ◌∙◌, arith}
+use Rattle.std.proofs.Common.{rules, ◌≡◌, ℕ, Option, ap, sym, subst, ◌∙◌, arith}
 use Rattle.md_machine.specs.Starts.{Start}
 use Rattle.md_top.specs.Courses.{cycle_of, start_in}
 use Rattle.md_top.specs.Endings.{HoldsUntil}
-use Rattle.md_top.specs.Heard.{HearsWrites}
-use Rattle.md_top.specs.Runs.{entries_from, halted_from, media_from, state_to}
+use Rattle.md_top.specs.Resuming.{RunsWell}
+use Rattle.md_top.specs.Runs.{state_to}
 use Rattle.md_words.specs.Shown.{shown_run}
 use Rattle.save_state.specs.States.{state_bytes}
 use Rattle.md_top.proofs.Ends.{goes-far, state-held, unsaved-leaves}
-use Rattle.md_top.proofs.Segments.{halted-found, state-found}
+use Rattle.md_top.proofs.Rests.{ends-well}
+use Rattle.md_top.proofs.Segments.{state-found}
 use Rattle.md_top.proofs.run_on.run_on.Goals as goal
 
 pub run_segment-requires-clause-underway : goal.run_segment-requires-clause-underway
@@ -31,16 +32,11 @@ returns-in-Ok-clause-cause g c =
     let course = c.segments.course in
     let start : Start = start_in c.args.course in
     let at : cycle_of course ≡ c.args.run.now.cycles = omega (arith, c.segments.invariant.0, c.segments-test.false, c.at.ensures) in
-    let small = c.requires.end.1 in (
-      c.at-from.ensures,
-      c.segments.invariant.1.counted ∙ ap (λ (n : ℕ). length (entries_from start n)) at,
-      (rw c.main_chip.ensures at c.halted.ensures)
-          ∙ halted-found start course.machine course.accesses c.segments.invariant.1 (omega (arith, at, small))
-          ∙ ap (λ (n : ℕ). halted_from start n) at,
-      λ inputs same. subst (λ (n : ℕ). HearsWrites n (entries_from start n) (media_from start n)) at
-          (c.segments.invariant.1.heard inputs course.machine.console (cycle_of course) (entries_from start (cycle_of course))
-          (media_from start (cycle_of course)) same (omega (arith, at, small)) c.segments.invariant.1.run),
-    )
+    let halted : c.halted.result ≡ course.machine.console.main.halted = rw c.main_chip.ensures at c.halted.ensures in
+    subst (λ (from : ℕ). RunsWell start c.args.run.now.cycles (shown_run c.args.run.now).save from course.accesses c.halted.result) (sym c.at-from.ensures)
+    (subst (λ (since : Option ℕ). RunsWell start c.args.run.now.cycles (shown_run c.args.run.now).save start.at course.accesses since) (sym halted)
+    (ends-well start c.args.run.now.cycles course.machine course.accesses (shown_run c.args.run.now).save at c.segments.invariant.1 c.states_keep_laws.ensures c.requires.end
+    (c.in-Ok.ensures.kept {u = tt})))
 
 pub returns-in-Ok-clause-files : goal.returns-in-Ok-clause-files
 returns-in-Ok-clause-files g c = λ t first holds.

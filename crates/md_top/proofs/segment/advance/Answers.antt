@@ -51,7 +51,7 @@ returns-clause-underway g c = λ start came.
     ≡ length (entries_from start (cycle_of c.args.course.now)) + length c.go_on.new.arg2.entries =
     ap length made.entries ∙ length-append (entries_from start (cycle_of c.args.course.now)) c.go_on.new.arg2.entries in
     came-to start (cycle_of c.args.course.now) c.args.to (c.args.course.now.accesses + c.len.result / 16) c.go_on.new.arg2 c.drain_entries.new.self
-    came.from came.laws came.heard (omega (arith, came.later, c.requires.later)) made after
+    came.from came.laws came.heard came.reached (omega (arith, came.later, c.requires.later)) made after
     (omega (
       arith,
       more,

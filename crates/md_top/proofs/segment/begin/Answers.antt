@@ -14,4 +14,5 @@ returns-clause-underway c =
     subst (λ (m : MachineValue). CameTo (start_at machine) m 0) (sym drained)
     (at-start (start_at machine) c.requires.fresh.from c.runs_keep_laws.ensures
     (hears-runs (start_at machine) c.cart.result.now c.cart-2.result.now c.cart.ensures c.cart-2.ensures c.levels_are_heard.ensures c.sides_are_heard.ensures)
+    c.requires.fresh.reached
     (omega (arith, c.requires.near)))

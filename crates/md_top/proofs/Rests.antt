@@ -1,0 +1,72 @@
+-- A run that came to its end ends well.
+use Rattle.std.proofs.Common.{◌≡◌, ℕ, ◌^◌, ◌≤◌, List, ◌++◌, length, Option, refl, sym, ap, subst, ◌∙◌, arith}
+use Rattle.std.specs.Prelude.{IsSome}
+use Rattle.md_word.specs.declared.event.Entry.{Entry}
+use Rattle.md_machine.specs.Console.{Console, IsRunTo}
+use Rattle.md_machine.specs.Machines.{MachineValue}
+use Rattle.md_machine.specs.Media.{Media, joined}
+use Rattle.md_machine.specs.Starts.{Start}
+use Rattle.md_machine.proofs.Kept.{cart-stays}
+use Rattle.md_reached.specs.Reached.{IsReached}
+use Rattle.md_reached.specs.Settling.{GoesOn}
+use Rattle.save_state.specs.Ready.{IsReady}
+use Rattle.save_state.specs.States.{IsState, kept_bytes, settled_console, state_bytes}
+use Rattle.md_top.specs.Courses.{CameTo}
+use Rattle.md_top.specs.Limits.{IsEnd, last_cycle}
+use Rattle.md_top.specs.Resuming.{GoesOnFrom, IsKept, IsRest, RunsWell, StateLaws}
+use Rattle.md_top.specs.Runs.{RunLaws, entries_from, halted_from, media_from, moves_from, run_from, state_to}
+use Rattle.md_top.proofs.Counts.{frames-counted, pairs-counted}
+use Rattle.md_top.proofs.LeastRuns.{Found, Later, later, run-found, run-made}
+
+-- the saved state goes on as the run
+goes-on : (start : Start) (at : ℕ) → RunLaws start → StateLaws → IsReached at (run_from start at) → GoesOnFrom start at
+unfolding state_to
+goes-on start at laws states reached = λ end after entries output within near run.
+    let more : Later start at end = later start at end laws (omega (arith, near)) within in
+    let on : GoesOn end (settled_console at (run_from start at)) (run_from start end) more.entries more.output =
+    states.goes_on (run_from start at) (run_from start end) at end more.entries more.output reached.parts reached.start.quiet within (omega (arith, near)) more.run in
+    let one : (on.after ≡ after) × (more.entries ≡ entries) × (more.output ≡ output) =
+    states.one_run (settled_console at (run_from start at)) on.after after end more.entries entries more.output output on.run run in
+    record {
+      entries = more.more_entries ∙ ap (λ (l : List Entry). entries_from start at ++ l) one.1;
+      media = more.more_media ∙ ap (joined (media_from start at)) one.2;
+      state = sym (ap (kept_bytes end) on.same) ∙ ap (state_bytes end) one.0;
+    }
+
+-- what was saved is a state of the run
+kept : (start : Start) (at : ℕ) (m : Console) → m ≡ run_from start at → IsState m.cart (state_bytes at m) (record { at = at; console = settled_console at m }) → IsKept start at
+unfolding state_to
+kept start at m same is =
+    subst (λ (cart : List ℕ). IsState cart (state_bytes at (run_from start at)) (record { at = at; console = settled_console at (run_from start at) }))
+    (cart-stays start.console (moves_from start at))
+    (subst (λ (z : Console). IsState z.cart (state_bytes at z) (record { at = at; console = settled_console at z })) same is)
+
+-- at the cycle to which it came
+ends-here : (start : Start) (machine : MachineValue) (accesses : ℕ) (save : Option (List ℕ)) → CameTo start machine accesses → StateLaws → IsEnd machine.at
+    → (IsSome save → IsReady machine.at machine.console → IsState machine.console.cart (state_bytes machine.at machine.console) (record { at = machine.at; console = settled_console machine.at machine.console }))
+    → RunsWell start machine.at save start.at accesses machine.console.main.halted
+unfolding halted_from
+ends-here start machine accesses save came states end saved =
+    let small : machine.at ≤ 2 ^ 50 = omega (arith, end.1) in
+    let made : IsRunTo start.console machine.at (run_from start machine.at) (entries_from start machine.at) (media_from start machine.at) = run-made start machine.at came.laws small in
+    let found : Found start machine.at machine.console (entries_from start machine.at) (media_from start machine.at) = run-found start machine.at came.laws small came.run in
+    let reached : IsReached machine.at machine.console =
+    states.reach start.console machine.console start.at machine.at (entries_from start machine.at) (media_from start machine.at) came.reached came.later small came.run in
+    record {
+      least = made;
+      from = refl;
+      frames = sym (came.laws.frames_counted (run_from start machine.at) machine.at (entries_from start machine.at) (media_from start machine.at) came.from made ∙ frames-counted start.at machine.at);
+      samples = sym (came.laws.levels_counted (run_from start machine.at) machine.at (entries_from start machine.at) (media_from start machine.at) came.from made ∙ pairs-counted start.at machine.at);
+      accesses = came.counted;
+      halted = ap (λ (m : Console). m.main.halted) found.console;
+      heard = λ inputs same. came.heard inputs machine.console machine.at (entries_from start machine.at) (media_from start machine.at) same small came.run;
+      kept = λ some. kept start machine.at machine.console found.console (saved some (states.ready machine.at machine.console end.0 end.1 reached));
+      rest = goes-on start machine.at came.laws states (subst (IsReached machine.at) found.console reached);
+    }
+
+pub ends-well : (start : Start) (end : ℕ) (machine : MachineValue) (accesses : ℕ) (save : Option (List ℕ)) → machine.at ≡ end → CameTo start machine accesses → StateLaws → IsEnd end
+    → (IsSome save → IsReady machine.at machine.console → IsState machine.console.cart (state_bytes machine.at machine.console) (record { at = machine.at; console = settled_console machine.at machine.console }))
+    → RunsWell start end save start.at accesses machine.console.main.halted
+ends-well start end machine accesses save at came states ends saved =
+    subst (λ (n : ℕ). RunsWell start n save start.at accesses machine.console.main.halted) at
+    (ends-here start machine accesses save came states (subst IsEnd (sym at) ends) saved)

@@ -1,0 +1,19 @@
+-- How many frames and samples a run makes.
+use Rattle.std.specs.Prelude.{ℕ, ◌+◌, ◌-◌, ◌*◌, ◌/◌, ◌%◌, nat_lt, if◌then◌else◌}
+
+-- the frames that are finished below a cycle: one in each 896040 cycles, and one more behind the start
+-- of line 224
+abbrev pub count_of_frames : ℕ → ℕ
+count_of_frames cycles = cycles / 896040 + (if nat_lt 766080 (cycles % 896040) then 1 else 0)
+
+-- the pairs that are made below a cycle: 16 for each multiple of 16128 from 16128 on that lies below it
+abbrev pub pairs_of : ℕ → ℕ
+pairs_of cycles = 16 * ((cycles - 1) / 16128)
+
+-- the frames of a run: finished below its end, and not below its start
+abbrev pub frames_between : ℕ → ℕ → ℕ
+frames_between from end = count_of_frames end - count_of_frames from
+
+-- the pairs of a run: made below its end, and not below its start
+abbrev pub pairs_between : ℕ → ℕ → ℕ
+pairs_between from end = pairs_of end - pairs_of from

@@ -1,0 +1,61 @@
+-- What comes of a run at its end, and of its machine where it is saved there.
+use Rattle.std.specs.Prelude.{◌≡◌, ℕ, ◌^◌, ◌≤◌, List, ◌++◌, length, Option, IsSome}
+use Rattle.md_word.specs.declared.event.Entry.{Entry}
+use Rattle.md_machine.specs.Console.{Console, IsQuiet, IsRunTo}
+use Rattle.md_machine.specs.Media.{Media, joined}
+use Rattle.md_machine.specs.SoundParts.{HasSoundParts}
+use Rattle.md_machine.specs.Starts.{Start}
+use Rattle.md_reached.specs.Reached.{IsReached}
+use Rattle.md_reached.specs.Settling.{GoesOn}
+use Rattle.save_state.specs.Ready.{IsReady}
+use Rattle.save_state.specs.States.{IsState, settled_console, state_bytes}
+use Rattle.md_top.specs.Counts.{frames_between, pairs_between}
+use Rattle.md_top.specs.Heard.{IsHeard}
+use Rattle.md_top.specs.Limits.{last_cycle}
+use Rattle.md_top.specs.Runs.{entries_from, halted_from, media_from, run_from, state_to}
+
+-- what a run from a start saves at a cycle is a saved state of its cartridge, and keeps the machine there,
+-- settled
+abbrev pub IsKept : Start → ℕ → Type 0
+IsKept start at = IsState start.console.cart (state_to start at) (record { at = at; console = settled_console at (run_from start at) })
+
+-- a run that goes on from a cycle makes what the whole run makes behind it, and comes to the same state
+pub record IsRest (start : Start) (at end : ℕ) (after : Console) (entries : List Entry) (output : Media) : Type 0 where
+  pub entries : entries_from start end ≡ entries_from start at ++ entries
+  pub media : media_from start end ≡ joined (media_from start at) output
+  pub state : state_to start end ≡ state_bytes end after
+
+-- whoever runs the machine that is saved at a cycle on makes the rest of the run
+abbrev pub GoesOnFrom : Start → ℕ → Type 0
+GoesOnFrom start at =
+    (end : ℕ) (after : Console) (entries : List Entry) (output : Media) → at ≤ end → end ≤ last_cycle
+    → IsRunTo (settled_console at (run_from start at)) end after entries output → IsRest start at end after entries output
+
+-- A RUN THAT ENDS WELL, from a start to a cycle, whose state is saved where a name for it is given: what is
+-- promised of it, and of what is told of it
+pub record RunsWell (start : Start) (end : ℕ) (save : Option (List ℕ)) (from accesses : ℕ) (halted : Option ℕ) : Type 0 where
+  -- the machine that always moves the chip of least key has made all events below the end and no other
+  pub least : IsRunTo start.console end (run_from start end) (entries_from start end) (media_from start end)
+  -- it is told from where it began, and how much it made
+  pub from : from ≡ start.at
+  pub frames : frames_between start.at end ≡ length (media_from start end).frames
+  pub samples : pairs_between start.at end ≡ length (media_from start end).levels
+  pub accesses : accesses ≡ length (entries_from start end)
+  -- and since when the 68000 is halted, if it is
+  pub halted : halted ≡ halted_from start end
+  -- from power-on its sound is that of the writes in its journal
+  pub heard : IsHeard start end
+  -- what it saves is a saved state
+  pub kept : IsSome save → IsKept start end
+  -- from which the run goes on as it would have
+  pub rest : GoesOnFrom start end
+
+-- the laws on saved states
+pub record StateLaws : Type 0 where
+  pub reach : (m z : Console) (at end : ℕ) (entries : List Entry) (output : Media) → IsReached at m → at ≤ end → end ≤ 2 ^ 50
+      → IsRunTo m end z entries output → IsReached end z
+  pub ready : (at : ℕ) (m : Console) → 1 ≤ at → at ≤ last_cycle → IsReached at m → IsReady at m
+  pub goes_on : (m z : Console) (at end : ℕ) (entries : List Entry) (output : Media) → HasSoundParts m → IsQuiet at m → at ≤ end → end ≤ 2 ^ 50
+      → IsRunTo m end z entries output → GoesOn end (settled_console at m) z entries output
+  pub one_run : (m w z : Console) (end : ℕ) (first second : List Entry) (output other : Media) → IsRunTo m end w first output
+      → IsRunTo m end z second other → (w ≡ z) × (first ≡ second) × (output ≡ other)
