@@ -3,6 +3,7 @@
 
 #[cfg(test)]
 mod conversions;
+#[cfg(test)]
 mod demos;
 #[cfg(test)]
 mod depots;
