@@ -20,8 +20,8 @@ abbrev pub IsKept : Start → ℕ → Type 0
 IsKept start at = IsState start.console.cart (state_to start at) (record { at = at; console = settled_console at (run_from start at) })
 
 -- a run that goes on from a cycle makes what the whole run makes behind it, and comes to the same state
-pub record IsRest (start : Start) (at end : ℕ) (after : Console) (entries : List Entry) (output : Media) : Type 0 where
-  pub entries : entries_from start end ≡ entries_from start at ++ entries
+pub record IsRest (start : Start) (at end : ℕ) (after : Console) (later : List Entry) (output : Media) : Type 0 where
+  pub entries : entries_from start end ≡ entries_from start at ++ later
   pub media : media_from start end ≡ joined (media_from start at) output
   pub state : state_to start end ≡ state_bytes end after
 
@@ -33,16 +33,16 @@ GoesOnFrom start at =
 
 -- A RUN THAT ENDS WELL, from a start to a cycle, whose state is saved where a name for it is given: what is
 -- promised of it, and of what is told of it
-pub record RunsWell (start : Start) (end : ℕ) (save : Option (List ℕ)) (from accesses : ℕ) (halted : Option ℕ) : Type 0 where
+pub record RunsWell (start : Start) (end : ℕ) (save : Option (List ℕ)) (begun counted : ℕ) (since : Option ℕ) : Type 0 where
   -- the machine that always moves the chip of least key has made all events below the end and no other
   pub least : IsRunTo start.console end (run_from start end) (entries_from start end) (media_from start end)
   -- it is told from where it began, and how much it made
-  pub from : from ≡ start.at
+  pub from : begun ≡ start.at
   pub frames : frames_between start.at end ≡ length (media_from start end).frames
   pub samples : pairs_between start.at end ≡ length (media_from start end).levels
-  pub accesses : accesses ≡ length (entries_from start end)
+  pub accesses : counted ≡ length (entries_from start end)
   -- and since when the 68000 is halted, if it is
-  pub halted : halted ≡ halted_from start end
+  pub halted : since ≡ halted_from start end
   -- from power-on its sound is that of the writes in its journal
   pub heard : IsHeard start end
   -- what it saves is a saved state
