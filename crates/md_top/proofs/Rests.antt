@@ -1,10 +1,10 @@
 -- A run that came to its end ends well.
-use Rattle.std.proofs.Common.{◌≡◌, ℕ, ◌^◌, ◌≤◌, List, ◌++◌, length, Option, refl, sym, ap, subst, ◌∙◌, arith}
+use Rattle.std.proofs.Common.{◌≡◌, ℕ, ◌^◌, ◌≤◌, List, ◌++◌, Option, refl, sym, ap, subst, ◌∙◌, arith}
 use Rattle.std.specs.Prelude.{IsSome}
 use Rattle.md_word.specs.declared.event.Entry.{Entry}
 use Rattle.md_machine.specs.Console.{Console, IsRunTo}
 use Rattle.md_machine.specs.Machines.{MachineValue}
-use Rattle.md_machine.specs.Media.{Media, joined}
+use Rattle.md_machine.specs.Media.{joined}
 use Rattle.md_machine.specs.Starts.{Start}
 use Rattle.md_machine.proofs.Kept.{cart-stays}
 use Rattle.md_reached.specs.Reached.{IsReached}
@@ -12,8 +12,8 @@ use Rattle.md_reached.specs.Settling.{GoesOn}
 use Rattle.save_state.specs.Ready.{IsReady}
 use Rattle.save_state.specs.States.{IsState, kept_bytes, settled_console, state_bytes}
 use Rattle.md_top.specs.Courses.{CameTo}
-use Rattle.md_top.specs.Limits.{IsEnd, last_cycle}
-use Rattle.md_top.specs.Resuming.{GoesOnFrom, IsKept, IsRest, RunsWell, StateLaws}
+use Rattle.md_top.specs.Limits.{IsEnd}
+use Rattle.md_top.specs.Resuming.{GoesOnFrom, IsKept, RunsWell, StateLaws}
 use Rattle.md_top.specs.Runs.{RunLaws, entries_from, halted_from, media_from, moves_from, run_from, state_to}
 use Rattle.md_top.proofs.Counts.{frames-counted, pairs-counted}
 use Rattle.md_top.proofs.LeastRuns.{Found, Later, later, run-found, run-made}

@@ -13,7 +13,7 @@ use Rattle.md_top.specs.Limits.{last_cycle}
 use Rattle.md_top.specs.Loads.{Begins, BeginsWith, IsFoundIn, IsLoadJudged, IsStateJudged, IsStateVerdict, Keeps, LoadCause, OfOther, StateCause, StateVerdict, StateWrongAt, inputs_by, recording_by, state_limit}
 use Rattle.md_top.specs.Runs.{entries_from, halted_from, powered_on}
 use Rattle.md_machine.specs.Starts.{Start}
-use Rattle.md_words.specs.Words.{Run, RunCart}
+use Rattle.md_words.specs.Words.{Run}
 use Rattle.md_top.specs.declared.ending.Ending.{Ending}
 use Rattle.md_top.specs.declared.ending.Ending.TheVariants.{Done, TooFar, ReadFault, TooLong, Short, NoMark, RecordingFault, RecordingTooLong, RecordingWrong, StateFault, StateTooLong, StateWrong, OtherCart, Behind, Memory}
 use Rattle.md_top.specs.declared.inputs.Inputs.{Inputs}

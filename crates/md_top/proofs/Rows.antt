@@ -16,7 +16,7 @@ use Rattle.md_vgm.specs.Outcomes.{Made, Outcome}
 use Rattle.md_words.specs.Words.{Command, Convert, Info, Run, RunCart, RunDemo}
 use Rattle.md_top.specs.Conversions.{convert_ending}
 use Rattle.md_top.specs.declared.ending.Ending.{Ending}
-use Rattle.md_top.specs.declared.ending.Ending.TheVariants.{Shown, Done, DemoDone, Usage, TooFar, RecordingFault, RecordingTooLong, RecordingWrong, StateFault, StateTooLong, StateWrong, OtherCart, Behind, FramesFault, SoundFault, JournalFault, SaveFault, Unsaved, Memory}
+use Rattle.md_top.specs.declared.ending.Ending.TheVariants.{Shown, Done, Usage, TooFar, RecordingFault, RecordingTooLong, RecordingWrong, StateFault, StateTooLong, StateWrong, OtherCart, Behind, FramesFault, SoundFault, JournalFault, SaveFault, Unsaved, Memory}
 use Rattle.md_top.proofs.Conversions.{convert_behind, convert_done, convert_far, convert_other, convert_read_fault, convert_refused, convert_right, convert_state, convert_usage, convert_write_fault, convert_wrong, converted_other, info_refused, made_outcome, run_refused}
 use Rattle.md_top.proofs.Demos.{demo_behind, demo_far, demo_far_only, demo_never, demo_refused, demo_right, right_demo_done}
 use Rattle.md_top.proofs.Right.{cart_right, recording_judged, recording_right, right_accepted, right_behind, right_behind_cart, right_done, right_far, right_load, right_near, state_judged}

@@ -1,5 +1,5 @@
 -- The run of a demonstration cartridge: where it begins, what is told of it, and why it ends.
-use Rattle.std.specs.Prelude.{◌≡◌, ℕ, ◌<◌, [], length, Option, Some, None}
+use Rattle.std.specs.Prelude.{◌≡◌, ℕ, ◌<◌, [], length, None}
 use Rattle.sha2.specs.Hashers.{Holds256}
 use Rattle.sha2.specs.Sha256.{sha256}
 use Rattle.md_demo.specs.Demo.{demo_cart}

@@ -1,6 +1,6 @@
 -- What a command line can come to: its status, what is put, why it comes, and what the files hold
 -- then.
-use Rattle.std.specs.Prelude.{◌≡◌, ℕ, ◌+◌, ◌-◌, ◌*◌, ◌/◌, ◌%◌, ◌<◌, ◌≤◌, nat_le, nat_lt, if◌then◌else◌, List, [], ◌++◌, length, codes, decimal, Option, Some, None, IsSome, unwrap_or}
+use Rattle.std.specs.Prelude.{◌≡◌, ℕ, ◌<◌, ◌≤◌, nat_le, nat_lt, if◌then◌else◌, List, [], ◌++◌, length, codes, decimal, Option, Some, None, IsSome, unwrap_or}
 use Rattle.rom_header.specs.Cartridge.{fault_of}
 use Rattle.rom_header.specs.Header.{header_lines}
 use Rattle.rom_header.specs.declared.cart.CartFault.{CartFault}

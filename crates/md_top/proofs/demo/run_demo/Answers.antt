@@ -1,7 +1,6 @@
-use Rattle.std.proofs.Common.{◌≡◌, ◌∙◌, ap, subst, arith}
+use Rattle.std.proofs.Common.{◌∙◌, ap, subst, arith}
 use Rattle.md_machine.specs.Starts.{Start}
-use Rattle.md_top.specs.Courses.{start_in}
-use Rattle.md_top.specs.Demos.{IsSummary, demo_start}
+use Rattle.md_top.specs.Demos.{IsSummary}
 use Rattle.md_top.proofs.demo.run_demo.Goals as goal
 
 pub begin-requires-clause-near : goal.begin-requires-clause-near

@@ -1,5 +1,4 @@
-use Rattle.std.proofs.Common.{◌≡◌, ℕ, sym, subst}
-use Rattle.md_machine.specs.Starts.{Start}
+use Rattle.std.proofs.Common.{ℕ, sym, subst}
 use Rattle.md_top.specs.Courses.{cycle_of}
 use Rattle.md_top.specs.Demos.{HaveUntil}
 use Rattle.md_top.proofs.Demos.{have-more}

@@ -1,4 +1,5 @@
 use Rattle.std.proofs.Common.{rules, ◌≡◌, ℕ, Option, None, sym, subst, arith}
+use Rattle.std.proofs.lemmas.Bool.{false≢true}
 use Rattle.md_machine.specs.Outputs.{frames_bytes, journal_bytes, sound_bytes}
 use Rattle.md_machine.specs.Starts.{Start}
 use Rattle.md_top.specs.Courses.{cycle_of, start_in}
@@ -41,6 +42,6 @@ returns g c =
     (c.digests.ensures.journal (journal_bytes (entries_from start c.args.end)) have.journal) in
     record {
       well = subst (λ (since : Option ℕ). RunsWell start c.args.end None start.at course.accesses since) (sym halted)
-          (ends-well start c.args.end course.machine course.accesses None at c.segments.invariant.1 c.states_keep_laws.ensures c.requires.end (λ some. absurd some));
+          (ends-well start c.args.end course.machine course.accesses None at c.segments.invariant.1 c.states_keep_laws.ensures c.requires.end (λ some. absurd (false≢true some)));
       digests = digests;
     }

@@ -6,7 +6,7 @@ use Rattle.md_top.specs.Resuming.{RunsWell}
 use Rattle.md_top.specs.Runs.{state_to}
 use Rattle.md_words.specs.Shown.{shown_run}
 use Rattle.save_state.specs.States.{state_bytes}
-use Rattle.md_top.proofs.Ends.{goes-far, state-held, unsaved-leaves}
+use Rattle.md_top.proofs.Ends.{begun-on, goes-far, state-held, unsaved-leaves}
 use Rattle.md_top.proofs.Rests.{ends-well}
 use Rattle.md_top.proofs.Segments.{state-found}
 use Rattle.md_top.proofs.run_on.run_on.Goals as goal
@@ -18,7 +18,7 @@ pub segments-preserved : goal.segments-preserved
 segments-preserved g c = (
   search rules,
   c.in_default.ensures.underway (start_in c.args.course) c.segments.invariant.1,
-  search rules,
+  begun-on (shown_run c.args.run.now) (g.D.Depot.state c.segments.depot) (g.D.Depot.state c.run_segment.new.depot) c.args.outputs.now c.run_segment.ensures.goes_on c.segments.invariant.2,
   goes-far (g.D.Depot.state c.args.depot.now) (g.D.Depot.state c.segments.depot) (g.D.Depot.state c.run_segment.new.depot) c.segments.invariant.3 c.run_segment.ensures.goes_on,
   λ t first holds. c.in_default.ensures.files t (start_in c.args.course) first c.segments.invariant.1 (c.segments.invariant.4 t first holds),
 )
@@ -36,7 +36,7 @@ returns-in-Ok-clause-cause g c =
     subst (λ (from : ℕ). RunsWell start c.args.run.now.cycles (shown_run c.args.run.now).save from course.accesses c.halted.result) (sym c.at-from.ensures)
     (subst (λ (since : Option ℕ). RunsWell start c.args.run.now.cycles (shown_run c.args.run.now).save start.at course.accesses since) (sym halted)
     (ends-well start c.args.run.now.cycles course.machine course.accesses (shown_run c.args.run.now).save at c.segments.invariant.1 c.states_keep_laws.ensures c.requires.end
-    (c.in-Ok.ensures.kept {u = tt})))
+    c.in-Ok.ensures.kept))
 
 pub returns-in-Ok-clause-files : goal.returns-in-Ok-clause-files
 returns-in-Ok-clause-files g c = λ t first holds.

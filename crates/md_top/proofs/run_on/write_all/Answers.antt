@@ -4,7 +4,7 @@ use Rattle.md_machine.specs.Starts.{Start}
 use Rattle.md_top.specs.Courses.{start_at, start_in}
 use Rattle.md_top.specs.Endings.{HoldsUntil, RunCause, RunLeaves}
 use Rattle.md_words.specs.Shown.{shown_run}
-use Rattle.md_top.proofs.Ends.{cause-before, fault-leaves, goes-far, unwritten-leaves}
+use Rattle.md_top.proofs.Ends.{begun-on, cause-before, fault-leaves, goes-far, unwritten-leaves}
 use Rattle.md_top.proofs.run_on.write_all.Goals as goal
 
 pub returns-in-Err-clause-files : goal.returns-in-Err-clause-files
@@ -36,3 +36,7 @@ returns-in-Ok-append_head-clause-files g c = λ t.
     (c.run_on.ensures.files t first
     (subst (λ (start : Start). HoldsUntil start (shown_run c.args.run.now) first (g.D.Depot.state c.append_head.new.depot).files start.at) (sym same)
     (c.in-Ok-append_head.ensures.files t first (c.in-Ok.ensures.files t))))
+
+pub run_on-requires-clause-begun : goal.run_on-requires-clause-begun
+run_on-requires-clause-begun g c =
+    begun-on (shown_run c.args.run.now) (g.D.Depot.state c.begin_all.new.depot) (g.D.Depot.state c.append_head.new.depot) c.in-Ok.outputs c.append_head.ensures.goes_on c.in-Ok.ensures.begun

@@ -9,6 +9,36 @@ use Rattle.md_top.specs.Workers.{WentOn}
 use Rattle.md_top.proofs.Segments.{Segment, came-to, few-entries, frames_bytes-append, journal_bytes-append, paired, segment, sound_bytes-append}
 use Rattle.md_top.proofs.segment.advance.Goals as goal
 
+pub drain_frames-requires : goal.drain_frames-requires
+drain_frames-requires g c =
+    let went : WentOn c.args.course.now.machine c.args.to c.go_on.new.arg2 = c.requires.goes _ c.args.to _ c.go_on.ensures in
+    omega (arith, went.frames, c.clear.ensures.len, c.clear.ensures.capacity, c.args.course.now.frames_fit)
+
+pub drain_pairs-requires : goal.drain_pairs-requires
+drain_pairs-requires g c =
+    let went : WentOn c.args.course.now.machine c.args.to c.go_on.new.arg2 = c.requires.goes _ c.args.to _ c.go_on.ensures in
+    omega (
+      arith,
+      went.samples,
+      c.clear-2.ensures.len,
+      c.clear-2.ensures.capacity,
+      c.args.course.now.pairs_fit,
+      ap (λ (m : MachineValue). length m.media.levels) c.drain_frames.ensures.machine,
+    )
+
+pub drain_entries-requires : goal.drain_entries-requires
+drain_entries-requires g c =
+    let went : WentOn c.args.course.now.machine c.args.to c.go_on.new.arg2 = c.requires.goes _ c.args.to _ c.go_on.ensures in
+    omega (
+      arith,
+      went.entries,
+      c.clear-3.ensures.len,
+      c.clear-3.ensures.capacity,
+      c.args.course.now.records_fit,
+      ap (λ (m : MachineValue). length m.entries) c.drain_pairs.ensures.machine,
+      ap (λ (m : MachineValue). length m.entries) c.drain_frames.ensures.machine,
+    )
+
 pub overflow_add-course : goal.overflow_add-course
 overflow_add-course g c =
     let start : Start = c.requires.underway.0 in
