@@ -14,8 +14,9 @@ processor's, less that of the same program without the call.
 PROGRAM is md_prog as `rt ci` builds it, crates/md_prog/out/md_prog if not given. With it examples/scale and
 examples/chord are run for four seconds with a journal and with their sound; `vgm` makes a file of the journal,
 and `play` its sound. Of both sounds, and of that which ffmpeg makes of the file where it has libgme, the strongest
-tones of each half second are compared, at most five: they are the same where each of one is within 1 per cent of
-one of the other. libgme's samples are other ones, at another rate and another loudness.
+tones of each half second are compared, at most five: they are the same where each of one is within 1 per cent or
+8 hertz, a step of the transform, of one of the other. libgme's samples are other ones, at another rate and another
+loudness.
 """
 import cmath
 import math
@@ -31,7 +32,8 @@ import synthesis
 
 EXAMPLES = programs.TOP / "examples"
 CYCLES = 214_772_700
-SIZE = 16_384
+# samples of a window: at either rate less than what is left of a note of half a second where it begins
+SIZE = 8_192
 SOURCE = """//! Makes a VGM file of a journal, and plays one: `songs KIND TIMES`. KIND 0 makes a file of writes to the sound
 //! generator, KIND 1 plays a chord of half a minute.
 #![tactic(auto)]
@@ -184,14 +186,14 @@ def tones_of(path, second):
 
 
 def are_same(ours, theirs):
-    """Whether each tone of one is within 1 per cent, or 4 hertz, of one of the other."""
-    near = lambda tone, tones: any(abs(tone - other) <= max(4, tone / 100) for other in tones)
+    """Whether each tone of one is within 1 per cent, or 8 hertz, of one of the other."""
+    near = lambda tone, tones: any(abs(tone - other) <= max(8, tone / 100) for other in tones)
     return all(near(tone, theirs) for tone in ours) and all(near(tone, ours) for tone in theirs)
 
 
 def compare(name, run, other, what):
     """Prints whether two sounds of an example have the same tones."""
-    differs = [s for s in (0.25 + k / 2 for k in range(7)) if not are_same(tones_of(run, s), tones_of(other, s))]
+    differs = [s for s in (0.15 + k / 2 for k in range(7)) if not are_same(tones_of(run, s), tones_of(other, s))]
     if differs:
         second = differs[0]
         ours = " ".join(f"{tone:.0f}" for tone in tones_of(run, second))
