@@ -22,17 +22,7 @@ import tempfile
 import programs
 
 ROWS = (("chord", 0x00, 0x00), ("vibrato", 0x0F, 0x00), ("levels", 0x00, 0x4C), ("converter", 0x00, 0x2A))
-SOURCE = """//! Makes batches of the FM chip's samples: `samples OSCILLATOR REGISTER BATCHES`. OSCILLATOR is the byte for
-//! register 22; where REGISTER is not 0, each batch has a write to it in its middle.
-#![tactic(auto)]
-
-ghost use Rattle.std.specs.Prelude.{◌<◌, ◌≤◌};
-
-use fm_chip::{FmList, FmSynth, FmWrite};
-use md_word::Key;
-use std::{env, io};
-
-/// Registers of each operator, and their bytes.
+CHORD = """/// Registers of each operator, and their bytes.
 const OPERATOR: [(u8, u8); 6] = [
     (0x30, 0x31),
     (0x40, 0x10),
@@ -44,7 +34,18 @@ const OPERATOR: [(u8, u8); 6] = [
 
 /// Registers of each channel, and the bytes of the first.
 const CHANNEL: [(u8, u8); 3] = [(0xa4, 0x22), (0xa0, 0x69), (0xb0, 0x32)];
+"""
+SOURCE = """//! Makes batches of the FM chip's samples: `samples OSCILLATOR REGISTER BATCHES`. OSCILLATOR is the byte for
+//! register 22; where REGISTER is not 0, each batch has a write to it in its middle.
+#![tactic(auto)]
 
+ghost use Rattle.std.specs.Prelude.{◌<◌, ◌≤◌};
+
+use fm_chip::{FmList, FmSynth, FmWrite};
+use md_word::Key;
+use std::{env, io};
+
+""" + CHORD + """
 fn put(list: &mut FmList, cycle: u64, port: u8, register: u8, value: u8)
     requires { port < 2 }
 {

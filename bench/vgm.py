@@ -44,19 +44,7 @@ use md_vgm::{from_journal, play};
 use std::alloc::{AllocError, Global};
 use std::{env, io};
 
-/// Registers of each operator, and their bytes.
-const OPERATOR: [(u8, u8); 6] = [
-    (0x30, 0x31),
-    (0x40, 0x10),
-    (0x50, 0x5f),
-    (0x60, 0x85),
-    (0x70, 0x01),
-    (0x80, 0x27),
-];
-
-/// Registers of each channel, and the bytes of the first.
-const CHANNEL: [(u8, u8); 3] = [(0xa4, 0x22), (0xa0, 0x69), (0xb0, 0x32)];
-
+""" + synthesis.CHORD + """
 /// Appends a record.
 fn record(into: &mut Vec<u8>, cycle: u64, tail: &[u8; 8]) -> Result<(), AllocError> {
     into.extend_from_slice(&cycle.to_be_bytes())?;
