@@ -7,8 +7,8 @@ use Rattle.fm_chip.specs.Timers.{both_settled, shown, status, timed}
 use Rattle.fm_chip.specs.Timers as fm_timers
 use Rattle.fm_chip.specs.declared.timers.Timers.{Timers}
 use Rattle.fm_chip.specs.declared.write.FmWrite.{FmWrite}
-use Rattle.stamped_writes.proofs.Helds.{All-held_with, length-filter-most, length-held_with}
-use Rattle.stamped_writes.specs.Order.{is_below}
+use Rattle.sound_writes.proofs.Helds.{All-held_with, length-filter-most, length-held_with}
+use Rattle.sound_writes.specs.Order.{is_below}
 use Rattle.md_pads.specs.Recording.{Frame, pads_of}
 use Rattle.md_word.specs.Clock.{frame, line}
 use Rattle.md_word.specs.Map.{area_of}
@@ -29,7 +29,7 @@ use Rattle.vdp_planes.specs.declared.view.SpriteNote.{SpriteNote}
 use Rattle.bus_shared.proofs.Ports.{acknowledged_bytes, line_begun_bytes, port_read_bytes, port_written_bytes, power_on_bytes, taken_bytes}
 use Rattle.z80_parcel.proofs.Writes.{banked_fits, stored_fits}
 use Rattle.z80_parcel.specs.Parcels.{IsStore, Store}
-use Rattle.z80_parcel.specs.Requests.{Asked, ReadByte, WriteByte, HandOver, TakeBack, Fits}
+use Rattle.z80_parcel.specs.Requests.{RequestValue80, ReadByte, WriteByte, HandOver, TakeBack, Fits}
 use Rattle.std.proofs.Common.{◌∙◌, IfSome}
 use Rattle.bus_shared.specs.Board.{AreBytes, Board, IsBoard, IsFewFm, power_on}
 use Rattle.bus_shared.specs.Fm.{fm_board, fm_read, is_fm, with_fm, with_fm_reset}
@@ -239,7 +239,7 @@ unfolding fm_board
 fm_board-ok board cycle ok = record { port1 = ok.port1; port2 = ok.port2; held = ok.held; fm = few-left cycle board.fm.writes ok.fm; store = ok.store; registers = ok.registers }
 
 -- what a request hands over
-abbrev pub HandsOver : Asked → Type 0
+abbrev pub HandsOver : RequestValue80 → Type 0
 HandsOver (HandOver store) = IsStore store
 HandsOver request = Unit {0}
 
@@ -259,7 +259,7 @@ sub_written-ok false true board key at value low ok = fm-ok board key at value l
 sub_written-ok false false board key at value low ok = ok
 
 -- an access of the Z80
-pub sub-ok : (board : Board) (key : Key) (request : Asked) → key.chip < 2 → HandsOver request → IsBoard board → IsBoard (sub_access board key request).board
+pub sub-ok : (board : Board) (key : Key) (request : RequestValue80) → key.chip < 2 → HandsOver request → IsBoard board → IsBoard (sub_access board key request).board
 unfolding sub_access
 sub-ok board key (ReadByte at) low hands ok = fm_read-if (is_fm at) board key.cycle ok
 sub-ok board key (WriteByte at value) low hands ok = sub_written-ok (is_psg80 at) (is_fm at) board key at value low ok
@@ -287,7 +287,7 @@ status-below true timers cycle =
 status-below false timers cycle = lit< tt
 
 -- what it is told fits
-pub sub-fits : (board : Board) (key : Key) (request : Asked) → HandsOver request → IsBoard board → Fits request (sub_access board key request).answer
+pub sub-fits : (board : Board) (key : Key) (request : RequestValue80) → HandsOver request → IsBoard board → Fits request (sub_access board key request).answer
 unfolding sub_access
 sub-fits board key (ReadByte at) hands ok = status-below (is_fm at) (both_settled key.cycle board.fm.timers) key.cycle
 sub-fits board key (WriteByte at value) hands ok = tt

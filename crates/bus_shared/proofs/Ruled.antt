@@ -16,7 +16,7 @@ use Rattle.vdp_ports.specs.Rules.{HasRules}
 use Rattle.vdp_ports.specs.Vdp.{Vdp}
 use Rattle.vdp_time.proofs.Kept.{started_kept}
 use Rattle.z80_parcel.specs.Parcels.{Store}
-use Rattle.z80_parcel.specs.Requests.{Asked}
+use Rattle.z80_parcel.specs.Requests.{RequestValue80}
 use Rattle.bus_shared.specs.Accesses.{line_board, main_board, pads_board, psg_board, sub_access, video_started}
 use Rattle.bus_shared.specs.Areas.{byte_written_at, byte_written_in, read_at, read_in, word_written_at, word_written_in}
 use Rattle.bus_shared.specs.Board.{Board}
@@ -150,7 +150,7 @@ main_ruled at board key (Ack level) below ok = acknowledged_kept at level board.
 main_ruled at board key (Word value) below ok = transferred_kept at value (settled key.cycle board.vdp) (settled-ruled at key.cycle board.vdp below ok)
 
 -- an access of the Z80
-pub sub_ruled : (at : ℕ) (board : Board) (key : Key) (asks : Asked) → HasRules at board.vdp → HasRules at (sub_access board key asks).board.vdp
+pub sub_ruled : (at : ℕ) (board : Board) (key : Key) (asks : RequestValue80) → HasRules at board.vdp → HasRules at (sub_access board key asks).board.vdp
 sub_ruled at board key asks ok = subst (λ (vdp : Vdp). HasRules at vdp) (sym (sub_leaves board key asks).vdp) ok
 
 -- the start of a line

@@ -11,7 +11,7 @@ use Rattle.md_word.specs.declared.main_bus.Request68.TheVariants.{Read8, Read16,
 use Rattle.vdp_ports.specs.Vdp.{Vdp}
 use Rattle.vdp_planes.specs.declared.view.SpriteNote.{SpriteNote}
 use Rattle.bus_shared.specs.Accesses.{carried, line_board, main_board, pads_board, psg_board, sub_access, taken_back, video_started, yielded}
-use Rattle.z80_parcel.specs.Requests.{Asked, ReadByte, WriteByte, HandOver, TakeBack, asked}
+use Rattle.z80_parcel.specs.Requests.{RequestValue80, ReadByte, WriteByte, HandOver, TakeBack, request_value80}
 use Rattle.bus_shared.specs.Areas.{byte_written_at, byte_written_in, read_at, read_in, word_written_at, word_written_in}
 use Rattle.bus_shared.specs.Lines.{counted}
 use Rattle.bus_shared.specs.Video.{pins_by, port_at, video_byte_written, video_word_written}
@@ -239,14 +239,14 @@ taken-alike true store board key = unchanged board
 taken-alike false None board key = unchanged board
 taken-alike false (Some store) board key = record { recording = refl; pads = refl; port1 = refl; port2 = refl; request = refl; reset = refl; resets = refl; vdp = refl }
 
-access-alike : (board : Board) (key : Key) (request : Asked) → Alike board (sub_access board key request).board
+access-alike : (board : Board) (key : Key) (request : RequestValue80) → Alike board (sub_access board key request).board
 unfolding sub_access
 access-alike board key (ReadByte at) = read-alike (is_fm at) board key.cycle
 access-alike board key (WriteByte at value) = written-alike (is_psg80 at) (is_fm at) board key at value
 access-alike board key (HandOver store) = yielded-alike board.request board key store
 access-alike board key TakeBack = taken-alike board.request board.store board key
 
-pub sub_leaves : (board : Board) (key : Key) (request : Asked) → SubLeaves board key request
+pub sub_leaves : (board : Board) (key : Key) (request : RequestValue80) → SubLeaves board key request
 sub_leaves board key request =
     let same = access-alike board key request in
     record {
@@ -270,7 +270,7 @@ pins-leave old new same = record {
       ∙ ap (λ (vdp : Vdp). record { request = old.request; reset = old.reset; resets = old.resets; int_from = vdp.int_from; int_to = vdp.int_to }) same.vdp;
 }
 
-pub sub_pins_stay : (board : Board) (key : Key) (asks : Asked) → LeavesPins board (sub_access board key asks).board
+pub sub_pins_stay : (board : Board) (key : Key) (asks : RequestValue80) → LeavesPins board (sub_access board key asks).board
 sub_pins_stay board key asks = pins-leave board _ (access-alike board key asks)
 
 pub batch_pins_stay : (board : Board) (cycle : ℕ) → LeavesPins board (psg_board board cycle)
@@ -284,7 +284,7 @@ fm_batch_pins_stay board cycle = record { main = refl; sub = refl }
 pub writers : (board : Board) (key : Key) (request : Request) → WritersLaw board key request
 unfolding carried
 writers board key (requests.Main request) first third = absurd (first refl)
-writers board key (requests.Sub request) first third = sub_pins_stay board key (asked request)
+writers board key (requests.Sub request) first third = sub_pins_stay board key (request_value80 request)
 writers board key (requests.Line view note) first third = absurd (third refl)
 writers board key (requests.Fm list) first third = fm_batch_pins_stay board key.cycle
 writers board key (requests.Psg list) first third = batch_pins_stay board key.cycle

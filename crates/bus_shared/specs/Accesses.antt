@@ -25,7 +25,7 @@ use Rattle.bus_shared.specs.Fm.{chip_byte, chip_read, fm_board, is_fm, with_fm}
 use Rattle.bus_shared.specs.Video.{both_halves, line_begun, line_view, pins_by, video_acknowledged, word_cost, word_taken}
 use Rattle.bus_shared.specs.Z80Space.{is_psg80, with_psg}
 use Rattle.z80_parcel.specs.Parcels.{Store}
-use Rattle.z80_parcel.specs.Requests.{Asked, ReadByte, WriteByte, HandOver, TakeBack, Told, Byte, Nothing, Returned, asked, told}
+use Rattle.z80_parcel.specs.Requests.{RequestValue80, ReadByte, WriteByte, HandOver, TakeBack, AnswerValue80, Byte, Nothing, Returned, request_value80, answer_value80}
 use Rattle.bus_shared.specs.declared.request.Answer.{Answer}
 use Rattle.bus_shared.specs.declared.request.Answer.TheVariants as answers
 use Rattle.bus_shared.specs.declared.request.Request.{Request}
@@ -71,7 +71,7 @@ main_board board key (Word value) = word_taken board key value
 
 -- an access of the Z80: what it is told, its entry, and the board after it
 pub record SubAccess : Type 0 where
-  pub answer : Told
+  pub answer : AnswerValue80
   pub entry : Entry
   pub board : Board
 
@@ -91,7 +91,7 @@ sub_written board key at value =
     if is_psg80 at then with_psg board key value else (if is_fm at then with_fm board key at value else board)
 
 -- an access of the Z80
-unfoldable pub sub_access : Board → Key → Asked → SubAccess
+unfoldable pub sub_access : Board → Key → RequestValue80 → SubAccess
 sub_access board key (ReadByte at) = record {
   answer = Byte (chip_byte board key.cycle at);
   entry = sub_entry key 6 at (chip_byte board key.cycle at);
@@ -123,24 +123,24 @@ unfoldable pub psg_board : Board → ℕ → Board
 psg_board board cycle = record board { held = left_from cycle board.held }
 
 -- an answer, without where its list lies in memory
-pub data Shown : Type 0 where
-  Main : Answer68 → Shown
-  Sub : Told → Shown
-  Line : LineView → Shown
-  Fm : List FmWrite → Shown
-  Psg : List PsgWrite → Shown
+pub data AnswerValue : Type 0 where
+  Main : Answer68 → AnswerValue
+  Sub : AnswerValue80 → AnswerValue
+  Line : LineView → AnswerValue
+  Fm : List FmWrite → AnswerValue
+  Psg : List PsgWrite → AnswerValue
 
 -- an answer with the values that its view, its list or its parcel has
-abbrev pub shown : Answer → Shown
-shown (answers.Main answer) = Main answer
-shown (answers.Sub answer) = Sub (told answer)
-shown (answers.Line view) = Line view.value
-shown (answers.Fm list) = Fm list.value.items
-shown (answers.Psg list) = Psg list.value.items
+abbrev pub answer_value : Answer → AnswerValue
+answer_value (answers.Main answer) = Main answer
+answer_value (answers.Sub answer) = Sub (answer_value80 answer)
+answer_value (answers.Line view) = Line view.value
+answer_value (answers.Fm list) = Fm list.value.items
+answer_value (answers.Psg list) = Psg list.value.items
 
 -- what an access comes to: the answer, the entry in the journal, and the board after it
 pub record Carried : Type 0 where
-  pub answer : Shown
+  pub answer : AnswerValue
   pub entry : Entry
   pub board : Board
 
@@ -170,7 +170,7 @@ carried board key (requests.Main request) = record {
   board = main_board board key request;
 }
 carried board key (requests.Sub request) =
-    let access = sub_access board key (asked request) in
+    let access = sub_access board key (request_value80 request) in
     record { answer = Sub access.answer; entry = access.entry; board = access.board }
 carried board key (requests.Line view note) =
     let after = line_board board key.cycle note in

@@ -8,7 +8,7 @@ use Rattle.md_word.specs.declared.main_bus.Request68.TheVariants.{Read8, Read16,
 use Rattle.md_word.specs.declared.main_bus.Transfer.{Transfer}
 use Rattle.bus_shared.specs.Accesses.{carried, chip_of, line_board, main_board, main_cost, main_pins, main_transfer, main_value, psg_board, sub_access, sub_pins}
 use Rattle.vdp_planes.specs.declared.view.SpriteNote.{SpriteNote}
-use Rattle.z80_parcel.specs.Requests.{Asked}
+use Rattle.z80_parcel.specs.Requests.{RequestValue80}
 use Rattle.bus_shared.specs.Board.{Board, IsBoard}
 use Rattle.bus_shared.specs.Fm.{fm_board}
 use Rattle.bus_shared.specs.declared.request.Request.{Request}
@@ -30,7 +30,7 @@ pub record MainLeaves (board : Board) (key : Key) : Type 0 where
       → main_board board key (Read16 address) ≡ board
 
 -- the Z80 changes neither the recording, the buttons and the pads' latches, nor its own lines and the VDP
-pub record SubLeaves (board : Board) (key : Key) (asks : Asked) : Type 0 where
+pub record SubLeaves (board : Board) (key : Key) (asks : RequestValue80) : Type 0 where
   pub recording : (sub_access board key asks).board.recording ≡ board.recording
   pub pads : (sub_access board key asks).board.pads ≡ board.pads
   pub port1 : (sub_access board key asks).board.port1 ≡ board.port1

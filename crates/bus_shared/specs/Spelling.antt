@@ -12,7 +12,7 @@ use Rattle.md_pads.specs.Recording.{IsFrame}
 use Rattle.md_word.specs.declared.unspell.Unspell.{Unspell}
 use Rattle.md_word.specs.declared.unspell.Unspell.TheVariants.{Rule, NoMemory}
 use Rattle.psg_sound.specs.PortSpelling as psg_spelling
-use Rattle.stamped_writes.specs.Keys.{are_kept}
+use Rattle.sound_writes.specs.Keys.{are_kept}
 use Rattle.vdp_dma.specs.Settling.{settled}
 use Rattle.vdp_ports.specs.Rules.{HasRules}
 use Rattle.vdp_ports.specs.Spelling as vdp_spelling

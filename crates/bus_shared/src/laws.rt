@@ -10,7 +10,7 @@ ghost use Rattle.bus_shared.specs.Settled.{SeesNoSettling};
 ghost use Rattle.bus_shared.specs.declared.request.Request.{Request};
 ghost use Rattle.vdp_planes.specs.declared.view.SpriteNote.{SpriteNote};
 ghost use Rattle.vdp_ports.specs.Vdp.{Vdp};
-ghost use Rattle.z80_parcel.specs.Requests.{Asked};
+ghost use Rattle.z80_parcel.specs.Requests.{RequestValue80};
 
 /// What an access of each chip leaves as it was: the 68000's the recording and the buttons, and all
 /// but the VDP and the FM chip's timers where it reads; the Z80's these, the pads' latches, its own
@@ -19,7 +19,7 @@ ghost use Rattle.z80_parcel.specs.Requests.{Asked};
 #[tactic(auto, using(crate::proofs::Touches::main_leaves, crate::proofs::Touches::sub_leaves, crate::proofs::Touches::line_leaves, crate::proofs::Touches::batch_leaves, crate::proofs::Touches::fm_batch_leaves))]
 pub fn each_chip_touches_its_part()
     ensures main { (board : Board) (key : Key) → MainLeaves board key }
-    ensures sub { (board : Board) (key : Key) (request : Asked) → SubLeaves board key request }
+    ensures sub { (board : Board) (key : Key) (request : RequestValue80) → SubLeaves board key request }
     ensures line { (board : Board) (cycle : ℕ) (note : SpriteNote) → LineLeaves board cycle note }
     ensures batch { (board : Board) (cycle : ℕ) → BatchLeaves board cycle }
     ensures fm_batch { (board : Board) (cycle : ℕ) → FmBatchLeaves board cycle }
@@ -28,7 +28,7 @@ pub fn each_chip_touches_its_part()
 /// Accesses of the Z80, of FM and of the PSG leave the pins of both processors as they were.
 pub fn pins_have_two_writers()
     ensures all { (board : Board) (key : Key) (request : Request) → WritersLaw board key request }
-    ensures sub { (board : Board) (key : Key) (request : Asked) → LeavesPins board (sub_access board key request).board }
+    ensures sub { (board : Board) (key : Key) (request : RequestValue80) → LeavesPins board (sub_access board key request).board }
     ensures batch { (board : Board) (cycle : ℕ) → LeavesPins board (psg_board board cycle) }
     ensures fm_batch { (board : Board) (cycle : ℕ) → LeavesPins board (fm_board board cycle) }
 {}

@@ -3,7 +3,7 @@ ghost use Rattle.std.specs.Arc.{arc_value};
 ghost use Rattle.md_word.specs.Map.{area_of};
 ghost use Rattle.fm_chip.specs.Port as fm_ports;
 ghost use Rattle.psg_sound.specs.Port.{taken_below};
-ghost use Rattle.bus_shared.specs.Accesses.{carried, chip_of, shown};
+ghost use Rattle.bus_shared.specs.Accesses.{carried, chip_of, answer_value};
 ghost use Rattle.bus_shared.specs.Accesses as accesses;
 ghost use Rattle.bus_shared.specs.Areas as areas;
 ghost use Rattle.bus_shared.specs.Board as boards;
@@ -15,7 +15,7 @@ ghost use Rattle.bus_shared.specs.Video as video;
 ghost use Rattle.bus_shared.specs.Z80Space as space;
 ghost use Rattle.vdp_planes.specs.View.{seen, view_of};
 ghost use Rattle.z80_parcel.specs.Parcels.{store_of};
-ghost use Rattle.z80_parcel.specs.Requests.{asked, told};
+ghost use Rattle.z80_parcel.specs.Requests.{request_value80, answer_value80};
 
 use crate::entries::{fm_entry, line_entry, main_entry, psg_entry, sub_entry};
 use crate::fm::is_fm;
@@ -23,7 +23,7 @@ use crate::port::VideoPort;
 use crate::register::Register;
 use crate::request::{Answer, Request};
 use crate::video::{
-    acknowledge, begin_line, half_at, power_on, read_port, show, take_word, write_port,
+    OPEN_WORD, acknowledge, begin_line, half_at, power_on, read_port, show, take_word, write_port,
 };
 use fm_chip::{FmList, FmPort};
 use md_pads::{PadPort, Recording};
@@ -51,9 +51,6 @@ const PSG80: u16 = 0x7f11;
 
 /// The byte that is read where nothing answers.
 const OPEN_BYTE: u8 = 0xff;
-
-/// The word that is read where nothing answers.
-const OPEN_WORD: u16 = 0xffff;
 
 /// The first line below the picture, at whose start the pads change.
 const PADS_LINE: u64 = 224;
@@ -431,7 +428,7 @@ impl Shared {
 
     /// Takes the Z80's RAM where the bus is still requested, else gives it back.
     fn hand_over(&mut self, key: Key, parcel: Parcel) -> (Answer80, Entry)
-        ensures answer { told result.0 ≡ (accesses.yielded self.old.request self.old key (store_of parcel)).answer }
+        ensures answer { answer_value80 result.0 ≡ (accesses.yielded self.old.request self.old key (store_of parcel)).answer }
         ensures entry { result.1 ≡ (accesses.yielded self.old.request self.old key (store_of parcel)).entry }
         ensures board { self.new ≡ (accesses.yielded self.old.request self.old key (store_of parcel)).board }
     {
@@ -446,7 +443,7 @@ impl Shared {
 
     /// Gives the Z80 its RAM back where the bus is no longer requested and has it.
     fn give_back(&mut self, key: Key) -> (Answer80, Entry)
-        ensures answer { told result.0 ≡ (accesses.taken_back self.old.request self.old.store self.old key).answer }
+        ensures answer { answer_value80 result.0 ≡ (accesses.taken_back self.old.request self.old.store self.old key).answer }
         ensures entry { result.1 ≡ (accesses.taken_back self.old.request self.old.store self.old key).entry }
         ensures board { self.new ≡ (accesses.taken_back self.old.request self.old.store self.old key).board }
     {
@@ -477,9 +474,9 @@ impl Shared {
     fn sub(&mut self, key: Key, request: Request80) -> (Answer80, Entry)
         requires chip { key.chip < 2 }
         requires soon { key.cycle ≤ 2 ^ 50 }
-        ensures answer { told result.0 ≡ (accesses.sub_access self.old key (asked request)).answer }
-        ensures entry { result.1 ≡ (accesses.sub_access self.old key (asked request)).entry }
-        ensures board { self.new ≡ (accesses.sub_access self.old key (asked request)).board }
+        ensures answer { answer_value80 result.0 ≡ (accesses.sub_access self.old key (request_value80 request)).answer }
+        ensures entry { result.1 ≡ (accesses.sub_access self.old key (request_value80 request)).entry }
+        ensures board { self.new ≡ (accesses.sub_access self.old key (request_value80 request)).board }
     {
         match request {
             Request80::Read(at) => {
@@ -573,7 +570,7 @@ fn costing(cost: u16) -> Answer68
 pub fn carry_out(shared: &mut Shared, key: Key, request: Request) -> (Answer, Entry)
     requires chip { key.chip ≡ chip_of request }
     requires soon { key.cycle ≤ 2 ^ 50 }
-    ensures answer { shown result.0 ≡ (carried shared.old key request).answer }
+    ensures answer { answer_value result.0 ≡ (carried shared.old key request).answer }
     ensures entry { result.1 ≡ (carried shared.old key request).entry }
     ensures board { shared.new ≡ (carried shared.old key request).board }
 {

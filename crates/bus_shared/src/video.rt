@@ -10,19 +10,14 @@ use crate::port::VideoPort;
 use md_word::{NoMemory, Transfer};
 use std::alloc::Global;
 use vdp_dma::{busy, settle, transfer_word};
+use vdp_planes::register::MODE_4;
 use vdp_planes::{LineView, SpriteNote, fill_view};
 use vdp_ports::VdpState;
 use vdp_ports::register::MODE_2;
-use vdp_time::{blank, hv, line_of, start_line};
-
-/// The register whose bit 0 chooses the 320 mode.
-const MODE_4: usize = 12;
+use vdp_time::{HEIGHT, blank, hv, line_of, start_line};
 
 /// The word that is read where no port answers.
-const OPEN_WORD: u16 = 0xffff;
-
-/// Lines of the picture.
-const HEIGHT: u32 = 224;
+pub(crate) const OPEN_WORD: u16 = 0xffff;
 
 /// The master cycles of a transferred word while the display is drawn.
 const DRAWN_COST: u16 = 380;

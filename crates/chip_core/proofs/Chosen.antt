@@ -14,7 +14,7 @@ use Rattle.chip_core.proofs.Keys.{by_test, not_lt-rank, rank-key_lt}
 use Rattle.chip_core.proofs.Stages.{number-small, mover-in, mover-least, rank-apart}
 use Rattle.chip_core.proofs.Looking.{none-lags, one-lags}
 use Rattle.chip_core.proofs.Ends.{is_run_to}
-use Rattle.chip_core.proofs.Lists.{sound-core, tidy-core}
+use Rattle.chip_core.proofs.Lists.{valid-core, tidy-core}
 
 module _ {Chip Shared Pins : Type 0} (rules : Rules Chip Shared Pins) (chip_ok : Chip → Type 0) (shared_ok : Shared → Type 0) where
   -- what the look found, in the words of the machine
@@ -39,15 +39,15 @@ module _ {Chip Shared Pins : Type 0} (rules : Rules Chip Shared Pins) (chip_ok :
     -- none is found
     pub quiet-found : t ≤ least.key.cycle → IsQuiet rules (machine_of rules v) t
     quiet-found late i h =
-        let sound = sound-core rules chip_ok shared_ok v core in
-        let order = mover-least rules chip_ok shared_ok law (machine_of rules v) sound i h in
-        let chip = number-small rules chip_ok shared_ok law (machine_of rules v) sound i h in
+        let valid = valid-core rules chip_ok shared_ok v core in
+        let order = mover-least rules chip_ok shared_ok law (machine_of rules v) valid i h in
+        let chip = number-small rules chip_ok shared_ok law (machine_of rules v) valid i h in
         let same = ap (λ (n : Next). n.key.cycle) is in
         omega arith
 
     pub reached : t ≤ least.key.cycle → t ≤ 2 ^ 50 → ReachesEnd rules chip_ok shared_ok t v v
     reached late small base base_core st =
-        is_run_to rules chip_ok shared_ok law (seen rules base) (sound-core rules chip_ok shared_ok base base_core) t small (seen rules v) (tidy-core rules chip_ok shared_ok v core) st (quiet-found late)
+        is_run_to rules chip_ok shared_ok law (seen rules base) (valid-core rules chip_ok shared_ok base base_core) t small (seen rules v) (tidy-core rules chip_ok shared_ok v core) st (quiet-found late)
 
     pub short-found : least.key.cycle < t → IsShort rules (machine_of rules v) t
     short-found low = (mover rules (machine_of rules v), mover-in rules chip_ok shared_ok law (machine_of rules v), (let same = ap (λ (n : Next). n.key.cycle) is in omega arith))
@@ -67,15 +67,15 @@ module _ {Chip Shared Pins : Type 0} (rules : Rules Chip Shared Pins) (chip_ok :
     below-all none j h ne =
         let tidy = tidy-core rules chip_ok shared_ok v core in
         let who = mover-in rules chip_ok shared_ok law (machine_of rules v) in
-        let small = number-small rules chip_ok shared_ok law (machine_of rules v) tidy.sound j h in
+        let small = number-small rules chip_ok shared_ok law (machine_of rules v) tidy.valid j h in
         let few = law.few in
         let number = tidy.bound_number j h in
         let bound_small : ((seen rules v).bound j).chip < 8 = omega arith in
-        let least_key = mover-least rules chip_ok shared_ok law (machine_of rules v) tidy.sound j h in
-        let apart = rank-apart rules chip_ok shared_ok law (machine_of rules v) tidy.sound (mover rules (machine_of rules v)) j who h (λ same. ne (sym same)) in
+        let least_key = mover-least rules chip_ok shared_ok law (machine_of rules v) tidy.valid j h in
+        let apart = rank-apart rules chip_ok shared_ok law (machine_of rules v) tidy.valid (mover rules (machine_of rules v)) j who h (λ same. ne (sym same)) in
         let under = not_lt-rank ((seen rules v).bound j) (key_of rules (machine_of rules v) j) bound_small small (none j h) in
         rank-key_lt (key_of rules (machine_of rules v) (mover rules (machine_of rules v))) ((seen rules v).bound j)
-        (number-small rules chip_ok shared_ok law (machine_of rules v) tidy.sound (mover rules (machine_of rules v)) who) bound_small (omega arith)
+        (number-small rules chip_ok shared_ok law (machine_of rules v) tidy.valid (mover rules (machine_of rules v)) who) bound_small (omega arith)
 
     -- the event of the chip of least key
     event-found : (e : Event) → e ≡ cond least.sample (Sample least.key.chip) (Perform least.key.chip)

@@ -8,12 +8,12 @@ use Rattle.md_word.specs.Keys.{key_lt}
 use Rattle.chip_core.specs.declared.event.Event.{Event}
 use Rattle.chip_core.specs.declared.event.Event.TheVariants.{Announce, Perform, Sample}
 use Rattle.chip_core.specs.Chips.{Rules, Lawful}
-use Rattle.chip_core.specs.Machines.{Machine, put, of_chip, key_of, move, run, AllBelow, IsSound}
+use Rattle.chip_core.specs.Machines.{Machine, put, of_chip, key_of, move, run, AllBelow, IsValid}
 use Rattle.chip_core.specs.Standing.{IsBound, StandsFor}
 use Rattle.chip_core.specs.Events.{Seen, IsEnabled, left_bound, after, counted, Leads, Stands, IsTidy}
 use Rattle.chip_core.proofs.Keys.{rank-not_lt, lt-through, put-each}
-use Rattle.chip_core.proofs.Stages.{chip-other, key-rises, sound-move}
-use Rattle.chip_core.proofs.Runs.{run-zero, journal-zero, made-zero, own-at, next_move, key-mono, run-sound}
+use Rattle.chip_core.proofs.Stages.{chip-other, key-rises, valid-move}
+use Rattle.chip_core.proofs.Runs.{run-zero, journal-zero, made-zero, own-at, next_move, key-mono, run-valid}
 use Rattle.chip_core.proofs.Stands.{stands_perform, stands_sample}
 
 module _ {Chip Shared Pins : Type 0} (rules : Rules Chip Shared Pins) (chip_ok : Chip → Type 0) (shared_ok : Shared → Type 0) (law : Lawful rules chip_ok shared_ok) where
@@ -28,8 +28,8 @@ module _ {Chip Shared Pins : Type 0} (rules : Rules Chip Shared Pins) (chip_ok :
 
   tidy_announce : (s : Seen Chip Shared) → IsTidy rules chip_ok shared_ok s → (i : ℕ) → i < rules.count → IsTidy rules chip_ok shared_ok (after rules s (Announce i))
   tidy_announce s tidy i h = record {
-    sound = tidy.sound;
-    bound_number = λ j q. put-each (λ n b. b.chip ≡ n) s.bound i (key_of rules s.machine i) j (λ _. tidy.sound.number i h) (λ _. tidy.bound_number j q);
+    valid = tidy.valid;
+    bound_number = λ j q. put-each (λ n b. b.chip ≡ n) s.bound i (key_of rules s.machine i) j (λ _. tidy.valid.number i h) (λ _. tidy.bound_number j q);
     under = λ j q. put-each (λ n b. key_lt (key_of rules s.machine n) b ≡ false) s.bound i (key_of rules s.machine i) j (λ _. key-itself (key_of rules s.machine i)) (λ _. tidy.under j q);
   }
 
@@ -37,18 +37,18 @@ module _ {Chip Shared Pins : Type 0} (rules : Rules Chip Shared Pins) (chip_ok :
   tidy_move : (s : Seen Chip Shared) → IsTidy rules chip_ok shared_ok s → (i : ℕ) → i < rules.count → (key_of rules s.machine i).cycle < 2 ^ 50 → (entered : List Entry)
       → IsTidy rules chip_ok shared_ok (record { machine = move rules s.machine i; bound = put s.bound i (left_bound rules s.machine i); journal = entered })
   tidy_move s tidy i h low entered = record {
-    sound = moved;
+    valid = moved;
     bound_number = λ j q. put-each (λ n b. b.chip ≡ n) s.bound i (left_bound rules s.machine i) j (λ _. refl) (λ _. tidy.bound_number j q);
     under = λ j q. put-each (λ n b. key_lt (key_of rules (move rules s.machine i) n) b ≡ false) s.bound i (left_bound rules s.machine i) j (λ _. own)
         (λ ne. subst (λ (c : Chip). key_lt (rules.next c).key (s.bound j) ≡ false) (sym (chip-other rules s.machine i j ne)) (tidy.under j q));
   }
     where
-      moved : IsSound rules chip_ok shared_ok (move rules s.machine i)
-      moved = sound-move rules chip_ok shared_ok law s.machine tidy.sound i h low
+      moved : IsValid rules chip_ok shared_ok (move rules s.machine i)
+      moved = valid-move rules chip_ok shared_ok law s.machine tidy.valid i h low
 
       own : key_lt (key_of rules (move rules s.machine i) i) (left_bound rules s.machine i) ≡ false
       own =
-          let rise = key-rises rules chip_ok shared_ok law s.machine tidy.sound i h low in
+          let rise = key-rises rules chip_ok shared_ok law s.machine tidy.valid i h low in
           let number = moved.number i h in
           let few = law.few in
           rank-not_lt (key_of rules (move rules s.machine i) i) (left_bound rules s.machine i) (omega arith) (omega arith) (omega arith)
@@ -59,7 +59,7 @@ module _ {Chip Shared Pins : Type 0} (rules : Rules Chip Shared Pins) (chip_ok :
   tidy-after s tidy (Perform i) en = tidy_move s tidy i en.0 en.2 (after rules s (Perform i)).journal
   tidy-after s tidy (Sample i) en = tidy_move s tidy i en.0 en.2 s.journal
 
-  module _ (base : Machine Chip Shared) (base_ok : IsSound rules chip_ok shared_ok base) (t : ℕ) (small : t ≤ 2 ^ 50) (opening : ℕ → Key) where
+  module _ (base : Machine Chip Shared) (base_ok : IsValid rules chip_ok shared_ok base) (t : ℕ) (small : t ≤ 2 ^ 50) (opening : ℕ → Key) where
     stands_announce : (s : Seen Chip Shared) → IsTidy rules chip_ok shared_ok s → (count : ℕ → ℕ) → StandsFor rules base opening t s.machine s.bound s.journal count → (i : ℕ) → i < rules.count
         → StandsFor rules base opening t s.machine (put s.bound i (key_of rules s.machine i)) s.journal count
     stands_announce s tidy count st i h = record {
@@ -106,7 +106,7 @@ module _ {Chip Shared Pins : Type 0} (rules : Rules Chip Shared Pins) (chip_ok :
         none = record { each = λ k h. absurd (omega arith) }
 
   -- each enabled event keeps what the core stands for
-  pub stands-after : (base : Seen Chip Shared) → IsSound rules chip_ok shared_ok base.machine → (t : ℕ) → t ≤ 2 ^ 50 → (s : Seen Chip Shared) → IsTidy rules chip_ok shared_ok s → (e : Event) → IsEnabled rules s t e
+  pub stands-after : (base : Seen Chip Shared) → IsValid rules chip_ok shared_ok base.machine → (t : ℕ) → t ≤ 2 ^ 50 → (s : Seen Chip Shared) → IsTidy rules chip_ok shared_ok s → (e : Event) → IsEnabled rules s t e
       → Stands rules base t s → Stands rules base t (after rules s e)
   stands-after base base_ok t small s tidy e en st = (counted st.0 e, stands_move base.machine base_ok t small base.bound s tidy st.0 st.1 e en)
 
@@ -115,14 +115,14 @@ module _ {Chip Shared Pins : Type 0} (rules : Rules Chip Shared Pins) (chip_ok :
   tidy-leads t small s tidy [] z l = subst (λ (w : Seen Chip Shared). IsTidy rules chip_ok shared_ok w) (sym l) tidy
   tidy-leads t small s tidy (e ∷ es) z l = tidy-leads t small (after rules s e) (tidy-after s tidy e (enabled-wider s t (2 ^ 50) small e l.0)) es z l.1
 
-  pub stands-leads : (base : Seen Chip Shared) → IsSound rules chip_ok shared_ok base.machine → (t : ℕ) → t ≤ 2 ^ 50 → (s : Seen Chip Shared) → IsTidy rules chip_ok shared_ok s → (es : List Event) (z : Seen Chip Shared)
+  pub stands-leads : (base : Seen Chip Shared) → IsValid rules chip_ok shared_ok base.machine → (t : ℕ) → t ≤ 2 ^ 50 → (s : Seen Chip Shared) → IsTidy rules chip_ok shared_ok s → (es : List Event) (z : Seen Chip Shared)
       → Leads rules t s es z → Stands rules base t s → Stands rules base t z
   stands-leads base base_ok t small s tidy [] z l st = subst (λ (w : Seen Chip Shared). Stands rules base t w) (sym l) st
   stands-leads base base_ok t small s tidy (e ∷ es) z l st =
       stands-leads base base_ok t small (after rules s e) (tidy-after s tidy e (enabled-wider s t (2 ^ 50) small e l.0)) es z l.1 (stands-after base base_ok t small s tidy e l.0 st)
 
   -- no chip of the core stands before its place in the base
-  pub keys-later : (base : Seen Chip Shared) → IsSound rules chip_ok shared_ok base.machine → (t : ℕ) → t ≤ 2 ^ 50 → (s : Seen Chip Shared) → Stands rules base t s → (i : ℕ) → i < rules.count
+  pub keys-later : (base : Seen Chip Shared) → IsValid rules chip_ok shared_ok base.machine → (t : ℕ) → t ≤ 2 ^ 50 → (s : Seen Chip Shared) → Stands rules base t s → (i : ℕ) → i < rules.count
       → (key_of rules base.machine i).cycle ≤ (key_of rules s.machine i).cycle
   keys-later base base_ok t small s st i h =
       let p = st.1.path i h in
@@ -130,6 +130,6 @@ module _ {Chip Shared Pins : Type 0} (rules : Rules Chip Shared Pins) (chip_ok :
       let start = ap (λ (k : Key). 8 * k.cycle + k.chip) first in
       let mono = key-mono rules chip_ok shared_ok law base.machine base_ok t small i 0 p.moves h (omega arith) p.below in
       let before = base_ok.number i h in
-      let after = (run-sound rules chip_ok shared_ok law base.machine base_ok t small p.moves p.below).number i h in
+      let after = (run-valid rules chip_ok shared_ok law base.machine base_ok t small p.moves p.below).number i h in
       let now = ap (λ (c : Chip). (rules.next c).key.cycle) p.is in
       omega arith

@@ -9,7 +9,7 @@ use Rattle.chip_core.specs.Events.{Seen, HasPlace, HasRoom, IsEnabled, after, Le
 use Rattle.chip_core.specs.Limits.{events_within}
 use Rattle.chip_core.specs.Machines.{IsQuiet, accessed}
 use Rattle.chip_core.proofs.Keeps.{stands-leads}
-use Rattle.chip_core.proofs.Lists.{sound-core, tidy-core}
+use Rattle.chip_core.proofs.Lists.{valid-core, tidy-core}
 use Rattle.chip_core.proofs.Works.{work-leads, work-within}
 
 module _ {Chip Shared Pins : Type 0} (rules : Rules Chip Shared Pins) where
@@ -62,7 +62,7 @@ module _ {Chip Shared Pins : Type 0} (rules : Rules Chip Shared Pins) (chip_ok :
     (v : CoreValue Chip Shared) (core : IsCore rules chip_ok shared_ok v) (t : ℕ) (small : t ≤ 2 ^ 50) (list : List Event) (n : ℕ) (h : n ≤ length list) (z : Seen Chip Shared)
     (led : Leads rules t (seen rules v) (take n list) z) where
   pub led-stands : (base : CoreValue Chip Shared) → IsCore rules chip_ok shared_ok base → Stands rules (seen rules base) t (seen rules v) → Stands rules (seen rules base) t z
-  led-stands base base_core st = stands-leads rules chip_ok shared_ok law (seen rules base) (sound-core rules chip_ok shared_ok base base_core) t small (seen rules v) (tidy-core rules chip_ok shared_ok v core) (take n list) z led st
+  led-stands base base_core st = stands-leads rules chip_ok shared_ok law (seen rules base) (valid-core rules chip_ok shared_ok base base_core) t small (seen rules v) (tidy-core rules chip_ok shared_ok v core) (take n list) z led st
 
   pub led-few : (from : ℕ) → IsQuiet rules (machine_of rules v) from → n ≤ events_within rules (t - from)
   led-few from quiet =

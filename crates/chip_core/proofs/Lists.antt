@@ -11,7 +11,7 @@ use Rattle.chip_core.specs.declared.event.Event.TheVariants.{Announce, Perform, 
 use Rattle.chip_core.specs.Chips.{Rules, Lawful}
 use Rattle.chip_core.specs.Cores.{CoreValue, IsCore, KeepsStanding, machine_of, no_key, seen}
 use Rattle.chip_core.specs.Events.{Seen, IsEnabled, left_bound, after, Stands, IsTidy}
-use Rattle.chip_core.specs.Machines.{Machine, put, is_sample, move, IsSound}
+use Rattle.chip_core.specs.Machines.{Machine, put, is_sample, move, IsValid}
 use Rattle.chip_core.proofs.Keys.{same_or, put-same, put-other}
 use Rattle.chip_core.proofs.Stages.{move-sample, move-access}
 use Rattle.chip_core.specs.Standing.{StandsFor}
@@ -100,18 +100,18 @@ module _ {Chip Shared Pins : Type 0} (rules : Rules Chip Shared Pins) where
       (ek ∙ ap (λ (x : Next). record { cycle = x.key.cycle + rules.gap i; chip = i }) (enext ∙ ap rules.next same))
 
 module _ {Chip Shared Pins : Type 0} (rules : Rules Chip Shared Pins) (chip_ok : Chip → Type 0) (shared_ok : Shared → Type 0) where
-  pub sound-core : (v : CoreValue Chip Shared) → IsCore rules chip_ok shared_ok v → IsSound rules chip_ok shared_ok (machine_of rules v)
-  sound-core v core = record { shared = core.shared; chip = core.chip; number = core.shape.number }
+  pub valid-core : (v : CoreValue Chip Shared) → IsCore rules chip_ok shared_ok v → IsValid rules chip_ok shared_ok (machine_of rules v)
+  valid-core v core = record { shared = core.shared; chip = core.chip; number = core.shape.number }
 
   pub tidy-core : (v : CoreValue Chip Shared) → IsCore rules chip_ok shared_ok v → IsTidy rules chip_ok shared_ok (seen rules v)
-  tidy-core v core = record { sound = sound-core v core; bound_number = core.shape.bound_number; under = core.shape.under }
+  tidy-core v core = record { valid = valid-core v core; bound_number = core.shape.bound_number; under = core.shape.under }
 
   -- lists of the right lengths that are tidy are a core
   pub core-tidy : (v : CoreValue Chip Shared) → length v.chips ≡ rules.count → length v.bounds ≡ rules.count → IsTidy rules chip_ok shared_ok (seen rules v) → IsCore rules chip_ok shared_ok v
   core-tidy v cs bs tidy = record {
-    shape = record { chip_count = cs; bound_count = bs; number = tidy.sound.number; bound_number = tidy.bound_number; under = tidy.under };
-    shared = tidy.sound.shared;
-    chip = tidy.sound.chip;
+    shape = record { chip_count = cs; bound_count = bs; number = tidy.valid.number; bound_number = tidy.bound_number; under = tidy.under };
+    shared = tidy.valid.shared;
+    chip = tidy.valid.chip;
   }
 
   module _ (law : Lawful rules chip_ok shared_ok) where
@@ -126,7 +126,7 @@ module _ {Chip Shared Pins : Type 0} (rules : Rules Chip Shared Pins) (chip_ok :
         → (t : ℕ) → t ≤ 2 ^ 50 → IsEnabled rules (seen rules u) t e → KeepsStanding rules chip_ok shared_ok t u w
     stands-core v u w same core e is t small en base base_core st =
         subst (λ (s : Seen Chip Shared). Stands rules (seen rules base) t s) (sym is)
-        (stands-after rules chip_ok shared_ok law (seen rules base) (sound-core base base_core) t small (seen rules v) (tidy-core v core) e
+        (stands-after rules chip_ok shared_ok law (seen rules base) (valid-core base base_core) t small (seen rules v) (tidy-core v core) e
         (subst (λ (x : CoreValue Chip Shared). IsEnabled rules (seen rules x) t e) (sym same) en) (subst (λ (x : CoreValue Chip Shared). Stands rules (seen rules base) t (seen rules x)) (sym same) st))
 
     -- a core with an empty journal stands for itself
@@ -134,7 +134,7 @@ module _ {Chip Shared Pins : Type 0} (rules : Rules Chip Shared Pins) (chip_ok :
     stands-itself v core t small empty = (
       λ i. 0,
       subst (λ (es : List Entry). StandsFor rules (machine_of rules v) (seen rules v).bound t (machine_of rules v) (seen rules v).bound es (λ i. 0)) (sym empty)
-          (stands_first rules chip_ok shared_ok law (machine_of rules v) (sound-core v core) t small (seen rules v).bound),
+          (stands_first rules chip_ok shared_ok law (machine_of rules v) (valid-core v core) t small (seen rules v).bound),
     )
 
     -- an event leaves less work

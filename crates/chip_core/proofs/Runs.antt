@@ -6,10 +6,10 @@ use Rattle.std.proofs.lemmas.List.Elements.{filter-append, All-nil, All-cons, Al
 use Rattle.md_word.specs.declared.event.Entry.{Entry}
 use Rattle.md_word.specs.declared.key.Key.{Key}
 use Rattle.chip_core.specs.Chips.{Rules, Lawful}
-use Rattle.chip_core.specs.Machines.{Machine, of_chip, key_of, is_sample, accessed, move, entries, mover, run, journal, made, move_key, AllBelow, IsSound}
+use Rattle.chip_core.specs.Machines.{Machine, of_chip, key_of, is_sample, accessed, move, entries, mover, run, journal, made, move_key, AllBelow, IsValid}
 use Rattle.chip_core.specs.Limits.{moves_left, all_moves_left}
 use Rattle.chip_core.proofs.Keys.{rank, by_test, same_or, le_or, div-falls, total-falls}
-use Rattle.chip_core.proofs.Stages.{chip-other, shared-sample, shared-access, entries-sample, entries-access, due, key-rises, sound-move, number-small, entries-own, entries-other, mover-in, mover-least}
+use Rattle.chip_core.proofs.Stages.{chip-other, shared-sample, shared-access, entries-sample, entries-access, due, key-rises, valid-move, number-small, entries-own, entries-other, mover-in, mover-least}
 pub use Rattle.chip_core.specs.Equations.{run-zero, run-suc, journal-zero, journal-suc, made-zero, made-suc, made-mover, made-other}
 
 All-left : {X : Type 0} (P : X → Type 0) (xs ys : List X) → All P (xs ++ ys) → All P xs
@@ -106,14 +106,14 @@ module _ {Chip Shared Pins : Type 0} (rules : Rules Chip Shared Pins) (base : Ma
       (λ j q ih all. ih (All-left P (journal rules base j) (entries rules (run rules base j) (mover rules (run rules base j))) (subst (λ es. All P es) (journal-suc rules base j) all))) k h
 
 module _ {Chip Shared Pins : Type 0} (rules : Rules Chip Shared Pins) (chip_ok : Chip → Type 0) (shared_ok : Shared → Type 0) (law : Lawful rules chip_ok shared_ok)
-    (base : Machine Chip Shared) (base_ok : IsSound rules chip_ok shared_ok base) (t : ℕ) (small : t ≤ 2 ^ 50) where
-  -- each stage below the end is sound
-  pub run-sound : (n : ℕ) → AllBelow rules base t n → IsSound rules chip_ok shared_ok (run rules base n)
-  run-sound zero below = subst (λ (m : Machine Chip Shared). IsSound rules chip_ok shared_ok m) (sym (run-zero rules base)) base_ok
-  run-sound (suc n) below =
+    (base : Machine Chip Shared) (base_ok : IsValid rules chip_ok shared_ok base) (t : ℕ) (small : t ≤ 2 ^ 50) where
+  -- each stage below the end is valid
+  pub run-valid : (n : ℕ) → AllBelow rules base t n → IsValid rules chip_ok shared_ok (run rules base n)
+  run-valid zero below = subst (λ (m : Machine Chip Shared). IsValid rules chip_ok shared_ok m) (sym (run-zero rules base)) base_ok
+  run-valid (suc n) below =
       let last = below.each n (omega arith) in
-      subst (λ (m : Machine Chip Shared). IsSound rules chip_ok shared_ok m) (sym (run-suc rules base n))
-      (sound-move rules chip_ok shared_ok law (run rules base n) (run-sound n (below-less rules base t n (suc n) below (omega arith)))
+      subst (λ (m : Machine Chip Shared). IsValid rules chip_ok shared_ok m) (sym (run-suc rules base n))
+      (valid-move rules chip_ok shared_ok law (run rules base n) (run-valid n (below-less rules base t n (suc n) below (omega arith)))
       (mover rules (run rules base n)) (mover-in rules chip_ok shared_ok law (run rules base n)) (omega arith))
 
   -- the key of a chip after the move of a stage
@@ -132,7 +132,7 @@ module _ {Chip Shared Pins : Type 0} (rules : Rules Chip Shared Pins) (chip_ok :
             e,
             subst (λ (m : Machine Chip Shared). (key_of rules (run rules base n) i).cycle + rules.gap i ≤ (key_of rules m i).cycle)
                 (ap (λ k. move rules (run rules base n) k) (sym e) ∙ sym (run-suc rules base n))
-                (key-rises rules chip_ok shared_ok law (run rules base n) (run-sound n (below-less rules base t n (suc n) below (omega arith))) i h low),
+                (key-rises rules chip_ok shared_ok law (run rules base n) (run-valid n (below-less rules base t n (suc n) below (omega arith))) i h low),
           )
       go (inr ne) = inr (ne, ap (λ (c : Chip). (rules.next c).key) (ap (λ (w : Machine Chip Shared). w.chip i) (run-suc rules base n) ∙ chip-other rules (run rules base n) (mover rules (run rules base n)) i (λ w. ne (sym w))))
 
@@ -147,8 +147,8 @@ module _ {Chip Shared Pins : Type 0} (rules : Rules Chip Shared Pins) (chip_ok :
           → rank (key_of rules (run rules base n) i) ≤ rank (key_of rules (run rules base (suc j)) i)
       go j ih below (inl p) =
           let some = law.gap_some i h in
-          let before = (run-sound j (below-less rules base t j (suc j) below (omega arith))).number i h in
-          let after = (run-sound (suc j) below).number i h in
+          let before = (run-valid j (below-less rules base t j (suc j) below (omega arith))).number i h in
+          let after = (run-valid (suc j) below).number i h in
           let rise = p.1 in
           omega arith
       go j ih below (inr p) = let e = ap rank p.1 in omega arith
@@ -167,7 +167,7 @@ module _ {Chip Shared Pins : Type 0} (rules : Rules Chip Shared Pins) (chip_ok :
           omega arith
 
   pub mover-rank : (n : ℕ) → AllBelow rules base t n → (i : ℕ) → i < rules.count → rank (move_key rules base n) ≤ rank (key_of rules (run rules base n) i)
-  mover-rank n below i h = mover-least rules chip_ok shared_ok law (run rules base n) (run-sound n below) i h
+  mover-rank n below i h = mover-least rules chip_ok shared_ok law (run rules base n) (run-valid n below) i h
 
   -- the keys of the moves rise
   pub move_key-mono : (n k : ℕ) → n ≤ k → AllBelow rules base t k → rank (move_key rules base n) ≤ rank (move_key rules base k)
@@ -183,7 +183,7 @@ module _ {Chip Shared Pins : Type 0} (rules : Rules Chip Shared Pins) (chip_ok :
       → length (of_chip i (journal rules base (suc n))) ≡ length (of_chip i (journal rules base n)) + 1
   own-access i n below e access =
       let last = below.each n (omega arith) in
-      let own = entries-own rules chip_ok shared_ok law (run rules base n) (run-sound n (below-less rules base t n (suc n) below (omega arith)))
+      let own = entries-own rules chip_ok shared_ok law (run rules base n) (run-valid n (below-less rules base t n (suc n) below (omega arith)))
       (mover rules (run rules base n)) (mover-in rules chip_ok shared_ok law (run rules base n)) (omega arith) access in
       let one : length (of_chip i (entries rules (run rules base n) (mover rules (run rules base n)))) ≡ 1
       = subst (λ k. length (of_chip k (entries rules (run rules base n) (mover rules (run rules base n)))) ≡ 1) e (ap length own) in
@@ -195,7 +195,7 @@ module _ {Chip Shared Pins : Type 0} (rules : Rules Chip Shared Pins) (chip_ok :
       let last = below.each n (omega arith) in
       own-suc rules base i n
       ∙ ap (λ es. of_chip i (journal rules base n) ++ es)
-      (entries-other rules chip_ok shared_ok law (run rules base n) (run-sound n (below-less rules base t n (suc n) below (omega arith)))
+      (entries-other rules chip_ok shared_ok law (run rules base n) (run-valid n (below-less rules base t n (suc n) below (omega arith)))
       (mover rules (run rules base n)) i (mover-in rules chip_ok shared_ok law (run rules base n)) (omega arith) (λ w. ne (sym w)))
       ∙ append-nil (of_chip i (journal rules base n))
 
@@ -245,7 +245,7 @@ module _ {Chip Shared Pins : Type 0} (rules : Rules Chip Shared Pins) (chip_ok :
       let last = below.each j lt in
       here ∙ ap (λ s. rules.pins s i) (shared-access rules (run rules base j) (mover rules (run rules base j)) e)
       ∙ law.leaves ((run rules base j).chip (mover rules (run rules base j))) (run rules base j).shared (mover rules (run rules base j)) i
-      (due rules chip_ok shared_ok law (run rules base j) (run-sound j (below-less rules base t j k below (omega arith))) (mover rules (run rules base j))
+      (due rules chip_ok shared_ok law (run rules base j) (run-valid j (below-less rules base t j k below (omega arith))) (mover rules (run rules base j))
       (mover-in rules chip_ok shared_ok law (run rules base j)) (omega arith) false e)
       (none j q lt e)
       ∙ ih (omega arith))) k h (omega arith)
@@ -301,7 +301,7 @@ module _ {Chip Shared Pins : Type 0} (rules : Rules Chip Shared Pins) (chip_ok :
   pub move-below : (p i : ℕ) → i < rules.count → AllBelow rules base t p → (key_of rules (run rules base p) i).cycle < t → (move_key rules base p).cycle < t
   move-below p i h below low =
       let order = mover-rank p below i h in
-      let chip = number-small rules chip_ok shared_ok law (run rules base p) (run-sound p below) i h in
+      let chip = number-small rules chip_ok shared_ok law (run rules base p) (run-valid p below) i h in
       omega arith
 
   reach : (fuel p i n : ℕ) → i < rules.count → AllBelow rules base t p → made rules base i p ≡ n → (key_of rules (run rules base p) i).cycle < t

@@ -6,19 +6,19 @@ use Rattle.md_word.specs.declared.event.Entry.{Entry}
 use Rattle.md_word.specs.declared.key.Key.{Key}
 use Rattle.md_word.specs.Keys.{key_lt}
 use Rattle.chip_core.specs.Chips.{Accessed, Rules, Lawful}
-use Rattle.chip_core.specs.Machines.{Machine, put, of_chip, key_of, is_sample, accessed, move, entries, mover, run, journal, made, move_key, AllBelow, OnPath, IsSound}
+use Rattle.chip_core.specs.Machines.{Machine, put, of_chip, key_of, is_sample, accessed, move, entries, mover, run, journal, made, move_key, AllBelow, OnPath, IsValid}
 use Rattle.chip_core.specs.Standing.{IsLeft, IsBound, StandsFor}
 use Rattle.chip_core.specs.Events.{Seen, looks_at, IsBelowAll, IsBelowLooked, left_bound, IsTidy}
 use Rattle.chip_core.proofs.Keys.{rank, by_test, same_or, le_or, lt_or, key_lt-rank, not_lt-rank, rank-not_lt, lt-later, put-same, put-other}
 use Rattle.chip_core.proofs.Stages.{chip-sample, chip-access, chip-other, shared-sample, shared-access, entries-sample, entries-access, number-small, entry-key, entries-other, mover-in}
-use Rattle.chip_core.proofs.Runs.{run-suc, journal-suc, made-mover, made-mono, below-less, chip-at, own-suc, own-mono, shared-stretch, journal-stretch, entry-of-all, run-sound, key-by-made, move_key-mono, own-access, own-at, own-by-made, pins-stretch}
+use Rattle.chip_core.proofs.Runs.{run-suc, journal-suc, made-mover, made-mono, below-less, chip-at, own-suc, own-mono, shared-stretch, journal-stretch, entry-of-all, run-valid, key-by-made, move_key-mono, own-access, own-at, own-by-made, pins-stretch}
 
 -- a sample looks at the bounds of all that write its pins
 pub looks : {Chip Shared Pins : Type 0} (rules : Rules Chip Shared Pins) (j i : ℕ) → rules.writes j i ≡ true → looks_at rules j i ≡ true
 looks rules j i w = w
 
 module _ {Chip Shared Pins : Type 0} (rules : Rules Chip Shared Pins) (chip_ok : Chip → Type 0) (shared_ok : Shared → Type 0) (law : Lawful rules chip_ok shared_ok)
-    (base : Machine Chip Shared) (base_ok : IsSound rules chip_ok shared_ok base) (t : ℕ) (small : t ≤ 2 ^ 50) (opening : ℕ → Key)
+    (base : Machine Chip Shared) (base_ok : IsValid rules chip_ok shared_ok base) (t : ℕ) (small : t ≤ 2 ^ 50) (opening : ℕ → Key)
     (s : Seen Chip Shared) (tidy : IsTidy rules chip_ok shared_ok s) (count : ℕ → ℕ)
     (st : StandsFor rules base opening t s.machine s.bound s.journal count) where
   bound-small : (i : ℕ) → i < rules.count → (s.bound i).chip < 8
@@ -86,15 +86,15 @@ module _ {Chip Shared Pins : Type 0} (rules : Rules Chip Shared Pins) (chip_ok :
             let mono = made-mono rules base i k n from in
             omega arith
         go (inr ne) =
-            let sound = run-sound rules chip_ok shared_ok law base base_ok t small n below_n in
+            let valid = run-valid rules chip_ok shared_ok law base base_ok t small n below_n in
             let low = st.prefix_below.each n to in
-            let key = entry-key rules chip_ok shared_ok law (run rules base n) sound (mover rules (run rules base n)) who_in (omega arith) access in
-            let number = ap (λ (w : Key). w.chip) key ∙ sound.number (mover rules (run rules base n)) who_in in
+            let key = entry-key rules chip_ok shared_ok law (run rules base n) valid (mover rules (run rules base n)) who_in (omega arith) access in
+            let number = ap (λ (w : Key). w.chip) key ∙ valid.number (mover rules (run rules base n)) who_in in
             let ahead = entry-of-all rules base (λ (e : Entry). (j : ℕ) → j < rules.count → j ≢ e.key.chip → key_lt e.key (s.bound j) ≡ true) st.accesses n to access
             (subst (λ es. All (λ (e : Entry). (j : ℕ) → j < rules.count → j ≢ e.key.chip → key_lt e.key (s.bound j) ≡ true) es) st.prefix st.ahead) in
             let lt = subst (λ w. key_lt w (s.bound i) ≡ true) key (ahead i h (λ same. ne (sym (same ∙ number)))) in
-            let above = key_lt-rank (move_key rules base n) (s.bound i) (number-small rules chip_ok shared_ok law (run rules base n) sound (mover rules (run rules base n)) who_in) (bound-small i h) lt in
-            let under = not_lt-rank (key_of rules s.machine i) (s.bound i) (number-small rules chip_ok shared_ok law s.machine tidy.sound i h) (bound-small i h) (tidy.under i h) in
+            let above = key_lt-rank (move_key rules base n) (s.bound i) (number-small rules chip_ok shared_ok law (run rules base n) valid (mover rules (run rules base n)) who_in) (bound-small i h) lt in
+            let under = not_lt-rank (key_of rules s.machine i) (s.bound i) (number-small rules chip_ok shared_ok law s.machine tidy.valid i h) (bound-small i h) (tidy.under i h) in
             let order = move_key-mono rules chip_ok shared_ok law base base_ok t small k n from below_n in
             let same = ap rank key-here in
             omega arith
@@ -132,10 +132,10 @@ module _ {Chip Shared Pins : Type 0} (rules : Rules Chip Shared Pins) (chip_ok :
             let before = key-by-made rules chip_ok shared_ok law base base_ok t small (mover rules (run rules base n)) p.moves n who_in p.below (below-less rules base t n (suc n) below_n (omega arith)) (omega arith) in
             let now = ap (λ (c : Chip). rank (rules.next c).key) p.is in
             let under = not_lt-rank (key_of rules s.machine (mover rules (run rules base n))) (s.bound (mover rules (run rules base n)))
-            (number-small rules chip_ok shared_ok law s.machine tidy.sound (mover rules (run rules base n)) who_in) (bound-small (mover rules (run rules base n)) who_in) (tidy.under (mover rules (run rules base n)) who_in) in
+            (number-small rules chip_ok shared_ok law s.machine tidy.valid (mover rules (run rules base n)) who_in) (bound-small (mover rules (run rules base n)) who_in) (tidy.under (mover rules (run rules base n)) who_in) in
             let order = move_key-mono rules chip_ok shared_ok law base base_ok t small n k (omega arith) (below-less rules base t k (suc k) below (omega arith)) in
             let same = ap rank key-here in
-            rank-not_lt (key_of rules s.machine i) (s.bound (mover rules (run rules base n))) (number-small rules chip_ok shared_ok law s.machine tidy.sound i h) (bound-small (mover rules (run rules base n)) who_in) (omega arith)
+            rank-not_lt (key_of rules s.machine i) (s.bound (mover rules (run rules base n))) (number-small rules chip_ok shared_ok law s.machine tidy.valid i h) (bound-small (mover rules (run rules base n)) who_in) (omega arith)
 
     -- with every other bound above its key, the chip finds shared state and journal of its stage
     in_turn : IsBelowAll rules s i → (s.machine.shared ≡ (run rules base k).shared) × (s.journal ≡ journal rules base k)
@@ -275,17 +275,17 @@ module _ {Chip Shared Pins : Type 0} (rules : Rules Chip Shared Pins) (chip_ok :
         low = let l = below.each k (omega arith) in subst (λ (w : Key). w.cycle < 2 ^ 50) (sym key-here) (omega arith)
 
         key : (accessed rules s.machine i).entry.key ≡ key_of rules s.machine i
-        key = entry-key rules chip_ok shared_ok law s.machine tidy.sound i h low access
+        key = entry-key rules chip_ok shared_ok law s.machine tidy.valid i h low access
 
         others : (j : ℕ) → j ≢ i → of_chip j (s.journal ++ (accessed rules s.machine i).entry ∷ []) ≡ of_chip j s.journal
         others j ne =
             filter-append (λ (e : Entry). e.key.chip == j) s.journal ((accessed rules s.machine i).entry ∷ [])
-            ∙ ap (λ es. of_chip j s.journal ++ es) (ap (of_chip j) (sym (entries-access rules s.machine i access)) ∙ entries-other rules chip_ok shared_ok law s.machine tidy.sound i j h low ne)
+            ∙ ap (λ es. of_chip j s.journal ++ es) (ap (of_chip j) (sym (entries-access rules s.machine i access)) ∙ entries-other rules chip_ok shared_ok law s.machine tidy.valid i j h low ne)
             ∙ append-nil (of_chip j s.journal)
 
         own_ahead : (j : ℕ) → j < rules.count → j ≢ (accessed rules s.machine i).entry.key.chip → key_lt (accessed rules s.machine i).entry.key (bound_next j) ≡ true
         own_ahead j q ne =
-            let apart : j ≢ i = λ same. ne (same ∙ sym (tidy.sound.number i h) ∙ ap (λ (w : Key). w.chip) (sym key)) in
+            let apart : j ≢ i = λ same. ne (same ∙ sym (tidy.valid.number i h) ∙ ap (λ (w : Key). w.chip) (sym key)) in
             subst (λ w. key_lt w (bound_next j) ≡ true) (sym key)
             (subst (λ b. key_lt (key_of rules s.machine i) b ≡ true) (sym (put-other s.bound i (left_bound rules s.machine i) j apart)) (above j q apart))
 

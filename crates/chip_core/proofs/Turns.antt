@@ -18,7 +18,7 @@ use Rattle.chip_core.proofs.Keys.{rank, by_test, least-false, least-true, put-sa
 use Rattle.chip_core.proofs.Stages.{chip-other, mover-in, mover-least, number-small, rank-apart}
 use Rattle.chip_core.proofs.Keeps.{enabled-wider, stands-leads, tidy-after, tidy-leads}
 use Rattle.chip_core.proofs.Led.{place-room, room-after}
-use Rattle.chip_core.proofs.Lists.{core-tidy, core_value, set-put, sound-core, stands-itself, tidy-core}
+use Rattle.chip_core.proofs.Lists.{core-tidy, core_value, set-put, valid-core, stands-itself, tidy-core}
 use Rattle.chip_core.proofs.Ends.{is_run_to}
 use Rattle.chip_core.proofs.Works.{work, work-falls, work-leads}
 
@@ -155,19 +155,19 @@ module _ {Chip Shared Pins : Type 0} (rules : Rules Chip Shared Pins) (chip_ok :
         above : IsBelowAll rules s i
         above j q ne =
             let least = subst (λ n. rank (key_of rules s.machine n) ≤ rank (key_of rules s.machine j)) (sym at)
-            (mover-least rules chip_ok shared_ok law s.machine tidy.sound j q) in
-            let apart = rank-apart rules chip_ok shared_ok law s.machine tidy.sound i j inside q (λ same. ne (sym same)) in
+            (mover-least rules chip_ok shared_ok law s.machine tidy.valid j q) in
+            let apart = rank-apart rules chip_ok shared_ok law s.machine tidy.valid i j inside q (λ same. ne (sym same)) in
             subst (λ b. key_lt (key_of rules s.machine i) b ≡ true) (sym (keys j q))
-            (rank-key_lt (key_of rules s.machine i) (key_of rules s.machine j) (number-small rules chip_ok shared_ok law s.machine tidy.sound i inside)
-            (number-small rules chip_ok shared_ok law s.machine tidy.sound j q) (omega arith))
+            (rank-key_lt (key_of rules s.machine i) (key_of rules s.machine j) (number-small rules chip_ok shared_ok law s.machine tidy.valid i inside)
+            (number-small rules chip_ok shared_ok law s.machine tidy.valid j q) (omega arith))
 
     pub first-quiet : AreKeys rules s rules.count → t ≤ (s.bound (least_below s.bound rules.count)).cycle → IsQuiet rules s.machine t
     first-quiet keys late i h =
         let inside = mover-in rules chip_ok shared_ok law s.machine in
         let low = subst (λ n. t ≤ (s.bound n).cycle) (least-mover rules s keys) late in
         let same = ap (λ (k : Key). k.cycle) (keys (mover rules s.machine) inside) in
-        let least = mover-least rules chip_ok shared_ok law s.machine tidy.sound i h in
-        let few = number-small rules chip_ok shared_ok law s.machine tidy.sound i h in
+        let least = mover-least rules chip_ok shared_ok law s.machine tidy.valid i h in
+        let few = number-small rules chip_ok shared_ok law s.machine tidy.valid i h in
         omega arith
 
     -- a turn: the event, and the announcement
@@ -201,8 +201,8 @@ module _ {Chip Shared Pins : Type 0} (rules : Rules Chip Shared Pins) (chip_ok :
   pub ends-there : (v w : CoreValue Chip Shared) → IsCore rules chip_ok shared_ok v → IsCore rules chip_ok shared_ok w → (t : ℕ) → t ≤ 2 ^ 50 → Reaches rules t (seen rules v) (seen rules w)
       → IsQuiet rules (machine_of rules w) t → ReachesEnd rules chip_ok shared_ok t v w
   ends-there v w core core_w t small r quiet base base_core st =
-      is_run_to rules chip_ok shared_ok law (seen rules base) (sound-core rules chip_ok shared_ok base base_core) t small (seen rules w) (tidy-core rules chip_ok shared_ok w core_w)
-      (stands-leads rules chip_ok shared_ok law (seen rules base) (sound-core rules chip_ok shared_ok base base_core) t small (seen rules v) (tidy-core rules chip_ok shared_ok v core) r.0 (seen rules w) r.1 st)
+      is_run_to rules chip_ok shared_ok law (seen rules base) (valid-core rules chip_ok shared_ok base base_core) t small (seen rules w) (tidy-core rules chip_ok shared_ok w core_w)
+      (stands-leads rules chip_ok shared_ok law (seen rules base) (valid-core rules chip_ok shared_ok base base_core) t small (seen rules v) (tidy-core rules chip_ok shared_ok v core) r.0 (seen rules w) r.1 st)
       quiet
 
   pub first-there : (v w : CoreValue Chip Shared) → IsCore rules chip_ok shared_ok v → IsCore rules chip_ok shared_ok w → (t : ℕ) → t ≤ 2 ^ 50 → Reaches rules t (seen rules v) (seen rules w)

@@ -7,7 +7,7 @@ use Rattle.md_word.specs.Keys.{key_lt}
 use Rattle.chip_core.specs.declared.event.Event.{Event}
 use Rattle.chip_core.specs.declared.event.Event.TheVariants.{Announce, Perform, Sample}
 use Rattle.chip_core.specs.Chips.{Rules, Lawful}
-use Rattle.chip_core.specs.Machines.{Machine, put, key_of, is_sample, accessed, move, entries, mover, run, journal, made, AllBelow, IsQuiet, IsSound}
+use Rattle.chip_core.specs.Machines.{Machine, put, key_of, is_sample, accessed, move, entries, mover, run, journal, made, AllBelow, IsQuiet, IsValid}
 use Rattle.chip_core.specs.Events.{Seen, IsEnabled, left_bound, after, Leads, HasRoom, IsTidy}
 use Rattle.chip_core.specs.Limits.{total, moves_left, all_moves_left, moves_within, events_within}
 use Rattle.chip_core.proofs.Keys.{by_test, put-same, put-other, total-le, total-falls, div-mono}
@@ -36,8 +36,8 @@ module _ {Chip Shared Pins : Type 0} (rules : Rules Chip Shared Pins) (chip_ok :
   moved-left : (s : Seen Chip Shared) → IsTidy rules chip_ok shared_ok s → (i : ℕ) → i < rules.count → (key_of rules s.machine i).cycle < t
       → moves_left rules t (move rules s.machine i) i + 1 ≤ moves_left rules t s.machine i
   moved-left s tidy i h low =
-      moves_left-falls rules chip_ok shared_ok law s.machine tidy.sound t small s.machine (move rules s.machine i) i h low
-      (key-rises rules chip_ok shared_ok law s.machine tidy.sound i h (omega arith))
+      moves_left-falls rules chip_ok shared_ok law s.machine tidy.valid t small s.machine (move rules s.machine i) i h low
+      (key-rises rules chip_ok shared_ok law s.machine tidy.valid i h (omega arith))
 
   others-left : (s : Seen Chip Shared) (i k : ℕ) → k ≢ i → moves_left rules t (move rules s.machine i) k ≡ moves_left rules t s.machine k
   others-left s i k ne = ap (λ (c : Chip). cond (nat_lt (rules.next c).key.cycle t) ((t - (rules.next c).key.cycle) / rules.gap k + 1) 0) (chip-other rules s.machine i k ne)
@@ -126,7 +126,7 @@ module _ {Chip Shared Pins : Type 0} (rules : Rules Chip Shared Pins) (chip_ok :
       (λ i h. let left = left-within s.machine from i h (quiet i h) in let lag = number-le (key_lt (s.bound i) (key_of rules s.machine i)) in omega arith)
 
   -- the moves of one chip, and the entries, of a run
-  module _ (base : Machine Chip Shared) (base_ok : IsSound rules chip_ok shared_ok base) where
+  module _ (base : Machine Chip Shared) (base_ok : IsValid rules chip_ok shared_ok base) where
     at-zero : (i : ℕ) → key_of rules (run rules base 0) i ≡ key_of rules base i
     at-zero i = ap (λ (m : Machine Chip Shared). key_of rules m i) (run-zero rules base)
 

@@ -6,7 +6,7 @@ use Rattle.md_word.specs.Keys.{key_lt}
 use Rattle.chip_core.specs.declared.event.Event.{Event}
 use Rattle.chip_core.specs.declared.event.Event.TheVariants.{Announce, Perform, Sample}
 use Rattle.chip_core.specs.Chips.{Rules, SamplesBelow}
-use Rattle.chip_core.specs.Machines.{Machine, put, key_of, is_sample, accessed, move, mover, IsSound}
+use Rattle.chip_core.specs.Machines.{Machine, put, key_of, is_sample, accessed, move, mover, IsValid}
 use Rattle.chip_core.specs.Standing.{StandsFor}
 
 -- a core: its machine, its bounds and its journal
@@ -31,7 +31,7 @@ module _ {Chip Shared Pins : Type 0} (rules : Rules Chip Shared Pins) where
   -- chips and shared state are ones that the laws speak of, each chip and bound has its number, and
   -- no bound is above its chip's key
   pub record IsTidy (chip_ok : Chip → Type 0) (shared_ok : Shared → Type 0) (s : Seen Chip Shared) : Type 0 where
-    pub sound : IsSound rules chip_ok shared_ok s.machine
+    pub valid : IsValid rules chip_ok shared_ok s.machine
     pub bound_number : (i : ℕ) → i < rules.count → (s.bound i).chip ≡ i
     pub under : (i : ℕ) → i < rules.count → key_lt (key_of rules s.machine i) (s.bound i) ≡ false
 

@@ -105,7 +105,7 @@ module _ {Chip Shared Pins : Type 0} (rules : Rules Chip Shared Pins) where
     pub is : chip ≡ (run m moves).chip i
 
   -- each chip has its number, and chips and shared state are ones that the laws speak of
-  pub record IsSound (chip_ok : Chip → Type 0) (shared_ok : Shared → Type 0) (m : Machine Chip Shared) : Type 0 where
+  pub record IsValid (chip_ok : Chip → Type 0) (shared_ok : Shared → Type 0) (m : Machine Chip Shared) : Type 0 where
     pub shared : shared_ok m.shared
     pub chip : (i : ℕ) → i < rules.count → chip_ok (m.chip i)
     pub number : (i : ℕ) → i < rules.count → (key_of m i).chip ≡ i

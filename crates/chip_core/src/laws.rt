@@ -8,7 +8,7 @@ ghost use Rattle.chip_core.specs.declared.event.Event.{Event};
 ghost use Rattle.chip_core.specs.Cores.{CoreValue, IsCore, machine_of, seen};
 ghost use Rattle.chip_core.specs.Events.{HasRoom, IsEnabled, IsTidy, Leads, Seen, Stands, after, counted};
 ghost use Rattle.chip_core.specs.Limits.{all_moves_left, events_within, moves_left, moves_within};
-ghost use Rattle.chip_core.specs.Machines.{AllBelow, AreSame, IsQuiet, IsRunTo, IsSound, Machine, OnPath, journal, key_of, made, mover, run};
+ghost use Rattle.chip_core.specs.Machines.{AllBelow, AreSame, IsQuiet, IsRunTo, IsValid, Machine, OnPath, journal, key_of, made, mover, run};
 ghost use Rattle.chip_core.specs.Standing.{StandsFor};
 
 pub use crate::scheduler::run_least::run_least;
@@ -38,15 +38,15 @@ pub fn one_run<C: ChipSet>()
         → AreSame C.rules w z × (first ≡ second) }
 {}
 
-/// What every stage of a run below `t` is: sound, as the machine of each core is, and moved by the
+/// What every stage of a run below `t` is: valid, as the machine of each core is, and moved by the
 /// chip of least key. A chip's count of moves tells the chip.
 pub fn stages<C: ChipSet>()
     ensures core { (v : CoreValue C.Chip C.Shared) → IsCore C.rules C.chip_ok C.shared_ok v
-        → IsSound C.rules C.chip_ok C.shared_ok (machine_of C.rules v) }
-    ensures sound { (m : Machine C.Chip C.Shared) (t n : ℕ) → t ≤ 2 ^ 50 → IsSound C.rules C.chip_ok C.shared_ok m
-        → AllBelow C.rules m t n → IsSound C.rules C.chip_ok C.shared_ok (run C.rules m n) }
+        → IsValid C.rules C.chip_ok C.shared_ok (machine_of C.rules v) }
+    ensures valid { (m : Machine C.Chip C.Shared) (t n : ℕ) → t ≤ 2 ^ 50 → IsValid C.rules C.chip_ok C.shared_ok m
+        → AllBelow C.rules m t n → IsValid C.rules C.chip_ok C.shared_ok (run C.rules m n) }
     ensures mover { (m : Machine C.Chip C.Shared) → mover C.rules m < C.rules.count }
-    ensures least { (m : Machine C.Chip C.Shared) (i : ℕ) → IsSound C.rules C.chip_ok C.shared_ok m → i < C.rules.count
+    ensures least { (m : Machine C.Chip C.Shared) (i : ℕ) → IsValid C.rules C.chip_ok C.shared_ok m → i < C.rules.count
         → key_lt (key_of C.rules m i) (key_of C.rules m (mover C.rules m)) ≡ false }
     ensures once { (m : Machine C.Chip C.Shared) (t i n : ℕ) (c d : C.Chip)
         → OnPath C.rules m t i n c → OnPath C.rules m t i n d → c ≡ d }
@@ -54,12 +54,12 @@ pub fn stages<C: ChipSet>()
 
 /// How many moves and entries can lie below `t`, where a chip's moves take a gap each.
 pub fn limits<C: ChipSet>()
-    ensures spread { (m : Machine C.Chip C.Shared) (t n i : ℕ) → t ≤ 2 ^ 50 → IsSound C.rules C.chip_ok C.shared_ok m
+    ensures spread { (m : Machine C.Chip C.Shared) (t n i : ℕ) → t ≤ 2 ^ 50 → IsValid C.rules C.chip_ok C.shared_ok m
         → AllBelow C.rules m t n → i < C.rules.count
         → (key_of C.rules m i).cycle + made C.rules m i n * C.rules.gap i ≤ (key_of C.rules (run C.rules m n) i).cycle }
-    ensures made { (m : Machine C.Chip C.Shared) (t n i : ℕ) → t ≤ 2 ^ 50 → IsSound C.rules C.chip_ok C.shared_ok m
+    ensures made { (m : Machine C.Chip C.Shared) (t n i : ℕ) → t ≤ 2 ^ 50 → IsValid C.rules C.chip_ok C.shared_ok m
         → AllBelow C.rules m t n → i < C.rules.count → made C.rules m i n ≤ moves_left C.rules t m i }
-    ensures entered { (m : Machine C.Chip C.Shared) (t n : ℕ) → t ≤ 2 ^ 50 → IsSound C.rules C.chip_ok C.shared_ok m
+    ensures entered { (m : Machine C.Chip C.Shared) (t n : ℕ) → t ≤ 2 ^ 50 → IsValid C.rules C.chip_ok C.shared_ok m
         → AllBelow C.rules m t n → length (journal C.rules m n) ≤ all_moves_left C.rules t m }
     ensures within { (m : Machine C.Chip C.Shared) (from t : ℕ) → t ≤ 2 ^ 50 → IsQuiet C.rules m from
         → all_moves_left C.rules t m ≤ moves_within C.rules (t - from) }
@@ -70,24 +70,24 @@ pub fn limits<C: ChipSet>()
 pub fn events<C: ChipSet>()
     ensures core { (v : CoreValue C.Chip C.Shared) → IsCore C.rules C.chip_ok C.shared_ok v
         → IsTidy C.rules C.chip_ok C.shared_ok (seen C.rules v) }
-    ensures first { (base : Seen C.Chip C.Shared) (t : ℕ) → t ≤ 2 ^ 50 → IsSound C.rules C.chip_ok C.shared_ok base.machine
+    ensures first { (base : Seen C.Chip C.Shared) (t : ℕ) → t ≤ 2 ^ 50 → IsValid C.rules C.chip_ok C.shared_ok base.machine
         → StandsFor C.rules base.machine base.bound t base.machine base.bound [] (λ i. 0) }
     ensures tidy { (s : Seen C.Chip C.Shared) (e : Event) → IsTidy C.rules C.chip_ok C.shared_ok s
         → IsEnabled C.rules s (2 ^ 50) e → IsTidy C.rules C.chip_ok C.shared_ok (after C.rules s e) }
     ensures stands { (base s : Seen C.Chip C.Shared) (t : ℕ) (count : ℕ → ℕ) (e : Event) → t ≤ 2 ^ 50
-        → IsSound C.rules C.chip_ok C.shared_ok base.machine → IsTidy C.rules C.chip_ok C.shared_ok s
+        → IsValid C.rules C.chip_ok C.shared_ok base.machine → IsTidy C.rules C.chip_ok C.shared_ok s
         → StandsFor C.rules base.machine base.bound t s.machine s.bound s.journal count
         → IsEnabled C.rules s t e
         → let z = after C.rules s e in
         StandsFor C.rules base.machine base.bound t z.machine z.bound z.journal (counted count e) }
     ensures ended { (base s : Seen C.Chip C.Shared) (t : ℕ) → t ≤ 2 ^ 50
-        → IsSound C.rules C.chip_ok C.shared_ok base.machine → IsTidy C.rules C.chip_ok C.shared_ok s
+        → IsValid C.rules C.chip_ok C.shared_ok base.machine → IsTidy C.rules C.chip_ok C.shared_ok s
         → Stands C.rules base t s → IsQuiet C.rules s.machine t
         → IsRunTo C.rules base.machine t s.machine s.journal }
-    ensures entered { (base s : Seen C.Chip C.Shared) (t : ℕ) → t ≤ 2 ^ 50 → IsSound C.rules C.chip_ok C.shared_ok base.machine
+    ensures entered { (base s : Seen C.Chip C.Shared) (t : ℕ) → t ≤ 2 ^ 50 → IsValid C.rules C.chip_ok C.shared_ok base.machine
         → Stands C.rules base t s → length s.journal ≤ all_moves_left C.rules t base.machine }
     ensures later { (base s : Seen C.Chip C.Shared) (t from : ℕ) → t ≤ 2 ^ 50
-        → IsSound C.rules C.chip_ok C.shared_ok base.machine → Stands C.rules base t s
+        → IsValid C.rules C.chip_ok C.shared_ok base.machine → Stands C.rules base t s
         → IsQuiet C.rules base.machine from → IsQuiet C.rules s.machine from }
     ensures few { (s z : Seen C.Chip C.Shared) (t from : ℕ) (list : List Event) → t ≤ 2 ^ 50
         → IsTidy C.rules C.chip_ok C.shared_ok s → IsQuiet C.rules s.machine from

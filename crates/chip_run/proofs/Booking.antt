@@ -9,11 +9,11 @@ use Rattle.chip_core.specs.Chips.{Rules, Lawful}
 use Rattle.chip_core.specs.Cores.{CoreValue, bound_in, machine_of, seen}
 use Rattle.chip_core.specs.Equations.{entries-sample, made-mover, made-other, made-zero, put-same, put-other, same_or}
 use Rattle.chip_core.specs.Events.{IsTidy}
-use Rattle.chip_core.specs.Machines.{AllBelow, Machine, OnPath, IsSound, entries, journal, key_of, made, mover, of_chip, put, run}
+use Rattle.chip_core.specs.Machines.{AllBelow, Machine, OnPath, IsValid, entries, journal, key_of, made, mover, of_chip, put, run}
 use Rattle.chip_core.specs.Standing.{IsBound, StandsFor}
 use Rattle.chip_core.proofs.Keys.{lt-through, lt_or, not_lt-rank, put-each, rank, rank-not_lt}
-use Rattle.chip_core.proofs.Lists.{set-put, sound-core}
-use Rattle.chip_core.proofs.Runs.{below-less, key-by-made, own-at, own-suc, run-sound}
+use Rattle.chip_core.proofs.Lists.{set-put, valid-core}
+use Rattle.chip_core.proofs.Runs.{below-less, key-by-made, own-at, own-suc, run-valid}
 use Rattle.chip_run.specs.Held.{AreSamples}
 use Rattle.chip_run.specs.Locked.{IsLocked, count_of}
 use Rattle.chip_run.specs.Parts.{PartsValue}
@@ -30,8 +30,8 @@ module _ {Chip Shared Pins : Type 0} (rules : Rules Chip Shared Pins) (chip_ok :
   abbrev b : Machine Chip Shared
   b = machine_of rules base
 
-  base_ok : IsSound rules chip_ok shared_ok b
-  base_ok = sound-core rules chip_ok shared_ok base lk.base_core
+  base_ok : IsValid rules chip_ok shared_ok b
+  base_ok = valid-core rules chip_ok shared_ok base lk.base_core
 
   abbrev m : Machine Chip Shared
   m = lk.machine
@@ -78,17 +78,17 @@ module _ {Chip Shared Pins : Type 0} (rules : Rules Chip Shared Pins) (chip_ok :
   there : now.chip i ≡ c
   there = put-same m.chip i c
 
-  sound-there : IsSound rules chip_ok shared_ok (run rules b path.moves)
-  sound-there = run-sound rules chip_ok shared_ok law b base_ok t lk.small path.moves path.below
+  valid-there : IsValid rules chip_ok shared_ok (run rules b path.moves)
+  valid-there = run-valid rules chip_ok shared_ok law b base_ok t lk.small path.moves path.below
 
   number : (rules.next c).key.chip ≡ i
-  number = ap (λ (x : Chip). (rules.next x).key.chip) path.is ∙ sound-there.number i inside
+  number = ap (λ (x : Chip). (rules.next x).key.chip) path.is ∙ valid-there.number i inside
 
   -- the chip's key has not gone back
   forth : key_lt (rules.next c).key (bound_in p.bounds i) ≡ false
   forth =
       let few = law.few in
-      let own = lk.tidy.sound.number i inside in
+      let own = lk.tidy.valid.number i inside in
       let theirs = lk.tidy.bound_number i inside in
       let num = number in
       let under = not_lt-rank (key_of rules m i) (bound_in p.bounds i) (omega arith) (omega arith) (lk.tidy.under i inside) in
@@ -101,10 +101,10 @@ module _ {Chip Shared Pins : Type 0} (rules : Rules Chip Shared Pins) (chip_ok :
 
   tidy-booked : IsTidy rules chip_ok shared_ok (record { machine = now; bound = bounds; journal = p.journal })
   tidy-booked = record {
-    sound = record {
-      shared = lk.tidy.sound.shared;
-      chip = λ j q. put-each (λ n x. chip_ok x) m.chip i c j (λ _. subst (λ x. chip_ok x) (sym path.is) (sound-there.chip i inside)) (λ _. lk.tidy.sound.chip j q);
-      number = λ j q. put-each (λ n x. (rules.next x).key.chip ≡ n) m.chip i c j (λ _. number) (λ _. lk.tidy.sound.number j q);
+    valid = record {
+      shared = lk.tidy.valid.shared;
+      chip = λ j q. put-each (λ n x. chip_ok x) m.chip i c j (λ _. subst (λ x. chip_ok x) (sym path.is) (valid-there.chip i inside)) (λ _. lk.tidy.valid.chip j q);
+      number = λ j q. put-each (λ n x. (rules.next x).key.chip ≡ n) m.chip i c j (λ _. number) (λ _. lk.tidy.valid.number j q);
     };
     bound_number = λ j q. put-each (λ n k. k.chip ≡ n) (λ k. bound_in p.bounds k) i (rules.next c).key j (λ _. number) (λ _. lk.tidy.bound_number j q);
     under = λ j q. under j q (same_or j i);

@@ -37,10 +37,6 @@ module _ {Chip Shared Pins : Type 0} (rules : Rules Chip Shared Pins) where
         (is.counts ∙ ap (λ (h : HeldValue Chip Pins). slice_set l.counts i h.amount) same)
 
 module _ {Chip Pins : Type 0} where
-  length-booked : (o : Option (HeldValue Chip Pins)) (i : ℕ) (counts : List ℕ) → length (booked_at o i counts) ≡ length counts
-  length-booked None i counts = refl
-  length-booked (Some h) i counts = length-set counts i h.amount
-
   -- one place more is booked
   pub book-more : (hs : Places Chip Pins) (n : ℕ) (counts counts2 : List ℕ) → n < length counts → counts2 ≡ booked_at (place hs n) n counts → ((i : ℕ) → i < n → IfSome (place hs i) (λ h. h.amount ≡ count_of counts i))
       → (i : ℕ) → i < suc n → IfSome (place hs i) (λ h. h.amount ≡ count_of counts2 i)

@@ -7,7 +7,7 @@ use Rattle.chip_core.specs.Chips.{Rules, Lawful}
 use Rattle.chip_core.specs.Cores.{CoreValue, IsShaped, bound_in, chip_in, machine_of, seen}
 use Rattle.chip_core.specs.Machines.{IsRunTo, Machine, OnPath}
 use Rattle.chip_core.proofs.Ends.{is_run_to}
-use Rattle.chip_core.proofs.Lists.{sound-core}
+use Rattle.chip_core.proofs.Lists.{valid-core}
 use Rattle.chip_run.specs.Held.{HeldValue, IsHeld, settled}
 use Rattle.chip_run.specs.declared.held.Due.{Due}
 use Rattle.chip_run.specs.declared.held.Due.TheVariants.{Nothing}
@@ -88,14 +88,14 @@ module _ {Chip Shared Pins : Type 0} (rules : Rules Chip Shared Pins) (chip_ok :
     gathered-shape = record {
       chip_count = g.all law.few;
       bound_count = lk.bound_count;
-      number = λ i h. ap (λ (c : Chip). (rules.next c).key.chip) (is-chip i h) ∙ lk.tidy.sound.number i h;
+      number = λ i h. ap (λ (c : Chip). (rules.next c).key.chip) (is-chip i h) ∙ lk.tidy.valid.number i h;
       bound_number = lk.tidy.bound_number;
       under = λ i h. ap (λ (c : Chip). key_lt (rules.next c).key (bound_in p.bounds i)) (is-chip i h) ∙ lk.tidy.under i h;
     }
 
     ended : IsRunTo rules (machine_of rules base) t lk.machine p.journal
     ended =
-        is_run_to rules chip_ok shared_ok law (seen rules base) (sound-core rules chip_ok shared_ok base lk.base_core) t lk.small (seen_at lk.machine p) lk.tidy (count_of counts, lk.stands)
+        is_run_to rules chip_ok shared_ok law (seen rules base) (valid-core rules chip_ok shared_ok base lk.base_core) t lk.small (seen_at lk.machine p) lk.tidy (count_of counts, lk.stands)
         (λ i h. g.quiet i (let few = law.few in omega arith) h)
 
     pub gathered-run : (w : CoreValue Chip Shared) → w ≡ record { shared = p.shared; chips = chips; bounds = p.bounds; journal = p.journal; room = p.room } → IsRunTo rules (machine_of rules base) t (machine_of rules w) w.journal

@@ -18,7 +18,7 @@ use Rattle.chip_core.specs.Machines.{Machine, OnPath, key_of, is_sample, move, p
 use Rattle.chip_core.specs.Standing.{StandsFor}
 use Rattle.chip_core.proofs.Keys.{not_lt-rank, rank-key_lt}
 use Rattle.chip_core.proofs.Keeps.{enabled-wider, stands_move, tidy-after}
-use Rattle.chip_core.proofs.Lists.{set-put, sound-core}
+use Rattle.chip_core.proofs.Lists.{set-put, valid-core}
 use Rattle.chip_core.proofs.Runs.{chip-at}
 use Rattle.chip_core.proofs.Works.{entries-few}
 use Rattle.chip_run.specs.Held.{AreSamples, HeldValue, IsAhead, IsHeld, IsLease, settled}
@@ -37,7 +37,7 @@ use Rattle.chip_run.specs.declared.held.Due.TheVariants as Dues
 module _ {Chip Shared Pins : Type 0} (rules : Rules Chip Shared Pins) (chip_ok : Chip → Type 0) (shared_ok : Shared → Type 0) (law : Lawful rules chip_ok shared_ok) where
   -- a bound that is not below its chip's key is that key
   same-bound : (s : Seen Chip Shared) → IsTidy rules chip_ok shared_ok s → (i : ℕ) → i < rules.count → key_lt (s.bound i) (key_of rules s.machine i) ≡ false → after rules s (Announce i) ≡ s
-  same-bound s tidy i h e = announced-same rules s i (same-key (key_of rules s.machine i) (s.bound i) (tidy.sound.number i h ∙ sym (tidy.bound_number i h)) (tidy.under i h) e)
+  same-bound s tidy i h e = announced-same rules s i (same-key (key_of rules s.machine i) (s.bound i) (tidy.valid.number i h ∙ sym (tidy.bound_number i h)) (tidy.under i h) e)
 
   -- announcing keeps all, also where it changes nothing
   tidy-announced : (s : Seen Chip Shared) → IsTidy rules chip_ok shared_ok s → (i : ℕ) → i < rules.count → IsTidy rules chip_ok shared_ok (after rules s (Announce i))
@@ -53,17 +53,17 @@ module _ {Chip Shared Pins : Type 0} (rules : Rules Chip Shared Pins) (chip_ok :
     stands-announced : (s : Seen Chip Shared) → IsTidy rules chip_ok shared_ok s → (count : ℕ → ℕ) → StandsWith s count → (i : ℕ) → i < rules.count → StandsWith (after rules s (Announce i)) count
     stands-announced s tidy count st i h =
         by_test (key_lt (s.bound i) (key_of rules s.machine i))
-        (λ e. stands_move rules chip_ok shared_ok law (machine_of rules base) (sound-core rules chip_ok shared_ok base base_core) t small (seen rules base).bound s tidy count st (Announce i) (h, e))
+        (λ e. stands_move rules chip_ok shared_ok law (machine_of rules base) (valid-core rules chip_ok shared_ok base base_core) t small (seen rules base).bound s tidy count st (Announce i) (h, e))
         (λ e. subst (λ (w : Seen Chip Shared). StandsWith w count) (sym (same-bound s tidy i h e)) st)
 
     -- an enabled event keeps all
     stands-next : (s : Seen Chip Shared) → IsTidy rules chip_ok shared_ok s → (count : ℕ → ℕ) → StandsWith s count → (e : Event) → IsEnabled rules s t e → StandsWith (after rules s e) (counted count e)
-    stands-next s tidy count st e en = stands_move rules chip_ok shared_ok law (machine_of rules base) (sound-core rules chip_ok shared_ok base base_core) t small (seen rules base).bound s tidy count st e en
+    stands-next s tidy count st e en = stands_move rules chip_ok shared_ok law (machine_of rules base) (valid-core rules chip_ok shared_ok base base_core) t small (seen rules base).bound s tidy count st e en
 
     few-entries : (s : Seen Chip Shared) (count : ℕ → ℕ) → StandsWith s count → length s.journal ≤ all_moves_left rules t (machine_of rules base)
     few-entries s count st =
         let held = ap length st.prefix in
-        let few = entries-few rules chip_ok shared_ok law t small (machine_of rules base) (sound-core rules chip_ok shared_ok base base_core) st.accesses st.prefix_below in
+        let few = entries-few rules chip_ok shared_ok law t small (machine_of rules base) (valid-core rules chip_ok shared_ok base base_core) st.accesses st.prefix_below in
         omega arith
 
   module _ (base : CoreValue Chip Shared) (t : ℕ) (p : PartsValue Shared) (counts : List ℕ) (lk : IsLocked rules chip_ok shared_ok base t p counts) (h : HeldValue Chip Pins) (low : h.number < rules.count)
@@ -167,7 +167,7 @@ module _ {Chip Shared Pins : Type 0} (rules : Rules Chip Shared Pins) (chip_ok :
                 before = m.chip i;
                 shared = m.shared;
                 number = i;
-                due = record { chip = lk.tidy.sound.chip i low; shared = lk.tidy.sound.shared; number = lk.tidy.sound.number i low; kind = kind false access; cycle = let e = early in omega (arith, lk.small) };
+                due = record { chip = lk.tidy.valid.chip i low; shared = lk.tidy.valid.shared; number = lk.tidy.valid.number i low; kind = kind false access; cycle = let e = early in omega (arith, lk.small) };
                 is = refl;
               };
             }))
@@ -272,8 +272,8 @@ module _ {Chip Shared Pins : Type 0} (rules : Rules Chip Shared Pins) (chip_ok :
                 due = (
                   first,
                   small-end,
-                  record { shared = m.shared; ok = lk.tidy.sound.shared; is = ap (rules.pins m.shared) (sym (lk.tidy.sound.number i low) ∙ ap (λ (x : Chip). (rules.next x).key.chip) same_chip) },
-                  (let own = ap (λ (x : Chip). (rules.next x).key.chip) same_chip in let num = lk.tidy.sound.number i low in omega (arith, low)),
+                  record { shared = m.shared; ok = lk.tidy.valid.shared; is = ap (rules.pins m.shared) (sym (lk.tidy.valid.number i low) ∙ ap (λ (x : Chip). (rules.next x).key.chip) same_chip) },
+                  (let own = ap (λ (x : Chip). (rules.next x).key.chip) same_chip in let num = lk.tidy.valid.number i low in omega (arith, low)),
                 );
                 lease = subst (λ (x : Chip). IsLease rules chip_ok shared_ok base t i (h.amount + 1) (rules.pins m.shared i) end x) same_chip leased;
               })

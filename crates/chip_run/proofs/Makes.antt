@@ -12,7 +12,7 @@ use Rattle.chip_core.specs.Machines.{Machine, OnPath}
 use Rattle.chip_core.specs.Standing.{StandsFor}
 use Rattle.chip_core.proofs.Keeps.{stands_first}
 use Rattle.chip_core.proofs.Keys.{lt_or}
-use Rattle.chip_core.proofs.Lists.{sound-core, tidy-core}
+use Rattle.chip_core.proofs.Lists.{valid-core, tidy-core}
 use Rattle.chip_core.proofs.Runs.{made-zero, run-zero}
 use Rattle.chip_run.specs.Held.{HeldValue, IsHeld}
 use Rattle.chip_run.specs.Locked.{IsLocked, count_of}
@@ -127,7 +127,7 @@ module _ {Chip Shared Pins : Type 0} (rules : Rules Chip Shared Pins) (chip_ok :
     stands =
         subst (λ (count : ℕ → ℕ). StandsFor rules (machine_of rules v) (seen rules v).bound t (machine_of rules v) (seen rules v).bound v.journal count) (sym (fun_ext no-counts))
         (subst (λ (es : List Entry). StandsFor rules (machine_of rules v) (seen rules v).bound t (machine_of rules v) (seen rules v).bound es (λ i. 0)) (sym empty)
-        (stands_first rules chip_ok shared_ok law (machine_of rules v) (sound-core rules chip_ok shared_ok v core) t small (seen rules v).bound));
+        (stands_first rules chip_ok shared_ok law (machine_of rules v) (valid-core rules chip_ok shared_ok v core) t small (seen rules v).bound));
   }
 
   pub locked-first : (v w base : CoreValue Chip Shared) → v ≡ w → IsCore rules chip_ok shared_ok v → (t e : ℕ) → e ≡ t → t ≤ 2 ^ 50 → v.journal ≡ [] → all_moves_left rules t (machine_of rules v) ≤ v.room → base ≡ record v { room = 0 }

@@ -13,7 +13,7 @@ use Rattle.chip_core.specs.Equations.{by_test, same_or}
 use Rattle.chip_run.specs.Held.{HeldValue}
 use Rattle.chip_run.specs.Parts.{PartsValue}
 use Rattle.chip_run.specs.Places.{Places, place}
-use Rattle.chip_run.specs.Rounds.{AreUnchanged, IsChanged, IsEndedAt, KeepsOthers, LeastWaits, Waits}
+use Rattle.chip_run.specs.Rounds.{AreUnchanged, IsChanged, IsEndedAt, IsNoted, KeepsOthers, LeastWaits, Waits}
 use Rattle.chip_run.specs.Sections.{IsTurn}
 use Rattle.chip_run.specs.Steps.{LooksAt, announced, raised}
 use Rattle.chip_run.specs.declared.sweep.Waiting.{Waiting}
@@ -94,14 +94,19 @@ told-next n first bs told cs told2 ds t keeps same differs = record {
     told-by (inl old) = before (t.changed old)
     told-by (inr ne) = inr (n, λ e. ne (got-same cs ds n keeps.count (e ∙ sym (t.later n (omega arith)))))
 
+-- a section and what it noted
+pub told-noted : (n : ℕ) (first : Bool) (bs : List Key) (told : Bool) (cs : List Key) (told2 : Bool) (ds : List Key) → Told n first bs told cs → IsNoted n told cs told2 ds
+    → Told (n + 1) first bs told2 ds
+told-noted n first bs told cs told2 ds t is = told-next n first bs told cs told2 ds t is.keeps is.unchanged is.changed
+
 -- the same by the bounds that the code compares
-pub told-noted : (n : ℕ) (first : Bool) (bs : List Key) (told : Bool) (cs : List Key) (told2 : Bool) (ds : List Key) (before after : Option Key) → Told n first bs told cs
-    → KeepsOthers n cs ds → before ≡ slice_get cs n → after ≡ slice_get ds n → (told2 ≡ false → (told ≡ false) × (after ≡ before))
-    → (told2 ≡ true → (told ≡ true) ⊎ (after ≢ before)) → Told (n + 1) first bs told2 ds
-told-noted n first bs told cs told2 ds before after t keeps before_is after_is same differs =
-    told-next n first bs told cs told2 ds t keeps
-    (λ e. ((same e).0, sym after_is ∙ (same e).1 ∙ before_is))
-    (λ e. go (differs e))
+pub noted : (n : ℕ) (told : Bool) (cs : List Key) (told2 : Bool) (ds : List Key) (before after : Option Key) → KeepsOthers n cs ds → before ≡ slice_get cs n
+    → after ≡ slice_get ds n → (told2 ≡ false → (told ≡ false) × (after ≡ before)) → (told2 ≡ true → (told ≡ true) ⊎ (after ≢ before)) → IsNoted n told cs told2 ds
+noted n told cs told2 ds before after keeps before_is after_is same differs = record {
+  keeps = keeps;
+  unchanged = λ e. ((same e).0, sym after_is ∙ (same e).1 ∙ before_is);
+  changed = λ e. go (differs e);
+}
   where
     go : (told ≡ true) ⊎ (after ≢ before) → (told ≡ true) ⊎ (slice_get ds n ≢ slice_get cs n)
     go (inl e) = inl e
@@ -115,9 +120,6 @@ told-twice bs cs ds a b = λ j. b j ∙ a j
 
 not-lt-through : (a b c : Key) → key_lt a b ≡ false → key_lt b c ≡ false → key_lt a c ≡ false
 not-lt-through a b c p q = grind (arith, nat_tests)
-
-not-lt-self : (a : Key) → key_lt a a ≡ false
-not-lt-self a = grind (arith, nat_tests)
 
 module _ {Chip Shared Pins : Type 0} (rules : Rules Chip Shared Pins) where
   -- the key of the chip held at a number

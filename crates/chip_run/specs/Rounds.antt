@@ -1,5 +1,5 @@
 -- What a round does with the chips that a worker holds.
-use Rattle.std.specs.Prelude.{◌≡◌, ◌≢◌, Bool, true, false, ℕ, suc, ◌+◌, ◌<◌, ◌≤◌, Option, Some, None, IfSome, List, length, map, slice_set}
+use Rattle.std.specs.Prelude.{◌≡◌, ◌≢◌, ◌⊎◌, ◌×◌, Bool, true, false, ℕ, suc, ◌+◌, ◌<◌, ◌≤◌, Option, Some, None, IfSome, List, length, map, slice_get, slice_set}
 use Rattle.std.specs.Option.{option_map}
 use Rattle.md_word.specs.Keys.{key_lt}
 use Rattle.md_word.specs.declared.key.Key.{Key}
@@ -52,6 +52,12 @@ IsChanged old new = (i : ℕ) × (bound_in new i ≢ bound_in old i)
 pub record KeepsOthers (i : ℕ) (old new : List Key) : Type 0 where
   pub count : length new ≡ length old
   pub others : (j : ℕ) → j ≢ i → bound_in new j ≡ bound_in old j
+
+-- of the bounds that of this number alone may change, and a change there, and only one, is noted
+pub record IsNoted (i : ℕ) (first : Bool) (old : List Key) (noted : Bool) (new : List Key) : Type 0 where
+  pub keeps : KeepsOthers i old new
+  pub unchanged : noted ≡ false → (first ≡ false) × (slice_get new i ≡ slice_get old i)
+  pub changed : noted ≡ true → (first ≡ true) ⊎ (slice_get new i ≢ slice_get old i)
 
 module _ {Chip Shared Pins : Type 0} (rules : Rules Chip Shared Pins) where
   -- what the due work leaves of a held chip: after a sample all samples of the lease are made

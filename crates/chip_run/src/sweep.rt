@@ -1,7 +1,7 @@
 ghost use Rattle.std.specs.Prelude.{◌≡◌, ◌≢◌, ◌⊎◌, ℕ, IfSome, IsSome, Some, true, false};
 ghost use Rattle.md_word.specs.Keys.{key_lt};
 ghost use Rattle.chip_run.specs.Places.{AllFree, IsFree};
-ghost use Rattle.chip_run.specs.Rounds.{AreUnchanged, IsChanged, IsSeenTurn, IsSwept, KeepsOthers};
+ghost use Rattle.chip_run.specs.Rounds.{AreUnchanged, IsChanged, IsNoted, IsSeenTurn, IsSwept, KeepsOthers};
 
 use crate::sections::section_on;
 use crate::{Helds, Locked, Named, Turn};
@@ -68,6 +68,24 @@ fn turn_of<C: ChipSet, N: Named, L0: Ledger, L1: Ledger, L2: Ledger, L3: Ledger,
     section_on(locked, helds, chip)
 }
 
+/// A section, and whether its chip's bound changed.
+fn visit<C: ChipSet, N: Named, L0: Ledger, L1: Ledger, L2: Ledger, L3: Ledger, L4: Ledger>(
+    locked: &mut Locked<C, N, L0, L1, L2, L3, L4>,
+    helds: &mut Helds<C, N, L0, L1, L2, L3, L4>,
+    changed: &mut bool,
+    chip: u8,
+) -> Turn
+    requires held { IsFree helds.old chip }
+    requires whole { (L0.parts ≡ 1) × (L1.parts ≡ 1) × (L2.parts ≡ 1) × (L3.parts ≡ 1) × (L4.parts ≡ 1) }
+    ensures turn { IsSeenTurn C.rules N.end chip helds.old result helds.new }
+    ensures noted { IsNoted chip changed.old locked.old.parts.bounds changed.new locked.new.parts.bounds }
+{
+    let before = locked.bound(chip);
+    let turn = turn_of(locked, helds, chip);
+    note(changed, before, locked.bound(chip));
+    turn
+}
+
 /// Takes sections on all held chips, in the order of their numbers, until one moves.
 ///
 /// `changed` becomes true exactly where a bound changed.
@@ -86,10 +104,7 @@ fn sweep<C: ChipSet, N: Named, L0: Ledger, L1: Ledger, L2: Ledger, L3: Ledger, L
     for chip in 0..helds.places() {
         match helds.key(chip) {
             Some(key) => {
-                let before = locked.bound(chip);
-                let turn = turn_of(locked, helds, chip);
-                note(changed, before, locked.bound(chip));
-                match turn {
+                match visit(locked, helds, changed, chip) {
                     Turn::Moved => return Swept::Moved(chip),
                     Turn::Blocked { other, bound: _ } => waiting = Some(lesser(
                         waiting,

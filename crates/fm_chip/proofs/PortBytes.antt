@@ -18,9 +18,9 @@ use Rattle.md_fields.proofs.Flags.{flag_again, flag_back}
 use Rattle.md_fields.proofs.Items.{none_wrong, all_hold, kept, not_both, one_place, same}
 use Rattle.md_fields.proofs.Padding.{padded_back, padded_length, padded_zeros}
 use Rattle.md_fields.proofs.Standing.{IsBytes-drop, IsBytes-take}
-use Rattle.stamped_writes.specs.Entries.{AreFit, entries_bytes}
-use Rattle.stamped_writes.specs.Keys.{is_kept}
-use Rattle.stamped_writes.proofs.Entries as entries
+use Rattle.sound_writes.specs.Entries.{AreFit, entries_bytes}
+use Rattle.sound_writes.specs.Keys.{is_kept}
+use Rattle.sound_writes.proofs.Entries as entries
 use Rattle.md_fields.proofs.Tables.{within_append, first_behind, first_front, spelling_append}
 use Rattle.fm_chip.specs.Port.{IsPort, Port}
 use Rattle.fm_chip.specs.PortSpelling.{are_timed, PortGoesWrongAt, SavedPort, SpellsPort, are_right, at_most_2, are_writes, is_next, is_write, key_of, list_fields, number_fields, port_bytes, port_fields, port_from, port_with, saved_numbers, saved_port, saved_write, write_at, write_fields, write_from, writes_at, writes_from}

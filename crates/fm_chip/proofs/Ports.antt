@@ -4,9 +4,9 @@ use Rattle.std.specs.Prelude.{All}
 use Rattle.std.proofs.Math.Bridge.{le_prop}
 use Rattle.std.proofs.lemmas.List.Elements.{All-filter}
 use Rattle.md_word.specs.declared.key.Key.{Key}
-use Rattle.stamped_writes.specs.Order.{is_below}
-use Rattle.stamped_writes.proofs.Helds.{length-filter-most, length-held_with, All-held_with}
-use Rattle.stamped_writes.proofs.Orders.{IsInOrder-high, IsInOrder-held_with, IsInOrder-taken_below, IsInOrder-left_from}
+use Rattle.sound_writes.specs.Order.{is_below}
+use Rattle.sound_writes.proofs.Helds.{length-filter-most, length-held_with, All-held_with}
+use Rattle.sound_writes.proofs.Orders.{IsInOrder-high, IsInOrder-held_with, IsInOrder-taken_below, IsInOrder-left_from}
 use Rattle.fm_chip.specs.declared.write.FmWrite.{FmWrite}
 use Rattle.fm_chip.specs.declared.timers.Timers.{Timers}
 use Rattle.fm_chip.specs.Stamp.{stamp_of}

@@ -1,7 +1,7 @@
 -- A channel at a sample: its envelopes' tick, what is heard, and its phases' steps.
 -- Yamaha, YM2608 Application Manual, channels; Sega, Genesis Software Manual, FM registers 2A and 2B.
 use Rattle.std.specs.Prelude.{◌≡◌, ℕ, ◌/◌, ◌%◌, ◌≤◌, ◌==◌, nat_le, ℤ, pos, ◌-ℤ◌, ◌*ℤ◌, Bool, ◌&&◌, if◌then◌else◌, List, [], ◌∷◌, length, All, false, slice_index_or}
-use Rattle.fm_voice.specs.Channel.{Voice, voice, heard, last_after, IsLevel}
+use Rattle.fm_voice.specs.Channel.{Voice, channel_voice, heard, last_after, IsLevel}
 use Rattle.fm_chip.specs.declared.operator.Operator.{Operator}
 use Rattle.fm_chip.specs.declared.channels.Channel.{Channel}
 use Rattle.fm_chip.specs.declared.channels.Moment.{Moment}
@@ -64,7 +64,7 @@ attenuations registers tremolo c ch =
 -- the channel as a voice, where the oscillator stands at t
 unfoldable pub voice_of : List ℕ → ℕ → ℕ → Channel → Voice
 voice_of registers t c ch =
-    voice (of_channel registers c 0xb0 % 8) (of_channel registers c 0xb0 / 8 % 8) (phases ch)
+    channel_voice (of_channel registers c 0xb0 % 8) (of_channel registers c 0xb0 / 8 % 8) (phases ch)
     (attenuations registers (tremolo (of_channel registers c 0xb4 / 16 % 4) t) c ch) ch.last
 
 -- the level of a byte for the converter (DAC): 80h is 0

@@ -3,7 +3,7 @@ use Rattle.std.specs.Prelude.{◌≡◌, ℕ, zero, suc, ◌+◌, ◌*◌, ℤ, 
 use Rattle.std.specs.List.{range_with_len}
 use Rattle.fm_chip.specs.declared.write.FmWrite.{FmWrite}
 use Rattle.fm_chip.specs.Synth.{Synth, at_power_on, sampled, sides}
-use Rattle.stamped_writes.specs.Order as order
+use Rattle.sound_writes.specs.Order as order
 use Rattle.fm_chip.specs.Stamp.{stamp_of}
 use Rattle.fm_chip.specs.Batches.{written_all}
 use Rattle.fm_chip.specs.Port.{IsInOrder}

@@ -1,7 +1,7 @@
 -- An operator: its envelope's tick, what it sounds at, its phase's step and its key.
 -- Yamaha, YM2608 Application Manual, operators.
 use Rattle.std.specs.Prelude.{ℕ, ◌+◌, ◌*◌, ◌/◌, ◌%◌, ◌^◌, ◌<◌, ◌≤◌, nat_le, min, Bool, ◌&&◌, not, if◌then◌else◌, List}
-use Rattle.fm_env.specs.Envelopes.{Plain, stepping_state, ticked, keyed}
+use Rattle.fm_env.specs.Envelopes.{EnvelopeValue, stepping_state, ticked, keyed}
 use Rattle.fm_voice.specs.Phase.{step_of}
 use Rattle.fm_chip.specs.declared.operator.Operator.{Operator}
 use Rattle.fm_chip.specs.Registers.{frequency, rate, of_operator, sustain_level}
@@ -14,11 +14,11 @@ pub record IsOperator (o : Operator) : Type 0 where
   pub state : o.state ≤ 3
 
 -- its envelope
-abbrev pub envelope_of : Operator → Plain
+abbrev pub envelope_of : Operator → EnvelopeValue
 envelope_of o = record { v = o.v; state = o.state; on = o.on }
 
 -- the operator with another envelope
-abbrev pub kept : Plain → Operator → Operator
+abbrev pub kept : EnvelopeValue → Operator → Operator
 kept l o = record { phase = o.phase; v = l.v; state = l.state; on = l.on }
 
 -- the operator after a tick of its envelope

@@ -3,8 +3,8 @@
 use Rattle.std.specs.Prelude.{ℕ, ◌<◌, ◌≤◌, ◌==◌, if◌then◌else◌, List, [], length, All}
 use Rattle.std.proofs.Common.{lit≤}
 use Rattle.md_word.specs.declared.key.Key.{Key}
-use Rattle.stamped_writes.specs.Held as held
-use Rattle.stamped_writes.specs.Order as order
+use Rattle.sound_writes.specs.Held as held
+use Rattle.sound_writes.specs.Order as order
 use Rattle.fm_chip.specs.declared.write.FmWrite.{FmWrite}
 use Rattle.fm_chip.specs.declared.timers.Timers.{Timers}
 use Rattle.fm_chip.specs.Stamp.{stamp_of}

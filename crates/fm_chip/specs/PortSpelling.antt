@@ -10,8 +10,8 @@ use Rattle.md_fields.specs.Fields.{Field, byte, word, quad, block, spelling}
 use Rattle.md_fields.specs.Items.{IsRefused, IsRight, Keeps}
 use Rattle.md_fields.specs.Padding.{are_zeros, padded}
 use Rattle.md_fields.specs.Places.{number_at}
-use Rattle.stamped_writes.specs.Entries.{AreFit, entries_bytes, entries_from}
-use Rattle.stamped_writes.specs.Keys.{are_kept}
+use Rattle.sound_writes.specs.Entries.{AreFit, entries_bytes, entries_from}
+use Rattle.sound_writes.specs.Keys.{are_kept}
 use Rattle.fm_chip.specs.Port.{Port}
 use Rattle.fm_chip.specs.Timers.{both_settled}
 use Rattle.fm_chip.specs.declared.saved_port.SavedPort.{SavedPort as Numbers}

@@ -4,12 +4,12 @@ ghost use Rattle.fm_chip.specs.Port.{IsInOrder, IsPort, held_with, left_from, ta
 ghost use Rattle.fm_chip.specs.Timers.{both_settled};
 ghost use Rattle.fm_chip.specs.Timers as timers;
 ghost use Rattle.std.specs.List.{list_all};
-ghost use Rattle.stamped_writes.specs.Keys.{is_before_next as before_next};
+ghost use Rattle.sound_writes.specs.Keys.{is_before_next as before_next};
 
 use crate::timers::Timers;
 use crate::write::{FmList, FmWrite, RESET};
 use md_word::Key;
-use stamped_writes::is_before_next;
+use sound_writes::is_before_next;
 use std::marker::Model;
 
 /// The FM chip's port: two latches of register numbers, the timers, and the writes that the synthesis

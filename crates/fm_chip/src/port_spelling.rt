@@ -1,8 +1,8 @@
 ghost use Rattle.std.specs.Prelude.{◌≡◌, ◌≢◌, ◌↔◌, ◌+◌, ◌*◌, ◌^◌, ◌<◌, ◌≤◌, ◌++◌, ℕ, true, List, length, map, is_some, vec_len, vec_capacity, IfErr, IfOk, IfSome, IsErrOf, Ok, Err};
 ghost use Rattle.std.specs.List.{list_all};
 ghost use Rattle.md_fields.specs.Fields.{AreWithin, spelling};
-ghost use Rattle.stamped_writes.specs.Entries.{AreFit, entries_bytes};
-ghost use Rattle.stamped_writes.specs.Keys.{are_kept};
+ghost use Rattle.sound_writes.specs.Entries.{AreFit, entries_bytes};
+ghost use Rattle.sound_writes.specs.Keys.{are_kept};
 ghost use Rattle.fm_chip.specs.Port.{Port};
 ghost use Rattle.fm_chip.specs.Timed.{AreTimed};
 ghost use Rattle.fm_chip.specs.PortSpelling as meaning;
@@ -17,7 +17,7 @@ use crate::write::{FmList, FmWrite};
 use arrayvec::ArrayVec;
 use md_fields::{are_zeros, first_wrong, put, u16_at};
 use md_word::Unspell;
-use stamped_writes::{Earliest, put_count, put_zeros};
+use sound_writes::{Earliest, put_count, put_zeros};
 use std::alloc::Global;
 
 /// How many writes a port holds, at most.

@@ -7,14 +7,14 @@ use Rattle.fm_env.specs.declared.envelope.Envelope.{Envelope}
 use Rattle.fm_env.specs.Steps.{step}
 
 -- an envelope as plain data
-pub record Plain : Type 0 where
+pub record EnvelopeValue : Type 0 where
   -- the attenuation: 0 the loudest, 1,023 silence
   pub v : ℕ
   pub state : ℕ
   pub on : Bool
 
 -- the data of an envelope, apart from the bounds that it keeps
-abbrev pub plain : Envelope → Plain
+abbrev pub plain : Envelope → EnvelopeValue
 plain e = record { v = e.v; state = e.state; on = e.on }
 
 -- state 0: the key went on, and the attenuation falls to 0
@@ -34,11 +34,11 @@ abbrev pub release : ℕ
 release = 3
 
 -- the state in which it steps: an attack that has come to 0 is a decay
-abbrev pub stepping_state : Plain → ℕ
+abbrev pub stepping_state : EnvelopeValue → ℕ
 stepping_state e = if (e.state == attack) && (e.v == 0) then decay else e.state
 
 -- the envelope in the state in which it steps
-unfoldable pub turned : Plain → Plain
+unfoldable pub turned : EnvelopeValue → EnvelopeValue
 turned e = record e { state = stepping_state e }
 
 -- attack adds (−(v + 1)·i)/16, rounded down
@@ -54,7 +54,7 @@ unfoldable pub fallen : ℕ → ℕ → ℕ
 fallen i v = min (v + i) 1023
 
 -- a step by i: a decay that ends at the sustain level or above it goes to sustain
-unfoldable pub stepped : ℕ → ℕ → Plain → Plain
+unfoldable pub stepped : ℕ → ℕ → EnvelopeValue → EnvelopeValue
 stepped i level e =
     if e.state == attack then record e { v = attacked i e.v } else (
     if e.state == decay then record e {
@@ -63,12 +63,12 @@ stepped i level e =
     } else record e { v = fallen i e.v })
 
 -- the envelope after a tick: the rate is that of the state in which it steps
-unfoldable pub ticked : ℕ → ℕ → ℕ → Plain → Plain
+unfoldable pub ticked : ℕ → ℕ → ℕ → EnvelopeValue → EnvelopeValue
 ticked counter rate level e = stepped (step counter rate) level (turned e)
 
 -- the envelope after its key was put on or off, by the attack's rate: a key that goes on starts the
 -- attack, at full level where the rate is 62 or more; one that is off gives release
-unfoldable pub keyed : Bool → ℕ → Plain → Plain
+unfoldable pub keyed : Bool → ℕ → EnvelopeValue → EnvelopeValue
 keyed on rate e =
     if not on then record e { on = false; state = release } else (
     if e.on then e else record { v = if nat_le 62 rate then 0 else e.v; state = attack; on = true })

@@ -147,8 +147,8 @@ abbrev pub IsLevel : ℤ → Type 0
 IsLevel z = (negsuc 8191 ≤ℤ z) × (z ≤ℤ pos 8191)
 
 -- a channel by its parts
-abbrev pub voice : ℕ → ℕ → List ℕ → List ℕ → List ℤ → Voice
-voice algorithm feedback phases attenuations last = record {
+abbrev pub channel_voice : ℕ → ℕ → List ℕ → List ℕ → List ℤ → Voice
+channel_voice algorithm feedback phases attenuations last = record {
   algorithm = algorithm;
   feedback = feedback;
   phases = phases;

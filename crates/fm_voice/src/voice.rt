@@ -56,8 +56,8 @@ fn sounding(
     requires phases { All (λ p. p < 2 ^ 20) phases.now }
     requires attenuations { All (λ a. a ≤ 1023) attenuations.now }
     requires last { All meaning.IsLevel last.old }
-    ensures value { result ≡ meaning.heard (meaning.voice algorithm feedback phases.now attenuations.now last.old) }
-    ensures last { last.new ≡ meaning.last_after (meaning.voice algorithm feedback phases.now attenuations.now last.old) }
+    ensures value { result ≡ meaning.heard (meaning.channel_voice algorithm feedback phases.now attenuations.now last.old) }
+    ensures last { last.new ≡ meaning.last_after (meaning.channel_voice algorithm feedback phases.now attenuations.now last.old) }
     ensures range { meaning.IsLevel result }
     ensures kept { All meaning.IsLevel last.new }
 {
@@ -108,8 +108,8 @@ pub fn channel(
     requires phases { All (λ p. p < 2 ^ 20) phases.now }
     requires attenuations { All (λ a. a ≤ 1023) attenuations.now }
     requires last { All meaning.IsLevel last.old }
-    ensures value { result ≡ meaning.heard (meaning.voice algorithm feedback phases.now attenuations.now last.old) }
-    ensures last { last.new ≡ meaning.last_after (meaning.voice algorithm feedback phases.now attenuations.now last.old) }
+    ensures value { result ≡ meaning.heard (meaning.channel_voice algorithm feedback phases.now attenuations.now last.old) }
+    ensures last { last.new ≡ meaning.last_after (meaning.channel_voice algorithm feedback phases.now attenuations.now last.old) }
     ensures range { meaning.IsLevel result }
     ensures kept { All meaning.IsLevel last.new }
 {

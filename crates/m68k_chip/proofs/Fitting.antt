@@ -1,7 +1,7 @@
 -- One answer more.
 use Rattle.std.proofs.Common.{◌≡◌, ℕ, zero, suc, ◌+◌, ◌<◌, ◌≤◌, ◌⊎◌, inl, inr, List, [], ◌∷◌, ◌++◌, length, take, slice_index, refl, sym, ap, subst, ◌∙◌, length-append, arith}
 use Rattle.md_word.specs.declared.main_bus.Request68.{Request68}
-use Rattle.m68k_chip.specs.Sound.{AreFit, Asks, FitsValue}
+use Rattle.m68k_chip.specs.Validity.{AreFit, Asks, FitsValue}
 use Rattle.m68k_chip.specs.States.{State68}
 
 -- the first of a list that is longer by one

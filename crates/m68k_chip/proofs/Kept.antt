@@ -1,17 +1,17 @@
--- The chip that an event leaves is sound, and keeps the request that waits.
+-- The chip that an event leaves is valid, and keeps the request that waits.
 use Rattle.std.proofs.Common.{◌≡◌, ℕ, true, false, List, sym, ◌∙◌, ap, subst}
 use Rattle.md_word.specs.declared.main_bus.Answer68.{Answer68}
 use Rattle.md_word.specs.declared.main_bus.Request68.{Request68}
 use Rattle.rom_header.specs.Cartridge.{IsImage}
 use Rattle.m68k_chip.specs.Events.{answered, begun, request_of}
 use Rattle.m68k_chip.specs.Held.{IsHeld, IsWaiting}
-use Rattle.m68k_chip.specs.Sound.{Chip68Value, Fits, IsChip68}
+use Rattle.m68k_chip.specs.Validity.{Chip68Value, Fits, IsChip68}
 use Rattle.m68k_chip.specs.States.{State68, next_of, power_on}
 use Rattle.m68k_chip.proofs.Laws.{IsLevel, answered-ok, begun-ok, of, power_on-ok}
 
 held : (image bytes : List ℕ) (new : State68) (request : Request68) (at : State68) → new ≡ at → IsChip68 (of image at) → bytes ≡ image → IsWaiting new.stage bytes new request → IsHeld (of image new) request
-held image bytes new request at e sound same waits = record {
-  sound = subst (λ (state : State68). IsChip68 (of image state)) (sym e) sound;
+held image bytes new request at e valid same waits = record {
+  valid = subst (λ (state : State68). IsChip68 (of image state)) (sym e) valid;
   waiting = subst (λ (b : List ℕ). IsWaiting new.stage b new request) same waits;
 }
 
@@ -31,6 +31,6 @@ after_answer image bytes old new request value answer is ok kind fits same e wai
 pub at_power_on : (image : List ℕ) (state : State68) (request : Request68) → IsImage image → state ≡ power_on image → IsHeld (of image state) request
 unfolding power_on
 at_power_on image state request ok e = record {
-  sound = subst (λ (state : State68). IsChip68 (of image state)) (sym e) (power_on-ok image ok);
+  valid = subst (λ (state : State68). IsChip68 (of image state)) (sym e) (power_on-ok image ok);
   waiting = subst (λ (state : State68). IsWaiting state.stage image state request) (sym e) tt;
 }

@@ -1,4 +1,4 @@
--- What holds of the 68000 as a chip: its states are sound, and its events are at least 28 cycles apart.
+-- What holds of the 68000 as a chip: its states are valid, and its events are at least 28 cycles apart.
 use Rattle.std.proofs.Common.{◌≡◌, ℕ, ◌+◌, ◌-◌, ◌*◌, ◌%◌, ◌^◌, ◌<◌, ◌≤◌, ◌==◌, ◌⊎◌, inl, inr, Bool, true, false, List, [], ◌∷◌, ◌++◌, length, Option, Some, None, IfSome, is_some, IsTrue, Result, Ok, Err, refl, sym, ap, subst, ◌∙◌, length-append, arith}
 use Rattle.std.specs.Prelude.{if◌then◌else◌, ◌||◌, nat_le, nat_lt}
 use Rattle.std.proofs.Math.ListN.{length-set, length-replicate}
@@ -18,7 +18,7 @@ use Rattle.m68k_exec.proofs.Bounds.Spends.{never_odd, waits}
 use Rattle.m68k_exec.proofs.Later.Samples as later
 use Rattle.m68k_chip.specs.Cases.{case_of, cause_of, mask_of}
 use Rattle.m68k_chip.specs.Events.{answered, answered_at, at_sample, at_word, begun, begun_with, came_to, carried_out, end_of, left_by, next_source, request_at, request_in, request_of, waited, went_on, with_started}
-use Rattle.m68k_chip.specs.Sound.{AreFit, Asks, Chip68Value, Fits, FitsValue, IsAsking, IsAt, IsBetween, IsCause, IsChip68, IsCost, IsStarted, IsTransfer}
+use Rattle.m68k_chip.specs.Validity.{AreFit, Asks, Chip68Value, Fits, FitsValue, IsAsking, IsAt, IsBetween, IsCause, IsChip68, IsCost, IsStarted, IsTransfer}
 use Rattle.m68k_chip.specs.States.{State68, is_sample, next_of, none_left, power_on}
 use Rattle.m68k_chip.specs.declared.case.Case.TheVariants.{Halted, Trace, Interrupt, Stopped, Instruction}
 use Rattle.m68k_chip.specs.declared.stage.Stage.{Stage}

@@ -9,6 +9,6 @@ pub mod Resting
 pub mod RuleLaws
 pub mod SampleTimes
 pub mod SavedLaws
-pub mod SavedSound
+pub mod SavedValid
 pub mod SpellingLaws
 pub mod Waiting

@@ -16,7 +16,7 @@ use Rattle.m68k_chip.specs.Cases.{case_of, cause_of}
 use Rattle.m68k_chip.specs.Events.{answered, answered_at, at_sample, at_word, begun, begun_with, came_to, carried_out, end_of, left_by, next_source, request_at, request_of, went_on, with_started}
 use Rattle.m68k_chip.specs.Rules as spec
 use Rattle.m68k_chip.specs.Rules.{HasRules}
-use Rattle.m68k_chip.specs.Sound.{AreFit, Chip68Value, Fits, FitsValue, IsAt, IsChip68, IsCost, IsTransfer}
+use Rattle.m68k_chip.specs.Validity.{AreFit, Chip68Value, Fits, FitsValue, IsAt, IsChip68, IsCost, IsTransfer}
 use Rattle.m68k_chip.specs.States.{State68, is_sample, next_of, none_left, power_on}
 use Rattle.m68k_chip.specs.declared.stage.Stage.{Stage}
 use Rattle.m68k_chip.specs.declared.stage.Stage.TheVariants.{Sample, Access, Word}

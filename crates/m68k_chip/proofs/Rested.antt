@@ -3,7 +3,7 @@ use Rattle.std.proofs.Common.{◌≡◌, ℕ, zero, suc, ◌+◌, ◌-◌, ◌*�
 use Rattle.std.proofs.lemmas.Grind.{div_ceil_times}
 use Rattle.m68k_chip.specs.Cases.{case_of, cause_of, is_rest}
 use Rattle.m68k_chip.specs.Events.{WentAhead, at_sample, begun, begun_after, begun_with, step, steps_to}
-use Rattle.m68k_chip.specs.Sound.{IsBetween, IsChip68}
+use Rattle.m68k_chip.specs.Validity.{IsBetween, IsChip68}
 use Rattle.m68k_chip.specs.States.{State68, next_of, none_left}
 use Rattle.m68k_chip.specs.declared.case.Case.{Case}
 use Rattle.m68k_chip.specs.declared.case.Case.TheVariants.{Halted, Trace, Interrupt, Stopped, Instruction}
@@ -59,10 +59,10 @@ module _ (cart : List ℕ) (state : State68) (level : ℕ) (rest : is_rest (case
 pub rested-late : (end start next : ℕ) → next ≡ start + step * steps_to start end → end ≤ next
 rested-late end start next is = let most = (div_ceil_times (end - start) step (omega arith)).0 in omega (arith, is, most)
 
--- one that waits on is sound
-pub rested-sound : (cart : List ℕ) (state : State68) (cycle : ℕ) → IsChip68 (of cart state) → IsBetween state → state.transfer ≡ none_left → state.next ≤ cycle
+-- one that waits on is valid
+pub rested-valid : (cart : List ℕ) (state : State68) (cycle : ℕ) → IsChip68 (of cart state) → IsBetween state → state.transfer ≡ none_left → state.next ≤ cycle
     → IsChip68 (of cart (at_sample state cycle))
-rested-sound cart state cycle ok between none later = record {
+rested-valid cart state cycle ok between none later = record {
   image = ok.image;
   ram = ok.ram;
   status = ok.status;

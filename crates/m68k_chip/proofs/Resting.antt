@@ -1,4 +1,4 @@
--- What rests at a sample or at a word of a transfer is sound.
+-- What rests at a sample or at a word of a transfer is valid.
 use Rattle.std.proofs.Common.{◌≡◌, ℕ, ◌+◌, ◌<◌, ◌≤◌, ◌==◌, inl, inr, Bool, true, false, List, [], length, Option, Some, None, IfSome, refl, ap, arith}
 use Rattle.std.specs.Prelude.{if◌then◌else◌}
 use Rattle.std.proofs.lemmas.Bool.Decides.{nat_tests}
@@ -6,7 +6,7 @@ use Rattle.md_word.specs.declared.main_bus.Transfer.{Transfer}
 use Rattle.rom_header.specs.Cartridge.{IsImage}
 use Rattle.m68k_exec.specs.Sample.Bounds.{IsStatus}
 use Rattle.m68k_chip.specs.Events.{at_sample, at_word, rested}
-use Rattle.m68k_chip.specs.Sound.{IsChip68, IsTransfer}
+use Rattle.m68k_chip.specs.Validity.{IsChip68, IsTransfer}
 use Rattle.m68k_chip.specs.States.{State68, none_left}
 
 -- what holds of a state that comes to rest after an end

@@ -19,7 +19,7 @@ use Rattle.m68k_chip.specs.Numbers.{IsRegs, halted_number, numbers_of, since_of,
 use Rattle.m68k_chip.specs.Resuming.{are_answered, asked_in, asks_at, asks_more, fits_value, is_answer}
 use Rattle.m68k_chip.specs.Rules.{BeganBelow, HasRules, IsRecent}
 use Rattle.m68k_chip.specs.Saved.{chip_fields, fields_by}
-use Rattle.m68k_chip.specs.Sound.{AreFit, Chip68Value, FitsValue, IsAt, IsCause, IsChip68, IsCost, IsTransfer}
+use Rattle.m68k_chip.specs.Validity.{AreFit, Chip68Value, FitsValue, IsAt, IsCause, IsChip68, IsCost, IsTransfer}
 use Rattle.m68k_chip.specs.Spelling.{Spells, chip_bytes}
 use Rattle.m68k_chip.specs.States.{State68, none_left}
 use Rattle.m68k_chip.specs.declared.stage.Stage.{Stage}
@@ -28,7 +28,7 @@ use Rattle.m68k_chip.proofs.Fitting.{take-all}
 use Rattle.m68k_chip.proofs.Laws.{few-answers, source-low}
 use Rattle.m68k_chip.proofs.Recent.{answers_small, transfer_cost}
 use Rattle.m68k_chip.proofs.SavedLaws.{Rules, rules_of, state_again}
-use Rattle.m68k_chip.proofs.SavedSound.{are_left, costs}
+use Rattle.m68k_chip.proofs.SavedValid.{are_left, costs}
 use Rattle.m68k_chip.proofs.SpellingLaws.{same_bytes}
 
 both : (a b : Bool) → a ≡ true → b ≡ true → (a && b) ≡ true

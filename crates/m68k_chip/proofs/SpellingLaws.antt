@@ -9,12 +9,12 @@ use Rattle.rom_header.specs.Cartridge.{IsImage}
 use Rattle.m68k_chip.specs.Numbers.{Numbers68, numbers_of, state_from}
 use Rattle.m68k_chip.specs.Resuming.{asks_more}
 use Rattle.m68k_chip.specs.Saved.{chip_fields, fields_by, number_fields}
-use Rattle.m68k_chip.specs.Sound.{IsChip68}
+use Rattle.m68k_chip.specs.Validity.{IsChip68}
 use Rattle.m68k_chip.specs.Spelling.{GoesWrongAt, Spells, chip_size}
 use Rattle.m68k_chip.specs.States.{State68}
 use Rattle.m68k_chip.proofs.Laws.{of}
 use Rattle.m68k_chip.proofs.SavedLaws.{Rules, numbers_back, only_one, rules_of, state_again}
-use Rattle.m68k_chip.proofs.SavedSound.{sound}
+use Rattle.m68k_chip.proofs.SavedValid.{valid}
 
 -- the bytes do not depend on the rules
 pub same_bytes : (at other : ℕ) (holds more : Bool) (n : Numbers68) → spelling (fields_by at holds n) ≡ spelling (fields_by other more n)
@@ -115,11 +115,11 @@ pub spelled_long : (cart : List ℕ) (at : ℕ) (bytes : List ℕ) (state : Stat
 spelled_long cart at bytes state p =
     ap length p.keeps.all ∙ long_as (chip_fields cart at (numbers_of state)) p.keeps.within ∙ fields_size at (asks_more cart (state_from (numbers_of state))) (numbers_of state)
 
--- the 68000 that bytes keep is sound
-pub spelled_sound : (cart : List ℕ) (at : ℕ) (bytes : List ℕ) (state : State68) → IsImage cart → Spells cart at bytes state → IsChip68 (of cart state)
-spelled_sound cart at bytes state image p =
+-- the 68000 that bytes keep is valid
+pub spelled_valid : (cart : List ℕ) (at : ℕ) (bytes : List ℕ) (state : State68) → IsImage cart → Spells cart at bytes state → IsChip68 (of cart state)
+spelled_valid cart at bytes state image p =
     let n : Numbers68 = numbers_of state in
     let asks : asks_more cart (state_from n) ≡ true = (rules_of at (asks_more cart (state_from n)) n p.right).ram in
     let rules : Rules at true n = rules_of at true n (subst (λ (b : Bool). first_wrong 0 (fields_by at b n) ≡ None) asks p.right) in
     subst (λ (s : State68). IsChip68 (of cart s)) (state_again state p.regs)
-    (sound cart at n image (ram_long cart at bytes n p.keeps) (answers_long cart at bytes n p.keeps) rules asks)
+    (valid cart at n image (ram_long cart at bytes n p.keeps) (answers_long cart at bytes n p.keeps) rules asks)

@@ -5,7 +5,7 @@ pub mod Numbers
 pub mod Resuming
 pub mod Rules
 pub mod Saved
-pub mod Sound
+pub mod Validity
 pub mod Spelling
 pub mod States
 pub mod Steps

@@ -24,7 +24,7 @@ pub struct Chip68 {
 
 impl Model for Chip68 {
     ghost use Rattle.std.specs.Arc.{arc_value};
-    ghost use Rattle.m68k_chip.specs.Sound.{Chip68Value};
+    ghost use Rattle.m68k_chip.specs.Validity.{Chip68Value};
     ghost use Rattle.m68k_chip.specs.States.{state_of};
     ghost use Rattle.m68k_chip.specs.Held.{IsHeld};
 
@@ -39,7 +39,7 @@ impl Chip68 {
     ghost use Rattle.std.specs.Arc.{arc_value};
     ghost use Rattle.m68k_chip.specs.Cases.{begins_at, case_of, is_rest};
     ghost use Rattle.m68k_chip.specs.Events.{WentAhead, answered, begun, request_of};
-    ghost use Rattle.m68k_chip.specs.Sound.{Fits, IsChip68};
+    ghost use Rattle.m68k_chip.specs.Validity.{Fits, IsChip68};
     ghost use Rattle.m68k_chip.specs.States.{next_of, power_on};
 
     /// The 68000 at power-on: its next event is a sample at cycle 0. The supervisor's stack pointer
@@ -62,7 +62,7 @@ impl Chip68 {
     #[tactic(auto, unfolding(crate::specs::States::next_of))]
     pub fn next(&self) -> Next
         ensures value { result ≡ next_of self.now.state }
-        ensures sound { IsChip68 self.now }
+        ensures valid { IsChip68 self.now }
     {
         Next {
             key: Key {
@@ -159,7 +159,7 @@ impl Chip68 {
     #[tactic(auto, unfolding(crate::specs::States::next_of))]
     fn samples_below(&self, end: u64) -> bool
         ensures value { IsTrue result ↔ ((next_of self.now.state).sample ≡ true) × (self.now.state.next < end) }
-        ensures sound { IsChip68 self.now }
+        ensures valid { IsChip68 self.now }
     {
         matches!(self.sequencer.stage, Stage::Sample) && self.sequencer.next < end
     }

@@ -2,7 +2,7 @@ ghost use Rattle.std.specs.Prelude.{◌≡◌, ◌≤◌, ℕ, List, length, tak
 ghost use Rattle.arrayvec.specs.ArrayVec.{array_vec_len};
 ghost use Rattle.m68k_chip.specs.Held.{IsWaiting};
 ghost use Rattle.m68k_chip.specs.Resuming as rules;
-ghost use Rattle.m68k_chip.specs.Sound.{Asks};
+ghost use Rattle.m68k_chip.specs.Validity.{Asks};
 ghost use Rattle.m68k_chip.specs.States.{state_of};
 
 use crate::sequencer::Sequencer;

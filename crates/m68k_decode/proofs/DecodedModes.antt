@@ -12,7 +12,7 @@ use Rattle.m68k_decode.specs.Bounds.{HasModes}
 use Rattle.m68k_decode.specs.Addressing.{control, control_alterable_or_predecrement, control_or_postincrement, low_mode_number, mode_number}
 use Rattle.m68k_decode.specs.Fields.{low_mode, mode_of, opcode, paired}
 use Rattle.m68k_decode.specs.Instructions.{chosen, decoded, made, unmatched}
-use Rattle.m68k_decode.specs.Lines.{Line, lines_0, lines_1, lines_2, lines_3, lines_4, lines_5, lines_6, lines_7, lines_8, lines_9, lines_b, lines_c, lines_d, lines_e, lines_of, matches, matching, rows_of}
+use Rattle.m68k_decode.specs.Lines.{TableLine, lines_0, lines_1, lines_2, lines_3, lines_4, lines_5, lines_6, lines_7, lines_8, lines_9, lines_b, lines_c, lines_d, lines_e, lines_of, matches, matching, rows_of}
 use Rattle.m68k_decode.specs.Operands.{ArePaired, number_of}
 use Rattle.m68k_decode.specs.Rows.{Row, Decimal, Extended, Jmp, Jsr, Lea, MovemToMemory, MovemToRegisters, Pea}
 
@@ -26,7 +26,7 @@ Permits w Jmp = control (low_mode_number w) ≡ true
 Permits w Lea = control (low_mode_number w) ≡ true
 Permits w row = Unit {0}
 
-abbrev AllAllow : List Line → Type 0
+abbrev AllAllow : List TableLine → Type 0
 AllAllow [] = Unit {0}
 AllAllow (l ∷ ls) = ((w : ℕ) → l.allowed w ≡ true → Permits w l.row) × AllAllow ls
 
@@ -86,7 +86,7 @@ lines_e-allow : AllAllow lines_e
 unfolding lines_e
 lines_e-allow = (λ w h. tt, (λ w h. tt, (λ w h. tt, tt)))
 
-choice : (b : Bool) (one other : List Line) → AllAllow one → AllAllow other → AllAllow (if b then one else other)
+choice : (b : Bool) (one other : List TableLine) → AllAllow one → AllAllow other → AllAllow (if b then one else other)
 choice true one other h k = h
 choice false one other h k = k
 
@@ -99,15 +99,15 @@ abbrev FirstPermits : ℕ → List Row → Type 0
 FirstPermits w [] = Unit {0}
 FirstPermits w (row ∷ more) = Permits w row
 
-allowed : (w : ℕ) (l : Line) → matches w l ≡ true → l.allowed w ≡ true
+allowed : (w : ℕ) (l : TableLine) → matches w l ≡ true → l.allowed w ≡ true
 unfolding matches
 allowed w l h = (and_parts (bit_and w l.mask == l.bits) (l.allowed w) h).1
 
-one_more : (b : Bool) (w : ℕ) (l : Line) (rest : List Line) → (b ≡ true → Permits w l.row) → FirstPermits w (map (λ (l : Line). l.row) rest) → FirstPermits w (map (λ (l : Line). l.row) (cond b (l ∷ rest) rest))
+one_more : (b : Bool) (w : ℕ) (l : TableLine) (rest : List TableLine) → (b ≡ true → Permits w l.row) → FirstPermits w (map (λ (l : TableLine). l.row) rest) → FirstPermits w (map (λ (l : TableLine). l.row) (cond b (l ∷ rest) rest))
 one_more true w l rest h k = h refl
 one_more false w l rest h k = k
 
-matching-permits : (lines : List Line) (w : ℕ) → AllAllow lines → FirstPermits w (matching lines w)
+matching-permits : (lines : List TableLine) (w : ℕ) → AllAllow lines → FirstPermits w (matching lines w)
 unfolding matching
 matching-permits [] w h = tt
 matching-permits (l ∷ ls) w h = one_more (matches w l) w l (filter (matches w) ls) (λ e. h.0 w (allowed w l e)) (matching-permits ls w h.1)

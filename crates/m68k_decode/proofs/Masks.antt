@@ -5,9 +5,9 @@ use Rattle.md_word.specs.declared.task.Task.TheVariants as tasks
 use Rattle.md_word.specs.declared.size.Size.TheVariants.{Byte, Word, Long}
 use Rattle.m68k_decode.specs.Rows.{Immediate, CompareImmediate, ImmediateToCcr, ImmediateToSr, BitByRegister, BitByNumber, MovepToRegister, MovepToMemory, Move, Movea, Unary, MoveFromSr, MoveToCcr, MoveToSr, Nbcd, Swap, Ext, Pea, MovemToMemory, MovemToRegisters, Tst, Tas, Illegal, Trap, Link, Unlk, MoveToUsp, MoveFromUsp, Reset, Nop, Stop, Rte, Rts, Trapv, Rtr, Jsr, Jmp, Lea, Chk, Quick, Scc, Dbcc, Bra, Bsr, Bcc, Moveq, Divu, Divs, Decimal, Extended, ToRegister, ToMemory, ToAddress, Cmp, Cmpa, Eor, Cmpm, Mulu, Muls, ExgData, ExgAddress, ExgMixed, ShiftByNumber, ShiftByRegister, ShiftMemory}
 use Rattle.m68k_decode.specs.Addressing.{any, data_mode, control, alterable, data_alterable, memory_alterable, data_but_immediate, control_alterable_or_predecrement, control_or_postincrement}
-use Rattle.m68k_decode.specs.Lines.{Line, all, sized, on, sized_on, words_on, moved_to, byte_moved_to, conditional, lines_0, lines_1, lines_2, lines_3, lines_4, lines_5, lines_6, lines_7, lines_8, lines_9, lines_b, lines_c, lines_d, lines_e}
+use Rattle.m68k_decode.specs.Lines.{TableLine, all, sized, on, sized_on, words_on, moved_to, byte_moved_to, conditional, lines_0, lines_1, lines_2, lines_3, lines_4, lines_5, lines_6, lines_7, lines_8, lines_9, lines_b, lines_c, lines_d, lines_e}
 
-unfoldable pub masks_0 : List Line
+unfoldable pub masks_0 : List TableLine
 masks_0 =
     record { mask = 0xff00; bits = 0x0000; allowed = (sized_on data_alterable); row = (Immediate tasks.Or) } ∷
     record { mask = 0xff00; bits = 0x0200; allowed = (sized_on data_alterable); row = (Immediate tasks.And) } ∷
@@ -37,7 +37,7 @@ pub lines_0-masks : lines_0 ≡ masks_0
 unfolding lines_0 masks_0
 lines_0-masks = refl
 
-unfoldable pub masks_1 : List Line
+unfoldable pub masks_1 : List TableLine
 masks_1 =
     record { mask = 0xf000; bits = 0x1000; allowed = (byte_moved_to data_alterable); row = (Move Byte) } ∷
     []
@@ -46,7 +46,7 @@ pub lines_1-masks : lines_1 ≡ masks_1
 unfolding lines_1 masks_1
 lines_1-masks = refl
 
-unfoldable pub masks_2 : List Line
+unfoldable pub masks_2 : List TableLine
 masks_2 =
     record { mask = 0xf000; bits = 0x2000; allowed = (moved_to data_alterable); row = (Move Long) } ∷
     record { mask = 0xf1c0; bits = 0x2040; allowed = (on any); row = (Movea Long) } ∷
@@ -56,7 +56,7 @@ pub lines_2-masks : lines_2 ≡ masks_2
 unfolding lines_2 masks_2
 lines_2-masks = refl
 
-unfoldable pub masks_3 : List Line
+unfoldable pub masks_3 : List TableLine
 masks_3 =
     record { mask = 0xf000; bits = 0x3000; allowed = (moved_to data_alterable); row = (Move Word) } ∷
     record { mask = 0xf1c0; bits = 0x3040; allowed = (on any); row = (Movea Word) } ∷
@@ -66,7 +66,7 @@ pub lines_3-masks : lines_3 ≡ masks_3
 unfolding lines_3 masks_3
 lines_3-masks = refl
 
-unfoldable pub masks_4 : List Line
+unfoldable pub masks_4 : List TableLine
 masks_4 =
     record { mask = 0xff00; bits = 0x4000; allowed = (sized_on data_alterable); row = (Unary tasks.Negx) } ∷
     record { mask = 0xff00; bits = 0x4200; allowed = (sized_on data_alterable); row = (Unary tasks.Clr) } ∷
@@ -106,7 +106,7 @@ pub lines_4-masks : lines_4 ≡ masks_4
 unfolding lines_4 masks_4
 lines_4-masks = refl
 
-unfoldable pub masks_5 : List Line
+unfoldable pub masks_5 : List TableLine
 masks_5 =
     record { mask = 0xf100; bits = 0x5000; allowed = (words_on alterable); row = (Quick tasks.Add) } ∷
     record { mask = 0xf100; bits = 0x5100; allowed = (words_on alterable); row = (Quick tasks.Sub) } ∷
@@ -118,7 +118,7 @@ pub lines_5-masks : lines_5 ≡ masks_5
 unfolding lines_5 masks_5
 lines_5-masks = refl
 
-unfoldable pub masks_6 : List Line
+unfoldable pub masks_6 : List TableLine
 masks_6 =
     record { mask = 0xff00; bits = 0x6000; allowed = all; row = Bra } ∷
     record { mask = 0xff00; bits = 0x6100; allowed = all; row = Bsr } ∷
@@ -129,7 +129,7 @@ pub lines_6-masks : lines_6 ≡ masks_6
 unfolding lines_6 masks_6
 lines_6-masks = refl
 
-unfoldable pub masks_7 : List Line
+unfoldable pub masks_7 : List TableLine
 masks_7 =
     record { mask = 0xf100; bits = 0x7000; allowed = all; row = Moveq } ∷
     []
@@ -138,7 +138,7 @@ pub lines_7-masks : lines_7 ≡ masks_7
 unfolding lines_7 masks_7
 lines_7-masks = refl
 
-unfoldable pub masks_8 : List Line
+unfoldable pub masks_8 : List TableLine
 masks_8 =
     record { mask = 0xf1c0; bits = 0x80c0; allowed = (on data_mode); row = Divu } ∷
     record { mask = 0xf1c0; bits = 0x81c0; allowed = (on data_mode); row = Divs } ∷
@@ -151,7 +151,7 @@ pub lines_8-masks : lines_8 ≡ masks_8
 unfolding lines_8 masks_8
 lines_8-masks = refl
 
-unfoldable pub masks_9 : List Line
+unfoldable pub masks_9 : List TableLine
 masks_9 =
     record { mask = 0xf100; bits = 0x9000; allowed = (words_on any); row = (ToRegister tasks.Sub) } ∷
     record { mask = 0xf100; bits = 0x9100; allowed = (sized_on memory_alterable); row = (ToMemory tasks.Sub) } ∷
@@ -163,7 +163,7 @@ pub lines_9-masks : lines_9 ≡ masks_9
 unfolding lines_9 masks_9
 lines_9-masks = refl
 
-unfoldable pub masks_b : List Line
+unfoldable pub masks_b : List TableLine
 masks_b =
     record { mask = 0xf100; bits = 0xb000; allowed = (words_on any); row = Cmp } ∷
     record { mask = 0xf0c0; bits = 0xb0c0; allowed = (on any); row = Cmpa } ∷
@@ -175,7 +175,7 @@ pub lines_b-masks : lines_b ≡ masks_b
 unfolding lines_b masks_b
 lines_b-masks = refl
 
-unfoldable pub masks_c : List Line
+unfoldable pub masks_c : List TableLine
 masks_c =
     record { mask = 0xf1c0; bits = 0xc0c0; allowed = (on data_mode); row = Mulu } ∷
     record { mask = 0xf1c0; bits = 0xc1c0; allowed = (on data_mode); row = Muls } ∷
@@ -191,7 +191,7 @@ pub lines_c-masks : lines_c ≡ masks_c
 unfolding lines_c masks_c
 lines_c-masks = refl
 
-unfoldable pub masks_d : List Line
+unfoldable pub masks_d : List TableLine
 masks_d =
     record { mask = 0xf100; bits = 0xd000; allowed = (words_on any); row = (ToRegister tasks.Add) } ∷
     record { mask = 0xf100; bits = 0xd100; allowed = (sized_on memory_alterable); row = (ToMemory tasks.Add) } ∷
@@ -203,7 +203,7 @@ pub lines_d-masks : lines_d ≡ masks_d
 unfolding lines_d masks_d
 lines_d-masks = refl
 
-unfoldable pub masks_e : List Line
+unfoldable pub masks_e : List TableLine
 masks_e =
     record { mask = 0xf020; bits = 0xe000; allowed = sized; row = ShiftByNumber } ∷
     record { mask = 0xf020; bits = 0xe020; allowed = sized; row = ShiftByRegister } ∷

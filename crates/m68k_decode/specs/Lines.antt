@@ -9,7 +9,7 @@ use Rattle.m68k_decode.specs.Addressing.{mode_number, low_mode_number, any, data
 
 -- a line of the table: the bits that the mask selects are fixed, and the rest of the word is
 -- allowed
-pub record Line : Type 0 where
+pub record TableLine : Type 0 where
   pub mask : ℕ
   pub bits : ℕ
   pub allowed : ℕ → Bool
@@ -26,7 +26,7 @@ bits_of [] so_far = so_far
 bits_of (c ∷ cs) so_far = bits_of cs (if c == 32 then so_far else (if c == 49 then (so_far * 2 + 1) else (so_far * 2)))
 
 -- the line of a pattern, what it allows, and its row
-abbrev pub line : List ℕ → (ℕ → Bool) → Row → Line
+abbrev pub line : List ℕ → (ℕ → Bool) → Row → TableLine
 line pattern allowed row = record { mask = mask_of pattern 0; bits = bits_of pattern 0; allowed = allowed; row = row }
 
 -- what is allowed of the rest of a word: all of it
@@ -67,7 +67,7 @@ abbrev pub conditional : ℕ → Bool
 conditional w = nat_le 2 (w / 256 % 16)
 
 -- ORI to CMPI, BTST to BSET, MOVEP
-unfoldable pub lines_0 : List Line
+unfoldable pub lines_0 : List TableLine
 lines_0 =
     line (codes "0000 0000 ss eeeeee") (sized_on data_alterable) (Immediate tasks.Or) ∷
     line (codes "0000 0010 ss eeeeee") (sized_on data_alterable) (Immediate tasks.And) ∷
@@ -94,27 +94,27 @@ lines_0 =
     []
 
 -- MOVE.B
-unfoldable pub lines_1 : List Line
+unfoldable pub lines_1 : List TableLine
 lines_1 =
     line (codes "0001 nnnmmm eeeeee") (byte_moved_to data_alterable) (Move Byte) ∷
     []
 
 -- MOVE.L and MOVEA.L
-unfoldable pub lines_2 : List Line
+unfoldable pub lines_2 : List TableLine
 lines_2 =
     line (codes "0010 nnnmmm eeeeee") (moved_to data_alterable) (Move Long) ∷
     line (codes "0010 nnn001 eeeeee") (on any) (Movea Long) ∷
     []
 
 -- MOVE.W and MOVEA.W
-unfoldable pub lines_3 : List Line
+unfoldable pub lines_3 : List TableLine
 lines_3 =
     line (codes "0011 nnnmmm eeeeee") (moved_to data_alterable) (Move Word) ∷
     line (codes "0011 nnn001 eeeeee") (on any) (Movea Word) ∷
     []
 
 -- operations on one operand, LEA, CHK, MOVEM and control
-unfoldable pub lines_4 : List Line
+unfoldable pub lines_4 : List TableLine
 lines_4 =
     line (codes "0100 0000 ss eeeeee") (sized_on data_alterable) (Unary tasks.Negx) ∷
     line (codes "0100 0010 ss eeeeee") (sized_on data_alterable) (Unary tasks.Clr) ∷
@@ -151,7 +151,7 @@ lines_4 =
     []
 
 -- ADDQ, SUBQ, Scc, DBcc
-unfoldable pub lines_5 : List Line
+unfoldable pub lines_5 : List TableLine
 lines_5 =
     line (codes "0101 qqq0 ss eeeeee") (words_on alterable) (Quick tasks.Add) ∷
     line (codes "0101 qqq1 ss eeeeee") (words_on alterable) (Quick tasks.Sub) ∷
@@ -160,7 +160,7 @@ lines_5 =
     []
 
 -- BRA, BSR, Bcc
-unfoldable pub lines_6 : List Line
+unfoldable pub lines_6 : List TableLine
 lines_6 =
     line (codes "0110 0000 dddddddd") all Bra ∷
     line (codes "0110 0001 dddddddd") all Bsr ∷
@@ -168,13 +168,13 @@ lines_6 =
     []
 
 -- MOVEQ
-unfoldable pub lines_7 : List Line
+unfoldable pub lines_7 : List TableLine
 lines_7 =
     line (codes "0111 nnn0 dddddddd") all Moveq ∷
     []
 
 -- OR, DIVU, DIVS, SBCD
-unfoldable pub lines_8 : List Line
+unfoldable pub lines_8 : List TableLine
 lines_8 =
     line (codes "1000 nnn0 11 eeeeee") (on data_mode) Divu ∷
     line (codes "1000 nnn1 11 eeeeee") (on data_mode) Divs ∷
@@ -184,7 +184,7 @@ lines_8 =
     []
 
 -- SUB, SUBA, SUBX
-unfoldable pub lines_9 : List Line
+unfoldable pub lines_9 : List TableLine
 lines_9 =
     line (codes "1001 nnn0 ss eeeeee") (words_on any) (ToRegister tasks.Sub) ∷
     line (codes "1001 nnn1 ss eeeeee") (sized_on memory_alterable) (ToMemory tasks.Sub) ∷
@@ -193,7 +193,7 @@ lines_9 =
     []
 
 -- CMP, CMPA, CMPM, EOR
-unfoldable pub lines_b : List Line
+unfoldable pub lines_b : List TableLine
 lines_b =
     line (codes "1011 nnn0 ss eeeeee") (words_on any) Cmp ∷
     line (codes "1011 nnns 11 eeeeee") (on any) Cmpa ∷
@@ -202,7 +202,7 @@ lines_b =
     []
 
 -- AND, MULU, MULS, ABCD, EXG
-unfoldable pub lines_c : List Line
+unfoldable pub lines_c : List TableLine
 lines_c =
     line (codes "1100 nnn0 11 eeeeee") (on data_mode) Mulu ∷
     line (codes "1100 nnn1 11 eeeeee") (on data_mode) Muls ∷
@@ -215,7 +215,7 @@ lines_c =
     []
 
 -- ADD, ADDA, ADDX
-unfoldable pub lines_d : List Line
+unfoldable pub lines_d : List TableLine
 lines_d =
     line (codes "1101 nnn0 ss eeeeee") (words_on any) (ToRegister tasks.Add) ∷
     line (codes "1101 nnn1 ss eeeeee") (sized_on memory_alterable) (ToMemory tasks.Add) ∷
@@ -224,7 +224,7 @@ lines_d =
     []
 
 -- shifts and rotates
-unfoldable pub lines_e : List Line
+unfoldable pub lines_e : List TableLine
 lines_e =
     line (codes "1110 nnnd ss0t trrr") sized ShiftByNumber ∷
     line (codes "1110 nnnd ss1t trrr") sized ShiftByRegister ∷
@@ -232,7 +232,7 @@ lines_e =
     []
 
 -- the lines of a first digit; A and F have none
-unfoldable pub lines_of : ℕ → List Line
+unfoldable pub lines_of : ℕ → List TableLine
 lines_of digit =
     if digit == 0 then lines_0 else
     if digit == 1 then lines_1 else
@@ -251,11 +251,11 @@ lines_of digit =
     []
 
 -- whether a word has a line's fixed bits, and the rest of it is allowed
-unfoldable pub matches : ℕ → Line → Bool
+unfoldable pub matches : ℕ → TableLine → Bool
 matches w l = bit_and w l.mask == l.bits && l.allowed w
 
 -- all instructions that a word matches
-unfoldable pub matching : List Line → ℕ → List Row
+unfoldable pub matching : List TableLine → ℕ → List Row
 matching lines w = map (λ l. l.row) (filter (matches w) lines)
 
 -- all rows that a first word matches

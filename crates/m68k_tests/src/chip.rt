@@ -2,7 +2,7 @@
 // 8, and this project's profile give them, at 7 master cycles a clock.
 ghost use Rattle.std.specs.Prelude.{◌≡◌, ◌^◌, ◌<◌, false};
 ghost use Rattle.m68k_chip.specs.Events.{request_of};
-ghost use Rattle.m68k_chip.specs.Sound.{Fits};
+ghost use Rattle.m68k_chip.specs.Validity.{Fits};
 ghost use Rattle.m68k_chip.specs.States.{next_of};
 
 use m68k_chip::Chip68;

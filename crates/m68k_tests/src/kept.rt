@@ -1,5 +1,5 @@
 // A 68000 that is kept between the two reads of a long, and goes on.
-ghost use Rattle.m68k_chip.specs.Sound.{Fits};
+ghost use Rattle.m68k_chip.specs.Validity.{Fits};
 
 use crate::spelling::{cartridge, kept, spelled};
 use m68k_chip::Chip68;

@@ -5,7 +5,7 @@ use Rattle.z80_chip.specs.States.{State80, next_of as sub_next_of}
 use Rattle.md_word.specs.declared.event.Next.{Next}
 use Rattle.z80_parcel.specs.Requests as told80
 use Rattle.m68k_chip.specs.Events.{request_of}
-use Rattle.m68k_chip.specs.Sound.{Fits}
+use Rattle.m68k_chip.specs.Validity.{Fits}
 use Rattle.m68k_chip.specs.States.{next_of as main_next_of}
 use Rattle.md_machine.specs.Laws.{answer-fits, told-fits}
 use Rattle.bus_shared.specs.Board.{Board, IsBoard}
@@ -13,7 +13,7 @@ use Rattle.md_machine.specs.Refinement.{draw_of, main_of, sub_of}
 use Rattle.md_machine.specs.Rules.{perform, IsChip, next}
 use Rattle.md_machine.specs.Parts.{DrawValue, SubValue}
 use Rattle.md_machine.specs.declared.chips.Chip.{Chip}
-use Rattle.md_machine.specs.declared.chips.Chip.TheVariants.{Main, Sub, Line, Fm, Psg}
+use Rattle.md_machine.specs.declared.chips.Chip.TheVariants.{Main, Sub, Draw, Fm, Psg}
 use Rattle.md_machine.specs.declared.main_chip.MainChip.{MainChip}
 
 abbrev AnswerFits : MainChip → Type 0
@@ -22,7 +22,7 @@ AnswerFits c = IfSome c.answer (Fits (request_of c.chip.cart c.chip.state))
 pub performed-fits : (before : Chip) (s : Board) → IsBoard s → (c : MainChip) → Main c ≡ (perform before s).chip → IfSome c.answer (Fits (request_of c.chip.cart c.chip.state))
 performed-fits (Main b) s ok c is = subst AnswerFits (sym (ap main_of is)) (answer-fits s (main_next_of b.chip.state).key (request_of b.chip.cart b.chip.state) ok)
 performed-fits (Sub b) s ok c is = cc
-performed-fits (Line b) s ok c is = cc
+performed-fits (Draw b) s ok c is = cc
 performed-fits (Fm b) s ok c is = cc
 performed-fits (Psg b) s ok c is = cc
 
@@ -30,11 +30,11 @@ abbrev ToldFits : SubValue → Type 0
 ToldFits c = IfSome c.answer (told80.Fits (asked_of c.chip.cart c.chip.state))
 
 pub performed-told : (before : Chip) (s : Board) → IsChip before → IsBoard s → (c : SubValue) → Sub c ≡ (perform before s).chip → IfSome c.answer (told80.Fits (asked_of c.chip.cart c.chip.state))
-performed-told (Main b) s sound ok c is = cc
-performed-told (Sub b) s sound ok c is = subst ToldFits (sym (ap sub_of is)) (told-fits b s sound ok)
-performed-told (Line b) s sound ok c is = cc
-performed-told (Fm b) s sound ok c is = cc
-performed-told (Psg b) s sound ok c is = cc
+performed-told (Main b) s valid ok c is = cc
+performed-told (Sub b) s valid ok c is = subst ToldFits (sym (ap sub_of is)) (told-fits b s valid ok)
+performed-told (Draw b) s valid ok c is = cc
+performed-told (Fm b) s valid ok c is = cc
+performed-told (Psg b) s valid ok c is = cc
 
 -- a Z80 that handed something over stands at the same access
 handed-same : (state : State80) → (sub_next_of (handed state) ≡ sub_next_of state) × ((handed state).next ≡ (sub_next_of state).key.cycle)
@@ -45,7 +45,7 @@ pub performed-kind : (before : Chip) (s : Board) (c : SubValue) → Sub c ≡ (p
 performed-kind (Main b) s c is kind = cc
 performed-kind (Sub b) s c is kind =
     subst (λ (v : SubValue). (sub_next_of v.chip.state).sample ≡ false) (sym (ap sub_of is)) (ap (λ (n : Next). n.sample) (handed-same b.chip.state).0 ∙ kind)
-performed-kind (Line b) s c is kind = cc
+performed-kind (Draw b) s c is kind = cc
 performed-kind (Fm b) s c is kind = cc
 performed-kind (Psg b) s c is kind = cc
 
@@ -53,21 +53,21 @@ pub performed-cycle : (before : Chip) (s : Board) (c : SubValue) → Sub c ≡ (
 performed-cycle (Main b) s c is below = cc
 performed-cycle (Sub b) s c is below =
     subst (λ (v : SubValue). v.chip.state.next < 2 ^ 50) (sym (ap sub_of is)) (subst (λ (n : ℕ). n < 2 ^ 50) (sym (handed-same b.chip.state).1) below)
-performed-cycle (Line b) s c is below = cc
+performed-cycle (Draw b) s c is below = cc
 performed-cycle (Fm b) s c is below = cc
 performed-cycle (Psg b) s c is below = cc
 
 -- the view of a line that was begun is there, at the same line
-pub performed-view : (before : Chip) (s : Board) (c : DrawValue) → Line c ≡ (perform before s).chip → IsSome c.view
+pub performed-view : (before : Chip) (s : Board) (c : DrawValue) → Draw c ≡ (perform before s).chip → IsSome c.view
 performed-view (Main b) s c is = cc
 performed-view (Sub b) s c is = cc
-performed-view (Line b) s c is = subst (λ (v : DrawValue). IsSome v.view) (sym (ap draw_of is)) refl
+performed-view (Draw b) s c is = subst (λ (v : DrawValue). IsSome v.view) (sym (ap draw_of is)) refl
 performed-view (Fm b) s c is = cc
 performed-view (Psg b) s c is = cc
 
-pub performed-line : (before : Chip) (s : Board) (c : DrawValue) → Line c ≡ (perform before s).chip → (next before).key.cycle < 2 ^ 50 → c.chip.next < 2 ^ 50
+pub performed-line : (before : Chip) (s : Board) (c : DrawValue) → Draw c ≡ (perform before s).chip → (next before).key.cycle < 2 ^ 50 → c.chip.next < 2 ^ 50
 performed-line (Main b) s c is below = cc
 performed-line (Sub b) s c is below = cc
-performed-line (Line b) s c is below = subst (λ (v : DrawValue). v.chip.next < 2 ^ 50) (sym (ap draw_of is)) below
+performed-line (Draw b) s c is below = subst (λ (v : DrawValue). v.chip.next < 2 ^ 50) (sym (ap draw_of is)) below
 performed-line (Fm b) s c is below = cc
 performed-line (Psg b) s c is below = cc

@@ -36,12 +36,12 @@ machine-by : (parts : Assembly) (board : Board) (room : ℕ) → IsBoard board �
     → ((i : ℕ) → i < 5 → IsChip (chip_in five (chips_of parts) i))
     → IsMachine parts.at (Some (core_in board (chips_of parts) (bounds_of (chips_of parts)) [] room))
 unfolding next_of sub_next_of
-machine-by parts board room fits later ample sound =
+machine-by parts board room fits later ample valid =
     let chips = chips_of parts in
     let key : ℕ → Key = key_in five chips in
     record {
       has_core = refl;
-      sound = record {
+      valid = record {
         shape = record {
           chip_count = refl;
           bound_count = refl;
@@ -51,7 +51,7 @@ machine-by parts board room fits later ample sound =
               (key-itself (key 0)) (key-itself (key 1)) (key-itself (key 2)) (key-itself (key 3)) (key-itself (key 4));
         };
         shared = fits;
-        chip = sound;
+        chip = valid;
       };
       room = ample;
       quiet = five-each (λ i. parts.at ≤ (key i).cycle) later.main later.sub later.line (not-below parts.at) (not-below parts.at);
@@ -60,11 +60,11 @@ machine-by parts board room fits later ample sound =
 pub assembled-machine : (parts : Assembly) (board : Board) (chips : List Chip) (bounds : List Key) (entries : List Entry) (room : ℕ) → IsBoard board → AreLater parts
     → chips ≡ chips_of parts → bounds ≡ bounds_of chips → entries ≡ [] → 52500 ≤ room → ((i : ℕ) → i < 5 → IsChip (chip_in five chips i))
     → IsMachine parts.at (Some (core_in board chips bounds entries room))
-assembled-machine parts board chips bounds entries room fits later c b e ample sound =
+assembled-machine parts board chips bounds entries room fits later c b e ample valid =
     subst (λ z. IsMachine parts.at (Some (core_in board chips z entries room))) (sym b)
     (subst (λ z. IsMachine parts.at (Some (core_in board chips (bounds_of chips) z room))) (sym e)
     (subst (λ z. ((i : ℕ) → i < 5 → IsChip (chip_in five z i)) → IsMachine parts.at (Some (core_in board z (bounds_of z) [] room))) (sym c)
-    (machine-by parts board room fits later ample) sound))
+    (machine-by parts board room fits later ample) valid))
 
 value-by : (parts : Assembly) (board : Board) (bounds : List Key) (room : ℕ)
     → machine_at parts.at (core_in board (chips_of parts) bounds [] room) ≡ record { at = parts.at; console = assembled parts board; entries = []; media = no_media }

@@ -3,7 +3,7 @@ use Rattle.std.proofs.Common.{◌≡◌, ◌⊎◌, ℕ, zero, suc, ◌+◌, ◌
 use Rattle.std.proofs.lemmas.Bool.Decides.{nat_tests}
 use Rattle.std.proofs.lemmas.List.{append-nil}
 use Rattle.chip_core.specs.Machines as machines
-use Rattle.chip_core.specs.Machines.{AllBelow, IsSound, Machine, is_sample, key_of, move, put, run}
+use Rattle.chip_core.specs.Machines.{AllBelow, IsValid, Machine, is_sample, key_of, move, put, run}
 use Rattle.vdp_time.specs.Lines.{line_of}
 use Rattle.vdp_planes.specs.View.{view_of}
 use Rattle.vdp_planes.specs.declared.view.LineView.{LineView}
@@ -19,8 +19,8 @@ use Rattle.md_machine.specs.Parts.{DrawValue, IsDraw}
 use Rattle.md_machine.specs.Refinement.{console, draw_of}
 use Rattle.md_machine.specs.Rules.{IsChip, advance, draw_advance, draw_perform, five, next, perform}
 use Rattle.md_machine.specs.declared.chips.Chip.{Chip}
-use Rattle.md_machine.specs.declared.chips.Chip.TheVariants.{Line}
-use Rattle.md_machine.proofs.Lifts.{Movers, SoundTo, mover-same, ran-same}
+use Rattle.md_machine.specs.declared.chips.Chip.TheVariants.{Draw}
+use Rattle.md_machine.proofs.Lifts.{Movers, ValidTo, mover-same, ran-same}
 use Rattle.md_machine.proofs.Moves.{five-each, kind2, move-access}
 use Rattle.md_machine.proofs.Samples.{other_by}
 
@@ -95,19 +95,19 @@ frames-made : (v : DrawValue) (s : Board) → frames_of (drawn_from (view_on v s
 unfolding drawn_from line_drawn picture_after finished
 frames-made v s = refl
 
-line-made : (m : Machine Chip Board) (v : DrawValue) → m.chip 2 ≡ Line v
+line-made : (m : Machine Chip Board) (v : DrawValue) → m.chip 2 ≡ Draw v
     → (rendered (console m) 2).frames ≡ frames_of (cond (line_of v.chip.next == height) (Some (picture_on v m.shared)) None)
 unfolding rendered console
 line-made m v is =
     ap (λ (c : Chip). frames_of (drawn_from (view_on (draw_of c) m.shared) (unframed (draw_of c).chip)).frame) is ∙ frames-made v m.shared
 
-line-left : (m : Machine Chip Board) (v : DrawValue) → m.chip 2 ≡ Line v → drawing (move five m 2) ≡ (draw_advance (draw_perform v m.shared).chip).chip
+line-left : (m : Machine Chip Board) (v : DrawValue) → m.chip 2 ≡ Draw v → drawing (move five m 2) ≡ (draw_advance (draw_perform v m.shared).chip).chip
 unfolding put
 line-left m v is =
     ap drawing (move-access m 2 (ap (λ (c : Chip). (next c).sample) is)) ∙ ap (λ (c : Chip). (draw_of (advance (perform c m.shared).chip)).chip) is
 
 -- a line's event with the frame of the first lines kept
-line-framed : (m : Machine Chip Board) (v : DrawValue) (frames : List (List ℕ)) (from : ℕ) → m.chip 2 ≡ Line v → IsDraw v → v.chip.next < from + 896040
+line-framed : (m : Machine Chip Board) (v : DrawValue) (frames : List (List ℕ)) (from : ℕ) → m.chip 2 ≡ Draw v → IsDraw v → v.chip.next < from + 896040
     → Framed m frames from → Framed (move five m 2) (frames ++ (rendered (console m) 2).frames) from
 line-framed m v frames from is ok near before =
     let here : drawing m ≡ v.chip = ap (λ (c : Chip). (draw_of c).chip) is in
@@ -141,38 +141,38 @@ other-framed m i frames from away none before =
       once = subst (λ (d : Drawing). Once from d.next d.frame) (sym left) before.once;
     }
 
-frames-more : (m : Machine Chip Board) (frames : List (List ℕ)) (from : ℕ) → IsSound five IsChip IsBoard m → (i : ℕ) → i < 5 → (key_of five m i).cycle < from + 896040
+frames-more : (m : Machine Chip Board) (frames : List (List ℕ)) (from : ℕ) → IsValid five IsChip IsBoard m → (i : ℕ) → i < 5 → (key_of five m i).cycle < from + 896040
     → Framed m frames from → Framed (move five m i) (frames ++ (rendered (console m) i).frames) from
 unfolding rendered
-frames-more m frames from sound =
-    let k2 = kind2 (m.chip 2) (sound.number 2 (lit< tt)) in
+frames-more m frames from valid =
+    let k2 = kind2 (m.chip 2) (valid.number 2 (lit< tt)) in
     five-each (λ i. (key_of five m i).cycle < from + 896040 → Framed m frames from → Framed (move five m i) (frames ++ (rendered (console m) i).frames) from)
     (λ near before. other-framed m 0 frames from refl refl before)
     (λ near before. other-framed m 1 frames from refl refl before)
-    (λ near before. line-framed m k2.0 frames from k2.1 (subst IsChip k2.1 (sound.chip 2 (lit< tt))) (subst (λ (c : Chip). (next c).key.cycle < from + 896040) k2.1 near) before)
+    (λ near before. line-framed m k2.0 frames from k2.1 (subst IsChip k2.1 (valid.chip 2 (lit< tt))) (subst (λ (c : Chip). (next c).key.cycle < from + 896040) k2.1 near) before)
     (λ near before. other-framed m 3 frames from refl refl before)
     (λ near before. other-framed m 4 frames from refl refl before)
 
 -- the first moves of a segment, from a machine that keeps no frame
-frames-framed : (m : Machine Chip Board) (from to n : ℕ) → SoundTo m n → Movers → frames_of (drawing m).frame ≡ [] → machines.IsQuiet five m from
+frames-framed : (m : Machine Chip Board) (from to n : ℕ) → ValidTo m n → Movers → frames_of (drawing m).frame ≡ [] → machines.IsQuiet five m from
     → to ≤ from + 896040 → AllBelow five m to n → Framed m [] from → Framed (run five m n) (media (console m) n).frames from
 unfolding run media
-frames-framed m from to zero sound movers none quiet near below first = first
-frames-framed m from to (suc n) sound movers none quiet near below first =
-    let stage : IsSound five IsChip IsBoard (run five m n) = sound n (omega arith) in
-    let sound' : SoundTo m n = λ k earlier. sound k (omega arith) in
+frames-framed m from to zero valid movers none quiet near below first = first
+frames-framed m from to (suc n) valid movers none quiet near below first =
+    let stage : IsValid five IsChip IsBoard (run five m n) = valid n (omega arith) in
+    let valid' : ValidTo m n = λ k earlier. valid k (omega arith) in
     let below' : AllBelow five m to n = record { each = λ k earlier. below.each k (omega arith) } in
-    let before : Framed (run five m n) (media (console m) n).frames from = frames-framed m from to n sound' movers none quiet near below' first in
+    let before : Framed (run five m n) (media (console m) n).frames from = frames-framed m from to n valid' movers none quiet near below' first in
     let here : (key_of five (run five m n) (machines.mover five (run five m n))).cycle < from + 896040 = omega (arith, below.each n (omega arith), near) in
     let same : rendered (console (run five m n)) (machines.mover five (run five m n)) ≡ rendered (ran (console m) n) (mover (ran (console m) n)) =
     ap (λ (j : ℕ). rendered (console (run five m n)) j) (mover-same (run five m n) stage)
-    ∙ ap (λ (z : Console). rendered z (mover z)) (ran-same m n sound' movers) in
+    ∙ ap (λ (z : Console). rendered z (mover z)) (ran-same m n valid' movers) in
     subst (λ (output : Media). Framed (run five m (suc n)) ((media (console m) n).frames ++ output.frames) from) same
     (frames-more (run five m n) (media (console m) n).frames from stage (machines.mover five (run five m n)) (movers (run five m n)) here before)
 
-first-framed : (m : Machine Chip Board) (from : ℕ) → IsSound five IsChip IsBoard m → frames_of (drawing m).frame ≡ [] → machines.IsQuiet five m from → Framed m [] from
-first-framed m from sound none quiet =
-    let k2 = kind2 (m.chip 2) (sound.number 2 (lit< tt)) in
+first-framed : (m : Machine Chip Board) (from : ℕ) → IsValid five IsChip IsBoard m → frames_of (drawing m).frame ≡ [] → machines.IsQuiet five m from → Framed m [] from
+first-framed m from valid none quiet =
+    let k2 = kind2 (m.chip 2) (valid.number 2 (lit< tt)) in
     let late : from ≤ k2.0.chip.next = subst (λ (c : Chip). from ≤ (next c).key.cycle) k2.1 (quiet 2 (lit< tt)) in
     record {
       same = none;
@@ -180,10 +180,10 @@ first-framed m from sound none quiet =
       once = inl none;
     }
 
-pub frames-kept : (m : Machine Chip Board) (from to n : ℕ) → SoundTo m n → IsSound five IsChip IsBoard m → Movers → frames_of (drawing m).frame ≡ [] → machines.IsQuiet five m from
+pub frames-kept : (m : Machine Chip Board) (from to n : ℕ) → ValidTo m n → IsValid five IsChip IsBoard m → Movers → frames_of (drawing m).frame ≡ [] → machines.IsQuiet five m from
     → to ≤ from + 896040 → AllBelow five m to n → frames_of (draw_of ((run five m n).chip 2)).chip.frame ≡ (media (console m) n).frames
-frames-kept m from to n sound here movers none quiet near below =
-    (frames-framed m from to n sound movers none quiet near below (first-framed m from here none quiet)).same
+frames-kept m from to n valid here movers none quiet near below =
+    (frames-framed m from to n valid movers none quiet near below (first-framed m from here none quiet)).same
 
 -- there is one at most
 pub one-frame : (frame : Option (List ℕ)) → length (frames_of frame) ≤ 1

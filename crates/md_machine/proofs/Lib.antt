@@ -19,5 +19,5 @@ pub mod QuietStays
 pub mod Samples
 pub mod Segments
 pub mod Silent
-pub mod SoundParts
+pub mod ValidParts
 pub mod Start

@@ -2,7 +2,7 @@
 use Rattle.std.proofs.Common.{◌≡◌, ℕ, zero, suc, ◌<◌, Bool, true, false, cond, ◌+◌, List, [], ◌∷◌, length, None, refl, sym, ap, ◌∙◌, arith, lit<}
 use Rattle.md_word.specs.declared.event.Entry.{Entry}
 use Rattle.md_word.specs.declared.key.Key.{Key}
-use Rattle.chip_core.specs.Machines.{IsSound, Machine, entries, is_sample, key_of, move, put}
+use Rattle.chip_core.specs.Machines.{IsValid, Machine, entries, is_sample, key_of, move, put}
 use Rattle.m68k_chip.specs.Events.{request_of}
 use Rattle.m68k_chip.specs.States.{next_of}
 use Rattle.psg_sound.specs.Port.{taken_below}
@@ -24,7 +24,7 @@ use Rattle.z80_chip.specs.Events.{asked_of}
 use Rattle.z80_chip.specs.States.{next_of as sub_next_of}
 use Rattle.md_machine.specs.Pins.{pins_of}
 use Rattle.md_machine.specs.declared.chips.Chip.{Chip}
-use Rattle.md_machine.specs.declared.chips.Chip.TheVariants.{Main, Sub, Line, Fm, Psg}
+use Rattle.md_machine.specs.declared.chips.Chip.TheVariants.{Main, Sub, Draw, Fm, Psg}
 
 -- the machine after a sample of chip i, and after an access
 pub move-sample : (m : Machine Chip Board) (i : ℕ) → is_sample five m i ≡ true
@@ -48,7 +48,7 @@ sub_one c = refl
 pub kind0 : (c : Chip) → (next c).key.chip ≡ 0 → (v : MainChip) × (c ≡ Main v)
 kind0 (Main c) is = (c, refl)
 kind0 (Sub c) is = absurd (omega (arith, sub_one c))
-kind0 (Line c) is = absurd (omega arith)
+kind0 (Draw c) is = absurd (omega arith)
 kind0 (Fm c) is = absurd (omega arith)
 kind0 (Psg c) is = absurd (omega arith)
 
@@ -59,28 +59,28 @@ main_zero c = refl
 pub kind1 : (c : Chip) → (next c).key.chip ≡ 1 → (v : SubValue) × (c ≡ Sub v)
 kind1 (Main c) is = absurd (omega (arith, main_zero c))
 kind1 (Sub c) is = (c, refl)
-kind1 (Line c) is = absurd (omega arith)
+kind1 (Draw c) is = absurd (omega arith)
 kind1 (Fm c) is = absurd (omega arith)
 kind1 (Psg c) is = absurd (omega arith)
 
-pub kind2 : (c : Chip) → (next c).key.chip ≡ 2 → (v : DrawValue) × (c ≡ Line v)
+pub kind2 : (c : Chip) → (next c).key.chip ≡ 2 → (v : DrawValue) × (c ≡ Draw v)
 kind2 (Main c) is = absurd (omega (arith, main_zero c))
 kind2 (Sub c) is = absurd (omega (arith, sub_one c))
-kind2 (Line c) is = (c, refl)
+kind2 (Draw c) is = (c, refl)
 kind2 (Fm c) is = absurd (omega arith)
 kind2 (Psg c) is = absurd (omega arith)
 
 pub kind3 : (c : Chip) → (next c).key.chip ≡ 3 → (v : FmValue) × (c ≡ Fm v)
 kind3 (Main c) is = absurd (omega (arith, main_zero c))
 kind3 (Sub c) is = absurd (omega (arith, sub_one c))
-kind3 (Line c) is = absurd (omega arith)
+kind3 (Draw c) is = absurd (omega arith)
 kind3 (Fm c) is = (c, refl)
 kind3 (Psg c) is = absurd (omega arith)
 
 pub kind4 : (c : Chip) → (next c).key.chip ≡ 4 → (v : PsgValue) × (c ≡ Psg v)
 kind4 (Main c) is = absurd (omega (arith, main_zero c))
 kind4 (Sub c) is = absurd (omega (arith, sub_one c))
-kind4 (Line c) is = absurd (omega arith)
+kind4 (Draw c) is = absurd (omega arith)
 kind4 (Fm c) is = absurd (omega arith)
 kind4 (Psg c) is = (c, refl)
 
@@ -114,12 +114,12 @@ sub_move true m v kind is = rw (move-sample m 1 (ap (λ (c : Chip). (next c).sam
 sub_move false m v kind is = rw (move-access m 1 (ap (λ (c : Chip). (next c).sample) is ∙ kind)) (rw is (rw kind refl))
 
 -- the event of a line: what is not told of the view is not seen
-draw_move : (m : Machine Chip Board) (v : DrawValue) → m.chip 2 ≡ Line v → console (move five m 2) ≡ moved (console m) 2
+draw_move : (m : Machine Chip Board) (v : DrawValue) → m.chip 2 ≡ Draw v → console (move five m 2) ≡ moved (console m) 2
 unfolding console moved line_moved put
 draw_move m v is =
     let lent : Drawing = record v.chip { has_view = false } in
     let after : Board = line_board m.shared v.chip.next v.chip.note in
-    let before : Console = record_of (m.chip 0) (m.chip 1) (Line v) (m.chip 3) (m.chip 4) after in
+    let before : Console = record_of (m.chip 0) (m.chip 1) (Draw v) (m.chip 3) (m.chip 4) after in
     rw (move-access m 2 (ap (λ (c : Chip). (next c).sample) is)) (rw is (line-seen before (view_of after.vdp) v.chip))
 
 fm_move : (m : Machine Chip Board) (v : FmValue) → m.chip 3 ≡ Fm v → console (move five m 3) ≡ moved (console m) 3
@@ -139,13 +139,13 @@ five-each P p0 p1 p2 p3 p4 (suc (suc (suc zero))) below = p3
 five-each P p0 p1 p2 p3 p4 (suc (suc (suc (suc zero)))) below = p4
 five-each P p0 p1 p2 p3 p4 (suc (suc (suc (suc (suc n))))) below = absurd (omega arith)
 
-pub move-same : (m : Machine Chip Board) → IsSound five IsChip IsBoard m → (i : ℕ) → i < 5 → console (move five m i) ≡ moved (console m) i
-move-same m sound =
-    let k0 = kind0 (m.chip 0) (sound.number 0 (lit< tt)) in
-    let k1 = kind1 (m.chip 1) (sound.number 1 (lit< tt)) in
-    let k2 = kind2 (m.chip 2) (sound.number 2 (lit< tt)) in
-    let k3 = kind3 (m.chip 3) (sound.number 3 (lit< tt)) in
-    let k4 = kind4 (m.chip 4) (sound.number 4 (lit< tt)) in
+pub move-same : (m : Machine Chip Board) → IsValid five IsChip IsBoard m → (i : ℕ) → i < 5 → console (move five m i) ≡ moved (console m) i
+move-same m valid =
+    let k0 = kind0 (m.chip 0) (valid.number 0 (lit< tt)) in
+    let k1 = kind1 (m.chip 1) (valid.number 1 (lit< tt)) in
+    let k2 = kind2 (m.chip 2) (valid.number 2 (lit< tt)) in
+    let k3 = kind3 (m.chip 3) (valid.number 3 (lit< tt)) in
+    let k4 = kind4 (m.chip 4) (valid.number 4 (lit< tt)) in
     five-each (λ i. console (move five m i) ≡ moved (console m) i)
     (main_move (next_of k0.0.chip.state).sample m k0.0 refl k0.1) (sub_move (sub_next_of k1.0.chip.state).sample m k1.0 refl k1.1) (draw_move m k2.0 k2.1) (fm_move m k3.0 k3.1) (psg_move m k4.0 k4.1)
 
@@ -154,31 +154,31 @@ pub at-kind : {B : Type 0} (f g : Chip → B) (c k : Chip) → c ≡ k → f k �
 at-kind f g c k is same = ap f is ∙ same ∙ sym (ap g is)
 
 -- the keys
-pub key-same : (m : Machine Chip Board) → IsSound five IsChip IsBoard m → (i : ℕ) → i < 5 → key_of five m i ≡ key_in (console m) i
+pub key-same : (m : Machine Chip Board) → IsValid five IsChip IsBoard m → (i : ℕ) → i < 5 → key_of five m i ≡ key_in (console m) i
 unfolding console key_in
-key-same m sound =
-    let k0 = kind0 (m.chip 0) (sound.number 0 (lit< tt)) in
-    let k1 = kind1 (m.chip 1) (sound.number 1 (lit< tt)) in
-    let k2 = kind2 (m.chip 2) (sound.number 2 (lit< tt)) in
-    let k3 = kind3 (m.chip 3) (sound.number 3 (lit< tt)) in
-    let k4 = kind4 (m.chip 4) (sound.number 4 (lit< tt)) in
+key-same m valid =
+    let k0 = kind0 (m.chip 0) (valid.number 0 (lit< tt)) in
+    let k1 = kind1 (m.chip 1) (valid.number 1 (lit< tt)) in
+    let k2 = kind2 (m.chip 2) (valid.number 2 (lit< tt)) in
+    let k3 = kind3 (m.chip 3) (valid.number 3 (lit< tt)) in
+    let k4 = kind4 (m.chip 4) (valid.number 4 (lit< tt)) in
     let read : Chip → Key = λ c. (next c).key in
     five-each (λ i. key_of five m i ≡ key_in (console m) i)
     (at-kind read (λ c. (next_of (main_of c).chip.state).key) (m.chip 0) (Main k0.0) k0.1 refl)
     (at-kind read (λ c. (sub_next_of (sub_of c).chip.state).key) (m.chip 1) (Sub k1.0) k1.1 refl)
-    (at-kind read (λ c. record { cycle = (draw_of c).chip.next; chip = 2 }) (m.chip 2) (Line k2.0) k2.1 refl)
+    (at-kind read (λ c. record { cycle = (draw_of c).chip.next; chip = 2 }) (m.chip 2) (Draw k2.0) k2.1 refl)
     (at-kind read (λ c. record { cycle = (fm_of c).cycle; chip = 3 }) (m.chip 3) (Fm k3.0) k3.1 refl)
     (at-kind read (λ c. record { cycle = (psg_of c).cycle; chip = 4 }) (m.chip 4) (Psg k4.0) k4.1 refl)
 
 -- the entries
-pub told-same : (m : Machine Chip Board) → IsSound five IsChip IsBoard m → (i : ℕ) → i < 5 → entries five m i ≡ told (console m) i
+pub told-same : (m : Machine Chip Board) → IsValid five IsChip IsBoard m → (i : ℕ) → i < 5 → entries five m i ≡ told (console m) i
 unfolding console told entries
-told-same m sound =
-    let k0 = kind0 (m.chip 0) (sound.number 0 (lit< tt)) in
-    let k1 = kind1 (m.chip 1) (sound.number 1 (lit< tt)) in
-    let k2 = kind2 (m.chip 2) (sound.number 2 (lit< tt)) in
-    let k3 = kind3 (m.chip 3) (sound.number 3 (lit< tt)) in
-    let k4 = kind4 (m.chip 4) (sound.number 4 (lit< tt)) in
+told-same m valid =
+    let k0 = kind0 (m.chip 0) (valid.number 0 (lit< tt)) in
+    let k1 = kind1 (m.chip 1) (valid.number 1 (lit< tt)) in
+    let k2 = kind2 (m.chip 2) (valid.number 2 (lit< tt)) in
+    let k3 = kind3 (m.chip 3) (valid.number 3 (lit< tt)) in
+    let k4 = kind4 (m.chip 4) (valid.number 4 (lit< tt)) in
     let read : Chip → List Entry = λ c. cond (next c).sample [] ((perform c m.shared).entry ∷ []) in
     five-each (λ i. entries five m i ≡ told (console m) i)
     (at-kind read
@@ -187,7 +187,7 @@ told-same m sound =
     (at-kind read
     (λ c. let s = (sub_of c).chip.state in cond (sub_next_of s).sample [] ((sub_access m.shared (sub_next_of s).key (asked_of (sub_of c).chip.cart s)).entry ∷ []))
     (m.chip 1) (Sub k1.0) k1.1 refl)
-    (at-kind read (λ c. line_entry (record { cycle = (draw_of c).chip.next; chip = 2 }) (level_of (line_board m.shared (draw_of c).chip.next (draw_of c).chip.note)) ∷ []) (m.chip 2) (Line k2.0) k2.1 refl)
+    (at-kind read (λ c. line_entry (record { cycle = (draw_of c).chip.next; chip = 2 }) (level_of (line_board m.shared (draw_of c).chip.next (draw_of c).chip.note)) ∷ []) (m.chip 2) (Draw k2.0) k2.1 refl)
     (at-kind read
     (λ c. batch_entry 11 (record { cycle = (fm_of c).cycle; chip = 3 }) (length (fm_ports.taken_below (fm_of c).cycle m.shared.fm.writes)) ∷ [])
     (m.chip 3) (Fm k3.0) k3.1 refl)

@@ -12,7 +12,7 @@ use Rattle.md_word.specs.declared.main_bus.Request68.TheVariants.{Read8, Read16,
 use Rattle.md_word.specs.declared.pins.Pins80.{Pins80}
 use Rattle.md_word.specs.declared.sub_bus.Request80.{Request80}
 use Rattle.md_word.specs.declared.sub_bus.Request80.TheVariants as requests80
-use Rattle.chip_core.specs.Machines.{IsSound, Machine, run}
+use Rattle.chip_core.specs.Machines.{IsValid, Machine, run}
 use Rattle.m68k_chip.specs.Events.{request_of}
 use Rattle.m68k_chip.specs.States.{next_of}
 use Rattle.vdp_planes.specs.declared.view.SpriteNote.{SpriteNote}
@@ -30,7 +30,7 @@ use Rattle.bus_shared.specs.declared.register.Register.{Register}
 use Rattle.bus_shared.specs.declared.register.Register.TheVariants.{Version, Data1, Data2, DataExpansion, Control1, Control2, Unused}
 use Rattle.z80_chip.specs.Cases.{bus_case, case_of, is_interrupted, is_reset, running_case, seen}
 use Rattle.z80_chip.specs.Events.{answered, answered_at, asked_at, asked_in, asked_of, begun, begun_as, came_to, carried_out, handed, handing, kept_at, went_on}
-use Rattle.z80_chip.specs.Sound.{Chip80Value, IsAsking, IsAt, IsChip80}
+use Rattle.z80_chip.specs.Validity.{Chip80Value, IsAsking, IsAt, IsChip80}
 use Rattle.z80_chip.specs.States as states80
 use Rattle.z80_chip.specs.States.{State80, is_sample, next_of as sub_next_of}
 use Rattle.z80_chip.specs.declared.case.Case.{Case}
@@ -41,7 +41,7 @@ use Rattle.z80_exec.proofs.Bounds.Samples as bounds80
 use Rattle.z80_exec.specs.Sample.Bounds.{IsAccess}
 use Rattle.z80_exec.specs.Sample.Samples.{Ended}
 use Rattle.z80_parcel.specs.Parcels.{Store, written}
-use Rattle.z80_parcel.specs.Requests.{Asked, ReadByte, WriteByte, HandOver, TakeBack, Told, store_in}
+use Rattle.z80_parcel.specs.Requests.{RequestValue80, ReadByte, WriteByte, HandOver, TakeBack, AnswerValue80, store_in}
 use Rattle.md_machine.specs.Console.{Console, fm_moved, line_moved, main_moved, moved, mover, power_on, psg_moved, ran, sub_accessed, sub_moved}
 use Rattle.md_machine.specs.Movers.{mover-lt}
 use Rattle.md_machine.specs.Owners.{HasOneOwner}
@@ -49,7 +49,7 @@ use Rattle.md_machine.specs.Refinement.{console, sub_of}
 use Rattle.md_machine.specs.Rules.{IsChip, five}
 use Rattle.md_machine.specs.declared.chips.Chip.{Chip}
 use Rattle.md_machine.specs.declared.chips.Chip.TheVariants.{Sub}
-use Rattle.md_machine.proofs.Lifts.{Movers, SoundTo, ran-same}
+use Rattle.md_machine.proofs.Lifts.{Movers, ValidTo, ran-same}
 use Rattle.md_machine.proofs.Moves.{five-each, kind1}
 
 clash : true ≡ false → ⊥
@@ -269,20 +269,20 @@ unfolding sub_access
 taken-over own board key none one = took board.request board.store board key refl (sym none ∙ one)
 
 -- an access of an instruction leaves the bus what it has
-byte-access : (request : Request80) (board : Board) (key : Key) → IsAccess request → (asks : Asked) → asks ≡ asked_in (Err request)
+byte-access : (request : Request80) (board : Board) (key : Key) → IsAccess request → (asks : RequestValue80) → asks ≡ asked_in (Err request)
     → is_some (sub_access board key asks).board.store ≡ is_some board.store
 unfolding sub_access
 byte-access (requests80.Read at) board key access asks is =
-    subst (λ (a : Asked). is_some (sub_access board key a).board.store ≡ is_some board.store) (sym is)
+    subst (λ (a : RequestValue80). is_some (sub_access board key a).board.store ≡ is_some board.store) (sym is)
     (has-same (is_fm at) (fm_read board key.cycle) board (is_some board.store) refl refl)
 byte-access (requests80.Write at value) board key access asks is =
-    subst (λ (a : Asked). is_some (sub_access board key a).board.store ≡ is_some board.store) (sym is)
+    subst (λ (a : RequestValue80). is_some (sub_access board key a).board.store ≡ is_some board.store) (sym is)
     (has-same (is_psg80 at) (with_psg board key value) _ (is_some board.store) refl (has-same (is_fm at) (with_fm board key at value) board (is_some board.store) refl refl))
 byte-access (requests80.Yield parcel) board key access asks is = absurd access
 byte-access requests80.Take board key access asks is = absurd access
 
 -- the Z80's access, by its stage
-abbrev after_access : Stage → List ℕ → State80 → Told → State80
+abbrev after_access : Stage → List ℕ → State80 → AnswerValue80 → State80
 after_access stage cart state told = answered_at stage cart (record state { store = kept_at stage state.store }) told
 
 access-owns : (stage : Stage) (chip : Chip80Value) (board : Board) (key : Key) → stage ≡ chip.state.stage → is_sample stage ≡ false → IsChip80 chip → Owns chip.state board
@@ -354,31 +354,31 @@ move-owns z ok owns =
     five-each (λ i. Owns (moved z i).sub.state (moved z i).shared) (main-owns z owns) (sub-owns z ok owns)
     (line-owns z owns) (fm-owns z owns) (psg-owns z owns)
 
--- the Z80 of a sound machine is sound
-sub-sound : (m : Machine Chip Board) → IsSound five IsChip IsBoard m → IsChip80 (console m).sub
+-- the Z80 of a valid machine is valid
+sub-valid : (m : Machine Chip Board) → IsValid five IsChip IsBoard m → IsChip80 (console m).sub
 unfolding console
-sub-sound m sound =
-    let k = kind1 (m.chip 1) (sound.number 1 (lit< tt)) in
-    let own : IsChip (Sub k.0) = subst IsChip k.1 (sound.chip 1 (lit< tt)) in
+sub-valid m valid =
+    let k = kind1 (m.chip 1) (valid.number 1 (lit< tt)) in
+    let own : IsChip (Sub k.0) = subst IsChip k.1 (valid.chip 1 (lit< tt)) in
     subst (λ (c : Chip). IsChip80 (sub_of c).chip) (sym k.1) own
 
 -- a run
-owns-ran : (m : Machine Chip Board) (n : ℕ) → SoundTo m n → Movers → Owns (console m).sub.state (console m).shared
+owns-ran : (m : Machine Chip Board) (n : ℕ) → ValidTo m n → Movers → Owns (console m).sub.state (console m).shared
     → Owns (ran (console m) n).sub.state (ran (console m) n).shared
 unfolding ran
-owns-ran m zero sound movers first = first
-owns-ran m (suc n) sound movers first =
-    let sound' : SoundTo m n = λ k below. sound k (omega arith) in
-    let same : console (run five m n) ≡ ran (console m) n = ran-same m n sound' movers in
-    let ok : IsChip80 (ran (console m) n).sub = subst (λ (z : Console). IsChip80 z.sub) same (sub-sound (run five m n) (sound n (omega arith))) in
-    move-owns (ran (console m) n) ok (owns-ran m n sound' movers first) (mover (ran (console m) n)) (mover-lt (ran (console m) n))
+owns-ran m zero valid movers first = first
+owns-ran m (suc n) valid movers first =
+    let valid' : ValidTo m n = λ k below. valid k (omega arith) in
+    let same : console (run five m n) ≡ ran (console m) n = ran-same m n valid' movers in
+    let ok : IsChip80 (ran (console m) n).sub = subst (λ (z : Console). IsChip80 z.sub) same (sub-valid (run five m n) (valid n (omega arith))) in
+    move-owns (ran (console m) n) ok (owns-ran m n valid' movers first) (mover (ran (console m) n)) (mover-lt (ran (console m) n))
 
 -- at power-on the Z80 has them
-pub one-owner : (m : Machine Chip Board) (cart : List ℕ) (recording : List Frame) (n : ℕ) → console m ≡ power_on cart recording → SoundTo m n → Movers
+pub one-owner : (m : Machine Chip Board) (cart : List ℕ) (recording : List Frame) (n : ℕ) → console m ≡ power_on cart recording → ValidTo m n → Movers
     → HasOneOwner (ran (power_on cart recording) n)
 unfolding states80.power_on
-one-owner m cart recording n is sound movers =
+one-owner m cart recording n is valid movers =
     let first : Owns (power_on cart recording).sub.state (power_on cart recording).shared = record { one = refl; taking = λ take. absurd (clash (sym take)) } in
     let run_owns : Owns (ran (console m) n).sub.state (ran (console m) n).shared =
-    owns-ran m n sound movers (subst (λ (z : Console). Owns z.sub.state z.shared) (sym is) first) in
+    owns-ran m n valid movers (subst (λ (z : Console). Owns z.sub.state z.shared) (sym is) first) in
     ap (λ (z : Console). is_some (ran z n).sub.state.store) (sym is) ∙ run_owns.one ∙ ap (λ (z : Console). not (is_some (ran z n).shared.store)) is

@@ -1,44 +1,44 @@
 -- No event of a run stands before the first one.
 use Rattle.std.proofs.Common.{◌≡◌, ℕ, ◌+◌, ◌*◌, ◌<◌, ◌≤◌, ◌^◌, sym, ap, ◌∙◌, subst, arith}
 use Rattle.md_word.specs.declared.key.Key.{Key}
-use Rattle.chip_core.specs.Machines.{IsSound, Machine, key_of, made, run}
+use Rattle.chip_core.specs.Machines.{IsValid, Machine, key_of, made, run}
 use Rattle.chip_core.specs.Machines as machines
 use Rattle.bus_shared.specs.Board.{Board, IsBoard}
 use Rattle.md_machine.specs.Console as consoles
 use Rattle.md_machine.specs.Console.{Console, IsQuiet, key_in, mover, ran}
 use Rattle.md_machine.specs.Refinement.{console}
 use Rattle.md_machine.specs.Rules.{IsChip, five}
-use Rattle.md_machine.specs.SoundParts.{HasSoundParts}
+use Rattle.md_machine.specs.ValidParts.{HasValidParts}
 use Rattle.md_machine.specs.declared.chips.Chip.{Chip}
-use Rattle.md_machine.proofs.Lifts.{Movers, SoundTo, ran-same}
+use Rattle.md_machine.proofs.Lifts.{Movers, ValidTo, ran-same}
 use Rattle.md_machine.proofs.Moves.{key-same}
 use Rattle.md_machine.proofs.Segments.{below-lift}
-use Rattle.md_machine.proofs.SoundParts.{Stages, console_again, machine_in, sound_in}
+use Rattle.md_machine.proofs.ValidParts.{Stages, console_again, machine_in, valid_in}
 
 -- a chip's key rises by a gap at each of its moves
 abbrev pub Spread : Type 0
-Spread = (m : Machine Chip Board) (t n i : ℕ) → t ≤ 2 ^ 50 → IsSound five IsChip IsBoard m → machines.AllBelow five m t n → i < five.count
+Spread = (m : Machine Chip Board) (t n i : ℕ) → t ≤ 2 ^ 50 → IsValid five IsChip IsBoard m → machines.AllBelow five m t n → i < five.count
     → (key_of five m i).cycle + made five m i n * five.gap i ≤ (key_of five (run five m n) i).cycle
 
--- the keys of a sound machine rise over a run
-pub keys-rise : Stages → Movers → Spread → (m : Console) (end n i : ℕ) → end ≤ 2 ^ 50 → HasSoundParts m → consoles.AllBelow m end n → i < 5
+-- the keys of a valid machine rise over a run
+pub keys-rise : Stages → Movers → Spread → (m : Console) (end n i : ℕ) → end ≤ 2 ^ 50 → HasValidParts m → consoles.AllBelow m end n → i < 5
     → (key_in m i).cycle ≤ (key_in (ran m n) i).cycle
 keys-rise stages movers spread m end n i small has below less =
     let first : Machine Chip Board = machine_in m in
-    let sound : IsSound five IsChip IsBoard first = sound_in m has in
+    let valid : IsValid five IsChip IsBoard first = valid_in m has in
     let own : consoles.AllBelow (console first) end n = subst (λ (z : Console). consoles.AllBelow z end n) (sym (console_again m)) below in
-    let lower : machines.AllBelow five first end n = below-lift first end n (λ k earlier. stages first end k small sound earlier) movers own in
-    let to : SoundTo first n = λ k within. stages first end k small sound (record { each = λ j earlier. lower.each j (omega arith) }) in
-    let rise = spread first end n i small sound lower less in
-    let start : key_of five first i ≡ key_in m i = key-same first sound i less ∙ ap (λ (z : Console). key_in z i) (console_again m) in
+    let lower : machines.AllBelow five first end n = below-lift first end n (λ k earlier. stages first end k small valid earlier) movers own in
+    let to : ValidTo first n = λ k within. stages first end k small valid (record { each = λ j earlier. lower.each j (omega arith) }) in
+    let rise = spread first end n i small valid lower less in
+    let start : key_of five first i ≡ key_in m i = key-same first valid i less ∙ ap (λ (z : Console). key_in z i) (console_again m) in
     let last : key_of five (run five first n) i ≡ key_in (ran m n) i =
-    key-same (run five first n) (stages first end n small sound lower) i less
+    key-same (run five first n) (stages first end n small valid lower) i less
     ∙ ap (λ (z : Console). key_in z i) (ran-same first n to movers ∙ ap (λ (z : Console). ran z n) (console_again m)) in
     let more : (key_of five first i).cycle ≤ (key_of five (run five first n) i).cycle = omega (arith, rise) in
     subst (λ (k : Key). k.cycle ≤ (key_in (ran m n) i).cycle) start (subst (λ (k : Key). (key_of five first i).cycle ≤ k.cycle) last more)
 
 -- so what is quiet before a cycle stays so
-pub quiet-stays : Stages → Movers → Spread → (m : Console) (at end n : ℕ) → end ≤ 2 ^ 50 → HasSoundParts m → IsQuiet at m → consoles.AllBelow m end n
+pub quiet-stays : Stages → Movers → Spread → (m : Console) (at end n : ℕ) → end ≤ 2 ^ 50 → HasValidParts m → IsQuiet at m → consoles.AllBelow m end n
     → IsQuiet at (ran m n)
 quiet-stays stages movers spread m at end n small has quiet below = λ i less.
     let rise = keys-rise stages movers spread m end n i small has below less in

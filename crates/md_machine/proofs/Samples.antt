@@ -5,7 +5,7 @@ use Rattle.std.proofs.lemmas.Bool.Decides.{nat_tests}
 use Rattle.std.proofs.Common.{length-append}
 use Rattle.std.proofs.lemmas.List.{append-nil}
 use Rattle.chip_core.specs.Machines as machines
-use Rattle.chip_core.specs.Machines.{IsSound, Machine, is_sample, made, move, put, run}
+use Rattle.chip_core.specs.Machines.{IsValid, Machine, is_sample, made, move, put, run}
 use Rattle.fm_chip.specs.Batches as fm_batches
 use Rattle.fm_chip.specs.Port as fm_ports
 use Rattle.psg_sound.specs.Batches.{samples}
@@ -22,7 +22,7 @@ use Rattle.md_machine.specs.Rules.{IsChip, advance, five, kept, next, perform}
 use Rattle.md_machine.specs.declared.chips.Chip.{Chip}
 use Rattle.md_machine.specs.declared.chips.Chip.TheVariants.{Fm, Psg}
 use Rattle.md_machine.proofs.Moves.{at-kind, five-each, kind3, kind4, move-access, move-sample}
-use Rattle.md_machine.proofs.Lifts.{Movers, SoundTo, mover-same, ran-same}
+use Rattle.md_machine.proofs.Lifts.{Movers, ValidTo, mover-same, ran-same}
 
 -- the samples of one sound chip among those of both: its number, and how a move adds to what it keeps
 pub record Part (A : Type 0) : Type 0 where
@@ -30,7 +30,7 @@ pub record Part (A : Type 0) : Type 0 where
   pub none : of no_media ≡ []
   pub more : (first second : Media) → of (joined first second) ≡ of first ++ of second
   pub number : ℕ
-  pub grows : (m : Machine Chip Board) → IsSound five IsChip IsBoard m → (i : ℕ) → i < 5 → (i ≡ number → length (of (kept_in m)) ≤ 880) → of (kept_in (move five m i)) ≡ of (kept_in m) ++ of (rendered (console m) i)
+  pub grows : (m : Machine Chip Board) → IsValid five IsChip IsBoard m → (i : ℕ) → i < 5 → (i ≡ number → length (of (kept_in m)) ≤ 880) → of (kept_in (move five m i)) ≡ of (kept_in m) ++ of (rendered (console m) i)
   pub long : (z : Console) (i : ℕ) → i < 5 → length (of (rendered z i)) ≡ 16 * cond (i == number) 1 0
 
 is_room : (n limit : ℕ) → n ≤ limit → nat_le n limit ≡ true
@@ -69,10 +69,10 @@ psg-kept m v is room =
     (m.chip 4) (Psg v) is (kept-all v.samples batch room')
 
 -- a move keeps the sums that it makes, and the levels
-pub sides-grow : (m : Machine Chip Board) → IsSound five IsChip IsBoard m → (i : ℕ) → i < 5 → (i ≡ 3 → length (kept_in m).sides ≤ 880) → (kept_in (move five m i)).sides ≡ (kept_in m).sides ++ (rendered (console m) i).sides
+pub sides-grow : (m : Machine Chip Board) → IsValid five IsChip IsBoard m → (i : ℕ) → i < 5 → (i ≡ 3 → length (kept_in m).sides ≤ 880) → (kept_in (move five m i)).sides ≡ (kept_in m).sides ++ (rendered (console m) i).sides
 unfolding rendered
-sides-grow m sound =
-    let k3 = kind3 (m.chip 3) (sound.number 3 (lit< tt)) in
+sides-grow m valid =
+    let k3 = kind3 (m.chip 3) (valid.number 3 (lit< tt)) in
     let other : (i : ℕ) → (3 == i) ≡ false → (kept_in (move five m i)).sides ≡ (kept_in m).sides =
     λ i away. ap (λ (c : Chip). (fm_of c).samples) (other_by (is_sample five m i) m i 3 refl away) in
     five-each (λ i. (i ≡ 3 → length (kept_in m).sides ≤ 880) → (kept_in (move five m i)).sides ≡ (kept_in m).sides ++ (rendered (console m) i).sides)
@@ -82,10 +82,10 @@ sides-grow m sound =
     (λ room. fm-kept m k3.0 k3.1 (room refl))
     (λ room. other 4 refl ∙ sym (append-nil (kept_in m).sides))
 
-pub levels-grow : (m : Machine Chip Board) → IsSound five IsChip IsBoard m → (i : ℕ) → i < 5 → (i ≡ 4 → length (kept_in m).levels ≤ 880) → (kept_in (move five m i)).levels ≡ (kept_in m).levels ++ (rendered (console m) i).levels
+pub levels-grow : (m : Machine Chip Board) → IsValid five IsChip IsBoard m → (i : ℕ) → i < 5 → (i ≡ 4 → length (kept_in m).levels ≤ 880) → (kept_in (move five m i)).levels ≡ (kept_in m).levels ++ (rendered (console m) i).levels
 unfolding rendered
-levels-grow m sound =
-    let k4 = kind4 (m.chip 4) (sound.number 4 (lit< tt)) in
+levels-grow m valid =
+    let k4 = kind4 (m.chip 4) (valid.number 4 (lit< tt)) in
     let other : (i : ℕ) → (4 == i) ≡ false → (kept_in (move five m i)).levels ≡ (kept_in m).levels =
     λ i away. ap (λ (c : Chip). (psg_of c).samples) (other_by (is_sample five m i) m i 4 refl away) in
     five-each (λ i. (i ≡ 4 → length (kept_in m).levels ≤ 880) → (kept_in (move five m i)).levels ≡ (kept_in m).levels ++ (rendered (console m) i).levels)
@@ -136,11 +136,11 @@ pub record KeepsMore {A : Type 0} (p : Part A) (z : Machine Chip Board) (i : ℕ
   pub samples_are : p.of (kept_in (move five z i)) ≡ old ++ p.of (rendered (console z) i)
   pub long : length (p.of (kept_in (move five z i))) ≡ 16 * (count + cond (i == p.number) 1 0)
 
-keeps-more : {A : Type 0} (p : Part A) (z : Machine Chip Board) (i : ℕ) (old : List A) (count : ℕ) → IsSound five IsChip IsBoard z → i < 5
+keeps-more : {A : Type 0} (p : Part A) (z : Machine Chip Board) (i : ℕ) (old : List A) (count : ℕ) → IsValid five IsChip IsBoard z → i < 5
     → p.of (kept_in z) ≡ old → length (p.of (kept_in z)) ≡ 16 * count → count + cond (i == p.number) 1 0 ≤ 56 → KeepsMore p z i old count
-keeps-more p z i old count sound below is long few =
+keeps-more p z i old count valid below is long few =
     let moved : p.of (kept_in (move five z i)) ≡ p.of (kept_in z) ++ p.of (rendered (console z) i) =
-    p.grows z sound i below (λ same. subst (λ (n : ℕ). n ≤ 880) (sym long) (has_room p.number i count few (own p.number) same)) in
+    p.grows z valid i below (λ same. subst (λ (n : ℕ). n ≤ 880) (sym long) (has_room p.number i count few (own p.number) same)) in
     record {
       samples_are = moved ∙ ap (λ l. l ++ p.of (rendered (console z) i)) is;
       long = ap length moved ∙ length-append (p.of (kept_in z)) (p.of (rendered (console z) i)) ∙ sum_long (length (p.of (kept_in z))) (length (p.of (rendered (console z) i))) count (cond (i == p.number) 1 0) long (p.long (console z) i below);
@@ -151,19 +151,19 @@ pub record KeepsAll {A : Type 0} (p : Part A) (m : Machine Chip Board) (n : ℕ)
   pub samples_are : p.of (kept_in (run five m n)) ≡ p.of (media (console m) n)
   pub long : length (p.of (kept_in (run five m n))) ≡ 16 * made five m p.number n
 
-pub samples-kept : {A : Type 0} (p : Part A) (m : Machine Chip Board) (n : ℕ) → SoundTo m n → Movers → p.of (kept_in m) ≡ [] → made five m p.number n ≤ 56 → KeepsAll p m n
+pub samples-kept : {A : Type 0} (p : Part A) (m : Machine Chip Board) (n : ℕ) → ValidTo m n → Movers → p.of (kept_in m) ≡ [] → made five m p.number n ≤ 56 → KeepsAll p m n
 unfolding run media made
-samples-kept p m zero sound movers none few = record { samples_are = none ∙ sym p.none; long = ap length none }
-samples-kept p m (suc n) sound movers none few =
-    let stage : IsSound five IsChip IsBoard (run five m n) = sound n (omega arith) in
-    let sound' : SoundTo m n = λ k below. sound k (omega arith) in
+samples-kept p m zero valid movers none few = record { samples_are = none ∙ sym p.none; long = ap length none }
+samples-kept p m (suc n) valid movers none few =
+    let stage : IsValid five IsChip IsBoard (run five m n) = valid n (omega arith) in
+    let valid' : ValidTo m n = λ k below. valid k (omega arith) in
     let i : ℕ = machines.mover five (run five m n) in
-    let rest : KeepsAll p m n = samples-kept p m n sound' movers none (fewer (made five m p.number n) (cond (i == p.number) 1 0) few) in
+    let rest : KeepsAll p m n = samples-kept p m n valid' movers none (fewer (made five m p.number n) (cond (i == p.number) 1 0) few) in
     let more : KeepsMore p (run five m n) i (p.of (media (console m) n)) (made five m p.number n) =
     keeps-more p (run five m n) i (p.of (media (console m) n)) (made five m p.number n) stage (movers (run five m n)) rest.samples_are rest.long few in
     let same : rendered (console (run five m n)) i ≡ rendered (ran (console m) n) (mover (ran (console m) n)) =
     ap (λ (j : ℕ). rendered (console (run five m n)) j) (mover-same (run five m n) stage)
-    ∙ ap (λ (z : Console). rendered z (mover z)) (ran-same m n sound' movers) in
+    ∙ ap (λ (z : Console). rendered z (mover z)) (ran-same m n valid' movers) in
     record {
       samples_are =
           more.samples_are ∙ ap (λ (s : Media). p.of (media (console m) n) ++ p.of s) same

@@ -5,7 +5,7 @@ use Rattle.md_word.specs.declared.event.Entry.{Entry}
 use Rattle.md_word.specs.declared.key.Key.{Key}
 use Rattle.chip_core.specs.Limits.{all_moves_left, moves_left, moves_within, total}
 use Rattle.chip_core.specs.Machines as machines
-use Rattle.chip_core.specs.Machines.{AllBelow, IsSound, Machine, key_of, made, run}
+use Rattle.chip_core.specs.Machines.{AllBelow, IsValid, Machine, key_of, made, run}
 use Rattle.md_machine.specs.Console as consoles
 use Rattle.md_machine.specs.Console.{Console, key_in, mover, ran}
 use Rattle.md_machine.specs.Lines.{frames_of}
@@ -17,7 +17,7 @@ use Rattle.md_machine.specs.Rules.{IsChip, five}
 use Rattle.md_machine.specs.declared.chips.Chip.{Chip}
 use Rattle.md_machine.proofs.Frames.{frames-kept}
 use Rattle.md_machine.proofs.Moves.{five-each, key-same}
-use Rattle.md_machine.proofs.Lifts.{Movers, SoundTo, journal-same, mover-same, ran-same}
+use Rattle.md_machine.proofs.Lifts.{Movers, ValidTo, journal-same, mover-same, ran-same}
 use Rattle.md_machine.proofs.Samples.{KeepsAll, fm_part, psg_part, samples-kept}
 
 -- how many moves a segment has at most
@@ -52,31 +52,31 @@ console-alike w z shared chips =
     ∙ ap (λ (b : Board). record_of (z.chip 0) (z.chip 1) (z.chip 2) (z.chip 3) (z.chip 4) b) shared
 
 -- the key of a stage's move is the record's
-move_key-same : (m : Machine Chip Board) (k : ℕ) → SoundTo m (suc k) → Movers
+move_key-same : (m : Machine Chip Board) (k : ℕ) → ValidTo m (suc k) → Movers
     → machines.move_key five m k ≡ key_in (ran (console m) k) (mover (ran (console m) k))
-move_key-same m k sound movers =
-    let stage : IsSound five IsChip IsBoard (run five m k) = sound k (omega arith) in
+move_key-same m k valid movers =
+    let stage : IsValid five IsChip IsBoard (run five m k) = valid k (omega arith) in
     key-same (run five m k) stage (machines.mover five (run five m k)) (movers (run five m k))
     ∙ ap (λ (i : ℕ). key_in (console (run five m k)) i) (mover-same (run five m k) stage)
-    ∙ ap (λ (z : Console). key_in z (mover z)) (ran-same m k (λ j below. sound j (omega arith)) movers)
+    ∙ ap (λ (z : Console). key_in z (mover z)) (ran-same m k (λ j below. valid j (omega arith)) movers)
 
 -- a run of the five chips over a segment, from a machine that keeps no frame and no samples, is the
 -- record's, with its entries, frame and samples
 pub segment-run : (m w : Machine Chip Board) (from to : ℕ) (entered : List Entry) → machines.IsRunTo five m to w entered
-    → ((n : ℕ) → AllBelow five m to n → IsSound five IsChip IsBoard (run five m n)) → Movers → IsSound five IsChip IsBoard w
+    → ((n : ℕ) → AllBelow five m to n → IsValid five IsChip IsBoard (run five m n)) → Movers → IsValid five IsChip IsBoard w
     → ((n : ℕ) → AllBelow five m to n → made five m 3 n ≤ 56) → ((n : ℕ) → AllBelow five m to n → made five m 4 n ≤ 56) → kept_in m ≡ no_media
-    → IsSound five IsChip IsBoard m → machines.IsQuiet five m from → to ≤ from + 896040 → consoles.IsRunTo (console m) to (console w) entered (kept_in w)
+    → IsValid five IsChip IsBoard m → machines.IsQuiet five m from → to ≤ from + 896040 → consoles.IsRunTo (console m) to (console w) entered (kept_in w)
 unfolding fm_part psg_part
-segment-run m w from to entered runs sound movers sound-w few_fm few none here quiet near =
+segment-run m w from to entered runs valid movers valid-w few_fm few none here quiet near =
     let earlier : (k : ℕ) → k ≤ runs.moves → AllBelow five m to k = λ k within. record { each = λ j below. runs.below.each j (omega arith) } in
-    let stages : SoundTo m runs.moves = λ k below. sound k (earlier k (omega arith)) in
+    let stages : ValidTo m runs.moves = λ k below. valid k (earlier k (omega arith)) in
     let sides : KeepsAll fm_part m runs.moves = samples-kept fm_part m runs.moves stages movers (ap (λ (s : Media). s.sides) none) (few_fm runs.moves runs.below) in
     let levels : KeepsAll psg_part m runs.moves = samples-kept psg_part m runs.moves stages movers (ap (λ (s : Media). s.levels) none) (few runs.moves runs.below) in
     let frames = frames-kept m from to runs.moves stages here movers (ap (λ (s : Media). s.frames) none) quiet near runs.below in
     record {
       moves = runs.moves;
       below = λ k below. subst (λ (key : Key). key.cycle < to) (move_key-same m k (λ j within. stages j (omega arith)) movers) (runs.below.each k below);
-      quiet = λ i below. subst (λ (key : Key). to ≤ key.cycle) (key-same w sound-w i below) (runs.quiet i below);
+      quiet = λ i below. subst (λ (key : Key). to ≤ key.cycle) (key-same w valid-w i below) (runs.quiet i below);
       console = console-alike w (run five m runs.moves) runs.shared runs.chips ∙ ran-same m runs.moves stages movers;
       entered = runs.journal ∙ journal-same m runs.moves stages movers;
       rendered_to = λ i. record {
@@ -99,12 +99,12 @@ few_entries m from to runs within all near = omega (arith, ap length runs.journa
 below_or_is : (k n : ℕ) → k < suc n → (k < n) ⊎ (k ≡ n)
 below_or_is k n below = grind arith
 
-pub below-lift : (m : Machine Chip Board) (to n : ℕ) → ((k : ℕ) → AllBelow five m to k → IsSound five IsChip IsBoard (run five m k)) → Movers
+pub below-lift : (m : Machine Chip Board) (to n : ℕ) → ((k : ℕ) → AllBelow five m to k → IsValid five IsChip IsBoard (run five m k)) → Movers
     → consoles.AllBelow (console m) to n → AllBelow five m to n
-below-lift m to zero sound movers below = record { each = λ k within. absurd (omega arith) }
-below-lift m to (suc n) sound movers below =
-    let earlier : AllBelow five m to n = below-lift m to n sound movers (λ k within. below k (omega arith)) in
-    let stages : SoundTo m (suc n) = λ k within. sound k (record { each = λ j lower. earlier.each j (omega arith) }) in
+below-lift m to zero valid movers below = record { each = λ k within. absurd (omega arith) }
+below-lift m to (suc n) valid movers below =
+    let earlier : AllBelow five m to n = below-lift m to n valid movers (λ k within. below k (omega arith)) in
+    let stages : ValidTo m (suc n) = λ k within. valid k (record { each = λ j lower. earlier.each j (omega arith) }) in
     let last : (machines.move_key five m n).cycle < to = subst (λ (key : Key). key.cycle < to) (sym (move_key-same m n stages movers)) (below n (omega arith)) in
     record {
       each = λ k within. elim (below_or_is k n within) [

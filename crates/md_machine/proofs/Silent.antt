@@ -13,48 +13,48 @@ use Rattle.bus_shared.specs.Board.{Board, IsBoard}
 use Rattle.md_machine.specs.Refinement.{console, draw_of, fm_of, psg_of, record_of}
 use Rattle.md_machine.specs.Rules.{IsChip, five, next}
 use Rattle.md_machine.specs.declared.chips.Chip.{Chip}
-use Rattle.md_machine.specs.declared.chips.Chip.TheVariants.{Main, Sub, Line, Fm, Psg}
+use Rattle.md_machine.specs.declared.chips.Chip.TheVariants.{Main, Sub, Draw, Fm, Psg}
 use Rattle.md_machine.proofs.Segments.{console-alike}
 
 silent-draw : (c0 c1 c c3 c4 : Chip) (b : Board) → record_of c0 c1 (silent c) c3 c4 b ≡ record_of c0 c1 c c3 c4 b
 silent-draw c0 c1 (Main c) c3 c4 b = refl
 silent-draw c0 c1 (Sub c) c3 c4 b = refl
-silent-draw c0 c1 (Line c) c3 c4 b = refl
+silent-draw c0 c1 (Draw c) c3 c4 b = refl
 silent-draw c0 c1 (Fm c) c3 c4 b = refl
 silent-draw c0 c1 (Psg c) c3 c4 b = refl
 
 silent-fm : (c0 c1 c2 c d : Chip) (b : Board) → record_of c0 c1 c2 (silent c) d b ≡ record_of c0 c1 c2 c d b
 silent-fm c0 c1 c2 (Main c) d b = refl
 silent-fm c0 c1 c2 (Sub c) d b = refl
-silent-fm c0 c1 c2 (Line c) d b = refl
+silent-fm c0 c1 c2 (Draw c) d b = refl
 silent-fm c0 c1 c2 (Fm c) d b = refl
 silent-fm c0 c1 c2 (Psg c) d b = refl
 
 silent-psg : (c0 c1 c2 c3 c : Chip) (b : Board) → record_of c0 c1 c2 c3 (silent c) b ≡ record_of c0 c1 c2 c3 c b
 silent-psg c0 c1 c2 c3 (Main c) b = refl
 silent-psg c0 c1 c2 c3 (Sub c) b = refl
-silent-psg c0 c1 c2 c3 (Line c) b = refl
+silent-psg c0 c1 c2 c3 (Draw c) b = refl
 silent-psg c0 c1 c2 c3 (Fm c) b = refl
 silent-psg c0 c1 c2 c3 (Psg c) b = refl
 
 silent-frame : (c : Chip) → frames_of (draw_of (silent c)).chip.frame ≡ []
 silent-frame (Main c) = refl
 silent-frame (Sub c) = refl
-silent-frame (Line c) = refl
+silent-frame (Draw c) = refl
 silent-frame (Fm c) = refl
 silent-frame (Psg c) = refl
 
 silent-sides : (c : Chip) → (fm_of (silent c)).samples ≡ []
 silent-sides (Main c) = refl
 silent-sides (Sub c) = refl
-silent-sides (Line c) = refl
+silent-sides (Draw c) = refl
 silent-sides (Fm c) = refl
 silent-sides (Psg c) = refl
 
 silent-levels : (c : Chip) → (psg_of (silent c)).samples ≡ []
 silent-levels (Main c) = refl
 silent-levels (Sub c) = refl
-silent-levels (Line c) = refl
+silent-levels (Draw c) = refl
 silent-levels (Fm c) = refl
 silent-levels (Psg c) = refl
 
@@ -138,14 +138,14 @@ drained-psg at v x long is =
 silent-key : (c : Chip) → (next (silent c)).key ≡ (next c).key
 silent-key (Main c) = refl
 silent-key (Sub c) = refl
-silent-key (Line c) = refl
+silent-key (Draw c) = refl
 silent-key (Fm c) = refl
 silent-key (Psg c) = refl
 
 silent-ok : (c : Chip) → IsChip c → IsChip (silent c)
 silent-ok (Main c) ok = ok
 silent-ok (Sub c) ok = ok
-silent-ok (Line c) ok = record { chip = record { picture = ok.chip.picture; frame = tt; at_line = ok.chip.at_line; undrawn = ok.chip.undrawn }; view = ok.view }
+silent-ok (Draw c) ok = record { chip = record { picture = ok.chip.picture; frame = tt; at_line = ok.chip.at_line; undrawn = ok.chip.undrawn }; view = ok.view }
 silent-ok (Fm c) ok = record { taken = ok.taken; samples = lit≤ tt }
 silent-ok (Psg c) ok = record { synth = ok.synth; taken = ok.taken; samples = lit≤ tt }
 
@@ -165,11 +165,11 @@ quiet-silenced : (v : CoreValue Chip Board) (at j : ℕ) → j < 5 → length v.
 quiet-silenced v at j below long quiet i within = subst (λ (k : Key). at ≤ k.cycle) (sym (key-silenced (i == j) v j i below long refl)) (quiet i within)
 
 pub machine-silenced : (v w : CoreValue Chip Board) (at j : ℕ) → j < 5 → IsMachine at (Some v) → w ≡ silenced v j → IsCore five IsChip IsBoard w → IsMachine at (Some w)
-machine-silenced v w at j below has is sound = record {
+machine-silenced v w at j below has is valid = record {
   has_core = refl;
-  sound = sound;
+  valid = valid;
   room = subst (λ (u : CoreValue Chip Board). 52500 ≤ u.room) (sym is) has.room;
-  quiet = subst (λ (u : CoreValue Chip Board). IsQuiet five (machine_of five u) at) (sym is) (quiet-silenced v at j below has.sound.shape.chip_count has.quiet);
+  quiet = subst (λ (u : CoreValue Chip Board). IsQuiet five (machine_of five u) at) (sym is) (quiet-silenced v at j below has.valid.shape.chip_count has.quiet);
 }
 
 -- a machine whose core was made silent at a place

@@ -64,7 +64,7 @@ first-machine cart recording board chips bounds entries room b c k e ample image
     (subst (λ z. IsMachine 0 (Some (core_in (boards.power_on recording) (first_chips cart) first_bounds z room))) (sym e)
     (record {
       has_core = refl;
-      sound = first-core cart recording room image;
+      valid = first-core cart recording room image;
       room = ample;
       quiet = first-quiet cart recording room;
     }))))

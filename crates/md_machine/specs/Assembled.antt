@@ -2,8 +2,8 @@
 use Rattle.std.specs.Prelude.{ℕ, List, [], ◌∷◌, None}
 use Rattle.md_word.specs.declared.key.Key.{Key}
 use Rattle.chip_core.specs.Cores.{key_in}
-use Rattle.m68k_chip.specs.Sound.{Chip68Value}
-use Rattle.z80_chip.specs.Sound.{Chip80Value}
+use Rattle.m68k_chip.specs.Validity.{Chip68Value}
+use Rattle.z80_chip.specs.Validity.{Chip80Value}
 use Rattle.vdp_chip.specs.Drawing.{Drawing}
 use Rattle.fm_chip.specs.Synth as fm_synths
 use Rattle.psg_sound.specs.Synth.{Synth}
@@ -12,7 +12,7 @@ use Rattle.md_machine.specs.Console.{Console}
 use Rattle.md_machine.specs.Rules.{five}
 use Rattle.md_machine.specs.Starts.{first_batch}
 use Rattle.md_machine.specs.declared.chips.Chip.{Chip}
-use Rattle.md_machine.specs.declared.chips.Chip.TheVariants.{Main, Sub, Line, Fm, Psg}
+use Rattle.md_machine.specs.declared.chips.Chip.TheVariants.{Main, Sub, Draw, Fm, Psg}
 
 -- the parts of a machine, at a cycle
 pub record Assembly : Type 0 where
@@ -29,7 +29,7 @@ abbrev pub chips_of : Assembly → List Chip
 chips_of parts =
     Main (record { chip = parts.main; answer = None })
     ∷ Sub (record { chip = parts.sub; answer = None })
-    ∷ Line (record { chip = record parts.draw { frame = None }; view = None })
+    ∷ Draw (record { chip = record parts.draw { frame = None }; view = None })
     ∷ Fm (record { synth = parts.fm; cycle = first_batch parts.at; taken = []; samples = [] })
     ∷ Psg (record { synth = parts.psg; cycle = first_batch parts.at; taken = []; samples = [] })
     ∷ []

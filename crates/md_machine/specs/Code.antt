@@ -15,7 +15,7 @@ use Rattle.z80_decode.specs.declared.interrupt_mode.InterruptMode.{InterruptMode
 use Rattle.z80_decode.specs.declared.interrupt_mode.InterruptMode.TheVariants.{Mode0, Mode1, Mode2}
 use Rattle.z80_exec.specs.declared.regs80.Regs80.{Regs80}
 use Rattle.z80_parcel.specs.Parcels.{Store}
-use Rattle.z80_parcel.specs.Requests.{Told, Byte, Nothing, Returned}
+use Rattle.z80_parcel.specs.Requests.{AnswerValue80, Byte, Nothing, Returned}
 use Rattle.psg_sound.specs.Synth.{Synth}
 use Rattle.psg_sound.specs.declared.divider.Divider.{Divider}
 use Rattle.psg_sound.specs.declared.noise.Noise.{Noise}
@@ -30,7 +30,7 @@ use Rattle.md_machine.specs.VdpCode.{draw_way, vdp_way}
 use Rattle.md_machine.specs.Parts.{DrawValue, FmValue, PsgValue, SubValue}
 use Rattle.md_machine.specs.declared.main_chip.MainChip.{MainChip}
 use Rattle.md_machine.specs.declared.chips.Chip.{Chip}
-use Rattle.md_machine.specs.declared.chips.Chip.TheVariants.{Main, Sub, Line, Fm, Psg}
+use Rattle.md_machine.specs.declared.chips.Chip.TheVariants.{Main, Sub, Draw, Fm, Psg}
 
 -- the way of the 68000's registers
 abbrev pub regs_way : Way Regs
@@ -237,29 +237,29 @@ state80_way =
     (λ s. refl)
 
 -- what the Z80 is told as a sum
-abbrev pub told_sum : Told → ℕ ⊎ (Option Store)
+abbrev pub told_sum : AnswerValue80 → ℕ ⊎ (Option Store)
 told_sum (Byte value) = inl value
 told_sum Nothing = inr None
 told_sum (Returned store) = inr (Some store)
 
 -- nothing is told, or RAM and bank register that come back
-abbrev pub told_back : Option Store → Told
+abbrev pub told_back : Option Store → AnswerValue80
 told_back None = Nothing
 told_back (Some store) = Returned store
 
 -- what the Z80 is told, from its sum
-abbrev pub told_of : ℕ ⊎ (Option Store) → Told
+abbrev pub told_of : ℕ ⊎ (Option Store) → AnswerValue80
 told_of (inl value) = Byte value
 told_of (inr store) = told_back store
 
 -- what the Z80 is told by its sum
-pub told_same : (t : Told) → told_of (told_sum t) ≡ t
+pub told_same : (t : AnswerValue80) → told_of (told_sum t) ≡ t
 told_same (Byte value) = refl
 told_same Nothing = refl
 told_same (Returned store) = refl
 
 -- the way of what the Z80 is told
-abbrev pub told_way : Way Told
+abbrev pub told_way : Way AnswerValue80
 told_way = by_way (either number (maybe store_way)) told_sum told_of told_same
 
 -- the way of the Z80 with its cartridge and the answer that it keeps
@@ -276,7 +276,7 @@ Sum = MainChip ⊎ (SubValue ⊎ (DrawValue ⊎ (FmValue ⊎ PsgValue)))
 abbrev pub sum_of : Chip → Sum
 sum_of (Main c) = inl c
 sum_of (Sub c) = inr (inl c)
-sum_of (Line c) = inr (inr (inl c))
+sum_of (Draw c) = inr (inr (inl c))
 sum_of (Fm c) = inr (inr (inr (inl c)))
 sum_of (Psg c) = inr (inr (inr (inr c)))
 
@@ -287,7 +287,7 @@ late_of (inr c) = Psg c
 
 -- the chip of a sum, from the lines on
 abbrev pub middle_of : DrawValue ⊎ (FmValue ⊎ PsgValue) → Chip
-middle_of (inl c) = Line c
+middle_of (inl c) = Draw c
 middle_of (inr c) = late_of c
 
 -- the chip of a sum, from the Z80 on
@@ -304,7 +304,7 @@ chip_of (inr c) = early_of c
 pub chip_same : (c : Chip) → chip_of (sum_of c) ≡ c
 chip_same (Main c) = refl
 chip_same (Sub c) = refl
-chip_same (Line c) = refl
+chip_same (Draw c) = refl
 chip_same (Fm c) = refl
 chip_same (Psg c) = refl
 

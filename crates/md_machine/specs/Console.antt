@@ -10,7 +10,7 @@ use Rattle.m68k_chip.specs.States as states
 use Rattle.z80_chip.specs.Events as events80
 use Rattle.z80_chip.specs.Events.{asked_of, handed}
 use Rattle.z80_chip.specs.States as states80
-use Rattle.z80_chip.specs.Sound.{Chip80Value}
+use Rattle.z80_chip.specs.Validity.{Chip80Value}
 use Rattle.z80_chip.specs.States.{next_of as sub_next_of}
 use Rattle.fm_chip.specs.Batches as fm_batches
 use Rattle.fm_chip.specs.Port as fm_ports

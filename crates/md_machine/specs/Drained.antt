@@ -5,7 +5,7 @@ use Rattle.bus_shared.specs.Board.{Board}
 use Rattle.md_machine.specs.Refinement.{draw_of, fm_of, psg_of}
 use Rattle.md_machine.specs.Rules.{five}
 use Rattle.md_machine.specs.declared.chips.Chip.{Chip}
-use Rattle.md_machine.specs.declared.chips.Chip.TheVariants.{Main, Sub, Line, Fm, Psg}
+use Rattle.md_machine.specs.declared.chips.Chip.TheVariants.{Main, Sub, Draw, Fm, Psg}
 
 -- the frame that the drawing half keeps; of another chip none
 abbrev pub frame_of : Chip → Option (List ℕ)
@@ -23,7 +23,7 @@ levels_of c = (psg_of c).samples
 abbrev pub silent : Chip → Chip
 silent (Main c) = Main c
 silent (Sub c) = Sub c
-silent (Line c) = Line (record c { chip = record c.chip { frame = None } })
+silent (Draw c) = Draw (record c { chip = record c.chip { frame = None } })
 silent (Fm c) = Fm (record c { samples = [] })
 silent (Psg c) = Psg (record c { samples = [] })
 

@@ -7,13 +7,13 @@ use Rattle.vdp_chip.specs.Drawing as drawings
 use Rattle.fm_chip.specs.Synth as fm_synths
 use Rattle.psg_sound.specs.Synth.{at_power_on}
 use Rattle.md_machine.specs.declared.chips.Chip.{Chip}
-use Rattle.md_machine.specs.declared.chips.Chip.TheVariants.{Main, Sub, Line, Fm, Psg}
+use Rattle.md_machine.specs.declared.chips.Chip.TheVariants.{Main, Sub, Draw, Fm, Psg}
 
 -- the five chips at power-on
 abbrev pub first_chips : List ℕ → List Chip
 first_chips cart =
     Main (record { chip = record { cart = cart; state = power_on cart }; answer = None })
-    ∷ Sub (record { chip = record { cart = cart; state = states80.power_on }; answer = None }) ∷ Line (record { chip = drawings.at_power_on; view = None })
+    ∷ Sub (record { chip = record { cart = cart; state = states80.power_on }; answer = None }) ∷ Draw (record { chip = drawings.at_power_on; view = None })
     ∷ Fm (record { synth = fm_synths.at_power_on; cycle = 16128; taken = []; samples = [] })
     ∷ Psg (record { synth = at_power_on; cycle = 16128; taken = []; samples = [] }) ∷ []
 

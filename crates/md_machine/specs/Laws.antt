@@ -7,7 +7,7 @@ use Rattle.md_word.specs.declared.key.Key.{Key}
 use Rattle.md_word.specs.declared.main_bus.Request68.{Request68}
 use Rattle.md_word.specs.declared.main_bus.Request68.TheVariants.{Read8, Read16, Write8, Write16, Ack, Word}
 use Rattle.m68k_chip.specs.Events.{request_of}
-use Rattle.m68k_chip.specs.Sound.{Fits, IsStarted}
+use Rattle.m68k_chip.specs.Validity.{Fits, IsStarted}
 use Rattle.md_word.specs.declared.main_bus.Transfer.{Transfer}
 use Rattle.bus_shared.specs.Laws.{IsTransfer, LeavesPins}
 use Rattle.bus_shared.specs.Video.{level_known}
@@ -34,7 +34,7 @@ use Rattle.z80_exec.specs.Sample.Bounds.{IsAccess}
 use Rattle.z80_exec.specs.Sample.Samples.{Ended}
 use Rattle.z80_parcel.specs.Parcels.{IsStore, Store}
 use Rattle.z80_parcel.specs.Requests as fits80
-use Rattle.z80_parcel.specs.Requests.{Asked, ReadByte, WriteByte, HandOver, TakeBack, Told, Byte, Nothing, Returned}
+use Rattle.z80_parcel.specs.Requests.{RequestValue80, ReadByte, WriteByte, HandOver, TakeBack, AnswerValue80, Byte, Nothing, Returned}
 use Rattle.md_machine.specs.Pins.{level_in, pins_by, pins_of, sub_in}
 use Rattle.md_machine.specs.declared.pins.Pins.TheVariants as pins
 use Rattle.md_machine.specs.declared.main_chip.MainChip.{MainChip}
@@ -50,7 +50,7 @@ use Rattle.md_machine.specs.Lines.{drawn_from}
 use Rattle.md_machine.specs.Parts.{DrawValue, FmValue, IsDraw, IsFm, IsPsg, PsgValue, IsSub, SubValue}
 use Rattle.md_machine.specs.Rules.{IsChip, advance, draw_advance, draw_perform, first_of, five, fm_advance, fm_perform, gap, kept, next, perform, psg_advance, psg_perform, sample, sub_advance, sub_perform, view_in, writes}
 use Rattle.md_machine.specs.declared.chips.Chip.{Chip}
-use Rattle.md_machine.specs.declared.chips.Chip.TheVariants.{Main, Sub, Line, Fm, Psg}
+use Rattle.md_machine.specs.declared.chips.Chip.TheVariants.{Main, Sub, Draw, Fm, Psg}
 
 -- a flag is not both
 clash : true ≡ false → ⊥
@@ -71,10 +71,10 @@ answer-fits board key (Write16 at value) ok = record { value = refl; transfer = 
 answer-fits board key (Ack level) ok = record { value = refl; transfer = started (main_transfer board key (Ack level)) ((tells board key ok).transfer (Ack level)); cost = tt }
 answer-fits board key (Word value) ok = record { value = refl; transfer = started (main_transfer board key (Word value)) ((tells board key ok).transfer (Word value)); cost = (tells board key ok).cost value }
 
--- what the Z80 hands over is sound
-handing-sound : (store : Option Store) → IfSome store IsStore → HandsOver (handing store)
-handing-sound None ok = tt
-handing-sound (Some store) ok = ok
+-- what the Z80 hands over is valid
+handing-valid : (store : Option Store) → IfSome store IsStore → HandsOver (handing store)
+handing-valid None ok = tt
+handing-valid (Some store) ok = ok
 
 asked-hands : (r : Result Ended Request80) → ((request : Request80) → r ≡ Err request → IsAccess request) → HandsOver (asked_in r)
 asked-hands (Ok ended) is = tt
@@ -86,22 +86,22 @@ asked-hands (Err requests80.Take) is = tt
 hands-at : (stage : Stage) (cart : List ℕ) (state : State80) → IfSome state.store IsStore → HandsOver (asked_at stage cart state)
 hands-at stages80.Sample cart state ok = tt
 hands-at stages80.Access cart state ok = asked-hands (carried_out cart state state.cause) (bounds80.asks state.cause state.regs _)
-hands-at stages80.Yield cart state ok = handing-sound state.store ok
+hands-at stages80.Yield cart state ok = handing-valid state.store ok
 hands-at stages80.Take cart state ok = tt
 
--- a sound Z80 hands over only RAM and bank register of their sizes
+-- a valid Z80 hands over only RAM and bank register of their sizes
 pub hands-over : (c : SubValue) → IsSub c → HandsOver (asked_of c.chip.cart c.chip.state)
 unfolding asked_of
 hands-over c ok = hands-at c.chip.state.stage c.chip.cart c.chip.state ok.store
 
 -- what fits what it asked for fits once that is handed over
-handed-fits : (store : Option Store) (told : Told) → fits80.Fits (handing store) told → fits80.Fits TakeBack told
+handed-fits : (store : Option Store) (told : AnswerValue80) → fits80.Fits (handing store) told → fits80.Fits TakeBack told
 handed-fits None told fits = fits
 handed-fits (Some store) (Byte value) fits = fits
 handed-fits (Some store) Nothing fits = tt
 handed-fits (Some store) (Returned back) fits = fits
 
-fits-at : (stage : Stage) (cart : List ℕ) (state : State80) (told : Told) → fits80.Fits (asked_at stage cart state) told → fits80.Fits (asked_at stage cart (record state { store = kept_at stage state.store })) told
+fits-at : (stage : Stage) (cart : List ℕ) (state : State80) (told : AnswerValue80) → fits80.Fits (asked_at stage cart state) told → fits80.Fits (asked_at stage cart (record state { store = kept_at stage state.store })) told
 fits-at stages80.Sample cart state told fits = fits
 fits-at stages80.Access cart state told fits = fits
 fits-at stages80.Yield cart state told fits = handed-fits state.store told fits
@@ -152,7 +152,7 @@ taken-key true store s key = refl
 taken-key false None s key = refl
 taken-key false (Some store) s key = refl
 
-sub-key : (s : Board) (key : Key) (request : Asked) → (sub_access s key request).entry.key ≡ key
+sub-key : (s : Board) (key : Key) (request : RequestValue80) → (sub_access s key request).entry.key ≡ key
 unfolding sub_access
 sub-key s key (ReadByte at) = refl
 sub-key s key (WriteByte at value) = refl
@@ -169,7 +169,7 @@ access-next : (c : Chip) (s : Board) (i : ℕ) → IsDue five IsChip IsBoard c s
 unfolding next_of sub_next_of
 access-next (Main c) s i d = record { number = refl; later = answered-later c.chip _ d.chip d.kind (answer-fits s (next_of c.chip.state).key (request_of c.chip.cart c.chip.state) d.shared) }
 access-next (Sub c) s i d = record { number = refl; later = sub-later c s d.chip d.kind }
-access-next (Line c) s i d = record { number = refl; later = omega (arith, drawn-next (view_in (draw_perform c s).chip.view) (record c.chip { has_view = false })) }
+access-next (Draw c) s i d = record { number = refl; later = omega (arith, drawn-next (view_in (draw_perform c s).chip.view) (record c.chip { has_view = false })) }
 access-next (Fm c) s i d = record { number = refl; later = omega arith }
 access-next (Psg c) s i d = record { number = refl; later = omega arith }
 
@@ -177,7 +177,7 @@ sample-next : (c : Chip) (s : Board) (i : ℕ) → IsDue five IsChip IsBoard c s
 unfolding next_of sub_next_of
 sample-next (Main c) s i d = record { number = refl; later = begun-later c.chip (level_in (pins_of s i)) d.chip d.kind }
 sample-next (Sub c) s i d = record { number = refl; later = laws80.begun-later c.chip (sub_in (pins_of s i)) d.chip d.kind }
-sample-next (Line c) s i d = absurd (clash (sym d.kind))
+sample-next (Draw c) s i d = absurd (clash (sym d.kind))
 sample-next (Fm c) s i d = absurd (clash (sym d.kind))
 sample-next (Psg c) s i d = absurd (clash (sym d.kind))
 
@@ -218,14 +218,14 @@ draw-ok c s ok =
 access-chip : (c : Chip) (s : Board) (i : ℕ) → IsDue five IsChip IsBoard c s i false → IsChip (advance (perform c s).chip)
 access-chip (Main c) s i d = answered-ok c.chip _ d.chip d.kind (answer-fits s (next_of c.chip.state).key (request_of c.chip.cart c.chip.state) d.shared)
 access-chip (Sub c) s i d = sub-ok c s d.chip d.shared d.kind
-access-chip (Line c) s i d = draw-ok c s d.chip
+access-chip (Draw c) s i d = draw-ok c s d.chip
 access-chip (Fm c) s i d = fm-ok c s d.chip d.shared
 access-chip (Psg c) s i d = psg-ok c s d.chip d.shared
 
 sample-chip : (c : Chip) (s : Board) (i : ℕ) → IsDue five IsChip IsBoard c s i true → IsChip (sample c (pins_of s i))
 sample-chip (Main c) s i d = begun-ok c.chip (level_in (pins_of s i)) (level-known (i == 1) s) d.chip d.kind
 sample-chip (Sub c) s i d = laws80.begun-ok c.chip (sub_in (pins_of s i)) d.chip d.kind
-sample-chip (Line c) s i d = d.chip
+sample-chip (Draw c) s i d = d.chip
 sample-chip (Fm c) s i d = d.chip
 sample-chip (Psg c) s i d = d.chip
 
@@ -237,7 +237,7 @@ main-low state = lit< tt
 access-shared : (c : Chip) (s : Board) (i : ℕ) → IsDue five IsChip IsBoard c s i false → IsBoard (perform c s).shared
 access-shared (Main c) s i d = main-ok s (next_of c.chip.state).key _ (main-low c.chip.state) d.shared
 access-shared (Sub c) s i d = keeps.sub-ok s (sub_next_of c.chip.state).key _ (sub-low c.chip.state) (hands-over c d.chip) d.shared
-access-shared (Line c) s i d = line-ok s c.chip.next c.chip.note d.shared
+access-shared (Draw c) s i d = line-ok s c.chip.next c.chip.note d.shared
 access-shared (Fm c) s i d = fm_board-ok s c.cycle d.shared
 access-shared (Psg c) s i d = psg_board-ok s c.cycle d.shared
 
@@ -254,7 +254,7 @@ access-entry : (c : Chip) (s : Board) (i : ℕ) → IsDue five IsChip IsBoard c 
 unfolding main_told
 access-entry (Main c) s i d = entry-key (next_of c.chip.state).key (request_of c.chip.cart c.chip.state) _ _
 access-entry (Sub c) s i d = sub-key s (sub_next_of c.chip.state).key (asked_of c.chip.cart c.chip.state)
-access-entry (Line c) s i d = refl
+access-entry (Draw c) s i d = refl
 access-entry (Fm c) s i d = refl
 access-entry (Psg c) s i d = refl
 
@@ -273,7 +273,7 @@ main-number c i is = is
 leaves-pins : (c : Chip) (s : Board) (i j : ℕ) → IsDue five IsChip IsBoard c s i false → writes i j ≡ false → pins_of (perform c s).shared j ≡ pins_of s j
 leaves-pins (Main c) s i j d other = absurd (clash (subst (λ (n : ℕ). writes n j ≡ false) (sym (main-number c i d.number)) other))
 leaves-pins (Sub c) s i j d other = pins-same (j == 1) s _ (sub_pins_stay s (sub_next_of c.chip.state).key (asked_of c.chip.cart c.chip.state))
-leaves-pins (Line c) s i j d other = absurd (clash (subst (λ (n : ℕ). writes n j ≡ false) (sym d.number) other))
+leaves-pins (Draw c) s i j d other = absurd (clash (subst (λ (n : ℕ). writes n j ≡ false) (sym d.number) other))
 leaves-pins (Fm c) s i j d other = pins-same (j == 1) s _ (fm_batch_pins_stay s c.cycle)
 leaves-pins (Psg c) s i j d other = pins-same (j == 1) s _ (batch_pins_stay s c.cycle)
 

@@ -17,6 +17,6 @@ pub mod Parts
 pub mod Pins
 pub mod Refinement
 pub mod Rules
-pub mod SoundParts
+pub mod ValidParts
 pub mod Starts
 pub mod VdpCode

@@ -45,6 +45,6 @@ machine_at at core = record {
 -- what holds of each machine: room for the entries of a segment, and no event below its cycle
 pub record IsMachine (at : ℕ) (core : Option (CoreValue Chip Board)) : Type 0 where
   pub has_core : IsSome core
-  pub sound : IsCore five IsChip IsBoard (core_held core)
+  pub valid : IsCore five IsChip IsBoard (core_held core)
   pub room : 52500 ≤ (core_held core).room
   pub quiet : machines.IsQuiet five (machine_of five (core_held core)) at

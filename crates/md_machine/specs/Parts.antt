@@ -1,8 +1,8 @@
 -- The parts of the machine as contracts see them.
 use Rattle.std.specs.Prelude.{◌≡◌, ℕ, ℤ, ◌≤◌, not, List, length, Option, is_some}
-use Rattle.m68k_chip.specs.Sound.{IsChip68}
-use Rattle.z80_chip.specs.Sound.{Chip80Value, IsChip80}
-use Rattle.z80_parcel.specs.Requests.{Told}
+use Rattle.m68k_chip.specs.Validity.{IsChip68}
+use Rattle.z80_chip.specs.Validity.{Chip80Value, IsChip80}
+use Rattle.z80_parcel.specs.Requests.{AnswerValue80}
 use Rattle.md_machine.specs.declared.main_chip.MainChip.{MainChip}
 use Rattle.vdp_planes.specs.declared.view.LineView.{LineView}
 use Rattle.vdp_chip.specs.Drawing.{Drawing, IsDrawing}
@@ -18,7 +18,7 @@ IsMain c = IsChip68 c.chip
 -- the Z80, and what it was told between the two halves of an access
 pub record SubValue : Type 0 where
   pub chip : Chip80Value
-  pub answer : Option Told
+  pub answer : Option AnswerValue80
 
 -- what holds of the Z80
 abbrev pub IsSub : SubValue → Type 0

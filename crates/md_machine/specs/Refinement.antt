@@ -11,7 +11,7 @@ use Rattle.bus_shared.specs.Board.{Board}
 use Rattle.md_machine.specs.Parts.{DrawValue, FmValue, PsgValue, SubValue}
 use Rattle.md_machine.specs.declared.main_chip.MainChip.{MainChip}
 use Rattle.md_machine.specs.declared.chips.Chip.{Chip}
-use Rattle.md_machine.specs.declared.chips.Chip.TheVariants.{Main, Sub, Line, Fm, Psg}
+use Rattle.md_machine.specs.declared.chips.Chip.TheVariants.{Main, Sub, Draw, Fm, Psg}
 
 -- the 68000 of a chip; where it is another, any
 abbrev pub main_of : Chip → MainChip
@@ -35,7 +35,7 @@ psg_of _ = record { synth = at_power_on; cycle = 0; taken = []; samples = [] }
 
 -- the drawing half of the VDP of a chip; where it is another, any
 abbrev pub draw_of : Chip → DrawValue
-draw_of (Line c) = c
+draw_of (Draw c) = c
 draw_of _ = record { chip = no_drawing; view = None }
 
 -- the record of five chips and a board: the answers that the processors keep, the view, the writes that

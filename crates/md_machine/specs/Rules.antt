@@ -9,7 +9,7 @@ use Rattle.m68k_chip.specs.States.{next_of}
 use Rattle.z80_chip.specs.Events as events80
 use Rattle.z80_chip.specs.Events.{asked_of, handed}
 use Rattle.z80_chip.specs.States.{next_of as sub_next_of}
-use Rattle.z80_parcel.specs.Requests.{Told, Nothing}
+use Rattle.z80_parcel.specs.Requests.{AnswerValue80, Nothing}
 use Rattle.md_machine.specs.Pins.{level_in, pins_of, sub_in}
 use Rattle.md_machine.specs.declared.pins.Pins.{Pins}
 use Rattle.fm_chip.specs.Batches as fm_batches
@@ -27,7 +27,7 @@ use Rattle.vdp_chip.specs.Drawing as drawings
 use Rattle.md_machine.specs.Lines.{drawn_from, no_drawing, told_view, untold}
 use Rattle.md_machine.specs.declared.main_chip.MainChip.{MainChip}
 use Rattle.md_machine.specs.declared.chips.Chip.{Chip}
-use Rattle.md_machine.specs.declared.chips.Chip.TheVariants.{Main, Sub, Line, Fm, Psg}
+use Rattle.md_machine.specs.declared.chips.Chip.TheVariants.{Main, Sub, Draw, Fm, Psg}
 
 -- the answer that is kept; where there is none, any
 abbrev pub answer_in : Option Answer68 → Answer68
@@ -54,7 +54,7 @@ main_perform c b =
     }
 
 -- what the Z80 was told; where nothing is kept, nothing
-abbrev pub told_in : Option Told → Told
+abbrev pub told_in : Option AnswerValue80 → AnswerValue80
 told_in None = Nothing
 told_in (Some answer) = answer
 
@@ -155,7 +155,7 @@ psg_advance c =
 abbrev pub next : Chip → Next
 next (Main c) = next_of c.chip.state
 next (Sub c) = sub_next_of c.chip.state
-next (Line c) = drawings.next_of c.chip
+next (Draw c) = drawings.next_of c.chip
 next (Fm c) = fm_next c.cycle
 next (Psg c) = psg_next c.cycle
 
@@ -167,7 +167,7 @@ of_kind kind a = record { chip = kind a.chip; shared = a.shared; entry = a.entry
 abbrev pub perform : Chip → Board → Accessed Chip Board
 perform (Main c) b = of_kind Main (main_perform c b)
 perform (Sub c) b = of_kind Sub (sub_perform c b)
-perform (Line c) b = of_kind Line (draw_perform c b)
+perform (Draw c) b = of_kind Draw (draw_perform c b)
 perform (Fm c) b = of_kind Fm (fm_perform c b)
 perform (Psg c) b = of_kind Psg (psg_perform c b)
 
@@ -175,7 +175,7 @@ perform (Psg c) b = of_kind Psg (psg_perform c b)
 abbrev pub advance : Chip → Chip
 advance (Main c) = Main (main_advance c)
 advance (Sub c) = Sub (sub_advance c)
-advance (Line c) = Line (draw_advance c)
+advance (Draw c) = Draw (draw_advance c)
 advance (Fm c) = Fm (fm_advance c)
 advance (Psg c) = Psg (psg_advance c)
 
@@ -183,7 +183,7 @@ advance (Psg c) = Psg (psg_advance c)
 abbrev pub sample : Chip → Pins → Chip
 sample (Main c) pins = Main (main_sample c (level_in pins))
 sample (Sub c) pins = Sub (sub_sample c (sub_in pins))
-sample (Line c) pins = Line c
+sample (Draw c) pins = Draw c
 sample (Fm c) pins = Fm c
 sample (Psg c) pins = Psg c
 
@@ -206,13 +206,13 @@ five = record {
   sample = sample;
   writes = writes;
   gap = gap;
-  blank = Line (record { chip = no_drawing; view = None });
+  blank = Draw (record { chip = no_drawing; view = None });
 }
 
 -- the chips and the board that the code can have
 abbrev pub IsChip : Chip → Type 0
 IsChip (Main c) = IsMain c
 IsChip (Sub c) = IsSub c
-IsChip (Line c) = IsDraw c
+IsChip (Draw c) = IsDraw c
 IsChip (Fm c) = IsFm c
 IsChip (Psg c) = IsPsg c

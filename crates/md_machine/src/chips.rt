@@ -12,7 +12,7 @@ pub enum Chip {
     /// The Z80, chip 1.
     Sub(SubChip),
     /// The drawing half of the VDP, chip 2.
-    Line(DrawChip),
+    Draw(DrawChip),
     /// The FM synthesis, chip 3.
     Fm(FmChip),
     /// The PSG synthesis, chip 4.

@@ -88,7 +88,7 @@ pub(crate) fn frame_in(chip: &Chip) -> Option<&[u8]>
     ensures size { IfSome (option_copied result) (λ picture. length picture ≡ picture_length) }
 {
     match chip {
-        Chip::Line(draw) => draw.frame(),
+        Chip::Draw(draw) => draw.frame(),
         Chip::Main(_) | Chip::Sub(_) | Chip::Fm(_) | Chip::Psg(_) => None,
     }
 }
@@ -99,7 +99,7 @@ pub(crate) fn sides_in(chip: &Chip) -> &[(i32, i32)]
 {
     match chip {
         Chip::Fm(fm) => fm.samples(),
-        Chip::Main(_) | Chip::Sub(_) | Chip::Line(_) | Chip::Psg(_) => &[],
+        Chip::Main(_) | Chip::Sub(_) | Chip::Draw(_) | Chip::Psg(_) => &[],
     }
 }
 
@@ -109,7 +109,7 @@ pub(crate) fn levels_in(chip: &Chip) -> &[i32]
 {
     match chip {
         Chip::Psg(psg) => psg.samples(),
-        Chip::Main(_) | Chip::Sub(_) | Chip::Line(_) | Chip::Fm(_) => &[],
+        Chip::Main(_) | Chip::Sub(_) | Chip::Draw(_) | Chip::Fm(_) => &[],
     }
 }
 
@@ -131,7 +131,7 @@ fn silence(chip: &mut Chip)
     match chip {
         Chip::Fm(fm) => fm.drain(),
         Chip::Psg(psg) => psg.drain(),
-        Chip::Line(draw) => draw.drop_frame(),
+        Chip::Draw(draw) => draw.drop_frame(),
         Chip::Main(_) | Chip::Sub(_) => {}
     }
 }

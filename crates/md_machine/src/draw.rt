@@ -13,10 +13,7 @@ use std::marker::Model;
 use vdp_chip::{ChipVdp, clear_dots};
 use vdp_planes::{Dot, LineView, Scene, SpriteNote};
 use vdp_sprites::draw_sprites;
-use vdp_time::line_of;
-
-/// Lines of the picture.
-const HEIGHT: u32 = 224;
+use vdp_time::{HEIGHT, line_of};
 
 /// The drawing half of the VDP, chip 2: an access at each line. Between the two halves of an access it
 /// keeps the view that the board has filled.

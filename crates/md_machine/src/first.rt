@@ -15,6 +15,7 @@ use bus_shared::Shared;
 use chip_core::Core;
 use m68k_chip::Chip68;
 use md_pads::Recording;
+use md_word::clock::BATCH;
 use md_word::{Key, NoMemory};
 use rom_header::Cart;
 use std::alloc::Global;
@@ -38,7 +39,7 @@ pub(crate) fn first_chips(alloc: Global, cart: Arc<Cart>) -> Result<Vec<Chip>, N
     let chips = [
         Chip::Main(main),
         Chip::Sub(sub),
-        Chip::Line(DrawChip::power_on(alloc)?),
+        Chip::Draw(DrawChip::power_on(alloc)?),
         Chip::Fm(FmChip::power_on(alloc)?),
         Chip::Psg(psg),
     ];
@@ -54,11 +55,11 @@ pub(crate) fn first_bounds(alloc: Global) -> Result<Vec<Key>, NoMemory>
         Key { cycle: 0, chip: 1 },
         Key { cycle: 0, chip: 2 },
         Key {
-            cycle: 16_128,
+            cycle: BATCH,
             chip: 3,
         },
         Key {
-            cycle: 16_128,
+            cycle: BATCH,
             chip: 4,
         },
     ];

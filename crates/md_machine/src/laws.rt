@@ -8,7 +8,7 @@ ghost use Rattle.md_machine.specs.Console.{AllBelow, Console, IsQuiet, IsRunTo, 
 ghost use Rattle.md_machine.specs.Owners.{HasOneOwner};
 ghost use Rattle.md_machine.specs.Pads.{ShowsPads};
 ghost use Rattle.md_machine.specs.Rules.{five};
-ghost use Rattle.md_machine.specs.SoundParts.{HasSoundParts};
+ghost use Rattle.md_machine.specs.ValidParts.{HasValidParts};
 ghost use Rattle.md_machine.specs.Starts.{IsStart, Start, batches_below, frames_below};
 ghost use Rattle.md_machine.specs.Media as outputs;
 ghost use Rattle.md_machine.specs.Media.{Media};
@@ -109,30 +109,30 @@ pub fn one_owner(cart: &Cart)
     laws::stages::<MdChips>();
 }
 
-/// The parts of a machine are sound.
-pub fn parts_are_sound(machine: &Machine)
-    ensures { HasSoundParts machine.now.console }
+/// The parts of a machine are valid.
+pub fn parts_are_valid(machine: &Machine)
+    ensures { HasValidParts machine.now.console }
 {
-    machine.sound_parts();
+    machine.valid_parts();
 }
 
 /// At power-on with a cartridge they are.
-pub fn parts_start_sound(cart: &Cart)
-    ensures { (recording : List Frame) → HasSoundParts (power_on cart.now recording) }
+pub fn parts_start_valid(cart: &Cart)
+    ensures { (recording : List Frame) → HasValidParts (power_on cart.now recording) }
 {
     cart.bytes();
 }
 
 /// They stay so after any events below a cycle of at most 2^50.
-pub fn parts_stay_sound()
-    ensures { (m : Console) (end n : ℕ) → end ≤ 2 ^ 50 → HasSoundParts m → AllBelow m end n → HasSoundParts (ran m n) }
+pub fn parts_stay_valid()
+    ensures { (m : Console) (end n : ℕ) → end ≤ 2 ^ 50 → HasValidParts m → AllBelow m end n → HasValidParts (ran m n) }
 {
     laws::stages::<MdChips>();
 }
 
 /// Where no event stood before a cycle, none does after any events below a cycle of at most 2^50.
 pub fn quiet_stays()
-    ensures { (m : Console) (at end n : ℕ) → end ≤ 2 ^ 50 → HasSoundParts m → IsQuiet at m → AllBelow m end n → IsQuiet at (ran m n) }
+    ensures { (m : Console) (at end n : ℕ) → end ≤ 2 ^ 50 → HasValidParts m → IsQuiet at m → AllBelow m end n → IsQuiet at (ran m n) }
 {
     laws::stages::<MdChips>();
     laws::limits::<MdChips>();

@@ -1,5 +1,6 @@
 ghost use Rattle.std.specs.Prelude.{◌≡◌, ℕ, ◌≤◌, ◌<◌, ◌+◌, ◌-◌, ◌*◌, ◌^◌, ◌++◌, [], IfOk, length, vec_len, vec_capacity};
 ghost use Rattle.std.specs.Arc.{arc_value};
+ghost use Rattle.md_word.specs.Clock.{last_cycle};
 ghost use Rattle.chip_core.specs.Cores.{CoreValue, IsCore, machine_of};
 ghost use Rattle.chip_core.specs.Machines.{IsQuiet};
 ghost use Rattle.bus_shared.specs.Board.{Board, IsBoard};
@@ -10,7 +11,7 @@ ghost use Rattle.md_machine.specs.Outputs.{frame_length, frames_bytes, journal_b
 ghost use Rattle.md_machine.specs.Refinement.{main_of};
 ghost use Rattle.md_machine.specs.Machines.{machine_at};
 ghost use Rattle.md_machine.specs.Rules.{IsChip, five, next};
-ghost use Rattle.md_machine.specs.SoundParts.{HasSoundParts};
+ghost use Rattle.md_machine.specs.ValidParts.{HasValidParts};
 ghost use Rattle.md_machine.specs.Media.{no_media};
 
 use crate::drains::{
@@ -106,9 +107,9 @@ impl Machine {
         let _ = &self.core;
     }
 
-    /// Its parts are sound.
-    pub(crate) fn sound_parts(&self)
-        ensures { HasSoundParts self.now.console }
+    /// Its parts are valid.
+    pub(crate) fn valid_parts(&self)
+        ensures { HasValidParts self.now.console }
     {
         laws::stages::<MdChips>();
         // what holds of each machine holds of its core
@@ -119,7 +120,7 @@ impl Machine {
     pub fn alone(&mut self, to: u64)
         requires later { self.old.at < to }
         requires near { to ≤ self.old.at + 896040 }
-        requires far { to ≤ 549755813888 }
+        requires far { to ≤ last_cycle }
         requires entries { self.old.entries ≡ [] }
         requires media { self.old.media ≡ no_media }
         ensures at { self.new.at ≡ to }
@@ -151,7 +152,7 @@ impl Machine {
         requires few { workers ≤ 5 }
         requires later { self.old.at < to }
         requires near { to ≤ self.old.at + 896040 }
-        requires far { to ≤ 549755813888 }
+        requires far { to ≤ last_cycle }
         requires entries { self.old.entries ≡ [] }
         requires media { self.old.media ≡ no_media }
         ensures at { self.new.at ≡ to }

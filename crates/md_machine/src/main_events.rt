@@ -1,6 +1,6 @@
 ghost use Rattle.std.specs.Prelude.{◌≡◌, ◌^◌, ◌<◌, ◌≤◌, true, false, IfSome, IsSome};
 ghost use Rattle.m68k_chip.specs.Events.{WentAhead, request_of};
-ghost use Rattle.m68k_chip.specs.Sound.{Fits};
+ghost use Rattle.m68k_chip.specs.Validity.{Fits};
 ghost use Rattle.m68k_chip.specs.States.{next_of};
 ghost use Rattle.bus_shared.specs.Board.{Board};
 ghost use Rattle.md_machine.specs.Parts.{IsMain};

@@ -1,4 +1,5 @@
 ghost use Rattle.std.specs.Prelude.{◌≡◌, ◌≤◌, ◌<◌, ℕ, [], IfOk, length, true};
+ghost use Rattle.md_word.specs.Clock.{last_cycle};
 ghost use Rattle.m68k_chip.specs.States.{next_of};
 ghost use Rattle.z80_chip.specs.States.{next_of as sub_next_of};
 ghost use Rattle.chip_core.specs.Cores.{chip_in, key_in};
@@ -45,7 +46,7 @@ impl Machine {
         requires main { at ≤ (next_of main.state).key.cycle }
         requires sub { at ≤ (sub_next_of sub.state).key.cycle }
         requires line { at ≤ draw.next }
-        requires far { at ≤ 549755813888 }
+        requires far { at ≤ last_cycle }
         ensures { IfOk result (λ machine. machine ≡ record {
           at = at;
           console = assembly.assembled (record { at = at; main = main; sub = sub; draw = draw; fm = fm; psg = psg }) shared;
@@ -76,7 +77,7 @@ fn chips_of(
     psg: PsgSynth,
 ) -> Result<Vec<Chip>, NoMemory>
     requires view { draw.has_view ≡ true }
-    requires far { at ≤ 549755813888 }
+    requires far { at ≤ last_cycle }
     ensures { IfOk result (λ chips. chips.items ≡ assembly.chips_of (record { at = at; main = main; sub = sub; draw = draw; fm = fm; psg = psg })) }
 {
     let batch = first_batch(at);
@@ -89,7 +90,7 @@ fn chips_of(
             chip: sub,
             answer: None,
         }),
-        Chip::Line(DrawChip::new(draw)),
+        Chip::Draw(DrawChip::new(draw)),
         Chip::Fm(FmChip::new(alloc, fm, batch)?),
         Chip::Psg(PsgChip::new(alloc, psg, batch)?),
     ];
@@ -98,7 +99,7 @@ fn chips_of(
 
 /// The first batch from a cycle on.
 fn first_batch(at: u64) -> u64
-    requires { at ≤ 549755813888 }
+    requires { at ≤ last_cycle }
     ensures { result ≡ batch_from at }
 {
     BATCH * (at.saturating_sub(1) / BATCH + 1)
@@ -108,7 +109,7 @@ fn first_batch(at: u64) -> u64
 fn bounds_of(alloc: Global, chips: &[Chip]) -> Result<Vec<Key>, NoMemory>
     requires { length chips.now ≡ 5 }
     ensures bounds { IfOk result (λ bounds. bounds.items ≡ assembly.bounds_of chips.now) }
-    ensures sound { IfOk result (λ bounds. (i : ℕ) → i < 5 → IsChip (chip_in five chips.now i)) }
+    ensures valid { IfOk result (λ bounds. (i : ℕ) → i < 5 → IsChip (chip_in five chips.now i)) }
 {
     let bounds = [
         key_at(chips, 0),
@@ -125,7 +126,7 @@ fn key_at(chips: &[Chip], number: usize) -> Key
     requires number { number < 5 }
     requires length { length chips.now ≡ 5 }
     ensures key { result ≡ key_in five chips.now number }
-    ensures sound { IsChip (chip_in five chips.now number) }
+    ensures valid { IsChip (chip_in five chips.now number) }
 {
     MdChips::next(&chips[number]).key
 }

@@ -8,6 +8,7 @@ use crate::chips::Chip;
 use crate::pins::Pins;
 use bus_shared::{Shared, pins68, pins80};
 use chip_core::ChipSet;
+use md_word::clock::{BATCH, LINE};
 use md_word::{Entry, Key, Next};
 
 /// The five chips of the machine, as a set for the scheduler.
@@ -38,7 +39,7 @@ impl ChipSet for MdChips {
         match chip {
             Chip::Main(main) => main.next(),
             Chip::Sub(sub) => sub.next(),
-            Chip::Line(draw) => draw.next(),
+            Chip::Draw(draw) => draw.next(),
             Chip::Fm(fm) => fm.next(),
             Chip::Psg(psg) => psg.next(),
         }
@@ -49,7 +50,7 @@ impl ChipSet for MdChips {
         match chip {
             Chip::Main(main) => main.perform(shared),
             Chip::Sub(sub) => sub.perform(shared),
-            Chip::Line(draw) => draw.perform(shared),
+            Chip::Draw(draw) => draw.perform(shared),
             Chip::Fm(fm) => fm.perform(shared),
             Chip::Psg(psg) => psg.perform(shared),
         }
@@ -60,7 +61,7 @@ impl ChipSet for MdChips {
         match chip {
             Chip::Main(main) => main.advance(),
             Chip::Sub(sub) => sub.advance(),
-            Chip::Line(draw) => draw.advance(),
+            Chip::Draw(draw) => draw.advance(),
             Chip::Fm(fm) => fm.advance(),
             Chip::Psg(psg) => psg.advance(),
         }
@@ -69,7 +70,7 @@ impl ChipSet for MdChips {
     /// A line is drawn straight from the board, and no view is filled.
     #[tactic(auto, unfolding(m68k_chip::specs::States::next_of, z80_chip::specs::States::next_of))]
     fn access(chip: &mut Chip, shared: &mut Shared) -> Entry {
-        if let Chip::Line(draw) = chip {
+        if let Chip::Draw(draw) = chip {
             return draw.access(shared);
         }
         let entry = Self::perform(chip, shared);
@@ -91,7 +92,7 @@ impl ChipSet for MdChips {
         match chip {
             Chip::Main(main) => main.sample(pins.main()),
             Chip::Sub(sub) => sub.sample(pins.sub()),
-            Chip::Line(_) | Chip::Fm(_) | Chip::Psg(_) => {}
+            Chip::Draw(_) | Chip::Fm(_) | Chip::Psg(_) => {}
         }
     }
 
@@ -101,7 +102,7 @@ impl ChipSet for MdChips {
         match chip {
             Chip::Main(main) => main.sample_ahead(pins.main(), end.cycle),
             Chip::Sub(sub) => sub.sample_ahead(pins.sub(), end.cycle),
-            Chip::Line(_) | Chip::Fm(_) | Chip::Psg(_) => 1,
+            Chip::Draw(_) | Chip::Fm(_) | Chip::Psg(_) => 1,
         }
     }
 
@@ -113,8 +114,8 @@ impl ChipSet for MdChips {
         match chip {
             0 => 28,
             1 => 45,
-            2 => 3_420,
-            _ => 16_128,
+            2 => LINE,
+            _ => BATCH,
         }
     }
 

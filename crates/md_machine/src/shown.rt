@@ -97,7 +97,7 @@ fn main_in(chip: &Chip) -> &Chip68
 {
     match chip {
         Chip::Main(main) => &main.chip,
-        Chip::Sub(_) | Chip::Line(_) | Chip::Fm(_) | Chip::Psg(_) => unreachable!(),
+        Chip::Sub(_) | Chip::Draw(_) | Chip::Fm(_) | Chip::Psg(_) => unreachable!(),
     }
 }
 
@@ -109,7 +109,7 @@ fn sub_in(chip: &Chip) -> &Chip80
 {
     match chip {
         Chip::Sub(sub) => &sub.chip,
-        Chip::Main(_) | Chip::Line(_) | Chip::Fm(_) | Chip::Psg(_) => unreachable!(),
+        Chip::Main(_) | Chip::Draw(_) | Chip::Fm(_) | Chip::Psg(_) => unreachable!(),
     }
 }
 
@@ -120,7 +120,7 @@ fn draw_in(chip: &Chip) -> &ChipVdp
     ensures { result.now ≡ (draw_of chip.now).chip }
 {
     match chip {
-        Chip::Line(draw) => draw.chip(),
+        Chip::Draw(draw) => draw.chip(),
         Chip::Main(_) | Chip::Sub(_) | Chip::Fm(_) | Chip::Psg(_) => unreachable!(),
     }
 }
@@ -133,7 +133,7 @@ fn fm_in(chip: &Chip) -> &FmSynth
 {
     match chip {
         Chip::Fm(fm) => fm.synth(),
-        Chip::Main(_) | Chip::Sub(_) | Chip::Line(_) | Chip::Psg(_) => unreachable!(),
+        Chip::Main(_) | Chip::Sub(_) | Chip::Draw(_) | Chip::Psg(_) => unreachable!(),
     }
 }
 
@@ -145,6 +145,6 @@ fn psg_in(chip: &Chip) -> &PsgSynth
 {
     match chip {
         Chip::Psg(psg) => psg.synth(),
-        Chip::Main(_) | Chip::Sub(_) | Chip::Line(_) | Chip::Fm(_) => unreachable!(),
+        Chip::Main(_) | Chip::Sub(_) | Chip::Draw(_) | Chip::Fm(_) => unreachable!(),
     }
 }

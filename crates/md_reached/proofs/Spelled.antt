@@ -7,9 +7,9 @@ use Rattle.md_fields.specs.Fields.{AllHold, Field, sizes}
 use Rattle.md_fields.specs.Padding.{padded}
 use Rattle.md_fields.specs.Places.{Stand}
 use Rattle.md_fields.proofs.Items.{all_hold}
-use Rattle.stamped_writes.specs.Entries.{AreFit, entries_bytes}
-use Rattle.stamped_writes.specs.Keys.{are_kept}
-use Rattle.stamped_writes.proofs.Entries as entries
+use Rattle.sound_writes.specs.Entries.{AreFit, entries_bytes}
+use Rattle.sound_writes.specs.Keys.{are_kept}
+use Rattle.sound_writes.proofs.Entries as entries
 use Rattle.fm_chip.specs.Port.{Port}
 use Rattle.fm_chip.specs.PortSpelling as fm
 use Rattle.fm_chip.specs.Timed.{AreTimed, IsTimed}

@@ -3,7 +3,7 @@ use Rattle.std.proofs.Common.{◌≡◌, ℕ, List, [], ◌++◌, Option, Some, 
 use Rattle.std.specs.Prelude.{IsSome}
 use Rattle.md_outer.specs.Outside.{Files, IsPrefix, bytes_of, with_file}
 use Rattle.md_top.specs.Outputs.{Adds, AddsParts, Holds, LeavesParts, Pieces, lengthened, nothing, with_part}
-use Rattle.md_words.specs.Words.{Run}
+use Rattle.md_args.specs.Words.{Run}
 use Rattle.md_top.proofs.Writes.{Apart, AreFront, but_state, frames-longer, journal-longer, named, only-frames, only-journal, only-sound, only-state, part-unasked, parts, parts-longer, prefix-append, prefix-more, sound-longer, state-longer}
 
 -- APPENDS

@@ -5,7 +5,7 @@ use Rattle.std.specs.Str.{bytes_eq}
 use Rattle.std.proofs.lemmas.Slice.Eq.{bytes_eq-Decides}
 use Rattle.md_outer.specs.Outside.{DepotState, Files, Rose, with_file}
 use Rattle.md_vgm.specs.Outcomes.{Made, Outcome}
-use Rattle.md_words.specs.Words.{Conversion, Convert, Run}
+use Rattle.md_args.specs.Words.{Conversion, Convert, Run}
 use Rattle.vgm_files.specs.Conversions as files
 use Rattle.vgm_files.specs.Conversions.{IsFound, IsOutcome, limit}
 use Rattle.vgm_files.proofs.Endings.{right}
@@ -15,7 +15,7 @@ use Rattle.md_top.specs.Conversions.{ConvertEnds, ConvertFiles, IsRefusedInput, 
 use Rattle.md_top.specs.Endings.{InfoEnds, RunEnds, status_of}
 use Rattle.md_top.specs.Inputs.{IsMissing}
 use Rattle.md_top.specs.declared.ending.Ending.{Ending}
-use Rattle.md_top.specs.declared.ending.Ending.TheVariants.{Converted, InputRefused, OutputFault, Usage, TooFar, ReadFault, TooLong, RecordingFault, RecordingWrong, StateFault, StateWrong, OtherCart, Behind, FramesFault, SoundFault, JournalFault, SaveFault, Memory}
+use Rattle.md_top.specs.declared.ending.Ending.TheVariants.{Converted, InputRefused, OutputFault, Usage, TooFar, ReadFault, TooLong, RecordingFault, RecordingWrong, LoadFault, StateWrong, OtherCart, Behind, FramesFault, SoundFault, JournalFault, SaveFault, Memory}
 use Rattle.md_top.proofs.Right.{not_below}
 use Rattle.md_top.proofs.Statuses.{missing_cart}
 
@@ -44,7 +44,7 @@ module _ (told : Type 0) (conversion : Conversion) (old new : DepotState) where
   pub convert_read_fault : (ending : Ending) → Ends ending → status_of ending ≡ 3 → Rose old.read_faults new.read_faults ⊎ (told × IsMissing (Convert conversion) old.files)
   convert_read_fault ReadFault cause is = missing_cart told (Convert conversion) old.files inl cause
   convert_read_fault RecordingFault cause is = absurd cause
-  convert_read_fault StateFault cause is = absurd cause
+  convert_read_fault LoadFault cause is = absurd cause
   convert_read_fault _ cause is = absurd (omega (arith, is))
 
   pub convert_wrong : (ending : Ending) → Ends ending → status_of ending ≡ 6 → ⊥

@@ -8,12 +8,13 @@ use Rattle.md_machine.specs.Media.{Media}
 use Rattle.md_machine.specs.Outputs.{frames_bytes, journal_bytes, sound_bytes}
 use Rattle.md_machine.specs.Starts.{IsStart, Start}
 use Rattle.md_vgm.specs.Outcomes.{Outcome}
-use Rattle.md_words.specs.Words.{Demo, RunDemo}
+use Rattle.md_args.specs.Words.{Demo, RunDemo}
 use Rattle.md_top.specs.Answers.{Reports}
 use Rattle.md_top.specs.Demos.{DemoEnds, HaveUntil, demo_start, digests_from, summary_from}
 use Rattle.md_top.specs.Endings.{demo_ending, right_ending, status_of}
 use Rattle.md_top.specs.Inputs.{Verdict}
-use Rattle.md_top.specs.Limits.{IsEnd, last_cycle}
+use Rattle.md_word.specs.Clock.{last_cycle}
+use Rattle.md_top.specs.Limits.{IsEnd}
 use Rattle.md_top.specs.Loads.{StateVerdict}
 use Rattle.md_top.specs.Runs.{RunLaws, entries_from, media_from}
 use Rattle.md_top.specs.declared.digests.Digests.{Digests}

@@ -4,15 +4,16 @@ use Rattle.std.specs.Prelude.{IfErr, IsSome, OnOk, OnErr}
 use Rattle.md_outer.specs.Outside.{DepotState, Files, GoesOn}
 use Rattle.md_top.specs.Endings.{HoldsUntil, RunCause, RunEnds, RunFiles, RunLeaves}
 use Rattle.md_top.specs.Inputs.{InputCause}
-use Rattle.md_top.specs.Limits.{IsEnd, last_cycle}
+use Rattle.md_word.specs.Clock.{last_cycle}
+use Rattle.md_top.specs.Limits.{IsEnd}
 use Rattle.md_top.specs.Loads.{Begins, LoadCause, MayBeginAt}
 use Rattle.md_top.specs.Outputs.{Adds, AddsParts, AreBegun, Holds, IsBegun, IsUnwritten, IsWriteFault, LeavesParts, Pieces, lengthened, nothing}
 use Rattle.md_top.specs.Runs.{RunLaws, frames_to, journal_to, pieces_of, pieces_until, sound_until, state_to}
 use Rattle.md_top.specs.Saves.{IsNotSaved, LeavesState}
 use Rattle.md_machine.specs.Starts.{IsStart, Start}
-use Rattle.md_words.specs.Words.{Run}
+use Rattle.md_args.specs.Words.{Run}
 use Rattle.md_top.specs.declared.ending.Ending.{Ending}
-use Rattle.md_top.specs.declared.ending.Ending.TheVariants.{Done, FramesFault, SoundFault, JournalFault, StateFault, StateTooLong, StateWrong, OtherCart, SaveFault, Unsaved, Memory}
+use Rattle.md_top.specs.declared.ending.Ending.TheVariants.{Done, FramesFault, SoundFault, JournalFault, LoadFault, StateTooLong, StateWrong, OtherCart, SaveFault, Unsaved, Memory}
 use Rattle.md_top.specs.declared.outputs.Outputs.{Outputs}
 use Rattle.md_top.proofs.Puts.{rose_later}
 use Rattle.md_top.proofs.Segments.{pieces-first, pieces-front}
@@ -203,7 +204,7 @@ run-leaves run start old new _ begins leaves = leaves
 
 -- a run that found no machine
 pub load-ends : (told : Type 0) (run : Run) (old new : DepotState) (ending : Ending) → run.cycles ≤ last_cycle → LoadCause told run old new ending → RunEnds told run old new ending
-load-ends told run old new StateFault near cause = (near, cause)
+load-ends told run old new LoadFault near cause = (near, cause)
 load-ends told run old new StateTooLong near cause = (near, cause)
 load-ends told run old new (StateWrong place) near cause = (near, cause)
 load-ends told run old new (OtherCart kept given) near cause = (near, cause)
@@ -213,7 +214,7 @@ load-ends told run old new _ near cause = absurd cause.2
 pub load-leaves : (told : Type 0) (run : Run) (old new : DepotState) (ending : Ending) → LoadCause told run old new ending
     → new.files ≡ old.files → RunFiles run old.files new.files ending
 load-leaves told run old new Memory cause same = untouched run old.files new.files same
-load-leaves told run old new StateFault cause same = same
+load-leaves told run old new LoadFault cause same = same
 load-leaves told run old new StateTooLong cause same = same
 load-leaves told run old new (StateWrong place) cause same = same
 load-leaves told run old new (OtherCart kept given) cause same = same

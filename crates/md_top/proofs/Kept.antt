@@ -12,7 +12,7 @@ use Rattle.save_state.specs.declared.fault.StateFault.TheVariants as fault
 use Rattle.md_top.specs.Courses.{start_at}
 use Rattle.md_top.specs.Loads.{IsFound, IsFoundIn, IsRefused, IsStateVerdict, Keeps, OfOther, StateCause, StateVerdict, StateWrongAt, state_limit}
 use Rattle.md_top.specs.declared.ending.Ending.{Ending}
-use Rattle.md_top.specs.declared.ending.Ending.TheVariants.{StateFault as Unread, StateTooLong, StateWrong, OtherCart, Memory}
+use Rattle.md_top.specs.declared.ending.Ending.TheVariants.{LoadFault as Unread, StateTooLong, StateWrong, OtherCart, Memory}
 use Rattle.md_top.specs.declared.inputs.Inputs.{Inputs}
 use Rattle.md_top.proofs.Puts.{rose_later}
 

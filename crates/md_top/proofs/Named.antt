@@ -3,9 +3,9 @@ use Rattle.std.proofs.Common.{◌≡◌, Bool, true, false, List, ℕ, Option, S
 use Rattle.std.specs.Prelude.{not}
 use Rattle.std.specs.Str.{bytes_eq}
 use Rattle.std.proofs.lemmas.Slice.Eq.{bytes_eq-Decides}
-use Rattle.md_words.specs.Shown.{shown_run}
-use Rattle.md_words.specs.Words.{differ}
-use Rattle.md_words.specs.declared.run_words.RunWords.{RunWords}
+use Rattle.md_args.specs.Shown.{shown_run}
+use Rattle.md_args.specs.Words.{differ}
+use Rattle.md_args.specs.declared.run_words.RunWords.{RunWords}
 use Rattle.md_top.proofs.Writes.{Apart}
 
 -- so they do in the other order

@@ -9,13 +9,13 @@ use Rattle.md_outer.specs.Outside.{DepotState, Files, Rose}
 use Rattle.md_pads.specs.Recording.{Frame, GoesWrongAt, Spells}
 use Rattle.md_top.specs.Endings.{accepted_ending, asked_ending, cart_ending, file_ending, kept_ending, loaded_ending, recorded_ending, recording_ending, run_ending, state_ending, status_of, verdict_ending}
 use Rattle.md_top.specs.Inputs.{AreInputs, CartCause, IsAccepted, IsJudged, IsVerdict, Recorded, RecordingCause, Records, Verdict, WrongAt, cart_limit, cart_of, recording_limit}
-use Rattle.md_top.specs.Limits.{last_cycle}
+use Rattle.md_word.specs.Clock.{last_cycle}
 use Rattle.md_top.specs.Loads.{Begins, BeginsWith, IsFoundIn, IsLoadJudged, IsStateJudged, IsStateVerdict, Keeps, LoadCause, OfOther, StateCause, StateVerdict, StateWrongAt, inputs_by, recording_by, state_limit}
 use Rattle.md_top.specs.Runs.{entries_from, halted_from, powered_on}
 use Rattle.md_machine.specs.Starts.{Start}
-use Rattle.md_words.specs.Words.{Run}
+use Rattle.md_args.specs.Words.{Run}
 use Rattle.md_top.specs.declared.ending.Ending.{Ending}
-use Rattle.md_top.specs.declared.ending.Ending.TheVariants.{Done, TooFar, ReadFault, TooLong, Short, NoMark, RecordingFault, RecordingTooLong, RecordingWrong, StateFault, StateTooLong, StateWrong, OtherCart, Behind, Memory}
+use Rattle.md_top.specs.declared.ending.Ending.TheVariants.{Done, TooFar, ReadFault, TooLong, Short, NoMark, RecordingFault, RecordingTooLong, RecordingWrong, LoadFault, StateTooLong, StateWrong, OtherCart, Behind, Memory}
 use Rattle.md_top.specs.declared.inputs.Inputs.{Inputs}
 use Rattle.md_pads.proofs.Whole.{one_recording}
 
@@ -161,14 +161,14 @@ loaded_run (Some name) files inputs state start end begins judged =
 load_right : (told : Type 0) (load : Option (List ℕ)) (inputs : Inputs) (old new : DepotState) (state : StateVerdict) (end : ℕ) (ending : Ending)
     → StateCause told load inputs old new ending → IsLoadJudged load inputs old.files state → ¬ Rose old.read_faults new.read_faults → told
     → (status_of ending ≡ status_of (loaded_ending load old.files state inputs end)) ⊎ (status_of ending ≡ 10)
-load_right told None inputs old new state end StateFault cause judged clean t = absurd cause
+load_right told None inputs old new state end LoadFault cause judged clean t = absurd cause
 load_right told None inputs old new state end StateTooLong cause judged clean t = absurd cause
 load_right told None inputs old new state end (StateWrong place) cause judged clean t = absurd cause
 load_right told None inputs old new state end (OtherCart kept given) cause judged clean t = absurd cause
 load_right told None inputs old new state end Memory cause judged clean t = inr refl
 load_right told None inputs old new state end _ cause judged clean t = absurd cause
-load_right told (Some name) inputs old new state end StateFault (inl rose) judged clean t = absurd (clean rose)
-load_right told (Some name) inputs old new state end StateFault (inr missing) judged clean t =
+load_right told (Some name) inputs old new state end LoadFault (inl rose) judged clean t = absurd (clean rose)
+load_right told (Some name) inputs old new state end LoadFault (inr missing) judged clean t =
     inl (sym (ap (λ (file : Option (List ℕ)). status_of (state_ending file state end)) missing.1))
 load_right told (Some name) inputs old new state end StateTooLong cause judged clean t = inl (sym (ap status_of (file_state_long (old.files name) state end (cause t))))
 load_right told (Some name) inputs old new state end (StateWrong place) cause judged clean t =

@@ -7,16 +7,16 @@ use Rattle.rom_header.specs.Header.{header_lines}
 use Rattle.md_outer.specs.Outside.{DepotState, Files, Rose, SinkState, with_file}
 use Rattle.md_top.specs.Answers.{Answers, Causes, PutsAll, PutsPart, Reports}
 use Rattle.md_top.specs.Inputs.{IsAccepted, IsJudged, Recorded, RecordingCause, Verdict, cart_of}
-use Rattle.md_top.specs.Limits.{last_cycle}
+use Rattle.md_word.specs.Clock.{last_cycle}
 use Rattle.md_top.specs.Loads.{IsStateJudged, Keeps, StateVerdict, StateWrongAt}
 use Rattle.md_top.specs.Runs.{pieces_of, pieces_until}
 use Rattle.md_top.specs.Endings.{HasCause, InfoEnds, LeavesFiles, RunEnds, RunFiles, accepted_ending, asked_ending, file_ending, loaded_ending, right_ending, status_of}
 use Rattle.md_top.specs.Outputs.{LeavesParts, Parts, Pieces, all_of, nothing, with_part, written}
 use Rattle.md_vgm.specs.Outcomes.{Made, Outcome}
-use Rattle.md_words.specs.Words.{Command, Convert, Info, Run, RunCart, RunDemo}
+use Rattle.md_args.specs.Words.{Command, Convert, Info, Run, RunCart, RunDemo}
 use Rattle.md_top.specs.Conversions.{convert_ending}
 use Rattle.md_top.specs.declared.ending.Ending.{Ending}
-use Rattle.md_top.specs.declared.ending.Ending.TheVariants.{Shown, Done, Usage, TooFar, RecordingFault, RecordingTooLong, RecordingWrong, StateFault, StateTooLong, StateWrong, OtherCart, Behind, FramesFault, SoundFault, JournalFault, SaveFault, Unsaved, Memory}
+use Rattle.md_top.specs.declared.ending.Ending.TheVariants.{Shown, Done, Usage, TooFar, RecordingFault, RecordingTooLong, RecordingWrong, LoadFault, StateTooLong, StateWrong, OtherCart, Behind, FramesFault, SoundFault, JournalFault, SaveFault, Unsaved, Memory}
 use Rattle.md_top.proofs.Conversions.{convert_behind, convert_done, convert_far, convert_other, convert_read_fault, convert_refused, convert_right, convert_state, convert_usage, convert_write_fault, convert_wrong, converted_other, info_refused, made_outcome, run_refused}
 use Rattle.md_top.proofs.Demos.{demo_behind, demo_far, demo_far_only, demo_never, demo_refused, demo_right, right_demo_done}
 use Rattle.md_top.proofs.Right.{cart_right, recording_judged, recording_right, right_accepted, right_behind, right_behind_cart, right_done, right_far, right_load, right_near, state_judged}
@@ -67,7 +67,7 @@ run_right told run old new verdict state RecordingFault (near, (accepted, cause)
 run_right told run old new verdict state RecordingTooLong (near, (accepted, cause)) is judged reads writes t = run_recorded told run old new verdict state RecordingTooLong near (accepted t) cause is reads t
 run_right told run old new verdict state (RecordingWrong place) (near, (accepted, cause)) is judged reads writes t =
     run_recorded told run old new verdict state (RecordingWrong place) near (accepted t) cause is reads t
-run_right told run old new verdict state StateFault (near, cause) is judged reads writes t = right_load told run old new verdict state StateFault near cause is judged reads t
+run_right told run old new verdict state LoadFault (near, cause) is judged reads writes t = right_load told run old new verdict state LoadFault near cause is judged reads t
 run_right told run old new verdict state StateTooLong (near, cause) is judged reads writes t = right_load told run old new verdict state StateTooLong near cause is judged reads t
 run_right told run old new verdict state (StateWrong place) (near, cause) is judged reads writes t =
     right_load told run old new verdict state (StateWrong place) near cause is judged reads t

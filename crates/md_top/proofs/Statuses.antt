@@ -5,12 +5,12 @@ use Rattle.md_outer.specs.Outside.{DepotState, Files, Rose, SinkState, bytes_of}
 use Rattle.md_pads.specs.Recording.{GoesWrongAt, IsSpelled}
 use Rattle.md_top.specs.Answers.{IsBehind, PutsOutput, Reports}
 use Rattle.md_top.specs.Inputs.{IsMissing, RecordingCause, recording_limit}
-use Rattle.md_top.specs.Limits.{last_cycle}
+use Rattle.md_word.specs.Clock.{last_cycle}
 use Rattle.md_top.specs.Loads.{IsLoadFound, OfOther, StateWrongAt}
 use Rattle.md_top.specs.Endings.{InfoEnds, RunEnds, status_of, text_of}
-use Rattle.md_words.specs.Words.{Command, Info, Run, RunCart}
+use Rattle.md_args.specs.Words.{Command, Info, Run, RunCart}
 use Rattle.md_top.specs.declared.ending.Ending.{Ending}
-use Rattle.md_top.specs.declared.ending.Ending.TheVariants.{Shown, Done, DemoDone, Converted, OutputFault, Usage, TooFar, ReadFault, RecordingFault, RecordingWrong, StateFault, StateWrong, OtherCart, Behind, FramesFault, SoundFault, JournalFault, SaveFault, Unsaved, Memory}
+use Rattle.md_top.specs.declared.ending.Ending.TheVariants.{Shown, Done, DemoDone, Converted, OutputFault, Usage, TooFar, ReadFault, RecordingFault, RecordingWrong, LoadFault, StateWrong, OtherCart, Behind, FramesFault, SoundFault, JournalFault, SaveFault, Unsaved, Memory}
 
 -- the status is the ending's, but where the sink failed within an output
 pub put_output : (told : Type 0) (text : List ℕ) (out out' : SinkState) (status : ℕ) → PutsOutput told text out out' status
@@ -68,7 +68,7 @@ pub info_read_fault : (told : Type 0) (rom : List ℕ) (old new : DepotState) (e
     → Rose old.read_faults new.read_faults ⊎ (told × IsMissing (Info rom) old.files)
 info_read_fault told rom old new ReadFault cause is = missing_cart told (Info rom) old.files inl cause
 info_read_fault told rom old new RecordingFault cause is = absurd cause
-info_read_fault told rom old new StateFault cause is = absurd cause
+info_read_fault told rom old new LoadFault cause is = absurd cause
 info_read_fault told rom old new _ cause is = absurd (omega (arith, is))
 
 pub run_read_fault : (told : Type 0) (run : Run) (old new : DepotState) (ending : Ending) → RunEnds told run old new ending → status_of ending ≡ 3
@@ -76,7 +76,7 @@ pub run_read_fault : (told : Type 0) (run : Run) (old new : DepotState) (ending 
 run_read_fault told run old new ReadFault cause is = missing_cart told (RunCart run) old.files inl cause.1
 run_read_fault told run old new RecordingFault cause is =
     missing_cart told (RunCart run) old.files (λ none. inr (inl none)) (missing_recording told run.recording old new cause.1.1)
-run_read_fault told run old new StateFault cause is =
+run_read_fault told run old new LoadFault cause is =
     missing_cart told (RunCart run) old.files (λ none. inr (inr none)) (missing_state told run.load old new cause.1.2)
 run_read_fault told run old new _ cause is = absurd (omega (arith, is))
 

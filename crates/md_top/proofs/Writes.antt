@@ -6,7 +6,7 @@ use Rattle.std.proofs.lemmas.Slice.Eq.{bytes_eq-Decides}
 use mathlib.Core.Path.{fun_ext}
 use Rattle.md_outer.specs.Outside.{Files, IsPrefix, bytes_of, with_file}
 use Rattle.md_top.specs.Outputs.{Holds, IsPartOf, LeavesParts, Pieces, all_of, lengthened, nothing, with_part, written}
-use Rattle.md_words.specs.Words.{Run, differ}
+use Rattle.md_args.specs.Words.{Run, differ}
 
 -- FILES
 

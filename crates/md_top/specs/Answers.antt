@@ -3,11 +3,11 @@ use Rattle.std.specs.Prelude.{◌≡◌, ◌≢◌, ◌⊎◌, ℕ, ◌<◌, ◌
 use Rattle.md_outer.specs.Outside.{DepotState, Files, IsPrefix, Rose, SinkState, bytes_of}
 use Rattle.md_pads.specs.Recording.{IsSpelled}
 use Rattle.md_top.specs.Inputs.{IsJudged, IsMissing, Verdict}
-use Rattle.md_top.specs.Limits.{last_cycle}
+use Rattle.md_word.specs.Clock.{last_cycle}
 use Rattle.md_top.specs.Loads.{Begins, IsLoadFound, IsStateJudged, MayBeginAt, OfOther, StateVerdict, StateWrongAt}
 use Rattle.md_machine.specs.Starts.{Start}
 use Rattle.md_vgm.specs.Outcomes.{Outcome}
-use Rattle.md_words.specs.Words.{Command, Convert, Info, RunCart, RunDemo, conversion_in, end_of, frames_name, journal_name, recording_name, run_in, save_name, sound_name}
+use Rattle.md_args.specs.Words.{Command, Convert, Info, RunCart, RunDemo, conversion_in, end_of, frames_name, journal_name, recording_name, run_in, save_name, sound_name}
 use Rattle.md_top.specs.Conversions.{IsInputOutcome, IsRefusedInput}
 use Rattle.md_top.specs.Endings.{HasCause, IsReady, LeavesFiles, right_ending, status_of, text_of}
 use Rattle.md_top.specs.declared.ending.Ending.{Ending}

@@ -4,7 +4,7 @@ use Rattle.md_outer.specs.Outside.{DepotState, Files, bytes_of}
 use Rattle.md_vgm.specs.Outcomes.{Failed, Outcome}
 use Rattle.md_vgm.specs.declared.fault.VgmFault.{VgmFault}
 use Rattle.md_vgm.specs.declared.fault.VgmFault.TheVariants.{Form, Dense, Long, NoMemory}
-use Rattle.md_words.specs.Words.{Conversion}
+use Rattle.md_args.specs.Words.{Conversion}
 use Rattle.vgm_files.specs.Conversions as files
 use Rattle.vgm_files.specs.Conversions.{IsFound, IsMadeOf, IsOutcome}
 use Rattle.vgm_files.specs.declared.converted.Converted.TheVariants as converted

@@ -5,8 +5,9 @@ use Rattle.sha2.specs.Sha256.{sha256}
 use Rattle.md_demo.specs.Demo.{demo_cart}
 use Rattle.md_machine.specs.Outputs.{frames_bytes, journal_bytes, sound_bytes}
 use Rattle.md_machine.specs.Starts.{Start}
-use Rattle.md_words.specs.Words.{Demo}
-use Rattle.md_top.specs.Limits.{IsEnd, last_cycle}
+use Rattle.md_args.specs.Words.{Demo}
+use Rattle.md_word.specs.Clock.{last_cycle}
+use Rattle.md_top.specs.Limits.{IsEnd}
 use Rattle.md_top.specs.Resuming.{RunsWell}
 use Rattle.md_top.specs.Runs.{entries_from, halted_from, media_from, powered_on}
 use Rattle.md_top.specs.declared.digests.Digests.{Digests}

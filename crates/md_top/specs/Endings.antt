@@ -11,18 +11,19 @@ use Rattle.md_machine.specs.Starts.{Start}
 use Rattle.md_top.specs.Counts.{frames_between, pairs_between}
 use Rattle.md_top.specs.Demos.{DemoEnds, demo_start, summary_from}
 use Rattle.md_top.specs.Inputs.{CartCause, InputCause, IsAccepted, Recorded, Verdict, WrongAt, cart_limit, cart_of, recording_limit, refusal_of}
-use Rattle.md_top.specs.Limits.{IsEnd, last_cycle}
+use Rattle.md_word.specs.Clock.{last_cycle}
+use Rattle.md_top.specs.Limits.{IsEnd}
 use Rattle.md_top.specs.Loads.{Begins, CanRun, Keeps, LoadCause, MayBeginAt, OfOther, StateVerdict, StateWrongAt, state_limit}
 use Rattle.md_top.specs.Resuming.{RunsWell}
 use Rattle.md_top.specs.Runs.{entries_from, halted_from, pieces_of, pieces_until, powered_on}
 use Rattle.md_top.specs.Outputs.{Holds, IsUnwritten, LeavesParts, nothing}
 use Rattle.md_vgm.specs.Outcomes.{Outcome}
-use Rattle.md_words.specs.Words.{Command, Convert, Demo, Info, Run, RunCart, RunDemo, end_of, frames_name, journal_name, load_name, output_of, recording_name, rom_of, save_name, sound_name}
+use Rattle.md_args.specs.Words.{Command, Convert, Demo, Info, Run, RunCart, RunDemo, end_of, frames_name, journal_name, load_name, output_of, recording_name, rom_of, save_name, sound_name}
 use Rattle.md_top.specs.Conversions.{CanConvert, ConvertEnds, ConvertFiles, convert_ending, fault_line}
 use Rattle.md_top.specs.declared.digests.Digests.{Digests}
 use Rattle.md_top.specs.declared.ending.Ending.{Ending}
 use Rattle.md_top.specs.declared.inputs.Inputs.{Inputs}
-use Rattle.md_top.specs.declared.ending.Ending.TheVariants.{Shown, Done, DemoDone, Converted, InputRefused, OutputFault, Usage, TooFar, ReadFault, TooLong, Short, NoMark, RecordingFault, RecordingTooLong, RecordingWrong, StateFault, StateTooLong, StateWrong, OtherCart, Behind, FramesFault, SoundFault, JournalFault, SaveFault, Unsaved, Memory}
+use Rattle.md_top.specs.declared.ending.Ending.TheVariants.{Shown, Done, DemoDone, Converted, InputRefused, OutputFault, Usage, TooFar, ReadFault, TooLong, Short, NoMark, RecordingFault, RecordingTooLong, RecordingWrong, LoadFault, StateTooLong, StateWrong, OtherCart, Behind, FramesFault, SoundFault, JournalFault, SaveFault, Unsaved, Memory}
 
 -- the status that the program ends with
 abbrev pub status_of : Ending → ℕ
@@ -35,7 +36,7 @@ status_of OutputFault = 4
 status_of Usage = 2
 status_of ReadFault = 3
 status_of RecordingFault = 3
-status_of StateFault = 3
+status_of LoadFault = 3
 status_of FramesFault = 4
 status_of SoundFault = 4
 status_of JournalFault = 4
@@ -108,7 +109,7 @@ text_of (Some command) NoMark = codes "refused: cartridge: no mark\n"
 text_of (Some command) RecordingFault = codes "fault: reading " ++ unwrap_or (recording_name command) [] ++ codes "\n"
 text_of (Some command) RecordingTooLong = codes "refused: " ++ unwrap_or (recording_name command) [] ++ codes " is too long\n"
 text_of (Some command) (RecordingWrong place) = codes "refused: recording at " ++ decimal place ++ codes "\n"
-text_of (Some command) StateFault = codes "fault: reading " ++ unwrap_or (load_name command) [] ++ codes "\n"
+text_of (Some command) LoadFault = codes "fault: reading " ++ unwrap_or (load_name command) [] ++ codes "\n"
 text_of (Some command) StateTooLong = codes "refused: " ++ unwrap_or (load_name command) [] ++ codes " is too long\n"
 text_of (Some command) (StateWrong place) = codes "refused: state at " ++ decimal place ++ codes "\n"
 text_of (Some command) (OtherCart kept given) = carts_line kept given
@@ -157,7 +158,7 @@ RunEnds told run old new SoundFault = IsEnd run.cycles × (told → CanRun run o
 RunEnds told run old new JournalFault = IsEnd run.cycles × (told → CanRun run old.files) × IsUnwritten run old new JournalFault
 RunEnds told run old new SaveFault = IsEnd run.cycles × (told → CanRun run old.files) × IsUnwritten run old new SaveFault
 RunEnds told run old new Unsaved = IsEnd run.cycles × (told → CanRun run old.files) × IsSome run.save
-RunEnds told run old new StateFault = (run.cycles ≤ last_cycle) × LoadCause told run old new StateFault
+RunEnds told run old new LoadFault = (run.cycles ≤ last_cycle) × LoadCause told run old new LoadFault
 RunEnds told run old new StateTooLong = (run.cycles ≤ last_cycle) × LoadCause told run old new StateTooLong
 RunEnds told run old new (StateWrong place) = (run.cycles ≤ last_cycle) × LoadCause told run old new (StateWrong place)
 RunEnds told run old new (OtherCart kept given) = (run.cycles ≤ last_cycle) × LoadCause told run old new (OtherCart kept given)
@@ -251,7 +252,7 @@ kept_ending (Keeps start) end = run_ending start end
 
 -- behind the saved state's file
 abbrev pub state_ending : Option (List ℕ) → StateVerdict → ℕ → Ending
-state_ending None state end = StateFault
+state_ending None state end = LoadFault
 state_ending (Some bytes) state end = if nat_lt state_limit (length bytes) then StateTooLong else kept_ending state end
 
 -- behind the inputs of a run, with the saved state of this name, if one is named

@@ -5,7 +5,7 @@ use Rattle.rom_header.specs.declared.cart.CartFault.{CartFault}
 use Rattle.rom_header.specs.declared.cart.CartFault.TheVariants as fault
 use Rattle.md_outer.specs.Outside.{DepotState, Files, Rose, bytes_of}
 use Rattle.md_pads.specs.Recording.{Frame, GoesWrongAt, Spells}
-use Rattle.md_words.specs.Words.{Command, Run, load_name, recording_name, rom_of}
+use Rattle.md_args.specs.Words.{Command, Run, load_name, recording_name, rom_of}
 use Rattle.md_top.specs.declared.ending.Ending.{Ending}
 use Rattle.md_top.specs.declared.ending.Ending.TheVariants.{ReadFault, TooLong, Short, NoMark, RecordingFault, RecordingTooLong, RecordingWrong, Memory}
 use Rattle.md_top.specs.declared.inputs.Inputs.{Inputs}

@@ -1,13 +1,10 @@
 -- The limits of a run. This project's profile.
 use Rattle.std.specs.Prelude.{ℕ, ◌+◌, ◌≤◌, min}
-
--- the last cycle to which a run may go
-abbrev pub last_cycle : ℕ
-last_cycle = 549755813888
+use Rattle.md_word.specs.Clock.{last_cycle, frame}
 
 -- the most cycles of a segment, whose records are written together
 abbrev pub segment_cycles : ℕ
-segment_cycles = 896040
+segment_cycles = frame
 
 -- where the segment ends that begins at a cycle of a run
 abbrev pub segment_end : ℕ → ℕ → ℕ

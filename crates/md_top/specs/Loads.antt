@@ -5,11 +5,11 @@ use Rattle.md_pads.specs.Recording.{Frame}
 use Rattle.md_machine.specs.Starts.{Start}
 use Rattle.save_state.specs.Faults.{IsOtherCart, IsWrongAt}
 use Rattle.save_state.specs.States.{IsState}
-use Rattle.md_words.specs.Words.{Run}
+use Rattle.md_args.specs.Words.{Run}
 use Rattle.md_top.specs.Inputs.{AreInputs, Recorded, Verdict, cart_of}
 use Rattle.md_top.specs.Runs.{powered_on}
 use Rattle.md_top.specs.declared.ending.Ending.{Ending}
-use Rattle.md_top.specs.declared.ending.Ending.TheVariants.{StateFault, StateTooLong, StateWrong, OtherCart, Memory}
+use Rattle.md_top.specs.declared.ending.Ending.TheVariants.{LoadFault, StateTooLong, StateWrong, OtherCart, Memory}
 use Rattle.md_top.specs.declared.inputs.Inputs.{Inputs}
 
 -- the greatest length of a saved state's file
@@ -59,7 +59,7 @@ CanRun run files = (start : Start) × Begins run files start × (start.at < run.
 
 -- why no machine is made of these inputs and the saved state of this name
 abbrev pub StateCause : Type 0 → Option (List ℕ) → Inputs → DepotState → DepotState → Ending → Type 0
-StateCause told load inputs old new StateFault = IsSomeAnd load (λ name. Rose old.read_faults new.read_faults ⊎ (told × (old.files name ≡ None)))
+StateCause told load inputs old new LoadFault = IsSomeAnd load (λ name. Rose old.read_faults new.read_faults ⊎ (told × (old.files name ≡ None)))
 StateCause told load inputs old new StateTooLong = IsSomeAnd load (λ name. told → IsSomeAnd (old.files name) (λ bytes. state_limit < length bytes))
 StateCause told load inputs old new (StateWrong place) = IsSomeAnd load (λ name. told → IsFoundIn (old.files name) inputs (StateWrongAt place))
 StateCause told load inputs old new (OtherCart kept given) = IsSomeAnd load (λ name. told → IsFoundIn (old.files name) inputs (OfOther kept given))

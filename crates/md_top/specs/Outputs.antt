@@ -1,7 +1,7 @@
 -- What the output files of a run hold.
 use Rattle.std.specs.Prelude.{◌≡◌, ℕ, List, [], ◌++◌, Option, Some, None, IsSome}
 use Rattle.md_outer.specs.Outside.{DepotState, Files, IsPrefix, Rose, with_file}
-use Rattle.md_words.specs.Words.{Run}
+use Rattle.md_args.specs.Words.{Run}
 use Rattle.md_top.specs.declared.ending.Ending.{Ending}
 use Rattle.md_top.specs.declared.ending.Ending.TheVariants.{FramesFault, SoundFault, JournalFault, SaveFault, Memory}
 use Rattle.md_top.specs.declared.outputs.Outputs.{Outputs}

@@ -3,7 +3,7 @@ use Rattle.std.specs.Prelude.{◌≡◌, ℕ, ◌^◌, ◌≤◌, List, ◌++◌
 use Rattle.md_word.specs.declared.event.Entry.{Entry}
 use Rattle.md_machine.specs.Console.{Console, IsQuiet, IsRunTo}
 use Rattle.md_machine.specs.Media.{Media, joined}
-use Rattle.md_machine.specs.SoundParts.{HasSoundParts}
+use Rattle.md_machine.specs.ValidParts.{HasValidParts}
 use Rattle.md_machine.specs.Starts.{Start}
 use Rattle.md_reached.specs.Reached.{IsReached}
 use Rattle.md_reached.specs.Settling.{GoesOn}
@@ -11,7 +11,7 @@ use Rattle.save_state.specs.Ready.{IsReady}
 use Rattle.save_state.specs.States.{IsState, settled_console, state_bytes}
 use Rattle.md_top.specs.Counts.{frames_between, pairs_between}
 use Rattle.md_top.specs.Heard.{IsHeard}
-use Rattle.md_top.specs.Limits.{last_cycle}
+use Rattle.md_word.specs.Clock.{last_cycle}
 use Rattle.md_top.specs.Runs.{entries_from, halted_from, media_from, run_from, state_to}
 
 -- what a run from a start saves at a cycle is a saved state of its cartridge, and keeps the machine there,
@@ -55,7 +55,7 @@ pub record StateLaws : Type 0 where
   pub reach : (m z : Console) (at end : ℕ) (entries : List Entry) (output : Media) → IsReached at m → at ≤ end → end ≤ 2 ^ 50
       → IsRunTo m end z entries output → IsReached end z
   pub ready : (at : ℕ) (m : Console) → 1 ≤ at → at ≤ last_cycle → IsReached at m → IsReady at m
-  pub goes_on : (m z : Console) (at end : ℕ) (entries : List Entry) (output : Media) → HasSoundParts m → IsQuiet at m → at ≤ end → end ≤ 2 ^ 50
+  pub goes_on : (m z : Console) (at end : ℕ) (entries : List Entry) (output : Media) → HasValidParts m → IsQuiet at m → at ≤ end → end ≤ 2 ^ 50
       → IsRunTo m end z entries output → GoesOn end (settled_console at m) z entries output
   pub one_run : (m w z : Console) (end : ℕ) (first second : List Entry) (output other : Media) → IsRunTo m end w first output
       → IsRunTo m end z second other → (w ≡ z) × (first ≡ second) × (output ≡ other)

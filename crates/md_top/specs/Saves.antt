@@ -1,7 +1,7 @@
 -- What saving a state behind a run comes to.
 use Rattle.std.specs.Prelude.{◌≡◌, List, ℕ, IsSome}
 use Rattle.md_outer.specs.Outside.{DepotState, Files}
-use Rattle.md_words.specs.Words.{Run}
+use Rattle.md_args.specs.Words.{Run}
 use Rattle.md_top.specs.Outputs.{AddsParts, IsWriteFault, nothing}
 use Rattle.md_top.specs.declared.ending.Ending.{Ending}
 use Rattle.md_top.specs.declared.ending.Ending.TheVariants.{Unsaved}

@@ -3,7 +3,8 @@ use Rattle.std.specs.Prelude.{◌≡◌, ℕ, ◌+◌, ◌<◌, ◌≤◌, [], l
 use Rattle.md_machine.specs.Console.{IsRunTo}
 use Rattle.md_machine.specs.Machines.{MachineValue}
 use Rattle.md_machine.specs.Media.{no_media}
-use Rattle.md_top.specs.Limits.{last_cycle, segment_cycles}
+use Rattle.md_word.specs.Clock.{last_cycle}
+use Rattle.md_top.specs.Limits.{segment_cycles}
 
 -- the machine may be brought to the cycle: it is drained, and the cycle lies at most a segment on
 pub record CanGoOn (machine : MachineValue) (to : ℕ) : Type 0 where

@@ -1,13 +1,13 @@
 ghost use Rattle.std.specs.Prelude.{◌≡◌, ◌⊎◌};
 ghost use Rattle.md_top.specs.Answers.{PutsAll, PutsPart};
 ghost use Rattle.md_top.specs.Conversions.{ConvertEnds, ConvertFiles, fault_line};
-ghost use Rattle.md_words.specs.Shown.{shown_conversion};
+ghost use Rattle.md_args.specs.Shown.{shown_conversion};
 
 use crate::ending::Ending;
 use crate::report::{refuse, refuse_place};
+use md_args::ConvertWords;
 use md_outer::{Depot, Sink};
 use md_vgm::VgmFault;
-use md_words::ConvertWords;
 use std::alloc::Global;
 use vgm_files::{Converted, convert};
 

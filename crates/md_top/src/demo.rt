@@ -5,7 +5,7 @@ ghost use Rattle.md_top.specs.Demos.{DemoEnds, HaveUntil, IsSummary, demo_start}
 ghost use Rattle.md_top.specs.Limits.{IsEnd};
 ghost use Rattle.md_top.specs.Limits as limits;
 ghost use Rattle.md_top.specs.Workers.{CanGoOn, WentOn};
-ghost use Rattle.md_words.specs.Shown.{shown_demo};
+ghost use Rattle.md_args.specs.Shown.{shown_demo};
 ghost use Rattle.md_demo.specs.Demo as meaning;
 
 use crate::course::Course;
@@ -14,15 +14,15 @@ use crate::hashers::Hashers;
 use crate::inputs::Inputs;
 use crate::laws::states_keep_laws;
 use crate::loading::power_on;
-use crate::perform::LAST_CYCLE;
 use crate::run_on::segment_end;
 use crate::segment::{advance, begin};
 use crate::summary::Summary;
+use md_args::DemoWords;
 use md_demo::demo_cart;
 use md_machine::Machine;
 use md_pads::Recording;
 use md_word::NoMemory;
-use md_words::DemoWords;
+use md_word::clock::LAST_CYCLE;
 use rom_header::Cart;
 use std::alloc::Global;
 

@@ -43,7 +43,7 @@ pub(crate) enum Ending {
     /// The recording's file spells no recording, and goes wrong at this byte.
     RecordingWrong(u64),
     /// The saved state's file could not be read.
-    StateFault,
+    LoadFault,
     /// The saved state's file is longer than its limit.
     StateTooLong,
     /// The saved state's file keeps no machine, and goes wrong at this byte.

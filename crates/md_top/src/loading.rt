@@ -63,7 +63,7 @@ fn load_machine<D: Depot>(
 {
     match depot.fetch(alloc, name, LONGEST_STATE) {
         Ok(bytes) => kept_machine(alloc, bytes.as_slice(), inputs),
-        Err(Fetch::Failed) => Err(Ending::StateFault),
+        Err(Fetch::Failed) => Err(Ending::LoadFault),
         Err(Fetch::TooLong) => Err(Ending::StateTooLong),
         Err(Fetch::NoMemory) => Err(Ending::Memory),
     }

@@ -2,12 +2,12 @@ ghost use Rattle.std.specs.Prelude.{◌≡◌, [], OnOk, OnErr, IfOk, IfErr, IsE
 ghost use Rattle.std.specs.Option.{option_copied};
 ghost use Rattle.md_outer.specs.Outside.{GoesOn, Rose};
 ghost use Rattle.md_top.specs.Outputs.{Adds, AddsParts, AreBegun, Holds, IsBegun, IsUnwritten, IsWriteFault, LeavesParts, nothing, with_part};
-ghost use Rattle.md_words.specs.Shown.{shown_run};
+ghost use Rattle.md_args.specs.Shown.{shown_run};
 
 use crate::ending::Ending;
 use crate::outputs::Outputs;
+use md_args::RunWords;
 use md_outer::{Begin, Depot, Failed};
-use md_words::RunWords;
 use std::alloc::Global;
 
 /// Begins each output that is asked for.

@@ -1,7 +1,7 @@
 ghost use Rattle.std.specs.Prelude.{◌≡◌, ℕ, Some};
 ghost use Rattle.md_top.specs.Endings.{HasCause, InfoEnds, LeavesFiles, RunEnds, RunFiles};
 ghost use Rattle.md_top.specs.Workers.{CanGoOn, WentOn};
-ghost use Rattle.md_words.specs.Shown.{shown_command, shown_run};
+ghost use Rattle.md_args.specs.Shown.{shown_command, shown_run};
 
 use crate::converting::convert_file;
 use crate::demo::run_demo;
@@ -11,14 +11,12 @@ use crate::reading::{read_cart, read_inputs};
 use crate::run_on::write_all;
 use crate::segment::begin;
 use crate::text::Text;
+use md_args::{CommandWords, RunWords};
 use md_machine::Machine;
 use md_outer::Depot;
 use md_word::NoMemory;
-use md_words::{CommandWords, RunWords};
+use md_word::clock::LAST_CYCLE;
 use std::alloc::Global;
-
-/// The last cycle to which a run may go.
-pub(crate) const LAST_CYCLE: u64 = 549_755_813_888;
 
 /// Does what the words ask for, up to what is to be put. `go_on` makes each segment of a run.
 pub(crate) fn perform<F: Fn(&mut Machine, u64), D: Depot>(

@@ -3,13 +3,13 @@ ghost use Rattle.std.specs.Option.{option_copied};
 ghost use Rattle.md_outer.specs.Outside.{GoesOn};
 ghost use Rattle.md_pads.specs.Recording.{IsFrame};
 ghost use Rattle.md_top.specs.Inputs.{AreInputs, CartCause, InputCause, IsAccepted, RecordingCause, Records, cart_of, refusal_of};
-ghost use Rattle.md_words.specs.Shown.{shown_run};
+ghost use Rattle.md_args.specs.Shown.{shown_run};
 
 use crate::ending::Ending;
 use crate::inputs::Inputs;
+use md_args::RunWords;
 use md_outer::{Depot, Fetch};
 use md_pads::{RecFault, Recording};
-use md_words::RunWords;
 use rom_header::{Cart, CartFault, GREATEST};
 use std::alloc::Global;
 

@@ -5,7 +5,7 @@ ghost use Rattle.md_outer.specs.Outside.{PutsText};
 ghost use Rattle.md_top.specs.Answers.{PutsAll, PutsOutput, PutsPart, Reports};
 ghost use Rattle.md_top.specs.Counts.{frames_between};
 ghost use Rattle.md_top.specs.Endings.{carts_line, counts_of, halted_line, lines_of, number_line, numbers_line};
-ghost use Rattle.md_words.specs.Shown.{shown_command};
+ghost use Rattle.md_args.specs.Shown.{shown_command};
 
 use crate::converting::refuse_input;
 use crate::ending::Ending;
@@ -14,8 +14,8 @@ use crate::report_demo::put_summary;
 use crate::run_on::{frames_between, pairs_between};
 use hex::encode_to_slice;
 use itoa::Buffer;
+use md_args::CommandWords;
 use md_outer::{Failed, Sink};
-use md_words::CommandWords;
 
 /// Puts what a command comes to, and answers its status.
 pub(crate) fn report<S: Sink>(command: &CommandWords<'_>, ending: Ending, out: &mut S) -> u8
@@ -44,7 +44,7 @@ pub(crate) fn report<S: Sink>(command: &CommandWords<'_>, ending: Ending, out: &
             " is too long\n",
         ),
         Ending::RecordingWrong(place) => refuse_place(out, 6, "refused: recording at ", place),
-        Ending::StateFault => refuse_file(out, 3, "fault: reading ", command.load(), "\n"),
+        Ending::LoadFault => refuse_file(out, 3, "fault: reading ", command.load(), "\n"),
         Ending::StateTooLong => {
             refuse_file(out, 14, "refused: ", command.load(), " is too long\n")
         }

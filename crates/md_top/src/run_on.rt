@@ -4,12 +4,13 @@ ghost use Rattle.md_machine.specs.Starts.{Start};
 ghost use Rattle.md_top.specs.Courses.{CameFrom, IsAtStart, IsUnderway, cycle_of, start_in};
 ghost use Rattle.md_top.specs.Counts.{count_of_frames, frames_between, pairs_between, pairs_of};
 ghost use Rattle.md_top.specs.Endings.{HoldsUntil, RunCause, RunLeaves};
-ghost use Rattle.md_top.specs.Limits.{IsEnd, last_cycle, segment_cycles};
+ghost use Rattle.md_word.specs.Clock.{last_cycle};
+ghost use Rattle.md_top.specs.Limits.{IsEnd, segment_cycles};
 ghost use Rattle.md_top.specs.Limits as limits;
 ghost use Rattle.md_top.specs.Outputs.{AreBegun, Holds, IsWriteFault, LeavesParts, nothing};
 ghost use Rattle.md_top.specs.Runs.{pieces_of};
 ghost use Rattle.md_top.specs.Workers.{CanGoOn, WentOn};
-ghost use Rattle.md_words.specs.Shown.{shown_run};
+ghost use Rattle.md_args.specs.Shown.{shown_run};
 
 use crate::course::Course;
 use crate::ending::Ending;
@@ -18,18 +19,15 @@ use crate::output::{append_all, append_sound, begin_all};
 use crate::outputs::Outputs;
 use crate::saving::save;
 use crate::segment::advance;
+use md_args::RunWords;
 use md_files::wav_head;
 use md_machine::Machine;
 use md_outer::Depot;
-use md_word::clock::FRAME;
-use md_words::RunWords;
+use md_word::clock::{BATCH, FRAME};
 use std::alloc::Global;
 
 /// The cycle of a frame at which its picture is finished: the start of line 224.
 const FINISHED: u64 = 766_080;
-
-/// The most cycles of a segment.
-const SEGMENT: u64 = 896_040;
 
 /// Begins the outputs of a run, runs it from its start to its end, and writes what it makes. `go_on`
 /// makes each segment.
@@ -78,7 +76,7 @@ pub(crate) fn frames_between(from: u64, end: u64) -> u64
 fn count_pairs(cycles: u64) -> u64
     ensures { result ≡ pairs_of cycles }
 {
-    16 * (cycles.saturating_sub(1) / 16_128)
+    16 * (cycles.saturating_sub(1) / BATCH)
 }
 
 /// How many pairs of samples a run from a cycle to another has.
@@ -115,12 +113,12 @@ fn append_head<D: Depot>(
     append_sound(run, outputs, depot, course.pairs.as_slice())
 }
 
-/// Where the segment ends that begins at the cycle `at` of a run to `end`.
+/// A segment has a frame's cycles at most. Where the one ends that begins at the cycle `at` of a run to `end`.
 pub(crate) fn segment_end(at: u64, end: u64) -> u64
     requires { at ≤ last_cycle }
     ensures { result ≡ limits.segment_end at end }
 {
-    (at + SEGMENT).min(end)
+    (at + FRAME).min(end)
 }
 
 /// Runs on for a segment, and appends what it makes.

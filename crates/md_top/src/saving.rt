@@ -1,19 +1,19 @@
 ghost use Rattle.std.specs.Prelude.{◌≡◌, ◌≤◌, IsSome, OnOk, OnErr, IfErr};
 ghost use Rattle.md_outer.specs.Outside.{GoesOn};
-ghost use Rattle.md_top.specs.Limits.{last_cycle};
+ghost use Rattle.md_word.specs.Clock.{last_cycle};
 ghost use Rattle.md_top.specs.Outputs.{Adds, AddsParts, AreBegun, IsWriteFault, nothing};
 ghost use Rattle.md_top.specs.Saves.{IsNotSaved, LeavesState};
-ghost use Rattle.md_words.specs.Shown.{shown_run};
+ghost use Rattle.md_args.specs.Shown.{shown_run};
 ghost use Rattle.save_state.specs.Ready.{IsReady};
 ghost use Rattle.save_state.specs.States.{IsState, settled_console, state_bytes};
 
 use crate::ending::Ending;
 use crate::output::append_state;
 use crate::outputs::Outputs;
+use md_args::RunWords;
 use md_machine::Machine;
 use md_outer::Depot;
 use md_word::NoMemory;
-use md_words::RunWords;
 use save_state::write;
 use std::alloc::Global;
 

@@ -1,14 +1,14 @@
 ghost use Rattle.std.specs.Prelude.{◌≡◌, ℕ, ◌≤◌, None, Some, map, string_bytes};
 ghost use Rattle.md_top.specs.Answers.{Answers, Causes};
 ghost use Rattle.md_top.specs.Workers.{CanGoOn, WentOn};
-ghost use Rattle.md_words.specs.Shown.{shown_command};
-ghost use Rattle.md_words.specs.Words.{command_of};
+ghost use Rattle.md_args.specs.Shown.{shown_command};
+ghost use Rattle.md_args.specs.Words.{command_of};
 
 use crate::perform::perform;
 use crate::report::{refuse, report};
+use md_args::{CommandWords, read_words};
 use md_machine::Machine;
 use md_outer::{Depot, Gate, Sink};
-use md_words::{CommandWords, read_words};
 use std::alloc::Global;
 use std::sync::Wait;
 use std::thread::Threads;

@@ -1,2 +1,3 @@
 pub mod Agree
 pub mod Below
+pub mod Regions

@@ -5,3 +5,4 @@ pub mod Keys
 pub mod Modes
 pub mod Width
 pub mod Map
+pub mod Region

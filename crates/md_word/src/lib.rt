@@ -11,6 +11,7 @@ mod key;
 mod main_bus;
 mod mode;
 mod pins;
+pub mod region;
 mod regs;
 mod size;
 mod spent;

@@ -1,5 +1,5 @@
 use crate::runs::words_of;
-use md_words::{CommandWords, read_words};
+use md_args::{CommandWords, read_words};
 use std::alloc::{AllocError, Global};
 use std::test::Fail;
 

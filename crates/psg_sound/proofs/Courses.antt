@@ -1,7 +1,7 @@
 -- Courses that are cut and joined.
 use Rattle.std.proofs.Common.{◌≡◌, ◌∙◌, sym, ap, ℕ, zero, suc, ◌+◌, ◌-◌, ◌*◌, ◌≤◌, List, add-zero, add-suc, add-one, arith}
-use Rattle.stamped_writes.proofs.Courses as courses
-use Rattle.stamped_writes.proofs.Courses.{due-made_below, finished-made_below}
+use Rattle.sound_writes.proofs.Courses as courses
+use Rattle.sound_writes.proofs.Courses.{due-made_below, finished-made_below}
 use Rattle.psg_sound.specs.declared.write.PsgWrite.{PsgWrite}
 use Rattle.psg_sound.specs.Synth.{Synth, ticked}
 use Rattle.psg_sound.specs.Stamp.{stamp_of}

@@ -1,6 +1,6 @@
 -- A batch on its way from sample to sample.
 use Rattle.std.proofs.Common.{◌≡◌, ◌∙◌, sym, ap, ℕ, ◌+◌, ◌-◌, ◌*◌, ◌<◌, ◌≤◌, List, arith}
-use Rattle.stamped_writes.proofs.Courses.{made_below-zero}
+use Rattle.sound_writes.proofs.Courses.{made_below-zero}
 use Rattle.psg_sound.specs.declared.write.PsgWrite.{PsgWrite}
 use Rattle.psg_sound.specs.Synth.{Synth, level}
 use Rattle.psg_sound.specs.Stamp.{stamp_of}

@@ -2,11 +2,11 @@
 use Rattle.std.proofs.Common.{◌≡◌, ◌∙◌, refl, sym, ap, ℕ, zero, suc, ◌+◌, ◌-◌, ◌*◌, ◌≤◌, List, [], ◌++◌, map, filter, ℤ, add-zero, add-suc, arith}
 use Rattle.std.specs.List.{range_with_len}
 use Rattle.std.proofs.lemmas.Bool.{lt-leb}
-use Rattle.stamped_writes.specs.Order.{is_below, is_from}
-use Rattle.stamped_writes.proofs.Courses.{finished-made_below, written_all-append}
-use Rattle.stamped_writes.proofs.Filters.{filter-none, filter-filter, filter-later, stamped-before, stamped-behind, stamped-over}
-use Rattle.stamped_writes.proofs.Orders.{IsInOrder-append, IsInOrder-filter}
-use Rattle.stamped_writes.proofs.Splits.{made_below-in_order}
+use Rattle.sound_writes.specs.Order.{is_below, is_from}
+use Rattle.sound_writes.proofs.Courses.{finished-made_below, written_all-append}
+use Rattle.sound_writes.proofs.Filters.{filter-none, filter-filter, filter-later, stamped-before, stamped-behind, stamped-over}
+use Rattle.sound_writes.proofs.Orders.{IsInOrder-append, IsInOrder-filter}
+use Rattle.sound_writes.proofs.Splits.{made_below-in_order}
 use Rattle.psg_sound.specs.declared.write.PsgWrite.{PsgWrite}
 use Rattle.psg_sound.specs.Stamp.{stamp_of}
 use Rattle.psg_sound.specs.Synth.{Synth, ticked, level}

@@ -13,9 +13,9 @@ use Rattle.md_fields.specs.Places.{IsBytes, Stand, number_at}
 use Rattle.md_fields.proofs.Items.{all_hold, kept, not_both, one_place, same}
 use Rattle.md_fields.proofs.Padding.{padded_back, padded_length, padded_zeros}
 use Rattle.md_fields.proofs.Standing.{IsBytes-drop, IsBytes-take}
-use Rattle.stamped_writes.specs.Entries.{AreFit, entries_bytes}
-use Rattle.stamped_writes.specs.Keys.{are_kept, is_kept}
-use Rattle.stamped_writes.proofs.Entries as entries
+use Rattle.sound_writes.specs.Entries.{AreFit, entries_bytes}
+use Rattle.sound_writes.specs.Keys.{are_kept, is_kept}
+use Rattle.sound_writes.proofs.Entries as entries
 use Rattle.psg_sound.specs.Port.{IsPort}
 use Rattle.psg_sound.specs.PortSpelling.{PortGoesWrongAt, SavedPort, SpellsPort, are_writes, key_of, port_bytes, port_fields, saved_port, write_at, write_fields, writes_at}
 use Rattle.psg_sound.specs.declared.write.PsgWrite.{PsgWrite}

@@ -2,7 +2,7 @@
 -- The PSG ticks every 240 cycles of the master clock; a sample stands every 1,008.
 use Rattle.std.specs.Prelude.{ℕ, zero, suc, ◌+◌, ◌-◌, ◌*◌, ◌/◌, ℤ, List, map}
 use Rattle.std.specs.List.{range_with_len}
-use Rattle.stamped_writes.specs.Course as course
+use Rattle.sound_writes.specs.Course as course
 use Rattle.psg_sound.specs.declared.write.PsgWrite.{PsgWrite}
 use Rattle.psg_sound.specs.Stamp.{stamp_of}
 use Rattle.psg_sound.specs.Synth.{Synth, written, ticked, level}

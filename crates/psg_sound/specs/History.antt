@@ -2,7 +2,7 @@
 -- A write comes before the ticks above its stamp, and after the others.
 use Rattle.std.specs.Prelude.{◌≡◌, ℕ, zero, suc, ◌+◌, ◌*◌, ℤ, List, ◌++◌, map}
 use Rattle.std.specs.List.{range_with_len}
-use Rattle.stamped_writes.specs.Order as order
+use Rattle.sound_writes.specs.Order as order
 use Rattle.psg_sound.specs.declared.write.PsgWrite.{PsgWrite}
 use Rattle.psg_sound.specs.Stamp.{stamp_of}
 use Rattle.psg_sound.specs.Synth.{Synth, at_power_on, ticked, level}

@@ -1,8 +1,8 @@
 -- The port that holds writes until the synthesis takes them.
 use Rattle.std.specs.Prelude.{ℕ, ◌<◌, ◌≤◌, Bool, List, length, All}
 use Rattle.md_word.specs.declared.key.Key.{Key}
-use Rattle.stamped_writes.specs.Held as held
-use Rattle.stamped_writes.specs.Order as order
+use Rattle.sound_writes.specs.Held as held
+use Rattle.sound_writes.specs.Order as order
 use Rattle.psg_sound.specs.declared.write.PsgWrite.{PsgWrite}
 use Rattle.psg_sound.specs.Stamp.{stamp_of}
 

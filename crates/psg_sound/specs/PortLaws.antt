@@ -3,7 +3,7 @@ use Rattle.std.proofs.Common.{◌<◌, Bool, List, length, [], ℕ, ◌≤◌, l
 use Rattle.std.specs.Prelude.{filter}
 use Rattle.std.proofs.lemmas.List.Elements.{All-filter, All-nil}
 use Rattle.md_word.specs.declared.key.Key.{Key}
-use Rattle.stamped_writes.proofs.Helds.{length-filter-most, length-held_with, All-held_with}
+use Rattle.sound_writes.proofs.Helds.{length-filter-most, length-held_with, All-held_with}
 use Rattle.psg_sound.specs.declared.write.PsgWrite.{PsgWrite}
 use Rattle.psg_sound.specs.Port.{IsPort, held_with, is_below, left_from, taken_below}
 

@@ -7,8 +7,8 @@ use Rattle.md_fields.specs.Fields.{Field, byte, word, quad, block, spelling}
 use Rattle.md_fields.specs.Items.{IsRefused, IsRight, Keeps}
 use Rattle.md_fields.specs.Padding.{are_zeros, padded}
 use Rattle.md_fields.specs.Places.{number_at}
-use Rattle.stamped_writes.specs.Entries.{AreFit, entries_bytes, entries_from}
-use Rattle.stamped_writes.specs.Keys.{are_kept}
+use Rattle.sound_writes.specs.Entries.{AreFit, entries_bytes, entries_from}
+use Rattle.sound_writes.specs.Keys.{are_kept}
 use Rattle.psg_sound.specs.declared.write.PsgWrite.{PsgWrite}
 
 -- what is kept, whatever it is: the number of the writes, and the bytes of 1,024 of ten bytes each

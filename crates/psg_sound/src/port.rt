@@ -1,11 +1,11 @@
 ghost use Rattle.std.specs.Prelude.{◌≡◌, ◌<◌, []};
 ghost use Rattle.psg_sound.specs.Port.{IsPort, held_with, left_from, taken_below};
 ghost use Rattle.std.specs.List.{list_all};
-ghost use Rattle.stamped_writes.specs.Keys.{is_before_next as before_next};
+ghost use Rattle.sound_writes.specs.Keys.{is_before_next as before_next};
 
 use crate::write::{PsgList, PsgWrite};
 use md_word::Key;
-use stamped_writes::is_before_next;
+use sound_writes::is_before_next;
 use std::marker::Model;
 
 /// The PSG's port: the writes that its synthesis has not taken. Contracts see their list, at most

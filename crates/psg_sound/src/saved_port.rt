@@ -1,13 +1,13 @@
 ghost use Rattle.std.specs.Prelude.{◌≡◌, ◌+◌, ◌*◌, ◌≤◌, ◌++◌, length, map, vec_len, vec_capacity};
 ghost use Rattle.md_fields.specs.Fields.{AreWithin, seen, spelling};
-ghost use Rattle.stamped_writes.specs.Entries.{AreFit, entries_bytes};
-ghost use Rattle.stamped_writes.specs.Keys.{are_kept};
+ghost use Rattle.sound_writes.specs.Entries.{AreFit, entries_bytes};
+ghost use Rattle.sound_writes.specs.Keys.{are_kept};
 ghost use Rattle.psg_sound.specs.PortSpelling as meaning;
 
 use crate::write::{PsgList, PsgWrite};
 use md_fields::{Field, put, u8_at, u64_at};
 use md_word::Key;
-use stamped_writes::Earliest;
+use sound_writes::Earliest;
 
 /// How many writes a port holds, at most.
 pub const MOST: usize = 1_024;

@@ -1,6 +1,6 @@
 ghost use Rattle.std.specs.Prelude.{◌≡◌, ◌≢◌, ◌↔◌, ◌+◌, ◌≤◌, ◌++◌, ℕ, List, map, true, vec_len, vec_capacity, IfErr, IfOk, IsErrOf, Ok, Err};
 ghost use Rattle.md_fields.specs.Items.{IsRight, Keeps};
-ghost use Rattle.stamped_writes.specs.Keys.{are_kept};
+ghost use Rattle.sound_writes.specs.Keys.{are_kept};
 ghost use Rattle.psg_sound.specs.PortSpelling.{PortGoesWrongAt, SpellsPort, key_of, port_bytes};
 ghost use Rattle.psg_sound.specs.SynthSpelling.{SpellsSynth, SynthGoesWrongAt, saved_synth, synth_bytes, synth_fields};
 ghost use Rattle.psg_sound.specs.Synth.{Synth};
@@ -13,7 +13,7 @@ use crate::synth::PsgSynth;
 use crate::write::PsgList;
 use md_fields::{are_zeros, first_wrong, put, u16_at};
 use md_word::Unspell;
-use stamped_writes::{put_count, put_zeros};
+use sound_writes::{put_count, put_zeros};
 use std::alloc::Global;
 
 /// How many bytes keep a port, and how many a synthesis.

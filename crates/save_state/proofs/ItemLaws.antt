@@ -3,10 +3,10 @@ use Rattle.std.proofs.Common.{◌≡◌, ◌≢◌, ℕ, ◌<◌, ◌≤◌, leb
 use Rattle.std.specs.Result.{IfOk}
 use Rattle.md_word.specs.declared.unspell.Unspell.{Unspell}
 use Rattle.md_word.specs.declared.unspell.Unspell.TheVariants.{Rule, NoMemory}
-use Rattle.m68k_chip.specs.Sound.{Chip68Value}
+use Rattle.m68k_chip.specs.Validity.{Chip68Value}
 use Rattle.m68k_chip.specs.Spelling as main
 use Rattle.m68k_chip.specs.States.{State68}
-use Rattle.z80_chip.specs.Sound.{Chip80Value}
+use Rattle.z80_chip.specs.Validity.{Chip80Value}
 use Rattle.z80_chip.specs.Spelling as sub
 use Rattle.z80_chip.specs.States.{State80}
 use Rattle.save_state.specs.declared.layout.Part.{Part}

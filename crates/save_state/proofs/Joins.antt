@@ -5,7 +5,7 @@ use Rattle.md_word.specs.declared.unspell.Unspell.{Unspell}
 use Rattle.md_word.specs.declared.unspell.Unspell.TheVariants.{Rule, NoMemory}
 use Rattle.save_state.specs.declared.layout.Part.{Part}
 use Rattle.save_state.specs.Layout.{are_ordered, place_of}
-use Rattle.save_state.specs.Joining.{Reads, FailsIn, placed, both, Both, Either, with_rule}
+use Rattle.save_state.specs.Joining.{Reads, FailsIn, placed, both, KeepsBoth, Either, with_rule}
 use Rattle.md_fields.proofs.Refusals.{failed, same_rule}
 use Rattle.save_state.proofs.Places.{in_order}
 
@@ -68,7 +68,7 @@ in_parts {T} Keeps Fails parts (Err NoMemory) ordered r = record {
 not_failed : {A : Type 0} (Keeps : A → Type 0) (F : ℕ → Type 0) (p : ℕ) → Reads {T = A} Keeps F (Err (Rule p)) → (a : A) → Keeps a → ⊥
 not_failed {A} Keeps F p r a keeps = let e : failed {T = A} (Rule p) ≡ fine a = r.only a keeps (λ m. cc) in absurd cc
 
-two_right : {A B : Type 0} (K : A → Type 0) (L : B → Type 0) (F G : ℕ → Type 0) (a : A) (b : B) → Reads {T = A} K F (Ok a) → Reads {T = B} L G (Ok b) → Reads {T = A × B} (Both K L) (Either F G) (Ok (a, b))
+two_right : {A B : Type 0} (K : A → Type 0) (L : B → Type 0) (F G : ℕ → Type 0) (a : A) (b : B) → Reads {T = A} K F (Ok a) → Reads {T = B} L G (Ok b) → Reads {T = A × B} (KeepsBoth K L) (Either F G) (Ok (a, b))
 two_right {A} {B} K L F G a b r s = record {
   found = (r.found, s.found);
   only = λ x keeps n. (
@@ -81,7 +81,7 @@ two_right {A} {B} K L F G a b r s = record {
   least = λ p e. absurd cc;
 }
 
-first_wrong : {A B : Type 0} (K : A → Type 0) (L : B → Type 0) (F G : ℕ → Type 0) (p : ℕ) (b : B) → Reads {T = A} K F (Err (Rule p)) → Reads {T = B} L G (Ok b) → Reads {T = A × B} (Both K L) (Either F G) (Err (Rule p))
+first_wrong : {A B : Type 0} (K : A → Type 0) (L : B → Type 0) (F G : ℕ → Type 0) (p : ℕ) (b : B) → Reads {T = A} K F (Err (Rule p)) → Reads {T = B} L G (Ok b) → Reads {T = A × B} (KeepsBoth K L) (Either F G) (Err (Rule p))
 first_wrong {A} {B} K L F G p b r s = record {
   found = tt;
   only = λ x keeps n. absurd (not_failed {A = A} K F p r x.0 keeps.0);
@@ -95,7 +95,7 @@ first_wrong {A} {B} K L F G p b r s = record {
       });
 }
 
-second_wrong : {A B : Type 0} (K : A → Type 0) (L : B → Type 0) (F G : ℕ → Type 0) (p : ℕ) (a : A) → Reads {T = A} K F (Ok a) → Reads {T = B} L G (Err (Rule p)) → Reads {T = A × B} (Both K L) (Either F G) (Err (Rule p))
+second_wrong : {A B : Type 0} (K : A → Type 0) (L : B → Type 0) (F G : ℕ → Type 0) (p : ℕ) (a : A) → Reads {T = A} K F (Ok a) → Reads {T = B} L G (Err (Rule p)) → Reads {T = A × B} (KeepsBoth K L) (Either F G) (Err (Rule p))
 second_wrong {A} {B} K L F G p a r s = record {
   found = tt;
   only = λ x keeps n. absurd (not_failed {A = B} L G p s x.1 keeps.1);
@@ -116,7 +116,7 @@ least_fails F G p q f g (inr le) = inr (subst G (omega (arith, le)) g)
 le_cases : (p q : ℕ) → (p ≤ q) ⊎ (q ≤ p)
 le_cases p q = grind arith
 
-two_wrong : {A B : Type 0} (K : A → Type 0) (L : B → Type 0) (F G : ℕ → Type 0) (p q : ℕ) → Reads {T = A} K F (Err (Rule p)) → Reads {T = B} L G (Err (Rule q)) → Reads {T = A × B} (Both K L) (Either F G) (Err (Rule (min p q)))
+two_wrong : {A B : Type 0} (K : A → Type 0) (L : B → Type 0) (F G : ℕ → Type 0) (p q : ℕ) → Reads {T = A} K F (Err (Rule p)) → Reads {T = B} L G (Err (Rule q)) → Reads {T = A × B} (KeepsBoth K L) (Either F G) (Err (Rule (min p q)))
 two_wrong {A} {B} K L F G p q r s = record {
   found = tt;
   only = λ x keeps n. absurd (not_failed {A = A} K F p r x.0 keeps.0);
@@ -139,16 +139,16 @@ no_memory K F = record {
   least = λ p e. absurd cc;
 }
 
-pub joined : {A B : Type 0} (K : A → Type 0) (L : B → Type 0) (F G : ℕ → Type 0) (first : Result A Unspell) (second : Result B Unspell) → Reads K F first → Reads L G second → Reads (Both K L) (Either F G) (both first second)
+pub joined : {A B : Type 0} (K : A → Type 0) (L : B → Type 0) (F G : ℕ → Type 0) (first : Result A Unspell) (second : Result B Unspell) → Reads K F first → Reads L G second → Reads (KeepsBoth K L) (Either F G) (both first second)
 joined {A} {B} K L F G (Ok a) (Ok b) r s = two_right {A = A} {B = B} K L F G a b r s
 joined {A} {B} K L F G (Ok a) (Err (Rule q)) r s = second_wrong {A = A} {B = B} K L F G q a r s
-joined {A} {B} K L F G (Ok a) (Err NoMemory) r s = no_memory {A = A × B} (Both K L) (Either F G)
+joined {A} {B} K L F G (Ok a) (Err NoMemory) r s = no_memory {A = A × B} (KeepsBoth K L) (Either F G)
 joined {A} {B} K L F G (Err (Rule p)) (Ok b) r s = first_wrong {A = A} {B = B} K L F G p b r s
 joined {A} {B} K L F G (Err (Rule p)) (Err (Rule q)) r s = two_wrong {A = A} {B = B} K L F G p q r s
-joined {A} {B} K L F G (Err (Rule p)) (Err NoMemory) r s = no_memory {A = A × B} (Both K L) (Either F G)
-joined {A} {B} K L F G (Err NoMemory) (Ok b) r s = no_memory {A = A × B} (Both K L) (Either F G)
-joined {A} {B} K L F G (Err NoMemory) (Err (Rule q)) r s = no_memory {A = A × B} (Both K L) (Either F G)
-joined {A} {B} K L F G (Err NoMemory) (Err NoMemory) r s = no_memory {A = A × B} (Both K L) (Either F G)
+joined {A} {B} K L F G (Err (Rule p)) (Err NoMemory) r s = no_memory {A = A × B} (KeepsBoth K L) (Either F G)
+joined {A} {B} K L F G (Err NoMemory) (Ok b) r s = no_memory {A = A × B} (KeepsBoth K L) (Either F G)
+joined {A} {B} K L F G (Err NoMemory) (Err (Rule q)) r s = no_memory {A = A × B} (KeepsBoth K L) (Either F G)
+joined {A} {B} K L F G (Err NoMemory) (Err NoMemory) r s = no_memory {A = A × B} (KeepsBoth K L) (Either F G)
 
 -- ---- a reader with a rule
 

@@ -1,6 +1,7 @@
 -- A machine from the items that are read together.
 use Rattle.std.proofs.Common.{◌≡◌, ℕ, zero, suc, ◌+◌, ◌-◌, ◌*◌, ◌/◌, ◌%◌, ◌<◌, ◌≤◌, leb, ltb, eqb, Bool, true, false, ◌==◌, ◌⊎◌, List, [], ◌∷◌, length, refl, sym, ap, subst, ◌∙◌, arith, inl, inr, Result}
 use Rattle.std.proofs.lemmas.Bool.{leb-true, ltb-true, eqb-true}
+use Rattle.md_word.specs.Clock.{last_cycle}
 use Rattle.md_word.specs.declared.unspell.Unspell.{Unspell}
 use Rattle.md_word.specs.declared.unspell.Unspell.TheVariants.{Rule, NoMemory}
 use Rattle.md_fields.specs.Fields.{AllHold}
@@ -8,11 +9,11 @@ use Rattle.md_fields.proofs.Items.{all_hold}
 use Rattle.md_pads.specs.Recording.{Frame}
 use Rattle.m68k_chip.specs.Numbers.{numbers_of}
 use Rattle.m68k_chip.specs.Saved as saved68
-use Rattle.m68k_chip.specs.Sound.{Chip68Value}
+use Rattle.m68k_chip.specs.Validity.{Chip68Value}
 use Rattle.m68k_chip.specs.Spelling as main
 use Rattle.m68k_chip.specs.States.{State68, next_of}
 use Rattle.z80_chip.specs.Saved as saved80
-use Rattle.z80_chip.specs.Sound.{Chip80Value}
+use Rattle.z80_chip.specs.Validity.{Chip80Value}
 use Rattle.z80_chip.specs.Spelling as sub
 use Rattle.z80_chip.specs.States.{State80}
 use Rattle.z80_chip.specs.States.{next_of as sub_next_of}
@@ -32,7 +33,7 @@ use Rattle.save_state.specs.Faults.{FailsAt, at_fails, main_fails, sub_fails, sh
 use Rattle.save_state.specs.declared.layout.Part.{Part}
 use Rattle.save_state.specs.Items.{at_of, holder_in, main_bytes, sub_bytes, shared_bytes, drawing_bytes, IsMain, MainFails, IsSub, SubFails, chip_fails, holder_fails, IsShared, SharedFails, board_fails, resets_fail, IsPicture, DrawingFails, IsFm, FmFails, synth_fails, next_fails, writes_fail, IsPsg, PsgFails, psg_synth_fails, psg_next_fails, psg_writes_fail}
 use Rattle.save_state.specs.Layout.{are_ordered, main_part, sub_parts, shared_parts, drawing_part, fm_part, psg_part, part_of}
-use Rattle.save_state.specs.Joining.{Reads, FailsIn, both, Both, Either}
+use Rattle.save_state.specs.Joining.{Reads, FailsIn, both, KeepsBoth, Either}
 use Rattle.save_state.specs.Pieces.{Pieces, Kept, Fails, built}
 use Rattle.md_fields.proofs.Refusals.{failed}
 use Rattle.save_state.proofs.Joins.{fine, joined}
@@ -43,17 +44,17 @@ use Rattle.save_state.proofs.Places.{both_hold, from_first}
 pub pieces_read : (cart : List ℕ) (recording : List Frame) (bytes : List ℕ) (m : Result Chip68Value Unspell) (s : Result Chip80Value Unspell) (b : Result Board Unspell) (d : Result Drawing Unspell) (f : Result fm_synths.Synth Unspell) (p : Result psg_synths.Synth Unspell) (processors : Result (Chip68Value × Chip80Value) Unspell) (board : Result (Board × Drawing) Unspell) (sound : Result (fm_synths.Synth × psg_synths.Synth) Unspell) (rest : Result ((Board × Drawing) × (fm_synths.Synth × psg_synths.Synth)) Unspell) (all : Result Pieces Unspell) → processors ≡ both m s → board ≡ both b d → sound ≡ both f p → rest ≡ both board sound → all ≡ both processors rest → Reads (IsMain cart bytes) (MainFails cart bytes) m → Reads (IsSub cart bytes) (SubFails cart bytes) s → Reads (IsShared recording bytes) (SharedFails bytes) b → Reads (IsPicture bytes) (DrawingFails bytes) d → Reads (IsFm bytes) (FmFails bytes) f → Reads (IsPsg bytes) (PsgFails bytes) p → Reads (Kept cart recording bytes) (Fails cart bytes) all
 pieces_read cart recording bytes m s b d f p processors board sound rest all ep eb es er ea rm rs rb rd rf rp =
     subst (Reads (Kept cart recording bytes) (Fails cart bytes)) (sym ea) (
-    joined (Both (IsMain cart bytes) (IsSub cart bytes)) (Both (Both (IsShared recording bytes) (IsPicture bytes)) (Both (IsFm bytes) (IsPsg bytes))) (Either (MainFails cart bytes) (SubFails cart bytes)) (Either (Either (SharedFails bytes) (DrawingFails bytes)) (Either (FmFails bytes) (PsgFails bytes))) processors rest
-    (subst (Reads (Both (IsMain cart bytes) (IsSub cart bytes)) (Either (MainFails cart bytes) (SubFails cart bytes))) (sym ep) (joined (IsMain cart bytes) (IsSub cart bytes) (MainFails cart bytes) (SubFails cart bytes) m s rm rs))
-    (subst (Reads (Both (Both (IsShared recording bytes) (IsPicture bytes)) (Both (IsFm bytes) (IsPsg bytes))) (Either (Either (SharedFails bytes) (DrawingFails bytes)) (Either (FmFails bytes) (PsgFails bytes)))) (sym er) (
-    joined (Both (IsShared recording bytes) (IsPicture bytes)) (Both (IsFm bytes) (IsPsg bytes)) (Either (SharedFails bytes) (DrawingFails bytes)) (Either (FmFails bytes) (PsgFails bytes)) board sound
-    (subst (Reads (Both (IsShared recording bytes) (IsPicture bytes)) (Either (SharedFails bytes) (DrawingFails bytes))) (sym eb) (joined (IsShared recording bytes) (IsPicture bytes) (SharedFails bytes) (DrawingFails bytes) b d rb rd))
-    (subst (Reads (Both (IsFm bytes) (IsPsg bytes)) (Either (FmFails bytes) (PsgFails bytes))) (sym es) (joined (IsFm bytes) (IsPsg bytes) (FmFails bytes) (PsgFails bytes) f p rf rp)))))
+    joined (KeepsBoth (IsMain cart bytes) (IsSub cart bytes)) (KeepsBoth (KeepsBoth (IsShared recording bytes) (IsPicture bytes)) (KeepsBoth (IsFm bytes) (IsPsg bytes))) (Either (MainFails cart bytes) (SubFails cart bytes)) (Either (Either (SharedFails bytes) (DrawingFails bytes)) (Either (FmFails bytes) (PsgFails bytes))) processors rest
+    (subst (Reads (KeepsBoth (IsMain cart bytes) (IsSub cart bytes)) (Either (MainFails cart bytes) (SubFails cart bytes))) (sym ep) (joined (IsMain cart bytes) (IsSub cart bytes) (MainFails cart bytes) (SubFails cart bytes) m s rm rs))
+    (subst (Reads (KeepsBoth (KeepsBoth (IsShared recording bytes) (IsPicture bytes)) (KeepsBoth (IsFm bytes) (IsPsg bytes))) (Either (Either (SharedFails bytes) (DrawingFails bytes)) (Either (FmFails bytes) (PsgFails bytes)))) (sym er) (
+    joined (KeepsBoth (IsShared recording bytes) (IsPicture bytes)) (KeepsBoth (IsFm bytes) (IsPsg bytes)) (Either (SharedFails bytes) (DrawingFails bytes)) (Either (FmFails bytes) (PsgFails bytes)) board sound
+    (subst (Reads (KeepsBoth (IsShared recording bytes) (IsPicture bytes)) (Either (SharedFails bytes) (DrawingFails bytes))) (sym eb) (joined (IsShared recording bytes) (IsPicture bytes) (SharedFails bytes) (DrawingFails bytes) b d rb rd))
+    (subst (Reads (KeepsBoth (IsFm bytes) (IsPsg bytes)) (Either (FmFails bytes) (PsgFails bytes))) (sym es) (joined (IsFm bytes) (IsPsg bytes) (FmFails bytes) (PsgFails bytes) f p rf rp)))))
 
 -- ---- what fails
 
 abbrev pub IsAtRight : List ℕ → Type 0
-IsAtRight bytes = (1 ≤ at_of bytes) × (at_of bytes ≤ 549755813888)
+IsAtRight bytes = (1 ≤ at_of bytes) × (at_of bytes ≤ last_cycle)
 
 to_fails : (cart bytes : List ℕ) (p : ℕ) → Fails cart bytes p → FailsAt cart bytes p
 to_fails cart bytes p w =
@@ -284,9 +285,9 @@ at_refused cart recording bytes wrong = record {
   here : (p : ℕ) → failed {T = MachineValue} (Rule 40) ≡ failed (Rule p) → 40 ≡ p
   here p e = cc
 
-pub wrong_at : (bytes : List ℕ) (at : ℕ) → at ≡ at_of bytes → (at < 1) ⊎ (549755813888 < at) → ¬ IsAtRight bytes
+pub wrong_at : (bytes : List ℕ) (at : ℕ) → at ≡ at_of bytes → (at < 1) ⊎ (last_cycle < at) → ¬ IsAtRight bytes
 wrong_at bytes at e (inl low) right = omega (arith, e, low, right.0)
 wrong_at bytes at e (inr high) right = omega (arith, e, high, right.1)
 
-pub right_at : (bytes : List ℕ) (at : ℕ) → at ≡ at_of bytes → 1 ≤ at → at ≤ 549755813888 → IsAtRight bytes
+pub right_at : (bytes : List ℕ) (at : ℕ) → at ≡ at_of bytes → 1 ≤ at → at ≤ last_cycle → IsAtRight bytes
 right_at bytes at e low high = (omega (arith, e, low), omega (arith, e, high))

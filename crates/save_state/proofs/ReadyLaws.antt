@@ -1,11 +1,11 @@
 -- What is written of a machine that may be kept is a saved state of its cartridge.
 use Rattle.std.proofs.Common.{◌≡◌, ℕ, ◌≤◌, ◌<◌, ◌+◌, lit<, true, None, List, refl, sym, subst, ◌∙◌}
 use Rattle.m68k_chip.specs.Rules as main_rules
-use Rattle.m68k_chip.specs.Sound.{Chip68Value}
+use Rattle.m68k_chip.specs.Validity.{Chip68Value}
 use Rattle.m68k_chip.specs.Spelling as main
 use Rattle.m68k_chip.specs.States.{next_of}
 use Rattle.z80_chip.specs.Rules as sub_rules
-use Rattle.z80_chip.specs.Sound.{Chip80Value}
+use Rattle.z80_chip.specs.Validity.{Chip80Value}
 use Rattle.z80_chip.specs.Spelling as sub
 use Rattle.z80_chip.specs.States.{next_of as sub_next_of}
 use Rattle.vdp_chip.specs.Drawing.{Drawing}

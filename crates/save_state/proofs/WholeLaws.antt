@@ -1,5 +1,6 @@
 -- The parts of a state keep its machine.
 use Rattle.std.proofs.Common.{◌≡◌, ℕ, ◌<◌, ◌≤◌, ◌^◌, ◌==◌, Bool, true, false, not, List, [], length, Option, Some, None, is_some, if◌then◌else◌, refl, sym, ap, subst, ◌∙◌, arith}
+use Rattle.md_word.specs.Clock.{last_cycle}
 use Rattle.sha2.specs.Sha256.{sha256}
 use Rattle.md_fields.specs.Fields.{AreWithin}
 use Rattle.md_pads.specs.Recording.{Frame}
@@ -36,9 +37,9 @@ small_holder m = small (is_some m.shared.store) where
   small true = omega arith
   small false = omega arith
 
-batch_fits : (at : ℕ) → at ≤ 549755813888 → first_batch at < 2 ^ 64
+batch_fits : (at : ℕ) → at ≤ last_cycle → first_batch at < 2 ^ 64
 batch_fits at near = omega (arith, below at near) where
-  below : (at : ℕ) → at ≤ 549755813888 → first_batch at ≤ 549755830016
+  below : (at : ℕ) → at ≤ last_cycle → first_batch at ≤ 549755830016
   below at near = omega arith
 
 -- RAM and bank register of whoever has them

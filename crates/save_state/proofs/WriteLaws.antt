@@ -7,7 +7,7 @@ use Rattle.sha2.specs.Sha256.{sha256}
 use Rattle.md_fields.specs.Fields.{AreSized, spelling}
 use Rattle.md_fields.specs.Padding.{padded}
 use Rattle.md_fields.proofs.Standing.{long_as_sized}
-use Rattle.stamped_writes.specs.Entries.{entries_bytes}
+use Rattle.sound_writes.specs.Entries.{entries_bytes}
 use Rattle.m68k_chip.specs.Spelling as main
 use Rattle.z80_chip.specs.Spelling as sub
 use Rattle.z80_chip.specs.States.{State80}

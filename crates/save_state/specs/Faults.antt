@@ -9,7 +9,8 @@ use Rattle.md_machine.specs.Starts.{first_batch}
 use Rattle.save_state.specs.Joining.{IsLeast}
 use Rattle.save_state.specs.Layout.{part_of, at_part, digest_part, mark_part, state_size}
 use Rattle.save_state.specs.Items.{at_of, IsMain, MainFails, IsSub, SubFails, IsShared, SharedFails, IsPicture, DrawingFails, IsFm, FmFails, IsPsg, PsgFails}
-use Rattle.save_state.specs.States.{mark, last_cycle}
+use Rattle.md_word.specs.Clock.{last_cycle}
+use Rattle.save_state.specs.States.{mark}
 
 -- a field at this place breaks its rule
 pub data FailsAt (cart bytes : List ℕ) (place : ℕ) : Type 0 where

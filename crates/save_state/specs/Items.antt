@@ -4,9 +4,9 @@ use Rattle.std.specs.Prelude.{◌≡◌, ◌≢◌, ℕ, ◌+◌, ◌<◌, ◌�
 use Rattle.std.specs.Int.{w64}
 use Rattle.md_fields.specs.Places.{number_at}
 use Rattle.md_pads.specs.Recording.{Frame}
-use Rattle.m68k_chip.specs.Sound.{Chip68Value}
+use Rattle.m68k_chip.specs.Validity.{Chip68Value}
 use Rattle.m68k_chip.specs.Spelling as main
-use Rattle.z80_chip.specs.Sound.{Chip80Value}
+use Rattle.z80_chip.specs.Validity.{Chip80Value}
 use Rattle.z80_chip.specs.Spelling as sub
 use Rattle.vdp_chip.specs.Drawing.{Drawing}
 use Rattle.vdp_chip.specs.Spelling as drawing

@@ -35,8 +35,8 @@ lesser (Rule p) NoMemory = NoMemory
 lesser NoMemory fault = NoMemory
 
 -- two values are kept
-abbrev pub Both : {A B : Type 0} → (A → Type 0) → (B → Type 0) → A × B → Type 0
-Both KeepsA KeepsB x = KeepsA x.0 × KeepsB x.1
+abbrev pub KeepsBoth : {A B : Type 0} → (A → Type 0) → (B → Type 0) → A × B → Type 0
+KeepsBoth KeepsA KeepsB x = KeepsA x.0 × KeepsB x.1
 
 -- something of two fails
 abbrev pub Either : (ℕ → Type 0) → (ℕ → Type 0) → ℕ → Type 0

@@ -1,8 +1,8 @@
 -- The items of a state together, and the machine that they make.
 use Rattle.std.specs.Prelude.{ℕ, List, []}
 use Rattle.md_pads.specs.Recording.{Frame}
-use Rattle.m68k_chip.specs.Sound.{Chip68Value}
-use Rattle.z80_chip.specs.Sound.{Chip80Value}
+use Rattle.m68k_chip.specs.Validity.{Chip68Value}
+use Rattle.z80_chip.specs.Validity.{Chip80Value}
 use Rattle.vdp_chip.specs.Drawing.{Drawing}
 use Rattle.fm_chip.specs.Synth as fm_synths
 use Rattle.psg_sound.specs.Synth as psg_synths
@@ -11,7 +11,7 @@ use Rattle.md_machine.specs.Machines.{MachineValue}
 use Rattle.md_machine.specs.Media.{no_media}
 use Rattle.md_machine.specs.Starts.{first_batch}
 use Rattle.save_state.specs.Items.{IsMain, MainFails, IsSub, SubFails, IsShared, SharedFails, IsPicture, DrawingFails, IsFm, FmFails, IsPsg, PsgFails}
-use Rattle.save_state.specs.Joining.{Both, Either}
+use Rattle.save_state.specs.Joining.{KeepsBoth, Either}
 
 -- the 68000 and the Z80; the board and the drawing half; the syntheses of the FM chip and the PSG
 abbrev pub Pieces : Type 0
@@ -20,7 +20,7 @@ Pieces = (Chip68Value × Chip80Value) × ((Board × Drawing) × (fm_synths.Synth
 -- the bytes keep these pieces, of this cartridge and this recording
 abbrev pub Kept : List ℕ → List Frame → List ℕ → Pieces → Type 0
 Kept cart recording bytes =
-    Both (Both (IsMain cart bytes) (IsSub cart bytes)) (Both (Both (IsShared recording bytes) (IsPicture bytes)) (Both (IsFm bytes) (IsPsg bytes)))
+    KeepsBoth (KeepsBoth (IsMain cart bytes) (IsSub cart bytes)) (KeepsBoth (KeepsBoth (IsShared recording bytes) (IsPicture bytes)) (KeepsBoth (IsFm bytes) (IsPsg bytes)))
 
 -- some piece fails at this place of the bytes
 abbrev pub Fails : List ℕ → List ℕ → ℕ → Type 0

@@ -7,7 +7,8 @@ use Rattle.bus_shared.specs.Spelling as shared
 use Rattle.md_machine.specs.Console.{Console, drawing_in}
 use Rattle.md_machine.specs.Owners.{HasOneOwner}
 use Rattle.md_machine.specs.Starts.{IsStart, first_batch}
-use Rattle.save_state.specs.States.{are_fm_early, are_psg_early, last_cycle}
+use Rattle.md_word.specs.Clock.{last_cycle}
+use Rattle.save_state.specs.States.{are_fm_early, are_psg_early}
 
 -- the parts may be kept at the cycle, no event stands below it, and the rules that speak of several parts
 -- hold

@@ -1,9 +1,10 @@
 -- A saved state: the bytes of a machine at a cycle. The parts are the chips' own; this project's profile.
 use Rattle.std.specs.Prelude.{◌≡◌, ℕ, ◌≤◌, ◌==◌, ◌||◌, Bool, true, is_some, nat_le, if◌then◌else◌, codes, List, [], ◌∷◌, Option, None}
 use Rattle.std.specs.List.{list_all}
+use Rattle.md_word.specs.Clock.{last_cycle}
 use Rattle.sha2.specs.Sha256.{sha256}
 use Rattle.md_fields.specs.Fields.{Field, byte, quad, block, spelling}
-use Rattle.stamped_writes.specs.Keys.{is_before_next}
+use Rattle.sound_writes.specs.Keys.{is_before_next}
 use Rattle.m68k_chip.specs.Spelling as main
 use Rattle.z80_chip.specs.Saved.{stage_number}
 use Rattle.z80_chip.specs.Spelling as sub
@@ -27,10 +28,6 @@ use Rattle.md_machine.specs.Starts.{Start, first_batch}
 -- what a state begins with
 abbrev pub mark : List ℕ
 mark = codes "MDSTATE1"
-
--- the last cycle of a state, 2^39
-abbrev pub last_cycle : ℕ
-last_cycle = 549755813888
 
 -- who has the Z80's RAM and bank register: 0 the Z80, 1 the bus
 abbrev pub holder_of : Console → ℕ

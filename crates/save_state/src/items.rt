@@ -6,7 +6,7 @@ ghost use Rattle.save_state.specs.Items.{at_of, HasLateFm, HasLatePsg, IsMain, M
 ghost use Rattle.save_state.specs.Joining.{Reads};
 ghost use Rattle.save_state.specs.Layout.{state_size};
 ghost use Rattle.save_state.specs.States as states;
-ghost use Rattle.save_state.specs.States.{last_cycle};
+ghost use Rattle.md_word.specs.Clock.{last_cycle};
 
 use crate::joining::{placed, with_rule};
 use crate::layout::{

@@ -11,7 +11,8 @@ ghost use Rattle.save_state.specs.Joining.{Reads};
 ghost use Rattle.save_state.specs.Pieces.{Kept, Fails, built};
 ghost use Rattle.save_state.specs.Layout.{digest_part, mark_part, part_of, state_size};
 ghost use Rattle.save_state.specs.States as states;
-ghost use Rattle.save_state.specs.States.{IsState, last_cycle};
+ghost use Rattle.md_word.specs.Clock.{last_cycle};
+ghost use Rattle.save_state.specs.States.{IsState};
 
 use crate::fault::StateFault;
 use crate::items::{read_drawing, read_fm, read_main, read_psg, read_shared, read_sub};
@@ -23,6 +24,7 @@ use m68k_chip::Chip68;
 use md_fields::u64_at;
 use md_machine::Machine;
 use md_pads::Recording;
+use md_word::clock::LAST_CYCLE;
 use md_word::{NoMemory, Unspell};
 use psg_sound::PsgSynth;
 use rom_header::Cart;
@@ -31,9 +33,6 @@ use std::alloc::Global;
 use std::sync::Arc;
 use vdp_chip::ChipVdp;
 use z80_chip::Chip80;
-
-/// The last cycle of a state.
-const LAST_CYCLE: u64 = 549_755_813_888;
 
 /// The machine that the bytes of a saved state of this cartridge keep, with a recording of the pads.
 pub fn read(

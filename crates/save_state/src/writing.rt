@@ -6,12 +6,13 @@ ghost use Rattle.fm_chip.specs.SynthSpelling as fm;
 ghost use Rattle.m68k_chip.specs.Spelling as main;
 ghost use Rattle.psg_sound.specs.SynthSpelling as psg;
 ghost use Rattle.vdp_chip.specs.Spelling as drawing;
-ghost use Rattle.z80_chip.specs.Sound.{IsChip80};
+ghost use Rattle.z80_chip.specs.Validity.{IsChip80};
 ghost use Rattle.z80_chip.specs.Spelling as sub;
 ghost use Rattle.m68k_chip.specs.Rules as main_rules;
 ghost use Rattle.z80_chip.specs.Rules as sub_rules;
 ghost use Rattle.save_state.specs.Ready.{IsReady};
-ghost use Rattle.save_state.specs.States.{IsState, last_cycle, settled_console, state_bytes};
+ghost use Rattle.md_word.specs.Clock.{last_cycle};
+ghost use Rattle.save_state.specs.States.{IsState, settled_console, state_bytes};
 
 use crate::items::first_batch;
 use crate::layout::{
@@ -146,7 +147,7 @@ fn main_bytes(alloc: Global, chip: &Chip68, at: u64) -> Result<Vec<u8>, NoMemory
 fn sub_bytes(alloc: Global, chip: &Chip80, at: u64) -> Result<Vec<u8>, NoMemory>
     ensures bytes { IfOk result (λ bytes. bytes.items ≡ sub.chip_bytes chip.now.state) }
     ensures long { IfOk result (λ bytes. length bytes.items ≡ sub.spelled_size (is_some chip.now.state.store)) }
-    ensures sound { IsChip80 chip.now }
+    ensures valid { IsChip80 chip.now }
     ensures kept { IfOk result (λ bytes. at ≤ chip.now.state.next → sub_rules.HasRules chip.now.cart at chip.now.state
         → sub.Spells chip.now.cart at (sub.chip_bytes chip.now.state) chip.now.state) }
 {
@@ -161,7 +162,7 @@ fn board_bytes(alloc: Global, board: &Shared, at: u64) -> Result<Vec<u8>, NoMemo
     requires { at ≤ last_cycle }
     ensures bytes { IfOk result (λ bytes. bytes.items ≡ shared.board_bytes (shared.settled_board at board.now)) }
     ensures long { IfOk result (λ bytes. length bytes.items ≡ shared.board_size (is_some board.now.store)) }
-    ensures sound { IsBoard board.now }
+    ensures valid { IsBoard board.now }
     ensures kept { IfOk result (λ bytes. shared.IsReady at board.now
         → shared.Spells at (shared.board_bytes (shared.settled_board at board.now)) (shared.settled_board at board.now)) }
 {

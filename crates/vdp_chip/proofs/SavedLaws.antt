@@ -113,9 +113,9 @@ zero_at k l n e from below =
     ap (λ (i : ℕ). get_or l i 0) (omega (arith, from)) ∙ sym (get_or-drop k l (n - k) 0) ∙ here
 
 -- the chip that bytes keep has its lengths, and its undrawn rows are 0
-pub sound : (at : ℕ) (bytes : List ℕ) (n : DrawingNumbers) → Keeps (drawing_fields at) bytes n → IsRight (drawing_fields at) n → IsDrawing (drawing_of n)
+pub valid : (at : ℕ) (bytes : List ℕ) (n : DrawingNumbers) → Keeps (drawing_fields at) bytes n → IsRight (drawing_fields at) n → IsDrawing (drawing_of n)
 unfolding AllHold AreWithin
-sound at bytes n keeps right =
+valid at bytes n keeps right =
     let h = all_hold 0 (drawing_fields at n) right in
     let first = and_parts _ _ h.0 in
     let soon = and_parts _ _ first.1 in
@@ -171,7 +171,7 @@ spelled_back at d ok small is = record {
 -- ---- a chip that bytes keep
 
 pub spelled_drawing : (at : ℕ) (bytes : List ℕ) (d : Drawing) → Spells at bytes d → IsDrawing d
-spelled_drawing at bytes d p = subst IsDrawing (drawing_again d p.drained) (sound at bytes (numbers_of d) p.keeps p.right)
+spelled_drawing at bytes d p = subst IsDrawing (drawing_again d p.drained) (valid at bytes (numbers_of d) p.keeps p.right)
 
 pub spelled_ready : (at : ℕ) (bytes : List ℕ) (d : Drawing) → Spells at bytes d → IsReady at d
 unfolding AllHold

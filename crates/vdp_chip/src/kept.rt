@@ -4,9 +4,10 @@ ghost use Rattle.vdp_chip.specs.Picture.{cleared, drawn, finished, picture_lengt
 ghost use Rattle.vdp_chip.specs.Kept.{frame_of};
 ghost use Rattle.vdp_chip.specs.declared.kept.Kept.TheVariants as kinds;
 
-use crate::picture::{HEIGHT, PICTURE, clear, draw_row};
+use crate::picture::{PICTURE, clear, draw_row};
 use std::mem::swap;
 use vdp_planes::{Dot, Scene};
+use vdp_time::HEIGHT;
 
 /// Where the finished frame stands.
 #[derive(Clone, Copy)]

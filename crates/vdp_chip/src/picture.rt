@@ -5,12 +5,10 @@ ghost use Rattle.vdp_chip.specs.Picture.{blank, picture_length, row_of, with_row
 
 use vdp_planes::register::MODE_2;
 use vdp_planes::{Dot, Scene, draw_plane, mix_dots};
+use vdp_time::HEIGHT;
 
 /// Bytes of a row: red, green and blue of 320 dots.
 pub const ROW: usize = 960;
-
-/// Rows of the picture.
-pub const HEIGHT: u32 = 224;
 
 /// Bytes of the picture.
 pub const PICTURE: usize = 215_040;

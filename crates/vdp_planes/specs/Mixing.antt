@@ -30,13 +30,13 @@ unfoldable pub sprite_leads : Dot → Dot → Dot → Bool
 sprite_leads a b s = is_opaque s && (s.priority || not (is_front a || is_front b))
 
 -- a colour, and how bright it is shown
-pub record Shown : Type 0 where
+pub record ShadedColour : Type 0 where
   pub colour : ℕ
   pub shade : Shade
 
 -- a colour at a brightness
-abbrev pub shown : ℕ → Shade → Shown
-shown colour shade = record { colour = colour; shade = shade }
+abbrev pub at_shade : ℕ → Shade → ShadedColour
+at_shade colour shade = record { colour = colour; shade = shade }
 
 -- one step brighter
 abbrev pub brighter : Shade → Shade
@@ -49,27 +49,27 @@ unfoldable pub base_shade : Dot → Dot → Shade
 base_shade a b = if a.priority || b.priority then shades.Normal else shades.Shadow
 
 -- what the sprite in front shows over the colour `under`: 62 brightens it, 63 darkens it
-unfoldable pub shaded_sprite : ℕ → Shade → Dot → Shown
+unfoldable pub shaded_sprite : ℕ → Shade → Dot → ShadedColour
 shaded_sprite under base s =
-    if (s.colour == 62) then shown under (brighter base) else (
-    if (s.colour == 63) then shown under shades.Shadow else (
-    if s.priority || (s.colour % 16 == 14) then shown s.colour shades.Normal else shown s.colour base))
+    if (s.colour == 62) then at_shade under (brighter base) else (
+    if (s.colour == 63) then at_shade under shades.Shadow else (
+    if s.priority || (s.colour % 16 == 14) then at_shade s.colour shades.Normal else at_shade s.colour base))
 
 -- what a dot shows with shadow and highlight
-unfoldable pub shaded : ℕ → Dot → Dot → Dot → Shown
+unfoldable pub shaded : ℕ → Dot → Dot → Dot → ShadedColour
 shaded back a b s =
-    if sprite_leads a b s then shaded_sprite (behind back a b) (base_shade a b) s else shown (behind back a b) (base_shade a b)
+    if sprite_leads a b s then shaded_sprite (behind back a b) (base_shade a b) s else at_shade (behind back a b) (base_shade a b)
 
 -- what a dot shows without shadow and highlight
-unfoldable pub unshaded : ℕ → Dot → Dot → Dot → Shown
-unshaded back a b s = shown (if sprite_leads a b s then s.colour else behind back a b) shades.Normal
+unfoldable pub unshaded : ℕ → Dot → Dot → Dot → ShadedColour
+unshaded back a b s = at_shade (if sprite_leads a b s then s.colour else behind back a b) shades.Normal
 
 -- the colour behind all
 unfoldable pub backdrop : LineView → ℕ
 backdrop view = register view 7 % 64
 
 -- what a dot of the picture shows
-unfoldable pub mixed : LineView → Dot → Dot → Dot → Shown
+unfoldable pub mixed : LineView → Dot → Dot → Dot → ShadedColour
 mixed view a b s = if has_bit (register view 12) 8 then shaded (backdrop view) a b s else unshaded (backdrop view) a b s
 
 -- where the picture begins on the screen
@@ -81,10 +81,10 @@ unfoldable pub in_picture : LineView → ℕ → Bool
 in_picture view x = has_bit (register view 1) 64 && (nat_le (border_of view) x && nat_lt x (border_of view + width_of view))
 
 -- what a place of the screen shows: the picture, or the backdrop
-unfoldable pub shown_at : LineView → List Dot → List Dot → List Dot → ℕ → Shown
+unfoldable pub shown_at : LineView → List Dot → List Dot → List Dot → ℕ → ShadedColour
 shown_at view a b s x =
     let dot = x - border_of view in
-    if in_picture view x then mixed view (dot_at a dot) (dot_at b dot) (dot_at s dot) else shown (backdrop view) shades.Normal
+    if in_picture view x then mixed view (dot_at a dot) (dot_at b dot) (dot_at s dot) else at_shade (backdrop view) shades.Normal
 
 -- a level of 0 to 7 as a byte
 abbrev pub printed : Shade → ℕ → ℕ
@@ -93,7 +93,7 @@ printed shades.Normal v = 36 * v
 printed shades.Highlight v = 126 + 18 * v
 
 -- a colour's bytes: blue in bits 11 to 9, green 7 to 5, red 3 to 1
-unfoldable pub rgb_of : LineView → Shown → Rgb
+unfoldable pub rgb_of : LineView → ShadedColour → Rgb
 rgb_of view s = let word = slice_index view.cram s.colour in record {
   red = printed s.shade (word / 2 % 8);
   green = printed s.shade (word / 32 % 8);
@@ -110,7 +110,7 @@ line_byte view a b s n = part (rgb_of view (shown_at view a b s (n / 3))) (n % 3
 
 -- byte n of a line on which the backdrop alone shows
 unfoldable pub backdrop_byte : LineView → ℕ → ℕ
-backdrop_byte view n = part (rgb_of view (shown (backdrop view) shades.Normal)) (n % 3)
+backdrop_byte view n = part (rgb_of view (at_shade (backdrop view) shades.Normal)) (n % 3)
 
 -- the number of a shade: of each there are 64 among the 192 colours that a line can show
 abbrev pub shade_number : Shade → ℕ
@@ -119,7 +119,7 @@ shade_number shades.Normal = 1
 shade_number shades.Highlight = 2
 
 -- a colour's number among the 192
-unfoldable pub index_of : Shown → ℕ
+unfoldable pub index_of : ShadedColour → ℕ
 index_of s = 64 * shade_number s.shade + s.colour
 
 -- a shade by its number
@@ -128,7 +128,7 @@ shade_by n = if (n == 0) then shades.Shadow else (if (n == 1) then shades.Normal
 
 -- colour number n of the 192
 unfoldable pub table_colour : LineView → ℕ → Rgb
-table_colour view n = rgb_of view (shown (n % 64) (shade_by (n / 64)))
+table_colour view n = rgb_of view (at_shade (n % 64) (shade_by (n / 64)))
 
 -- what a table of colours holds before it is filled
 abbrev pub black : Rgb
@@ -147,7 +147,7 @@ pub record IsSpan (view : LineView) (from to : ℕ) : Type 0 where
 
 -- the number that a place of the backdrop shows
 abbrev pub back_at : ℕ → ℕ → ℕ
-back_at back x = index_of (shown back shades.Normal)
+back_at back x = index_of (at_shade back shades.Normal)
 
 -- the number that a place of the picture, which begins at `from`, shows without shadow and
 -- highlight

@@ -1,6 +1,6 @@
 ghost use Rattle.std.specs.Prelude.{◌≡◌, ℕ, ◌+◌, ◌*◌, ◌/◌, ◌%◌, ◌<◌, ◌≤◌, length, slice_index_or};
 ghost use Rattle.vdp_planes.specs.View.{seen};
-ghost use Rattle.vdp_planes.specs.Mixing.{black, printed, rgb_of, shade_number, shown, table_colour};
+ghost use Rattle.vdp_planes.specs.Mixing.{black, printed, rgb_of, shade_number, at_shade, table_colour};
 
 use crate::view::Scene;
 
@@ -38,7 +38,7 @@ fn printed(shade: Shade, level: u8) -> u8
 #[tactic(auto, unfolding(crate::specs::Mixing::rgb_of))]
 pub fn rgb_of(scene: &Scene, colour: usize, shade: Shade) -> Rgb
     requires { colour < 64 }
-    ensures { result ≡ rgb_of (seen scene.now) (shown colour shade) }
+    ensures { result ≡ rgb_of (seen scene.now) (at_shade colour shade) }
 {
     let word = scene.cram[colour];
     Rgb {
@@ -65,7 +65,7 @@ fn fill_shade(scene: &Scene, shade: Shade, from: usize, table: &mut [Rgb; 192])
     requires below { from < 129 }
     requires whole { length table.old ≡ 192 }
     ensures whole { length table.new ≡ 192 }
-    ensures colours { (n : ℕ) → n < 64 → slice_index_or table.new (from + n) black ≡ rgb_of (seen scene.now) (shown n shade) }
+    ensures colours { (n : ℕ) → n < 64 → slice_index_or table.new (from + n) black ≡ rgb_of (seen scene.now) (at_shade n shade) }
     ensures before { (n : ℕ) → n < from → slice_index_or table.new n black ≡ slice_index_or table.old n black }
 {
     for n in 0..64 {

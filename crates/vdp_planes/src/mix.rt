@@ -1,5 +1,5 @@
 ghost use Rattle.std.specs.Prelude.{◌≡◌, ℕ, ◌+◌, ◌*◌, ◌/◌, ◌%◌, ◌<◌, ◌≤◌, Bool, length, max, if◌then◌else◌};
-ghost use Rattle.vdp_planes.specs.Mixing.{base_shade, behind, brighter, index_of, is_opaque, shaded, shaded_sprite, shown, sprite_leads, unshaded};
+ghost use Rattle.vdp_planes.specs.Mixing.{base_shade, behind, brighter, index_of, is_opaque, shaded, shaded_sprite, at_shade, sprite_leads, unshaded};
 ghost use Rattle.vdp_planes.specs.Ranks.{behind_key, rank_key};
 
 use crate::colours::Shade;
@@ -48,7 +48,7 @@ pub fn unshaded(back: u8, a: Dot, b: Dot, s: Dot) -> u8
 #[tactic(auto, unfolding(crate::specs::Mixing::index_of))]
 pub fn index_of(colour: u8, shade: Shade) -> u8
     requires { colour < 64 }
-    ensures value { result ≡ index_of (shown colour shade) }
+    ensures value { result ≡ index_of (at_shade colour shade) }
     ensures below { result < 192 }
 {
     match shade {

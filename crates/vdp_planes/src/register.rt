@@ -1,8 +1,8 @@
 // The numbers of the registers that the picture is drawn by. Source: Genesis Technical Overview, the
 // VDP's registers.
 
-/// Bit 6 the display.
-pub const MODE_2: usize = 1;
+pub use vdp_ports::register::MODE_2;
+
 /// Where the names of plane A stand: bits 5 to 3.
 pub const PLANE_A: usize = 2;
 /// Where the names of the window stand: bits 5 to 1.

@@ -6,7 +6,7 @@ use md_word::clock::{FRAME, LINE};
 /// Lines of a frame.
 const LINES: u64 = 262;
 /// Lines of the picture; the others lie in the vertical blanking.
-pub(crate) const HEIGHT: u32 = 224;
+pub const HEIGHT: u32 = 224;
 /// The cycle in its line from which the horizontal blanking lasts.
 const H_BLANK: u64 = 2560;
 

@@ -6,9 +6,9 @@ use Rattle.md_outer.specs.Outside.{DepotState, Rose, bytes_of}
 use Rattle.md_vgm.specs.Outcomes as outcomes
 use Rattle.md_vgm.specs.Outcomes.{Outcome}
 use Rattle.md_vgm.proofs.Outcomes.{made_once, played_once}
-use Rattle.md_words.specs.Words.{Conversion}
-use Rattle.md_words.specs.declared.convert_words.Product.{Product}
-use Rattle.md_words.specs.declared.convert_words.Product.TheVariants.{Vgm, Sound}
+use Rattle.md_args.specs.Words.{Conversion}
+use Rattle.md_args.specs.declared.convert_words.Product.{Product}
+use Rattle.md_args.specs.declared.convert_words.Product.TheVariants.{Vgm, Sound}
 use Rattle.vgm_files.specs.Conversions.{HasCause, IsFound, IsOutcome, comes_to, limit, made_ending, right_ending}
 use Rattle.vgm_files.specs.declared.converted.Converted.{Converted}
 use Rattle.vgm_files.specs.declared.converted.Converted.TheVariants.{Made, Unread, TooLong, Refused, Unwritten, NoMemory}

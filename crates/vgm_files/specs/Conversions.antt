@@ -4,9 +4,9 @@ use Rattle.md_outer.specs.Outside.{DepotState, Files, IsPrefix, Rose, with_file}
 use Rattle.md_vgm.specs.Outcomes as outcomes
 use Rattle.md_vgm.specs.Outcomes.{IsMade, IsPlayed, Outcome}
 use Rattle.md_vgm.specs.Playable.{IsPlayable}
-use Rattle.md_words.specs.Words.{Conversion}
-use Rattle.md_words.specs.declared.convert_words.Product.{Product}
-use Rattle.md_words.specs.declared.convert_words.Product.TheVariants.{Vgm, Sound}
+use Rattle.md_args.specs.Words.{Conversion}
+use Rattle.md_args.specs.declared.convert_words.Product.{Product}
+use Rattle.md_args.specs.declared.convert_words.Product.TheVariants.{Vgm, Sound}
 use Rattle.vgm_files.specs.declared.converted.Converted.{Converted}
 use Rattle.vgm_files.specs.declared.converted.Converted.TheVariants.{Made, Unread, TooLong, Refused, Unwritten, NoMemory}
 

@@ -1,13 +1,13 @@
 ghost use Rattle.md_outer.specs.Outside.{GoesOn};
-ghost use Rattle.md_words.specs.Shown.{shown_conversion};
+ghost use Rattle.md_args.specs.Shown.{shown_conversion};
 ghost use Rattle.vgm_files.specs.Conversions.{HasCause, LeavesFiles};
 
 use crate::converted::Converted;
 use crate::making::make;
 use crate::writing::write_file;
+use md_args::ConvertWords;
 use md_outer::{Begin, Depot, Fetch};
 use md_vgm::VgmFault;
-use md_words::ConvertWords;
 use std::alloc::Global;
 
 /// The greatest length of an input.

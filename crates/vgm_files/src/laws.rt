@@ -3,14 +3,14 @@
 ghost use Rattle.std.specs.Prelude.{◌≡◌, ◌≤◌, ◌⊎◌, length};
 ghost use Rattle.md_outer.specs.Outside.{DepotState, Rose, bytes_of};
 ghost use Rattle.md_vgm.specs.Outcomes.{Outcome};
-ghost use Rattle.md_words.specs.Shown.{shown_conversion};
-ghost use Rattle.md_words.specs.Words.{Conversion};
+ghost use Rattle.md_args.specs.Shown.{shown_conversion};
+ghost use Rattle.md_args.specs.Words.{Conversion};
 ghost use Rattle.vgm_files.specs.Conversions.{HasCause, IsOutcome, right_ending};
 ghost use Rattle.vgm_files.specs.declared.converted.Converted.{Converted as Ending};
 ghost use Rattle.vgm_files.specs.declared.converted.Converted.TheVariants.{NoMemory};
 
 use crate::making::make;
-use md_words::ConvertWords;
+use md_args::ConvertWords;
 use std::alloc::Global;
 
 /// Whatever an input holds within its limit, it comes to some outcome. It is found by making it.

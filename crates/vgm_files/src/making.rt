@@ -1,10 +1,10 @@
 ghost use Rattle.std.specs.Prelude.{◌≡◌, ◌≤◌, ◌⊎◌, ℕ, List, IfErr, IfOk, length};
 ghost use Rattle.md_vgm.specs.Outcomes.{Failed as NotMade, Made as Bytes};
-ghost use Rattle.md_words.specs.Shown.{shown_conversion};
+ghost use Rattle.md_args.specs.Shown.{shown_conversion};
 ghost use Rattle.vgm_files.specs.Conversions.{IsOutcome, IsPlayableIn};
 
+use md_args::{ConvertWords, Product};
 use md_vgm::{VgmFault, from_journal, play};
-use md_words::{ConvertWords, Product};
 use std::alloc::Global;
 
 /// What the words ask to be made of bytes.

@@ -1,4 +1,4 @@
--- What holds of the Z80 as a chip: its states are sound, and its events are at least 45 cycles apart.
+-- What holds of the Z80 as a chip: its states are valid, and its events are at least 45 cycles apart.
 use Rattle.std.proofs.Common.{◌≡◌, ℕ, ◌+◌, ◌*◌, ◌<◌, ◌≤◌, ◌⊎◌, inl, inr, Bool, true, false, List, [], ◌∷◌, ◌++◌, length, Option, Some, None, IfSome, IsSome, is_some, Result, Ok, Err, refl, sym, ap, subst, ◌∙◌, length-append, arith, lit<, if◌then◌else◌}
 use Rattle.std.specs.Prelude.{option_map}
 use Rattle.std.proofs.Math.ListN.{length-replicate}
@@ -12,10 +12,10 @@ use Rattle.z80_exec.specs.Sample.Entries.{after_reset}
 use Rattle.z80_exec.proofs.Bounds.Samples as samples
 use Rattle.z80_parcel.proofs.Writes.{bank_fits, ram_fits}
 use Rattle.z80_parcel.specs.Parcels.{IsStore, Store, written}
-use Rattle.z80_parcel.specs.Requests.{Byte, Fits, Nothing, Returned, Told, store_in, value_in}
+use Rattle.z80_parcel.specs.Requests.{Byte, Fits, Nothing, Returned, AnswerValue80, store_in, value_in}
 use Rattle.z80_chip.specs.Cases.{RunsWithRam, bus_case, case_of, is_reset, running_case, seen}
 use Rattle.z80_chip.specs.Events.{answered, answered_at, asked_at, asked_of, begun, begun_as, came_to, carried_out, handed, handing, held, kept_at, moved, moving, waited, went_on, went_on_with}
-use Rattle.z80_chip.specs.Sound.{Chip80Value, IsAsking, IsAt, IsBetween, IsChip80}
+use Rattle.z80_chip.specs.Validity.{Chip80Value, IsAsking, IsAt, IsBetween, IsChip80}
 use Rattle.z80_chip.specs.States.{State80, is_sample, next_of, power_on}
 use Rattle.z80_chip.specs.declared.case.Case.{Case}
 use Rattle.z80_chip.specs.declared.case.Case.TheVariants as cases
@@ -188,7 +188,7 @@ back-by : (store : Option Store) (back : Store) → Fits (handing store) (Return
 back-by (Some store) back fits = fits
 back-by None back fits = fits
 
-back-ok : (stage : Stage) (cart : List ℕ) (state : State80) (answer : Told) → (stage ≡ Yield) ⊎ (stage ≡ Take) → Fits (asked_at stage cart state) answer → IfSome (store_in answer) IsStore
+back-ok : (stage : Stage) (cart : List ℕ) (state : State80) (answer : AnswerValue80) → (stage ≡ Yield) ⊎ (stage ≡ Take) → Fits (asked_at stage cart state) answer → IfSome (store_in answer) IsStore
 back-ok stage cart state (Byte value) either fits = tt
 back-ok stage cart state Nothing either fits = tt
 back-ok Sample cart state (Returned back) either fits = fits
@@ -197,14 +197,14 @@ back-ok Access cart state (Returned back) (inr e) fits = cc
 back-ok Yield cart state (Returned back) either fits = back-by state.store back fits
 back-ok Take cart state (Returned back) either fits = fits
 
-moved-ok : (cart : List ℕ) (state : State80) (answer : Told) → IsImage cart → IsBetween state → IfSome (store_in answer) IsStore → IsChip80 (of cart (moved state answer))
+moved-ok : (cart : List ℕ) (state : State80) (answer : AnswerValue80) → IsImage cart → IsBetween state → IfSome (store_in answer) IsStore → IsChip80 (of cart (moved state answer))
 moved-ok cart state answer image between back = record {
   image = image;
   store = back;
   stands = (record { cause = between.cause; answers = between.answers }, refl);
 }
 
-answered-by : (stage : Stage) (v : Chip80Value) (answer : Told) → IsChip80 v → IsAt stage v.cart v.state → is_sample stage ≡ false → Fits (asked_at stage v.cart v.state) answer
+answered-by : (stage : Stage) (v : Chip80Value) (answer : AnswerValue80) → IsChip80 v → IsAt stage v.cart v.state → is_sample stage ≡ false → Fits (asked_at stage v.cart v.state) answer
     → IsChip80 (of v.cart (answered_at stage v.cart v.state answer))
 answered-by Sample v answer ok at kind fits = cc
 answered-by Access v answer ok at kind fits =
@@ -212,7 +212,7 @@ answered-by Access v answer ok at kind fits =
 answered-by Yield v answer ok at kind fits = moved-ok v.cart v.state answer ok.image at.0 (back-ok Yield v.cart v.state answer (inl refl) fits)
 answered-by Take v answer ok at kind fits = moved-ok v.cart v.state answer ok.image at.0 (back-ok Take v.cart v.state answer (inr refl) fits)
 
-pub answered-ok : (v : Chip80Value) (answer : Told) → IsChip80 v → (next_of v.state).sample ≡ false → Fits (asked_of v.cart v.state) answer → IsChip80 (of v.cart (answered v.cart v.state answer))
+pub answered-ok : (v : Chip80Value) (answer : AnswerValue80) → IsChip80 v → (next_of v.state).sample ≡ false → Fits (asked_of v.cart v.state) answer → IsChip80 (of v.cart (answered v.cart v.state answer))
 unfolding answered next_of asked_of
 answered-ok v answer ok kind fits = answered-by v.state.stage v answer ok ok.stands kind fits
 
@@ -241,7 +241,7 @@ takes-more cart state x request ended asks e =
       | inr less ↦ absurd (different ended request (sym (samples.same_sample state.cause state.regs _ _ ended e (same-below cart (held state.store).ram (held state.store).bank state.answers x ended.used less)) ∙ asks))
     ]
 
-asked-late : (v : Chip80Value) (answer : Told) → IsAsking v.cart v.state → v.state.next + 45 ≤ (went_on_with v.cart v.state (value_in answer)).next
+asked-late : (v : Chip80Value) (answer : AnswerValue80) → IsAsking v.cart v.state → v.state.next + 45 ≤ (went_on_with v.cart v.state (value_in answer)).next
 unfolding went_on
 asked-late v answer a =
     let x : ℕ = value_in answer in
@@ -252,13 +252,13 @@ asked-late v answer a =
     (λ ended is. (let taken = takes-more v.cart v.state x a.request ended a.asked is in omega (arith, taken, counted))) in
     omega (arith, place, late, counted)
 
-late-by : (stage : Stage) (v : Chip80Value) (answer : Told) → IsAt stage v.cart v.state → is_sample stage ≡ false → v.state.next + 45 ≤ (answered_at stage v.cart v.state answer).next
+late-by : (stage : Stage) (v : Chip80Value) (answer : AnswerValue80) → IsAt stage v.cart v.state → is_sample stage ≡ false → v.state.next + 45 ≤ (answered_at stage v.cart v.state answer).next
 late-by Sample v answer at kind = cc
 late-by Access v answer at kind = asked-late v answer at
 late-by Yield v answer at kind = let e = at.1 in omega (arith, e)
 late-by Take v answer at kind = let e = at.1 in omega (arith, e)
 
-pub answered-later : (v : Chip80Value) (answer : Told) → IsChip80 v → (next_of v.state).sample ≡ false → v.state.next + 45 ≤ (answered v.cart v.state answer).next
+pub answered-later : (v : Chip80Value) (answer : AnswerValue80) → IsChip80 v → (next_of v.state).sample ≡ false → v.state.next + 45 ≤ (answered v.cart v.state answer).next
 unfolding answered next_of
 answered-later v answer ok kind = late-by v.state.stage v answer ok.stands kind
 

@@ -7,12 +7,12 @@ use Rattle.md_word.specs.declared.sub_bus.Request80.{Request80}
 use Rattle.md_word.specs.declared.sub_bus.Request80.TheVariants as requests
 use Rattle.z80_exec.proofs.Bounds.Samples as samples
 use Rattle.z80_exec.specs.Sample.Samples.{Ended}
-use Rattle.z80_parcel.specs.Requests.{Byte, Fits, Nothing, Returned, Told, asked, value_in}
+use Rattle.z80_parcel.specs.Requests.{Byte, Fits, Nothing, Returned, AnswerValue80, request_value80, value_in}
 use Rattle.z80_chip.specs.Cases.{bus_case, case_of, is_interrupted, running_case, seen}
 use Rattle.z80_chip.specs.Events.{answered, answered_at, asked_at, asked_in, asked_of, begun, begun_as, came_to, carried_out, handed, kept_at, went_on}
 use Rattle.z80_chip.specs.Rules.{AreFit, BeganBelow, HasRules}
 use Rattle.z80_chip.specs.Saved.{is_answer, need_after, need_of}
-use Rattle.z80_chip.specs.Sound.{Chip80Value, IsAsking, IsAt, IsChip80}
+use Rattle.z80_chip.specs.Validity.{Chip80Value, IsAsking, IsAt, IsChip80}
 use Rattle.z80_chip.specs.States.{State80, is_sample, next_of, power_on}
 use Rattle.z80_chip.specs.declared.case.Case.{Case}
 use Rattle.z80_chip.specs.declared.case.Case.TheVariants as cases
@@ -118,7 +118,7 @@ begun_rules at v pins ok kind below =
 
 -- ---- an answer
 
-is_answered : (request : Request80) (answer : Told) → Fits (asked request) answer → is_answer (need_of (Err request)) (value_in answer) ≡ true
+is_answered : (request : Request80) (answer : AnswerValue80) → Fits (request_value80 request) answer → is_answer (need_of (Err request)) (value_in answer) ≡ true
 is_answered (requests.Read at) answer fits = refl
 is_answered (requests.Write at value) (Byte told) fits = absurd fits
 is_answered (requests.Write at value) Nothing fits = refl
@@ -138,7 +138,7 @@ last_of : (l : List ℕ) (x : ℕ) → slice_index (l ++ x ∷ []) (length l) �
 last_of [] x = refl
 last_of (y ∷ l) x = last_of l x
 
-fit_more : (cart : List ℕ) (state : State80) (answer : Told) → IsAsking cart state → Fits (asked_in (carried_out cart state state.cause)) answer → AreFit cart state
+fit_more : (cart : List ℕ) (state : State80) (answer : AnswerValue80) → IsAsking cart state → Fits (asked_in (carried_out cart state state.cause)) answer → AreFit cart state
     → AreFit cart (record state { answers = state.answers ++ value_in answer ∷ [] })
 fit_more cart state answer is fits fit k less =
     let value : ℕ = value_in answer in
@@ -158,7 +158,7 @@ fit_more cart state answer is fits fit k less =
           (is_answered is.request answer (subst (λ (r : Result Ended Request80). Fits (asked_in r) answer) is.asked fits)))))
     ]
 
-answered_by : (stage : Stage) (at : ℕ) (v : Chip80Value) (answer : Told) → v.state.stage ≡ stage → IsAt stage v.cart v.state → is_sample stage ≡ false
+answered_by : (stage : Stage) (at : ℕ) (v : Chip80Value) (answer : AnswerValue80) → v.state.stage ≡ stage → IsAt stage v.cart v.state → is_sample stage ≡ false
     → Fits (asked_at stage v.cart (record v.state { store = kept_at stage v.state.store })) answer → v.state.next < at → HasRules v.cart at v.state
     → HasRules v.cart at (answered_at stage v.cart (record v.state { store = kept_at stage v.state.store }) answer)
 answered_by Sample at v answer same is kind fits below rules = absurd cc
@@ -176,7 +176,7 @@ answered_by Take at v answer same is kind fits below rules =
     record { recent = record { soon = omega (arith, start, below); begun = tt }; cause = omega (arith, none); holder = tt; fit = λ k less. absurd (none_below v.state.answers k is.0.answers less) }
 
 -- an answer to an access below the cycle keeps them; a yield has handed its RAM over
-pub answered_rules : (at : ℕ) (v : Chip80Value) (answer : Told) → IsChip80 v → (next_of v.state).sample ≡ false → Fits (asked_of v.cart (handed v.state)) answer
+pub answered_rules : (at : ℕ) (v : Chip80Value) (answer : AnswerValue80) → IsChip80 v → (next_of v.state).sample ≡ false → Fits (asked_of v.cart (handed v.state)) answer
     → v.state.next < at → HasRules v.cart at v.state → HasRules v.cart at (answered v.cart (handed v.state) answer)
 unfolding answered next_of asked_of handed
 answered_rules at v answer ok kind fits below rules = answered_by v.state.stage at v answer refl ok.stands kind fits below rules

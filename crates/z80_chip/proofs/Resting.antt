@@ -6,7 +6,7 @@ use Rattle.z80_exec.specs.Sample.Entries.{after_reset}
 use Rattle.z80_parcel.specs.Parcels.{Store}
 use Rattle.z80_chip.specs.Cases.{bus_case, case_of, is_interrupted, is_reset, is_rest, running_case, seen}
 use Rattle.z80_chip.specs.Events.{WentAhead, at_sample, begun, begun_after, begun_as, step, steps_to, waited}
-use Rattle.z80_chip.specs.Sound.{IsChip80}
+use Rattle.z80_chip.specs.Validity.{IsChip80}
 use Rattle.z80_chip.specs.States.{State80, is_sample, next_of}
 use Rattle.z80_chip.specs.declared.case.Case.{Case}
 use Rattle.z80_chip.specs.declared.case.Case.TheVariants as cases

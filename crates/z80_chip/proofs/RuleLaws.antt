@@ -19,7 +19,7 @@ use Rattle.z80_parcel.specs.Spelling.{store_fields}
 use Rattle.z80_chip.specs.Events.{carried_out, first_step, step}
 use Rattle.z80_chip.specs.Rules.{AreFit, BeganBelow, HasRules, IsHolder}
 use Rattle.z80_chip.specs.Saved.{Kept80, are_answered, asks_more, chip_fields, fields_by, is_access, is_answer, is_bank_right, is_waiting, kept_of, mode_number, need_after, need_of, numbers_of, stage_number, state_from}
-use Rattle.z80_chip.specs.Sound.{Chip80Value, IsAt, IsChip80}
+use Rattle.z80_chip.specs.Validity.{Chip80Value, IsAt, IsChip80}
 use Rattle.z80_chip.specs.Spelling.{Spells, chip_bytes}
 use Rattle.z80_chip.specs.States.{State80}
 use Rattle.z80_chip.specs.declared.saved.Saved80.{Saved80}

@@ -19,7 +19,7 @@ use Rattle.z80_parcel.specs.Parcels.{IsStore, Store}
 use Rattle.z80_chip.specs.Events.{carried_out, first_step, step}
 use Rattle.z80_parcel.specs.Spelling.{store_fields}
 use Rattle.z80_chip.specs.Saved.{Kept80, are_answers, asks_more, chip_fields, fields_by, is_access, is_bank_right, is_cause, is_holder, is_start, is_waiting, kept_of, mode_number, mode_of, need_of, numbers_of, stage_number, stage_of, state_from}
-use Rattle.z80_chip.specs.Sound.{IsAt, IsChip80}
+use Rattle.z80_chip.specs.Validity.{IsAt, IsChip80}
 use Rattle.z80_chip.specs.States.{State80}
 use Rattle.z80_chip.specs.declared.saved.Saved80.{Saved80}
 use Rattle.z80_chip.specs.declared.stage.Stage.{Stage}
@@ -261,7 +261,7 @@ state_again state = λ j. record {
 pub count_few : (at : ℕ) (holds : Bool) (k : Kept80) → Rules at holds k → k.numbers.count ≤ 3
 count_few at holds k rules = leb-true k.numbers.count 3 (and_parts _ _ rules.answers).0
 
--- ---- the state is sound
+-- ---- the state is valid
 
 or_false : (b : Bool) → (b || false) ≡ true → b ≡ true
 or_false true e = refl
@@ -328,9 +328,9 @@ holds_store zero has one e = absurd cc
 holds_store (suc zero) has one e = e
 holds_store (suc (suc n)) has one e = absurd (let is = eqb-true (suc (suc n)) 1 one in omega (arith, is))
 
-pub sound : (cart : List ℕ) (at : ℕ) (k : Kept80) → IsImage cart → IfSome k.store IsStore → length k.numbers.answers ≡ 4 → Rules at true k → asks_more cart k ≡ true
+pub valid : (cart : List ℕ) (at : ℕ) (k : Kept80) → IsImage cart → IfSome k.store IsStore → length k.numbers.answers ≡ 4 → Rules at true k → asks_more cart k ≡ true
     → IsChip80 (of cart (state_from k.numbers k.store))
-sound cart at k image ok four rules asks =
+valid cart at k image ok four rules asks =
     let s : Saved80 = k.numbers in
     let state : State80 = state_from s k.store in
     let few = count_few at true k rules in

@@ -11,7 +11,7 @@ use Rattle.z80_chip.specs.Cases.{case_of, seen}
 use Rattle.z80_chip.specs.States.{State80}
 use Rattle.z80_parcel.specs.Parcels as parcels
 use Rattle.z80_parcel.specs.Parcels.{Store, written}
-use Rattle.z80_parcel.specs.Requests.{Asked, HandOver, TakeBack, Told, asked, store_in, value_in}
+use Rattle.z80_parcel.specs.Requests.{RequestValue80, HandOver, TakeBack, AnswerValue80, request_value80, store_in, value_in}
 use Rattle.z80_chip.specs.declared.case.Case.{Case}
 use Rattle.z80_chip.specs.declared.case.Case.TheVariants as cases
 use Rattle.z80_chip.specs.declared.stage.Stage.{Stage}
@@ -134,7 +134,7 @@ pub record WentAhead (samples cycle : ℕ) (cart : List ℕ) (pins : Pins80) (be
 
 -- after a yield or a take: the Z80 has what the answer gives back, and samples 105 cycles after it
 -- saw the request change
-abbrev pub moved : State80 → Told → State80
+abbrev pub moved : State80 → AnswerValue80 → State80
 moved state answer = at_sample (record state { store = store_in answer }) (state.start + 105)
 
 -- it goes on with one answer more
@@ -142,35 +142,35 @@ abbrev pub went_on_with : List ℕ → State80 → ℕ → State80
 went_on_with cart state value = went_on cart (record state { answers = state.answers ++ value ∷ [] }) state.cause
 
 -- after the answer to an access
-abbrev pub answered_at : Stage → List ℕ → State80 → Told → State80
+abbrev pub answered_at : Stage → List ℕ → State80 → AnswerValue80 → State80
 answered_at Sample cart state answer = state
 answered_at Access cart state answer = went_on_with cart state (value_in answer)
 answered_at Yield cart state answer = moved state answer
 answered_at Take cart state answer = moved state answer
 
 -- after the answer to the access, the yield or the take that was the next event
-unfoldable pub answered : List ℕ → State80 → Told → State80
+unfoldable pub answered : List ℕ → State80 → AnswerValue80 → State80
 answered cart state answer = answered_at state.stage cart state answer
 
 -- the request that waits for its answer
-abbrev pub asked_in : Result Ended Request80 → Asked
-asked_in (Err request) = asked request
+abbrev pub asked_in : Result Ended Request80 → RequestValue80
+asked_in (Err request) = request_value80 request
 asked_in (Ok ended) = TakeBack
 
 -- what a yield hands over; where there is nothing, it takes
-abbrev pub handing : Option Store → Asked
+abbrev pub handing : Option Store → RequestValue80
 handing (Some store) = HandOver store
 handing None = TakeBack
 
 -- the access that is the next event
-abbrev pub asked_at : Stage → List ℕ → State80 → Asked
+abbrev pub asked_at : Stage → List ℕ → State80 → RequestValue80
 asked_at Sample cart state = TakeBack
 asked_at Access cart state = asked_in (carried_out cart state state.cause)
 asked_at Yield cart state = handing state.store
 asked_at Take cart state = TakeBack
 
 -- what the next event asks; at a sample a take that is never made
-unfoldable pub asked_of : List ℕ → State80 → Asked
+unfoldable pub asked_of : List ℕ → State80 → RequestValue80
 asked_of cart state = asked_at state.stage cart state
 
 -- what the Z80 keeps of its RAM while the request waits: a yield hands it over

@@ -2,6 +2,6 @@ pub mod Cases
 pub mod Events
 pub mod Rules
 pub mod Saved
-pub mod Sound
+pub mod Validity
 pub mod Spelling
 pub mod States

@@ -24,7 +24,7 @@ pub struct Chip80 {
 
 impl Model for Chip80 {
     ghost use Rattle.std.specs.Arc.{arc_value};
-    ghost use Rattle.z80_chip.specs.Sound.{Chip80Value, IsChip80};
+    ghost use Rattle.z80_chip.specs.Validity.{Chip80Value, IsChip80};
     ghost use Rattle.z80_chip.specs.States.{state_of};
 
     ghost Value = { Chip80Value };
@@ -38,8 +38,8 @@ impl Chip80 {
     ghost use Rattle.std.specs.Arc.{arc_value};
     ghost use Rattle.z80_chip.specs.Cases.{case_of, is_rest};
     ghost use Rattle.z80_chip.specs.Events.{WentAhead, answered, asked_of, begun, handed};
-    ghost use Rattle.z80_chip.specs.Sound.{IsChip80};
-    ghost use Rattle.z80_parcel.specs.Requests.{Fits, asked, told};
+    ghost use Rattle.z80_chip.specs.Validity.{IsChip80};
+    ghost use Rattle.z80_parcel.specs.Requests.{Fits, request_value80, answer_value80};
     ghost use Rattle.z80_chip.specs.States.{next_of, power_on};
 
     /// The Z80 at power-on: its next event is a sample at cycle 0, and all is 0. It has its RAM. It is
@@ -61,7 +61,7 @@ impl Chip80 {
     #[tactic(auto, unfolding(crate::specs::States::next_of))]
     pub fn next(&self) -> Next
         ensures value { result ≡ next_of self.now.state }
-        ensures sound { IsChip80 self.now }
+        ensures valid { IsChip80 self.now }
     {
         Next {
             key: Key {
@@ -76,7 +76,7 @@ impl Chip80 {
     /// take it back. What a yield hands over the Z80 has no longer.
     pub fn request(&mut self) -> Request80
         requires { (next_of self.old.state).sample ≡ false }
-        ensures request { asked result ≡ asked_of self.old.cart self.old.state }
+        ensures request { request_value80 result ≡ asked_of self.old.cart self.old.state }
         ensures chip { self.new ≡ record self.old { state = handed self.old.state } }
     {
         self.sequencer
@@ -89,8 +89,8 @@ impl Chip80 {
     pub fn answer(&mut self, answer: Answer80)
         requires asking { (next_of self.old.state).sample ≡ false }
         requires far { self.old.state.next < 2 ^ 50 }
-        requires fits { Fits (asked_of self.old.cart self.old.state) (told answer) }
-        ensures { self.new ≡ record self.old { state = answered self.old.cart self.old.state (told answer) } }
+        requires fits { Fits (asked_of self.old.cart self.old.state) (answer_value80 answer) }
+        ensures { self.new ≡ record self.old { state = answered self.old.cart self.old.state (answer_value80 answer) } }
     {
         self.sequencer
             .answer(answer, &self.cart, &mut self.parcel, &mut self.progress);
@@ -146,7 +146,7 @@ impl Chip80 {
     #[tactic(auto, unfolding(crate::specs::States::next_of))]
     fn samples_below(&self, end: u64) -> bool
         ensures value { IsTrue result ↔ ((next_of self.now.state).sample ≡ true) × (self.now.state.next < end) }
-        ensures sound { IsChip80 self.now }
+        ensures valid { IsChip80 self.now }
     {
         matches!(self.sequencer.stage, Stage::Sample) && self.sequencer.next < end
     }

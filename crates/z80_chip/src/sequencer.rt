@@ -8,7 +8,7 @@ ghost use Rattle.z80_exec.specs.Access.Clauses.{done_of};
 ghost use Rattle.z80_chip.specs.States.{State80, no_regs, power_on, state_of};
 ghost use Rattle.z80_parcel.specs.Parcels.{Store, store_of};
 ghost use Rattle.z80_parcel.specs.Requests as requests;
-ghost use Rattle.z80_parcel.specs.Requests.{asked, told};
+ghost use Rattle.z80_parcel.specs.Requests.{request_value80, answer_value80};
 
 use crate::case::Case;
 use crate::stage::Stage;
@@ -309,7 +309,7 @@ impl Sequencer {
         progress: &mut Progress80,
     ) -> Request80
         requires access { events.Waits self.old.stage cart.now (state_of self.old parcel.old) }
-        ensures request { asked result ≡ asked_of cart.now (state_of self.old parcel.old) }
+        ensures request { request_value80 result ≡ asked_of cart.now (state_of self.old parcel.old) }
         ensures state { state_of self.new parcel.new ≡ handed (state_of self.old parcel.old) }
     {
         match self.stage {
@@ -328,7 +328,7 @@ impl Sequencer {
     ) -> Request80
         requires ram { IsSome parcel.now }
         requires waits { events.Asks cart.now (state_of self.old parcel.now) }
-        ensures request { asked result ≡ events.asked_in (carried_out cart.now (state_of self.old parcel.now) self.old.cause) }
+        ensures request { request_value80 result ≡ events.asked_in (carried_out cart.now (state_of self.old parcel.now) self.old.cause) }
         ensures state { self.new ≡ self.old }
     {
         match parcel {
@@ -359,7 +359,7 @@ impl Sequencer {
         requires start { self.old.start < 2 ^ 50 }
         requires few { array_vec_len self.old.answers < 4 }
         requires ram { events.HasRam self.old.stage (state_of self.old parcel.old) }
-        ensures { state_of self.new parcel.new ≡ answered cart.now (state_of self.old parcel.old) (told answer) }
+        ensures { state_of self.new parcel.new ≡ answered cart.now (state_of self.old parcel.old) (answer_value80 answer) }
     {
         match self.stage {
             Stage::Sample => {}
@@ -392,7 +392,7 @@ impl Sequencer {
 
 /// What a yield hands over: the parcel, which the Z80 has no longer.
 fn hand_over(parcel: &mut Option<Parcel>) -> Request80
-    ensures request { asked result ≡ events.handing (option_map store_of parcel.old) }
+    ensures request { request_value80 result ≡ events.handing (option_map store_of parcel.old) }
     ensures none { parcel.new ≡ None }
 {
     match parcel.take() {
@@ -403,7 +403,7 @@ fn hand_over(parcel: &mut Option<Parcel>) -> Request80
 
 /// The value that an answer tells.
 fn value_in(answer: &Answer80) -> u8
-    ensures { result ≡ requests.value_in (told answer.now) }
+    ensures { result ≡ requests.value_in (answer_value80 answer.now) }
 {
     match answer {
         Answer80::Value(value) => *value,
@@ -413,7 +413,7 @@ fn value_in(answer: &Answer80) -> u8
 
 /// What an answer gives back.
 fn parcel_in(answer: Answer80) -> Option<Parcel>
-    ensures { option_map store_of result ≡ requests.store_in (told answer) }
+    ensures { option_map store_of result ≡ requests.store_in (answer_value80 answer) }
 {
     match answer {
         Answer80::Back(parcel) => Some(parcel),

@@ -8,10 +8,10 @@ use Rattle.z80_decode.specs.declared.index.Index.TheVariants as indexes
 use Rattle.z80_decode.specs.declared.op80.Op80.TheVariants as ops
 use Rattle.md_word.proofs.Agree.{range, same_at}
 use Rattle.z80_decode.specs.Fields.{memory_of, place_of, lower, pair_of, stacked_of, condition_of, bit_of}
-use Rattle.z80_decode.specs.Lines.{Line, matching, matches, plain_lines, indexed_lines, bit_lines, indexed_bit_lines, extended_lines}
+use Rattle.z80_decode.specs.Lines.{TableLine, matching, matches, plain_lines, indexed_lines, bit_lines, indexed_bit_lines, extended_lines}
 use Rattle.std.proofs.lemmas.Bool.{and_parts}
 use Rattle.std.proofs.lemmas.Bool.Decides.{nat_tests}
-use Rattle.z80_decode.specs.Instructions.{AtMostOneRow, HasRows, Page, looked_up, Entry, Plain, Bits, Extended, Indexed, IndexedBits, entry, entry_of, prefixed, rows_of, chosen, decoded}
+use Rattle.z80_decode.specs.Instructions.{AtMostOneRow, HasRows, Page, looked_up, OpcodeEntry, Plain, Bits, Extended, Indexed, IndexedBits, entry, entry_of, prefixed, rows_of, chosen, decoded}
 use Rattle.z80_decode.specs.Nested.{of_bytes, bits, shift, arithmetic, accumulator, block, block_op, relative_jumps, pair_loads, memory_loads, pair_steps, step, number_loads, low_group, loads, returns, jumps, calls, control, by_opcode, low_names_hl, names_hl, indexed, ports, pairs_extended, modes, specials, extended, nested}
 use Rattle.z80_decode.specs.Ops.{IsInstruction, is_op}
 
@@ -26,7 +26,7 @@ counted Indexed count = nat_le count 1
 counted _ count = nat_eq count 1
 
 -- what the table says: the instruction of these rows, and whether their number is right
-abbrev told : List Line → Entry → Decoded80 × Bool
+abbrev told : List TableLine → OpcodeEntry → Decoded80 × Bool
 told rows e = (chosen rows e, counted e.page (length rows))
 
 abbrev right : Decoded80 → Decoded80 × Bool
@@ -70,7 +70,7 @@ at_plain w first second below none =
     rw none at same
 
 -- what an entry decodes to, and whether it has as many rows as it should
-abbrev meaning : Entry → Decoded80 × Bool
+abbrev meaning : OpcodeEntry → Decoded80 × Bool
 meaning e = told (rows_of e) e
 
 after_ix : (b1 b2 b3 : ℕ) → b1 < 256 → b3 < 256 → (bit : Bool) → (b1 == 0xcb) ≡ bit → meaning (prefixed indexes.Ix b1 b2 b3) ≡ right (indexed indexes.Ix b1 b2 b3)

@@ -26,7 +26,7 @@ pub record Code : Type 0 where
   pub second : ℕ
 
 -- a line of the table: the bits that the mask selects are fixed, and the opcode is allowed
-pub record Line : Type 0 where
+pub record TableLine : Type 0 where
   pub mask : ℕ
   pub bits : ℕ
   pub allowed : ℕ → Bool
@@ -45,7 +45,7 @@ bits_of [] so_far = so_far
 bits_of (c ∷ cs) so_far = bits_of cs (if c == 32 then so_far else (if c == 49 then (so_far * 2 + 1) else (so_far * 2)))
 
 -- a line whose pattern is text, with so many bytes of operands
-abbrev pub line : List ℕ → (ℕ → Bool) → ℕ → (Code → Op80) → Line
+abbrev pub line : List ℕ → (ℕ → Bool) → ℕ → (Code → Op80) → TableLine
 line pattern allowed operands op =
     record { mask = mask_of pattern 0; bits = bits_of pattern 0; allowed = allowed; operands = operands; op = op }
 
@@ -106,7 +106,7 @@ abbrev pub number : Code → ℕ
 number c = word c.first c.second
 
 -- opcodes without a prefix
-unfoldable pub plain_lines : List Line
+unfoldable pub plain_lines : List TableLine
 plain_lines =
     line (codes "01 rrr sss") registers 0 (λ c. ops.Load (upper_place c) (lower_place c)) ∷
     line (codes "00 rrr 110") upper_register 1 (λ c. ops.Load (upper_place c) (places.Number c.first)) ∷
@@ -181,7 +181,7 @@ plain_lines =
     []
 
 -- opcodes after DD and FD
-unfoldable pub indexed_lines : List Line
+unfoldable pub indexed_lines : List TableLine
 indexed_lines =
     line (codes "01 rrr sss") halves 0 (λ c. ops.Load (upper_place c) (lower_place c)) ∷
     line (codes "00 rrr 110") upper_half 1 (λ c. ops.Load (upper_place c) (places.Number c.first)) ∷
@@ -222,7 +222,7 @@ indexed_lines =
     []
 
 -- rotates, shifts, BIT, SET and RES, of a place that an opcode is on
-abbrev pub changing : (Code → Place8) → List Line
+abbrev pub changing : (Code → Place8) → List TableLine
 changing place =
     line (codes "00 000 rrr") all 0 (λ c. ops.Change tasks.Rlc (place c)) ∷
     line (codes "00 010 rrr") all 0 (λ c. ops.Change tasks.Rl (place c)) ∷
@@ -238,15 +238,15 @@ changing place =
     []
 
 -- opcodes after CB
-unfoldable pub bit_lines : List Line
+unfoldable pub bit_lines : List TableLine
 bit_lines = changing lower_place
 
 -- opcodes after DD CB and FD CB: all are on the displaced place
-unfoldable pub indexed_bit_lines : List Line
+unfoldable pub indexed_bit_lines : List TableLine
 indexed_bit_lines = changing memory
 
 -- opcodes after ED
-unfoldable pub extended_lines : List Line
+unfoldable pub extended_lines : List TableLine
 extended_lines =
     line (codes "01 010 111") all 0 (λ c. ops.LoadFromSpecial Interrupt) ∷
     line (codes "01 011 111") all 0 (λ c. ops.LoadFromSpecial Refresh) ∷
@@ -285,11 +285,11 @@ extended_lines =
     []
 
 -- an opcode has the bits that a line fixes, and the line allows it
-unfoldable pub matches : ℕ → Line → Bool
+unfoldable pub matches : ℕ → TableLine → Bool
 matches w l = bit_and w l.mask == l.bits && l.allowed w
 
 -- all lines that an opcode matches
-unfoldable pub matching : List Line → ℕ → List Line
+unfoldable pub matching : List TableLine → ℕ → List TableLine
 matching lines w = filter (matches w) lines
 
 -- the bytes of a prefix DD or FD

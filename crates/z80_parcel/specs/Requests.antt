@@ -7,46 +7,46 @@ use Rattle.md_word.specs.declared.sub_bus.Request80.TheVariants as requests
 use Rattle.z80_parcel.specs.Parcels.{IsStore, Store, store_of}
 
 -- a byte to read, a byte to write, RAM and bank register to yield, or the same to take back
-pub data Asked : Type 0 where
-  ReadByte : ℕ → Asked
-  WriteByte : ℕ → ℕ → Asked
-  HandOver : Store → Asked
-  TakeBack : Asked
+pub data RequestValue80 : Type 0 where
+  ReadByte : ℕ → RequestValue80
+  WriteByte : ℕ → ℕ → RequestValue80
+  HandOver : Store → RequestValue80
+  TakeBack : RequestValue80
 
 -- a request, without where a yielded parcel lies
-abbrev pub asked : Request80 → Asked
-asked (requests.Read at) = ReadByte at
-asked (requests.Write at value) = WriteByte at value
-asked (requests.Yield parcel) = HandOver (store_of parcel)
-asked requests.Take = TakeBack
+abbrev pub request_value80 : Request80 → RequestValue80
+request_value80 (requests.Read at) = ReadByte at
+request_value80 (requests.Write at value) = WriteByte at value
+request_value80 (requests.Yield parcel) = HandOver (store_of parcel)
+request_value80 requests.Take = TakeBack
 
 -- the byte that was read, nothing, or RAM and bank register that come back
-pub data Told : Type 0 where
-  Byte : ℕ → Told
-  Nothing : Told
-  Returned : Store → Told
+pub data AnswerValue80 : Type 0 where
+  Byte : ℕ → AnswerValue80
+  Nothing : AnswerValue80
+  Returned : Store → AnswerValue80
 
 -- an answer, without where a returned parcel lies
-abbrev pub told : Answer80 → Told
-told (answers.Value value) = Byte value
-told answers.Done = Nothing
-told (answers.Back parcel) = Returned (store_of parcel)
+abbrev pub answer_value80 : Answer80 → AnswerValue80
+answer_value80 (answers.Value value) = Byte value
+answer_value80 answers.Done = Nothing
+answer_value80 (answers.Back parcel) = Returned (store_of parcel)
 
 -- the value that an answer tells; nothing is told by the answer to a write
-abbrev pub value_in : Told → ℕ
+abbrev pub value_in : AnswerValue80 → ℕ
 value_in (Byte value) = value
 value_in Nothing = 0
 value_in (Returned store) = 0
 
 -- what an answer gives back
-abbrev pub store_in : Told → Option Store
+abbrev pub store_in : AnswerValue80 → Option Store
 store_in (Byte value) = None
 store_in Nothing = None
 store_in (Returned store) = Some store
 
 -- an answer that the board can give to a request: a byte to a read, nothing to a write, and RAM, if
 -- any, to a yield and a take
-abbrev pub Fits : Asked → Told → Type 0
+abbrev pub Fits : RequestValue80 → AnswerValue80 → Type 0
 Fits (ReadByte at) (Byte value) = value < 0x100
 Fits (ReadByte at) Nothing = ⊥
 Fits (ReadByte at) (Returned store) = ⊥

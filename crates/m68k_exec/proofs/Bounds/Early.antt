@@ -72,11 +72,6 @@ at_once used (Ok x) h = tt
 at_once used (Err (Ask request)) h = tt
 at_once used (Err (Odd address read now)) h = absurd h
 
-at_once_on : {A B : Type 0} (used : ℕ) (first : Result (A × Done) Stop) (f : A → Done → Result (B × Done) Stop) → AtOnce used first → ((x : A) (after : Done) → NotOdd (f x after)) → AtOnce used (go_on first f)
-at_once_on used (Ok x) f h k = at_once used _ (k x.0 x.1)
-at_once_on used (Err (Ask request)) f h k = tt
-at_once_on used (Err (Odd address read now)) f h k = h
-
 cases : {A : Type 0} (used : ℕ) (b : Bool) (x y : Result (A × Done) Stop) → (b ≡ true → AtOnce used x) → (b ≡ false → AtOnce used y) → AtOnce used (if b then x else y)
 cases used true x y h k = h refl
 cases used false x y h k = k refl

@@ -1,12 +1,12 @@
 use Rattle.std.proofs.Common.{sym, ◌∙◌}
 use Rattle.chip_core.specs.Machines.{key_of, mover}
 use Rattle.chip_core.proofs.Keys.{rank-not_lt}
-use Rattle.chip_core.proofs.Runs.{chip-at, run-sound}
+use Rattle.chip_core.proofs.Runs.{chip-at, run-valid}
 use Rattle.chip_core.proofs.Stages.{mover-in, mover-least, number-small}
 use Rattle.chip_core.proofs.laws.stages.Goals as goal
 
-pub returns-clause-sound : goal.returns-clause-sound
-returns-clause-sound g c = λ m t n small ok below. run-sound g.C.ChipSet.rules g.C.ChipSet.chip_ok g.C.ChipSet.shared_ok (g.met.C.ChipSet g.world.𝓛 g.world.𝓜 g.world.𝓡 ((λ s x. x), (λ x. x), (λ x. x), (λ x. x))).lawful m ok t small n below
+pub returns-clause-valid : goal.returns-clause-valid
+returns-clause-valid g c = λ m t n small ok below. run-valid g.C.ChipSet.rules g.C.ChipSet.chip_ok g.C.ChipSet.shared_ok (g.met.C.ChipSet g.world.𝓛 g.world.𝓜 g.world.𝓡 ((λ s x. x), (λ x. x), (λ x. x), (λ x. x))).lawful m ok t small n below
 
 pub returns-clause-mover : goal.returns-clause-mover
 returns-clause-mover g c = mover-in g.C.ChipSet.rules g.C.ChipSet.chip_ok g.C.ChipSet.shared_ok (g.met.C.ChipSet g.world.𝓛 g.world.𝓜 g.world.𝓡 ((λ s x. x), (λ x. x), (λ x. x), (λ x. x))).lawful

@@ -1,6 +1,6 @@
 use Rattle.std.proofs.Common.{rules, not}
 use Rattle.arrayvec.proofs.ArrayVecLemmas.{filter-from_retain}
-use Rattle.stamped_writes.specs.Order.{is_below}
+use Rattle.sound_writes.specs.Order.{is_below}
 use Rattle.fm_chip.specs.Stamp.{stamp_of}
 use Rattle.fm_chip.proofs.port.move_below.Goals as goal
 

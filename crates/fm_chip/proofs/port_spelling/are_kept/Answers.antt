@@ -1,6 +1,6 @@
 use Rattle.std.proofs.Common.{◌∙◌, length, take, drop, ◌-◌, refl, ap, sym, map}
-use Rattle.stamped_writes.specs.Keys.{after, all_fit, fits}
-use Rattle.stamped_writes.proofs.Spaced.{all_kept, fits_all, fits_next, fits_not}
+use Rattle.sound_writes.specs.Keys.{after, all_fit, fits}
+use Rattle.sound_writes.proofs.Spaced.{all_kept, fits_all, fits_next, fits_not}
 use Rattle.fm_chip.specs.PortSpelling.{key_of}
 use Rattle.fm_chip.proofs.port_spelling.are_kept.Goals as goal
 

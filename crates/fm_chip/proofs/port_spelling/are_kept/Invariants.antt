@@ -1,5 +1,5 @@
 use Rattle.std.proofs.Common.{◌≡◌, length, map}
-use Rattle.stamped_writes.specs.Keys.{all_fit, behind_batch}
+use Rattle.sound_writes.specs.Keys.{all_fit, behind_batch}
 use Rattle.fm_chip.specs.PortSpelling.{key_of}
 use Rattle.fm_chip.proofs.port_spelling.are_kept.Given as goal
 

@@ -1,5 +1,5 @@
 use Rattle.std.proofs.Common.{◌≡◌, ◌+◌, ◌*◌, ◌≤◌, ◌++◌, length, map, vec_len, vec_capacity}
-use Rattle.stamped_writes.specs.Entries.{AreFit, entries_bytes}
+use Rattle.sound_writes.specs.Entries.{AreFit, entries_bytes}
 use Rattle.fm_chip.specs.PortSpelling.{saved_write, write_fields}
 use Rattle.fm_chip.proofs.port_spelling.put_writes.Given as goal
 

@@ -1,6 +1,6 @@
 use Rattle.std.proofs.Common.{◌≡◌, ◌∙◌, ◌+◌, ◌*◌, ◌-◌, ◌++◌, [], ◌∷◌, List, ℕ, ap, sym, append_assoc, arith}
-use Rattle.stamped_writes.specs.Entries.{entries_from}
-use Rattle.stamped_writes.proofs.Entries.{entries_more}
+use Rattle.sound_writes.specs.Entries.{entries_from}
+use Rattle.sound_writes.proofs.Entries.{entries_more}
 use Rattle.fm_chip.specs.PortSpelling.{write_at}
 use Rattle.fm_chip.specs.declared.saved_write.SavedWrite.{SavedWrite}
 use Rattle.fm_chip.proofs.port_spelling.saved_writes.Goals as goal

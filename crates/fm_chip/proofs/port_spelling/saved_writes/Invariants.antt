@@ -1,5 +1,5 @@
 use Rattle.std.proofs.Common.{◌≡◌, ◌-◌, ◌*◌, ◌++◌, length}
-use Rattle.stamped_writes.specs.Entries.{entries_from}
+use Rattle.sound_writes.specs.Entries.{entries_from}
 use Rattle.fm_chip.specs.PortSpelling.{write_at, writes_at}
 use Rattle.fm_chip.proofs.port_spelling.saved_writes.Given as goal
 

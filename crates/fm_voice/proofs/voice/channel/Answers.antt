@@ -7,10 +7,10 @@ use Rattle.fm_voice.proofs.voice.channel.Goals as goal
 
 pub returns-then-are_silent-clause-value : goal.returns-then-are_silent-clause-value
 returns-then-are_silent-clause-value c =
-    heard-quiet (meaning.voice c.args.algorithm c.args.feedback c.args.phases.now c.args.attenuations.now c.args.last.now) (c.if-are_silent.ensures {u = tt} refl)
+    heard-quiet (meaning.channel_voice c.args.algorithm c.args.feedback c.args.phases.now c.args.attenuations.now c.args.last.now) (c.if-are_silent.ensures {u = tt} refl)
 
 pub returns-then-are_silent-clause-last : goal.returns-then-are_silent-clause-last
 returns-then-are_silent-clause-last c =
     let newer = c.requires.last 1 (pos 0) (omega arith) in
     let n : to_z w32 (of_z w32 (last_at c.args.last.now 1)) ≡ last_at c.args.last.now 1 = omega (arith, ints, newer.0, newer.1) in
-    last-quiet (meaning.voice c.args.algorithm c.args.feedback c.args.phases.now c.args.attenuations.now c.args.last.now) _ (c.if-are_silent.ensures {u = tt} refl) n
+    last-quiet (meaning.channel_voice c.args.algorithm c.args.feedback c.args.phases.now c.args.attenuations.now c.args.last.now) _ (c.if-are_silent.ensures {u = tt} refl) n

@@ -6,7 +6,7 @@ use Rattle.fm_voice.proofs.Sounding.{one-is, two-is, three-is, four-is, heard-is
 use Rattle.fm_voice.proofs.voice.sounding.Goals as goal
 
 abbrev voice_of : goal.After-clamped → Voice
-voice_of c = meaning.voice c.args.algorithm c.args.feedback c.args.phases.now c.args.attenuations.now c.args.last.now
+voice_of c = meaning.channel_voice c.args.algorithm c.args.feedback c.args.phases.now c.args.attenuations.now c.args.last.now
 
 one : (c : goal.After-clamped) → c.output-one.result ≡ meaning.one (voice_of c)
 one c =

@@ -1,13 +1,13 @@
 use Rattle.std.proofs.Common.{[], Some, arith}
 use Rattle.chip_core.specs.Cores.{machine_of}
-use Rattle.chip_core.specs.Machines.{AllBelow, IsSound, Machine}
+use Rattle.chip_core.specs.Machines.{AllBelow, IsValid, Machine}
 use Rattle.md_machine.specs.First.{first_bounds, first_chips}
 use Rattle.md_machine.specs.Machines.{core_in}
 use Rattle.bus_shared.specs.Board.{Board, IsBoard, power_on}
 use Rattle.md_machine.specs.Refinement.{console}
 use Rattle.md_machine.specs.Rules.{IsChip, five}
 use Rattle.md_machine.specs.declared.chips.Chip.{Chip}
-use Rattle.md_machine.proofs.Lifts.{SoundTo}
+use Rattle.md_machine.proofs.Lifts.{ValidTo}
 use Rattle.md_machine.proofs.Owners.{one-owner}
 use Rattle.md_machine.proofs.Segments.{below-lift}
 use Rattle.md_machine.proofs.Start.{first-console, first-core}
@@ -17,10 +17,10 @@ pub returns : goal.returns
 unfolding console
 returns c = λ recording end n small below.
     let first : Machine Chip Board = machine_of five (core_in (power_on recording) (first_chips c.args.cart.now) first_bounds [] 0) in
-    let sound : IsSound five IsChip IsBoard first =
+    let valid : IsValid five IsChip IsBoard first =
     c.stages.ensures.core (core_in (power_on recording) (first_chips c.args.cart.now) first_bounds [] 0) (first-core c.args.cart.now recording 0 c.bytes.ensures.image) in
     let lower : AllBelow five first end n =
-    below-lift first end n (λ k earlier. c.stages.ensures.sound first end k (omega arith) sound earlier) c.stages.ensures.mover below in
-    let stages : SoundTo first n = λ k within.
-    c.stages.ensures.sound first end k (omega arith) sound (record { each = λ j earlier. lower.each j (omega arith) }) in
+    below-lift first end n (λ k earlier. c.stages.ensures.valid first end k (omega arith) valid earlier) c.stages.ensures.mover below in
+    let stages : ValidTo first n = λ k within.
+    c.stages.ensures.valid first end k (omega arith) valid (record { each = λ j earlier. lower.each j (omega arith) }) in
     one-owner first c.args.cart.now recording n (first-console c.args.cart.now recording 0) stages c.stages.ensures.mover

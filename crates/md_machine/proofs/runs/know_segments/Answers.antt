@@ -1,6 +1,6 @@
 use Rattle.std.proofs.Common.{◌-◌, arith, lit<}
 use Rattle.chip_core.specs.Cores.{machine_of}
-use Rattle.chip_core.specs.Machines.{IsSound, Machine}
+use Rattle.chip_core.specs.Machines.{IsValid, Machine}
 use Rattle.bus_shared.specs.Board.{Board, IsBoard}
 use Rattle.md_machine.specs.Rules.{IsChip, five}
 use Rattle.md_machine.specs.declared.chips.Chip.{Chip}
@@ -14,17 +14,17 @@ returns-clause-few c = λ v from to quiet near far.
 pub returns-clause-run : goal.returns-clause-run
 returns-clause-run c = λ v w from to core quiet near far samples after runs.
     let first : Machine Chip Board = machine_of five v in
-    let sound : IsSound five IsChip IsBoard first = c.stages.ensures.core v core in
+    let valid : IsValid five IsChip IsBoard first = c.stages.ensures.core v core in
     segment-run first (machine_of five w) from to w.journal runs
-    (λ n below. c.stages.ensures.sound first to n (omega arith) sound below) c.stages.ensures.mover
+    (λ n below. c.stages.ensures.valid first to n (omega arith) valid below) c.stages.ensures.mover
     (c.stages.ensures.core w after)
-    (λ n below. at_most (c.limits.ensures.made first to n 3 (omega arith) sound below (lit< tt)) (fm_batches-few first from to near quiet))
-    (λ n below. at_most (c.limits.ensures.made first to n 4 (omega arith) sound below (lit< tt)) (batches-few first from to near quiet))
-    samples sound quiet near
+    (λ n below. at_most (c.limits.ensures.made first to n 3 (omega arith) valid below (lit< tt)) (fm_batches-few first from to near quiet))
+    (λ n below. at_most (c.limits.ensures.made first to n 4 (omega arith) valid below (lit< tt)) (batches-few first from to near quiet))
+    samples valid quiet near
 
 pub returns-clause-entries : goal.returns-clause-entries
 returns-clause-entries c = λ v w from to core quiet near far runs.
     let first : Machine Chip Board = machine_of five v in
-    let sound : IsSound five IsChip IsBoard first = c.stages.ensures.core v core in
-    few_entries first from to runs (c.limits.ensures.entered first to runs.moves (omega arith) sound runs.below)
+    let valid : IsValid five IsChip IsBoard first = c.stages.ensures.core v core in
+    few_entries first from to runs (c.limits.ensures.entered first to runs.moves (omega arith) valid runs.below)
     (c.limits.ensures.within first from to (omega arith) quiet) near

@@ -15,7 +15,7 @@ returns c = λ cart bytes state start buttons.
     let s = state.saved in
     record {
       start = start;
-      parts = c.parts_are_sound.ensures;
+      parts = c.parts_are_valid.ensures;
       processors = c.processors_of_states.ensures cart at (main.chip_bytes m.main) (sub.chip_bytes m.sub.state) s.image s.sub_image s.main s.sub s.one_owner s.resets;
       video = c.video_of_states.ensures at (vdps.vdp_bytes m.shared.vdp) (drawings.drawing_bytes (drawing_in m)) m s.shared.vdp s.drawing;
       lines = c.lines_of_states.ensures at (boards.board_bytes m.shared) m s.shared buttons;

@@ -1,4 +1,4 @@
-use Rattle.md_words.specs.Shown.{shown_run}
+use Rattle.md_args.specs.Shown.{shown_run}
 use Rattle.md_top.proofs.Ends.{on-err, on-ok}
 use Rattle.md_top.proofs.Appends.{adds-all, parts-all, stop-all}
 use Rattle.md_top.proofs.output.append_all.Goals as goal

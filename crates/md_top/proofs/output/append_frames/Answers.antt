@@ -1,4 +1,4 @@
-use Rattle.md_words.specs.Shown.{shown_run}
+use Rattle.md_args.specs.Shown.{shown_run}
 use Rattle.md_top.proofs.Named.{outputs_apart}
 use Rattle.md_top.proofs.Appends.{adds-frames, adds-no_frames, parts-frames}
 use Rattle.md_top.proofs.output.append_frames.Goals as goal

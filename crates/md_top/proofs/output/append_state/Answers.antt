@@ -1,4 +1,4 @@
-use Rattle.md_words.specs.Shown.{shown_run}
+use Rattle.md_args.specs.Shown.{shown_run}
 use Rattle.md_top.proofs.Appends.{adds-state, adds-no_state, parts-state}
 use Rattle.md_top.proofs.output.append_state.Goals as goal
 

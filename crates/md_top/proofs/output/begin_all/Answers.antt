@@ -1,8 +1,8 @@
 use Rattle.std.proofs.Common.{◌≡◌, ◌∙◌, [], None, Some, refl, ap}
 use Rattle.md_outer.specs.Outside.{Files}
 use Rattle.md_top.specs.Outputs.{with_part}
-use Rattle.md_words.specs.Shown.{shown_run}
-use Rattle.md_words.specs.Words.{Run}
+use Rattle.md_args.specs.Shown.{shown_run}
+use Rattle.md_args.specs.Words.{Run}
 use Rattle.md_top.proofs.output.begin_all.Goals as goal
 
 -- three outputs begun one behind the other

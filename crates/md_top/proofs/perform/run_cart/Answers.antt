@@ -4,7 +4,7 @@ use Rattle.md_machine.specs.Starts.{Start}
 use Rattle.md_top.specs.Courses.{start_at, start_in}
 use Rattle.md_top.specs.Endings.{RunFiles}
 use Rattle.md_top.specs.Loads.{Begins, BeginsWith, LoadCause}
-use Rattle.md_words.specs.Shown.{shown_run}
+use Rattle.md_args.specs.Shown.{shown_run}
 use Rattle.md_top.proofs.Ends.{goes-far, load-ends, load-leaves, refused-leaves, run-ends, run-leaves, untouched}
 use Rattle.md_top.proofs.Kept.{state-cause-before}
 use Rattle.md_top.proofs.perform.run_cart.Goals as goal

@@ -20,9 +20,9 @@ returns-in-RecordingTooLong g c =
     rw c.in-RecordingTooLong.is
     (c.refuse_file-in-RecordingTooLong.ensures.status, rw c.recording-in-RecordingTooLong.ensures at c.refuse_file-in-RecordingTooLong.ensures.put)
 
-pub returns-in-StateFault : goal.returns-in-StateFault
-returns-in-StateFault g c =
-    rw c.in-StateFault.is (c.refuse_file-in-StateFault.ensures.status, rw c.load.ensures at c.refuse_file-in-StateFault.ensures.put)
+pub returns-in-LoadFault : goal.returns-in-LoadFault
+returns-in-LoadFault g c =
+    rw c.in-LoadFault.is (c.refuse_file-in-LoadFault.ensures.status, rw c.load.ensures at c.refuse_file-in-LoadFault.ensures.put)
 
 pub returns-in-StateTooLong : goal.returns-in-StateTooLong
 returns-in-StateTooLong g c =

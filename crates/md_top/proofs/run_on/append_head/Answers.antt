@@ -5,7 +5,7 @@ use Rattle.md_top.specs.Courses.{start_in}
 use Rattle.md_top.specs.Counts.{pairs_between}
 use Rattle.md_top.specs.Outputs.{nothing}
 use Rattle.md_top.specs.Runs.{sound_until}
-use Rattle.md_words.specs.Shown.{shown_run}
+use Rattle.md_args.specs.Shown.{shown_run}
 use Rattle.md_top.proofs.Ends.{head-held, head-parts, on-err, on-ok}
 use Rattle.md_top.proofs.Segments.{head-first}
 use Rattle.md_top.proofs.run_on.append_head.Goals as goal

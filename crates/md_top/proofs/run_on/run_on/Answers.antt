@@ -4,7 +4,7 @@ use Rattle.md_top.specs.Courses.{cycle_of, start_in}
 use Rattle.md_top.specs.Endings.{HoldsUntil}
 use Rattle.md_top.specs.Resuming.{RunsWell}
 use Rattle.md_top.specs.Runs.{state_to}
-use Rattle.md_words.specs.Shown.{shown_run}
+use Rattle.md_args.specs.Shown.{shown_run}
 use Rattle.save_state.specs.States.{state_bytes}
 use Rattle.md_top.proofs.Ends.{begun-on, goes-far, state-held, unsaved-leaves}
 use Rattle.md_top.proofs.Rests.{ends-well}

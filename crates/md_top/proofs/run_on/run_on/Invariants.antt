@@ -3,7 +3,7 @@ use Rattle.md_outer.specs.Outside.{Files, GoesOn}
 use Rattle.md_top.specs.Courses.{CameFrom, cycle_of, start_in}
 use Rattle.md_top.specs.Endings.{HoldsUntil}
 use Rattle.md_top.specs.Outputs.{AreBegun}
-use Rattle.md_words.specs.Shown.{shown_run}
+use Rattle.md_args.specs.Shown.{shown_run}
 use Rattle.md_top.proofs.run_on.run_on.Given as goal
 
 -- the run stands at the end of a segment, and the outputs hold what it made

@@ -4,7 +4,7 @@ use Rattle.md_top.specs.Courses.{CameFrom, cycle_of}
 use Rattle.md_top.specs.Endings.{HoldsUntil}
 use Rattle.md_top.specs.Outputs.{Pieces, lengthened, nothing}
 use Rattle.md_top.specs.Runs.{pieces_until}
-use Rattle.md_words.specs.Shown.{shown_run}
+use Rattle.md_args.specs.Shown.{shown_run}
 use Rattle.md_top.proofs.Ends.{both-err, fault-leaves, on-ok, segment-held, segment-parts}
 use Rattle.md_top.proofs.Segments.{pieces-next}
 use Rattle.md_top.proofs.run_on.run_segment.Goals as goal

@@ -3,7 +3,7 @@ use Rattle.md_outer.specs.Outside.{Files}
 use Rattle.md_machine.specs.Starts.{Start}
 use Rattle.md_top.specs.Courses.{start_at, start_in}
 use Rattle.md_top.specs.Endings.{HoldsUntil, RunCause, RunLeaves}
-use Rattle.md_words.specs.Shown.{shown_run}
+use Rattle.md_args.specs.Shown.{shown_run}
 use Rattle.md_top.proofs.Ends.{begun-on, cause-before, fault-leaves, goes-far, unwritten-leaves}
 use Rattle.md_top.proofs.run_on.write_all.Goals as goal
 

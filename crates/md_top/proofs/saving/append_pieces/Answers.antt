@@ -1,7 +1,7 @@
 use Rattle.std.proofs.Common.{rules, ◌≡◌, ℕ, List, [], ◌++◌, take, refl, ap, subst, ◌∙◌, append_assoc}
 use Rattle.std.proofs.lemmas.List.{take-append-drop}
 use Rattle.md_top.specs.Outputs.{Adds, AddsParts, nothing}
-use Rattle.md_words.specs.Shown.{shown_run}
+use Rattle.md_args.specs.Shown.{shown_run}
 use Rattle.md_top.proofs.Appends.{adds-nothing, adds-state_on, parts-state_front, parts-state_on}
 use Rattle.md_top.proofs.Ends.{begun-on, goes-far, on-err, on-ok}
 use Rattle.md_top.proofs.saving.append_pieces.Goals as goal

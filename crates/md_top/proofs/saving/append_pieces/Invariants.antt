@@ -1,7 +1,7 @@
 use Rattle.std.proofs.Common.{◌≡◌, ℕ, List, ◌++◌, length}
 use Rattle.md_outer.specs.Outside.{GoesOn}
 use Rattle.md_top.specs.Outputs.{Adds, AreBegun, nothing}
-use Rattle.md_words.specs.Shown.{shown_run}
+use Rattle.md_args.specs.Shown.{shown_run}
 use Rattle.md_top.proofs.saving.append_pieces.Given as goal
 
 -- what is before the rest was appended

@@ -1,7 +1,7 @@
 use Rattle.std.proofs.Common.{◌≡◌, List, ℕ, Option, Some, None, IsSome, ap, subst, ◌∙◌}
 use Rattle.std.specs.Option.{option_copied}
 use Rattle.md_top.specs.Outputs.{Adds, nothing}
-use Rattle.md_words.specs.Shown.{shown_run}
+use Rattle.md_args.specs.Shown.{shown_run}
 use Rattle.md_machine.specs.Console.{Console}
 use Rattle.save_state.specs.States.{IsState, settled_console, state_bytes}
 use Rattle.md_top.proofs.Appends.{adds-no_state}

@@ -1,7 +1,7 @@
 use Rattle.std.proofs.Common.{◌≡◌, Global, None, Option, Some, map, refl, string_bytes, subst}
 use Rattle.md_top.specs.Answers.{Answers, Causes}
-use Rattle.md_words.specs.Shown.{shown_command}
-use Rattle.md_words.specs.Words.{Command, command_of}
+use Rattle.md_args.specs.Shown.{shown_command}
+use Rattle.md_args.specs.Words.{Command, command_of}
 use Rattle.md_top.specs.declared.ending.Ending.TheVariants.{Usage}
 use Rattle.md_top.proofs.Rows.{memory_answers, memory_causes}
 use Rattle.md_top.proofs.top.drive_one.Goals as goal

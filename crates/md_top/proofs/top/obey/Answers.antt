@@ -1,4 +1,4 @@
-use Rattle.md_words.specs.Shown.{shown_command}
+use Rattle.md_args.specs.Shown.{shown_command}
 use Rattle.md_top.proofs.Rows.{causes_of}
 use Rattle.md_top.proofs.top.obey.Goals as goal
 

@@ -1,6 +1,6 @@
 use Rattle.std.proofs.Common.{◌∙◌, length, take, drop, ◌-◌, refl, ap, sym, map}
-use Rattle.stamped_writes.specs.Keys.{all_fit}
-use Rattle.stamped_writes.proofs.Spaced.{all_kept, fits_all, fits_next, fits_not}
+use Rattle.sound_writes.specs.Keys.{all_fit}
+use Rattle.sound_writes.proofs.Spaced.{all_kept, fits_all, fits_next, fits_not}
 use Rattle.psg_sound.specs.PortSpelling.{key_of}
 use Rattle.psg_sound.proofs.saved_port.are_kept.Goals as goal
 

@@ -1,5 +1,5 @@
 use Rattle.std.proofs.Common.{◌≡◌, length, map}
-use Rattle.stamped_writes.specs.Keys.{all_fit, behind_batch}
+use Rattle.sound_writes.specs.Keys.{all_fit, behind_batch}
 use Rattle.psg_sound.specs.PortSpelling.{key_of}
 use Rattle.psg_sound.proofs.saved_port.are_kept.Given as goal
 

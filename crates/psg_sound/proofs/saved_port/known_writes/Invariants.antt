@@ -1,5 +1,5 @@
 use Rattle.std.proofs.Common.{length}
-use Rattle.stamped_writes.specs.Entries.{AreFit}
+use Rattle.sound_writes.specs.Entries.{AreFit}
 use Rattle.psg_sound.specs.PortSpelling.{write_fields}
 use Rattle.psg_sound.proofs.saved_port.known_writes.Given as goal
 

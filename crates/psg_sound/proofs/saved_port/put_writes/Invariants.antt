@@ -1,5 +1,5 @@
 use Rattle.std.proofs.Common.{◌≡◌, ◌+◌, ◌*◌, ◌≤◌, ◌++◌, length, vec_len, vec_capacity}
-use Rattle.stamped_writes.specs.Entries.{AreFit, entries_bytes}
+use Rattle.sound_writes.specs.Entries.{AreFit, entries_bytes}
 use Rattle.psg_sound.specs.PortSpelling.{write_fields}
 use Rattle.psg_sound.proofs.saved_port.put_writes.Given as goal
 

@@ -1,6 +1,6 @@
 use Rattle.std.proofs.Common.{◌≡◌, ◌∙◌, ◌+◌, ◌*◌, ◌-◌, ◌++◌, [], ◌∷◌, List, ℕ, ap, sym, append_assoc, arith}
-use Rattle.stamped_writes.specs.Entries.{entries_from}
-use Rattle.stamped_writes.proofs.Entries.{entries_more}
+use Rattle.sound_writes.specs.Entries.{entries_from}
+use Rattle.sound_writes.proofs.Entries.{entries_more}
 use Rattle.psg_sound.specs.PortSpelling.{write_at}
 use Rattle.psg_sound.specs.declared.write.PsgWrite.{PsgWrite}
 use Rattle.psg_sound.proofs.saved_port.writes_at.Goals as goal

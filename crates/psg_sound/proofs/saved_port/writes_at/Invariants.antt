@@ -1,5 +1,5 @@
 use Rattle.std.proofs.Common.{◌≡◌, ◌-◌, ◌*◌, ◌++◌, length}
-use Rattle.stamped_writes.specs.Entries.{entries_from}
+use Rattle.sound_writes.specs.Entries.{entries_from}
 use Rattle.psg_sound.specs.PortSpelling.{write_at, writes_at}
 use Rattle.psg_sound.proofs.saved_port.writes_at.Given as goal
 

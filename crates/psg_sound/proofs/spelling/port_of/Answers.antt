@@ -1,6 +1,6 @@
 use Rattle.std.proofs.Common.{◌≡◌, ◌∙◌, ◌*◌, ◌-◌, ℕ, Bool, List, length, refl, ap, sym, subst, map, take, drop, arith}
 use Rattle.md_fields.specs.Padding.{are_zeros}
-use Rattle.stamped_writes.specs.Keys.{are_kept}
+use Rattle.sound_writes.specs.Keys.{are_kept}
 use Rattle.psg_sound.specs.PortSpelling.{SpellsPort, key_of, writes_at}
 use Rattle.psg_sound.specs.declared.write.PsgWrite.{PsgWrite}
 use Rattle.psg_sound.proofs.PortBytes.{all_right, breaks_port, left_there, not_kept, not_zeros, read_port, read_spells, too_many}

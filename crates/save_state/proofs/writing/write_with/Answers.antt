@@ -1,8 +1,8 @@
 use Rattle.std.proofs.Common.{◌≡◌, ◌≤◌, true, false, ◌++◌, ◌∷◌, [], ℕ, Bool, List, length, drop, sym, ap, subst, ◌∙◌, arith, is_some}
 use Rattle.std.specs.Int.{w64, to_be_bytes}
-use Rattle.m68k_chip.specs.Sound.{Chip68Value}
+use Rattle.m68k_chip.specs.Validity.{Chip68Value}
 use Rattle.m68k_chip.specs.Spelling as main
-use Rattle.z80_chip.specs.Sound.{Chip80Value, IsChip80}
+use Rattle.z80_chip.specs.Validity.{Chip80Value, IsChip80}
 use Rattle.z80_chip.specs.Spelling as sub
 use Rattle.fm_chip.specs.Synth as fm_synths
 use Rattle.fm_chip.specs.SynthSpelling as fm
@@ -53,10 +53,10 @@ returns-clause-bytes c =
     let has : c.has_store-has.result ≡ is_some m.shared.store = c.has_store-has.ensures ∙ ap (λ (b : Board). is_some b.store) c.shared.ensures in
     let sub_is : c.as_slice-3.result.now ≡ sub.chip_bytes m.sub.state = c.as_slice-3.ensures.value ∙ c.in_ok-sub.ensures.bytes ∙ ap (λ (x : Chip80Value). sub.chip_bytes x.state) c.sub_chip.ensures in
     let sub_long : length c.as_slice-3.result.now ≡ sub.spelled_size (is_some m.sub.state.store) = ap length c.as_slice-3.ensures.value ∙ c.in_ok-sub.ensures.long ∙ ap (λ (x : Chip80Value). sub.spelled_size (is_some x.state.store)) c.sub_chip.ensures in
-    let sub_ok : IsChip80 m.sub = subst IsChip80 c.sub_chip.ensures c.sub_bytes.ensures.sound in
+    let sub_ok : IsChip80 m.sub = subst IsChip80 c.sub_chip.ensures c.sub_bytes.ensures.valid in
     let cut = numbers_cut c.as_slice-3.result.now m.sub.state sub_ok.store sub_is sub_long in
     let same_sub : c.as_slice-4.result.now ≡ c.as_slice-3.result.now = c.as_slice-4.ensures.value ∙ sym c.as_slice-3.ensures.value in
-    let board_ok : IsBoard m.shared = subst IsBoard c.shared-2.ensures c.board_bytes.ensures.sound in
+    let board_ok : IsBoard m.shared = subst IsBoard c.shared-2.ensures c.board_bytes.ensures.valid in
     let board_is : c.as_slice.result.now ≡ shared.board_bytes (shared.settled_board at m.shared) = c.as_slice.ensures.value ∙ c.in_ok-board.ensures.bytes ∙ (λ i. shared.board_bytes (shared.settled_board (c.at-at.ensures i) (c.shared-2.ensures i))) in
     let board_long : length c.as_slice.result.now ≡ shared.board_size (is_some m.shared.store) = ap length c.as_slice.ensures.value ∙ c.in_ok-board.ensures.long ∙ ap (λ (b : Board). shared.board_size (is_some b.store)) c.shared-2.ensures in
     let same_board : c.as_slice-5.result.now ≡ c.as_slice.result.now = c.as_slice-5.ensures.value ∙ sym c.as_slice.ensures.value in

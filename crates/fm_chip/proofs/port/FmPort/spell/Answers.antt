@@ -2,7 +2,7 @@ use Rattle.std.proofs.Common.{◌≡◌, ◌∙◌, ◌++◌, ◌*◌, ◌-◌, 
 use Rattle.std.specs.Int.{w16, to_be_bytes}
 use Rattle.md_fields.specs.Fields.{sizes, spelling}
 use Rattle.md_fields.proofs.Standing.{long_as_sized}
-use Rattle.stamped_writes.specs.Entries.{AreFit, entries_bytes}
+use Rattle.sound_writes.specs.Entries.{AreFit, entries_bytes}
 use Rattle.fm_chip.specs.Port.{Port}
 use Rattle.fm_chip.specs.Timed.{AreTimed}
 use Rattle.fm_chip.specs.PortSpelling.{SpellsPort, are_right, number_fields, port_bytes, saved_numbers, saved_write, settled_port, write_fields}

@@ -1,5 +1,5 @@
 use Rattle.std.proofs.Common.{◌∙◌, ap, sym}
-use Rattle.stamped_writes.proofs.Courses.{written_all-more}
+use Rattle.sound_writes.proofs.Courses.{written_all-more}
 use Rattle.fm_chip.specs.Synth.{written}
 use Rattle.fm_chip.proofs.synth.FmSynth.write_all.Goals as goal
 

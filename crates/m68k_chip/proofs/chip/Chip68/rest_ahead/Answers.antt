@@ -2,21 +2,21 @@ use Rattle.std.proofs.Common.{◌+◌, ◌*◌, sym, ap, subst, ◌∙◌, arith
 use Rattle.std.specs.Arc.{arc_value}
 use Rattle.m68k_chip.specs.Events.{at_sample, step, steps_to}
 use Rattle.m68k_chip.specs.Held.{IsWaiting}
-use Rattle.m68k_chip.specs.Sound.{Chip68Value, IsChip68}
+use Rattle.m68k_chip.specs.Validity.{Chip68Value, IsChip68}
 use Rattle.m68k_chip.specs.States.{State68, next_of, state_of}
 use Rattle.m68k_chip.proofs.Laws.{at-sample, of}
-use Rattle.m68k_chip.proofs.Rested.{rested-ahead, rested-late, rested-sound}
+use Rattle.m68k_chip.proofs.Rested.{rested-ahead, rested-late, rested-valid}
 use Rattle.m68k_chip.proofs.chip.Chip68.rest_ahead.Goals as goal
 
 pub invariant_of-self : goal.invariant_of-self
 unfolding next_of
 invariant_of-self c =
     let old = state_of c.self.inside.sequencer c.self.inside.ram.value in
-    let at = at-sample c.self.inside.sequencer.stage _ old (ap (λ (v : Chip68Value). (next_of v.state).sample) c.self.view_is ∙ c.requires.sampling) c.self.invariant.sound.stands in
+    let at = at-sample c.self.inside.sequencer.stage _ old (ap (λ (v : Chip68Value). (next_of v.state).sample) c.self.view_is ∙ c.requires.sampling) c.self.invariant.valid.stands in
     let start = at.0.start in
     record {
-      sound = subst (λ (state : State68). IsChip68 (of (arc_value c.self.inside.cart) state)) (sym (c.rest_ahead.ensures.state c.self.inside.ram.value))
-          (rested-sound _ old _ c.self.invariant.sound at.0 at.1 (omega (arith, start)));
+      valid = subst (λ (state : State68). IsChip68 (of (arc_value c.self.inside.cart) state)) (sym (c.rest_ahead.ensures.state c.self.inside.ram.value))
+          (rested-valid _ old _ c.self.invariant.valid at.0 at.1 (omega (arith, start)));
       waiting = subst (λ (state : State68). IsWaiting state.stage (arc_value c.self.inside.cart) state c.rest_ahead.new.self.request) (sym (c.rest_ahead.ensures.state c.self.inside.ram.value)) tt;
     }
 

@@ -1,5 +1,5 @@
 use Rattle.std.proofs.Common.{ap, ◌∙◌}
-use Rattle.m68k_chip.specs.Sound.{Chip68Value}
+use Rattle.m68k_chip.specs.Validity.{Chip68Value}
 use Rattle.m68k_chip.specs.States.{next_of, state_of}
 use Rattle.m68k_chip.proofs.Kept.{after_sample}
 use Rattle.m68k_chip.proofs.Laws.{at-sample}
@@ -8,10 +8,10 @@ use Rattle.m68k_chip.proofs.chip.Chip68.sample.Goals as goal
 pub begin-requires-clause-answers : goal.begin-requires-clause-answers
 unfolding next_of
 begin-requires-clause-answers c =
-    (at-sample c.self.inside.sequencer.stage _ (state_of c.self.inside.sequencer c.self.inside.ram.value) (ap (λ (v : Chip68Value). (next_of v.state).sample) c.self.view_is ∙ c.requires.sampling) c.self.invariant.sound.stands).0.answers
+    (at-sample c.self.inside.sequencer.stage _ (state_of c.self.inside.sequencer c.self.inside.ram.value) (ap (λ (v : Chip68Value). (next_of v.state).sample) c.self.view_is ∙ c.requires.sampling) c.self.invariant.valid.stands).0.answers
 
 pub invariant_of-self : goal.invariant_of-self
 invariant_of-self c =
-    after_sample _ c.deref.result.now (state_of c.self.inside.sequencer c.self.inside.ram.value) _ _ _ c.args.pins.level c.args.pins.known c.self.view_is c.self.invariant.sound c.requires.sampling
+    after_sample _ c.deref.result.now (state_of c.self.inside.sequencer c.self.inside.ram.value) _ _ _ c.args.pins.level c.args.pins.known c.self.view_is c.self.invariant.valid c.requires.sampling
     c.deref.ensures
     (rw c.deref_mut.ensures.value at c.begin.ensures.state) c.begin.ensures.waiting

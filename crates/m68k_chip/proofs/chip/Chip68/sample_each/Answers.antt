@@ -1,6 +1,6 @@
 use Rattle.std.proofs.Common.{ℕ, List, refl, ap, ◌∙◌, arith}
 use Rattle.m68k_chip.specs.Events.{begun}
-use Rattle.m68k_chip.specs.Sound.{Chip68Value}
+use Rattle.m68k_chip.specs.Validity.{Chip68Value}
 use Rattle.m68k_chip.proofs.Ahead.{more-ahead, not-below, one-ahead}
 use Rattle.m68k_chip.proofs.Laws.{begun-later}
 use Rattle.m68k_chip.proofs.chip.Chip68.sample_each.Goals as goal
@@ -15,7 +15,7 @@ loop-pins-init c = record {
 pub loop-pins-smaller : goal.loop-pins-smaller
 loop-pins-smaller c =
     let test = c.loop-pins-test.ensures {u = tt} in
-    let later = begun-later c.loop-pins.self c.args.pins.level test.sound (test.value.0 refl).0 in
+    let later = begun-later c.loop-pins.self c.args.pins.level test.valid (test.value.0 refl).0 in
     let next = ap (λ (v : Chip68Value). v.state.next) c.sample-in-loop-pins.ensures in
     let low = (test.value.0 refl).1 in
     omega (arith, later, next, low)
@@ -26,7 +26,7 @@ loop-pins-preserved c =
       led = more-ahead c.args.self.now.cart c.args.self.now.state c.args.pins.level c.args.end c.loop-pins.samples c.loop-pins.self.state c.sample-in-loop-pins.new.self.state c.loop-pins.invariant.led found.0 found.1
           (ap (λ (v : Chip68Value). v.state) c.sample-in-loop-pins.ensures ∙ ap (λ (image : List ℕ). begun image c.loop-pins.self.state c.args.pins.level) c.loop-pins.invariant.cart);
       cart = ap (λ (v : Chip68Value). v.cart) c.sample-in-loop-pins.ensures ∙ c.loop-pins.invariant.cart;
-      few = (let later = begun-later c.loop-pins.self c.args.pins.level test.sound found.0 in let next = ap (λ (v : Chip68Value). v.state.next) c.sample-in-loop-pins.ensures in let before = c.loop-pins.invariant.few in omega (arith, later, next, before));
+      few = (let later = begun-later c.loop-pins.self c.args.pins.level test.valid found.0 in let next = ap (λ (v : Chip68Value). v.state.next) c.sample-in-loop-pins.ensures in let before = c.loop-pins.invariant.few in omega (arith, later, next, before));
     }
 
 pub returns-clause-all : goal.returns-clause-all

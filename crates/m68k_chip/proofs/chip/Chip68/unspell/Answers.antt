@@ -5,14 +5,14 @@ use Rattle.md_word.specs.declared.unspell.Unspell.TheVariants.{Rule}
 use Rattle.rom_header.specs.Cartridge.{IsImage}
 use Rattle.m68k_chip.specs.Held.{IsWaiting}
 use Rattle.m68k_chip.specs.Rules.{HasRules}
-use Rattle.m68k_chip.specs.Sound.{IsChip68}
+use Rattle.m68k_chip.specs.Validity.{IsChip68}
 use Rattle.m68k_chip.specs.Spelling.{GoesWrongAt, IsKept, Spells, ram_in}
 use Rattle.m68k_chip.specs.States.{State68, state_of}
 use Rattle.m68k_chip.proofs.Laws.{of}
 use Rattle.md_fields.proofs.Standing.{IsBytes-drop, IsBytes-take}
 use Rattle.md_fields.proofs.Refusals.{no_rule, same_rule}
 use Rattle.m68k_chip.proofs.RuleLaws.{recent_from}
-use Rattle.m68k_chip.proofs.SpellingLaws.{no_other, only_place, right_not_refused, spelled_long, spelled_sound}
+use Rattle.m68k_chip.proofs.SpellingLaws.{no_other, only_place, right_not_refused, spelled_long, spelled_valid}
 use Rattle.m68k_chip.proofs.chip.Chip68.unspell.Goals as goal
 
 pub copied-requires : goal.copied-requires
@@ -37,8 +37,8 @@ kept c = subst (λ (image : List ℕ). IsKept image c.args.at c.args.bytes.now (
 
 pub invariant_of-result : goal.invariant_of-result
 invariant_of-result c = record {
-  sound = subst (λ (s : State68). IsChip68 (of (arc_value c.args.cart) s)) (sym (made c))
-      (spelled_sound (arc_value c.args.cart) c.args.at c.args.bytes.now _ (subst (λ (image : List ℕ). IsImage image) c.deref.ensures c.bytes.ensures.image) (kept c).spells);
+  valid = subst (λ (s : State68). IsChip68 (of (arc_value c.args.cart) s)) (sym (made c))
+      (spelled_valid (arc_value c.args.cart) c.args.at c.args.bytes.now _ (subst (λ (image : List ℕ). IsImage image) c.deref.ensures c.bytes.ensures.image) (kept c).spells);
   waiting = subst (λ (s : State68). IsWaiting s.stage (arc_value c.args.cart) s c.in-Ok.sequencer.request) (sym (made c)) (kept c).waits;
 }
 

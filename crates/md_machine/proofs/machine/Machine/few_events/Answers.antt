@@ -1,6 +1,6 @@
 use Rattle.std.proofs.Common.{ℕ, ◌≤◌, ◌+◌, ◌-◌, ◌^◌, subst, arith}
 use Rattle.chip_core.specs.Cores.{CoreValue, machine_of}
-use Rattle.chip_core.specs.Machines.{AllBelow, IsSound, Machine}
+use Rattle.chip_core.specs.Machines.{AllBelow, IsValid, Machine}
 use Rattle.md_machine.specs.Console as consoles
 use Rattle.md_machine.specs.Machines.{MachineValue, core_held}
 use Rattle.bus_shared.specs.Board.{Board, IsBoard}
@@ -15,11 +15,11 @@ returns c =
     let m = c.self.inside in
     let core : CoreValue Chip Board = core_held m.core in
     let first : Machine Chip Board = machine_of five core in
-    let sound : IsSound five IsChip IsBoard first = c.stages.ensures.core core c.self.invariant.sound in
+    let valid : IsValid five IsChip IsBoard first = c.stages.ensures.core core c.self.invariant.valid in
     let few : (end n : ℕ) → end ≤ 2 ^ 50 → consoles.AllBelow (console first) end n → n ≤ end - m.at + 5 = λ end n small below.
     (let lower : AllBelow five first end n =
-    below-lift first end n (λ k earlier. c.stages.ensures.sound first end k (omega arith) sound earlier) c.stages.ensures.mover below in
+    below-lift first end n (λ k earlier. c.stages.ensures.valid first end k (omega arith) valid earlier) c.stages.ensures.mover below in
     moves-few first m.at end n c.stages.ensures.mover
-    (λ i known. c.limits.ensures.made first end n i (omega arith) sound lower known)
+    (λ i known. c.limits.ensures.made first end n i (omega arith) valid lower known)
     (c.limits.ensures.within first m.at end (omega arith) c.self.invariant.quiet)) in
     subst (λ (v : MachineValue). (end n : ℕ) → end ≤ 2 ^ 50 → consoles.AllBelow v.console end n → n ≤ end - v.at + 5) c.self.view_is few

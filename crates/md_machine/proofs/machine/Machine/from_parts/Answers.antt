@@ -17,7 +17,7 @@ make-core-requires-after_bounds c κs =
     (assembled-machine parts c.args.shared c.in_ok-chips.chips.items c.in_ok-bounds.bounds.items c.in_ok-journal.journal.items (vec_capacity c.in_ok-journal.journal)
     c.known.ensures (record { main = c.requires.main; sub = c.requires.sub; line = c.requires.line })
     (c.in_ok-chips.ensures {u = tt}) (bounds ∙ ap bounds_of c.as_slice.ensures.value) journal.items journal.capacity
-    (subst (λ (chips : List Chip). (i : ℕ) → i < 5 → IsChip (chip_in five chips i)) c.as_slice.ensures.value c.in_ok-bounds.ensures.sound)).sound.shape
+    (subst (λ (chips : List Chip). (i : ℕ) → i < 5 → IsChip (chip_in five chips i)) c.as_slice.ensures.value c.in_ok-bounds.ensures.valid)).valid.shape
 
 pub invariant_of-result : goal.invariant_of-result
 invariant_of-result c =
@@ -28,7 +28,7 @@ invariant_of-result c =
     (assembled-machine parts c.args.shared c.in_ok-chips.chips.items c.in_ok-bounds.bounds.items c.in_ok-journal.journal.items (vec_capacity c.in_ok-journal.journal)
     c.known.ensures (record { main = c.requires.main; sub = c.requires.sub; line = c.requires.line })
     (c.in_ok-chips.ensures {u = tt}) (bounds ∙ ap bounds_of c.as_slice.ensures.value) journal.items journal.capacity
-    (subst (λ (chips : List Chip). (i : ℕ) → i < 5 → IsChip (chip_in five chips i)) c.as_slice.ensures.value c.in_ok-bounds.ensures.sound))
+    (subst (λ (chips : List Chip). (i : ℕ) → i < 5 → IsChip (chip_in five chips i)) c.as_slice.ensures.value c.in_ok-bounds.ensures.valid))
 
 pub returns : goal.returns
 returns c =

@@ -13,7 +13,7 @@ make-core-requires-after_bounds c κs =
     let chips = c.in_ok-chips.ensures {u = tt} in
     let journal = c.in_ok-journal.ensures {u = tt} in
     (first-machine (arc_value c.args.cart) (arc_value c.args.recording) c.in_ok-shared.shared c.in_ok-chips.chips.items c.in_ok-bounds.bounds.items c.in_ok-journal.journal.items (vec_capacity c.in_ok-journal.journal)
-    (c.in_ok-shared.ensures {u = tt}) chips.0 (c.in_ok-bounds.ensures {u = tt}) journal.items journal.capacity chips.1).sound.shape
+    (c.in_ok-shared.ensures {u = tt}) chips.0 (c.in_ok-bounds.ensures {u = tt}) journal.items journal.capacity chips.1).valid.shape
 
 pub invariant_of-result : goal.invariant_of-result
 invariant_of-result c =

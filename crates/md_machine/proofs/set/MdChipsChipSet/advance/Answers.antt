@@ -15,8 +15,8 @@ pub advance-requires-in-Sub-clause-fits : goal.advance-requires-in-Sub-clause-fi
 advance-requires-in-Sub-clause-fits c =
     performed-told c.requires.before c.requires.shared c.requires.due.chip c.requires.due.shared c.in-Sub.sub (sym c.in-Sub.is ∙ c.requires.is)
 
-pub advance-requires-in-Line-clause-view : goal.advance-requires-in-Line-clause-view
-advance-requires-in-Line-clause-view c = performed-view c.requires.before c.requires.shared c.in-Line.draw (sym c.in-Line.is ∙ c.requires.is)
+pub advance-requires-in-Draw-clause-view : goal.advance-requires-in-Draw-clause-view
+advance-requires-in-Draw-clause-view c = performed-view c.requires.before c.requires.shared c.in-Draw.draw (sym c.in-Draw.is ∙ c.requires.is)
 
-pub advance-requires-in-Line-clause-cycle : goal.advance-requires-in-Line-clause-cycle
-advance-requires-in-Line-clause-cycle c = performed-line c.requires.before c.requires.shared c.in-Line.draw (sym c.in-Line.is ∙ c.requires.is) c.requires.due.cycle
+pub advance-requires-in-Draw-clause-cycle : goal.advance-requires-in-Draw-clause-cycle
+advance-requires-in-Draw-clause-cycle c = performed-line c.requires.before c.requires.shared c.in-Draw.draw (sym c.in-Draw.is ∙ c.requires.is) c.requires.due.cycle

@@ -1,6 +1,6 @@
 use Rattle.std.proofs.Common.{◌≡◌, ℕ, List, map, true, subst}
-use Rattle.stamped_writes.specs.Entries.{AreFit}
-use Rattle.stamped_writes.specs.Keys.{are_kept}
+use Rattle.sound_writes.specs.Entries.{AreFit}
+use Rattle.sound_writes.specs.Keys.{are_kept}
 use Rattle.psg_sound.specs.PortSpelling.{SpellsPort, key_of, port_bytes, write_fields}
 use Rattle.psg_sound.specs.declared.write.PsgWrite.{PsgWrite}
 use Rattle.psg_sound.proofs.PortBytes.{port_kept}

@@ -1,7 +1,7 @@
 use Rattle.std.proofs.Common.{◌≡◌, ◌∙◌, ◌++◌, ◌*◌, ◌-◌, List, ℕ, length, map, replicate, subst, true, ap, append_assoc}
 use Rattle.std.specs.Int.{w16, to_be_bytes}
-use Rattle.stamped_writes.specs.Entries.{AreFit, entries_bytes}
-use Rattle.stamped_writes.specs.Keys.{are_kept}
+use Rattle.sound_writes.specs.Entries.{AreFit, entries_bytes}
+use Rattle.sound_writes.specs.Keys.{are_kept}
 use Rattle.psg_sound.specs.PortSpelling.{SpellsPort, key_of, port_bytes, write_fields}
 use Rattle.psg_sound.specs.declared.write.PsgWrite.{PsgWrite}
 use Rattle.psg_sound.proofs.PortBytes.{entries_size, parts_are, port_kept}

@@ -1,7 +1,7 @@
 use Rattle.std.proofs.Common.{◌∙◌, ap, sym}
 use Rattle.psg_sound.specs.Synth.{written}
 use Rattle.psg_sound.specs.Batches.{write_made}
-use Rattle.stamped_writes.proofs.Courses.{written_all-more}
+use Rattle.sound_writes.proofs.Courses.{written_all-more}
 use Rattle.psg_sound.proofs.synth.PsgSynth.write_all.Goals as goal
 
 pub loop-write-preserved : goal.loop-write-preserved

@@ -4,11 +4,11 @@ use Rattle.md_word.specs.declared.unspell.Unspell.TheVariants.{Rule}
 use Rattle.vdp_chip.specs.Saved.{numbers_of}
 use Rattle.vdp_chip.specs.Spelling.{GoesWrongAt, Spells}
 use Rattle.md_fields.proofs.Refusals.{no_rule, same_rule}
-use Rattle.vdp_chip.proofs.SavedLaws.{no_other, only_place, right_not_refused, sound, spells}
+use Rattle.vdp_chip.proofs.SavedLaws.{no_other, only_place, right_not_refused, valid, spells}
 use Rattle.vdp_chip.proofs.chip.ChipVdp.unspell.Goals as goal
 
 pub chip-requires : goal.chip-requires
-chip-requires c = sound c.args.at c.args.bytes.now c.in-Ok.saved c.in-Ok.ensures.found.0 c.in-Ok.ensures.found.1
+chip-requires c = valid c.args.at c.args.bytes.now c.in-Ok.saved c.in-Ok.ensures.found.0 c.in-Ok.ensures.found.1
 
 pub returns-in_err-chip-in-Ok-clause-rule : goal.returns-in_err-chip-in-Ok-clause-rule
 returns-in_err-chip-in-Ok-clause-rule c =

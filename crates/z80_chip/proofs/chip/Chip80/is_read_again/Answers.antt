@@ -1,5 +1,5 @@
 use Rattle.std.proofs.Common.{subst, ◌<◌, ◌^◌, arith}
-use Rattle.z80_chip.specs.Sound.{Chip80Value, IsChip80}
+use Rattle.z80_chip.specs.Validity.{Chip80Value, IsChip80}
 use Rattle.z80_chip.proofs.RuleLaws.{AreInRange, IsInRange, spelled_back}
 use Rattle.z80_chip.proofs.chip.Chip80.is_read_again.Goals as goal
 
@@ -25,6 +25,6 @@ returns c = λ at late rules.
     } in
     let range : IsInRange c.args.self.now.state = subst (λ (v : Chip80Value). IsInRange v.state) c.self.view_is
     (record { regs = regs; next = c.known_counts.ensures.next; resets = c.known_counts.ensures.resets }) in
-    let sound : IsChip80 c.args.self.now = subst (λ (v : Chip80Value). IsChip80 v) c.self.view_is c.self.invariant in
+    let valid : IsChip80 c.args.self.now = subst (λ (v : Chip80Value). IsChip80 v) c.self.view_is c.self.invariant in
     let small : at < 2 ^ 64 = omega (arith, late, range.next) in
-    spelled_back at c.args.self.now small sound range rules late
+    spelled_back at c.args.self.now small valid range rules late

@@ -1,7 +1,7 @@
 use Rattle.std.proofs.Common.{◌≡◌, ◌∙◌, ℕ, List, ap, sym, subst, Some, replicate}
 use Rattle.std.specs.Arc.{arc_value}
 use Rattle.rom_header.specs.Cartridge.{IsImage}
-use Rattle.z80_chip.specs.Sound.{IsChip80}
+use Rattle.z80_chip.specs.Validity.{IsChip80}
 use Rattle.z80_chip.specs.States.{State80, power_on, state_of}
 use Rattle.z80_chip.proofs.Laws.{of, power_on-ok}
 use Rattle.z80_chip.proofs.chip.Chip80.power_on.Goals as goal

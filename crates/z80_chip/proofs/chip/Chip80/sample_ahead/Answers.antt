@@ -1,6 +1,6 @@
 use Rattle.std.proofs.Common.{ℕ, List, refl, ap, ◌∙◌, arith}
 use Rattle.z80_chip.specs.Events.{begun}
-use Rattle.z80_chip.specs.Sound.{Chip80Value}
+use Rattle.z80_chip.specs.Validity.{Chip80Value}
 use Rattle.z80_chip.proofs.Ahead.{more-ahead}
 use Rattle.z80_chip.proofs.Laws.{begun-later}
 use Rattle.z80_chip.proofs.chip.Chip80.sample_ahead.Goals as goal
@@ -8,7 +8,7 @@ use Rattle.z80_chip.proofs.chip.Chip80.sample_ahead.Goals as goal
 pub loop-pins-smaller : goal.loop-pins-smaller
 loop-pins-smaller c =
     let test = c.loop-pins-test.ensures {u = tt} in
-    let later = begun-later c.loop-pins.self c.args.pins test.sound (test.value.0 refl).0 in
+    let later = begun-later c.loop-pins.self c.args.pins test.valid (test.value.0 refl).0 in
     let next = ap (λ (v : Chip80Value). v.state.next) c.sample.ensures in
     let low = (test.value.0 refl).1 in
     omega (arith, later, next, low)
@@ -21,5 +21,5 @@ loop-pins-preserved c =
           (ap (λ (v : Chip80Value). v.state) c.sample.ensures ∙ ap (λ (image : List ℕ). begun image c.loop-pins.self.state c.args.pins) c.loop-pins.invariant.cart);
       all = λ rest. let late = c.loop-pins.invariant.all rest in let low = found.1 in absurd (omega (arith, late, low));
       cart = ap (λ (v : Chip80Value). v.cart) c.sample.ensures ∙ c.loop-pins.invariant.cart;
-      few = (let later = begun-later c.loop-pins.self c.args.pins test.sound found.0 in let next = ap (λ (v : Chip80Value). v.state.next) c.sample.ensures in let before = c.loop-pins.invariant.few in omega (arith, later, next, before));
+      few = (let later = begun-later c.loop-pins.self c.args.pins test.valid found.0 in let next = ap (λ (v : Chip80Value). v.state.next) c.sample.ensures in let before = c.loop-pins.invariant.few in omega (arith, later, next, before));
     }

@@ -5,7 +5,7 @@ use Rattle.md_fields.proofs.Standing.{long_as_sized}
 use Rattle.z80_parcel.specs.Parcels.{Store, store_of}
 use Rattle.z80_parcel.specs.Spelling.{store_fields}
 use Rattle.z80_chip.specs.Saved.{number_fields}
-use Rattle.z80_chip.specs.Sound.{Chip80Value, IsChip80}
+use Rattle.z80_chip.specs.Validity.{Chip80Value, IsChip80}
 use Rattle.z80_chip.specs.Spelling.{chip_bytes, spelled_size}
 use Rattle.z80_chip.specs.States.{State80, state_of}
 use Rattle.z80_chip.specs.declared.saved.Saved80.{Saved80}
@@ -54,8 +54,8 @@ returns-clause-kept c = λ late rules.
     } in
     let range : IsInRange c.args.self.now.state = subst (λ (v : Chip80Value). IsInRange v.state) c.self.view_is
     (record { regs = regs; next = c.known_counts.ensures.next; resets = c.known_counts.ensures.resets }) in
-    let sound : IsChip80 c.args.self.now = subst (λ (v : Chip80Value). IsChip80 v) c.self.view_is c.self.invariant in
-    spelled_back c.args.at c.args.self.now (omega arith) sound range rules late
+    let valid : IsChip80 c.args.self.now = subst (λ (v : Chip80Value). IsChip80 v) c.self.view_is c.self.invariant in
+    spelled_back c.args.at c.args.self.now (omega arith) valid range rules late
 
 pub returns-clause-length : goal.returns-clause-length
 returns-clause-length c =

@@ -7,14 +7,14 @@ use Rattle.rom_header.specs.Cartridge.{IsImage}
 use Rattle.z80_parcel.specs.Parcels.{Store, store_of}
 use Rattle.z80_chip.specs.Rules.{HasRules}
 use Rattle.z80_chip.specs.Saved.{asks_more, chip_fields, kept_of, state_from}
-use Rattle.z80_chip.specs.Sound.{IsChip80}
+use Rattle.z80_chip.specs.Validity.{IsChip80}
 use Rattle.z80_chip.specs.Spelling.{GoesWrongAt, Spells, store_at}
 use Rattle.z80_chip.specs.States.{State80, state_of}
 use Rattle.z80_chip.specs.declared.saved.Saved80.{Saved80}
 use Rattle.z80_chip.proofs.Laws.{of}
 use Rattle.md_fields.proofs.Refusals.{same_rule}
 use Rattle.z80_chip.proofs.RuleLaws.{rules_from}
-use Rattle.z80_chip.proofs.SavedLaws.{count_few, sound}
+use Rattle.z80_chip.proofs.SavedLaws.{count_few, valid}
 use Rattle.z80_chip.proofs.SpellingLaws.{answers_four, breaks_ram, no_other, only_place, read_keeps, read_of, read_right, read_rules, read_store, right_not_refused, spells}
 use Rattle.z80_chip.proofs.chip.Chip80.unspell.Goals as goal
 
@@ -78,7 +78,7 @@ right c = read_right (arc_value c.args.cart) c.args.at c.args.bytes.now c.in-Ok.
 pub invariant_of-result : goal.invariant_of-result
 invariant_of-result c =
     subst (λ (state : State80). IsChip80 (of (arc_value c.args.cart) state)) (sym (made c))
-    (sound (arc_value c.args.cart) c.args.at (read_of c.args.bytes.now c.in-Ok.saved)
+    (valid (arc_value c.args.cart) c.args.at (read_of c.args.bytes.now c.in-Ok.saved)
     (subst (λ (image : List ℕ). IsImage image) c.deref.ensures c.bytes.ensures.image)
     (read_store c.args.at c.args.bytes.now c.in-Ok.saved c.in-Ok.ensures.found)
     (answers_four (arc_value c.args.cart) c.args.at c.args.bytes.now (read_of c.args.bytes.now c.in-Ok.saved) (keeps c))

@@ -1,0 +1,309 @@
+-- What the words of the command line ask for. This project's profile.
+use Rattle.std.specs.Prelude.{ℕ, ◌^◌, ◌==◌, nat_lt, nat_le, Bool, true, false, ◌&&◌, not, if◌then◌else◌, List, [], ◌∷◌, length, codes, Option, Some, None, option_and_then}
+use Rattle.std.specs.Char.{is_ascii_digit}
+use Rattle.std.specs.List.{list_all}
+use Rattle.std.specs.Option.{is_some, option_map}
+use Rattle.std.specs.Str.{bytes_eq}
+use Rattle.std.specs.Str.Parse.{digits_value}
+use Rattle.clap.specs.Walk.{Text}
+use Rattle.md_args.specs.Given.{Argument, between, given, meant_by}
+use Rattle.md_args.specs.declared.convert_words.Product.{Product}
+use Rattle.md_args.specs.declared.convert_words.Product.TheVariants.{Vgm, Sound}
+
+-- a run of a cartridge, from power-on or from a saved state: the cartridge's name, the cycle of its end, the name of the
+-- recording and that of the saved state, each if one is given, those of the state to save, of the frames
+-- file, of the sound file and of the journal, each if it is asked for, and how many workers make it
+pub record Run : Type 0 where
+  pub rom : List ℕ
+  pub cycles : ℕ
+  pub recording : Option (List ℕ)
+  pub load : Option (List ℕ)
+  pub save : Option (List ℕ)
+  pub frames : Option (List ℕ)
+  pub sound : Option (List ℕ)
+  pub journal : Option (List ℕ)
+  pub workers : ℕ
+
+-- a run of a demonstration cartridge from power-on: the cartridge's number, the cycle of the run's end,
+-- and how many workers make it
+pub record Demo : Type 0 where
+  pub number : ℕ
+  pub cycles : ℕ
+  pub workers : ℕ
+
+-- a file that is made of another one: which, the names of the one that is read and of the one that is written, and
+-- whether the master clock is that of PAL
+pub record Conversion : Type 0 where
+  pub product : Product
+  pub input : List ℕ
+  pub output : List ℕ
+  pub pal : Bool
+
+-- what a command line asks for: the lines of a cartridge's header, by the cartridge's name, a run, a run of
+-- a demonstration cartridge, or a conversion
+pub data Command : Type 0 where
+  Info : List ℕ → Command
+  RunCart : Run → Command
+  RunDemo : Demo → Command
+  Convert : Conversion → Command
+
+-- the name of the first file that is read: the cartridge, or the input of a conversion; a demonstration
+-- cartridge has none
+abbrev pub rom_of : Command → List ℕ
+rom_of (Info rom) = rom
+rom_of (RunCart run) = run.rom
+rom_of (RunDemo demo) = []
+rom_of (Convert conversion) = conversion.input
+
+-- the name of a conversion's output; none where none is asked for
+abbrev pub output_of : Command → List ℕ
+output_of (Info rom) = []
+output_of (RunCart run) = []
+output_of (RunDemo demo) = []
+output_of (Convert conversion) = conversion.output
+
+-- the conversion, if one is asked for
+abbrev pub conversion_in : Command → Option Conversion
+conversion_in (Info rom) = None
+conversion_in (RunCart run) = None
+conversion_in (RunDemo demo) = None
+conversion_in (Convert conversion) = Some conversion
+
+-- the run of a cartridge that is named, if one is asked for
+abbrev pub run_in : Command → Option Run
+run_in (Info rom) = None
+run_in (RunCart run) = Some run
+run_in (RunDemo demo) = None
+run_in (Convert conversion) = None
+
+-- the cycle of the run's end; 0 where none is asked for
+abbrev pub end_of : Command → ℕ
+end_of (Info rom) = 0
+end_of (RunCart run) = run.cycles
+end_of (RunDemo demo) = demo.cycles
+end_of (Convert conversion) = 0
+
+-- the name of the recording, if one is given
+abbrev pub recording_name : Command → Option (List ℕ)
+recording_name (Info rom) = None
+recording_name (RunCart run) = run.recording
+recording_name (RunDemo demo) = None
+recording_name (Convert conversion) = None
+
+-- the name of the saved state to go on from, if one is given
+abbrev pub load_name : Command → Option (List ℕ)
+load_name (Info rom) = None
+load_name (RunCart run) = run.load
+load_name (RunDemo demo) = None
+load_name (Convert conversion) = None
+
+-- the name of the state to save, if it is asked for
+abbrev pub save_name : Command → Option (List ℕ)
+save_name (Info rom) = None
+save_name (RunCart run) = run.save
+save_name (RunDemo demo) = None
+save_name (Convert conversion) = None
+
+-- the name of the frames file, if one is asked for
+abbrev pub frames_name : Command → Option (List ℕ)
+frames_name (Info rom) = None
+frames_name (RunCart run) = run.frames
+frames_name (RunDemo demo) = None
+frames_name (Convert conversion) = None
+
+-- the name of the sound file, if one is asked for
+abbrev pub sound_name : Command → Option (List ℕ)
+sound_name (Info rom) = None
+sound_name (RunCart run) = run.sound
+sound_name (RunDemo demo) = None
+sound_name (Convert conversion) = None
+
+-- the name of the journal, if one is asked for
+abbrev pub journal_name : Command → Option (List ℕ)
+journal_name (Info rom) = None
+journal_name (RunCart run) = run.journal
+journal_name (RunDemo demo) = None
+journal_name (Convert conversion) = None
+
+-- how many workers make it; 1 where none is asked for
+abbrev pub workers_in : Command → ℕ
+workers_in (Info rom) = 1
+workers_in (RunCart run) = run.workers
+workers_in (RunDemo demo) = demo.workers
+workers_in (Convert conversion) = 1
+
+-- a word that can be a name: it is not empty and does not begin with a hyphen
+abbrev pub is_name : List ℕ → Bool
+is_name [] = false
+is_name (first ∷ rest) = not (first == 45)
+
+-- 1 to 20 decimal digits
+abbrev pub is_digits : List ℕ → Bool
+is_digits word = nat_le 1 (length word) && nat_le (length word) 20 && list_all is_ascii_digit word
+
+-- a number of the command line: its value is below 2^64
+abbrev pub number_of : List ℕ → Option ℕ
+number_of word = if is_digits word && nat_lt (digits_value 10 word) (2 ^ 64) then Some (digits_value 10 word) else None
+
+-- a number of workers: 1 to 5
+abbrev pub some_workers : ℕ → Option ℕ
+some_workers n = if nat_le 1 n && nat_le n 5 then Some n else None
+
+-- the number of workers of a run, 1 where it is not given
+abbrev pub workers_of : Option (List ℕ) → Option ℕ
+workers_of None = Some 1
+workers_of (Some count) = option_and_then some_workers (number_of count)
+
+-- the value of an option can be a name
+abbrev pub is_optional_name : Option (List ℕ) → Bool
+is_optional_name None = true
+is_optional_name (Some name) = is_name name
+
+-- two names are not the same
+abbrev pub differ : Option (List ℕ) → Option (List ℕ) → Bool
+differ (Some first) (Some second) = not (bytes_eq first second)
+differ first second = true
+
+-- what is given for each argument of a run
+pub record Values : Type 0 where
+  pub rom : Option Text
+  pub cycles : Option Text
+  pub recording : Option Text
+  pub load : Option Text
+  pub save : Option Text
+  pub frames : Option Text
+  pub sound : Option Text
+  pub journal : Option Text
+  pub workers : Option Text
+
+-- the same, by the names of the arguments
+abbrev pub values_by : (Text → Option Text) → Values
+values_by value =
+    record {
+      rom = value (codes "rom");
+      cycles = value (codes "cycles");
+      recording = value (codes "in");
+      load = value (codes "load");
+      save = value (codes "save");
+      frames = value (codes "frames");
+      sound = value (codes "sound");
+      journal = value (codes "journal");
+      workers = value (codes "workers");
+    }
+
+-- what is given for names of files
+abbrev pub names_of : Values → List (Option Text)
+names_of values = values.rom ∷ values.recording ∷ values.load ∷ values.save ∷ values.frames ∷ values.sound ∷ values.journal ∷ []
+
+-- they can be names, and no two are the same
+abbrev pub are_names : List (Option Text) → Bool
+are_names [] = true
+are_names (name ∷ names) = is_optional_name name && list_all (differ name) names && are_names names
+
+-- `info` has the name of a cartridge
+abbrev pub info_from : Option Text → Option Text
+info_from (Some rom) = if is_name rom then Some rom else None
+info_from None = None
+
+-- the cartridge's name, by the names of the arguments
+abbrev pub info_by : (Text → Option Text) → Option Text
+info_by value = info_from (value (codes "rom"))
+
+-- the cartridge's name that the words behind `info` give
+abbrev pub info_of : List Text → Option Text
+info_of words = option_and_then (meant_by info_by) (given (codes "rom" ∷ []) [] [] between words)
+
+-- the run of the cartridge of this name, with this cycle of its end and this number of workers
+abbrev pub run_from : Values → Option Text → Option ℕ → Option ℕ → Option Run
+run_from values (Some rom) (Some end) (Some workers) =
+    Some
+    (record {
+      rom = rom;
+      cycles = end;
+      recording = values.recording;
+      load = values.load;
+      save = values.save;
+      frames = values.frames;
+      sound = values.sound;
+      journal = values.journal;
+      workers = workers;
+    })
+run_from values rom end workers = None
+
+-- `run` has the name of a cartridge and `--cycles N`, with `--in P`, `--load S`, `--save S`, `--frames F`,
+-- `--sound W`, `--journal J` and `--workers K` if wanted
+abbrev pub run_given : Values → Option Run
+run_given values =
+    if are_names (names_of values) then run_from values values.rom (option_and_then number_of values.cycles) (workers_of values.workers) else None
+
+-- the run, by the names of the arguments
+abbrev pub run_by : (Text → Option Text) → Option Run
+run_by value = run_given (values_by value)
+
+-- the names of the options of a run
+abbrev pub run_options : List Text
+run_options = codes "cycles" ∷ codes "in" ∷ codes "load" ∷ codes "save" ∷ codes "frames" ∷ codes "sound" ∷ codes "journal" ∷ codes "workers" ∷ []
+
+-- the run of these arguments
+abbrev pub run_of_arguments : List Argument → Option Run
+run_of_arguments = meant_by run_by
+
+-- the run that the words behind `run` give
+abbrev pub run_of : List Text → Option Run
+run_of words = option_and_then run_of_arguments (given (codes "rom" ∷ []) run_options [] between words)
+
+-- the conversion of these names, which are two
+abbrev pub conversion_given : Product → Option Text → Option Text → Bool → Option Conversion
+conversion_given product (Some input) (Some output) pal =
+    if are_names (Some input ∷ Some output ∷ []) then Some (record { product = product; input = input; output = output; pal = pal }) else None
+conversion_given product input output pal = None
+
+-- `vgm` and `play` have the names of an input and of an output, with `--pal` if wanted
+abbrev pub conversion_by : Product → (Text → Option Text) → Option Conversion
+conversion_by product value = conversion_given product (value (codes "input")) (value (codes "output")) (is_some (value (codes "pal")))
+
+-- the conversion that the words behind `vgm` or `play` give
+abbrev pub conversion_of : Product → List Text → Option Conversion
+conversion_of product words =
+    option_and_then (meant_by (conversion_by product)) (given (codes "input" ∷ codes "output" ∷ []) [] (codes "pal" ∷ []) between words)
+
+-- the value of a number that has to be there
+abbrev pub wanted_number : Option Text → Option ℕ
+wanted_number word = option_and_then number_of word
+
+-- a number of workers that has to be there
+abbrev pub wanted_workers : Option Text → Option ℕ
+wanted_workers word = option_and_then some_workers (wanted_number word)
+
+-- the run of the demonstration cartridge of this number, with this cycle of its end and this number of
+-- workers
+abbrev pub demo_from : Option ℕ → Option ℕ → Option ℕ → Option Demo
+demo_from (Some number) (Some end) (Some workers) = Some (record { number = number; cycles = end; workers = workers })
+demo_from number end workers = None
+
+-- `demo` has a number, `--cycles N` and `--workers W`
+abbrev pub demo_given : Option Text → Option Text → Option Text → Option Demo
+demo_given number cycles workers = demo_from (wanted_number number) (wanted_number cycles) (wanted_workers workers)
+
+-- the run, by the names of the arguments
+abbrev pub demo_by : (Text → Option Text) → Option Demo
+demo_by value = demo_given (value (codes "number")) (value (codes "cycles")) (value (codes "workers"))
+
+-- the run that the words behind `demo` give
+abbrev pub demo_of : List Text → Option Demo
+demo_of words = option_and_then (meant_by demo_by) (given (codes "number" ∷ []) (codes "cycles" ∷ codes "workers" ∷ []) [] between words)
+
+-- the first word chooses the command
+unfoldable pub command_of : List Text → Option Command
+command_of [] = None
+command_of (command ∷ words) =
+    if bytes_eq command (codes "info") then option_map Info (info_of words)
+    else if bytes_eq command (codes "run") then option_map RunCart (run_of words)
+    else if bytes_eq command (codes "demo") then option_map RunDemo (demo_of words)
+    else if bytes_eq command (codes "vgm") then option_map Convert (conversion_of Vgm words)
+    else if bytes_eq command (codes "play") then option_map Convert (conversion_of Sound words)
+    else None
+
+-- the run but for the number of its workers
+abbrev pub but_workers : Run → Run
+but_workers run = record run { workers = 1 }

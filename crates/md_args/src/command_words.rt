@@ -1,0 +1,130 @@
+ghost use Rattle.std.specs.Prelude.{◌≡◌, ◌≤◌};
+ghost use Rattle.std.specs.Option.{option_copied};
+ghost use Rattle.md_args.specs.Shown.{shown_command};
+ghost use Rattle.md_args.specs.Words.{end_of, frames_name, journal_name, load_name, output_of, recording_name, rom_of, save_name, sound_name, workers_in};
+
+use crate::convert_words::ConvertWords;
+use crate::demo_words::DemoWords;
+use crate::run_words::RunWords;
+
+/// What the words of the command line ask for.
+#[derive(Clone, Copy)]
+pub enum CommandWords<'a> {
+    /// The lines of the header of the cartridge of this name.
+    Info(&'a str),
+    /// A run.
+    Run(RunWords<'a>),
+    /// A run of a demonstration cartridge.
+    Demo(DemoWords),
+    /// A file that is made of another one.
+    Convert(ConvertWords<'a>),
+}
+
+impl<'a> CommandWords<'a> {
+    /// The name of the first file that is read: the cartridge, or the input of a conversion. A demonstration
+    /// cartridge has none.
+    pub fn rom(&self) -> &'a str
+        ensures { result.now ≡ rom_of (shown_command self.now) }
+    {
+        match self {
+            CommandWords::Info(rom) => rom,
+            CommandWords::Run(run) => run.rom,
+            CommandWords::Demo(_) => "",
+            CommandWords::Convert(words) => words.input,
+        }
+    }
+
+    /// The name of a conversion's output, and no name where none is asked for.
+    pub fn output(&self) -> &'a str
+        ensures { result.now ≡ output_of (shown_command self.now) }
+    {
+        match self {
+            CommandWords::Info(_) | CommandWords::Run(_) | CommandWords::Demo(_) => "",
+            CommandWords::Convert(words) => words.output,
+        }
+    }
+
+    /// The cycle of the run's end, and 0 where none is asked for.
+    pub fn end(&self) -> u64
+        ensures { result ≡ end_of (shown_command self.now) }
+    {
+        match self {
+            CommandWords::Info(_) | CommandWords::Convert(_) => 0,
+            CommandWords::Run(run) => run.cycles,
+            CommandWords::Demo(demo) => demo.cycles,
+        }
+    }
+
+    /// The recording's name, if one is given.
+    pub fn recording(&self) -> Option<&'a str>
+        ensures { option_copied result ≡ recording_name (shown_command self.now) }
+    {
+        match self {
+            CommandWords::Info(_) | CommandWords::Demo(_) | CommandWords::Convert(_) => None,
+            CommandWords::Run(run) => run.recording,
+        }
+    }
+
+    /// The name of the saved state to go on from, if one is given.
+    pub fn load(&self) -> Option<&'a str>
+        ensures { option_copied result ≡ load_name (shown_command self.now) }
+    {
+        match self {
+            CommandWords::Info(_) | CommandWords::Demo(_) | CommandWords::Convert(_) => None,
+            CommandWords::Run(run) => run.load,
+        }
+    }
+
+    /// The name of the state to save, if it is asked for.
+    pub fn save(&self) -> Option<&'a str>
+        ensures { option_copied result ≡ save_name (shown_command self.now) }
+    {
+        match self {
+            CommandWords::Info(_) | CommandWords::Demo(_) | CommandWords::Convert(_) => None,
+            CommandWords::Run(run) => run.save,
+        }
+    }
+
+    /// The frames file's name, if one is asked for.
+    pub fn frames(&self) -> Option<&'a str>
+        ensures { option_copied result ≡ frames_name (shown_command self.now) }
+    {
+        match self {
+            CommandWords::Info(_) | CommandWords::Demo(_) | CommandWords::Convert(_) => None,
+            CommandWords::Run(run) => run.frames,
+        }
+    }
+
+    /// The sound file's name, if one is asked for.
+    pub fn sound(&self) -> Option<&'a str>
+        ensures { option_copied result ≡ sound_name (shown_command self.now) }
+    {
+        match self {
+            CommandWords::Info(_) | CommandWords::Demo(_) | CommandWords::Convert(_) => None,
+            CommandWords::Run(run) => run.sound,
+        }
+    }
+
+    /// The journal's name, if one is asked for.
+    pub fn journal(&self) -> Option<&'a str>
+        ensures { option_copied result ≡ journal_name (shown_command self.now) }
+    {
+        match self {
+            CommandWords::Info(_) | CommandWords::Demo(_) | CommandWords::Convert(_) => None,
+            CommandWords::Run(run) => run.journal,
+        }
+    }
+
+    /// How many workers make it, 1 to 5; 1 where none is asked for.
+    pub fn workers(&self) -> u32
+        ensures number { result ≡ workers_in (shown_command self.now) }
+        ensures some { 1 ≤ result }
+        ensures few { result ≤ 5 }
+    {
+        match self {
+            CommandWords::Info(_) | CommandWords::Convert(_) => 1,
+            CommandWords::Run(run) => run.workers,
+            CommandWords::Demo(demo) => demo.workers,
+        }
+    }
+}

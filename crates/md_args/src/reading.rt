@@ -1,0 +1,177 @@
+ghost use Rattle.std.specs.Prelude.{◌≡◌, IfOk, map, option_and_then, string_bytes};
+ghost use Rattle.std.specs.Option.{option_copied, option_map};
+ghost use Rattle.clap.specs.Matches.{found_of};
+ghost use Rattle.clap.specs.Walk.{rows_of};
+ghost use Rattle.md_args.specs.Parse.{found_by};
+ghost use Rattle.md_args.specs.Shown.{shown_command, shown_run, shown_values};
+ghost use Rattle.md_args.specs.Words as meaning;
+
+use crate::building::{info_command, run_command};
+use crate::command_words::CommandWords;
+use crate::convert_reading::read_conversion;
+use crate::convert_words::Product;
+use crate::demo_reading::read_demo;
+use crate::names::{have_names, is_name};
+use crate::numbers::{read_number, read_workers};
+use crate::parse::parse;
+use crate::run_values::RunValues;
+use crate::run_words::RunWords;
+use clap::ArgMatches;
+use std::alloc::{AllocError, Global};
+
+/// Reads the words of the command line, those behind the program's name; none: they ask for nothing
+/// that there is.
+///
+/// They are `info ROM`, `run ROM --cycles N` with `--in P`, `--load S`, `--save S`, `--frames F`,
+/// `--sound W`, `--journal J` and `--workers K` where they are wanted, or
+/// `demo NUMBER --cycles N --workers W`. Options stand in any order among the other words, each at most
+/// once, as two words or as `--name=value`; `--` ends the options. Names are not empty, do not begin
+/// with a hyphen, and are pairwise different. Numbers are 1 to 20 decimal digits with a value below
+/// 2^64; K and W are 1 to 5.
+#[tactic(auto, unfolding(crate::specs::Words::command_of))]
+pub fn read_words<'a>(
+    alloc: Global,
+    words: &'a [String],
+) -> Result<Option<CommandWords<'a>>, AllocError>
+    ensures { IfOk result (λ command. option_map shown_command command ≡ meaning.command_of (map string_bytes words.now)) }
+{
+    let [command, rest @ ..] = words else {
+        return Ok(None);
+    };
+    if command.as_str() == "info" {
+        return match read_info(alloc, rest) {
+            Ok(Some(rom)) => Ok(Some(CommandWords::Info(rom))),
+            Ok(None) => Ok(None),
+            Err(error) => Err(error),
+        };
+    }
+    if command.as_str() == "run" {
+        return match read_run(alloc, rest) {
+            Ok(Some(run)) => Ok(Some(CommandWords::Run(run))),
+            Ok(None) => Ok(None),
+            Err(error) => Err(error),
+        };
+    }
+    if command.as_str() == "demo" {
+        return match read_demo(alloc, rest) {
+            Ok(Some(demo)) => Ok(Some(CommandWords::Demo(demo))),
+            Ok(None) => Ok(None),
+            Err(error) => Err(error),
+        };
+    }
+    if command.as_str() == "vgm" {
+        return match read_conversion(alloc, "vgm", Product::Vgm, rest) {
+            Ok(Some(words)) => Ok(Some(CommandWords::Convert(words))),
+            Ok(None) => Ok(None),
+            Err(error) => Err(error),
+        };
+    }
+    if command.as_str() == "play" {
+        return match read_conversion(alloc, "play", Product::Sound, rest) {
+            Ok(Some(words)) => Ok(Some(CommandWords::Convert(words))),
+            Ok(None) => Ok(None),
+            Err(error) => Err(error),
+        };
+    }
+    Ok(None)
+}
+
+/// Reads the words of `info` behind its command.
+fn read_info<'a>(alloc: Global, words: &'a [String]) -> Result<Option<&'a str>, AllocError>
+    ensures { IfOk result (λ rom. option_copied rom ≡ meaning.info_of (map string_bytes words.now)) }
+{
+    let command = info_command(alloc)?;
+    match parse(command, words)? {
+        Some(matches) => Ok(name_given(value(&matches, "rom"))),
+        None => Ok(None),
+    }
+}
+
+/// A value that can be a name.
+fn name_given(word: Option<&str>) -> Option<&str>
+    ensures { option_copied result ≡ meaning.info_from (option_copied word.entry) }
+{
+    match word {
+        Some(word) if is_name(word) => Some(word),
+        _ => None,
+    }
+}
+
+/// Reads the words of a run behind its command.
+fn read_run<'a>(alloc: Global, words: &'a [String]) -> Result<Option<RunWords<'a>>, AllocError>
+    ensures { IfOk result (λ run. option_map shown_run run ≡ meaning.run_of (map string_bytes words.now)) }
+{
+    let command = run_command(alloc)?;
+    match parse(command, words)? {
+        Some(matches) => Ok(run_chosen(&matches)),
+        None => Ok(None),
+    }
+}
+
+/// The run that the matches have.
+fn run_chosen<'a>(matches: &ArgMatches<'a>) -> Option<RunWords<'a>>
+    ensures { option_map shown_run result ≡ meaning.run_by (found_by (rows_of (found_of matches.now))) }
+{
+    run_given(&values_of(matches))
+}
+
+/// What the matches have for each argument of a run.
+fn values_of<'a>(matches: &ArgMatches<'a>) -> RunValues<'a>
+    ensures { shown_values result ≡ meaning.values_by (found_by (rows_of (found_of matches.now))) }
+{
+    RunValues {
+        rom: value(matches, "rom"),
+        cycles: value(matches, "cycles"),
+        recording: value(matches, "in"),
+        load: value(matches, "load"),
+        save: value(matches, "save"),
+        frames: value(matches, "frames"),
+        sound: value(matches, "sound"),
+        journal: value(matches, "journal"),
+        workers: value(matches, "workers"),
+    }
+}
+
+/// The value of an argument, if it has one.
+pub(crate) fn value<'a>(matches: &ArgMatches<'a>, name: &str) -> Option<&'a str>
+    ensures { option_copied result ≡ found_by (rows_of (found_of matches.now)) name.now }
+{
+    matches.get_str(name)
+}
+
+/// The run of these values, if those that it needs are there and all can be read.
+fn run_given<'a>(values: &RunValues<'a>) -> Option<RunWords<'a>>
+    ensures { option_map shown_run result ≡ meaning.run_given (shown_values values.now) }
+{
+    if !have_names(values) {
+        return None;
+    }
+    match (
+        values.rom,
+        count(values.cycles),
+        read_workers(values.workers),
+    ) {
+        (Some(rom), Some(cycles), Some(workers)) => Some(RunWords {
+            rom,
+            cycles,
+            recording: values.recording,
+            load: values.load,
+            save: values.save,
+            frames: values.frames,
+            sound: values.sound,
+            journal: values.journal,
+            workers,
+        }),
+        _ => None,
+    }
+}
+
+/// A number that has to be there.
+pub(crate) fn count(word: Option<&str>) -> Option<u64>
+    ensures { result ≡ option_and_then meaning.number_of (option_copied word.entry) }
+{
+    match word {
+        Some(word) => read_number(word),
+        None => None,
+    }
+}

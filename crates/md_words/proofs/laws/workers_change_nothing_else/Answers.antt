@@ -1,5 +1,0 @@
-use Rattle.md_words.proofs.Alike.{but_workers_alike}
-use Rattle.md_words.proofs.laws.workers_change_nothing_else.Goals as goal
-
-pub returns : goal.returns
-returns c before after count other fits other_fits = but_workers_alike count other fits other_fits before after

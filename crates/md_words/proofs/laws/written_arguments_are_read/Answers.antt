@@ -1,5 +1,0 @@
-use Rattle.md_words.proofs.Spellings.{run_written}
-use Rattle.md_words.proofs.laws.written_arguments_are_read.Goals as goal
-
-pub returns : goal.returns
-returns c = run_written

@@ -1,5 +1,0 @@
-use Rattle.std.proofs.Common.{length}
-use Rattle.md_words.proofs.names.+differs_from_all.Given as goal
-
-abbrev pub decreases-differs_from_all : goal.decreases-differs_from_all
-decreases-differs_from_all l = length l.others.now
