@@ -18,7 +18,7 @@ use md_word::{NoMemory, Parcel, Unspell};
 use psg_sound::PsgPort;
 use std::alloc::Global;
 use std::sync::Arc;
-use vdp_dma::spell;
+use vdp_dma::{is_read_again, spell};
 use vdp_ports::VdpState;
 use z80_parcel::{BANKS, parcel_of, put_store};
 
@@ -70,6 +70,18 @@ impl Shared {
         self.fm.spell(at, into);
         self.psg.spell(at, into);
         self.put_lines(at, into);
+    }
+
+    /// Tells that the bytes of this board, settled to a cycle of at most 2^50, are read again where the rules
+    /// of the parts hold.
+    pub fn is_read_again(&self, at: u64)
+        requires { at ≤ 2 ^ 50 }
+        ensures { IsReady at self.now → Spells at (board_bytes (settled_board at self.now)) (settled_board at self.now) }
+    {
+        is_read_again(&self.vdp);
+        self.fm.is_read_again(at);
+        self.psg.is_read_again();
+        let _ = &self.parcel;
     }
 
     /// Appends the bytes that keep the lines and the pads.

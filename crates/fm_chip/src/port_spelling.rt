@@ -43,15 +43,29 @@ impl FmPort {
         ensures kept { AreTimed at self.now.timers → meaning.are_right at (map meaning.saved_write self.now.writes) ≡ true
             → SpellsPort at (port_bytes (settled_port at self.now)) (settled_port at self.now) }
     {
+        self.is_read_again(at);
         let mut timers = self.timers;
         timers.settle(at);
         let count = self.writes.len();
         let numbers = numbers_of(self.first, self.second, &timers);
-        known_numbers(&numbers);
         put(&numbers.fields(at), into);
         put_count(count as u16, into);
         put_writes(self.writes.as_slice(), into);
         put_zeros(WRITE * (MOST - count), into);
+    }
+
+    /// Tells that the bytes of this port, settled to a cycle of at most 2^50, are read again where its rules
+    /// hold there.
+    pub fn is_read_again(&self, at: u64)
+        requires { at ≤ 2 ^ 50 }
+        ensures { AreTimed at self.now.timers → meaning.are_right at (map meaning.saved_write self.now.writes) ≡ true
+            → SpellsPort at (port_bytes (settled_port at self.now)) (settled_port at self.now) }
+    {
+        let mut timers = self.timers;
+        timers.settle(at);
+        let numbers = numbers_of(self.first, self.second, &timers);
+        known_numbers(&numbers);
+        known_writes(self.writes.as_slice());
     }
 
     /// The port that the bytes of a saved state at a cycle, of at most 2^50, keep. It takes no memory.
@@ -227,15 +241,24 @@ fn known_write(write: &FmWrite)
     let _value = write.value;
 }
 
+/// Each number of each write fits its field.
+fn known_writes(writes: &[FmWrite])
+    ensures { AreFit meaning.write_fields (map meaning.saved_write writes.now) }
+{
+    let mut rest = writes;
+    while let [write, after @ ..] = rest {
+        known_write(write);
+        rest = after;
+    }
+}
+
 #[tactic(auto, unfolding(md_fields::specs::Fields::spelling))]
 fn put_write(write: &FmWrite, into: &mut Vec<u8>)
     requires { vec_len into.old + 12 ≤ vec_capacity into.old }
     ensures bytes { into.new.items ≡ into.old.items ++ spelling (meaning.write_fields (meaning.saved_write write.now)) }
     ensures length { vec_len into.new ≡ vec_len into.old + 12 }
     ensures room { vec_capacity into.old ≤ vec_capacity into.new }
-    ensures within { AreWithin (meaning.write_fields (meaning.saved_write write.now)) }
 {
-    known_write(write);
     put(&SavedWrite::of(write).fields(), into);
 }
 
@@ -245,7 +268,6 @@ fn put_writes(writes: &[FmWrite], into: &mut Vec<u8>)
     ensures bytes { into.new.items ≡ into.old.items ++ entries_bytes meaning.write_fields (map meaning.saved_write writes.now) }
     ensures length { vec_len into.new ≡ vec_len into.old + 12 * length writes.now }
     ensures room { vec_capacity into.old ≤ vec_capacity into.new }
-    ensures fit { AreFit meaning.write_fields (map meaning.saved_write writes.now) }
 {
     let mut rest = writes;
     while let [write, after @ ..] = rest {

@@ -11,6 +11,7 @@ pub mod Joined
 pub mod Kept
 pub mod LeastKeys
 pub mod Lifts
+pub mod Lists
 pub mod Moves
 pub mod OneRun
 pub mod Owners

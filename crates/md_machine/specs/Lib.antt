@@ -7,6 +7,7 @@ pub mod FmCode
 pub mod Laws
 pub mod LineLaws
 pub mod Lines
+pub mod Lists
 pub mod Machines
 pub mod Media
 pub mod Movers

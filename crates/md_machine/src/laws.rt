@@ -1,17 +1,18 @@
 //! Laws of the machine, as calls that do nothing and stand for what they ensure.
 
-ghost use Rattle.std.specs.Prelude.{◌≡◌, ℕ, ◌+◌, ◌-◌, ◌*◌, ◌/◌, ◌^◌, ◌<◌, ◌≤◌, ◌++◌, List, length};
+ghost use Rattle.std.specs.Prelude.{◌≡◌, ℕ, ◌+◌, ◌-◌, ◌*◌, ◌/◌, ◌^◌, ◌<◌, ◌≤◌, ◌++◌, [], List, length};
 ghost use Rattle.md_word.specs.declared.event.Entry.{Entry};
 ghost use Rattle.chip_core.specs.Limits.{events_within};
 ghost use Rattle.md_pads.specs.Recording.{Frame};
 ghost use Rattle.md_machine.specs.Console.{AllBelow, Console, IsQuiet, IsRunTo, journal, key_in, media, mover, power_on, ran};
+ghost use Rattle.md_machine.specs.Lists.{ListsEndAsRun};
 ghost use Rattle.md_machine.specs.Owners.{HasOneOwner};
 ghost use Rattle.md_machine.specs.Pads.{ShowsPads};
 ghost use Rattle.md_machine.specs.Rules.{five};
 ghost use Rattle.md_machine.specs.ValidParts.{HasValidParts};
 ghost use Rattle.md_machine.specs.Starts.{IsStart, Start, batches_below, frames_below};
 ghost use Rattle.md_machine.specs.Media as outputs;
-ghost use Rattle.md_machine.specs.Media.{Media};
+ghost use Rattle.md_machine.specs.Media.{Media, no_media};
 
 use crate::machine::Machine;
 use crate::set::MdChips;
@@ -86,6 +87,17 @@ pub fn few_events(machine: &Machine)
     ensures { (end n : ℕ) → end ≤ 2 ^ 50 → AllBelow machine.now.console end n → n ≤ end - machine.now.at + 5 }
 {
     machine.few_events();
+}
+
+/// Wherever enabled events of the chips lead from a machine that was drained, in whatever order they
+/// come: a list of them has an end, no list gets stuck, and each that leaves no event below the cycle
+/// leads to the machine of the run, with its entries, frames and samples.
+pub fn lists_end_as_run(machine: &Machine)
+    requires entries { machine.now.entries ≡ [] }
+    requires media { machine.now.media ≡ no_media }
+    ensures { ListsEndAsRun machine.now.at machine.now.console }
+{
+    machine.lists_end_as_run();
 }
 
 /// How many events a list of enabled events of the five chips has at most, over so many cycles.

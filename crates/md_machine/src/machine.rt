@@ -8,6 +8,7 @@ ghost use Rattle.md_machine.specs.Drained.{silenced};
 ghost use Rattle.md_machine.specs.declared.chips.Chip.{Chip};
 ghost use Rattle.md_machine.specs.Console.{AllBelow, IsRunTo, key_in, mover, power_on};
 ghost use Rattle.md_machine.specs.Outputs.{frame_length, frames_bytes, journal_bytes, sound_bytes};
+ghost use Rattle.md_machine.specs.Lists.{ListsEndAsRun};
 ghost use Rattle.md_machine.specs.Refinement.{main_of};
 ghost use Rattle.md_machine.specs.Machines.{machine_at};
 ghost use Rattle.md_machine.specs.Rules.{IsChip, five, next};
@@ -103,6 +104,19 @@ impl Machine {
     {
         laws::stages::<MdChips>();
         laws::limits::<MdChips>();
+        // what holds of each machine holds of its core
+        let _ = &self.core;
+    }
+
+    /// Every list of enabled events from here leads to the machine of the run.
+    pub(crate) fn lists_end_as_run(&self)
+        requires entries { self.now.entries ≡ [] }
+        requires media { self.now.media ≡ no_media }
+        ensures { ListsEndAsRun self.now.at self.now.console }
+    {
+        laws::stages::<MdChips>();
+        laws::limits::<MdChips>();
+        laws::events::<MdChips>();
         // what holds of each machine holds of its core
         let _ = &self.core;
     }

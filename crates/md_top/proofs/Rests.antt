@@ -1,6 +1,5 @@
 -- A run that came to its end ends well.
 use Rattle.std.proofs.Common.{◌≡◌, ℕ, ◌^◌, ◌≤◌, List, ◌++◌, Option, refl, sym, ap, subst, ◌∙◌, arith}
-use Rattle.std.specs.Prelude.{IsSome}
 use Rattle.md_word.specs.declared.event.Entry.{Entry}
 use Rattle.md_machine.specs.Console.{Console, IsRunTo}
 use Rattle.md_machine.specs.Machines.{MachineValue}
@@ -42,11 +41,11 @@ kept start at m same is =
     (subst (λ (z : Console). IsState z.cart (state_bytes at z) (record { at = at; console = settled_console at z })) same is)
 
 -- at the cycle to which it came
-ends-here : (start : Start) (machine : MachineValue) (accesses : ℕ) (save : Option (List ℕ)) → CameTo start machine accesses → StateLaws → IsEnd machine.at
-    → (IsSome save → IsReady machine.at machine.console → IsState machine.console.cart (state_bytes machine.at machine.console) (record { at = machine.at; console = settled_console machine.at machine.console }))
-    → RunsWell start machine.at save start.at accesses machine.console.main.halted
+ends-here : (start : Start) (machine : MachineValue) (accesses : ℕ) → CameTo start machine accesses → StateLaws → IsEnd machine.at
+    → (IsReady machine.at machine.console → IsState machine.console.cart (state_bytes machine.at machine.console) (record { at = machine.at; console = settled_console machine.at machine.console }))
+    → RunsWell start machine.at start.at accesses machine.console.main.halted
 unfolding halted_from
-ends-here start machine accesses save came states end saved =
+ends-here start machine accesses came states end saved =
     let small : machine.at ≤ 2 ^ 50 = omega (arith, end.1) in
     let made : IsRunTo start.console machine.at (run_from start machine.at) (entries_from start machine.at) (media_from start machine.at) = run-made start machine.at came.laws small in
     let found : Found start machine.at machine.console (entries_from start machine.at) (media_from start machine.at) = run-found start machine.at came.laws small came.run in
@@ -60,13 +59,13 @@ ends-here start machine accesses save came states end saved =
       accesses = came.counted;
       halted = ap (λ (m : Console). m.main.halted) found.console;
       heard = λ inputs same. came.heard inputs machine.console machine.at (entries_from start machine.at) (media_from start machine.at) same small came.run;
-      kept = λ some. kept start machine.at machine.console found.console (saved some (states.ready machine.at machine.console end.0 end.1 reached));
+      kept = kept start machine.at machine.console found.console (saved (states.ready machine.at machine.console end.0 end.1 reached));
       rest = goes-on start machine.at came.laws states (subst (IsReached machine.at) found.console reached);
     }
 
-pub ends-well : (start : Start) (end : ℕ) (machine : MachineValue) (accesses : ℕ) (save : Option (List ℕ)) → machine.at ≡ end → CameTo start machine accesses → StateLaws → IsEnd end
-    → (IsSome save → IsReady machine.at machine.console → IsState machine.console.cart (state_bytes machine.at machine.console) (record { at = machine.at; console = settled_console machine.at machine.console }))
-    → RunsWell start end save start.at accesses machine.console.main.halted
-ends-well start end machine accesses save at came states ends saved =
-    subst (λ (n : ℕ). RunsWell start n save start.at accesses machine.console.main.halted) at
-    (ends-here start machine accesses save came states (subst IsEnd (sym at) ends) saved)
+pub ends-well : (start : Start) (end : ℕ) (machine : MachineValue) (accesses : ℕ) → machine.at ≡ end → CameTo start machine accesses → StateLaws → IsEnd end
+    → (IsReady machine.at machine.console → IsState machine.console.cart (state_bytes machine.at machine.console) (record { at = machine.at; console = settled_console machine.at machine.console }))
+    → RunsWell start end start.at accesses machine.console.main.halted
+ends-well start end machine accesses at came states ends saved =
+    subst (λ (n : ℕ). RunsWell start n start.at accesses machine.console.main.halted) at
+    (ends-here start machine accesses came states (subst IsEnd (sym at) ends) saved)

@@ -37,7 +37,7 @@ summary_from start end =
 
 -- a run from a start to a cycle ends well, and this is told of it
 pub record IsSummary (start : Start) (end : ℕ) (summary : Summary) : Type 0 where
-  pub well : RunsWell start end None start.at summary.accesses summary.halted
+  pub well : RunsWell start end start.at summary.accesses summary.halted
   pub digests : summary.digests ≡ digests_from start end
 
 -- digests on their way have what a run from a start made below a cycle

@@ -131,7 +131,7 @@ IsReady (Convert conversion) files = CanConvert conversion files
 
 -- why a run from a start ends, once it has begun
 abbrev pub RunCause : Start → Run → DepotState → DepotState → Ending → Type 0
-RunCause start run old new (Done from accesses halted) = RunsWell start run.cycles run.save from accesses halted
+RunCause start run old new (Done from accesses halted) = RunsWell start run.cycles from accesses halted
 RunCause start run old new Unsaved = IsSome run.save
 RunCause start run old new ending = IsUnwritten run old new ending
 

@@ -1,5 +1,5 @@
 -- What comes of a run at its end, and of its machine where it is saved there.
-use Rattle.std.specs.Prelude.{◌≡◌, ℕ, ◌^◌, ◌≤◌, List, ◌++◌, length, Option, IsSome}
+use Rattle.std.specs.Prelude.{◌≡◌, ℕ, ◌^◌, ◌≤◌, List, ◌++◌, length, Option}
 use Rattle.md_word.specs.declared.event.Entry.{Entry}
 use Rattle.md_machine.specs.Console.{Console, IsQuiet, IsRunTo}
 use Rattle.md_machine.specs.Media.{Media, joined}
@@ -14,8 +14,8 @@ use Rattle.md_top.specs.Heard.{IsHeard}
 use Rattle.md_word.specs.Clock.{last_cycle}
 use Rattle.md_top.specs.Runs.{entries_from, halted_from, media_from, run_from, state_to}
 
--- what a run from a start saves at a cycle is a saved state of its cartridge, and keeps the machine there,
--- settled
+-- what a run from a start has to save at a cycle is a saved state of its cartridge, and keeps the machine
+-- there, settled
 abbrev pub IsKept : Start → ℕ → Type 0
 IsKept start at = IsState start.console.cart (state_to start at) (record { at = at; console = settled_console at (run_from start at) })
 
@@ -31,9 +31,8 @@ GoesOnFrom start at =
     (end : ℕ) (after : Console) (entries : List Entry) (output : Media) → at ≤ end → end ≤ last_cycle
     → IsRunTo (settled_console at (run_from start at)) end after entries output → IsRest start at end after entries output
 
--- A RUN THAT ENDS WELL, from a start to a cycle, whose state is saved where a name for it is given: what is
--- promised of it, and of what is told of it
-pub record RunsWell (start : Start) (end : ℕ) (save : Option (List ℕ)) (begun counted : ℕ) (since : Option ℕ) : Type 0 where
+-- A RUN THAT ENDS WELL, from a start to a cycle: what is promised of it, and of what is told of it
+pub record RunsWell (start : Start) (end : ℕ) (begun counted : ℕ) (since : Option ℕ) : Type 0 where
   -- the machine that always moves the chip of least key has made all events below the end and no other
   pub least : IsRunTo start.console end (run_from start end) (entries_from start end) (media_from start end)
   -- it is told from where it began, and how much it made
@@ -45,8 +44,8 @@ pub record RunsWell (start : Start) (end : ℕ) (save : Option (List ℕ)) (begu
   pub halted : since ≡ halted_from start end
   -- from power-on its sound is that of the writes in its journal
   pub heard : IsHeard start end
-  -- what it saves is a saved state
-  pub kept : IsSome save → IsKept start end
+  -- the bytes that it saves there, if it is to, are a saved state
+  pub kept : IsKept start end
   -- from which the run goes on as it would have
   pub rest : GoesOnFrom start end
 

@@ -24,6 +24,7 @@ use md_pads::Recording;
 use md_word::NoMemory;
 use md_word::clock::LAST_CYCLE;
 use rom_header::Cart;
+use save_state::laws::kept;
 use std::alloc::Global;
 
 /// Runs the demonstration cartridge that the words ask for, from power-on and with nothing pressed on
@@ -90,6 +91,7 @@ fn sum_up<F: Fn(&mut Machine, u64)>(go_on: &F, end: u64, course: Course) -> Summ
         sum_segment(go_on, end, &mut course, &mut hashers);
     }
     states_keep_laws();
+    kept(&course.machine);
     Summary {
         accesses: course.accesses,
         halted: course.machine.main_chip().halted(),

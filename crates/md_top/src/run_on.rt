@@ -24,6 +24,7 @@ use md_files::wav_head;
 use md_machine::Machine;
 use md_outer::Depot;
 use md_word::clock::{BATCH, FRAME};
+use save_state::laws::kept;
 use std::alloc::Global;
 
 /// The cycle of a frame at which its picture is finished: the start of line 224.
@@ -187,6 +188,7 @@ fn run_on<F: Fn(&mut Machine, u64), D: Depot>(
         }
     }
     states_keep_laws();
+    kept(&course.machine);
     match save(alloc, run, outputs, depot, &course.machine) {
         Ok(()) => Ending::Done {
             from,

@@ -1,11 +1,10 @@
-ghost use Rattle.std.specs.Prelude.{◌≡◌, ◌≤◌, IsSome, OnOk, OnErr, IfErr};
+ghost use Rattle.std.specs.Prelude.{◌≡◌, ◌≤◌, OnOk, OnErr, IfErr};
 ghost use Rattle.md_outer.specs.Outside.{GoesOn};
 ghost use Rattle.md_word.specs.Clock.{last_cycle};
 ghost use Rattle.md_top.specs.Outputs.{Adds, AddsParts, AreBegun, IsWriteFault, nothing};
 ghost use Rattle.md_top.specs.Saves.{IsNotSaved, LeavesState};
 ghost use Rattle.md_args.specs.Shown.{shown_run};
-ghost use Rattle.save_state.specs.Ready.{IsReady};
-ghost use Rattle.save_state.specs.States.{IsState, settled_console, state_bytes};
+ghost use Rattle.save_state.specs.States.{state_bytes};
 
 use crate::ending::Ending;
 use crate::output::append_state;
@@ -32,8 +31,6 @@ pub(crate) fn save<D: Depot>(
     requires begun { AreBegun (shown_run run.now) (D.state depot.old).begun outputs.now }
     ensures files { OnOk result (D.told → Adds (shown_run run.now) (D.state depot.old).files (D.state depot.new).files
         (record nothing { state = state_bytes machine.now.at machine.now.console })) }
-    ensures kept { OnOk result (IsSome (shown_run run.now).save → IsReady machine.now.at machine.now.console
-        → IsState machine.now.console.cart (state_bytes machine.now.at machine.now.console) (record { at = machine.now.at; console = settled_console machine.now.at machine.now.console })) }
     ensures err { IfErr result (IsNotSaved (shown_run run.now) (D.state depot.old) (D.state depot.new)) }
     ensures err_files { IfErr result (λ ending. D.told → LeavesState (shown_run run.now) (D.state depot.old).files (D.state depot.new).files
         (state_bytes machine.now.at machine.now.console) ending) }

@@ -4,6 +4,7 @@
 mod fault;
 mod items;
 mod joining;
+pub mod laws;
 mod layout;
 mod reading;
 mod writing;

@@ -5,7 +5,8 @@ use Rattle.std.proofs.lemmas.List.{length-set}
 use Rattle.vdp_ports.specs.Vdp.{Vdp}
 use Rattle.vdp_ports.specs.Rules.{HasRules}
 use Rattle.vdp_ports.specs.Spelling.{Spells, vdp_bytes}
-use Rattle.vdp_ports.proofs.RuleLaws.{IsInRange, spelled_back}
+use Rattle.vdp_ports.specs.Ranges.{IsInRange}
+use Rattle.vdp_ports.proofs.RuleLaws.{spelled_back}
 use Rattle.vdp_dma.specs.Settling.{advanced, copies, finished, moved, running, settled, vram_after, write}
 use Rattle.vdp_dma.proofs.Counts.{count}
 use Rattle.vdp_dma.proofs.Kept.{settled_is, settled_kept}
@@ -80,14 +81,14 @@ advanced-range at n v s long far r = by (nat_lt n s.left) where
   by true h = moved-range at n v s long far r h
   by false h = finished-range v s long r
 
-pub settled_range : (at : ℕ) (s : Vdp) → at ≤ 2 ^ 50 → IsInRange s → HasRules at s → IsInRange (settled at s)
-settled_range at s far r h = elim (cases_lt 0 (count at s)) [
+pub settled_range : (earlier at : ℕ) (s : Vdp) → earlier ≤ at → at ≤ 2 ^ 50 → IsInRange s → HasRules earlier s → IsInRange (settled at s)
+settled_range earlier at s behind far r h = elim (cases_lt 0 (count at s)) [
   | inl some ↦ (let e : settled at s ≡ advanced (count at s) (vram_after s (count at s)) s = by-some at s (count at s) (omega arith) some in
-      let rules : HasRules at (advanced (count at s) (vram_after s (count at s)) s) = rw (← e) (settled_kept at at s (omega arith) h) in
+      let rules : HasRules at (advanced (count at s) (vram_after s (count at s)) s) = rw (← e) (settled_kept earlier at s behind h) in
       rw e (advanced-range at (count at s) (vram_after s (count at s)) s (after-long s (count at s)) far r rules))
   | inr none ↦ (let e : settled at s ≡ s = by-none at s (omega (arith, none)) in rw e r)
 ]
 
--- the bytes of a VDP whose rules hold, settled to a cycle, are read again
-pub settled_spelled : (at : ℕ) (s : Vdp) → at ≤ 2 ^ 50 → IsInRange s → HasRules at s → Spells at (vdp_bytes (settled at s)) (settled at s)
-settled_spelled at s far r h = spelled_back at (settled at s) (settled_range at s far r h) (settled_is at at s (omega arith) h)
+-- the bytes of a VDP whose rules hold at a cycle, settled to a later one, are read again
+pub settled_spelled : (earlier at : ℕ) (s : Vdp) → earlier ≤ at → at ≤ 2 ^ 50 → IsInRange s → HasRules earlier s → Spells at (vdp_bytes (settled at s)) (settled at s)
+settled_spelled earlier at s behind far r h = spelled_back at (settled at s) (settled_range earlier at s behind far r h) (settled_is earlier at s behind h)

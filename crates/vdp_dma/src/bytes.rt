@@ -225,3 +225,12 @@ pub fn spell(state: &VdpState, at: u64, into: &mut Vec<u8>)
     put_into(state, count, &mut vram);
     state.spell_with(&vram, rest_after(state, count), at, into);
 }
+
+/// Tells that the bytes of this VDP, settled to a cycle, are read again where the rules hold at an earlier
+/// cycle.
+pub fn is_read_again(state: &VdpState)
+    ensures { (earlier at : ℕ) → earlier ≤ at → at ≤ 2 ^ 50 → HasRules earlier state.now
+        → Spells at (vdp_bytes (meaning.settled at state.now)) (meaning.settled at state.now) }
+{
+    state.known();
+}

@@ -3,4 +3,4 @@
 
 mod bytes;
 
-pub use bytes::{busy, settle, spell, transfer_word};
+pub use bytes::{busy, is_read_again, settle, spell, transfer_word};

@@ -4,6 +4,7 @@ pub mod Data
 pub mod Dma
 pub mod Numbers
 pub mod Pins
+pub mod Ranges
 pub mod Rules
 pub mod Saved
 pub mod Spelling

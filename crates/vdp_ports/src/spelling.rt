@@ -1,5 +1,6 @@
 ghost use Rattle.std.specs.Prelude.{◌≡◌, ◌≢◌, ◌+◌, ◌≤◌, ◌++◌, ◌↔◌, ℕ, vec_len, vec_capacity, IfOk, IsErrOf, Ok, Err};
 ghost use Rattle.vdp_ports.specs.Dma.{with_rest};
+ghost use Rattle.vdp_ports.specs.Ranges.{IsInRange};
 ghost use Rattle.vdp_ports.specs.Spelling.{GoesWrongAt, IsSettled, Spells, vdp_bytes, vdp_size};
 ghost use Rattle.vdp_ports.specs.Vdp.{Vdp};
 
@@ -21,11 +22,18 @@ impl VdpState {
         ensures room { vec_capacity into.old ≤ vec_capacity into.new }
         ensures kept { IsSettled at self.now → Spells at (vdp_bytes self.now) self.now }
     {
+        self.known();
+        put(&SavedVdp::of(self).fields(at), into);
+    }
+
+    /// Tells that its numbers have the bytes that they take.
+    pub fn known(&self)
+        ensures { IsInRange self.now }
+    {
         known_memories(self);
         known_port(self);
         known_dma(self);
         known_interval(self);
-        put(&SavedVdp::of(self).fields(at), into);
     }
 
     /// Appends the bytes of a saved state that keep this VDP with another memory and another rest of a

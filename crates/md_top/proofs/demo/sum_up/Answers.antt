@@ -41,7 +41,7 @@ returns g c =
     (c.digests.ensures.samples (sound_bytes (media_from start c.args.end)) have.samples)
     (c.digests.ensures.journal (journal_bytes (entries_from start c.args.end)) have.journal) in
     record {
-      well = subst (λ (since : Option ℕ). RunsWell start c.args.end None start.at course.accesses since) (sym halted)
-          (ends-well start c.args.end course.machine course.accesses None at c.segments.invariant.1 c.states_keep_laws.ensures c.requires.end (λ some. absurd (false≢true some)));
+      well = subst (λ (since : Option ℕ). RunsWell start c.args.end start.at course.accesses since) (sym halted)
+          (ends-well start c.args.end course.machine course.accesses at c.segments.invariant.1 c.states_keep_laws.ensures c.requires.end c.kept.ensures);
       digests = digests;
     }

@@ -33,10 +33,10 @@ returns-in-Ok-clause-cause g c =
     let start : Start = start_in c.args.course in
     let at : cycle_of course ≡ c.args.run.now.cycles = omega (arith, c.segments.invariant.0, c.segments-test.false, c.at.ensures) in
     let halted : c.halted.result ≡ course.machine.console.main.halted = rw c.main_chip.ensures at c.halted.ensures in
-    subst (λ (from : ℕ). RunsWell start c.args.run.now.cycles (shown_run c.args.run.now).save from course.accesses c.halted.result) (sym c.at-from.ensures)
-    (subst (λ (since : Option ℕ). RunsWell start c.args.run.now.cycles (shown_run c.args.run.now).save start.at course.accesses since) (sym halted)
-    (ends-well start c.args.run.now.cycles course.machine course.accesses (shown_run c.args.run.now).save at c.segments.invariant.1 c.states_keep_laws.ensures c.requires.end
-    c.in-Ok.ensures.kept))
+    subst (λ (from : ℕ). RunsWell start c.args.run.now.cycles from course.accesses c.halted.result) (sym c.at-from.ensures)
+    (subst (λ (since : Option ℕ). RunsWell start c.args.run.now.cycles start.at course.accesses since) (sym halted)
+    (ends-well start c.args.run.now.cycles course.machine course.accesses at c.segments.invariant.1 c.states_keep_laws.ensures c.requires.end
+    c.kept.ensures))
 
 pub returns-in-Ok-clause-files : goal.returns-in-Ok-clause-files
 returns-in-Ok-clause-files g c = λ t first holds.

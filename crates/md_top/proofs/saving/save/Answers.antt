@@ -1,9 +1,7 @@
-use Rattle.std.proofs.Common.{◌≡◌, List, ℕ, Option, Some, None, IsSome, ap, subst, ◌∙◌}
+use Rattle.std.proofs.Common.{List, ℕ, ap, subst, ◌∙◌}
 use Rattle.std.specs.Option.{option_copied}
 use Rattle.md_top.specs.Outputs.{Adds, nothing}
 use Rattle.md_args.specs.Shown.{shown_run}
-use Rattle.md_machine.specs.Console.{Console}
-use Rattle.save_state.specs.States.{IsState, settled_console, state_bytes}
 use Rattle.md_top.proofs.Appends.{adds-no_state}
 use Rattle.md_top.proofs.Ends.{on-ok}
 use Rattle.md_top.proofs.saving.save.Goals as goal
@@ -18,18 +16,3 @@ returns-in-Ok-clause-files g c =
 pub returns-in-None-clause-files : goal.returns-in-None-clause-files
 returns-in-None-clause-files g c = λ t.
     adds-no_state (shown_run c.args.run.now) (g.D.Depot.state c.args.depot.now).files (state_bytes c.args.machine.now.at c.args.machine.now.console) (ap option_copied c.in-None.is)
-
-pub returns-in-Ok-clause-kept : goal.returns-in-Ok-clause-kept
-returns-in-Ok-clause-kept g c =
-    let at : ℕ = c.args.machine.now.at in
-    let m : Console = c.args.machine.now.console in
-    on-ok c.append_pieces.result
-    (λ adds some ready. subst (λ (l : List ℕ). IsState m.cart l (record { at = at; console = settled_console at m })) c.in-Ok.ensures.bytes (c.in-Ok.ensures.kept ready))
-    c.append_pieces.ensures.files
-
-no-name : (save : Option (List ℕ)) → save ≡ None → IsSome save → ⊥
-no-name None e some = absurd cc
-no-name (Some name) e some = absurd cc
-
-pub returns-in-None-clause-kept : goal.returns-in-None-clause-kept
-returns-in-None-clause-kept g c = λ some ready. absurd (no-name (shown_run c.args.run.now).save (ap option_copied c.in-None.is) some)

@@ -88,16 +88,4 @@ returns-clause-bytes c =
     (parts_are c.args.at p ∙ ap port_bytes settled)
 
 pub returns-clause-kept : goal.returns-clause-kept
-returns-clause-kept c = λ timed right.
-    let ws : List FmWrite = c.self.inside.writes.items in
-    let p : Port = record { first = c.self.inside.first; second = c.self.inside.second; timers = c.settle.new.self; writes = ws } in
-    let settled : p ≡ settled_port c.args.at c.args.self.now =
-    ap (λ (t : Timers). record { first = c.self.inside.first; second = c.self.inside.second; timers = t; writes = ws }) c.settle.ensures.value
-    ∙ ap (settled_port c.args.at) c.self.view_is in
-    let known = c.known_numbers.ensures in
-    let within = port_within c.args.at p c.numbers_of-numbers.result (c.numbers_of-numbers.ensures ws) known.first known.second known.high_a known.low_a known.number_b known.control known.next_a known.next_b in
-    let fit : AreFit write_fields (map saved_write ws) = subst (λ (l : List FmWrite). AreFit write_fields (map saved_write l)) c.as_slice.ensures.value c.put_writes.ensures.fit in
-    subst (λ (q : Port). SpellsPort c.args.at (port_bytes q) q) settled
-    (port_kept c.args.at p c.self.invariant.most within fit
-    (c.settle.ensures.timed (subst (λ (q : Port). AreTimed c.args.at q.timers) (sym c.self.view_is) timed))
-    (subst (λ (q : Port). are_right c.args.at (map saved_write q.writes) ≡ true) (sym settled) right))
+returns-clause-kept c = c.is_read_again.ensures

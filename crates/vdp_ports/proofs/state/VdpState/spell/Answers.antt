@@ -17,19 +17,4 @@ pub returns-clause-length : goal.returns-clause-length
 returns-clause-length c = omega (arith, c.put.ensures.length, long_as_sized _ c.fields.ensures.sizes ∙ ap sizes c.fields.ensures.fields ∙ fields_size c.args.at c.of.result)
 
 pub returns-clause-kept : goal.returns-clause-kept
-returns-clause-kept c = λ is. spelled_back c.args.at c.args.self.now (record {
-  sizes = c.known_memories.ensures.sizes;
-  cram = c.known_memories.ensures.cram;
-  vsram = c.known_memories.ensures.vsram;
-  code = c.known_port.ensures.code;
-  a = c.known_port.ensures.a;
-  dma_kind = c.known_dma.ensures.dma_kind;
-  byte = c.known_dma.ensures.byte;
-  source = c.known_dma.ensures.source;
-  address = c.known_dma.ensures.address;
-  left = c.known_dma.ensures.left;
-  next_stamp = c.known_dma.ensures.next_stamp;
-  line_counter = c.known_port.ensures.line_counter;
-  int_from = c.known_interval.ensures.int_from;
-  int_to = c.known_interval.ensures.int_to;
-}) is
+returns-clause-kept c = λ is. spelled_back c.args.at c.args.self.now c.known.ensures is
