@@ -4,7 +4,7 @@ ghost use Rattle.std.specs.Prelude.{◌≡◌};
 ghost use Rattle.bus_shared.specs.Accesses.{chip_of};
 
 use bus_shared::{Answer, Request, Shared, carry_out, start_line};
-use fm_chip::FmList;
+use fm_port::FmList;
 use md_pads::Recording;
 use md_word::{Entry, Key, Request68};
 use psg_sound::PsgList;

@@ -4,7 +4,7 @@
 use crate::board::{board, key_of, main};
 use crate::lines::{grant, sub};
 use bus_shared::{Answer, Request, Shared, carry_out};
-use fm_chip::FmList;
+use fm_port::FmList;
 use md_word::{Answer80, Request68, Request80};
 use std::alloc::Global;
 use std::test::Fail;

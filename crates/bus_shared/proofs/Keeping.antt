@@ -7,7 +7,7 @@ use Rattle.md_fields.proofs.Items.{all_hold, none_wrong}
 use Rattle.md_pads.specs.Recording.{IsFrame}
 use Rattle.vdp_ports.proofs.RuleLaws.{flag_byte, flag_small}
 use Rattle.vdp_ports.specs.Spelling as vdp_spelling
-use Rattle.fm_chip.specs.PortSpelling as fm_spelling
+use Rattle.fm_port.specs.PortSpelling as fm_spelling
 use Rattle.psg_sound.specs.PortSpelling as psg_spelling
 use Rattle.bus_shared.specs.Board.{Board, IsBoard}
 use Rattle.bus_shared.specs.Saved.{lines_fields, lines_of}

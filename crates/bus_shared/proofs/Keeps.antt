@@ -1,12 +1,12 @@
 -- Each access leaves a board.
 use Rattle.std.proofs.Common.{ℕ, ◌*◌, ◌/◌, ◌%◌, ◌==◌, ◌<◌, ◌≤◌, Bool, true, false, Option, Some, None, if◌then◌else◌, arith, lit<, lit≤, not}
 use Rattle.std.proofs.lemmas.List.Elements.{All-filter, All-nil}
-use Rattle.fm_chip.specs.Port.{Port, first_write, held_with, left_from, reset, reset_write, second_write, taken_below, written}
-use Rattle.fm_chip.specs.Stamp.{stamp_of}
-use Rattle.fm_chip.specs.Timers.{both_settled, shown, status, timed}
-use Rattle.fm_chip.specs.Timers as fm_timers
-use Rattle.fm_chip.specs.declared.timers.Timers.{Timers}
-use Rattle.fm_chip.specs.declared.write.FmWrite.{FmWrite}
+use Rattle.fm_port.specs.Port.{Port, first_write, held_with, left_from, reset, reset_write, second_write, taken_below, written}
+use Rattle.fm_port.specs.Stamp.{stamp_of}
+use Rattle.fm_port.specs.Timers.{both_settled, shown, status, timed}
+use Rattle.fm_port.specs.Timers as fm_timers
+use Rattle.fm_port.specs.declared.timers.Timers.{Timers}
+use Rattle.fm_port.specs.declared.write.FmWrite.{FmWrite}
 use Rattle.sound_writes.proofs.Helds.{All-held_with, length-filter-most, length-held_with}
 use Rattle.sound_writes.specs.Order.{is_below}
 use Rattle.md_pads.specs.Recording.{Frame, pads_of}

@@ -2,9 +2,9 @@
 use Rattle.std.proofs.Common.{◌≡◌, ℕ, ◌+◌, ◌<◌, ◌≤◌, Bool, true, false, eqb, List, [], ◌∷◌, ◌++◌, length, take, drop, Option, Some, None, Ok, is_some, IfSome, refl, sym, ap, subst, ◌∙◌, inl, inr, ◌⊎◌, arith}
 use Rattle.std.specs.Int.{w16}
 use Rattle.std.proofs.lemmas.List.{drop_at, length-append, length-take, take-append-drop, take_at}
-use Rattle.fm_chip.specs.Port as fm_ports
-use Rattle.fm_chip.specs.PortSpelling as fm_spelling
-use Rattle.fm_chip.proofs.PortBytes as fm_laws
+use Rattle.fm_port.specs.Port as fm_ports
+use Rattle.fm_port.specs.PortSpelling as fm_spelling
+use Rattle.fm_port.proofs.PortBytes as fm_laws
 use Rattle.md_fields.specs.Fields.{AreSized, AreWithin, sizes, spelling}
 use Rattle.md_fields.specs.Items.{IsRight, Keeps}
 use Rattle.md_fields.specs.Places.{IsBytes, Stand, number_at}

@@ -18,7 +18,7 @@ use Rattle.bus_shared.specs.Video.{both_halves, port_at, port_word}
 use Rattle.bus_shared.specs.Fm.{is_fm}
 use Rattle.bus_shared.specs.Z80Space.{granted, space_byte, z80_address}
 use Rattle.bus_shared.proofs.Ports.{half-below, port-below, transfer-sound, word-cost}
-use Rattle.fm_chip.specs.Timers.{both_settled}
+use Rattle.fm_port.specs.Timers.{both_settled}
 use Rattle.bus_shared.proofs.Keeps.{status-below}
 use Rattle.z80_parcel.specs.Parcels.{Store, is_ram, ram_place}
 use Rattle.std.specs.Prelude.{is_some, slice_index, ◌==◌, ◌%◌}

@@ -11,8 +11,8 @@ use Rattle.md_word.specs.declared.main_bus.Request68.{Request68}
 use Rattle.md_word.specs.declared.main_bus.Request68.TheVariants.{Read8, Read16, Write8, Write16, Ack, Word}
 use Rattle.md_word.specs.declared.main_bus.Transfer.{Transfer}
 use Rattle.md_pads.specs.Recording.{pads_of}
-use Rattle.fm_chip.specs.Port as fm_ports
-use Rattle.fm_chip.specs.declared.write.FmWrite.{FmWrite}
+use Rattle.fm_port.specs.Port as fm_ports
+use Rattle.fm_port.specs.declared.write.FmWrite.{FmWrite}
 use Rattle.psg_sound.specs.Port.{left_from, taken_below}
 use Rattle.psg_sound.specs.declared.write.PsgWrite.{PsgWrite}
 use Rattle.vdp_ports.specs.Control.{level}

@@ -1,7 +1,7 @@
 -- What the chips share.
 use Rattle.std.specs.Prelude.{◌<◌, ◌≤◌, List, [], length, ℕ, Bool, true, false, Option, None, IfSome, All}
-use Rattle.fm_chip.specs.Port as fm_ports
-use Rattle.fm_chip.specs.declared.write.FmWrite.{FmWrite}
+use Rattle.fm_port.specs.Port as fm_ports
+use Rattle.fm_port.specs.declared.write.FmWrite.{FmWrite}
 use Rattle.md_pads.specs.Pad.{Latches}
 use Rattle.md_pads.specs.Recording.{Frame}
 use Rattle.psg_sound.specs.Port.{IsPort}

@@ -3,8 +3,8 @@
 use Rattle.std.specs.Prelude.{ℕ, ◌%◌, Bool, if◌then◌else◌}
 use Rattle.md_word.specs.Map.{is_within}
 use Rattle.md_word.specs.declared.key.Key.{Key}
-use Rattle.fm_chip.specs.Port.{left_from, reset, written}
-use Rattle.fm_chip.specs.Timers.{both_settled, status}
+use Rattle.fm_port.specs.Port.{left_from, reset, written}
+use Rattle.fm_port.specs.Timers.{both_settled, status}
 use Rattle.bus_shared.specs.Board.{Board}
 
 -- the FM chip, as the Z80 addresses it: its four addresses, repeated

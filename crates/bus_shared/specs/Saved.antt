@@ -3,7 +3,7 @@
 use Rattle.std.specs.Prelude.{ℕ, ◌==◌, nat_le, nat_lt, true, List, [], ◌∷◌, Option}
 use Rattle.md_fields.specs.Fields.{Field, byte, word, quad}
 use Rattle.md_word.specs.Coding.{flag_number}
-use Rattle.fm_chip.specs.Port.{Port}
+use Rattle.fm_port.specs.Port.{Port}
 use Rattle.md_pads.specs.Recording.{Frame}
 use Rattle.psg_sound.specs.declared.write.PsgWrite.{PsgWrite}
 use Rattle.vdp_ports.specs.Vdp.{Vdp}

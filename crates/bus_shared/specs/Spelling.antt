@@ -3,8 +3,8 @@
 -- The recording has no part in them. This project's profile.
 use Rattle.std.specs.Prelude.{◌≡◌, ◌⊎◌, ℕ, ◌+◌, ◌-◌, ◌<◌, ◌≤◌, min, Bool, true, false, List, ◌++◌, length, map, take, drop, Option, IfSome}
 use Rattle.std.specs.Int.{w16}
-use Rattle.fm_chip.specs.PortSpelling as fm_spelling
-use Rattle.fm_chip.specs.Timed.{AreTimed}
+use Rattle.fm_port.specs.PortSpelling as fm_spelling
+use Rattle.fm_port.specs.Timed.{AreTimed}
 use Rattle.md_fields.specs.Fields.{spelling}
 use Rattle.md_fields.specs.Items.{IsRefused, IsRight, Keeps}
 use Rattle.md_fields.specs.Places.{number_at}

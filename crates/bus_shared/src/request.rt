@@ -2,12 +2,12 @@ ghost use Rattle.std.specs.Prelude.{◌≡◌, List, Some, option_map};
 ghost use Rattle.bus_shared.specs.Accesses as accesses;
 ghost use Rattle.bus_shared.specs.Accesses.{answer_value};
 ghost use Rattle.md_word.specs.declared.main_bus.Answer68.{Answer68 as MainAnswer};
-ghost use Rattle.fm_chip.specs.declared.write.FmWrite.{FmWrite as WriteFm};
+ghost use Rattle.fm_port.specs.declared.write.FmWrite.{FmWrite as WriteFm};
 ghost use Rattle.psg_sound.specs.declared.write.PsgWrite.{PsgWrite as Write};
 ghost use Rattle.vdp_planes.specs.declared.view.LineView.{LineView as View};
 ghost use Rattle.z80_parcel.specs.Requests.{AnswerValue80, answer_value80};
 
-use fm_chip::FmList;
+use fm_port::FmList;
 use md_word::{Answer68, Answer80, Request68, Request80};
 use psg_sound::PsgList;
 use vdp_planes::{LineView, SpriteNote};

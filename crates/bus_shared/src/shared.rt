@@ -1,7 +1,7 @@
 ghost use Rattle.std.specs.Prelude.{◌≡◌, ◌^◌, ◌<◌, ◌≤◌, IfOk, None};
 ghost use Rattle.std.specs.Arc.{arc_value};
 ghost use Rattle.md_word.specs.Map.{area_of};
-ghost use Rattle.fm_chip.specs.Port as fm_ports;
+ghost use Rattle.fm_port.specs.Port as fm_ports;
 ghost use Rattle.psg_sound.specs.Port.{taken_below};
 ghost use Rattle.bus_shared.specs.Accesses.{carried, chip_of, answer_value};
 ghost use Rattle.bus_shared.specs.Accesses as accesses;
@@ -25,7 +25,7 @@ use crate::request::{Answer, Request};
 use crate::video::{
     OPEN_WORD, acknowledge, begin_line, half_at, power_on, read_port, show, take_word, write_port,
 };
-use fm_chip::{FmList, FmPort};
+use fm_port::{FmList, FmPort};
 use md_pads::{PadPort, Recording};
 use md_word::clock::{FRAME, LINE};
 use md_word::{

@@ -1,5 +1,5 @@
 ghost use Rattle.std.specs.Prelude.{◌≡◌, ◌≢◌, ◌⊎◌, ◌^◌, ◌+◌, ◌≤◌, ◌++◌, ℕ, length, drop, take, is_some, map, option_map, vec_len, vec_capacity, IfOk, IfSome, IsErrOf, Ok, Err, Some};
-ghost use Rattle.fm_chip.specs.PortSpelling as fm_spelling;
+ghost use Rattle.fm_port.specs.PortSpelling as fm_spelling;
 ghost use Rattle.md_word.specs.Coding.{flag_number};
 ghost use Rattle.md_fields.specs.Items.{IsRight, Keeps};
 ghost use Rattle.psg_sound.specs.PortSpelling as psg_spelling;
@@ -11,7 +11,7 @@ ghost use Rattle.bus_shared.specs.Spelling.{GoesWrongAt, IsReady, PortsGoWrongAt
 
 use crate::saved_lines::{SavedLines, port_with};
 use crate::shared::Shared;
-use fm_chip::FmPort;
+use fm_port::FmPort;
 use md_fields::{Field, put, u16_at};
 use md_pads::Recording;
 use md_word::{NoMemory, Parcel, Unspell};

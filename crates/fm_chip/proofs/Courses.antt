@@ -1,6 +1,6 @@
 -- A batch on its way from sample to sample.
 use Rattle.std.proofs.Common.{◌≡◌, ◌∙◌, ap, ℕ, ◌+◌, List, add-one, ℤ}
-use Rattle.fm_chip.specs.declared.write.FmWrite.{FmWrite}
+use Rattle.fm_port.specs.declared.write.FmWrite.{FmWrite}
 use Rattle.fm_chip.specs.Synth.{Synth, sampled, sides}
 use Rattle.fm_chip.specs.Batches.{Course, written_all, due, course, sample, after_batch}
 

@@ -7,9 +7,9 @@ use Rattle.sound_writes.proofs.Courses.{finished-made_below}
 use Rattle.sound_writes.proofs.Filters.{filter-none, filter-filter, filter-later, stamped-before, stamped-behind}
 use Rattle.sound_writes.proofs.Orders.{IsInOrder-append, IsInOrder-filter}
 use Rattle.sound_writes.proofs.Splits.{made_below-in_order}
-use Rattle.fm_chip.specs.declared.write.FmWrite.{FmWrite}
-use Rattle.fm_chip.specs.Stamp.{stamp_of}
-use Rattle.fm_chip.specs.Port.{IsInOrder}
+use Rattle.fm_port.specs.declared.write.FmWrite.{FmWrite}
+use Rattle.fm_port.specs.Stamp.{stamp_of}
+use Rattle.fm_port.specs.Port.{IsInOrder}
 use Rattle.fm_chip.specs.Synth.{Synth, written, sampled, sides}
 use Rattle.fm_chip.specs.Batches.{Course, written_all, made_below, due, course, sample, samples, after_batch}
 use Rattle.fm_chip.specs.History.{stamped, chip_before, sides_at, Continues, sixteen, IsNextBatch}

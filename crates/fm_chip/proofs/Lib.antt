@@ -2,11 +2,7 @@ pub mod Agreeing
 pub mod Courses
 pub mod Histories
 pub mod Mixed
-pub mod Overflows
-pub mod PortBytes
-pub mod Ports
 pub mod Quiet
 pub mod Shaped
 pub mod SynthBytes
 pub mod SynthKept
-pub mod Timing

@@ -2,9 +2,9 @@
 -- cycles of the master clock.
 use Rattle.std.specs.Prelude.{ℕ, zero, suc, ◌+◌, ◌*◌, ℤ, List, map}
 use Rattle.std.specs.List.{range_with_len}
-use Rattle.fm_chip.specs.declared.write.FmWrite.{FmWrite}
+use Rattle.fm_port.specs.declared.write.FmWrite.{FmWrite}
 use Rattle.sound_writes.specs.Course as course_of
-use Rattle.fm_chip.specs.Stamp.{stamp_of}
+use Rattle.fm_port.specs.Stamp.{stamp_of}
 use Rattle.fm_chip.specs.Synth.{Synth, written, sides, sampled}
 
 -- a chip, and the writes that are still to come

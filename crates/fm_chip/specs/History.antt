@@ -1,12 +1,12 @@
 -- The samples over a whole history of writes from power-on, by their stamps alone.
 use Rattle.std.specs.Prelude.{◌≡◌, ℕ, zero, suc, ◌+◌, ◌*◌, ℤ, List, ◌++◌, map}
 use Rattle.std.specs.List.{range_with_len}
-use Rattle.fm_chip.specs.declared.write.FmWrite.{FmWrite}
+use Rattle.fm_port.specs.declared.write.FmWrite.{FmWrite}
 use Rattle.fm_chip.specs.Synth.{Synth, at_power_on, sampled, sides}
 use Rattle.sound_writes.specs.Order as order
-use Rattle.fm_chip.specs.Stamp.{stamp_of}
+use Rattle.fm_port.specs.Stamp.{stamp_of}
 use Rattle.fm_chip.specs.Batches.{written_all}
-use Rattle.fm_chip.specs.Port.{IsInOrder}
+use Rattle.fm_port.specs.Port.{IsInOrder}
 
 -- the writes stamped from one cycle on and below another
 abbrev pub stamped : ℕ → ℕ → List FmWrite → List FmWrite

@@ -6,13 +6,8 @@ pub mod Keys
 pub mod Latches
 pub mod Lfo
 pub mod Operators
-pub mod Port
-pub mod PortSpelling
 pub mod Registers
 pub mod Shapes
-pub mod Stamp
 pub mod Steps
 pub mod Synth
 pub mod SynthSpelling
-pub mod Timed
-pub mod Timers

@@ -8,7 +8,7 @@ use Rattle.fm_chip.specs.declared.lfo.Lfo.{Lfo}
 use Rattle.fm_chip.specs.declared.operator.Operator.{Operator}
 use Rattle.fm_chip.specs.declared.channels.Channel.{Channel}
 use Rattle.fm_chip.specs.declared.channels.Moment.{Moment}
-use Rattle.fm_chip.specs.declared.write.FmWrite.{FmWrite}
+use Rattle.fm_port.specs.declared.write.FmWrite.{FmWrite}
 use Rattle.fm_chip.specs.Registers.{at, of_channel}
 use Rattle.fm_chip.specs.Lfo.{stepped}
 use Rattle.fm_chip.specs.Latches.{taken_latch, own_latch}

@@ -1,4 +1,4 @@
-//! The FM chip: the port that takes its writes and has its timers, and the synthesis of its samples.
+//! The synthesis of the FM chip: its samples, from the writes that its port took.
 #![tactic(auto)]
 
 mod channels;
@@ -10,23 +10,14 @@ mod latch;
 mod lfo;
 mod mixing;
 mod operator;
-mod port;
-mod port_spelling;
 mod registers;
 mod saved_operator;
-mod saved_port;
 mod saved_synth;
-mod saved_write;
 mod shapes;
 mod steps;
 mod synth;
 mod synth_spelling;
-mod timer;
-mod timers;
-mod write;
 
 pub use channels::Channel;
 pub use operator::Operator;
-pub use port::FmPort;
 pub use synth::FmSynth;
-pub use write::{FmList, FmWrite};

@@ -3,7 +3,7 @@ ghost use Rattle.fm_chip.specs.Synth as meaning;
 ghost use Rattle.fm_chip.specs.Synth.{IsSides, IsSynth, at_power_on, written, sides, sampled};
 ghost use Rattle.fm_chip.specs.Batches.{after_batch, made_below, samples, written_all};
 ghost use Rattle.fm_chip.specs.History.{Continues, IsNextBatch, chip_before};
-ghost use Rattle.fm_chip.specs.declared.write.FmWrite.{FmWrite as Write};
+ghost use Rattle.fm_port.specs.declared.write.FmWrite.{FmWrite as Write};
 
 use crate::channels::{Channel, Moment};
 use crate::kept::Kept;
@@ -13,8 +13,8 @@ use crate::lfo::Lfo;
 use crate::mixing::sample_all;
 use crate::operator::Operator;
 use crate::registers::Registers;
-use crate::write::{FmList, FmWrite, RESET};
 use fm_env::RELEASE;
+use fm_port::{FmList, FmWrite, RESET};
 use std::marker::Model;
 
 /// Master cycles from one sample to the next.

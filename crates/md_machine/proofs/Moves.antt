@@ -6,7 +6,7 @@ use Rattle.chip_core.specs.Machines.{IsValid, Machine, entries, is_sample, key_o
 use Rattle.m68k_chip.specs.Events.{request_of}
 use Rattle.m68k_chip.specs.States.{next_of}
 use Rattle.psg_sound.specs.Port.{taken_below}
-use Rattle.fm_chip.specs.Port as fm_ports
+use Rattle.fm_port.specs.Port as fm_ports
 use Rattle.bus_shared.specs.Accesses.{level_of, line_board, main_told, sub_access}
 use Rattle.bus_shared.specs.Entries.{batch_entry, line_entry}
 use Rattle.md_machine.specs.Console.{Console, fm_moved, key_in, line_moved, main_moved, moved, sub_moved, psg_moved, told}

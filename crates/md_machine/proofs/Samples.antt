@@ -7,7 +7,7 @@ use Rattle.std.proofs.lemmas.List.{append-nil}
 use Rattle.chip_core.specs.Machines as machines
 use Rattle.chip_core.specs.Machines.{IsValid, Machine, is_sample, made, move, put, run}
 use Rattle.fm_chip.specs.Batches as fm_batches
-use Rattle.fm_chip.specs.Port as fm_ports
+use Rattle.fm_port.specs.Port as fm_ports
 use Rattle.psg_sound.specs.Batches.{samples}
 use Rattle.psg_sound.specs.Port.{taken_below}
 use Rattle.psg_sound.specs.SynthLaws.{length-samples}

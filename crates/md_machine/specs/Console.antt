@@ -13,9 +13,9 @@ use Rattle.z80_chip.specs.States as states80
 use Rattle.z80_chip.specs.Validity.{Chip80Value}
 use Rattle.z80_chip.specs.States.{next_of as sub_next_of}
 use Rattle.fm_chip.specs.Batches as fm_batches
-use Rattle.fm_chip.specs.Port as fm_ports
+use Rattle.fm_port.specs.Port as fm_ports
 use Rattle.fm_chip.specs.Synth as fm_synths
-use Rattle.fm_chip.specs.declared.write.FmWrite.{FmWrite}
+use Rattle.fm_port.specs.declared.write.FmWrite.{FmWrite}
 use Rattle.psg_sound.specs.Batches.{after_batch, samples}
 use Rattle.psg_sound.specs.Port.{taken_below}
 use Rattle.psg_sound.specs.Synth.{Synth, at_power_on}

@@ -5,14 +5,14 @@ use Rattle.std.proofs.Math.Bridge.{le_prop}
 use Rattle.md_word.specs.Coding.{Way, number, flag, integer, both, many, by_way}
 use Rattle.md_word.specs.declared.key.Key.{Key}
 use Rattle.chip_core.specs.Codes.{key_way}
-use Rattle.fm_chip.specs.Port.{Port}
+use Rattle.fm_port.specs.Port.{Port}
 use Rattle.fm_chip.specs.Synth.{Synth}
 use Rattle.fm_chip.specs.declared.channels.Channel.{Channel}
 use Rattle.fm_chip.specs.declared.lfo.Lfo.{Lfo}
 use Rattle.fm_chip.specs.declared.operator.Operator.{Operator}
-use Rattle.fm_chip.specs.declared.timer.Timer.{Timer}
-use Rattle.fm_chip.specs.declared.timers.Timers.{Timers}
-use Rattle.fm_chip.specs.declared.write.FmWrite.{FmWrite}
+use Rattle.fm_port.specs.declared.timer.Timer.{Timer}
+use Rattle.fm_port.specs.declared.timers.Timers.{Timers}
+use Rattle.fm_port.specs.declared.write.FmWrite.{FmWrite}
 use Rattle.md_machine.specs.Parts.{FmValue}
 
 -- the way of an operator

@@ -7,7 +7,7 @@ use Rattle.md_machine.specs.declared.main_chip.MainChip.{MainChip}
 use Rattle.vdp_planes.specs.declared.view.LineView.{LineView}
 use Rattle.vdp_chip.specs.Drawing.{Drawing, IsDrawing}
 use Rattle.fm_chip.specs.Synth as fm_synths
-use Rattle.fm_chip.specs.declared.write.FmWrite.{FmWrite}
+use Rattle.fm_port.specs.declared.write.FmWrite.{FmWrite}
 use Rattle.psg_sound.specs.Synth.{Synth, IsSynth}
 use Rattle.psg_sound.specs.declared.write.PsgWrite.{PsgWrite}
 

@@ -13,7 +13,7 @@ use Rattle.z80_parcel.specs.Requests.{AnswerValue80, Nothing}
 use Rattle.md_machine.specs.Pins.{level_in, pins_of, sub_in}
 use Rattle.md_machine.specs.declared.pins.Pins.{Pins}
 use Rattle.fm_chip.specs.Batches as fm_batches
-use Rattle.fm_chip.specs.Port as fm_ports
+use Rattle.fm_port.specs.Port as fm_ports
 use Rattle.bus_shared.specs.Fm.{fm_board}
 use Rattle.psg_sound.specs.Batches.{after_batch, samples}
 use Rattle.psg_sound.specs.Port.{taken_below}

@@ -10,11 +10,11 @@ use Rattle.md_fields.proofs.Items.{all_hold}
 use Rattle.sound_writes.specs.Entries.{AreFit, entries_bytes}
 use Rattle.sound_writes.specs.Keys.{are_kept}
 use Rattle.sound_writes.proofs.Entries as entries
-use Rattle.fm_chip.specs.Port.{Port}
-use Rattle.fm_chip.specs.PortSpelling as fm
-use Rattle.fm_chip.specs.Timed.{AreTimed, IsTimed}
-use Rattle.fm_chip.specs.declared.saved_write.SavedWrite.{SavedWrite}
-use Rattle.fm_chip.specs.declared.timer.Timer.{Timer}
+use Rattle.fm_port.specs.Port.{Port}
+use Rattle.fm_port.specs.PortSpelling as fm
+use Rattle.fm_port.specs.Timed.{AreTimed, IsTimed}
+use Rattle.fm_port.specs.declared.saved_write.SavedWrite.{SavedWrite}
+use Rattle.fm_port.specs.declared.timer.Timer.{Timer}
 use Rattle.psg_sound.specs.PortSpelling as psg
 use Rattle.psg_sound.specs.declared.write.PsgWrite.{PsgWrite}
 

@@ -21,9 +21,9 @@ use Rattle.fm_chip.specs.Synth as fm_synths
 use Rattle.fm_chip.specs.SynthSpelling as fm
 use Rattle.psg_sound.specs.Synth as psg_synths
 use Rattle.psg_sound.specs.SynthSpelling as psg
-use Rattle.fm_chip.specs.Port.{Port}
-use Rattle.fm_chip.specs.PortSpelling as fm_port
-use Rattle.fm_chip.proofs.PortBytes.{spelled_once as fm_once}
+use Rattle.fm_port.specs.Port.{Port}
+use Rattle.fm_port.specs.PortSpelling as fm_port
+use Rattle.fm_port.proofs.PortBytes.{spelled_once as fm_once}
 use Rattle.psg_sound.specs.PortSpelling as psg_port
 use Rattle.psg_sound.specs.declared.write.PsgWrite.{PsgWrite}
 use Rattle.psg_sound.proofs.PortBytes.{spelled_once as psg_once}

@@ -23,11 +23,11 @@ use Rattle.vdp_chip.specs.Drawing.{Drawing}
 use Rattle.vdp_chip.specs.Saved as saved_drawing
 use Rattle.vdp_chip.specs.Spelling as drawing
 use Rattle.vdp_chip.proofs.SavedLaws as drawing_laws
-use Rattle.fm_chip.specs.Port.{Port}
-use Rattle.fm_chip.specs.PortSpelling as fm_port
+use Rattle.fm_port.specs.Port.{Port}
+use Rattle.fm_port.specs.PortSpelling as fm_port
 use Rattle.fm_chip.specs.Synth as fm_synths
 use Rattle.fm_chip.specs.SynthSpelling as fm
-use Rattle.fm_chip.proofs.PortBytes as fm_port_laws
+use Rattle.fm_port.proofs.PortBytes as fm_port_laws
 use Rattle.fm_chip.proofs.SynthBytes as fm_laws
 use Rattle.psg_sound.specs.PortSpelling as psg_port
 use Rattle.psg_sound.specs.Synth as psg_synths

@@ -9,9 +9,9 @@ use Rattle.z80_chip.specs.Spelling as sub
 use Rattle.z80_parcel.specs.Parcels.{Store}
 use Rattle.vdp_ports.specs.Spelling.{vdp_bytes}
 use Rattle.vdp_chip.specs.Spelling as drawing
-use Rattle.fm_chip.specs.PortSpelling as fm_port
+use Rattle.fm_port.specs.PortSpelling as fm_port
 use Rattle.fm_chip.specs.SynthSpelling as fm
-use Rattle.fm_chip.proofs.PortBytes.{spelled_once as fm_once}
+use Rattle.fm_port.proofs.PortBytes.{spelled_once as fm_once}
 use Rattle.psg_sound.specs.PortSpelling as psg_port
 use Rattle.psg_sound.specs.SynthSpelling as psg
 use Rattle.psg_sound.proofs.PortBytes.{spelled_once as psg_once}

@@ -16,10 +16,10 @@ use Rattle.vdp_ports.specs.Spelling.{vdp_bytes}
 use Rattle.vdp_chip.specs.Drawing.{Drawing}
 use Rattle.vdp_chip.specs.Saved as saved_drawing
 use Rattle.vdp_chip.specs.Spelling as drawing
-use Rattle.fm_chip.specs.Port.{Port}
-use Rattle.fm_chip.specs.PortSpelling as fm_port
+use Rattle.fm_port.specs.Port.{Port}
+use Rattle.fm_port.specs.PortSpelling as fm_port
 use Rattle.fm_chip.specs.SynthSpelling as fm
-use Rattle.fm_chip.proofs.PortBytes as fm_port_laws
+use Rattle.fm_port.proofs.PortBytes as fm_port_laws
 use Rattle.psg_sound.specs.PortSpelling as psg_port
 use Rattle.psg_sound.specs.SynthSpelling as psg
 use Rattle.psg_sound.specs.declared.write.PsgWrite.{PsgWrite}

@@ -10,8 +10,8 @@ use Rattle.z80_chip.specs.Validity.{Chip80Value}
 use Rattle.z80_chip.specs.Spelling as sub
 use Rattle.vdp_chip.specs.Drawing.{Drawing}
 use Rattle.vdp_chip.specs.Spelling as drawing
-use Rattle.fm_chip.specs.Port.{Port}
-use Rattle.fm_chip.specs.PortSpelling as fm_port
+use Rattle.fm_port.specs.Port.{Port}
+use Rattle.fm_port.specs.PortSpelling as fm_port
 use Rattle.fm_chip.specs.Synth as fm_synths
 use Rattle.fm_chip.specs.SynthSpelling as fm
 use Rattle.psg_sound.specs.PortSpelling as psg_port

@@ -12,8 +12,8 @@ use Rattle.z80_chip.specs.States.{State80}
 use Rattle.z80_parcel.specs.Parcels.{Store}
 use Rattle.vdp_ports.specs.Spelling.{vdp_bytes}
 use Rattle.vdp_chip.specs.Spelling as drawing
-use Rattle.fm_chip.specs.Port.{Port}
-use Rattle.fm_chip.specs.PortSpelling as fm_port
+use Rattle.fm_port.specs.Port.{Port}
+use Rattle.fm_port.specs.PortSpelling as fm_port
 use Rattle.fm_chip.specs.SynthSpelling as fm
 use Rattle.psg_sound.specs.PortSpelling as psg_port
 use Rattle.psg_sound.specs.SynthSpelling as psg

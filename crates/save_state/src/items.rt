@@ -14,7 +14,8 @@ use crate::layout::{
     shared_parts, sub_parts,
 };
 use bus_shared::Shared;
-use fm_chip::{FmPort, FmSynth};
+use fm_chip::FmSynth;
+use fm_port::FmPort;
 use m68k_chip::Chip68;
 use md_fields::{u8_at, u64_at};
 use md_pads::Recording;

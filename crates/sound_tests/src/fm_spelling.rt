@@ -1,7 +1,8 @@
 // The bytes of a saved state that keep the FM chip, at the cycle 20,000, whose last batch is at 16,128
 // (3F00h). The places of its fields stand in spelling.rt.
 use crate::spelling::{AT, Chip, FM, FM_PORT, Piece, Row, hold, state};
-use fm_chip::{FmList, FmPort, FmSynth, FmWrite};
+use fm_chip::FmSynth;
+use fm_port::{FmList, FmPort, FmWrite};
 use md_word::Key;
 use std::alloc::Global;
 use std::test::Fail;

@@ -1,4 +1,5 @@
-use fm_chip::{FmList, FmPort, FmSynth};
+use fm_chip::FmSynth;
+use fm_port::{FmList, FmPort};
 use md_word::Key;
 use psg_sound::{PsgList, PsgPort, PsgSynth, mix};
 

@@ -1,4 +1,4 @@
-use fm_chip::{FmList, FmPort};
+use fm_port::{FmList, FmPort};
 use md_word::Key;
 
 fn write(port: &mut FmPort, cycle: u32, address: u8, value: u8) {

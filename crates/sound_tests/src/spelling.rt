@@ -7,7 +7,8 @@
 // 26, writes of twelve bytes from 28. Its synthesis: registers 0, latches 512, the oscillator's place 521
 // and count 522, the counter of the envelopes 523, 24 operators of eight bytes from 525 (phase, attenuation,
 // state and key at 0, 4, 6 and 7), six pairs of last outputs of four bytes from 717.
-use fm_chip::{FmPort, FmSynth};
+use fm_chip::FmSynth;
+use fm_port::FmPort;
 use md_word::{Key, Unspell};
 use psg_sound::{PsgList, PsgPort, PsgSynth, PsgWrite};
 use std::alloc::Global;

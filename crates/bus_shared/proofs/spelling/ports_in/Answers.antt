@@ -1,7 +1,7 @@
 use Rattle.std.proofs.Common.{◌∙◌, ℕ, List, take, drop, Err, ap, sym, subst, inl, inr, arith}
 use Rattle.md_word.specs.declared.unspell.Unspell.TheVariants.{Rule}
 use Rattle.md_fields.proofs.Items.{refused_within}
-use Rattle.fm_chip.specs.PortSpelling.{PortGoesWrongAt}
+use Rattle.fm_port.specs.PortSpelling.{PortGoesWrongAt}
 use Rattle.psg_sound.specs.PortSpelling as psg_spelling
 use Rattle.bus_shared.specs.Saved.{lines_fields}
 use Rattle.bus_shared.specs.Spelling.{LinesGoWrongAt}

@@ -5,7 +5,7 @@ use Rattle.std.specs.Arc.{arc_value}
 use Rattle.md_word.specs.declared.unspell.Unspell.TheVariants.{Rule}
 use Rattle.md_fields.specs.Items.{Keeps}
 use Rattle.md_fields.proofs.Refusals.{no_rule}
-use Rattle.fm_chip.specs.PortSpelling as fm_spelling
+use Rattle.fm_port.specs.PortSpelling as fm_spelling
 use Rattle.psg_sound.specs.PortSpelling as psg_spelling
 use Rattle.vdp_ports.specs.Spelling as vdp_spelling
 use Rattle.z80_parcel.specs.Parcels.{store_of}

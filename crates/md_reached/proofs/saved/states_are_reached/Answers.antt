@@ -2,7 +2,7 @@ use Rattle.m68k_chip.specs.Spelling as main
 use Rattle.z80_chip.specs.Spelling as sub
 use Rattle.vdp_ports.specs.Spelling as vdps
 use Rattle.vdp_chip.specs.Spelling as drawings
-use Rattle.fm_chip.specs.PortSpelling as fm_port
+use Rattle.fm_port.specs.PortSpelling as fm_port
 use Rattle.psg_sound.specs.PortSpelling as psg_port
 use Rattle.bus_shared.specs.Spelling as boards
 use Rattle.md_machine.specs.Console.{drawing_in}

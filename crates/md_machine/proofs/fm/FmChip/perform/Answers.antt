@@ -2,8 +2,8 @@ use Rattle.std.proofs.Common.{◌≤◌, List, [], length, Option, ap, sym, subs
 use Rattle.std.specs.Prelude.{unwrap_or}
 use Rattle.bus_shared.proofs.Keeps.{fm_taken-few}
 use Rattle.bus_shared.specs.Accesses.{carried}
-use Rattle.fm_chip.specs.Port.{taken_below}
-use Rattle.fm_chip.specs.declared.write.FmWrite.{FmWrite}
+use Rattle.fm_port.specs.Port.{taken_below}
+use Rattle.fm_port.specs.declared.write.FmWrite.{FmWrite}
 use Rattle.md_machine.proofs.Handed.{some_by}
 use Rattle.md_machine.proofs.fm.FmChip.perform.Goals as goal
 

@@ -1,0 +1,4 @@
+pub mod Overflows
+pub mod PortBytes
+pub mod Ports
+pub mod Timing

@@ -1,0 +1,277 @@
+ghost use Rattle.std.specs.Prelude.{◌≡◌, ◌≢◌, ◌↔◌, ◌+◌, ◌*◌, ◌^◌, ◌<◌, ◌≤◌, ◌++◌, ℕ, true, List, length, map, is_some, vec_len, vec_capacity, IfErr, IfOk, IfSome, IsErrOf, Ok, Err};
+ghost use Rattle.std.specs.List.{list_all};
+ghost use Rattle.md_fields.specs.Fields.{AreWithin, spelling};
+ghost use Rattle.sound_writes.specs.Entries.{AreFit, entries_bytes};
+ghost use Rattle.sound_writes.specs.Keys.{are_kept};
+ghost use Rattle.fm_port.specs.Port.{Port};
+ghost use Rattle.fm_port.specs.Timed.{AreTimed};
+ghost use Rattle.fm_port.specs.PortSpelling as meaning;
+ghost use Rattle.fm_port.specs.PortSpelling.{PortGoesWrongAt, SpellsPort, port_bytes, settled_port};
+ghost use Rattle.fm_port.specs.declared.write.FmWrite.{FmWrite as Write};
+
+use crate::port::FmPort;
+use crate::saved_port::SavedPort;
+use crate::saved_write::{SavedWrite, WRITE};
+use crate::timers::Timers;
+use crate::write::{FmList, FmWrite};
+use arrayvec::ArrayVec;
+use md_fields::{are_zeros, first_wrong, put, u16_at};
+use md_word::Unspell;
+use sound_writes::{Earliest, put_count, put_zeros};
+use std::alloc::Global;
+
+/// How many writes a port holds, at most.
+const MOST: usize = 1_024;
+
+/// Where the number of the writes stands, and the writes, and how many bytes keep a port.
+const COUNT: usize = 26;
+
+const ENTRIES: usize = 28;
+
+const LENGTH: usize = 12_316;
+
+impl FmPort {
+    /// Appends the bytes of a saved state at a cycle, of at most 2^50, that keep this port, 12,316: the
+    /// overflows of its timers below the cycle are made there. There is room for them. Where its rules
+    /// hold at the cycle, the bytes keep the port that is settled there.
+    pub fn spell(&self, at: u64, into: &mut Vec<u8>)
+        requires cycle { at ≤ 2 ^ 50 }
+        requires room { vec_len into.old + 12316 ≤ vec_capacity into.old }
+        ensures bytes { into.new.items ≡ into.old.items ++ port_bytes (settled_port at self.now) }
+        ensures length { vec_len into.new ≡ vec_len into.old + 12316 }
+        ensures room { vec_capacity into.old ≤ vec_capacity into.new }
+        ensures kept { AreTimed at self.now.timers → meaning.are_right at (map meaning.saved_write self.now.writes) ≡ true
+            → SpellsPort at (port_bytes (settled_port at self.now)) (settled_port at self.now) }
+    {
+        self.is_read_again(at);
+        let mut timers = self.timers;
+        timers.settle(at);
+        let count = self.writes.len();
+        let numbers = numbers_of(self.first, self.second, &timers);
+        put(&numbers.fields(at), into);
+        put_count(count as u16, into);
+        put_writes(self.writes.as_slice(), into);
+        put_zeros(WRITE * (MOST - count), into);
+    }
+
+    /// Tells that the bytes of this port, settled to a cycle of at most 2^50, are read again where its rules
+    /// hold there.
+    pub fn is_read_again(&self, at: u64)
+        requires { at ≤ 2 ^ 50 }
+        ensures { AreTimed at self.now.timers → meaning.are_right at (map meaning.saved_write self.now.writes) ≡ true
+            → SpellsPort at (port_bytes (settled_port at self.now)) (settled_port at self.now) }
+    {
+        let mut timers = self.timers;
+        timers.settle(at);
+        let numbers = numbers_of(self.first, self.second, &timers);
+        known_numbers(&numbers);
+        known_writes(self.writes.as_slice());
+    }
+
+    /// The port that the bytes of a saved state at a cycle, of at most 2^50, keep. It takes no memory.
+    /// Bytes that are not 12,316 are refused at the lesser of their number and 12,316, others at the place
+    /// of the first field whose rule fails: a timer's run is its bit of register 27, and its next overflow
+    /// stands less than the longest period after the cycle, or is 0 where it stands still (both are
+    /// refused at the run); flags are 0 or 1. Count and writes are refused at 26, where they are more than 1,024, where one is for no
+    /// port, or a reset that is not the 68000's or has a register or a value, where their keys are none
+    /// of the two processors', do not rise, stand below the last batch before the cycle or not below the
+    /// cycle, or stand less than 28 cycles apart for the 68000 or 45 for the Z80, and where an unused
+    /// place is not 0.
+    pub fn unspell(_alloc: Global, bytes: &[u8], at: u64) -> Result<FmPort, Unspell>
+        requires { at ≤ 2 ^ 50 }
+        ensures found { IfOk result (λ port. SpellsPort at bytes.now port) }
+        ensures only { (port : Port) → SpellsPort at bytes.now port → result ≡ Ok port }
+        ensures rule { (place : ℕ) → IsErrOf result (Unspell.Rule place) ↔ PortGoesWrongAt at bytes.now place }
+        ensures memory { result ≢ Err Unspell.NoMemory }
+    {
+        match parts_of(bytes, at) {
+            Ok((saved, writes)) => Ok(FmPort {
+                first: saved.first,
+                second: saved.second,
+                timers: saved.timers(),
+                writes,
+            }),
+            Err(place) => Err(Unspell::Rule {
+                place: place as u64,
+            }),
+        }
+    }
+}
+
+/// Latches and timers, and the writes, that the bytes keep, where the rules hold; else the place of
+/// the refusal.
+fn parts_of(bytes: &[u8], at: u64) -> Result<(SavedPort, FmList), usize>
+    ensures found { IfOk result (λ parts. SpellsPort at bytes.now (meaning.port_with parts.0 parts.1.items)) }
+    ensures refused { IfErr result (λ place. PortGoesWrongAt at bytes.now place) }
+{
+    if bytes.len() != LENGTH {
+        return Err(bytes.len().min(LENGTH));
+    }
+    let numbers = SavedPort::read(bytes);
+    if let Some(place) = first_wrong(&numbers.fields(at)) {
+        return Err(place);
+    }
+    let count = usize::from(u16_at(bytes, COUNT));
+    match writes_of(&bytes[ENTRIES..LENGTH], count, at) {
+        Some(writes) => Ok((numbers, writes)),
+        None => Err(COUNT),
+    }
+}
+
+/// The first so many writes, where their rule holds.
+fn writes_of(entries: &[u8], count: usize, at: u64) -> Option<FmList>
+    requires { length entries.now ≡ 12288 }
+    ensures told { is_some result ≡ meaning.are_writes at count entries.now }
+    ensures writes { IfSome result (λ writes. writes.items ≡ meaning.writes_from count entries.now) }
+{
+    if count > MOST {
+        return None;
+    }
+    let saved = saved_writes(entries, count);
+    if !are_right(saved.as_slice(), at) || !are_zeros(&entries[WRITE * count..WRITE * MOST]) {
+        return None;
+    }
+    Some(list_of(saved.as_slice()))
+}
+
+/// The numbers of the first so many writes, at most 1,024.
+fn saved_writes(entries: &[u8], count: usize) -> ArrayVec<SavedWrite, 1024>
+    requires most { count ≤ 1024 }
+    requires there { length entries.now ≡ 12288 }
+    ensures { result.items ≡ meaning.writes_at count entries.now }
+{
+    let mut writes = ArrayVec::new();
+    for index in 0..count {
+        writes.push(SavedWrite::read(entries, WRITE * index));
+    }
+    writes
+}
+
+/// Whether these can be writes, with keys that a port holds at a cycle.
+fn are_right(writes: &[SavedWrite], at: u64) -> bool
+    ensures { result ≡ meaning.are_right at writes.now }
+{
+    are_writes(writes) && are_kept(writes, at)
+}
+
+fn are_writes(writes: &[SavedWrite]) -> bool
+    ensures { result ≡ list_all meaning.is_write writes.now }
+{
+    writes.iter().all(SavedWrite::is_write)
+}
+
+fn are_kept(writes: &[SavedWrite], at: u64) -> bool
+    ensures { result ≡ are_kept at (map meaning.key_of writes.now) }
+{
+    let mut earliest = Earliest::behind_batch(at);
+    let mut rest = writes;
+    while let [write, after @ ..] = rest {
+        let key = write.key();
+        if !earliest.fits(&key, at) {
+            return false;
+        }
+        earliest = earliest.after(&key);
+        rest = after;
+    }
+    true
+}
+
+/// The writes of which these numbers are kept.
+fn list_of(writes: &[SavedWrite]) -> FmList
+    requires { length writes.now ≤ 1024 }
+    ensures { result.items ≡ map meaning.write_from writes.now }
+{
+    let mut list = FmList::new();
+    for write in writes {
+        list.push(write.write());
+    }
+    list
+}
+
+/// What is kept of latches and timers.
+fn numbers_of(first: u8, second: u8, timers: &Timers) -> SavedPort
+    ensures { (writes : List Write) → result ≡ meaning.saved_numbers (record { first = first; second = second; timers = timers.now; writes = writes }) }
+{
+    SavedPort {
+        first,
+        second,
+        high_a: timers.high_a,
+        low_a: timers.low_a,
+        number_b: timers.number_b,
+        control: timers.control,
+        run_a: u8::from(timers.a.run),
+        next_a: timers.a.next,
+        run_b: u8::from(timers.b.run),
+        next_b: timers.b.next,
+        flag_a: u8::from(timers.a.flag),
+        flag_b: u8::from(timers.b.flag),
+    }
+}
+
+/// Each number that is more than a bit fits its field.
+fn known_numbers(numbers: &SavedPort)
+    ensures first { numbers.now.first < 2 ^ 8 }
+    ensures second { numbers.now.second < 2 ^ 8 }
+    ensures high_a { numbers.now.high_a < 2 ^ 8 }
+    ensures low_a { numbers.now.low_a < 2 ^ 8 }
+    ensures number_b { numbers.now.number_b < 2 ^ 8 }
+    ensures control { numbers.now.control < 2 ^ 8 }
+    ensures next_a { numbers.now.next_a < 2 ^ 64 }
+    ensures next_b { numbers.now.next_b < 2 ^ 64 }
+{
+    let _first = numbers.first;
+    let _second = numbers.second;
+    let _high_a = numbers.high_a;
+    let _low_a = numbers.low_a;
+    let _number_b = numbers.number_b;
+    let _control = numbers.control;
+    let _next_a = numbers.next_a;
+    let _next_b = numbers.next_b;
+}
+
+/// Each number of a write fits its field.
+#[tactic(auto, unfolding(md_fields::specs::Fields::AreWithin))]
+fn known_write(write: &FmWrite)
+    ensures { AreWithin (meaning.write_fields (meaning.saved_write write.now)) }
+{
+    let _cycle = write.key.cycle;
+    let _chip = write.key.chip;
+    let _port = write.port;
+    let _register = write.register;
+    let _value = write.value;
+}
+
+/// Each number of each write fits its field.
+fn known_writes(writes: &[FmWrite])
+    ensures { AreFit meaning.write_fields (map meaning.saved_write writes.now) }
+{
+    let mut rest = writes;
+    while let [write, after @ ..] = rest {
+        known_write(write);
+        rest = after;
+    }
+}
+
+#[tactic(auto, unfolding(md_fields::specs::Fields::spelling))]
+fn put_write(write: &FmWrite, into: &mut Vec<u8>)
+    requires { vec_len into.old + 12 ≤ vec_capacity into.old }
+    ensures bytes { into.new.items ≡ into.old.items ++ spelling (meaning.write_fields (meaning.saved_write write.now)) }
+    ensures length { vec_len into.new ≡ vec_len into.old + 12 }
+    ensures room { vec_capacity into.old ≤ vec_capacity into.new }
+{
+    put(&SavedWrite::of(write).fields(), into);
+}
+
+/// Appends the bytes of writes.
+fn put_writes(writes: &[FmWrite], into: &mut Vec<u8>)
+    requires { vec_len into.old + 12 * length writes.now ≤ vec_capacity into.old }
+    ensures bytes { into.new.items ≡ into.old.items ++ entries_bytes meaning.write_fields (map meaning.saved_write writes.now) }
+    ensures length { vec_len into.new ≡ vec_len into.old + 12 * length writes.now }
+    ensures room { vec_capacity into.old ≤ vec_capacity into.new }
+{
+    let mut rest = writes;
+    while let [write, after @ ..] = rest {
+        put_write(write, into);
+        rest = after;
+    }
+}
