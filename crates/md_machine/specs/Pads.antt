@@ -1,5 +1,6 @@
 -- The buttons that the pads show during a run.
-use Rattle.std.specs.Prelude.{◌≡◌, ℕ, ◌-◌, ◌*◌, ◌/◌, List, nat_le, if◌then◌else◌}
+use Rattle.std.specs.Prelude.{◌≡◌, ℕ, ◌-◌, ◌*◌, ◌/◌, List, nat_le, if◌then◌else◌, false}
+use Rattle.md_word.specs.Region.{lines, rows}
 use Rattle.md_pads.specs.Recording.{Frame, pads_of}
 use Rattle.md_word.specs.Clock.{line}
 use Rattle.md_machine.specs.Console.{Console}
@@ -12,7 +13,7 @@ lines_begun z = z.line / line
 -- before line 224 of the first frame, which is the 225th; from then on they are the recording's words
 -- of the frame whose line 224 began last
 abbrev pub pads_shown : List Frame → ℕ → Frame
-pads_shown recording lines = if nat_le lines 224 then (0, 0) else pads_of recording ((lines - 225) / 262)
+pads_shown recording begun = if nat_le begun (rows false) then (0, 0) else pads_of recording ((begun - (rows false + 1)) / lines false)
 
 -- what holds of the pads
 pub record ShowsPads (recording : List Frame) (z : Console) : Type 0 where

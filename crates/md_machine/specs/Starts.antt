@@ -1,5 +1,6 @@
 -- Where a run may begin: at power-on, or where a saved state was kept.
-use Rattle.std.specs.Prelude.{◌≡◌, ℕ, ◌+◌, ◌-◌, ◌*◌, ◌/◌}
+use Rattle.std.specs.Prelude.{◌≡◌, ℕ, ◌+◌, ◌-◌, ◌*◌, ◌/◌, false}
+use Rattle.md_word.specs.Region.{finished_at, frame_cycles}
 use Rattle.md_machine.specs.Console.{Console, IsQuiet}
 
 -- the first event of a line from a cycle on
@@ -26,6 +27,6 @@ pub record IsStart (start : Start) : Type 0 where
 abbrev pub batches_below : ℕ → ℕ
 batches_below end = (end - 1) / 16128
 
--- how many starts of a line 224 stand below a cycle: one at each 766080 + 896040 n
+-- how many frames are finished below a cycle, each at the start of its line 224
 abbrev pub frames_below : ℕ → ℕ
-frames_below end = (end + (896040 - 766080 - 1)) / 896040
+frames_below end = (end + (frame_cycles false - finished_at false - 1)) / frame_cycles false

@@ -1,6 +1,6 @@
 ghost use Rattle.std.specs.Prelude.{◌≡◌, ℕ, ◌≤◌, ◌<◌, ◌+◌, ◌-◌, ◌*◌, ◌^◌, ◌++◌, [], IfOk, length, vec_len, vec_capacity};
 ghost use Rattle.std.specs.Arc.{arc_value};
-ghost use Rattle.md_word.specs.Clock.{last_cycle};
+ghost use Rattle.md_word.specs.Clock.{last_cycle, frame};
 ghost use Rattle.chip_core.specs.Cores.{CoreValue, IsCore, machine_of};
 ghost use Rattle.chip_core.specs.Machines.{IsQuiet};
 ghost use Rattle.bus_shared.specs.Board.{Board, IsBoard};
@@ -133,7 +133,7 @@ impl Machine {
     /// Brings the machine to the cycle `to`, at most a frame on. It waits for nobody.
     pub fn alone(&mut self, to: u64)
         requires later { self.old.at < to }
-        requires near { to ≤ self.old.at + 896040 }
+        requires near { to ≤ self.old.at + frame }
         requires far { to ≤ last_cycle }
         requires entries { self.old.entries ≡ [] }
         requires media { self.old.media ≡ no_media }
@@ -165,7 +165,7 @@ impl Machine {
         requires some { 1 ≤ workers }
         requires few { workers ≤ 5 }
         requires later { self.old.at < to }
-        requires near { to ≤ self.old.at + 896040 }
+        requires near { to ≤ self.old.at + frame }
         requires far { to ≤ last_cycle }
         requires entries { self.old.entries ≡ [] }
         requires media { self.old.media ≡ no_media }

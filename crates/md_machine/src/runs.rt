@@ -1,5 +1,5 @@
 ghost use Rattle.std.specs.Prelude.{◌≡◌, ℕ, ◌≤◌, ◌+◌, Some, [], length, vec_capacity};
-ghost use Rattle.md_word.specs.Clock.{last_cycle};
+ghost use Rattle.md_word.specs.Clock.{last_cycle, frame};
 ghost use Rattle.chip_core.specs.Cores.{CoreValue, IsCore, machine_of};
 ghost use Rattle.chip_core.specs.Limits.{all_moves_left};
 ghost use Rattle.chip_core.specs.Machines as machines;
@@ -21,7 +21,7 @@ use std::thread::Threads;
 pub(crate) fn run_alone(core: Core<MdChips>, from: u64, to: u64) -> Core<MdChips>
     requires core { IsCore five IsChip IsBoard core }
     requires quiet { machines.IsQuiet five (machine_of five core) from }
-    requires near { to ≤ from + 896040 }
+    requires near { to ≤ from + frame }
     requires far { to ≤ last_cycle }
     requires room { 52500 ≤ core.room }
     requires entries { core.journal ≡ [] }
@@ -51,7 +51,7 @@ pub(crate) fn run_workers<R: Threads + Wait + Sync, G: Gate>(
 ) -> Core<MdChips>
     requires core { IsCore five IsChip IsBoard core }
     requires quiet { machines.IsQuiet five (machine_of five core) from }
-    requires near { to ≤ from + 896040 }
+    requires near { to ≤ from + frame }
     requires far { to ≤ last_cycle }
     requires room { 52500 ≤ core.room }
     requires entries { core.journal ≡ [] }
@@ -72,14 +72,14 @@ pub(crate) fn run_workers<R: Threads + Wait + Sync, G: Gate>(
 /// What a run of the five chips over a segment is, whoever made it.
 fn know_segments()
     ensures few { (v : CoreValue Chip Board) (from to : ℕ) → machines.IsQuiet five (machine_of five v) from
-        → to ≤ from + 896040 → to ≤ last_cycle → all_moves_left five to (machine_of five v) ≤ 52500 }
+        → to ≤ from + frame → to ≤ last_cycle → all_moves_left five to (machine_of five v) ≤ 52500 }
     ensures run { (v w : CoreValue Chip Board) (from to : ℕ) → IsCore five IsChip IsBoard v
-        → machines.IsQuiet five (machine_of five v) from → to ≤ from + 896040 → to ≤ last_cycle
+        → machines.IsQuiet five (machine_of five v) from → to ≤ from + frame → to ≤ last_cycle
         → kept_in (machine_of five v) ≡ no_media
         → IsCore five IsChip IsBoard w → machines.IsRunTo five (machine_of five v) to (machine_of five w) w.journal
         → IsRunTo (console (machine_of five v)) to (console (machine_of five w)) w.journal (kept_in (machine_of five w)) }
     ensures entries { (v w : CoreValue Chip Board) (from to : ℕ) → IsCore five IsChip IsBoard v
-        → machines.IsQuiet five (machine_of five v) from → to ≤ from + 896040 → to ≤ last_cycle
+        → machines.IsQuiet five (machine_of five v) from → to ≤ from + frame → to ≤ last_cycle
         → machines.IsRunTo five (machine_of five v) to (machine_of five w) w.journal
         → length w.journal ≤ 52500 }
 {

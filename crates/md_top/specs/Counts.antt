@@ -1,10 +1,11 @@
 -- How many frames and samples a run makes.
-use Rattle.std.specs.Prelude.{ℕ, ◌+◌, ◌-◌, ◌*◌, ◌/◌, ◌%◌, nat_lt, if◌then◌else◌}
+use Rattle.std.specs.Prelude.{ℕ, ◌+◌, ◌-◌, ◌*◌, ◌/◌, ◌%◌, nat_lt, if◌then◌else◌, false}
+use Rattle.md_word.specs.Region.{finished_at, frame_cycles}
 
--- the frames that are finished below a cycle: one in each 896040 cycles, and one more behind the start
+-- the frames that are finished below a cycle: one in each frame's cycles, and one more behind the start
 -- of line 224
 abbrev pub count_of_frames : ℕ → ℕ
-count_of_frames cycles = cycles / 896040 + (if nat_lt 766080 (cycles % 896040) then 1 else 0)
+count_of_frames cycles = cycles / frame_cycles false + (if nat_lt (finished_at false) (cycles % frame_cycles false) then 1 else 0)
 
 -- the pairs that are made below a cycle: 16 for each multiple of 16128 from 16128 on that lies below it
 abbrev pub pairs_of : ℕ → ℕ
