@@ -65,12 +65,7 @@ fn put_long(text: &mut String, n: u32) -> Result<(), NoMemory>
 
 /// Appends the last digit of a number between two texts.
 #[tactic(auto, unfolding(crate::specs::Digits::marked_digit))]
-pub(crate) fn put_marked_digit(
-    text: &mut String,
-    before: &str,
-    n: u8,
-    after: &str,
-) -> Result<(), NoMemory>
+pub fn put_marked_digit(text: &mut String, before: &str, n: u8, after: &str) -> Result<(), NoMemory>
     ensures { Appends result (string_bytes text.old) (string_bytes text.new) (digits.marked_digit before.now n after.now) }
 {
     text.push_str(before)?;
@@ -80,12 +75,7 @@ pub(crate) fn put_marked_digit(
 
 /// Appends the two digits of a byte between two texts.
 #[tactic(auto, unfolding(crate::specs::Digits::marked_byte))]
-pub(crate) fn put_marked_byte(
-    text: &mut String,
-    before: &str,
-    n: u8,
-    after: &str,
-) -> Result<(), NoMemory>
+pub fn put_marked_byte(text: &mut String, before: &str, n: u8, after: &str) -> Result<(), NoMemory>
     ensures { Appends result (string_bytes text.old) (string_bytes text.new) (digits.marked_byte before.now n after.now) }
 {
     text.push_str(before)?;
@@ -95,12 +85,7 @@ pub(crate) fn put_marked_byte(
 
 /// Appends the four digits of a word between two texts.
 #[tactic(auto, unfolding(crate::specs::Digits::marked_word))]
-pub(crate) fn put_marked_word(
-    text: &mut String,
-    before: &str,
-    n: u16,
-    after: &str,
-) -> Result<(), NoMemory>
+pub fn put_marked_word(text: &mut String, before: &str, n: u16, after: &str) -> Result<(), NoMemory>
     ensures { Appends result (string_bytes text.old) (string_bytes text.new) (digits.marked_word before.now n after.now) }
 {
     text.push_str(before)?;
@@ -110,12 +95,7 @@ pub(crate) fn put_marked_word(
 
 /// Appends the eight digits of a long between two texts.
 #[tactic(auto, unfolding(crate::specs::Digits::marked_long))]
-pub(crate) fn put_marked_long(
-    text: &mut String,
-    before: &str,
-    n: u32,
-    after: &str,
-) -> Result<(), NoMemory>
+pub fn put_marked_long(text: &mut String, before: &str, n: u32, after: &str) -> Result<(), NoMemory>
     ensures { Appends result (string_bytes text.old) (string_bytes text.new) (digits.marked_long before.now n after.now) }
 {
     text.push_str(before)?;

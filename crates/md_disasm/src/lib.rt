@@ -15,5 +15,8 @@ mod syntax68;
 mod syntax80;
 mod z80;
 
+pub use digits::{put_marked_byte, put_marked_digit, put_marked_long, put_marked_word};
 pub use m68k::text68;
+pub use operand68::Operand68;
+pub use operand80::Operand80;
 pub use z80::text80;

@@ -10,7 +10,7 @@ use md_word::{Mode, NoMemory, Size};
 
 /// An operand of the 68000's assembler.
 #[derive(Clone, Copy)]
-pub(crate) enum Operand68 {
+pub enum Operand68 {
     /// No operand.
     Nothing,
     /// An addressing mode, with the size of a number that stands in the instruction.

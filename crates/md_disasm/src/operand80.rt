@@ -9,7 +9,7 @@ use z80_decode::{Bit, Condition, Index, InterruptMode, Pair, Place8, Special};
 
 /// An operand of the Z80's assembler.
 #[derive(Clone, Copy)]
-pub(crate) enum Operand80 {
+pub enum Operand80 {
     /// No operand.
     Nothing,
     /// An operand of 8 bits.
