@@ -10,4 +10,4 @@ mod timers;
 mod write;
 
 pub use port::FmPort;
-pub use write::{FmList, FmWrite};
+pub use write::{FmList, FmWrite, RESET};
