@@ -13,6 +13,8 @@ The tables, all if none is named:
     bytes       each STEP-th byte of a busy state changed, 997 if not given: refused at a place, or run for
                 a frame (all of them, with a STEP of 1, take hours)
     forged      a state whose video memories and Z80's RAM are random: 1 to 5 workers write the same files
+    cuts        a demonstration run cut at each of 400 cycles, and one within an instruction's accesses: both
+                parts write what it writes in one
     stores      inputs and outputs that are missing, folders, not allowed, full, pipes that end, files that
                 shrink; output that is closed, full or a pipe that ends: each ends with its status
     memory      a run from a saved state within more and more memory, page by page: status 10 and no changed
@@ -159,6 +161,69 @@ def forged(folder, step):
         outputs.append([text, *((folder / name).read_bytes() for name in "fsjt")])
         fault = differs(status, 0) or ("" if outputs[-1] == outputs[0] else "other files than one worker")
         yield f"{workers} workers", fault
+
+
+# What stands at 200h in a demonstration cartridge, and at 1C0h in one that writes 16 registers by MOVEM.L from
+# 252 on, to the Z80's RAM or the VDP's ports.
+DEMO = bytes.fromhex(
+    "46fc2700 41f900c00004 43f900c00000 45f900001000 30bc8f02 30bc8174 20bc40000000 303c7fff 329a 51c8fffc"
+    "20bcc0000000 303c003f 329a 51c8fffc 13d200c00011 b5fc000e0000 65d2 45f900001000 60ca"
+)
+STORING = "41f900a11100 30bc0100 43f900{}0000 48d1ffff 60fe"
+
+
+def demo_image(number):
+    """The demonstration cartridge of a number."""
+    head = bytearray(4_096)
+    head[:256] = bytes.fromhex("00fff000 00000200" + 62 * "00000280")
+    head[0x100:0x104] = b"SEGA"
+    head[0x200 : 0x200 + len(DEMO)] = DEMO
+    head[0x280:0x282] = bytes.fromhex("4e73")
+    words = Lcg64Xsh32(number, 0)
+    return bytes(head) + b"".join(words.next().to_bytes(4, "big") for _ in range(261_120))
+
+
+def storing_image(high):
+    """A cartridge that writes 16 registers to an address with this highest byte."""
+    image = bytearray(512)
+    image[:8] = bytes.fromhex("00fff000 000001c0")
+    image[0x100:0x104] = b"SEGA"
+    code = bytes.fromhex(STORING.format(high))
+    image[0x1C0 : 0x1C0 + len(code)] = code
+    return bytes(image)
+
+
+def written(folder, cycle, *words):
+    """The frames, the pairs, the entries and the state that a run writes, or its answer where it ends with
+    another status than 0."""
+    outputs = ("--frames", "f", "--sound", "s", "--journal", "j", "--save", "t")
+    found = run(folder, "run", "game.bin", "--cycles", cycle, *outputs, *words)
+    heads = {"f": 0, "s": 44, "j": 0, "t": 0}
+    return [(folder / name).read_bytes()[head:] for name, head in heads.items()] if found[0] == 0 else found
+
+
+def cut_wrong(folder, cycle, end, whole):
+    """What is wrong with the parts of a run that is cut at a cycle, or nothing."""
+    first = written(folder, cycle)
+    if isinstance(first, tuple):
+        return f"the first part ends with {first}"
+    (folder / "t").rename(folder / "cut.mds")
+    rest = written(folder, end, "--load", "cut.mds")
+    if isinstance(rest, tuple):
+        return f"the rest ends with {rest}"
+    is_joined = all(front + back == both for front, back, both in zip(first[:3], rest[:3], whole[:3]))
+    return "" if is_joined and rest[3] == whole[3] else "another rest"
+
+
+def cuts(folder, step):
+    """Runs that are cut and go on."""
+    images = [(demo_image(7), 620_000, range(600_000, 600_400))]
+    images += [(storing_image(high), FRAME, range(240, 1_300)) for high in ("a0", "c0")]
+    for image, end, cycles in images:
+        (folder / "game.bin").write_bytes(image)
+        whole = written(folder, end)
+        for cycle in cycles:
+            yield f"{len(image)} bytes, cycle {cycle}", cut_wrong(folder, cycle, end, whole)
 
 
 RUN = ("run", "game.bin", "--cycles", 2 * FRAME)
@@ -353,6 +418,7 @@ TABLES = {
     "prefixes": prefixes,
     "bytes": changed,
     "forged": forged,
+    "cuts": cuts,
     "stores": stores,
     "memory": memory,
     "space": space,
