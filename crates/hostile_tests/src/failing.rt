@@ -72,9 +72,10 @@ fn has_none(outside: &Outside) -> bool {
     true
 }
 
-/// The line of a fault without the name with which it ends.
-fn is_line(text: &[u8], front: &str) -> bool {
-    text.starts_with(front.as_bytes()) && text.ends_with(b"\n") && text.len() == front.len() + 2
+/// Whether a text is the line of a fault of one of these files, each name with the end of its line.
+fn is_line(text: &[u8], front: &str, names: &[&str]) -> bool {
+    let name = text.get(front.len()..).unwrap_or(&[]);
+    text.starts_with(front.as_bytes()) && names.iter().any(|one| one.as_bytes() == name)
 }
 
 /// Whether a run of which a call failed left what its status says, beside the whole one.
@@ -83,9 +84,12 @@ fn is_fault(outside: &Outside, whole: &Outside, fails: Fails) -> bool {
     let told = match fails {
         Fails::Nothing => false,
         Fails::Fetch(_) => {
-            outside.status == 3 && is_line(text, "fault: reading ") && has_none(outside)
+            outside.status == 3
+                && is_line(text, "fault: reading ", &["Z\n", "P\n", "L\n"])
+                && has_none(outside)
         }
-        Fails::Write(_) => outside.status == 4 && is_line(text, "fault: writing "),
+        Fails::Write(_) => outside.status == 4
+            && is_line(text, "fault: writing ", &["F\n", "W\n", "J\n", "S\n"]),
         Fails::Put(_) => {
             outside.status == 13 && LINES.as_bytes().starts_with(text) && has_all(outside)
         }

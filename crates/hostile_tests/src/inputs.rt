@@ -38,14 +38,14 @@ pub(crate) fn idle(alloc: Global) -> Result<Vec<u8>, AllocError> {
     Ok(image)
 }
 
-/// As many bytes of a generator of random words, each high byte first.
+/// As many bytes, four at a time, of a generator of random words, each high byte first.
 pub(crate) fn random_bytes(
     alloc: Global,
     words: &mut Lcg64Xsh32,
     count: usize,
 ) -> Result<Vec<u8>, AllocError> {
     let mut bytes = Vec::new(alloc);
-    while bytes.len() < count {
+    for _word in 0..count / 4 {
         bytes.extend_from_slice(&words.next_word().to_be_bytes())?;
     }
     Ok(bytes)

@@ -70,8 +70,8 @@ fn masked(
 ) -> Result<Vec<u8>, AllocError> {
     let mut bytes = Vec::new(alloc);
     for _word in 0..count {
-        let word = words.next_word() & bits;
-        bytes.extend_from_slice(&[(word >> 8) as u8, (word & 0xff) as u8])?;
+        let [_, _, high, low] = (words.next_word() & bits).to_be_bytes();
+        bytes.extend_from_slice(&[high, low])?;
     }
     Ok(bytes)
 }
