@@ -126,6 +126,10 @@ module _ {Chip Shared Pins : Type 0} (rules : Rules Chip Shared Pins) where
   abbrev pub key_at : HeldValue Chip Pins → Key
   key_at h = (rules.next h.chip).key
 
+  -- a key that is looked up is that of the chip which was held there before
+  pub key-held : (n : ℕ) (hs hs2 : Places Chip Pins) {key : Option Key} → key ≡ option_map key_at (place hs n) → hs ≡ hs2 → key ≡ option_map key_at (place hs2 n)
+  key-held n hs hs2 e same = e ∙ ap (λ (l : Places Chip Pins). option_map key_at (place l n)) same
+
   -- of the chips below a number the one of this key, which waits for the other, is the least that is not finished
   pub record Found (t n : ℕ) (hs : Places Chip Pins) (key : Key) (other : ℕ) : Type 0 where
     pub chip : ℕ
