@@ -1,6 +1,6 @@
 -- Where lists of enabled events of the five chips lead, in whatever order they come. Time stamps after
 -- Chandy and Misra.
-use Rattle.std.specs.Prelude.{◌≡◌, ◌⊎◌, ◌×◌, ℕ, ◌+◌, ◌-◌, ◌≤◌, List, length}
+use Rattle.std.specs.Prelude.{◌≡◌, ◌⊎◌, ℕ, ◌+◌, ◌-◌, ◌≤◌, List, length}
 use Rattle.md_word.specs.Clock.{last_cycle, frame}
 use Rattle.bus_shared.specs.Board.{Board}
 use Rattle.chip_core.specs.declared.event.Event.{Event}
