@@ -1,0 +1,6 @@
+pub mod Alike
+pub mod Bounds
+pub mod Operands
+pub mod Pieces
+pub mod Runs
+pub mod Shown

@@ -1,0 +1,22 @@
+-- The operands of an instruction's text: a comma stands between them.
+use Rattle.std.specs.Prelude.{ℕ, Bool, true, false, ◌&&◌, ◌==◌, not, if◌then◌else◌, List, [], ◌∷◌}
+use Rattle.md_asm_text.specs.Pieces as pieces
+use Rattle.md_asm_text.specs.Pieces.{Piece}
+
+-- whether brackets are open behind a piece
+abbrev pub opens : Bool → Piece → Bool
+opens inside (pieces.Mark c) = if c == 40 then true else (if c == 41 then false else inside)
+opens inside _ = inside
+
+abbrev pub is_comma : Piece → Bool
+is_comma (pieces.Mark c) = c == 44
+is_comma _ = false
+
+-- the operand in front of the first comma outside brackets, and the one behind it
+abbrev pub Operands : Type 0
+Operands = List Piece × List Piece
+
+unfoldable pub operands : Bool → List Piece → Operands
+operands inside [] = ([], [])
+operands inside (p ∷ ps) =
+    if not inside && is_comma p then ([], ps) else (p ∷ (operands (opens inside p) ps).0, (operands (opens inside p) ps).1)

@@ -1,0 +1,72 @@
+ghost use Rattle.std.specs.Prelude.{◌≡◌, ◌≤◌, ◌++◌, ◌∷◌, [], map, length, take, drop, IfOk, OnOk};
+ghost use Rattle.md_asm_text.specs.Pieces as meaning;
+ghost use Rattle.md_asm_text.specs.Runs.{marks, run};
+ghost use Rattle.md_asm_text.specs.Shown.{shown};
+
+use crate::characters::is_worded;
+use crate::piece::Piece;
+use crate::words::told;
+use md_word::NoMemory;
+use std::alloc::Global;
+
+/// Appends the piece of a word, where there is one.
+fn put_word<'a>(pieces: &mut Vec<Piece<'a>>, word: &'a [u8]) -> Result<(), NoMemory>
+    ensures { OnOk result (map shown pieces.new.items ≡ map shown pieces.old.items ++ meaning.closed word.now) }
+{
+    if !word.is_empty() {
+        pieces.push(told(word))?;
+    }
+    Ok(())
+}
+
+/// How many characters of a word a text begins with.
+fn run_of(text: &[u8]) -> usize
+    ensures value { result ≡ run text.now }
+    ensures within { result ≤ length text.now }
+{
+    let mut count = 0;
+    let mut rest = text;
+    while let [c, after @ ..] = rest {
+        if !is_worded(*c) {
+            return count;
+        }
+        count += 1;
+        rest = after;
+    }
+    count
+}
+
+/// Appends the piece of the word that a text begins with, if any, and hands out what is behind it.
+#[tactic(auto, using(crate::proofs::Runs::split_front))]
+fn put_front<'a>(pieces: &mut Vec<Piece<'a>>, text: &'a [u8]) -> Result<&'a [u8], NoMemory>
+    ensures split { IfOk result (λ rest. map shown pieces.new.items ++ marks rest.now ≡ map shown pieces.old.items ++ meaning.split [] text.now) }
+    ensures shorter { IfOk result (λ rest. length rest.now ≤ length text.now) }
+{
+    let count = run_of(text);
+    put_word(pieces, &text[..count])?;
+    Ok(&text[count..])
+}
+
+/// Appends the pieces from a character on that belongs to no word.
+fn put_marks<'a>(pieces: &mut Vec<Piece<'a>>, text: &'a [u8]) -> Result<(), NoMemory>
+    ensures { OnOk result (map shown pieces.new.items ≡ map shown pieces.old.items ++ marks text.now) }
+{
+    let mut rest = text;
+    while let [c, after @ ..] = rest {
+        pieces.push(Piece::Mark(*c))?;
+        rest = put_front(pieces, after)?;
+    }
+    Ok(())
+}
+
+/// The pieces of an instruction's text.
+#[tactic(auto, using(crate::proofs::Runs::opened_front))]
+pub fn split<'a>(alloc: Global, text: &'a [u8]) -> Result<Vec<Piece<'a>>, NoMemory>
+    ensures { IfOk result (λ v. map shown v.items ≡ meaning.pieces text.now) }
+{
+    let mut pieces = Vec::new(alloc);
+    let count = run_of(text);
+    pieces.push(Piece::Word(&text[..count]))?;
+    put_marks(&mut pieces, &text[count..])?;
+    Ok(pieces)
+}
