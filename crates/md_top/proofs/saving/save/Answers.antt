@@ -1,6 +1,7 @@
 use Rattle.std.proofs.Common.{List, ℕ, ap, subst, ◌∙◌}
 use Rattle.std.specs.Option.{option_copied}
 use Rattle.md_top.specs.Outputs.{Adds, nothing}
+use Rattle.save_state.specs.States.{state_bytes}
 use Rattle.md_args.specs.Shown.{shown_run}
 use Rattle.md_top.proofs.Appends.{adds-no_state}
 use Rattle.md_top.proofs.Ends.{on-ok}
