@@ -1,5 +1,7 @@
-//! Tests of the assembler: instructions of the manual as they are written.
+//! Tests of the assembler: instructions of both manuals as they are written.
 #![tactic(auto)]
 
+#[cfg(test)]
+mod read68;
 #[cfg(test)]
 mod read80;

@@ -1,4 +1,6 @@
 // Instructions of the Z80 at 100h and their bytes, from Zilog UM0080, "Z80 Instruction Description".
+ghost use Rattle.std.specs.Prelude.{◌<◌};
+
 use md_asm_text::split;
 use md_disasm::text80;
 use std::alloc::Global;
@@ -222,12 +224,17 @@ fn is_written(alloc: Global, row: &Row) -> Result<bool, Fail> {
     }
 }
 
-#[test]
-fn instructions_and_their_bytes(rt: HostRuntime) -> Result<(), Fail> {
-    for row in ROWS.iter() {
-        assert!(rt; is_written(rt.alloc(), row)?, "{}", row.0);
+/// Each text of the rows is read as its bytes, or as none.
+fn hold(rt: &impl Abort, alloc: Global, rows: &[Row]) -> Result<(), Fail> {
+    for row in rows {
+        assert!(rt; is_written(alloc, row)?, "{}", row.0);
     }
     Ok(())
+}
+
+#[test]
+fn instructions_and_their_bytes(rt: HostRuntime) -> Result<(), Fail> {
+    hold(&rt, rt.alloc(), &ROWS)
 }
 
 // What no instruction is written as.
@@ -250,10 +257,7 @@ static REFUSED: [Row; 14] = [
 
 #[test]
 fn what_is_no_instruction(rt: HostRuntime) -> Result<(), Fail> {
-    for row in REFUSED.iter() {
-        assert!(rt; is_written(rt.alloc(), row)?, "{}", row.0);
-    }
-    Ok(())
+    hold(&rt, rt.alloc(), &REFUSED)
 }
 
 /// Whether the text of these bytes is read as bytes of the same text; bytes of no instruction are none.

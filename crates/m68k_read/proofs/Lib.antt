@@ -1,0 +1,4 @@
+pub mod Decoded
+pub mod Entered
+pub mod Instructions
+pub mod Judged

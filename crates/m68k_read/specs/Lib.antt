@@ -1,0 +1,5 @@
+pub mod Building
+pub mod Entered
+pub mod Judged
+pub mod Said
+pub mod Table
