@@ -1,4 +1,5 @@
-//! The text of an assembler's source: lines, and the pieces of an instruction.
+//! The pieces of an instruction's text: words, numbers, names and single characters; and the operands among
+//! them.
 #![tactic(auto)]
 
 mod characters;

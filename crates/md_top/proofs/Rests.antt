@@ -1,6 +1,7 @@
 -- A run that came to its end ends well.
 use Rattle.std.proofs.Common.{◌≡◌, ℕ, ◌^◌, ◌≤◌, List, ◌++◌, Option, refl, sym, ap, subst, ◌∙◌, arith}
 use Rattle.md_word.specs.declared.event.Entry.{Entry}
+use Rattle.md_machine.specs.Lists.{ListsEndAsRun}
 use Rattle.md_machine.specs.Console.{Console, IsRunTo}
 use Rattle.md_machine.specs.Machines.{MachineValue}
 use Rattle.md_machine.specs.Media.{joined}
@@ -41,11 +42,11 @@ kept start at m same is =
     (subst (λ (z : Console). IsState z.cart (state_bytes at z) (record { at = at; console = settled_console at z })) same is)
 
 -- at the cycle to which it came
-ends-here : (start : Start) (machine : MachineValue) (accesses : ℕ) → CameTo start machine accesses → StateLaws → IsEnd machine.at
+ends-here : (start : Start) (machine : MachineValue) (accesses : ℕ) → CameTo start machine accesses → StateLaws → ListsEndAsRun start.at start.console → IsEnd machine.at
     → (IsReady machine.at machine.console → IsState machine.console.cart (state_bytes machine.at machine.console) (record { at = machine.at; console = settled_console machine.at machine.console }))
     → RunsWell start machine.at start.at accesses machine.console.main.halted
 unfolding halted_from
-ends-here start machine accesses came states end saved =
+ends-here start machine accesses came states lists end saved =
     let small : machine.at ≤ 2 ^ 50 = omega (arith, end.1) in
     let made : IsRunTo start.console machine.at (run_from start machine.at) (entries_from start machine.at) (media_from start machine.at) = run-made start machine.at came.laws small in
     let found : Found start machine.at machine.console (entries_from start machine.at) (media_from start machine.at) = run-found start machine.at came.laws small came.run in
@@ -53,6 +54,7 @@ ends-here start machine accesses came states end saved =
     states.reach start.console machine.console start.at machine.at (entries_from start machine.at) (media_from start machine.at) came.reached came.later small came.run in
     record {
       least = made;
+      lists = lists;
       from = refl;
       frames = sym (came.laws.frames_counted (run_from start machine.at) machine.at (entries_from start machine.at) (media_from start machine.at) came.from made ∙ frames-counted start.at machine.at);
       samples = sym (came.laws.levels_counted (run_from start machine.at) machine.at (entries_from start machine.at) (media_from start machine.at) came.from made ∙ pairs-counted start.at machine.at);
@@ -63,9 +65,9 @@ ends-here start machine accesses came states end saved =
       rest = goes-on start machine.at came.laws states (subst (IsReached machine.at) found.console reached);
     }
 
-pub ends-well : (start : Start) (end : ℕ) (machine : MachineValue) (accesses : ℕ) → machine.at ≡ end → CameTo start machine accesses → StateLaws → IsEnd end
+pub ends-well : (start : Start) (end : ℕ) (machine : MachineValue) (accesses : ℕ) → machine.at ≡ end → CameTo start machine accesses → StateLaws → ListsEndAsRun start.at start.console → IsEnd end
     → (IsReady machine.at machine.console → IsState machine.console.cart (state_bytes machine.at machine.console) (record { at = machine.at; console = settled_console machine.at machine.console }))
     → RunsWell start end start.at accesses machine.console.main.halted
-ends-well start end machine accesses at came states ends saved =
+ends-well start end machine accesses at came states lists ends saved =
     subst (λ (n : ℕ). RunsWell start n start.at accesses machine.console.main.halted) at
-    (ends-here start machine accesses came states (subst IsEnd (sym at) ends) saved)
+    (ends-here start machine accesses came states lists (subst IsEnd (sym at) ends) saved)

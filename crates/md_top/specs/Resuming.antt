@@ -2,6 +2,7 @@
 use Rattle.std.specs.Prelude.{◌≡◌, ℕ, ◌^◌, ◌≤◌, List, ◌++◌, length, Option}
 use Rattle.md_word.specs.declared.event.Entry.{Entry}
 use Rattle.md_machine.specs.Console.{Console, IsQuiet, IsRunTo}
+use Rattle.md_machine.specs.Lists.{ListsEndAsRun}
 use Rattle.md_machine.specs.Media.{Media, joined}
 use Rattle.md_machine.specs.ValidParts.{HasValidParts}
 use Rattle.md_machine.specs.Starts.{Start}
@@ -35,6 +36,9 @@ GoesOnFrom start at =
 pub record RunsWell (start : Start) (end : ℕ) (begun counted : ℕ) (since : Option ℕ) : Type 0 where
   -- the machine that always moves the chip of least key has made all events below the end and no other
   pub least : IsRunTo start.console end (run_from start end) (entries_from start end) (media_from start end)
+  -- from its start every list of enabled events of the chips, up to a frame on and in whatever order, ends as
+  -- the run does
+  pub lists : ListsEndAsRun start.at start.console
   -- it is told from where it began, and how much it made
   pub from : begun ≡ start.at
   pub frames : frames_between start.at end ≡ length (media_from start end).frames

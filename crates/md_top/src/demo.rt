@@ -20,6 +20,7 @@ use crate::summary::Summary;
 use md_args::DemoWords;
 use md_demo::demo_cart;
 use md_machine::Machine;
+use md_machine::laws::lists_end_as_run;
 use md_pads::Recording;
 use md_word::NoMemory;
 use md_word::clock::LAST_CYCLE;
@@ -85,6 +86,7 @@ fn sum_up<F: Fn(&mut Machine, u64)>(go_on: &F, end: u64, course: Course) -> Summ
     requires start { IsAtStart course }
     ensures { IsSummary (start_in course) end result }
 {
+    lists_end_as_run(&course.machine);
     let mut course = course;
     let mut hashers = Hashers::new();
     'segments: while course.machine.at() < end {

@@ -22,6 +22,7 @@ use crate::segment::advance;
 use md_args::RunWords;
 use md_files::wav_head;
 use md_machine::Machine;
+use md_machine::laws::lists_end_as_run;
 use md_outer::Depot;
 use md_word::clock::{BATCH, FRAME};
 use save_state::laws::kept;
@@ -181,6 +182,7 @@ fn run_on<F: Fn(&mut Machine, u64), D: Depot>(
         → RunLeaves (start_in course) (shown_run run.now) first (D.state depot.new).files result }
 {
     let from = course.machine.at();
+    lists_end_as_run(&course.machine);
     let mut course = course;
     'segments: while course.machine.at() < run.cycles {
         if let Err(ending) = run_segment(go_on, run, outputs, depot, &mut course) {

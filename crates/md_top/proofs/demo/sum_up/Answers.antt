@@ -42,6 +42,6 @@ returns g c =
     (c.digests.ensures.journal (journal_bytes (entries_from start c.args.end)) have.journal) in
     record {
       well = subst (λ (since : Option ℕ). RunsWell start c.args.end start.at course.accesses since) (sym halted)
-          (ends-well start c.args.end course.machine course.accesses at c.segments.invariant.1 c.states_keep_laws.ensures c.requires.end c.kept.ensures);
+          (ends-well start c.args.end course.machine course.accesses at c.segments.invariant.1 c.states_keep_laws.ensures c.lists_end_as_run.ensures c.requires.end c.kept.ensures);
       digests = digests;
     }

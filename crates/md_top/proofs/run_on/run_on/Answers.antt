@@ -35,7 +35,7 @@ returns-in-Ok-clause-cause g c =
     let halted : c.halted.result ≡ course.machine.console.main.halted = rw c.main_chip.ensures at c.halted.ensures in
     subst (λ (from : ℕ). RunsWell start c.args.run.now.cycles from course.accesses c.halted.result) (sym c.at-from.ensures)
     (subst (λ (since : Option ℕ). RunsWell start c.args.run.now.cycles start.at course.accesses since) (sym halted)
-    (ends-well start c.args.run.now.cycles course.machine course.accesses at c.segments.invariant.1 c.states_keep_laws.ensures c.requires.end
+    (ends-well start c.args.run.now.cycles course.machine course.accesses at c.segments.invariant.1 c.states_keep_laws.ensures c.lists_end_as_run.ensures c.requires.end
     c.kept.ensures))
 
 pub returns-in-Ok-clause-files : goal.returns-in-Ok-clause-files
