@@ -1,0 +1,4 @@
+pub mod Bodies
+pub mod Lines
+pub mod Seen
+pub mod Texts
