@@ -1,0 +1,4 @@
+pub mod Codes
+pub mod Contents
+pub mod Numbers
+pub mod Seen
