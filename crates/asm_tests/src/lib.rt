@@ -5,3 +5,5 @@
 mod read68;
 #[cfg(test)]
 mod read80;
+#[cfg(test)]
+mod sources;

@@ -1,0 +1,67 @@
+-- Lines that are kept, and what a line without names comes to.
+use Rattle.std.proofs.Common.{◌≡◌, ℕ, ◌+◌, ◌≤◌, ◌==◌, Bool, true, false, List, [], ◌∷◌, ◌++◌, length, Option, Some, None, refl, arith, ◌∙◌, ap, if◌then◌else◌}
+use Rattle.std.proofs.lemmas.Bool.{eqb-true}
+use Rattle.md_asm_text.specs.Pieces as pieces
+use Rattle.md_asm_text.specs.Pieces.{Piece}
+use Rattle.md_asm_line.specs.declared.body.Body.{Body}
+use Rattle.md_asm_code.specs.Contents.{Far, Good, Settled, Unfit, Unknown, content, is_unfit, settled, sized}
+use Rattle.md_asm_code.specs.Numbers.{Names, has_name, resolved}
+use Rattle.md_asm.specs.Kept.{AreKept, Comes, FitsAt, IsKept}
+use Rattle.md_asm.specs.declared.entry.Entry.{Entry}
+
+-- one line more is kept
+pub kept_more : (entries : List Entry) (entry : Entry) → AreKept entries → IsKept entry → AreKept (entries ++ entry ∷ [])
+kept_more [] entry kept is = (is, tt)
+kept_more (e ∷ es) entry kept is = (kept.0, kept_more es entry kept.1 is)
+
+-- pieces without names are as they are, whatever names mean
+pub resolved_plain : (names : Names) (said : List Piece) → has_name said ≡ false → resolved names said ≡ said
+unfolding has_name
+resolved_plain names [] none = refl
+resolved_plain names (pieces.Word w ∷ ps) none = ap (λ (l : List Piece). pieces.Word w ∷ l) (resolved_plain names ps none)
+resolved_plain names (pieces.Number n ∷ ps) none = ap (λ (l : List Piece). pieces.Number n ∷ l) (resolved_plain names ps none)
+resolved_plain names (pieces.Name w ∷ ps) none = cc
+resolved_plain names (pieces.Mark c ∷ ps) none = ap (λ (l : List Piece). pieces.Mark c ∷ l) (resolved_plain names ps none)
+
+-- what a line without names comes to does not depend on them
+pub comes : (sub : Bool) (body : Body) (long : ℕ) (said : List Piece) (at : ℕ) (bytes : List ℕ) → has_name said ≡ false
+    → settled sub body long said at ≡ Good bytes → Comes sub body long said at bytes
+comes sub body long said at bytes none is names =
+    ap (λ (l : List Piece). settled sub body long l at) (resolved_plain names said none) ∙ is
+
+-- bytes that a line comes to have its length
+sized_by : (long : ℕ) (own bytes : List ℕ) (b : Bool) → (length own == long) ≡ b → (if b then Good own else Far) ≡ Good bytes → length bytes ≡ long
+sized_by long own bytes true same is =
+    let e : own ≡ bytes = cc in rw (← e) (eqb-true (length own) long same)
+sized_by long own bytes false same is = cc
+
+sized_long : (long : ℕ) (found : Option (List ℕ)) (bytes : List ℕ) → sized long found ≡ Good bytes → length bytes ≡ long
+sized_long long None bytes is = cc
+sized_long long (Some own) bytes is = sized_by long own bytes (length own == long) refl is
+
+chosen : (b c : Bool) (long : ℕ) (found : Option (List ℕ)) (bytes : List ℕ)
+    → (if b then Unknown else (if c then Unfit else sized long found)) ≡ Good bytes → length bytes ≡ long
+chosen true c long found bytes is = cc
+chosen false true long found bytes is = cc
+chosen false false long found bytes is = sized_long long found bytes is
+
+pub settled_long : (sub : Bool) (body : Body) (long : ℕ) (said : List Piece) (at : ℕ) (bytes : List ℕ)
+    → settled sub body long said at ≡ Good bytes → length bytes ≡ long
+settled_long sub body long said at bytes is =
+    chosen (has_name said) (is_unfit sub body said) long (content sub body said at) bytes is
+
+fits : (place long room : ℕ) (s : Settled) → place + long ≤ room → ((bytes : List ℕ) → s ≡ Good bytes → length bytes ≡ long) → FitsAt s place room
+fits place long room (Good bytes) h own = let e = own bytes refl in omega (arith, e)
+fits place long room Unknown h own = tt
+fits place long room Unfit h own = tt
+fits place long room Far h own = tt
+
+-- so they have room where the line has
+pub settled_fits : (sub : Bool) (body : Body) (long : ℕ) (said : List Piece) (at place room : ℕ) → place + long ≤ room
+    → FitsAt (settled sub body long said at) place room
+settled_fits sub body long said at place room h =
+    fits place long room (settled sub body long said at) h (λ bytes is. settled_long sub body long said at bytes is)
+
+pub comes_long : (sub : Bool) (body : Body) (long : ℕ) (said : List Piece) (at : ℕ) (bytes : List ℕ) → Comes sub body long said at bytes
+    → length bytes ≡ long
+comes_long sub body long said at bytes comes = settled_long sub body long (resolved (λ name. None) said) at bytes (comes (λ name. None))

@@ -1,0 +1,59 @@
+-- What a source is assembled to.
+use Rattle.std.specs.Prelude.{ℕ, Bool, true, false, if◌then◌else◌, List, [], ◌∷◌, take}
+use Rattle.md_asm_line.specs.Texts.{lines}
+use Rattle.md_asm_line.specs.declared.body.Body.{Body}
+use Rattle.md_asm_line.specs.declared.body.Body.TheVariants as bodies
+use Rattle.md_asm.specs.Places.{blank}
+use Rattle.md_asm.specs.Rounds.{Faulty, Filled, Outcome, Read, Refused, Round, Slot, Whole, round_one, round_two, start}
+use Rattle.md_asm.specs.declared.kind.Kind.{Kind}
+use Rattle.md_asm.specs.declared.kind.Kind.TheVariants as kinds
+use Rattle.md_asm.specs.declared.placed.Placed.{Placed}
+
+-- the number of a kind of faults
+abbrev pub number_of : Kind → ℕ
+number_of kinds.BadLine = 1
+number_of kinds.BadNumber = 2
+number_of kinds.Twice = 3
+number_of kinds.Odd = 4
+number_of kinds.Overlap = 5
+number_of kinds.TooLarge = 6
+number_of kinds.UnknownName = 7
+number_of kinds.DoesNotFit = 8
+number_of kinds.Far = 9
+
+-- where a line stands
+abbrev pub placed_slot : Slot → Placed
+placed_slot slot = record { place = slot.place; address = slot.address; z80 = slot.sub }
+
+abbrev pub is_instruction : Body → Bool
+is_instruction bodies.Instruction = true
+is_instruction bodies.Words = false
+is_instruction bodies.Bytes = false
+is_instruction bodies.Nothing = false
+is_instruction (bodies.Org place) = false
+is_instruction bodies.Main = false
+is_instruction (bodies.Sub at) = false
+is_instruction bodies.Bad = false
+
+-- the places of the instructions, in the order of the lines
+unfoldable pub placed : List Slot → List Placed
+placed [] = []
+placed (slot ∷ more) = if is_instruction slot.body then placed_slot slot ∷ placed more else placed more
+
+-- an image and where its instructions stand, or the first line that is at fault and its least kind
+pub data Assembly : Type 0 where
+  Done : List ℕ → List Placed → Assembly
+  Failed : ℕ → ℕ → Assembly
+
+abbrev pub filled : Round → Filled → Assembly
+filled round (Whole memory) = Done (take round.end memory) (placed round.slots)
+filled round (Faulty line kind) = Failed line (number_of kind)
+
+abbrev pub second : Outcome → Assembly
+second (Read round) = filled round (round_two round.names blank round.slots)
+second (Refused line kind) = Failed line (number_of kind)
+
+-- A source's lines are read in their order, each with its place, its address and its length; then each that has
+-- bytes is put at its place, with all names known. The image ends behind the last byte that is written.
+unfoldable pub assembly : List ℕ → Assembly
+assembly source = second (round_one start 1 (lines source))

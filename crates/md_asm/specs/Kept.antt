@@ -1,0 +1,33 @@
+-- What holds of the lines that are kept for the second round.
+use Rattle.std.specs.Prelude.{ℕ, ◌≡◌, ◌+◌, ◌<◌, ◌≤◌, Bool, true, List, [], ◌∷◌, IfSome, length, vec_len}
+use Rattle.md_asm_text.specs.Pieces.{Piece, pieces}
+use Rattle.md_asm_line.specs.declared.body.Body.{Body}
+use Rattle.md_asm_code.specs.Contents.{Far, Good, Settled, Unfit, Unknown, settled}
+use Rattle.md_asm_code.specs.Numbers.{Names, resolved}
+use Rattle.md_asm.specs.declared.entry.Entry.{Entry}
+use Rattle.md_asm.specs.declared.pass.Pass.{Pass}
+
+-- a line comes to these bytes whatever values names have
+abbrev pub Comes : Bool → Body → ℕ → List Piece → ℕ → List ℕ → Type 0
+Comes sub body long said at bytes = (names : Names) → settled sub body long (resolved names said) at ≡ Good bytes
+
+-- it ends below 400000h, has an address of its processor, and the bytes that it has are its own
+pub record IsKept (entry : Entry) : Type 0 where
+  pub low : entry.place + entry.long ≤ 4194304
+  pub addressed : entry.z80 ≡ true → entry.address < 65536
+  pub known : IfSome entry.bytes (λ bytes. Comes entry.z80 entry.body entry.long (pieces entry.text.now) entry.address bytes.items)
+
+abbrev pub AreKept : List Entry → Type 0
+AreKept [] = Unit {0}
+AreKept (entry ∷ more) = IsKept entry × AreKept more
+
+pub record IsPass (pass : Pass) : Type 0 where
+  pub whole : vec_len pass.cells.marks ≡ 4194304
+  pub kept : AreKept pass.entries.items
+
+-- bytes that a line comes to have room at its place
+abbrev pub FitsAt : Settled → ℕ → ℕ → Type 0
+FitsAt (Good bytes) place room = place + length bytes ≤ room
+FitsAt Unknown place room = Unit {0}
+FitsAt Unfit place room = Unit {0}
+FitsAt Far place room = Unit {0}

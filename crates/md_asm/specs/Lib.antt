@@ -1,0 +1,5 @@
+pub mod Assembly
+pub mod Kept
+pub mod Places
+pub mod Rounds
+pub mod Seen

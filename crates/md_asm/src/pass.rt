@@ -1,0 +1,16 @@
+use crate::cells::Cells;
+use crate::entry::Entry;
+use crate::processor::Processor;
+use md_asm_code::Names;
+
+/// What the lines so far come to.
+#[derive(Drop)]
+pub(crate) struct Pass<'a> {
+    pub(crate) place: u32,
+    pub(crate) processor: Processor,
+    pub(crate) names: Names<'a>,
+    pub(crate) cells: Cells,
+    pub(crate) entries: Vec<Entry<'a>>,
+    /// The place behind the last byte.
+    pub(crate) end: u32,
+}

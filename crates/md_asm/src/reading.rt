@@ -1,0 +1,227 @@
+ghost use Rattle.std.specs.Prelude.{◌≡◌, ◌+◌, ◌<◌, ◌≤◌, IfOk, IfSome, OnOk, map, true, option_map, vec_len};
+ghost use Rattle.md_asm_text.specs.Pieces as texts;
+ghost use Rattle.md_asm_text.specs.Shown.{shown};
+ghost use Rattle.md_asm_line.specs.Lines.{line_of};
+ghost use Rattle.md_asm_line.specs.Seen.{line_seen};
+ghost use Rattle.md_asm_code.specs.Seen.{names_seen};
+ghost use Rattle.md_asm.specs.Kept.{Comes, IsPass};
+ghost use Rattle.md_asm.specs.Places as places;
+ghost use Rattle.md_asm.specs.Rounds as rounds;
+ghost use Rattle.md_asm.specs.Seen.{round_seen, step_seen};
+
+use crate::cells::PLACES;
+use crate::entry::Entry;
+use crate::kind::Kind;
+use crate::pass::Pass;
+use crate::processor::{Processor, address, is_sub};
+use md_asm_code::{Names, Settled, has_name, is_unfit, settle, size};
+use md_asm_line::{Body, Line, read_line};
+use md_asm_text::Piece;
+use md_word::NoMemory;
+use std::alloc::Global;
+
+/// Whether a line has bytes.
+fn has_bytes(body: Body) -> bool
+    ensures { result ≡ rounds.has_bytes body }
+{
+    match body {
+        Body::Words | Body::Bytes | Body::Instruction => true,
+        Body::Nothing | Body::Org(_) | Body::Main | Body::Sub(_) | Body::Bad => false,
+    }
+}
+
+/// Whether a line stands at an even place alone.
+fn wants_even(z80: bool, body: Body) -> bool
+    ensures { result ≡ rounds.wants_even z80 body }
+{
+    match body {
+        Body::Words => true,
+        Body::Instruction => !z80,
+        Body::Bytes | Body::Nothing | Body::Org(_) | Body::Main | Body::Sub(_) | Body::Bad => false,
+    }
+}
+
+/// Whether a label was defined before.
+fn is_twice<'a>(names: &Names<'a>, label: Option<&'a [u8]>) -> bool
+    ensures { result ≡ rounds.is_twice (names_seen names.now) (option_map (λ name. name.now) label.entry) }
+{
+    match label {
+        Some(name) => names.value_of(name).is_some(),
+        None => false,
+    }
+}
+
+/// Whether the last of so many places is too large.
+fn is_too_large(place: u32, long: usize) -> bool
+    ensures { result ≡ places.is_too_large place long }
+{
+    long > PLACES || place as usize > PLACES - long
+}
+
+/// The place behind a line.
+fn place_behind(place: u32, body: Body, long: usize) -> u32
+    requires { rounds.has_bytes body ≡ true → place + long ≤ 4194304 }
+    ensures { result ≡ rounds.place_behind place body long }
+{
+    match body {
+        Body::Org(at) => at,
+        Body::Words | Body::Bytes | Body::Instruction => (place as usize + long) as u32,
+        Body::Nothing | Body::Main | Body::Sub(_) | Body::Bad => place,
+    }
+}
+
+/// The processor behind a line.
+fn processor_behind(processor: Processor, place: u32, body: Body) -> Processor
+    ensures { result ≡ rounds.processor_behind processor place body }
+{
+    match body {
+        Body::Main => Processor::Main,
+        Body::Sub(at) => Processor::Sub(at, place),
+        Body::Org(_) | Body::Words | Body::Bytes | Body::Instruction | Body::Nothing | Body::Bad =>
+            { processor }
+    }
+}
+
+/// The bytes of a line without names.
+fn known(
+    alloc: Global,
+    z80: bool,
+    body: Body,
+    long: usize,
+    pieces: &[Piece<'_>],
+    at: u32,
+) -> Result<Option<Vec<u8>>, NoMemory>
+    requires { z80 ≡ true → at < 65536 }
+    ensures { IfOk result (λ found. IfSome found (λ bytes. Comes z80 body long (map shown pieces.now) at bytes.items)) }
+{
+    if has_name(pieces) {
+        return Ok(None);
+    }
+    match settle(alloc, z80, body, long, pieces, at)? {
+        Settled::Good(bytes) => Ok(Some(bytes)),
+        Settled::Unknown | Settled::Unfit | Settled::Far => Ok(None),
+    }
+}
+
+impl<'a> Pass<'a> {
+    /// The least kind of fault of a line that has a form, of this length.
+    fn fault_of(
+        &self,
+        alloc: Global,
+        line: &Line<'a>,
+        long: usize,
+    ) -> Result<Option<Kind>, NoMemory>
+        requires whole { vec_len self.now.cells.marks ≡ 4194304 }
+        requires pieces { map shown line.now.pieces.items ≡ texts.pieces line.now.text.now }
+        ensures { IfOk result (λ fault. fault ≡ rounds.fault_of (round_seen self.now) (line_seen line.now) long) }
+    {
+        let z80 = is_sub(self.processor);
+        if is_unfit(alloc, z80, line.body, line.pieces.as_slice())? {
+            return Ok(Some(Kind::BadNumber));
+        }
+        if is_twice(&self.names, line.label) {
+            return Ok(Some(Kind::Twice));
+        }
+        if wants_even(z80, line.body) && self.place % 2 == 1 {
+            return Ok(Some(Kind::Odd));
+        }
+        if self.cells.any(self.place, long) {
+            return Ok(Some(Kind::Overlap));
+        }
+        if has_bytes(line.body) && is_too_large(self.place, long) {
+            return Ok(Some(Kind::TooLarge));
+        }
+        Ok(None)
+    }
+
+    /// Keeps a line that has bytes.
+    fn keep(
+        &mut self,
+        alloc: Global,
+        number: u32,
+        line: &Line<'a>,
+        long: usize,
+    ) -> Result<(), NoMemory>
+        requires pass { IsPass self.old }
+        requires pieces { map shown line.now.pieces.items ≡ texts.pieces line.now.text.now }
+        requires within { self.old.place + long ≤ 4194304 }
+        ensures seen { OnOk result (round_seen self.new ≡ rounds.kept (round_seen self.old) number (line_seen line.now) long) }
+        ensures pass { OnOk result (IsPass self.new) }
+    {
+        let z80 = is_sub(self.processor);
+        let at = address(self.processor, self.place);
+        let bytes = known(alloc, z80, line.body, long, line.pieces.as_slice(), at)?;
+        self.entries.push(Entry {
+            line: number,
+            place: self.place,
+            address: at,
+            long,
+            z80,
+            body: line.body,
+            text: line.text,
+            bytes,
+        })?;
+        self.cells.mark(self.place, long);
+        self.end = self.end.max((self.place as usize + long) as u32);
+        Ok(())
+    }
+
+    /// Gives a label its value.
+    fn label(&mut self, label: Option<&'a [u8]>) -> Result<(), NoMemory>
+        requires { IsPass self.old }
+        ensures seen { OnOk result (round_seen self.new ≡ rounds.labelled (round_seen self.old) (option_map (λ name. name.now) label.entry)) }
+        ensures pass { OnOk result (IsPass self.new) }
+    {
+        if let Some(name) = label {
+            self.names
+                .define(name, address(self.processor, self.place))?;
+        }
+        Ok(())
+    }
+
+    /// Goes on behind a line.
+    fn go_on(
+        &mut self,
+        alloc: Global,
+        number: u32,
+        line: &Line<'a>,
+        long: usize,
+    ) -> Result<(), NoMemory>
+        requires pass { IsPass self.old }
+        requires pieces { map shown line.now.pieces.items ≡ texts.pieces line.now.text.now }
+        requires within { rounds.has_bytes line.now.body ≡ true → self.old.place + long ≤ 4194304 }
+        ensures seen { OnOk result (round_seen self.new ≡ rounds.behind (round_seen self.old) number (line_seen line.now) long) }
+        ensures pass { OnOk result (IsPass self.new) }
+    {
+        self.label(line.label)?;
+        if has_bytes(line.body) {
+            self.keep(alloc, number, line, long)?;
+        }
+        self.processor = processor_behind(self.processor, self.place, line.body);
+        self.place = place_behind(self.place, line.body, long);
+        Ok(())
+    }
+
+    /// Reads a line of this number, or tells why not.
+    pub(crate) fn read(
+        &mut self,
+        alloc: Global,
+        number: u32,
+        text: &'a [u8],
+    ) -> Result<Option<Kind>, NoMemory>
+        requires { IsPass self.old }
+        ensures seen { IfOk result (λ fault. step_seen fault self.new ≡ rounds.step (round_seen self.old) number (line_of text.now)) }
+        ensures pass { OnOk result (IsPass self.new) }
+    {
+        let line = read_line(alloc, text)?;
+        let z80 = is_sub(self.processor);
+        let Some(long) = size(alloc, z80, line.body, line.pieces.as_slice())? else {
+            return Ok(Some(Kind::BadLine));
+        };
+        if let Some(kind) = self.fault_of(alloc, &line, long)? {
+            return Ok(Some(kind));
+        }
+        self.go_on(alloc, number, &line, long)?;
+        Ok(None)
+    }
+}
