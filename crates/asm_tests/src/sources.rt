@@ -2,6 +2,7 @@
 ghost use Rattle.std.specs.Prelude.{◌≤◌};
 
 use md_asm::{AsmFault, assemble};
+use std::alloc::Global;
 use std::test::Fail;
 
 /// A source, the length of its image, a place and the bytes that stand there.
@@ -123,10 +124,18 @@ static FAULTS: [Fault; 46] = [
     ("bra.b xyz\nnonsense", 2, 1),
 ];
 
+/// Why a source of these tables is not assembled.
+fn fault_of(alloc: Global, source: &str) -> Option<AsmFault> {
+    if source.len() > 1_048_576 {
+        return None;
+    }
+    assemble(alloc, source.as_bytes()).err()
+}
+
 #[test]
 fn what_is_at_fault(rt: HostRuntime) -> Result<(), Fail> {
     for (source, line, kind) in &FAULTS {
-        let fault = assemble(rt.alloc(), source.as_bytes()).err();
+        let fault = fault_of(rt.alloc(), source);
         let wanted = AsmFault::Line {
             line: *line,
             kind: *kind,
