@@ -1,5 +1,6 @@
 pub mod Alike
 pub mod Apart
+pub mod Assemblings
 pub mod Commands
 pub mod Demos
 pub mod Digits

@@ -5,7 +5,7 @@ use Rattle.clap.specs.Walk.{Row, Rule, Text, first_of, is_empty}
 use Rattle.clap.specs.Simple.{App, matches_of, new_app, new_rule, with_rule}
 use Rattle.clap.specs.Faults.{fault_of}
 use Rattle.clap.specs.declared.builder.action.ArgAction.TheVariants.{Set}
-use Rattle.md_args.specs.Words.{Conversion, Demo, Run, conversion_by, demo_by, info_by, run_by}
+use Rattle.md_args.specs.Words.{Assembling, Conversion, Demo, Run, assembling_by, conversion_by, demo_by, info_by, run_by}
 use Rattle.md_args.specs.declared.convert_words.Product.{Product}
 
 -- what a simple command makes of the words: the rows that it finds, or none where it refuses them
@@ -61,6 +61,11 @@ unfoldable pub conversion_app : Text → App
 conversion_app name =
     fold with_rule (bare name) (required (positional (codes "input")) ∷ required (positional (codes "output")) ∷ flag (codes "pal") ∷ [])
 
+-- `asm SOURCE OUT`, with `--list L` if wanted
+unfoldable pub asm_app : App
+asm_app =
+    fold with_rule (bare (codes "asm")) (required (positional (codes "source")) ∷ required (positional (codes "output")) ∷ option (codes "list") ∷ [])
+
 -- the value that was found for an argument
 abbrev pub found_by : List Row → Text → Option Text
 found_by rows name = first_of name rows
@@ -80,3 +85,7 @@ demo_parsed words = option_and_then (λ rows. demo_by (found_by rows)) (parse_of
 -- the conversion that the words behind `vgm` or `play` give
 abbrev pub conversion_parsed : Text → Product → List Text → Option Conversion
 conversion_parsed name product words = option_and_then (λ rows. conversion_by product (found_by rows)) (parse_of (conversion_app name) words)
+
+-- the assembly that the words behind `asm` give
+abbrev pub assembling_parsed : List Text → Option Assembling
+assembling_parsed words = option_and_then (λ rows. assembling_by (found_by rows)) (parse_of asm_app words)

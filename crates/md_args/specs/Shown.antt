@@ -1,7 +1,8 @@
 -- What the reader of the words found, as the definition's command.
 use Rattle.std.specs.Option.{option_copied}
 use Rattle.md_args.specs.Words as words
-use Rattle.md_args.specs.Words.{Command, Conversion, Convert, Demo, Run, RunCart, RunDemo, Values}
+use Rattle.md_args.specs.Words.{Assemble, Assembling, Command, Conversion, Convert, Demo, Run, RunCart, RunDemo, Values}
+use Rattle.md_args.specs.declared.asm_words.AsmWords.{AsmWords}
 use Rattle.md_args.specs.declared.command_words.CommandWords.{CommandWords}
 use Rattle.md_args.specs.declared.command_words.CommandWords.TheVariants as read
 use Rattle.md_args.specs.declared.convert_words.ConvertWords.{ConvertWords}
@@ -28,6 +29,10 @@ shown_run run =
 abbrev pub shown_conversion : ConvertWords → Conversion
 shown_conversion words = record { product = words.product; input = words.input.now; output = words.output.now; pal = words.pal }
 
+-- the assembly that words were read as
+abbrev pub shown_assembling : AsmWords → Assembling
+shown_assembling words = record { source = words.source.now; output = words.output.now; list = option_copied words.list }
+
 -- what is given for the arguments
 abbrev pub shown_values : RunValues → Values
 shown_values values =
@@ -53,3 +58,4 @@ shown_command (read.Info rom) = words.Info rom.now
 shown_command (read.Run run) = RunCart (shown_run run)
 shown_command (read.Demo demo) = RunDemo (shown_demo demo)
 shown_command (read.Convert words) = Convert (shown_conversion words)
+shown_command (read.Assemble words) = Assemble (shown_assembling words)

@@ -39,28 +39,37 @@ pub record Conversion : Type 0 where
   pub output : List ℕ
   pub pal : Bool
 
+-- a source that is assembled: the names of the source, of the image's file, and of the list's if it is asked for
+pub record Assembling : Type 0 where
+  pub source : List ℕ
+  pub output : List ℕ
+  pub list : Option (List ℕ)
+
 -- what a command line asks for: the lines of a cartridge's header, by the cartridge's name, a run, a run of
--- a demonstration cartridge, or a conversion
+-- a demonstration cartridge, a conversion, or that a source is assembled
 pub data Command : Type 0 where
   Info : List ℕ → Command
   RunCart : Run → Command
   RunDemo : Demo → Command
   Convert : Conversion → Command
+  Assemble : Assembling → Command
 
--- the name of the first file that is read: the cartridge, or the input of a conversion; a demonstration
+-- the name of the first file that is read: the cartridge, the input of a conversion, or a source; a demonstration
 -- cartridge has none
 abbrev pub rom_of : Command → List ℕ
 rom_of (Info rom) = rom
 rom_of (RunCart run) = run.rom
 rom_of (RunDemo demo) = []
 rom_of (Convert conversion) = conversion.input
+rom_of (Assemble assembling) = assembling.source
 
--- the name of a conversion's output; none where none is asked for
+-- the name of the file that a conversion or an assembly makes; none where none is asked for
 abbrev pub output_of : Command → List ℕ
 output_of (Info rom) = []
 output_of (RunCart run) = []
 output_of (RunDemo demo) = []
 output_of (Convert conversion) = conversion.output
+output_of (Assemble assembling) = assembling.output
 
 -- the conversion, if one is asked for
 abbrev pub conversion_in : Command → Option Conversion
@@ -68,6 +77,23 @@ conversion_in (Info rom) = None
 conversion_in (RunCart run) = None
 conversion_in (RunDemo demo) = None
 conversion_in (Convert conversion) = Some conversion
+conversion_in (Assemble assembling) = None
+
+-- the source that is assembled, if one is
+abbrev pub assembling_in : Command → Option Assembling
+assembling_in (Info rom) = None
+assembling_in (RunCart run) = None
+assembling_in (RunDemo demo) = None
+assembling_in (Convert conversion) = None
+assembling_in (Assemble assembling) = Some assembling
+
+-- the name of the list of an assembly, if it is asked for
+abbrev pub list_name : Command → Option (List ℕ)
+list_name (Info rom) = None
+list_name (RunCart run) = None
+list_name (RunDemo demo) = None
+list_name (Convert conversion) = None
+list_name (Assemble assembling) = assembling.list
 
 -- the run of a cartridge that is named, if one is asked for
 abbrev pub run_in : Command → Option Run
@@ -75,6 +101,7 @@ run_in (Info rom) = None
 run_in (RunCart run) = Some run
 run_in (RunDemo demo) = None
 run_in (Convert conversion) = None
+run_in (Assemble assembling) = None
 
 -- the cycle of the run's end; 0 where none is asked for
 abbrev pub end_of : Command → ℕ
@@ -82,6 +109,7 @@ end_of (Info rom) = 0
 end_of (RunCart run) = run.cycles
 end_of (RunDemo demo) = demo.cycles
 end_of (Convert conversion) = 0
+end_of (Assemble assembling) = 0
 
 -- the name of the recording, if one is given
 abbrev pub recording_name : Command → Option (List ℕ)
@@ -89,6 +117,7 @@ recording_name (Info rom) = None
 recording_name (RunCart run) = run.recording
 recording_name (RunDemo demo) = None
 recording_name (Convert conversion) = None
+recording_name (Assemble assembling) = None
 
 -- the name of the saved state to go on from, if one is given
 abbrev pub load_name : Command → Option (List ℕ)
@@ -96,6 +125,7 @@ load_name (Info rom) = None
 load_name (RunCart run) = run.load
 load_name (RunDemo demo) = None
 load_name (Convert conversion) = None
+load_name (Assemble assembling) = None
 
 -- the name of the state to save, if it is asked for
 abbrev pub save_name : Command → Option (List ℕ)
@@ -103,6 +133,7 @@ save_name (Info rom) = None
 save_name (RunCart run) = run.save
 save_name (RunDemo demo) = None
 save_name (Convert conversion) = None
+save_name (Assemble assembling) = None
 
 -- the name of the frames file, if one is asked for
 abbrev pub frames_name : Command → Option (List ℕ)
@@ -110,6 +141,7 @@ frames_name (Info rom) = None
 frames_name (RunCart run) = run.frames
 frames_name (RunDemo demo) = None
 frames_name (Convert conversion) = None
+frames_name (Assemble assembling) = None
 
 -- the name of the sound file, if one is asked for
 abbrev pub sound_name : Command → Option (List ℕ)
@@ -117,6 +149,7 @@ sound_name (Info rom) = None
 sound_name (RunCart run) = run.sound
 sound_name (RunDemo demo) = None
 sound_name (Convert conversion) = None
+sound_name (Assemble assembling) = None
 
 -- the name of the journal, if one is asked for
 abbrev pub journal_name : Command → Option (List ℕ)
@@ -124,6 +157,7 @@ journal_name (Info rom) = None
 journal_name (RunCart run) = run.journal
 journal_name (RunDemo demo) = None
 journal_name (Convert conversion) = None
+journal_name (Assemble assembling) = None
 
 -- how many workers make it; 1 where none is asked for
 abbrev pub workers_in : Command → ℕ
@@ -131,6 +165,7 @@ workers_in (Info rom) = 1
 workers_in (RunCart run) = run.workers
 workers_in (RunDemo demo) = demo.workers
 workers_in (Convert conversion) = 1
+workers_in (Assemble assembling) = 1
 
 -- a word that can be a name: it is not empty and does not begin with a hyphen
 abbrev pub is_name : List ℕ → Bool
@@ -267,6 +302,21 @@ abbrev pub conversion_of : Product → List Text → Option Conversion
 conversion_of product words =
     option_and_then (meant_by (conversion_by product)) (given (codes "input" ∷ codes "output" ∷ []) [] (codes "pal" ∷ []) between words)
 
+-- the assembly of these names, which are different
+abbrev pub assembling_given : Option Text → Option Text → Option Text → Option Assembling
+assembling_given (Some source) (Some output) list =
+    if are_names (Some source ∷ Some output ∷ list ∷ []) then Some (record { source = source; output = output; list = list }) else None
+assembling_given source output list = None
+
+-- `asm` has the names of a source and of an output, with `--list L` if wanted
+abbrev pub assembling_by : (Text → Option Text) → Option Assembling
+assembling_by value = assembling_given (value (codes "source")) (value (codes "output")) (value (codes "list"))
+
+-- the assembly that the words behind `asm` give
+abbrev pub assembling_of : List Text → Option Assembling
+assembling_of words =
+    option_and_then (meant_by assembling_by) (given (codes "source" ∷ codes "output" ∷ []) (codes "list" ∷ []) [] between words)
+
 -- the value of a number that has to be there
 abbrev pub wanted_number : Option Text → Option ℕ
 wanted_number word = option_and_then number_of word
@@ -302,6 +352,7 @@ command_of (command ∷ words) =
     else if bytes_eq command (codes "demo") then option_map RunDemo (demo_of words)
     else if bytes_eq command (codes "vgm") then option_map Convert (conversion_of Vgm words)
     else if bytes_eq command (codes "play") then option_map Convert (conversion_of Sound words)
+    else if bytes_eq command (codes "asm") then option_map Assemble (assembling_of words)
     else None
 
 -- the run but for the number of its workers

@@ -54,6 +54,16 @@ pub(crate) fn conversion_command<'a>(
     Ok(pal)
 }
 
+/// The command `asm SOURCE OUT --list L`, behind its word.
+pub(crate) fn asm_command<'a>(alloc: Global) -> Result<Command<'a>, AllocError>
+    ensures { IfOk result (λ command. app_of command ≡ meaning.asm_app) }
+{
+    let source = with_wanted_word(bare(alloc, "asm"), alloc, "source")?;
+    let output = with_wanted_word(source, alloc, "output")?;
+    let list = with_option(output, alloc, "list")?;
+    Ok(list)
+}
+
 /// A command with no argument yet, which reads no program's name and has no help.
 fn bare<'a>(alloc: Global, name: &'a str) -> Command<'a>
     ensures { app_of result ≡ meaning.bare name.entry.now }

@@ -1,8 +1,9 @@
 ghost use Rattle.std.specs.Prelude.{◌≡◌, ◌≤◌};
 ghost use Rattle.std.specs.Option.{option_copied};
 ghost use Rattle.md_args.specs.Shown.{shown_command};
-ghost use Rattle.md_args.specs.Words.{end_of, frames_name, journal_name, load_name, output_of, recording_name, rom_of, save_name, sound_name, workers_in};
+ghost use Rattle.md_args.specs.Words.{end_of, frames_name, journal_name, list_name, load_name, output_of, recording_name, rom_of, save_name, sound_name, workers_in};
 
+use crate::asm_words::AsmWords;
 use crate::convert_words::ConvertWords;
 use crate::demo_words::DemoWords;
 use crate::run_words::RunWords;
@@ -18,11 +19,13 @@ pub enum CommandWords<'a> {
     Demo(DemoWords),
     /// A file that is made of another one.
     Convert(ConvertWords<'a>),
+    /// A source that is assembled.
+    Assemble(AsmWords<'a>),
 }
 
 impl<'a> CommandWords<'a> {
-    /// The name of the first file that is read: the cartridge, or the input of a conversion. A demonstration
-    /// cartridge has none.
+    /// The name of the first file that is read: the cartridge, the input of a conversion, or a source. A
+    /// demonstration cartridge has none.
     pub fn rom(&self) -> &'a str
         ensures { result.now ≡ rom_of (shown_command self.now) }
     {
@@ -31,16 +34,18 @@ impl<'a> CommandWords<'a> {
             CommandWords::Run(run) => run.rom,
             CommandWords::Demo(_) => "",
             CommandWords::Convert(words) => words.input,
+            CommandWords::Assemble(words) => words.source,
         }
     }
 
-    /// The name of a conversion's output, and no name where none is asked for.
+    /// The name of the file that a conversion or an assembly makes, and no name where none is asked for.
     pub fn output(&self) -> &'a str
         ensures { result.now ≡ output_of (shown_command self.now) }
     {
         match self {
             CommandWords::Info(_) | CommandWords::Run(_) | CommandWords::Demo(_) => "",
             CommandWords::Convert(words) => words.output,
+            CommandWords::Assemble(words) => words.output,
         }
     }
 
@@ -49,7 +54,7 @@ impl<'a> CommandWords<'a> {
         ensures { result ≡ end_of (shown_command self.now) }
     {
         match self {
-            CommandWords::Info(_) | CommandWords::Convert(_) => 0,
+            CommandWords::Info(_) | CommandWords::Convert(_) | CommandWords::Assemble(_) => 0,
             CommandWords::Run(run) => run.cycles,
             CommandWords::Demo(demo) => demo.cycles,
         }
@@ -60,7 +65,10 @@ impl<'a> CommandWords<'a> {
         ensures { option_copied result ≡ recording_name (shown_command self.now) }
     {
         match self {
-            CommandWords::Info(_) | CommandWords::Demo(_) | CommandWords::Convert(_) => None,
+            CommandWords::Info(_)
+            | CommandWords::Demo(_)
+            | CommandWords::Convert(_)
+            | CommandWords::Assemble(_) => None,
             CommandWords::Run(run) => run.recording,
         }
     }
@@ -70,7 +78,10 @@ impl<'a> CommandWords<'a> {
         ensures { option_copied result ≡ load_name (shown_command self.now) }
     {
         match self {
-            CommandWords::Info(_) | CommandWords::Demo(_) | CommandWords::Convert(_) => None,
+            CommandWords::Info(_)
+            | CommandWords::Demo(_)
+            | CommandWords::Convert(_)
+            | CommandWords::Assemble(_) => None,
             CommandWords::Run(run) => run.load,
         }
     }
@@ -80,7 +91,10 @@ impl<'a> CommandWords<'a> {
         ensures { option_copied result ≡ save_name (shown_command self.now) }
     {
         match self {
-            CommandWords::Info(_) | CommandWords::Demo(_) | CommandWords::Convert(_) => None,
+            CommandWords::Info(_)
+            | CommandWords::Demo(_)
+            | CommandWords::Convert(_)
+            | CommandWords::Assemble(_) => None,
             CommandWords::Run(run) => run.save,
         }
     }
@@ -90,7 +104,10 @@ impl<'a> CommandWords<'a> {
         ensures { option_copied result ≡ frames_name (shown_command self.now) }
     {
         match self {
-            CommandWords::Info(_) | CommandWords::Demo(_) | CommandWords::Convert(_) => None,
+            CommandWords::Info(_)
+            | CommandWords::Demo(_)
+            | CommandWords::Convert(_)
+            | CommandWords::Assemble(_) => None,
             CommandWords::Run(run) => run.frames,
         }
     }
@@ -100,7 +117,10 @@ impl<'a> CommandWords<'a> {
         ensures { option_copied result ≡ sound_name (shown_command self.now) }
     {
         match self {
-            CommandWords::Info(_) | CommandWords::Demo(_) | CommandWords::Convert(_) => None,
+            CommandWords::Info(_)
+            | CommandWords::Demo(_)
+            | CommandWords::Convert(_)
+            | CommandWords::Assemble(_) => None,
             CommandWords::Run(run) => run.sound,
         }
     }
@@ -110,8 +130,24 @@ impl<'a> CommandWords<'a> {
         ensures { option_copied result ≡ journal_name (shown_command self.now) }
     {
         match self {
-            CommandWords::Info(_) | CommandWords::Demo(_) | CommandWords::Convert(_) => None,
+            CommandWords::Info(_)
+            | CommandWords::Demo(_)
+            | CommandWords::Convert(_)
+            | CommandWords::Assemble(_) => None,
             CommandWords::Run(run) => run.journal,
+        }
+    }
+
+    /// The name of an assembly's list, if it is asked for.
+    pub fn list(&self) -> Option<&'a str>
+        ensures { option_copied result ≡ list_name (shown_command self.now) }
+    {
+        match self {
+            CommandWords::Info(_)
+            | CommandWords::Run(_)
+            | CommandWords::Demo(_)
+            | CommandWords::Convert(_) => None,
+            CommandWords::Assemble(words) => words.list,
         }
     }
 
@@ -122,7 +158,7 @@ impl<'a> CommandWords<'a> {
         ensures few { result ≤ 5 }
     {
         match self {
-            CommandWords::Info(_) | CommandWords::Convert(_) => 1,
+            CommandWords::Info(_) | CommandWords::Convert(_) | CommandWords::Assemble(_) => 1,
             CommandWords::Run(run) => run.workers,
             CommandWords::Demo(demo) => demo.workers,
         }

@@ -1,6 +1,8 @@
 //! What the words of the command line ask for.
 #![tactic(auto)]
 
+mod asm_reading;
+mod asm_words;
 mod building;
 mod command_words;
 mod convert_reading;
@@ -15,6 +17,7 @@ mod reading;
 mod run_values;
 mod run_words;
 
+pub use asm_words::AsmWords;
 pub use command_words::CommandWords;
 pub use convert_words::{ConvertWords, Product};
 pub use demo_words::DemoWords;

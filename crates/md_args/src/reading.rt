@@ -6,6 +6,7 @@ ghost use Rattle.md_args.specs.Parse.{found_by};
 ghost use Rattle.md_args.specs.Shown.{shown_command, shown_run, shown_values};
 ghost use Rattle.md_args.specs.Words as meaning;
 
+use crate::asm_reading::read_asm;
 use crate::building::{info_command, run_command};
 use crate::command_words::CommandWords;
 use crate::convert_reading::read_conversion;
@@ -69,6 +70,13 @@ pub fn read_words<'a>(
     if command.as_str() == "play" {
         return match read_conversion(alloc, "play", Product::Sound, rest) {
             Ok(Some(words)) => Ok(Some(CommandWords::Convert(words))),
+            Ok(None) => Ok(None),
+            Err(error) => Err(error),
+        };
+    }
+    if command.as_str() == "asm" {
+        return match read_asm(alloc, rest) {
+            Ok(Some(words)) => Ok(Some(CommandWords::Assemble(words))),
             Ok(None) => Ok(None),
             Err(error) => Err(error),
         };
