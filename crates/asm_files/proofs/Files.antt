@@ -1,0 +1,159 @@
+-- Two files that are begun and then written.
+use Rattle.std.proofs.Common.{◌≡◌, ◌∙◌, ◌≤◌, List, ℕ, [], ◌++◌, ◌⊎◌, inl, inr, Bool, true, false, cond, not, Option, Some, None, ap, refl, sym, subst, length, append-nil, append_assoc}
+use Rattle.std.specs.Prelude.{IsSome}
+use Rattle.std.specs.Str.{bytes_eq}
+use Rattle.std.proofs.lemmas.Slice.Eq.{bytes_eq-Decides}
+use Rattle.md_outer.specs.Outside.{DepotState, Files, GoesOn, IsPrefix, bytes_of, with_file}
+use Rattle.md_args.specs.Words.{Assembling, differ}
+use Rattle.md_asm.specs.Assembly.{Done, assembly}
+use Rattle.md_asm.specs.declared.placed.Placed.{Placed}
+use Rattle.asm_files.specs.Assemblies.{HoldsParts, IsFound, LeavesFiles, LeavesParts, WriteCause, WritesFiles, with_both, with_list}
+use Rattle.asm_files.specs.Begun.{IsBegun, with_more}
+use Rattle.asm_files.specs.Lists.{list_of}
+use Rattle.asm_files.specs.declared.comes.Comes.{Comes}
+use Rattle.asm_files.specs.declared.comes.Comes.TheVariants.{Made, Unread, TooLong, Refused, Unwritten, Unlisted, NoMemory}
+
+-- ---- one file
+
+cond-cond : {A : Type 0} (b : Bool) (x y z : A) → cond b x (cond b y z) ≡ cond b x z
+cond-cond true x y z = refl
+cond-cond false x y z = refl
+
+twice : (files : Files) (name first second : List ℕ) → with_file (with_file files name first) name second ≡ with_file files name second
+twice files name first second i other = cond-cond (bytes_eq name other) (Some second) (Some first) (files other) i
+
+same_name : (name : List ℕ) → bytes_eq name name ≡ true
+same_name name = (bytes_eq-Decides name name).1 refl
+
+held : (files : Files) (name bytes : List ℕ) → bytes_of (with_file files name bytes) name ≡ bytes
+held files name bytes = rw (same_name name) refl
+
+-- ---- two files
+
+not_true : (b : Bool) → not b ≡ true → b ≡ false
+not_true true h = cc
+not_true false h = refl
+
+both_not : (a b other : List ℕ) → bytes_eq a b ≡ false → bytes_eq a other ≡ true → bytes_eq b other ≡ true → ⊥
+both_not a b other differ is is' =
+    let first = (bytes_eq-Decides a other).0 is in
+    let second = (bytes_eq-Decides b other).0 is' in
+    let same : bytes_eq a b ≡ true = (bytes_eq-Decides a b).1 (first ∙ sym second) in
+    cc
+
+cond-comm : {A : Type 0} (p q : Bool) (x y z : A) → (p ≡ true → q ≡ true → ⊥) → cond q y (cond p x z) ≡ cond p x (cond q y z)
+cond-comm true true x y z apart = absurd (apart refl refl)
+cond-comm true false x y z apart = refl
+cond-comm false true x y z apart = refl
+cond-comm false false x y z apart = refl
+
+swapped : (files : Files) (a b x y : List ℕ) → bytes_eq a b ≡ false → with_file (with_file files a x) b y ≡ with_file (with_file files b y) a x
+swapped files a b x y differ i other =
+    cond-comm (bytes_eq a other) (bytes_eq b other) (Some x) (Some y) (files other) (both_not a b other differ) i
+
+-- the output holds what was begun, whatever list was begun behind it
+output_kept : (files : Files) (a b x y : List ℕ) → bytes_eq a b ≡ false → bytes_of (with_file (with_file files a x) b y) a ≡ x
+output_kept files a b x y differ = ap (λ (f : Files). bytes_of f a) (swapped files a b x y differ) ∙ held (with_file files b y) a x
+
+-- a piece is appended to the output, behind which the list was begun
+pub output_more : (files begun new : Files) (output : List ℕ) (list : Option (List ℕ)) (piece : List ℕ) → differ (Some output) list ≡ true
+    → begun ≡ with_list list (with_file files output []) [] → new ≡ with_file begun output (bytes_of begun output ++ piece)
+    → new ≡ with_list list (with_file files output piece) []
+output_more files begun new output None piece differ is more =
+    more ∙ ap (λ (f : Files). with_file f output (bytes_of f output ++ piece)) is
+    ∙ ap (λ (l : List ℕ). with_file (with_file files output []) output (l ++ piece)) (held files output []) ∙ twice files output [] piece
+output_more files begun new output (Some name) piece differ is more =
+    let apart = not_true (bytes_eq output name) differ in
+    more ∙ ap (λ (f : Files). with_file f output (bytes_of f output ++ piece)) is
+    ∙ ap (λ (l : List ℕ). with_file (with_file (with_file files output []) name []) output (l ++ piece)) (output_kept files output name [] [] apart)
+    ∙ ap (λ (f : Files). with_file f output piece) (swapped files output name [] [] apart)
+    ∙ twice (with_file files name []) output [] piece ∙ sym (swapped files output name piece [] apart)
+
+-- a piece is appended to the list
+pub list_more : (files written new : Files) (list : Option (List ℕ)) (piece : List ℕ)
+    → written ≡ with_list list files [] → new ≡ with_more list written piece → new ≡ with_list list files piece
+list_more files written new None piece is more = more ∙ is
+list_more files written new (Some name) piece is more =
+    more ∙ ap (λ (f : Files). with_file f name (bytes_of f name ++ piece)) is
+    ∙ ap (λ (l : List ℕ). with_file (with_file files name []) name (l ++ piece)) (held files name []) ∙ twice files name [] piece
+
+pub front : (whole : List ℕ) → IsPrefix [] whole
+front whole = (whole, refl)
+
+pub all_of : (whole : List ℕ) → IsPrefix whole whole
+all_of whole = ([], append-nil whole)
+
+-- ---- what is begun
+
+pub begun_on : (old new : DepotState) (file : Option ℕ) (name : Option (List ℕ)) → GoesOn old new → IsBegun old file name → IsBegun new file name
+begun_on old new (Some file) (Some name) goes is = goes.names file (subst IsSome (sym is) refl) ∙ is
+begun_on old new (Some file) None goes is = absurd is
+begun_on old new None (Some name) goes is = absurd is
+begun_on old new None None goes is = tt
+
+-- the first file is begun still
+pub first_on : (old new : DepotState) (file : ℕ) (name : List ℕ) → GoesOn old new → old.begun file ≡ Some name → new.begun file ≡ Some name
+first_on old new file name goes is = begun_on old new (Some file) (Some name) goes is
+
+-- ---- what is left
+
+-- a part of the image was appended
+pub image_part : (words : Assembling) (old first begun new : Files) (image list part : List ℕ) → differ (Some words.output) words.list ≡ true
+    → first ≡ with_file old words.output [] → begun ≡ with_list words.list first [] → IsPrefix part image
+    → new ≡ with_file begun words.output (bytes_of begun words.output ++ part) → HoldsParts words old new image list
+image_part words old first begun new image list part differ is then_is prefix more =
+    inr (
+      part,
+      [],
+      prefix,
+      front list,
+      output_more old begun new words.output words.list part differ (then_is ∙ ap (λ (f : Files). with_list words.list f []) is) more,
+    )
+
+-- the image was, and a piece of the list
+pub list_piece : (words : Assembling) (old first begun written new : Files) (image piece : List ℕ) → differ (Some words.output) words.list ≡ true
+    → first ≡ with_file old words.output [] → begun ≡ with_list words.list first []
+    → written ≡ with_file begun words.output (bytes_of begun words.output ++ image) → new ≡ with_more words.list written piece
+    → new ≡ with_both words old image piece
+list_piece words old first begun written new image piece differ is then_is more last =
+    list_more (with_file old words.output image) written new words.list piece
+    (output_more old begun written words.output words.list image differ (then_is ∙ ap (λ (f : Files). with_list words.list f []) is) more) last
+
+-- what an assembly leaves, by what its writing leaves
+pub leaves : (words : Assembling) (old before new : Files) (first last : DepotState) (image list : List ℕ) (lines : List Placed) (ending : Comes)
+    → before ≡ old → IsFound (old words.source) (Done image lines) → list ≡ list_of image lines
+    → WriteCause (length image) first last ending → WritesFiles words before new image list ending → LeavesFiles words old new ending
+leaves words old before new first last image list lines ending same found is cause left =
+    go ending cause (subst (λ (f : Files). WritesFiles words f new image (list_of image lines) ending) same (subst (λ (l : List ℕ). WritesFiles words before new image l ending) is left))
+  where
+    parts : (new ≡ old) ⊎ HoldsParts words old new image (list_of image lines) → LeavesParts words old new
+    parts (inl same) = inl same
+    parts (inr holds) = inr (image, lines, found, holds)
+
+    go : (ending : Comes) → WriteCause (length image) first last ending → WritesFiles words old new image (list_of image lines) ending → LeavesFiles words old new ending
+    go (Made size) cause left = (image, lines, found, cause, left)
+    go Unwritten cause left = parts left
+    go Unlisted cause left = parts left
+    go NoMemory cause left = parts left
+    go Unread cause left = absurd cause
+    go TooLong cause left = absurd cause
+    go (Refused line kind) cause left = absurd cause
+
+-- ---- a line of the list
+
+pub line_more : (old place text behind first second new : List ℕ) → first ≡ old ++ place → second ≡ first ++ text → new ≡ second ++ behind
+    → new ≡ old ++ ((place ++ text) ++ behind)
+line_more old place text behind first second new is is' is'' =
+    is'' ∙ ap (λ (l : List ℕ). l ++ behind) (is' ∙ ap (λ (l : List ℕ). l ++ text) is)
+    ∙ simp append_assoc
+
+-- the source that was fetched is assembled so
+pub found_in : (files : Files) (words : Assembling) (items bytes image : List ℕ) (lines : List Placed) → files words.source ≡ Some items
+    → length items ≤ 1048576 → bytes ≡ items → assembly bytes ≡ Done image lines → IsFound (files words.source) (Done image lines)
+found_in files words items bytes image lines held within is done =
+    subst (λ (source : Option (List ℕ)). IsFound source (Done image lines)) (sym held) (within, ap assembly (sym is) ∙ done)
+
+pub left_by : {seen : List ℕ} {placed : List Placed} (first : List ℕ) (second : List Placed) → first ≡ seen → second ≡ placed
+    → list_of first second ≡ list_of seen placed
+left_by {seen} {placed} first second is is' =
+    ap (λ (l : List ℕ). list_of l second) is ∙ ap (λ (l : List Placed). list_of seen l) is'

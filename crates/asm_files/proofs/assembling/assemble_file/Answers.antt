@@ -1,0 +1,16 @@
+use Rattle.std.proofs.Common.{◌≡◌, ◌∙◌, ap, sym, subst, length, rules}
+use Rattle.md_args.specs.Shown.{shown_assembling}
+use Rattle.md_asm.specs.Seen.{image_seen, lines_seen}
+use Rattle.asm_files.proofs.Files.{found_in, leaves, left_by}
+use Rattle.asm_files.proofs.assembling.assemble_file.Goals as goal
+
+pub returns-in-Ok-list_of-clause-files : goal.returns-in-Ok-list_of-clause-files
+returns-in-Ok-list_of-clause-files g c = λ t.
+    leaves (shown_assembling c.args.words.now) (g.D.Depot.state c.args.depot.now).files (g.D.Depot.state c.fetch.new.self).files
+    (g.D.Depot.state c.write_both.new.depot).files (g.D.Depot.state c.fetch.new.self) (g.D.Depot.state c.write_both.new.depot)
+    (image_seen c.in-Ok-assemble.assembled) c.as_bytes.result.now (lines_seen c.in-Ok-assemble.assembled) c.write_both.result
+    (c.in-Ok.ensures.files t)
+    (found_in (g.D.Depot.state c.args.depot.now).files (shown_assembling c.args.words.now) c.in-Ok.source.items c.as_slice.result.now (image_seen c.in-Ok-assemble.assembled) (lines_seen c.in-Ok-assemble.assembled)
+    (c.in-Ok.ensures.bytes t) c.in-Ok.ensures.within c.as_slice.ensures.value c.in-Ok-assemble.ensures.done)
+    (c.as_bytes.ensures.value ∙ c.in-Ok-list_of.ensures ∙ left_by c.image.result.now c.lines.result.now c.image.ensures c.lines.ensures)
+    (rw c.image-in-Ok-list_of.ensures at c.write_both.ensures.cause) (rw c.image-in-Ok-list_of.ensures at (c.write_both.ensures.files t))
