@@ -15,7 +15,7 @@ use Rattle.md_top.specs.Conversions.{ConvertEnds, ConvertFiles, IsRefusedInput, 
 use Rattle.md_top.specs.Endings.{InfoEnds, RunEnds, status_of}
 use Rattle.md_top.specs.Inputs.{IsMissing}
 use Rattle.md_top.specs.declared.ending.Ending.{Ending}
-use Rattle.md_top.specs.declared.ending.Ending.TheVariants.{Converted, InputRefused, OutputFault, Usage, TooFar, ReadFault, TooLong, RecordingFault, RecordingWrong, LoadFault, StateWrong, OtherCart, Behind, FramesFault, SoundFault, JournalFault, SaveFault, Memory}
+use Rattle.md_top.specs.declared.ending.Ending.TheVariants.{Converted, InputRefused, OutputFault, ListFault, Usage, TooFar, ReadFault, TooLong, RecordingFault, RecordingWrong, LoadFault, StateWrong, OtherCart, Behind, FramesFault, SoundFault, JournalFault, SaveFault, Memory}
 use Rattle.md_top.proofs.Right.{not_below}
 use Rattle.md_top.proofs.Statuses.{missing_cart}
 
@@ -69,6 +69,7 @@ module _ (told : Type 0) (conversion : Conversion) (old new : DepotState) where
 
   pub convert_write_fault : (ending : Ending) → Ends ending → status_of ending ≡ 4 → Rose old.write_faults new.write_faults
   convert_write_fault OutputFault cause is = cause.0
+  convert_write_fault ListFault cause is = absurd cause
   convert_write_fault FramesFault cause is = absurd cause
   convert_write_fault SoundFault cause is = absurd cause
   convert_write_fault JournalFault cause is = absurd cause

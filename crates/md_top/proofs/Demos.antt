@@ -82,6 +82,14 @@ demo_refused demo Memory ends is = omega (arith, is)
 demo_refused demo TooFar ends is = omega (arith, is)
 demo_refused demo _ ends is = absurd ends
 
+-- nor a source
+pub demo_source : (demo : Demo) (ending : Ending) → DemoEnds demo ending → status_of ending ≡ 16 → ⊥
+demo_source demo (DemoDone summary) ends is = omega (arith, is)
+demo_source demo (Behind from) ends is = omega (arith, is)
+demo_source demo Memory ends is = omega (arith, is)
+demo_source demo TooFar ends is = omega (arith, is)
+demo_source demo _ ends is = absurd ends
+
 -- where the end is too far no other ending comes
 pub demo_far_only : (sink : Type 0) (demo : Demo) (out out' : SinkState) (status : ℕ) (ending : Ending) → DemoEnds demo ending
     → Reports sink (Some (RunDemo demo)) ending out out' status → last_cycle < demo.cycles → (status ≡ 11) ⊎ (status ≡ 10)

@@ -1,4 +1,5 @@
 pub mod Appends
+pub mod Assemblies
 pub mod Carts
 pub mod Conversions
 pub mod Counts

@@ -13,12 +13,14 @@ use Rattle.md_top.specs.Runs.{pieces_of, pieces_until}
 use Rattle.md_top.specs.Endings.{HasCause, InfoEnds, LeavesFiles, RunEnds, RunFiles, accepted_ending, asked_ending, file_ending, loaded_ending, right_ending, status_of}
 use Rattle.md_top.specs.Outputs.{LeavesParts, Parts, Pieces, all_of, nothing, with_part, written}
 use Rattle.md_vgm.specs.Outcomes.{Made, Outcome}
-use Rattle.md_args.specs.Words.{Command, Convert, Info, Run, RunCart, RunDemo}
+use Rattle.md_args.specs.Words.{Assemble, Command, Convert, Info, Run, RunCart, RunDemo}
+use Rattle.md_top.specs.Assemblies.{asm_ending}
 use Rattle.md_top.specs.Conversions.{convert_ending}
 use Rattle.md_top.specs.declared.ending.Ending.{Ending}
 use Rattle.md_top.specs.declared.ending.Ending.TheVariants.{Shown, Done, Usage, TooFar, RecordingFault, RecordingTooLong, RecordingWrong, LoadFault, StateTooLong, StateWrong, OtherCart, Behind, FramesFault, SoundFault, JournalFault, SaveFault, Unsaved, Memory}
+use Rattle.md_top.proofs.Assemblies.{asm_behind, asm_done, asm_far, asm_other, asm_read_fault, asm_refused_input, asm_refused_source, asm_right, asm_state, asm_usage, asm_write_fault, asm_wrong, assembled_other, convert_source, info_source, run_source}
 use Rattle.md_top.proofs.Conversions.{convert_behind, convert_done, convert_far, convert_other, convert_read_fault, convert_refused, convert_right, convert_state, convert_usage, convert_write_fault, convert_wrong, converted_other, info_refused, made_outcome, run_refused}
-use Rattle.md_top.proofs.Demos.{demo_behind, demo_far, demo_far_only, demo_never, demo_refused, demo_right, right_demo_done}
+use Rattle.md_top.proofs.Demos.{demo_behind, demo_far, demo_far_only, demo_never, demo_refused, demo_right, demo_source, right_demo_done}
 use Rattle.md_top.proofs.Right.{cart_right, recording_judged, recording_right, right_accepted, right_behind, right_behind_cart, right_done, right_far, right_load, right_near, state_judged}
 use Rattle.md_top.proofs.Statuses.{reported, of_ending, info_usage, run_usage, info_far, run_far, info_read_fault, run_read_fault, info_wrong, run_wrong, info_state, run_state, info_other, run_other, info_behind, run_behind, info_write_fault, run_write_fault, far_only}
 
@@ -161,6 +163,7 @@ none_causes told old out out' status (inl two) = record {
   other_cart = λ is. absurd (omega (arith, two, is));
   behind = λ is. absurd (omega (arith, two, is));
   input_refused = λ is. absurd (omega (arith, two, is));
+  source_refused = λ is. absurd (omega (arith, two, is));
   write_fault = λ is. absurd (omega (arith, two, is));
   out_fault = λ is. absurd (omega (arith, two, is));
   exact = λ clean t verdict is state judged outcome known. inl two;
@@ -178,6 +181,7 @@ none_causes told old out out' status (inr ten) = record {
   other_cart = λ is. absurd (omega (arith, ten, is));
   behind = λ is. absurd (omega (arith, ten, is));
   input_refused = λ is. absurd (omega (arith, ten, is));
+  source_refused = λ is. absurd (omega (arith, ten, is));
   write_fault = λ is. absurd (omega (arith, ten, is));
   out_fault = λ is. absurd (omega (arith, ten, is));
   exact = λ clean t verdict is state judged outcome known. inr ten;
@@ -201,6 +205,7 @@ causes_of told sink (Info rom) old new out out' status ending cause leaves repor
       other_cart = λ eight. info_other told rom old new ending cause (of_ending status (status_of ending) 8 by eight (λ is. omega (arith, is)));
       behind = λ nine. info_behind told rom old new ending cause (of_ending status (status_of ending) 9 by nine (λ is. omega (arith, is)));
       input_refused = λ seventeen. absurd (info_refused told rom old new ending cause (of_ending status (status_of ending) 17 by seventeen (λ is. omega (arith, is))));
+      source_refused = λ sixteen. absurd (info_source told rom old new ending cause (of_ending status (status_of ending) 16 by sixteen (λ is. omega (arith, is))));
       write_fault = λ four. info_write_fault told rom old new ending cause (of_ending status (status_of ending) 4 by four (λ is. omega (arith, is)));
       out_fault = λ thirteen. out_fault status (status_of ending) by (not_out ending) thirteen;
       exact = λ clean t verdict is state judged outcome known.
@@ -211,7 +216,7 @@ causes_of told sink (Info rom) old new out out' status ending cause leaves repor
           (exact_is status (status_of ending) (status_of (right_ending (Some (Info rom)) old.files (Recorded []) (StateWrongAt 0) (Made []))) by clean.puts
           (info_right told rom old new (Recorded []) (StateWrongAt 0) (Made []) ending cause clean.reads t))
           (ap status_of (right_accepted (old.files rom) (Shown (header_lines (cart_of rom old.files))) ready));
-      others = λ t name no_frames no_sound no_journal no_save no_output. ap (λ (files : Files). files name) (leaves t);
+      others = λ t name no_frames no_sound no_journal no_save no_output no_image. ap (λ (files : Files). files name) (leaves t);
     }
 causes_of told sink (RunCart run) old new out out' status ending cause leaves reports =
     let by = reported sink (Some (RunCart run)) ending out out' status reports in
@@ -226,6 +231,7 @@ causes_of told sink (RunCart run) old new out out' status ending cause leaves re
       other_cart = λ eight. run_other told run old new ending cause (of_ending status (status_of ending) 8 by eight (λ is. omega (arith, is)));
       behind = λ nine. run_behind told run old new ending cause (of_ending status (status_of ending) 9 by nine (λ is. omega (arith, is)));
       input_refused = λ seventeen. absurd (run_refused told run old new ending cause (of_ending status (status_of ending) 17 by seventeen (λ is. omega (arith, is))));
+      source_refused = λ sixteen. absurd (run_source told run old new ending cause (of_ending status (status_of ending) 16 by sixteen (λ is. omega (arith, is))));
       write_fault = λ four. run_write_fault told run old new ending cause (of_ending status (status_of ending) 4 by four (λ is. omega (arith, is)));
       out_fault = λ thirteen. out_fault status (status_of ending) by (not_out ending) thirteen;
       exact = λ clean t verdict is state judged outcome known.
@@ -241,7 +247,7 @@ causes_of told sink (RunCart run) old new out out' status ending cause leaves re
           (exact_is status (status_of ending) (status_of (asked_ending run old.files verdict state)) by clean.puts
           (run_right told run old new verdict state ending cause is judged clean.reads clean.writes t))
           (right_done run old.files verdict state ready.1.0 ready.0.1 ready.1.2 begins is judged);
-      others = λ t name no_frames no_sound no_journal no_save no_output. leaves_other run old.files new.files ending (leaves t) name no_frames no_sound no_journal no_save;
+      others = λ t name no_frames no_sound no_journal no_save no_output no_image. leaves_other run old.files new.files ending (leaves t) name no_frames no_sound no_journal no_save;
     }
 causes_of told sink (Convert conversion) old new out out' status ending cause leaves reports =
     let by = reported sink (Some (Convert conversion)) ending out out' status reports in
@@ -256,6 +262,7 @@ causes_of told sink (Convert conversion) old new out out' status ending cause le
       other_cart = λ eight. absurd (convert_other told conversion old new ending cause (of_ending status (status_of ending) 8 by eight (λ is. omega (arith, is))));
       behind = λ nine. absurd (convert_behind told conversion old new ending cause (of_ending status (status_of ending) 9 by nine (λ is. omega (arith, is))));
       input_refused = λ seventeen. convert_refused told conversion old new ending cause (of_ending status (status_of ending) 17 by seventeen (λ is. omega (arith, is)));
+      source_refused = λ sixteen. absurd (convert_source told conversion old new ending cause (of_ending status (status_of ending) 16 by sixteen (λ is. omega (arith, is))));
       write_fault = λ four. convert_write_fault told conversion old new ending cause (of_ending status (status_of ending) 4 by four (λ is. omega (arith, is)));
       out_fault = λ thirteen. out_fault status (status_of ending) by (not_out ending) thirteen;
       exact = λ clean t verdict is state judged outcome known.
@@ -267,7 +274,7 @@ causes_of told sink (Convert conversion) old new out out' status ending cause le
           (exact_is status (status_of ending) (status_of (convert_ending conversion old.files (Made ready.0))) by clean.puts
           (convert_right told conversion old new (Made ready.0) ending cause known clean.reads clean.writes t))
           (convert_done conversion (old.files conversion.input) ready.0 ready.1.0);
-      others = λ t name no_frames no_sound no_journal no_save no_output. converted_other conversion old.files new.files ending (leaves t) name no_output;
+      others = λ t name no_frames no_sound no_journal no_save no_output no_image. converted_other conversion old.files new.files ending (leaves t) name no_output;
     }
 causes_of told sink (RunDemo demo) old new out out' status ending (same, ends) leaves reports =
     let by = reported sink (Some (RunDemo demo)) ending out out' status reports in
@@ -283,6 +290,7 @@ causes_of told sink (RunDemo demo) old new out out' status ending (same, ends) l
       other_cart = λ eight. absurd (never 8 (of_ending status (status_of ending) 8 by eight (λ is. omega (arith, is))) (omega arith) (omega arith));
       behind = λ nine. demo_behind demo ending ends (of_ending status (status_of ending) 9 by nine (λ is. omega (arith, is)));
       input_refused = λ seventeen. absurd (demo_refused demo ending ends (of_ending status (status_of ending) 17 by seventeen (λ is. omega (arith, is))));
+      source_refused = λ sixteen. absurd (demo_source demo ending ends (of_ending status (status_of ending) 16 by sixteen (λ is. omega (arith, is))));
       write_fault = λ four. absurd (never 4 (of_ending status (status_of ending) 4 by four (λ is. omega (arith, is))) (omega arith) (omega arith));
       out_fault = λ thirteen. out_fault status (status_of ending) by (not_out ending) thirteen;
       exact = λ clean t verdict is state judged outcome known.
@@ -293,7 +301,33 @@ causes_of told sink (RunDemo demo) old new out out' status ending (same, ends) l
           (exact_is status (status_of ending) (status_of (right_ending (Some (RunDemo demo)) old.files (Recorded []) (StateWrongAt 0) (Made []))) by clean.puts
           (demo_right demo old.files (Recorded []) (StateWrongAt 0) (Made []) ending ends))
           (right_demo_done demo old.files (Recorded []) (StateWrongAt 0) (Made []) ready);
-      others = λ t name no_frames no_sound no_journal no_save no_output. ap (λ (files : Files). files name) (leaves t);
+      others = λ t name no_frames no_sound no_journal no_save no_output no_image. ap (λ (files : Files). files name) (leaves t);
+    }
+causes_of told sink (Assemble words) old new out out' status ending cause leaves reports =
+    let by = reported sink (Some (Assemble words)) ending out out' status reports in
+    record {
+      usage = λ two. absurd (asm_usage told words old new ending cause (of_ending status (status_of ending) 2 by two (λ is. omega (arith, is))));
+      refused = λ none. absurd (is_asked (Assemble words) none);
+      too_far = λ eleven. absurd (asm_far told words old new ending cause (of_ending status (status_of ending) 11 by eleven (λ is. omega (arith, is))));
+      far_refused = λ far. absurd (omega (arith, far));
+      read_fault = λ three. asm_read_fault told words old new ending cause (of_ending status (status_of ending) 3 by three (λ is. omega (arith, is)));
+      wrong = λ six. absurd (asm_wrong told words old new ending cause (of_ending status (status_of ending) 6 by six (λ is. omega (arith, is))));
+      state_wrong = λ seven. absurd (asm_state told words old new ending cause (of_ending status (status_of ending) 7 by seven (λ is. omega (arith, is))));
+      other_cart = λ eight. absurd (asm_other told words old new ending cause (of_ending status (status_of ending) 8 by eight (λ is. omega (arith, is))));
+      behind = λ nine. absurd (asm_behind told words old new ending cause (of_ending status (status_of ending) 9 by nine (λ is. omega (arith, is))));
+      input_refused = λ seventeen. absurd (asm_refused_input told words old new ending cause (of_ending status (status_of ending) 17 by seventeen (λ is. omega (arith, is))));
+      source_refused = λ sixteen. asm_refused_source told words old new ending cause (of_ending status (status_of ending) 16 by sixteen (λ is. omega (arith, is)));
+      write_fault = λ four. asm_write_fault told words old new ending cause (of_ending status (status_of ending) 4 by four (λ is. omega (arith, is)));
+      out_fault = λ thirteen. out_fault status (status_of ending) by (not_out ending) thirteen;
+      exact = λ clean t verdict is state judged outcome known.
+          exact_is status (status_of ending) (status_of (asm_ending words old.files)) by clean.puts
+          (asm_right told words old new ending cause clean.reads clean.writes t);
+      complete = λ clean t ready.
+          ready_ends status (status_of (asm_ending words old.files))
+          (exact_is status (status_of ending) (status_of (asm_ending words old.files)) by clean.puts
+          (asm_right told words old new ending cause clean.reads clean.writes t))
+          (asm_done (old.files words.source) ready.0 ready.1 ready.2);
+      others = λ t name no_frames no_sound no_journal no_save no_output no_image. assembled_other words old.files new.files ending (leaves t) name no_image.0 no_image.1;
     }
 
 -- where memory was wanting for the words
@@ -303,12 +337,14 @@ memory_cause told (Some (Info rom)) old = tt
 memory_cause told (Some (RunCart run)) old = tt
 memory_cause told (Some (RunDemo demo)) old = (refl, tt)
 memory_cause told (Some (Convert conversion)) old = tt
+memory_cause told (Some (Assemble words)) old = tt
 
 memory_leaves : (command : Option Command) (files : Files) → LeavesFiles command files files Memory
 memory_leaves None files = refl
 memory_leaves (Some (Info rom)) files = refl
 memory_leaves (Some (RunDemo demo)) files = refl
 memory_leaves (Some (Convert conversion)) files = refl
+memory_leaves (Some (Assemble words)) files = inl refl
 memory_leaves (Some (RunCart run)) files = record {
   parts = record { frames = None; sound = None; journal = None; state = None };
   frames = tt;

@@ -10,7 +10,7 @@ use Rattle.md_top.specs.Loads.{IsLoadFound, OfOther, StateWrongAt}
 use Rattle.md_top.specs.Endings.{InfoEnds, RunEnds, status_of, text_of}
 use Rattle.md_args.specs.Words.{Command, Info, Run, RunCart}
 use Rattle.md_top.specs.declared.ending.Ending.{Ending}
-use Rattle.md_top.specs.declared.ending.Ending.TheVariants.{Shown, Done, DemoDone, Converted, OutputFault, Usage, TooFar, ReadFault, RecordingFault, RecordingWrong, LoadFault, StateWrong, OtherCart, Behind, FramesFault, SoundFault, JournalFault, SaveFault, Unsaved, Memory}
+use Rattle.md_top.specs.declared.ending.Ending.TheVariants.{Shown, Done, DemoDone, Converted, OutputFault, ListFault, Usage, TooFar, ReadFault, RecordingFault, RecordingWrong, LoadFault, StateWrong, OtherCart, Behind, FramesFault, SoundFault, JournalFault, SaveFault, Unsaved, Memory}
 
 -- the status is the ending's, but where the sink failed within an output
 pub put_output : (told : Type 0) (text : List ℕ) (out out' : SinkState) (status : ℕ) → PutsOutput told text out out' status
@@ -131,6 +131,7 @@ info_write_fault told rom old new SoundFault cause is = absurd cause
 info_write_fault told rom old new JournalFault cause is = absurd cause
 info_write_fault told rom old new SaveFault cause is = absurd cause
 info_write_fault told rom old new OutputFault cause is = absurd cause
+info_write_fault told rom old new ListFault cause is = absurd cause
 info_write_fault told rom old new _ cause is = absurd (omega (arith, is))
 
 pub run_write_fault : (told : Type 0) (run : Run) (old new : DepotState) (ending : Ending) → RunEnds told run old new ending → status_of ending ≡ 4 → Rose old.write_faults new.write_faults
@@ -139,6 +140,7 @@ run_write_fault told run old new SoundFault cause is = cause.2.1
 run_write_fault told run old new JournalFault cause is = cause.2.1
 run_write_fault told run old new SaveFault cause is = cause.2.1
 run_write_fault told run old new OutputFault cause is = absurd cause.1
+run_write_fault told run old new ListFault cause is = absurd cause.1
 run_write_fault told run old new _ cause is = absurd (omega (arith, is))
 
 -- where the end is too far no other ending comes

@@ -7,7 +7,8 @@ use Rattle.md_word.specs.Clock.{last_cycle}
 use Rattle.md_top.specs.Loads.{Begins, IsLoadFound, IsStateJudged, MayBeginAt, OfOther, StateVerdict, StateWrongAt}
 use Rattle.md_machine.specs.Starts.{Start}
 use Rattle.md_vgm.specs.Outcomes.{Outcome}
-use Rattle.md_args.specs.Words.{Command, Convert, Info, RunCart, RunDemo, conversion_in, end_of, frames_name, journal_name, recording_name, run_in, save_name, sound_name}
+use Rattle.md_args.specs.Words.{Assemble, Command, Convert, Info, RunCart, RunDemo, assembling_in, conversion_in, end_of, frames_name, journal_name, recording_name, run_in, save_name, sound_name}
+use Rattle.md_top.specs.Assemblies.{IsRefusedSource}
 use Rattle.md_top.specs.Conversions.{IsInputOutcome, IsRefusedInput}
 use Rattle.md_top.specs.Endings.{HasCause, IsReady, LeavesFiles, right_ending, status_of, text_of}
 use Rattle.md_top.specs.declared.ending.Ending.{Ending}
@@ -54,6 +55,7 @@ abbrev pub IsBehind : Type 0 → Command → Files → Type 0
 IsBehind told (Info rom) files = ⊥
 IsBehind told (RunDemo demo) files = demo.cycles ≡ 0
 IsBehind told (Convert conversion) files = ⊥
+IsBehind told (Assemble words) files = ⊥
 IsBehind told (RunCart run) files =
     (from : ℕ) × MayBeginAt run from × (run.cycles ≤ from) × (told → (start : Start) × Begins run files start × (from ≡ start.at))
 
@@ -69,6 +71,7 @@ pub record Causes (depot_told : Type 0) (command : Option Command) (old new : De
   pub other_cart : status ≡ 8 → IsSomeAnd (option_and_then run_in command) (λ run. (kept : List ℕ) × (given : List ℕ) × IsLoadFound depot_told run old.files (OfOther kept given))
   pub behind : status ≡ 9 → IsSomeAnd command (λ asked. IsBehind depot_told asked old.files)
   pub input_refused : status ≡ 17 → IsSomeAnd (option_and_then conversion_in command) (λ conversion. IsRefusedInput depot_told conversion old.files)
+  pub source_refused : status ≡ 16 → IsSomeAnd (option_and_then assembling_in command) (λ words. IsRefusedSource depot_told words old.files)
   pub write_fault : status ≡ 4 → Rose old.write_faults new.write_faults
   pub out_fault : status ≡ 13 → Rose out.faults out'.faults
   -- each refusal comes exactly where it should, in this order; want of memory may come between
@@ -80,4 +83,5 @@ pub record Causes (depot_told : Type 0) (command : Option Command) (old new : De
   pub complete : NoFaults old new out out' → depot_told → IsSomeAnd command (λ asked. IsReady asked old.files) → (status ≡ 0) ⊎ (status ≡ 10)
   -- no file but the outputs changes
   pub others : depot_told → IfSome command (λ asked. (name : List ℕ) → frames_name asked ≢ Some name → sound_name asked ≢ Some name → journal_name asked ≢ Some name → save_name asked ≢ Some name
-      → IfSome (conversion_in asked) (λ conversion. conversion.output ≢ name) → new.files name ≡ old.files name)
+      → IfSome (conversion_in asked) (λ conversion. conversion.output ≢ name)
+      → IfSome (assembling_in asked) (λ words. (words.output ≢ name) × (words.list ≢ Some name)) → new.files name ≡ old.files name)

@@ -18,12 +18,13 @@ use Rattle.md_top.specs.Resuming.{RunsWell}
 use Rattle.md_top.specs.Runs.{entries_from, halted_from, pieces_of, pieces_until, powered_on}
 use Rattle.md_top.specs.Outputs.{Holds, IsUnwritten, LeavesParts, nothing}
 use Rattle.md_vgm.specs.Outcomes.{Outcome}
-use Rattle.md_args.specs.Words.{Command, Convert, Demo, Info, Run, RunCart, RunDemo, end_of, frames_name, journal_name, load_name, output_of, recording_name, rom_of, save_name, sound_name}
+use Rattle.md_args.specs.Words.{Assemble, Command, Convert, Demo, Info, Run, RunCart, RunDemo, end_of, frames_name, journal_name, list_name, load_name, output_of, recording_name, rom_of, save_name, sound_name}
+use Rattle.md_top.specs.Assemblies.{AsmEnds, AsmFiles, CanAssemble, asm_ending, source_line}
 use Rattle.md_top.specs.Conversions.{CanConvert, ConvertEnds, ConvertFiles, convert_ending, fault_line}
 use Rattle.md_top.specs.declared.digests.Digests.{Digests}
 use Rattle.md_top.specs.declared.ending.Ending.{Ending}
 use Rattle.md_top.specs.declared.inputs.Inputs.{Inputs}
-use Rattle.md_top.specs.declared.ending.Ending.TheVariants.{Shown, Done, DemoDone, Converted, InputRefused, OutputFault, Usage, TooFar, ReadFault, TooLong, Short, NoMark, RecordingFault, RecordingTooLong, RecordingWrong, LoadFault, StateTooLong, StateWrong, OtherCart, Behind, FramesFault, SoundFault, JournalFault, SaveFault, Unsaved, Memory}
+use Rattle.md_top.specs.declared.ending.Ending.TheVariants.{Shown, Done, DemoDone, Converted, InputRefused, OutputFault, SourceRefused, ListFault, Usage, TooFar, ReadFault, TooLong, Short, NoMark, RecordingFault, RecordingTooLong, RecordingWrong, LoadFault, StateTooLong, StateWrong, OtherCart, Behind, FramesFault, SoundFault, JournalFault, SaveFault, Unsaved, Memory}
 
 -- the status that the program ends with
 abbrev pub status_of : Ending → ℕ
@@ -33,6 +34,8 @@ status_of (DemoDone summary) = 0
 status_of (Converted size) = 0
 status_of (InputRefused fault) = 17
 status_of OutputFault = 4
+status_of (SourceRefused line kind) = 16
+status_of ListFault = 4
 status_of Usage = 2
 status_of ReadFault = 3
 status_of RecordingFault = 3
@@ -101,6 +104,8 @@ text_of (Some command) (DemoDone summary) = lines_of 0 (end_of command) summary.
 text_of (Some command) (Converted size) = number_line (codes "bytes ") size
 text_of (Some command) (InputRefused fault) = fault_line fault
 text_of (Some command) OutputFault = codes "fault: writing " ++ output_of command ++ codes "\n"
+text_of (Some command) (SourceRefused line kind) = source_line line kind
+text_of (Some command) ListFault = codes "fault: writing " ++ unwrap_or (list_name command) [] ++ codes "\n"
 text_of (Some command) TooFar = codes "refused: cycle " ++ decimal (end_of command) ++ codes " is too far\n"
 text_of (Some command) ReadFault = codes "fault: reading " ++ rom_of command ++ codes "\n"
 text_of (Some command) TooLong = codes "refused: " ++ rom_of command ++ codes " is too long\n"
@@ -128,6 +133,7 @@ IsReady (Info rom) files = IsAccepted (files rom)
 IsReady (RunCart run) files = IsEnd run.cycles × CanRun run files
 IsReady (RunDemo demo) files = IsEnd demo.cycles
 IsReady (Convert conversion) files = CanConvert conversion files
+IsReady (Assemble words) files = CanAssemble words files
 
 -- why a run from a start ends, once it has begun
 abbrev pub RunCause : Start → Run → DepotState → DepotState → Ending → Type 0
@@ -173,6 +179,7 @@ HasCause told (Some (Info rom)) old new ending = InfoEnds told rom old new endin
 HasCause told (Some (RunCart run)) old new ending = RunEnds told run old new ending
 HasCause told (Some (RunDemo demo)) old new ending = (new ≡ old) × DemoEnds demo ending
 HasCause told (Some (Convert conversion)) old new ending = ConvertEnds told conversion old new ending
+HasCause told (Some (Assemble words)) old new ending = AsmEnds told words old new ending
 
 -- the outputs hold what the run from a start made below a cycle
 abbrev pub HoldsUntil : Start → Run → Files → Files → ℕ → Type 0
@@ -211,6 +218,7 @@ LeavesFiles (Some (Info rom)) old new ending = new ≡ old
 LeavesFiles (Some (RunCart run)) old new ending = RunFiles run old new ending
 LeavesFiles (Some (RunDemo demo)) old new ending = new ≡ old
 LeavesFiles (Some (Convert conversion)) old new ending = ConvertFiles conversion old new ending
+LeavesFiles (Some (Assemble words)) old new ending = AsmFiles words old new ending
 
 -- The ending where neither a fault nor want of memory comes between: the refusals in their order.
 
@@ -283,3 +291,4 @@ right_ending (Some (Info rom)) files verdict state outcome = file_ending (files 
 right_ending (Some (RunCart run)) files verdict state outcome = asked_ending run files verdict state
 right_ending (Some (RunDemo demo)) files verdict state outcome = if nat_lt last_cycle demo.cycles then TooFar else demo_ending demo
 right_ending (Some (Convert conversion)) files verdict state outcome = convert_ending conversion files outcome
+right_ending (Some (Assemble words)) files verdict state outcome = asm_ending words files

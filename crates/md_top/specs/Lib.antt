@@ -1,4 +1,5 @@
 pub mod Answers
+pub mod Assemblies
 pub mod Conversions
 pub mod Counts
 pub mod Courses

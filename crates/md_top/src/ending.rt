@@ -22,15 +22,19 @@ pub(crate) enum Ending {
     Converted(u64),
     /// The input of a conversion is refused, at a place in it.
     InputRefused(VgmFault),
-    /// The output of a conversion could not be written.
+    /// The output of a conversion or an assembly could not be written.
     OutputFault,
+    /// A line of a source is refused, for this kind of fault.
+    SourceRefused(u32, u8),
+    /// The list of an assembly could not be written.
+    ListFault,
     /// The words ask for nothing that there is.
     Usage,
     /// The run's end lies behind the last cycle.
     TooFar,
-    /// The cartridge's file, or the input of a conversion, could not be read.
+    /// The cartridge's file, the input of a conversion, or a source could not be read.
     ReadFault,
-    /// The cartridge's file, or the input of a conversion, is longer than its limit.
+    /// The cartridge's file, the input of a conversion, or a source is longer than its limit.
     TooLong,
     /// The cartridge's file is too short.
     Short,

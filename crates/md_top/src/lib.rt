@@ -1,6 +1,7 @@
 //! The emulator's command line: from its words to the bytes that a run writes.
 #![tactic(auto)]
 
+mod assembling;
 mod converting;
 mod course;
 mod demo;

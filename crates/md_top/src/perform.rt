@@ -3,6 +3,7 @@ ghost use Rattle.md_top.specs.Endings.{HasCause, InfoEnds, LeavesFiles, RunEnds,
 ghost use Rattle.md_top.specs.Workers.{CanGoOn, WentOn};
 ghost use Rattle.md_args.specs.Shown.{shown_command, shown_run};
 
+use crate::assembling::assemble_source;
 use crate::converting::convert_file;
 use crate::demo::run_demo;
 use crate::ending::Ending;
@@ -35,6 +36,7 @@ pub(crate) fn perform<F: Fn(&mut Machine, u64), D: Depot>(
         CommandWords::Run(run) => run_cart(alloc, go_on, run, depot),
         CommandWords::Demo(demo) => run_demo(alloc, go_on, demo),
         CommandWords::Convert(words) => convert_file(alloc, words, depot),
+        CommandWords::Assemble(words) => assemble_source(alloc, words, depot),
     }
 }
 

@@ -7,6 +7,7 @@ ghost use Rattle.md_top.specs.Counts.{frames_between};
 ghost use Rattle.md_top.specs.Endings.{carts_line, counts_of, halted_line, lines_of, number_line, numbers_line};
 ghost use Rattle.md_args.specs.Shown.{shown_command};
 
+use crate::assembling::refuse_source;
 use crate::converting::refuse_input;
 use crate::ending::Ending;
 use crate::put::{put_three, put_two};
@@ -58,6 +59,8 @@ pub(crate) fn report<S: Sink>(command: &CommandWords<'_>, ending: Ending, out: &
         Ending::Converted(size) => status_of(put_number(out, "bytes ", size)),
         Ending::InputRefused(fault) => refuse_input(out, fault),
         Ending::OutputFault => refuse(out, 4, "fault: writing ", command.output(), "\n"),
+        Ending::SourceRefused(line, kind) => refuse_source(out, line, kind),
+        Ending::ListFault => refuse_file(out, 4, "fault: writing ", command.list(), "\n"),
         Ending::Unsaved | Ending::Memory => refuse(out, 10, "refused: memory\n", "", ""),
     }
 }

@@ -24,7 +24,8 @@ use std::thread::Threads;
 /// journal of its accesses into J and its state at N into T. Files are fetched from the depot and
 /// written to it, a segment of at most 896,040 cycles after the other; the lines are put into `out`.
 /// `vgm JOURNAL OUT` writes the VGM file of a journal's sound writes, and `play VGM OUT` the sound file of a VGM
-/// file; with `--pal` by the master clock of PAL.
+/// file; with `--pal` by the master clock of PAL. `asm SOURCE OUT` assembles a source, with `--list L` for the list
+/// of its instructions.
 /// It waits for nobody: whatever `--workers` asks for, one worker makes the run.
 pub fn drive_one<D: Depot, S: Sink>(
     alloc: Global,

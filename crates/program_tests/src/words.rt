@@ -11,7 +11,7 @@ fn name_of(name: Option<&str>) -> &str {
 /// What was read, as a text: the cartridge, and of a run its count and the names of the recording, of
 /// the frames file, of the sound file and of the journal, and how many workers make it; of a
 /// demonstration cartridge its number, the count and the workers; of a conversion both names and whether
-/// PAL is asked for.
+/// PAL is asked for; of an assembly the names of the source, the image and the list.
 fn told(alloc: Global, read: Option<CommandWords<'_>>) -> Result<String, AllocError> {
     match read {
         None => String::from_str(alloc, "refused"),
@@ -32,6 +32,12 @@ fn told(alloc: Global, read: Option<CommandWords<'_>>) -> Result<String, AllocEr
         Some(CommandWords::Convert(words)) => format!(in alloc;
             "{} {} {}",
             words.input, words.output, words.pal
+        ),
+        Some(CommandWords::Assemble(words)) => format!(in alloc;
+            "{} {} {}",
+            words.source,
+            words.output,
+            name_of(words.list)
         ),
     }
 }

@@ -36,3 +36,10 @@ returns-in-InputRefused g c = rw c.in-InputRefused.is (c.refuse_input.ensures.st
 
 pub returns-in-OutputFault : goal.returns-in-OutputFault
 returns-in-OutputFault g c = rw c.in-OutputFault.is (c.refuse-in-OutputFault.ensures.status, rw c.output.ensures at c.refuse-in-OutputFault.ensures.put)
+
+pub returns-in-SourceRefused : goal.returns-in-SourceRefused
+returns-in-SourceRefused g c = rw c.in-SourceRefused.is (c.refuse_source.ensures.status, c.refuse_source.ensures.put)
+
+pub returns-in-ListFault : goal.returns-in-ListFault
+returns-in-ListFault g c =
+    rw c.in-ListFault.is (c.refuse_file-in-ListFault.ensures.status, rw c.list.ensures at c.refuse_file-in-ListFault.ensures.put)

@@ -1,0 +1,151 @@
+-- What a status tells of an assembly, and the ending without a fault.
+use Rattle.std.proofs.Common.{◌≡◌, ◌≢◌, ◌⊎◌, inl, inr, ℕ, Bool, true, false, cond, List, [], length, Option, Some, None, refl, ap, ◌∙◌, arith}
+use Rattle.std.specs.Str.{bytes_eq}
+use Rattle.std.proofs.lemmas.Slice.Eq.{bytes_eq-Decides}
+use Rattle.md_outer.specs.Outside.{DepotState, Files, Rose, with_file}
+use Rattle.md_asm.specs.Assembly as assembly
+use Rattle.md_asm.specs.declared.placed.Placed.{Placed}
+use Rattle.md_args.specs.Words.{Assemble, Assembling, Conversion, Run}
+use Rattle.asm_files.specs.Assemblies as files
+use Rattle.asm_files.specs.Assemblies.{HoldsParts, IsFound, LeavesParts, limit, with_list}
+use Rattle.asm_files.proofs.Endings.{right}
+use Rattle.asm_files.specs.declared.comes.Comes.{Comes}
+use Rattle.asm_files.specs.declared.comes.Comes.TheVariants as comes
+use Rattle.md_top.specs.Assemblies.{AsmEnds, AsmFiles, IsRefusedSource, as_ending, asm_ending}
+use Rattle.md_top.specs.Conversions.{ConvertEnds}
+use Rattle.md_top.specs.Endings.{InfoEnds, RunEnds, status_of}
+use Rattle.md_top.specs.Inputs.{IsMissing}
+use Rattle.md_top.specs.declared.ending.Ending.{Ending}
+use Rattle.md_top.specs.declared.ending.Ending.TheVariants.{Converted, InputRefused, OutputFault, SourceRefused, ListFault, Usage, TooFar, ReadFault, TooLong, RecordingFault, RecordingWrong, LoadFault, StateWrong, OtherCart, Behind, FramesFault, SoundFault, JournalFault, SaveFault, Memory}
+use Rattle.md_top.proofs.Right.{not_below}
+use Rattle.md_top.proofs.Statuses.{missing_cart}
+
+-- no other command refuses a source
+pub info_source : (told : Type 0) (rom : List ℕ) (old new : DepotState) (ending : Ending) → InfoEnds told rom old new ending → status_of ending ≡ 16 → ⊥
+info_source told rom old new (SourceRefused line kind) cause is = absurd cause
+info_source told rom old new _ cause is = absurd (omega (arith, is))
+
+pub run_source : (told : Type 0) (run : Run) (old new : DepotState) (ending : Ending) → RunEnds told run old new ending → status_of ending ≡ 16 → ⊥
+run_source told run old new (SourceRefused line kind) cause is = absurd cause.1
+run_source told run old new _ cause is = absurd (omega (arith, is))
+
+pub convert_source : (told : Type 0) (conversion : Conversion) (old new : DepotState) (ending : Ending) → ConvertEnds told conversion old new ending → status_of ending ≡ 16 → ⊥
+convert_source told conversion old new (SourceRefused line kind) cause is = absurd cause
+convert_source told conversion old new _ cause is = absurd (omega (arith, is))
+
+module _ (told : Type 0) (words : Assembling) (old new : DepotState) where
+  abbrev Ends : Ending → Type 0
+  Ends ending = AsmEnds told words old new ending
+
+  -- why an assembly may end with each status
+  pub asm_usage : (ending : Ending) → Ends ending → status_of ending ≡ 2 → ⊥
+  asm_usage Usage cause is = absurd cause
+  asm_usage _ cause is = absurd (omega (arith, is))
+
+  pub asm_far : (ending : Ending) → Ends ending → status_of ending ≡ 11 → ⊥
+  asm_far TooFar cause is = absurd cause
+  asm_far _ cause is = absurd (omega (arith, is))
+
+  pub asm_read_fault : (ending : Ending) → Ends ending → status_of ending ≡ 3 → Rose old.read_faults new.read_faults ⊎ (told × IsMissing (Assemble words) old.files)
+  asm_read_fault ReadFault cause is = missing_cart told (Assemble words) old.files inl cause
+  asm_read_fault RecordingFault cause is = absurd cause
+  asm_read_fault LoadFault cause is = absurd cause
+  asm_read_fault _ cause is = absurd (omega (arith, is))
+
+  pub asm_wrong : (ending : Ending) → Ends ending → status_of ending ≡ 6 → ⊥
+  asm_wrong (RecordingWrong place) cause is = absurd cause
+  asm_wrong _ cause is = absurd (omega (arith, is))
+
+  pub asm_state : (ending : Ending) → Ends ending → status_of ending ≡ 7 → ⊥
+  asm_state (StateWrong place) cause is = absurd cause
+  asm_state _ cause is = absurd (omega (arith, is))
+
+  pub asm_other : (ending : Ending) → Ends ending → status_of ending ≡ 8 → ⊥
+  asm_other (OtherCart kept given) cause is = absurd cause
+  asm_other _ cause is = absurd (omega (arith, is))
+
+  pub asm_behind : (ending : Ending) → Ends ending → status_of ending ≡ 9 → ⊥
+  asm_behind (Behind from) cause is = absurd cause
+  asm_behind _ cause is = absurd (omega (arith, is))
+
+  pub asm_refused_input : (ending : Ending) → Ends ending → status_of ending ≡ 17 → ⊥
+  asm_refused_input (InputRefused fault) cause is = absurd cause
+  asm_refused_input _ cause is = absurd (omega (arith, is))
+
+  pub asm_refused_source : (ending : Ending) → Ends ending → status_of ending ≡ 16 → IsRefusedSource told words old.files
+  asm_refused_source (SourceRefused line kind) cause is = (line, kind, cause)
+  asm_refused_source _ cause is = absurd (omega (arith, is))
+
+  pub asm_write_fault : (ending : Ending) → Ends ending → status_of ending ≡ 4 → Rose old.write_faults new.write_faults
+  asm_write_fault OutputFault cause is = cause.0
+  asm_write_fault ListFault cause is = cause.0
+  asm_write_fault FramesFault cause is = absurd cause
+  asm_write_fault SoundFault cause is = absurd cause
+  asm_write_fault JournalFault cause is = absurd cause
+  asm_write_fault SaveFault cause is = absurd cause
+  asm_write_fault _ cause is = absurd (omega (arith, is))
+
+  -- without a fault the ending is the right one, or memory is wanting
+  as_right : (ends : Comes) → (ends ≡ files.right_ending (old.files words.source)) ⊎ (ends ≡ comes.NoMemory)
+      → (status_of (as_ending ends) ≡ status_of (asm_ending words old.files)) ⊎ (status_of (as_ending ends) ≡ 10)
+  as_right ends (inl is) = inl (ap (λ (c : Comes). status_of (as_ending c)) is)
+  as_right ends (inr is) = inr (ap (λ (c : Comes). status_of (as_ending c)) is)
+
+  pub asm_right : (ending : Ending) → Ends ending → ¬ Rose old.read_faults new.read_faults → ¬ Rose old.write_faults new.write_faults → told
+      → (status_of ending ≡ status_of (asm_ending words old.files)) ⊎ (status_of ending ≡ 10)
+  asm_right (Converted size) cause reads writes t = as_right (comes.Made size) (right told words old new (comes.Made size) t reads writes cause)
+  asm_right ReadFault cause reads writes t = as_right comes.Unread (right told words old new comes.Unread t reads writes cause)
+  asm_right TooLong cause reads writes t = as_right comes.TooLong (right told words old new comes.TooLong t reads writes cause)
+  asm_right (SourceRefused line kind) cause reads writes t =
+      as_right (comes.Refused line kind) (right told words old new (comes.Refused line kind) t reads writes cause)
+  asm_right OutputFault cause reads writes t = absurd (writes cause.0)
+  asm_right ListFault cause reads writes t = absurd (writes cause.0)
+  asm_right Memory cause reads writes t = inr refl
+  asm_right _ cause reads writes t = absurd cause
+
+-- a source at no fault
+pub asm_done : (source : Option (List ℕ)) (image : List ℕ) (lines : List Placed) → IsFound source (assembly.Done image lines)
+    → status_of (as_ending (files.right_ending source)) ≡ 0
+asm_done None image lines found = absurd found
+asm_done (Some bytes) image lines found =
+    ap (λ (long : Bool). status_of (as_ending (cond long comes.TooLong (files.made_ending (assembly.assembly bytes))))) (not_below limit (length bytes) found.0)
+    ∙ ap (λ (outcome : assembly.Assembly). status_of (as_ending (files.made_ending outcome))) found.1
+
+-- the files of other names than the outputs'
+is_other : (b : Bool) → (b ≡ true → ⊥) → b ≡ false
+is_other true differ = absurd (differ refl)
+is_other false differ = refl
+
+with_other : (held : Files) (output bytes name : List ℕ) → output ≢ name → with_file held output bytes name ≡ held name
+with_other held output bytes name differ =
+    let other : bytes_eq output name ≡ false = is_other (bytes_eq output name) (λ same. differ ((bytes_eq-Decides output name).0 same)) in
+    rw other refl
+
+list_other : (held : Files) (list : Option (List ℕ)) (bytes name : List ℕ) → list ≢ Some name → with_list list held bytes name ≡ held name
+list_other held None bytes name differ = refl
+list_other held (Some output) bytes name differ = with_other held output bytes name (λ same. differ (ap Some same))
+
+both_other : (words : Assembling) (held : Files) (image list name : List ℕ) → words.output ≢ name → words.list ≢ Some name
+    → with_list words.list (with_file held words.output image) list name ≡ held name
+both_other words held image list name differ apart =
+    list_other (with_file held words.output image) words.list list name apart ∙ with_other held words.output image name differ
+
+holds_other : (words : Assembling) (old new : Files) (image list : List ℕ) → HoldsParts words old new image list
+    → (name : List ℕ) → words.output ≢ name → words.list ≢ Some name → new name ≡ old name
+holds_other words old new image list (inl part) name differ apart = ap (λ (held : Files). held name) part.2 ∙ with_other old words.output part.0 name differ
+holds_other words old new image list (inr parts) name differ apart =
+    ap (λ (held : Files). held name) parts.4 ∙ both_other words old parts.0 parts.1 name differ apart
+
+parts_other : (words : Assembling) (old new : Files) → LeavesParts words old new
+    → (name : List ℕ) → words.output ≢ name → words.list ≢ Some name → new name ≡ old name
+parts_other words old new (inl same) name differ apart = ap (λ (held : Files). held name) same
+parts_other words old new (inr (image, lines, found, holds)) name differ apart = holds_other words old new image _ holds name differ apart
+
+pub assembled_other : (words : Assembling) (old new : Files) (ending : Ending) → AsmFiles words old new ending
+    → (name : List ℕ) → words.output ≢ name → words.list ≢ Some name → new name ≡ old name
+assembled_other words old new (Converted size) (image, lines, found, long, leaves) name differ apart =
+    ap (λ (held : Files). held name) leaves ∙ both_other words old image _ name differ apart
+assembled_other words old new OutputFault leaves name differ apart = parts_other words old new leaves name differ apart
+assembled_other words old new ListFault leaves name differ apart = parts_other words old new leaves name differ apart
+assembled_other words old new Memory leaves name differ apart = parts_other words old new leaves name differ apart
+assembled_other words old new _ leaves name differ apart = ap (λ (held : Files). held name) leaves

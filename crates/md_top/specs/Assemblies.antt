@@ -1,0 +1,70 @@
+-- How an assembly ends: its causes, what it leaves and what is put.
+use Rattle.std.specs.Prelude.{◌≡◌, ℕ, ◌==◌, if◌then◌else◌, List, ◌++◌, codes, decimal}
+use Rattle.md_outer.specs.Outside.{DepotState, Files}
+use Rattle.md_asm.specs.Assembly as assembly
+use Rattle.md_asm.specs.declared.placed.Placed.{Placed}
+use Rattle.md_args.specs.Words.{Assembling}
+use Rattle.asm_files.specs.Assemblies as files
+use Rattle.asm_files.specs.Assemblies.{IsFound}
+use Rattle.asm_files.specs.declared.comes.Comes.TheVariants as comes
+use Rattle.asm_files.specs.declared.comes.Comes.{Comes}
+use Rattle.md_top.specs.declared.ending.Ending.{Ending}
+use Rattle.md_top.specs.declared.ending.Ending.TheVariants.{Converted, ListFault, OutputFault, ReadFault, SourceRefused, TooLong, Memory}
+
+-- the end of the line of a source that is refused, by the kind of its fault
+abbrev pub kind_text : ℕ → List ℕ
+kind_text kind =
+    if kind == 1 then codes ": bad line\n"
+    else if kind == 2 then codes ": bad number\n"
+    else if kind == 3 then codes ": twice\n"
+    else if kind == 4 then codes ": odd\n"
+    else if kind == 5 then codes ": overlap\n"
+    else if kind == 6 then codes ": too large\n"
+    else if kind == 7 then codes ": unknown name\n"
+    else if kind == 8 then codes ": does not fit\n"
+    else codes ": far\n"
+
+-- the line of a source that is refused
+abbrev pub source_line : ℕ → ℕ → List ℕ
+source_line line kind = codes "refused: source line " ++ decimal line ++ kind_text kind
+
+-- why an assembly ends
+abbrev pub AsmEnds : Type 0 → Assembling → DepotState → DepotState → Ending → Type 0
+AsmEnds told words old new (Converted size) = files.HasCause told words old new (comes.Made size)
+AsmEnds told words old new ReadFault = files.HasCause told words old new comes.Unread
+AsmEnds told words old new TooLong = files.HasCause told words old new comes.TooLong
+AsmEnds told words old new (SourceRefused line kind) = files.HasCause told words old new (comes.Refused line kind)
+AsmEnds told words old new OutputFault = files.HasCause told words old new comes.Unwritten
+AsmEnds told words old new ListFault = files.HasCause told words old new comes.Unlisted
+AsmEnds told words old new Memory = Unit {0}
+AsmEnds told words old new ending = ⊥
+
+-- what the files hold once an assembly has ended, or was refused
+abbrev pub AsmFiles : Assembling → Files → Files → Ending → Type 0
+AsmFiles words old new (Converted size) = files.LeavesFiles words old new (comes.Made size)
+AsmFiles words old new OutputFault = files.LeavesFiles words old new comes.Unwritten
+AsmFiles words old new ListFault = files.LeavesFiles words old new comes.Unlisted
+AsmFiles words old new Memory = files.LeavesFiles words old new comes.NoMemory
+AsmFiles words old new ending = new ≡ old
+
+-- the source is held, within its limit and at no fault
+abbrev pub CanAssemble : Assembling → Files → Type 0
+CanAssemble words held = (image : List ℕ) × (lines : List Placed) × IsFound (held words.source) (assembly.Done image lines)
+
+-- what an assembly comes to, as its ending
+abbrev pub as_ending : Comes → Ending
+as_ending (comes.Made size) = Converted size
+as_ending comes.Unread = ReadFault
+as_ending comes.TooLong = TooLong
+as_ending (comes.Refused line kind) = SourceRefused line kind
+as_ending comes.Unwritten = OutputFault
+as_ending comes.Unlisted = ListFault
+as_ending comes.NoMemory = Memory
+
+-- the ending where neither a fault nor want of memory comes between
+abbrev pub asm_ending : Assembling → Files → Ending
+asm_ending words held = as_ending (files.right_ending (held words.source))
+
+-- a line of the source is refused
+abbrev pub IsRefusedSource : Type 0 → Assembling → Files → Type 0
+IsRefusedSource told words held = (line : ℕ) × (kind : ℕ) × (told → IsFound (held words.source) (assembly.Failed line kind))
