@@ -1,5 +1,9 @@
-//! Tests of the lines of a debugger's script.
+//! Tests of the debugger's lines, replies and kept states.
 #![tactic(auto)]
 
 #[cfg(test)]
+mod kept;
+#[cfg(test)]
 mod lines;
+#[cfg(test)]
+mod replies;
