@@ -12,10 +12,10 @@ fn states_are_kept_and_dropped(rt: HostRuntime) -> Result<(), Fail> {
     assert_eq!(rt; kept.count(), 3);
     assert_eq!(rt; kept.oldest(), 0);
     kept.fetch(1);
-    assert!(rt; kept.fetched()[..4] == [1, 2, 3, 0]);
+    assert!(rt; kept.fetched().starts_with(&[1, 2, 3, 0]));
     kept.drop_newest(2);
     assert_eq!(rt; kept.count(), 1);
     kept.fetch(0);
-    assert!(rt; kept.fetched()[..4] == [1, 2, 3, 0]);
+    assert!(rt; kept.fetched().starts_with(&[1, 2, 3, 0]));
     Ok(())
 }

@@ -1,0 +1,4 @@
+pub mod Debuggees
+pub mod Going
+pub mod Keeping
+pub mod Sessions
