@@ -1,0 +1,125 @@
+-- One more line of a script is obeyed.
+use Rattle.std.proofs.Common.{◌≡◌, ◌≢◌, ◌↔◌, ℕ, ◌+◌, ◌<◌, ◌≤◌, ◌⊎◌, inl, inr, Bool, true, false, if◌then◌else◌, nat_lt, get_or, List, [], ◌∷◌, ◌++◌, length, Result, Ok, Err, refl, sym, ap, subst, ◌∙◌, append_assoc, append-nil, arith}
+use Rattle.std.specs.List.{list_all}
+use Rattle.std.specs.Str.{IsAscii, IsUtf8}
+use Rattle.std.proofs.lemmas.Bool.{true≢false}
+use Rattle.std.proofs.lemmas.List.{get_or_past}
+use Rattle.std.proofs.lemmas.List.Folds.{list_all_at}
+use Rattle.std.proofs.lemmas.Str.{IsUtf8-from_ascii}
+use borrow.Author.Tests.{ltb-true}
+use Rattle.debug_lines.specs.Commands.{behind, command_of, is_seven_bit, read_by, word_in, word_of}
+use Rattle.debug_lines.specs.declared.command.Command.{Command}
+use Rattle.debug_lines.specs.declared.command.Command.TheVariants.{Back}
+use Rattle.debug_lines.specs.declared.command.Misread.TheVariants as misread
+use Rattle.md_machine.specs.Machines.{MachineValue}
+use Rattle.md_debug.specs.Sessions.{Obeys, SessionValue, oldest_of, reply_to}
+use Rattle.md_debug.specs.declared.fault.DebugFault.{DebugFault}
+use Rattle.md_debug.specs.declared.fault.DebugFault.TheVariants.{BadNumber, NoMemory, NotKept, UnknownWord}
+use Rattle.debug_script.specs.Scripts.{IsRefused, ObeysAll, ObeysFirst, Plays}
+use Rattle.debug_script.specs.declared.script.Ending.{Ending}
+use Rattle.debug_script.specs.declared.script.Ending.TheVariants.{OutOfMemory, Refused}
+
+small_at : (line : List ℕ) (i : ℕ) → list_all is_seven_bit line ≡ true → i < length line → (b : Bool) → nat_lt (get_or line i 0) 128 ≡ b → get_or line i 0 < 128
+small_at line i all within true is = ltb-true (get_or line i 0) 128 is
+small_at line i all within false is =
+    let some : list_all is_seven_bit line ≡ false = list_all_at is_seven_bit line i 0 within is in
+    absurd (true≢false (sym all ∙ some))
+
+within_or : (i n : ℕ) → (i < n) ⊎ (n ≤ i)
+within_or i n = grind arith
+
+ascii_at : (line : List ℕ) (i : ℕ) → list_all is_seven_bit line ≡ true → (i < length line) ⊎ (length line ≤ i) → get_or line i 0 < 128
+ascii_at line i all (inl within) = small_at line i all within (nat_lt (get_or line i 0) 128) refl
+ascii_at line i all (inr past) = omega (arith, get_or_past line i 0 past)
+
+ascii_of : (line : List ℕ) → list_all is_seven_bit line ≡ true → IsAscii line
+ascii_of line all = λ i. ascii_at line i all (within_or i (length line))
+
+-- why a session refuses a line
+pub refused_by : {X Images : Type 0} (session : SessionValue Images) (line : List ℕ) (r : Result X DebugFault) (fault : DebugFault) → r ≡ Err fault
+    → ((r ≡ Err UnknownWord) ↔ (command_of line ≡ Err misread.UnknownWord)) → ((r ≡ Err BadNumber) ↔ (command_of line ≡ Err misread.BadNumber))
+    → ((oldest : ℕ) → (r ≡ Err (NotKept oldest)) ↔ ((n : ℕ) × ((command_of line ≡ Ok (Back n)) × ((length session.states < n) × (oldest ≡ oldest_of session)))))
+    → fault ≢ NoMemory → IsRefused session line fault
+refused_by session line r UnknownWord is unknown number not_kept other = unknown.0 is
+refused_by session line r BadNumber is unknown number not_kept other = number.0 is
+refused_by session line r (NotKept oldest) is unknown number not_kept other = (not_kept oldest).0 is
+refused_by session line r NoMemory is unknown number not_kept other = absurd (other refl)
+
+-- bytes that are no text have one that is not ASCII
+pub not_text : (line : List ℕ) → ¬ IsUtf8 line → command_of line ≡ Err misread.UnknownWord
+not_text line other = by (list_all is_seven_bit line) refl where
+  by : (b : Bool) → list_all is_seven_bit line ≡ b → command_of line ≡ Err misread.UnknownWord
+  by true all = absurd (other (IsUtf8-from_ascii line (ascii_of line all)))
+  by false some = ap (λ (b : Bool). if b then read_by (word_of (word_in line)) (behind line) else Err misread.UnknownWord) some
+
+module _ {Images : Type 0} (size : Images → ℕ) (spelling : Images → MachineValue → List ℕ) (keeps : Images → List ℕ → MachineValue → Type 0) where
+  pub obeys_none : (session : SessionValue Images) (replies : List ℕ) → replies ≡ [] → ObeysAll size spelling keeps [] session session replies
+  unfolding ObeysAll
+  obeys_none session replies none = (refl, none)
+
+  pub obeys_more : (before : List (List ℕ)) (line : List ℕ) (command : Command) (old mid new : SessionValue Images) (replies all : List ℕ)
+      → ObeysAll size spelling keeps before old mid replies → command_of line ≡ Ok command → Obeys size spelling keeps mid command new
+      → all ≡ replies ++ reply_to command new → ObeysAll size spelling keeps (before ++ line ∷ []) old new all
+  unfolding ObeysAll
+  obeys_more [] line command old mid new replies all so_far is obeys there = (
+    command,
+    new,
+    [],
+    is,
+    subst (λ (s : SessionValue Images). Obeys size spelling keeps s command new) so_far.0 obeys,
+    (refl, refl),
+    there ∙ ap (λ (l : List ℕ). l ++ reply_to command new) so_far.1 ∙ sym (append-nil (reply_to command new)),
+  )
+  obeys_more (first ∷ before) line command old mid new replies all so_far is obeys there = (
+    so_far.0,
+    so_far.1,
+    so_far.2 ++ reply_to command new,
+    so_far.3,
+    so_far.4,
+    obeys_more before line command so_far.1 mid new so_far.2 (so_far.2 ++ reply_to command new) so_far.5 is obeys refl,
+    there ∙ ap (λ (l : List ℕ). l ++ reply_to command new) so_far.6 ∙ append_assoc (reply_to so_far.0 so_far.1) so_far.2 (reply_to command new),
+  )
+
+  pub first_more : (lines before after : List (List ℕ)) (line : List ℕ) (command : Command) (old mid new : SessionValue Images) (replies all : List ℕ)
+      → ObeysFirst size spelling keeps lines before (line ∷ after) old mid replies → command_of line ≡ Ok command → Obeys size spelling keeps mid command new
+      → all ≡ replies ++ reply_to command new → ObeysFirst size spelling keeps lines (before ++ line ∷ []) after old new all
+  first_more lines before after line command old mid new replies all so_far is obeys there = record {
+    parts = so_far.parts ∙ sym (append_assoc before (line ∷ []) after);
+    obeyed = obeys_more before line command old mid new replies all so_far.obeyed is obeys there;
+  }
+
+  -- all lines are obeyed
+  pub plays_done : (lines before after : List (List ℕ)) (old new : SessionValue Images) (replies : List ℕ) → after ≡ [] → ObeysFirst size spelling keeps lines before after old new replies
+      → ObeysAll size spelling keeps lines old new replies
+  plays_done lines before after old new replies none so_far =
+      let all : lines ≡ before = so_far.parts ∙ ap (λ (l : List (List ℕ)). before ++ l) none ∙ append-nil before in
+      subst (λ (l : List (List ℕ)). ObeysAll size spelling keeps l old new replies) (sym all) so_far.obeyed
+
+  -- a line is not obeyed
+  refused_at : (lines before after : List (List ℕ)) (line : List ℕ) (old mid new : SessionValue Images) (replies : List ℕ) (ending : Ending) (number : ℕ) (fault : DebugFault)
+      → ObeysFirst size spelling keeps lines before (line ∷ after) old mid replies → number ≡ length before + 1 → ending ≡ Refused number fault → IsRefused mid line fault × (new ≡ mid)
+      → Plays size spelling keeps lines old new replies ending
+  refused_at lines before after line old mid new replies ending number fault so_far is ends refused =
+      subst (Plays size spelling keeps lines old new replies) (sym ends) (
+        before,
+        line,
+        after,
+        subst (λ (s : SessionValue Images). ObeysFirst size spelling keeps lines before (line ∷ after) old s replies) (sym refused.1) so_far,
+        is,
+        subst (λ (s : SessionValue Images). IsRefused s line fault) (sym refused.1) refused.0,
+      )
+
+  pub plays_stopped : (lines before after : List (List ℕ)) (line : List ℕ) (old mid new : SessionValue Images) (replies : List ℕ) (ending : Ending) (number : ℕ) (fault : DebugFault)
+      → ObeysFirst size spelling keeps lines before (line ∷ after) old mid replies → number ≡ length before + 1 → (fault ≡ NoMemory → ending ≡ OutOfMemory) → (fault ≢ NoMemory → ending ≡ Refused number fault)
+      → (fault ≢ NoMemory → IsRefused mid line fault × (new ≡ mid)) → Plays size spelling keeps lines old new replies ending
+  plays_stopped lines before after line old mid new replies ending number NoMemory so_far is memory ends refused =
+      subst (Plays size spelling keeps lines old new replies) (sym (memory refl)) (before, line ∷ after, mid, so_far)
+  plays_stopped lines before after line old mid new replies ending number UnknownWord so_far is memory ends refused =
+      let other : UnknownWord ≢ NoMemory = λ e. cc in
+      refused_at lines before after line old mid new replies ending number UnknownWord so_far is (ends other) (refused other)
+  plays_stopped lines before after line old mid new replies ending number BadNumber so_far is memory ends refused =
+      let other : BadNumber ≢ NoMemory = λ e. cc in
+      refused_at lines before after line old mid new replies ending number BadNumber so_far is (ends other) (refused other)
+  plays_stopped lines before after line old mid new replies ending number (NotKept oldest) so_far is memory ends refused =
+      let other : NotKept oldest ≢ NoMemory = λ e. cc in
+      refused_at lines before after line old mid new replies ending number (NotKept oldest) so_far is (ends other) (refused other)

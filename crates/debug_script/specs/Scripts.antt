@@ -1,0 +1,42 @@
+-- What a script comes to. This project's profile.
+use Rattle.std.specs.Prelude.{◌≡◌, ℕ, ◌+◌, ◌<◌, List, [], ◌∷◌, ◌++◌, length, Ok, Err}
+use Rattle.debug_lines.specs.Commands.{command_of}
+use Rattle.debug_lines.specs.declared.command.Command.{Command}
+use Rattle.debug_lines.specs.declared.command.Command.TheVariants.{Back}
+use Rattle.debug_lines.specs.declared.command.Misread.TheVariants as misread
+use Rattle.md_machine.specs.Machines.{MachineValue}
+use Rattle.md_debug.specs.Sessions.{Obeys, SessionValue, oldest_of, reply_to}
+use Rattle.md_debug.specs.declared.fault.DebugFault.{DebugFault}
+use Rattle.md_debug.specs.declared.fault.DebugFault.TheVariants as faults
+use Rattle.debug_script.specs.declared.script.Ending.{Ending}
+use Rattle.debug_script.specs.declared.script.Ending.TheVariants.{Obeyed, Refused, OutOfMemory}
+
+-- why a line is refused by a session: it begins with no command's word, a number is wrong, or fewer states are
+-- kept than it goes back
+abbrev pub IsRefused : {Images : Type 0} → SessionValue Images → List ℕ → DebugFault → Type 0
+IsRefused session line faults.UnknownWord = command_of line ≡ Err misread.UnknownWord
+IsRefused session line faults.BadNumber = command_of line ≡ Err misread.BadNumber
+IsRefused session line (faults.NotKept oldest) = (n : ℕ) × ((command_of line ≡ Ok (Back n)) × ((length session.states < n) × (oldest ≡ oldest_of session)))
+IsRefused session line faults.NoMemory = ⊥
+
+module _ {Images : Type 0} (size : Images → ℕ) (spelling : Images → MachineValue → List ℕ) (keeps : Images → List ℕ → MachineValue → Type 0) where
+  -- all lines were obeyed, one after another: the session then, and the replies in their order
+  unfoldable pub ObeysAll : List (List ℕ) → SessionValue Images → SessionValue Images → List ℕ → Type 0
+  ObeysAll [] old new replies = (new ≡ old) × (replies ≡ [])
+  ObeysAll (line ∷ lines) old new replies =
+      (command : Command) × (mid : SessionValue Images) × (later : List ℕ) × (command_of line ≡ Ok command)
+      × Obeys size spelling keeps old command mid × ObeysAll lines mid new later × (replies ≡ reply_to command mid ++ later)
+
+  -- the first lines were obeyed, and so many there were
+  pub record ObeysFirst (lines before after : List (List ℕ)) (old new : SessionValue Images) (replies : List ℕ) : Type 0 where
+    pub parts : lines ≡ before ++ after
+    pub obeyed : ObeysAll before old new replies
+
+  -- how a script ends: each line was obeyed; or the line of a number, from 1 on, is the first that is refused, and
+  -- those before it were obeyed; or memory was wanting behind lines that were obeyed
+  abbrev pub Plays : List (List ℕ) → SessionValue Images → SessionValue Images → List ℕ → Ending → Type 0
+  Plays lines old new replies Obeyed = ObeysAll lines old new replies
+  Plays lines old new replies (Refused number fault) =
+      (before : List (List ℕ)) × (line : List ℕ) × (after : List (List ℕ)) × ObeysFirst lines before (line ∷ after) old new replies
+      × (number ≡ length before + 1) × IsRefused new line fault
+  Plays lines old new replies OutOfMemory = (before : List (List ℕ)) × (after : List (List ℕ)) × (mid : SessionValue Images) × ObeysFirst lines before after old mid replies

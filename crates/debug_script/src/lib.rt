@@ -1,0 +1,8 @@
+//! Scripts of the debugger: the replies are exactly those of the commands in their order, up to the first line
+//! that is refused.
+#![tactic(auto)]
+
+mod lines;
+mod script;
+
+pub use script::{Ending, Played, play};
