@@ -27,105 +27,105 @@ import time
 TOP = pathlib.Path(__file__).resolve().parent.parent
 PROGRAM = TOP / "crates" / "md_prog" / "out" / "md_prog"
 FRAME = 896_040
-IDLE = "at 000\n00ff f000 0000 01fc\nat 100\n5345 4741\nat 1fc\n60fe\n"
-MIX = """at 000
-    00ff f000 0000 0200
-at 100
-    5345 4741
-at 200
-    41f9 00ff 0000      ; lea     $00ff0000.l,a0
+IDLE = "dc.w $00ff,$f000,$0000,$01fc\norg $100\ndc.w $5345,$4741\norg $1fc\ndc.w $60fe,$0000\n"
+MIX = """org $0
+    dc.w $00ff,$f000,$0000,$0200
+org $100
+    dc.w $5345,$4741
+org $200
+    dc.w $41f9,$00ff,$0000              ; lea     $00ff0000.l,a0
 ; at 206
-    3010                ; move.w  (a0),d0           8 clocks
-    d240                ; add.w   d0,d1             4
-    b240                ; cmp.w   d0,d1             4
-    6400 0002           ; bcc.w   *+4               10 or 12
-    3140 0010           ; move.w  d0,16(a0)         12
-    e548                ; lsl.w   #2,d0             10
-    4841                ; swap    d1                4
-    c0fc 01ff           ; mulu    #$1ff,d0          56
-    2f01                ; move.l  d1,-(a7)          12
-    261f                ; move.l  (a7)+,d3          12
-    6100 0004           ; bsr.w   *+6               18
-    60e0                ; bra.b   $206              10
-    4e75                ; rts                       16
+    dc.w $3010                          ; move.w  (a0),d0           8 clocks
+    dc.w $d240                          ; add.w   d0,d1             4
+    dc.w $b240                          ; cmp.w   d0,d1             4
+    dc.w $6400,$0002                    ; bcc.w   *+4               10 or 12
+    dc.w $3140,$0010                    ; move.w  d0,16(a0)         12
+    dc.w $e548                          ; lsl.w   #2,d0             10
+    dc.w $4841                          ; swap    d1                4
+    dc.w $c0fc,$01ff                    ; mulu    #$1ff,d0          56
+    dc.w $2f01                          ; move.l  d1,-(a7)          12
+    dc.w $261f                          ; move.l  (a7)+,d3          12
+    dc.w $6100,$0004                    ; bsr.w   *+6               18
+    dc.w $60e0                          ; bra.b   $206              10
+    dc.w $4e75                          ; rts                       16
 """
-TRANSFER = """at 000
-    00ff f000 0000 0200
-at 100
-    5345 4741
-at 200
-    41f9 00c0 0004      ; lea     $00c00004.l,a0    the VDP's control port
-    30bc 8f02 30bc 8150 ; move.w  #,(a0)            increment 2; display and DMA on
+TRANSFER = """org $0
+    dc.w $00ff,$f000,$0000,$0200
+org $100
+    dc.w $5345,$4741
+org $200
+    dc.w $41f9,$00c0,$0004              ; lea     $00c00004.l,a0    the VDP's control port
+    dc.w $30bc,$8f02,$30bc,$8150        ; move.w  #,(a0)            increment 2; display and DMA on
 ; at 20e: wait for the vertical blanking
-    3010 0800 0003      ; move.w  (a0),d0; btst #3,d0
-    67f8                ; beq.b   $20e
-    30bc 93a6 30bc 940e ; move.w  #,(a0)            3,750 words
-    30bc 9500 30bc 9600 ; move.w  #,(a0)            from 0
-    30bc 9700           ; move.w  #,(a0)
-    30bc 4000 30bc 0080 ; move.w  #,(a0)            to VRAM at 0
+    dc.w $3010,$0800,$0003              ; move.w  (a0),d0; btst #3,d0
+    dc.w $67f8                          ; beq.b   $20e
+    dc.w $30bc,$93a6,$30bc,$940e        ; move.w  #,(a0)            3,750 words
+    dc.w $30bc,$9500,$30bc,$9600        ; move.w  #,(a0)            from 0
+    dc.w $30bc,$9700                    ; move.w  #,(a0)
+    dc.w $30bc,$4000,$30bc,$0080        ; move.w  #,(a0)            to VRAM at 0
 ; at 232: wait for its end
-    3010 0800 0003      ; move.w  (a0),d0; btst #3,d0
-    66f8                ; bne.b   $232
-    60d2                ; bra.b   $20e
+    dc.w $3010,$0800,$0003              ; move.w  (a0),d0; btst #3,d0
+    dc.w $66f8                          ; bne.b   $232
+    dc.w $60d2                          ; bra.b   $20e
 """
-DATA = """at 000
-    00ff f000 0000 0200
-at 100
-    5345 4741
-at 200
-    43f9 00c0 0000      ; lea     $00c00000.l,a1    the VDP's data port
-    33fc 8f02 00c0 0004 ; move.w  #,$00c00004.l     increment 2
-    33fc 8144 00c0 0004 ; move.w  #,$00c00004.l     display on
-    23fc 4000 0000 00c0 0004 ; move.l #,$00c00004.l to VRAM at 0
+DATA = """org $0
+    dc.w $00ff,$f000,$0000,$0200
+org $100
+    dc.w $5345,$4741
+org $200
+    dc.w $43f9,$00c0,$0000              ; lea     $00c00000.l,a1    the VDP's data port
+    dc.w $33fc,$8f02,$00c0,$0004        ; move.w  #,$00c00004.l     increment 2
+    dc.w $33fc,$8144,$00c0,$0004        ; move.w  #,$00c00004.l     display on
+    dc.w $23fc,$4000,$0000,$00c0,$0004  ; move.l #,$00c00004.l to VRAM at 0
 ; at 220
-    3280                ; move.w  d0,(a1)           8 clocks
-    5240                ; addq.w  #1,d0             4
-    60fa                ; bra.b   $220              10
+    dc.w $3280                          ; move.w  d0,(a1)           8 clocks
+    dc.w $5240                          ; addq.w  #1,d0             4
+    dc.w $60fa                          ; bra.b   $220              10
 """
-BUSY = """at 000
-    00ff f000 0000 0200
-at 078
-    0000 0270           ; the vertical interrupt
-at 100
-    5345 4741
-at 200
-    43f9 00a1 1100      ; lea     $00a11100.l,a1    the request for the Z80's bus
-    33fc 0100 00a1 1200 ; move.w  #,$00a11200.l     release the Z80's reset
-    32bc 0100           ; move.w  #$0100,(a1)       request its bus
+BUSY = """org $0
+    dc.w $00ff,$f000,$0000,$0200
+org $78
+    dc.w $0000,$0270                    ; the vertical interrupt
+org $100
+    dc.w $5345,$4741
+org $200
+    dc.w $43f9,$00a1,$1100              ; lea     $00a11100.l,a1    the request for the Z80's bus
+    dc.w $33fc,$0100,$00a1,$1200        ; move.w  #,$00a11200.l     release the Z80's reset
+    dc.w $32bc,$0100                    ; move.w  #$0100,(a1)       request its bus
 ; at 212: wait for the grant
-    0811 0000 66fa      ; btst #0,(a1); bne.b $212
-    41f9 00a0 0000      ; lea     $00a00000.l,a0    the Z80's RAM
-    45f9 0000 02c0      ; lea     $000002c0.l,a2    its program
-    700f                ; moveq   #15,d0
+    dc.w $0811,$0000,$66fa              ; btst #0,(a1); bne.b $212
+    dc.w $41f9,$00a0,$0000              ; lea     $00a00000.l,a0    the Z80's RAM
+    dc.w $45f9,$0000,$02c0              ; lea     $000002c0.l,a2    its program
+    dc.w $700f                          ; moveq   #15,d0
 ; at 226
-    10da 51c8 fffc      ; move.b  (a2)+,(a0)+; dbf d0,$226
-    33fc 0000 00a1 1200 ; move.w  #,$00a11200.l     reset it
-    33fc 0100 00a1 1200 ; move.w  #,$00a11200.l
-    32bc 0000           ; move.w  #$0000,(a1)       and let it go
-    43f9 00c0 0000      ; lea     $00c00000.l,a1    the VDP's data port
-    33fc 8f02 00c0 0004 ; move.w  #,$00c00004.l     increment 2
-    33fc 8164 00c0 0004 ; move.w  #,$00c00004.l     display and vertical interrupt on
-    33fc 8c81 00c0 0004 ; move.w  #,$00c00004.l     320 dots
+    dc.w $10da,$51c8,$fffc              ; move.b  (a2)+,(a0)+; dbf d0,$226
+    dc.w $33fc,$0000,$00a1,$1200        ; move.w  #,$00a11200.l     reset it
+    dc.w $33fc,$0100,$00a1,$1200        ; move.w  #,$00a11200.l
+    dc.w $32bc,$0000                    ; move.w  #$0000,(a1)       and let it go
+    dc.w $43f9,$00c0,$0000              ; lea     $00c00000.l,a1    the VDP's data port
+    dc.w $33fc,$8f02,$00c0,$0004        ; move.w  #,$00c00004.l     increment 2
+    dc.w $33fc,$8164,$00c0,$0004        ; move.w  #,$00c00004.l     display and vertical interrupt on
+    dc.w $33fc,$8c81,$00c0,$0004        ; move.w  #,$00c00004.l     320 dots
 ; at 25e
-    4e72 2000 60fa      ; stop    #$2000; bra.b $25e
-at 270
-    23fc 4000 0000 00c0 0004 ; move.l #,$00c00004.l to VRAM at 0
-    323c 0112           ; move.w  #274,d1
+    dc.w $4e72,$2000,$60fa              ; stop    #$2000; bra.b $25e
+org $270
+    dc.w $23fc,$4000,$0000,$00c0,$0004  ; move.l #,$00c00004.l to VRAM at 0
+    dc.w $323c,$0112                    ; move.w  #274,d1
 ; at 27e
-    3280 5240 51c9 fffa ; move.w  d0,(a1); addq.w #1,d0; dbf d1,$27e
-    4e73                ; rte
+    dc.w $3280,$5240,$51c9,$fffa        ; move.w  d0,(a1); addq.w #1,d0; dbf d1,$27e
+    dc.w $4e73                          ; rte
 ; the program of the Z80
-at 2c0
-    2100 4036 2a23      ; ld hl,$4000; ld (hl),$2a; inc hl     the converter's register
-    7781 0300 18fa      ; ld (hl),a; add a,c; inc bc; nop; jr *-4   33 clocks
-    0000 0000
+org $2c0
+    dc.w $2100,$4036,$2a23              ; ld hl,$4000; ld (hl),$2a; inc hl     the converter's register
+    dc.w $7781,$0300,$18fa              ; ld (hl),a; add a,c; inc bc; nop; jr *-4   33 clocks
+    dc.w $0000,$0000
 """
 # how many moves a frame has: the 68000's, 19,912 of the Z80, 262 lines and twice 55.6 batches
 MOVES = {"idle": 12_801 + 20_285, "mix": 9_401 + 20_285}
 
 
 def build(source, image):
-    subprocess.run([sys.executable, TOP / "examples" / "build.py", source, image], check=True)
+    subprocess.run([PROGRAM, "asm", source, image], check=True, stdout=subprocess.DEVNULL)
 
 
 def memory(run):
@@ -174,11 +174,11 @@ def main():
             measure(image.name, image, frames, folder)
             return
         sources = {
-            example: TOP / "examples" / example / f"{example}.src"
+            example: TOP / "examples" / example / f"{example}.asm"
             for example in ("scale", "chord", "show")
         }
         for cartridge, text in (("idle", IDLE), ("mix", MIX), ("transfer", TRANSFER), ("data", DATA), ("busy", BUSY)):
-            sources[cartridge] = folder / f"{cartridge}.src"
+            sources[cartridge] = folder / f"{cartridge}.asm"
             sources[cartridge].write_text(text)
         for cartridge in ("idle", "mix", "scale", "chord", "transfer", "data", "busy", "show"):
             image = folder / f"{cartridge}.bin"

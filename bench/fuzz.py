@@ -26,7 +26,7 @@ import expected
 TOP = pathlib.Path(__file__).resolve().parent.parent
 PROGRAM = TOP / "crates" / "md_prog" / "out" / "md_prog"
 sys.path.insert(0, str(TOP / "examples"))
-import build
+import assembled
 
 FRAME = expected.FRAME
 EXAMPLES = ("chord", "pads", "readback", "scale", "show", "sort", "tone", "z80tone")
@@ -155,8 +155,7 @@ class Corpus:
         chance = random.Random(f"corpus {seed}")
         self.images, self.states, self.longest = [], [], 0.0
         for example in EXAMPLES:
-            with open(TOP / "examples" / example / f"{example}.src") as source:
-                self.images.append(bytes(build.build(source)))
+            self.images.append(assembled.image_of(TOP / "examples" / example / f"{example}.asm"))
         for image in self.images + [random_cartridge(chance) for _ in range(4)]:
             for _ in range(3):
                 self.save(image, chance.randint(1, 8 * FRAME), folder)

@@ -75,8 +75,8 @@ def run(folder, *words, **more):
 
 
 def build(example, image):
-    source = TOP / "examples" / example / f"{example}.src"
-    subprocess.run([sys.executable, TOP / "examples" / "build.py", source, image], check=True)
+    source = TOP / "examples" / example / f"{example}.asm"
+    subprocess.run([PROGRAM, "asm", source, image], check=True, stdout=subprocess.DEVNULL)
 
 
 def save(folder, cycle):

@@ -79,8 +79,8 @@ def main():
     with tempfile.TemporaryDirectory() as name:
         folder = pathlib.Path(name)
         image, state = folder / "show.bin", folder / "show.mds"
-        source = TOP / "examples" / "show" / "show.src"
-        subprocess.run([sys.executable, TOP / "examples" / "build.py", source, image], check=True)
+        source = TOP / "examples" / "show" / "show.asm"
+        run("asm", source, image)
         at = 20 * FRAME + 12_345
         run("run", image, "--cycles", at, "--save", state)
         nothing = least(40, "run")

@@ -203,8 +203,8 @@ def listen(program, folder, name):
     """Runs an example, makes a VGM file of it, plays it, and compares."""
     image, journal, file = folder / "image.bin", folder / "run.jnl", folder / "run.vgm"
     run, played, other = folder / "run.wav", folder / "played.wav", folder / "other.wav"
-    build = [sys.executable, EXAMPLES / "build.py", EXAMPLES / name / f"{name}.src", image]
-    subprocess.run(build, check=True)
+    build = [program, "asm", EXAMPLES / name / f"{name}.asm", image]
+    subprocess.run(build, check=True, stdout=subprocess.DEVNULL)
     words = ["run", image, "--cycles", str(CYCLES), "--journal", journal, "--sound", run]
     for command in (words, ["vgm", journal, file], ["play", file, played]):
         subprocess.run([program, *command], check=True, stdout=subprocess.DEVNULL)

@@ -28,7 +28,7 @@ import subprocess
 import sys
 import tempfile
 
-import build
+import assembled
 import record
 
 HERE = pathlib.Path(__file__).resolve().parent
@@ -240,8 +240,7 @@ def cartridge_of(example):
     """The image of an example, or of a file, and the lines of its recording's text."""
     if example.endswith(".bin"):
         return pathlib.Path(example).read_bytes(), []
-    with open(HERE / example / f"{example}.src") as source:
-        image = build.build(source)
+    image = assembled.image_of(HERE / example / f"{example}.asm")
     pads = HERE / example / f"{example}.txt"
     return image, pads.read_text().splitlines() if pads.exists() else []
 
@@ -270,7 +269,7 @@ def main():
     if mame() is None or not PROGRAM.exists():
         print("MAME (Debian's package mame) or the program (run `rt ci` first) is missing", file=sys.stderr)
         return 2
-    every = sorted(path.parent.name for path in HERE.glob("*/*.src") if path.stem == path.parent.name)
+    every = sorted(path.parent.name for path in HERE.glob("*/*.asm") if path.stem == path.parent.name)
     same = [compare(example, words.seconds) for example in words.examples or every]
     return 0 if all(same) else 1
 
