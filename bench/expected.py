@@ -10,7 +10,7 @@ FRAME, LINE_224, BATCH = 896_040, 766_080, 16_128
 LATEST = 549_755_813_888
 PICTURE = b"P6\n320 224\n255\n"
 PICTURE_SIZE = len(PICTURE) + 3 * 320 * 224
-STATE_SIZE = 378_240
+STATE_SIZE = 393_602
 LIMITS = {"rom": 4_194_304, "in": 4_194_316, "load": 2_097_152}
 OUTPUTS = ("frames", "sound", "journal", "save")
 OPTIONS = ("cycles", "in", "load", *OUTPUTS[3:], *OUTPUTS[:3], "workers")
@@ -146,7 +146,7 @@ def state_refused(state, image):
     """The refusal of a state for its length, its mark or its cartridge, or None."""
     if len(state) != STATE_SIZE:
         return refused(7, b"refused: state at %d" % min(len(state), STATE_SIZE))
-    if state[:8] != b"MDSTATE1":
+    if state[:8] != b"MDSTATE2":
         return refused(7, b"refused: state at 0")
     given = hashlib.sha256(padded(image)).digest()
     if state[8:40] != given:

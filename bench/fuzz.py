@@ -92,7 +92,7 @@ def altered(chance, data):
 def altered_state(chance, state):
     """A state with some changes, mostly in the small fields, and of the same length."""
     data = bytearray(state)
-    small = (40, 188), (65_762, 65_825), (74_019, 74_043), (139_787, 139_833), (354_881, 354_912), (367_197, 367_960), (378_196, 378_240)
+    small = (40, 189), (65_763, 65_826), (74_020, 74_044), (139_788, 139_835), (370_243, 370_274), (382_559, 383_322), (393_558, 393_602)
     for _ in range(chance.choice((1, 1, 2, 4))):
         first, last = chance.choice(small) if chance.random() < 0.7 else (0, len(data))
         place = chance.randrange(first, last)

@@ -42,7 +42,7 @@ FRAME = expected.FRAME
 PAGE = 4_096
 NOBODY = 65_534
 # Where a state has the Z80's RAM and the VDP's memories, and the bits that each word of these may have.
-Z80_RAM, VRAM, CRAM, VSRAM = (65_825, 8_192), (74_043, 65_536), (139_579, 64), (139_707, 40)
+Z80_RAM, VRAM, CRAM, VSRAM = (65_826, 8_192), (74_044, 65_536), (139_580, 64), (139_708, 40)
 CRAM_BITS, VSRAM_BITS = 0x0EEE, 0x07FF
 
 

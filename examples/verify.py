@@ -28,7 +28,7 @@ import sys
 import tempfile
 
 PROGRAM = pathlib.Path(__file__).resolve().parent.parent / "crates" / "md_prog" / "out" / "md_prog"
-MARK = b"MDSTATE1"
+MARKS = b"MDSTATE1", b"MDSTATE2"
 
 
 class Wrong(Exception):
@@ -39,7 +39,7 @@ def cycle_of(state):
     """The cycle of a saved state, which stands behind its mark and the cartridge's digest."""
     with open(state, "rb") as file:
         head = file.read(48)
-    if len(head) < 48 or not head.startswith(MARK):
+    if len(head) < 48 or not head.startswith(MARKS):
         raise Wrong(f"{state} is no saved state")
     return int.from_bytes(head[40:], "big")
 

@@ -25,10 +25,15 @@ const NONE_SET: SpriteNote = SpriteNote {
     collision: false,
 };
 
-/// A board with this recording.
+/// A board for NTSC with this recording.
 pub fn board(alloc: Global, bytes: &[u8]) -> Result<Shared, Fail> {
+    board_of(alloc, bytes, false)
+}
+
+/// A board of a region with this recording.
+fn board_of(alloc: Global, bytes: &[u8], pal: bool) -> Result<Shared, Fail> {
     let recording = Arc::new(alloc, Recording::read(alloc, bytes)?)?;
-    Shared::power_on(alloc, recording).map_err(|_| Fail::from("no memory"))
+    Shared::power_on(alloc, recording, pal).map_err(|_| Fail::from("no memory"))
 }
 
 /// The key of a chip's event.
@@ -89,6 +94,36 @@ fn a_recorded_button_is_seen_from_line_224_on(rt: HostRuntime) -> Result<(), Fai
     let mut shared = board(rt.alloc(), UP)?;
     assert!(rt; pad(&mut shared, 0) == 0x7f);
     assert_eq!(rt; first_wrong_line(&mut shared), None);
+    Ok(())
+}
+
+// On PAL the words are those of the frame whose line 240 began last, and a frame has 313 lines.
+const SHOWN_ON_PAL: [(u32, u32, u16); 5] = [
+    (766_080, 224, 0x7f),
+    (817_380, 239, 0x7f),
+    (820_800, 240, 0x7e),
+    (1_070_460, 0, 0x7e),
+    (1_891_260, 240, 0x7f),
+];
+
+#[test]
+fn a_recorded_button_is_seen_from_line_240_on(rt: HostRuntime) -> Result<(), Fail> {
+    let mut shared = board_of(rt.alloc(), UP, true)?;
+    for (cycle, number, want) in SHOWN_ON_PAL {
+        assert!(rt; line(&mut shared, cycle) == (10, number, 0), "{cycle}");
+        assert!(rt; pad(&mut shared, cycle.wrapping_add(1)) == want, "{cycle}");
+    }
+    Ok(())
+}
+
+// The version tells PAL by bit 6, and the VDP's status by bit 0; with its display off the status has bit 3 too.
+#[test]
+fn a_board_of_pal_tells_it(rt: HostRuntime) -> Result<(), Fail> {
+    for (pal, version, status) in [(false, 0xa0, 0x0208), (true, 0xe0, 0x0209)] {
+        let mut shared = board_of(rt.alloc(), UP, pal)?;
+        assert!(rt; main(&mut shared, 28, Request68::Read8(0xa1_0001)).0 == version);
+        assert!(rt; main(&mut shared, 56, Request68::Read16(0xc0_0004)).0 == status);
+    }
     Ok(())
 }
 

@@ -1,6 +1,6 @@
 // The bytes of a saved state that keep the board, worked out by hand from the order and the sizes of its
-// parts: the VDP at 0, the FM chip's port at 65,812, the PSG's at 78,128, the bus request, the reset and
-// its count at 88,370, 88,371 and 88,372, the latches at 88,380, the pads at 88,384 and 88,386; where the
+// parts: the VDP at 0, the FM chip's port at 65,813, the PSG's at 78,129, the bus request, the reset and
+// its count at 88,371, 88,372 and 88,373, the latches at 88,381, the pads at 88,385 and 88,387; where the
 // bus has the Z80's RAM, that and the bank register, at 8,192, stand in front, so that all others come
 // 8,194 later.
 use crate::board::{board, main};
@@ -11,9 +11,9 @@ use std::alloc::Global;
 use std::sync::Arc;
 use std::test::Fail;
 
-const SHORT: usize = 88_388;
+const SHORT: usize = 88_389;
 
-const LONG: usize = 96_582;
+const LONG: usize = 96_583;
 
 /// The cycle of the states.
 const AT: u64 = 1;
@@ -38,7 +38,7 @@ fn put(bytes: &mut [u8], change: (usize, u8)) {
 
 /// The board that the bytes keep is spelled by them.
 fn is_again(alloc: Global, bytes: &[u8]) -> Result<bool, Fail> {
-    match Shared::unspell(alloc, bytes, AT, recording(alloc)?) {
+    match Shared::unspell(alloc, bytes, AT, recording(alloc)?, false) {
         Ok(shared) => {
             let mut again = Vec::with_capacity(alloc, LONG)?;
             shared.spell(AT, &mut again);
@@ -50,7 +50,7 @@ fn is_again(alloc: Global, bytes: &[u8]) -> Result<bool, Fail> {
 
 /// The place at which the bytes are refused.
 fn place_of(alloc: Global, bytes: &[u8]) -> Result<Option<u64>, Fail> {
-    match Shared::unspell(alloc, bytes, AT, recording(alloc)?) {
+    match Shared::unspell(alloc, bytes, AT, recording(alloc)?, false) {
         Ok(_) => Ok(None),
         Err(Unspell::Rule { place }) => Ok(Some(place)),
         Err(Unspell::NoMemory) => Err(Fail::from("no memory")),
@@ -67,7 +67,7 @@ fn changed(alloc: Global, length: usize, changes: &[(usize, u8)]) -> Result<Vec<
 }
 
 const ANY_BYTES: [(usize, [(usize, u8); 3]); 2] = [
-    (SHORT, [(24, 0xab), (65_812, 0x28), (88_383, 0x5a)]),
+    (SHORT, [(24, 0xab), (65_813, 0x28), (88_384, 0x5a)]),
     (LONG, [(0, 0xc3), (8_191, 0x76), (8_193, 0xff)]),
 ];
 
@@ -85,23 +85,23 @@ fn what_is_read_is_spelled_so(rt: HostRuntime) -> Result<(), Fail> {
 // and the place of the refusal.
 const BROKEN: [(usize, [(usize, u8); 2], u64); 18] = [
     (17, [(0, 0), (0, 0)], 17),
-    (SHORT - 1, [(0, 0), (0, 0)], 88_387),
-    (SHORT + 1, [(0, 0), (0, 0)], 88_389),
-    (LONG - 1, [(0, 0), (0, 0)], 96_581),
-    (LONG + 1, [(0, 0), (0, 0)], 96_582),
-    (SHORT, [(65_769, 64), (65_818, 1)], 65_769),
-    (SHORT, [(65_818, 1), (78_128, 8)], 65_818),
-    (SHORT, [(78_128, 8), (88_370, 2)], 78_128),
-    (SHORT, [(88_370, 2), (88_371, 2)], 88_370),
-    (SHORT, [(88_371, 2), (88_379, 2)], 88_371),
-    (SHORT, [(88_379, 2), (88_384, 1)], 88_372),
-    (SHORT, [(88_384, 1), (88_386, 1)], 88_384),
-    (SHORT, [(88_386, 1), (0, 0)], 88_386),
+    (SHORT - 1, [(0, 0), (0, 0)], 88_388),
+    (SHORT + 1, [(0, 0), (0, 0)], 88_390),
+    (LONG - 1, [(0, 0), (0, 0)], 96_582),
+    (LONG + 1, [(0, 0), (0, 0)], 96_583),
+    (SHORT, [(65_769, 64), (65_819, 1)], 65_769),
+    (SHORT, [(65_819, 1), (78_129, 8)], 65_819),
+    (SHORT, [(78_129, 8), (88_371, 2)], 78_129),
+    (SHORT, [(88_371, 2), (88_372, 2)], 88_371),
+    (SHORT, [(88_372, 2), (88_380, 2)], 88_372),
+    (SHORT, [(88_380, 2), (88_385, 1)], 88_373),
+    (SHORT, [(88_385, 1), (88_387, 1)], 88_385),
+    (SHORT, [(88_387, 1), (0, 0)], 88_387),
     (LONG, [(8_192, 2), (73_963, 64)], 8_192),
-    (LONG, [(73_963, 64), (74_012, 1)], 73_963),
-    (LONG, [(74_012, 1), (86_322, 8)], 74_012),
-    (LONG, [(86_322, 8), (96_564, 2)], 86_322),
-    (LONG, [(96_573, 2), (96_578, 1)], 96_566),
+    (LONG, [(73_963, 64), (74_013, 1)], 73_963),
+    (LONG, [(74_013, 1), (86_323, 8)], 74_013),
+    (LONG, [(86_323, 8), (96_565, 2)], 86_323),
+    (LONG, [(96_574, 2), (96_579, 1)], 96_567),
 ];
 
 /// The place at which bytes with these changes are refused.

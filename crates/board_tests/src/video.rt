@@ -37,7 +37,7 @@ const NONE_SET: SpriteNote = SpriteNote {
 /// A board of whose pads nothing is recorded.
 fn board(alloc: Global) -> Result<Shared, Fail> {
     let recording = Arc::new(alloc, Recording::read(alloc, b"MDREC001\0\0\0\0")?)?;
-    Shared::power_on(alloc, recording).map_err(|_| Fail::from("no memory"))
+    Shared::power_on(alloc, recording, false).map_err(|_| Fail::from("no memory"))
 }
 
 /// Carries out an access of the 68000 at a cycle.
@@ -137,6 +137,8 @@ fn blank_view(alloc: Global) -> Result<Box<LineView>, Fail> {
         vram: [7; 65536],
         cram: [7; 64],
         vsram: [7; 40],
+        pal: false,
+        tall: false,
     };
     Box::new(alloc, view).map_err(|_| Fail::from("no memory"))
 }

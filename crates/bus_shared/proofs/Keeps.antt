@@ -1,5 +1,5 @@
 -- Each access leaves a board.
-use Rattle.std.proofs.Common.{ℕ, ◌*◌, ◌/◌, ◌%◌, ◌==◌, ◌<◌, ◌≤◌, Bool, true, false, Option, Some, None, if◌then◌else◌, arith, lit<, lit≤, not}
+use Rattle.std.proofs.Common.{ℕ, ◌/◌, ◌%◌, ◌==◌, ◌<◌, ◌≤◌, Bool, true, false, Option, Some, None, if◌then◌else◌, arith, lit<, lit≤, not}
 use Rattle.std.proofs.lemmas.List.Elements.{All-filter, All-nil}
 use Rattle.fm_port.specs.Port.{Port, first_write, held_with, left_from, reset, reset_write, second_write, taken_below, written}
 use Rattle.fm_port.specs.Stamp.{stamp_of}
@@ -10,7 +10,7 @@ use Rattle.fm_port.specs.declared.write.FmWrite.{FmWrite}
 use Rattle.sound_writes.proofs.Helds.{All-held_with, length-filter-most, length-held_with}
 use Rattle.sound_writes.specs.Order.{is_below}
 use Rattle.md_pads.specs.Recording.{Frame, pads_of}
-use Rattle.md_word.specs.Clock.{frame, line}
+use Rattle.md_word.specs.Region.{finished_at, frame_cycles}
 use Rattle.md_word.specs.Map.{area_of}
 use Rattle.md_word.specs.declared.area.Area.{Area}
 use Rattle.md_word.specs.declared.area.Area.TheVariants.{Z80Space, InputOutput, BusRequest, Z80Reset, VideoPorts}
@@ -40,14 +40,14 @@ use Rattle.bus_shared.specs.declared.register.Register.{Register}
 use Rattle.bus_shared.specs.declared.register.Register.TheVariants.{Version, Data1, Data2, DataExpansion, Control1, Control2, Unused}
 use Rattle.std.specs.Prelude.{List, length}
 
-pub power_on-ok : (recording : List Frame) → IsBoard (power_on recording)
-power_on-ok recording = record {
+pub power_on-ok : (recording : List Frame) (pal : Bool) → IsBoard (power_on recording pal)
+power_on-ok recording pal = record {
   port1 = record { value = lit< tt; control = lit< tt };
   port2 = record { value = lit< tt; control = lit< tt };
   held = IsPort-nil;
   fm = record { most = lit≤ tt; chips = All-nil (λ (w : FmWrite). w.key.chip < 2) };
   store = tt;
-  registers = power_on_bytes;
+  registers = power_on_bytes pal;
 }
 
 register-ok : (board : Board) (register : Register) (value : ℕ) → value < 0x100 → IsBoard board → IsBoard (register_written board register value)
@@ -225,7 +225,8 @@ pads-ok false board pads ok = ok
 pub line-ok : (board : Board) (cycle : ℕ) (note : SpriteNote) → IsBoard board → IsBoard (line_board board cycle note)
 unfolding line_board pads_board
 line-ok board cycle note ok =
-    pads-ok (cycle % frame == 224 * line) (video_started board cycle note) (pads_of board.recording (cycle / frame))
+    let pal = (video_started board cycle note).vdp.pal in
+    pads-ok (cycle % frame_cycles pal == finished_at pal) (video_started board cycle note) (pads_of board.recording (cycle / frame_cycles pal))
     (with-vdp board _ (line_begun_bytes cycle note board.vdp ok.registers) ok)
 
 -- a batch of the PSG synthesis

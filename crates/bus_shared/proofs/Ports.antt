@@ -11,7 +11,8 @@ use Rattle.vdp_ports.specs.Data.{accessed, place, put, transferred, written}
 use Rattle.vdp_ports.specs.Control.{acknowledged, armed, bit, controlled, first, second, source_of, started, started_by, starts, status, status_read, stored, transfer_of, transfers}
 use Rattle.vdp_dma.specs.Settling.{advanced, due, finished, is_busy, moved, settled, vram_at}
 use Rattle.vdp_planes.specs.declared.view.SpriteNote.{SpriteNote}
-use Rattle.vdp_time.specs.Lines.{counted, h_blank, h_counter, hv, jumping, line_of, line_started, raised, v_blank, v_counter}
+use Rattle.md_word.specs.Region.{height}
+use Rattle.vdp_time.specs.Lines.{counted, heightened, h_blank, h_counter, hv, jumping, line_of, line_started, raised, v_blank, v_counter}
 use Rattle.bus_shared.specs.Board.{AreBytes}
 use Rattle.bus_shared.specs.Laws.{IsTransfer, IsWordCost}
 use Rattle.bus_shared.specs.Video.{half_at, is_shown, is_wide, joined, line_begun, port_read, port_transfer, port_word, port_written, with_cost, word_cost}
@@ -114,19 +115,28 @@ acknowledged_bytes n s h = bytes-if (n == 6) _ _ h (bytes-if (n == 4) _ _ h h)
 
 counted-bytes : (number : ℕ) (s : Vdp) → AreBytes s.registers → AreBytes (counted number s).registers
 unfolding counted
-counted-bytes number s h = bytes-if (nat_lt number 224) _ _ (bytes-if (s.line_counter == 0) _ _ h h) h
+counted-bytes number s h = bytes-if (nat_lt number (height s.tall)) _ _ (bytes-if (s.line_counter == 0) _ _ h h) h
+
+heightened-bytes : (number : ℕ) (s : Vdp) → AreBytes s.registers → AreBytes (heightened number s).registers
+unfolding heightened
+heightened-bytes number s h = bytes-if (number == 0) _ _ h h
+
+raised-bytes : (cycle number : ℕ) (s : Vdp) → AreBytes s.registers → AreBytes (raised cycle number s).registers
+unfolding raised
+raised-bytes cycle number s h = bytes-if (number == height s.tall) _ _ h h
 
 line_started-bytes : (cycle : ℕ) (s : Vdp) → AreBytes s.registers → AreBytes (line_started cycle s).registers
-unfolding line_started raised
+unfolding line_started
 line_started-bytes cycle s h =
-    bytes-if (line_of cycle == 224) _ _ (counted-bytes (line_of cycle) s h) (counted-bytes (line_of cycle) s h)
+    let n = line_of cycle s.pal in
+    raised-bytes cycle n (counted n (heightened n s)) (counted-bytes n (heightened n s) (heightened-bytes n s h))
 
 pub line_begun_bytes : (cycle : ℕ) (note : SpriteNote) (s : Vdp) → AreBytes s.registers → AreBytes (line_begun cycle note s).registers
 unfolding line_begun
 line_begun_bytes cycle note s h = line_started-bytes cycle (joined note (settled cycle s)) (settled-bytes cycle s h)
 
-pub power_on_bytes : AreBytes at_power_on.registers
-power_on_bytes = All-replicate (λ (value : ℕ). value < 0x100) 24 0 (lit< tt)
+pub power_on_bytes : (pal : Bool) → AreBytes (at_power_on pal).registers
+power_on_bytes pal = All-replicate (λ (value : ℕ). value < 0x100) 24 0 (lit< tt)
 
 -- a register is a byte, also one that there is not
 byte-at : (registers : List ℕ) (n : ℕ) → AreBytes registers → slice_index registers n < 0x100
@@ -158,7 +168,7 @@ cost-by false = inr refl
 
 pub word-cost : (cycle : ℕ) (s : Vdp) → IsWordCost (word_cost cycle s)
 unfolding word_cost
-word-cost cycle s = cost-by (v_blank cycle (is_shown s))
+word-cost cycle s = cost-by (v_blank cycle (is_shown s) s.pal s.tall)
 
 transfer-by : (b : Bool) (cost : ℕ) (s : Vdp) → IsWordCost cost → AreBytes s.registers
     → IfSome (with_cost cost (if b then Some (source_of s, length_of s) else None)) IsTransfer
@@ -186,15 +196,15 @@ bit-below false = omega arith
 
 status-below : (busy hb vb : Bool) (s : Vdp) → status busy hb vb s < 0x1_0000
 unfolding status
-status-below busy hb vb s = omega (arith, bit-below s.vertical, bit-below s.overflow, bit-below s.collision, bit-below vb, bit-below hb, bit-below busy)
+status-below busy hb vb s = omega (arith, bit-below s.vertical, bit-below s.overflow, bit-below s.collision, bit-below vb, bit-below hb, bit-below busy, bit-below s.pal)
 
 jumping-below : (last again k : ℕ) → last ≤ 256 → again + k < 256 + last → jumping last again k < 256
 unfolding jumping
 jumping-below last again k most less = grind (arith, most, less)
 
-v-below : (cycle : ℕ) → v_counter cycle < 256
-unfolding v_counter line_of
-v-below cycle = jumping-below 235 229 (cycle / line % 262) (lit≤ tt) (omega arith)
+v-below : (cycle : ℕ) (pal tall : Bool) → v_counter cycle pal tall < 256
+unfolding v_counter
+v-below cycle pal tall = omega arith
 
 h-by : (wide : Bool) (cycle : ℕ) → (if wide then jumping 183 228 (cycle % line * 211 / line) else jumping 148 233 (cycle % line / 20)) < 256
 h-by true cycle = jumping-below 183 228 _ (lit≤ tt) (omega arith)
@@ -204,15 +214,15 @@ h-below : (cycle : ℕ) (wide : Bool) → h_counter cycle wide < 256
 unfolding h_counter
 h-below cycle wide = h-by wide cycle
 
-hv-below : (cycle : ℕ) (wide : Bool) → hv cycle wide < 0x1_0000
+hv-below : (cycle : ℕ) (wide pal tall : Bool) → hv cycle wide pal tall < 0x1_0000
 unfolding hv
-hv-below cycle wide = omega (arith, v-below cycle, h-below cycle wide)
+hv-below cycle wide pal tall = omega (arith, v-below cycle pal tall, h-below cycle wide)
 
 pub port-below : (port : VideoPort) (cycle : ℕ) (s : Vdp) → port_word port cycle s < 0x1_0000
 unfolding port_word
 port-below Data cycle s = omega arith
-port-below Control cycle s = status-below (is_busy cycle (settled cycle s)) (h_blank cycle) (v_blank cycle (is_shown (settled cycle s))) (settled cycle s)
-port-below Counter cycle s = hv-below cycle (is_wide s)
+port-below Control cycle s = status-below (is_busy cycle (settled cycle s)) (h_blank cycle) (v_blank cycle (is_shown (settled cycle s)) (settled cycle s).pal (settled cycle s).tall) (settled cycle s)
+port-below Counter cycle s = hv-below cycle (is_wide s) s.pal s.tall
 port-below Sound cycle s = lit< tt
 port-below Unused cycle s = lit< tt
 

@@ -1,7 +1,8 @@
 -- Each access keeps the VDP's rules, at each cycle above its own.
-use Rattle.std.proofs.Common.{ℕ, ◌*◌, ◌/◌, ◌%◌, ◌==◌, ◌<◌, ◌≤◌, ◌≡◌, Bool, true, false, Option, Some, None, if◌then◌else◌, sym, subst, arith}
-use Rattle.md_pads.specs.Recording.{Frame, pads_of}
-use Rattle.md_word.specs.Clock.{frame, line}
+use Rattle.std.proofs.Common.{ℕ, ◌/◌, ◌%◌, ◌==◌, ◌<◌, ◌≡◌, Bool, true, false, Option, Some, None, if◌then◌else◌, sym, subst, arith}
+use Rattle.md_pads.specs.Recording.{pads_of}
+use Rattle.md_word.specs.Clock.{line}
+use Rattle.md_word.specs.Region.{finished_at, frame_cycles}
 use Rattle.md_word.specs.Map.{area_of}
 use Rattle.md_word.specs.declared.area.Area.{Area}
 use Rattle.md_word.specs.declared.area.Area.TheVariants.{Z80Space, InputOutput, BusRequest, Z80Reset, VideoPorts}
@@ -53,7 +54,7 @@ port-ruled at Sound cycle word vdp below ok = ok
 port-ruled at NoPort cycle word vdp below ok = ok
 
 joined-ruled : (at : ℕ) (note : SpriteNote) (vdp : Vdp) → HasRules at vdp → HasRules at (joined note vdp)
-joined-ruled at note vdp ok = record { code = ok.code; cram = ok.cram; vsram = ok.vsram; going = ok.going; interval = ok.interval }
+joined-ruled at note vdp ok = record { code = ok.code; cram = ok.cram; vsram = ok.vsram; going = ok.going; interval = ok.interval; region = ok.region }
 
 begun-ruled : (at cycle : ℕ) (note : SpriteNote) (vdp : Vdp) → cycle < at → cycle % line ≡ 0 → HasRules at vdp → HasRules at (line_begun cycle note vdp)
 unfolding line_begun
@@ -158,7 +159,8 @@ pub line_ruled : (at : ℕ) (board : Board) (cycle : ℕ) (note : SpriteNote) �
 unfolding line_board pads_board
 line_ruled at board cycle note below whole ok =
     let begun = begun-ruled at cycle note board.vdp below whole ok in
-    ruled-if (cycle % frame == 224 * line) at (record (video_started board cycle note) { pads = pads_of board.recording (cycle / frame) }) (video_started board cycle note) begun begun
+    let pal = (video_started board cycle note).vdp.pal in
+    ruled-if (cycle % frame_cycles pal == finished_at pal) at (record (video_started board cycle note) { pads = pads_of board.recording (cycle / frame_cycles pal) }) (video_started board cycle note) begun begun
 
 -- a batch of a sound chip
 pub batch_ruled : (at : ℕ) (board : Board) (cycle : ℕ) → HasRules at board.vdp → HasRules at (psg_board board cycle).vdp

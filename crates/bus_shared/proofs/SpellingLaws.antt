@@ -19,7 +19,7 @@ use Rattle.md_pads.specs.Recording.{Frame}
 use Rattle.psg_sound.specs.PortSpelling as psg_spelling
 use Rattle.psg_sound.specs.declared.write.PsgWrite.{PsgWrite}
 use Rattle.psg_sound.proofs.PortBytes as psg_laws
-use Rattle.vdp_ports.specs.Numbers.{numbers_of}
+use Rattle.vdp_ports.specs.Numbers.{numbers_of, vdp_of}
 use Rattle.vdp_ports.specs.Saved.{vdp_fields}
 use Rattle.vdp_ports.specs.Spelling as vdp_spelling
 use Rattle.vdp_ports.specs.Vdp.{Vdp}
@@ -34,8 +34,8 @@ use Rattle.bus_shared.proofs.SavedLaws as lines_laws
 
 -- ---- the bytes of each part
 
-pub vdp_own : (at : ℕ) (bytes : List ℕ) (s : Vdp) → vdp_spelling.Spells at bytes s → bytes ≡ vdp_spelling.vdp_bytes s
-vdp_own at bytes s p = p.keeps.all ∙ vdp_laws.same_bytes at 0 (numbers_of s)
+pub vdp_own : (at : ℕ) (pal : Bool) (bytes : List ℕ) (s : Vdp) → vdp_spelling.Spells at pal bytes s → bytes ≡ vdp_spelling.vdp_bytes s
+vdp_own at pal bytes s p = p.keeps.all ∙ vdp_laws.same_bytes at 0 pal false (numbers_of s)
 
 pub fm_own : (at : ℕ) (bytes : List ℕ) (p : fm_ports.Port) → fm_spelling.SpellsPort at bytes p → bytes ≡ fm_spelling.port_bytes p
 unfolding spelling
@@ -55,12 +55,12 @@ unfolding sizes AreSized
 store_long None ok = long_as_sized (store_fields true None) tt
 store_long (Some store) ok = long_as_sized (store_fields true (Some store)) (ok.ram, (tt, tt))
 
-pub board_long : (has : Bool) → board_size has ≡ store_size has + 88388
+pub board_long : (has : Bool) → board_size has ≡ store_size has + 88389
 board_long true = refl
 board_long false = refl
 
-vdp_long : (at : ℕ) (bytes : List ℕ) (s : Vdp) → vdp_spelling.Spells at bytes s → length bytes ≡ 65812
-vdp_long at bytes s p = ap length p.keeps.all ∙ long_as (vdp_fields at (numbers_of s)) p.keeps.within ∙ vdp_laws.fields_size at (numbers_of s)
+vdp_long : (at : ℕ) (pal : Bool) (bytes : List ℕ) (s : Vdp) → vdp_spelling.Spells at pal bytes s → length bytes ≡ 65813
+vdp_long at pal bytes s p = ap length p.keeps.all ∙ long_as (vdp_fields at pal (numbers_of s)) p.keeps.within ∙ vdp_laws.fields_size at pal (numbers_of s)
 
 fm_long : (at : ℕ) (bytes : List ℕ) (p : fm_ports.Port) → fm_spelling.SpellsPort at bytes p → length bytes ≡ 12316
 fm_long at bytes p spells =
@@ -75,7 +75,7 @@ lines_long at bytes n keeps = ap length keeps.all ∙ long_as (lines_fields at n
 
 -- ---- bytes are cut into the parts that they are made of
 
-cut_of : (a b c d e : List ℕ) → length b ≡ 65812 → length c ≡ 12316 → length d ≡ 10242 → length e ≡ 18
+cut_of : (a b c d e : List ℕ) → length b ≡ 65813 → length c ≡ 12316 → length d ≡ 10242 → length e ≡ 18
     → cut (a ++ (b ++ (c ++ (d ++ e)))) ≡ record { store = a; vdp = b; fm = c; held = d; lines = e }
 cut_of a b c d e lb lc ld le =
     let rest = b ++ (c ++ (d ++ e)) in
@@ -83,11 +83,11 @@ cut_of a b c d e lb lc ld le =
     let n : length a ≡ store_length bytes =
     omega (arith, length-append a rest, length-append b (c ++ (d ++ e)), length-append c (d ++ e), length-append d e, lb, lc, ld, le) in
     let behind : drop (store_length bytes) bytes ≡ rest = drop_at a rest (store_length bytes) n in
-    let past_vdp : drop 65812 (drop (store_length bytes) bytes) ≡ c ++ (d ++ e) = ap (drop 65812) behind ∙ drop_at b (c ++ (d ++ e)) 65812 lb in
-    let past_fm : drop 12316 (drop 65812 (drop (store_length bytes) bytes)) ≡ d ++ e = ap (drop 12316) past_vdp ∙ drop_at c (d ++ e) 12316 lc in
+    let past_vdp : drop 65813 (drop (store_length bytes) bytes) ≡ c ++ (d ++ e) = ap (drop 65813) behind ∙ drop_at b (c ++ (d ++ e)) 65813 lb in
+    let past_fm : drop 12316 (drop 65813 (drop (store_length bytes) bytes)) ≡ d ++ e = ap (drop 12316) past_vdp ∙ drop_at c (d ++ e) 12316 lc in
     λ i. record {
       store = take_at a rest (store_length bytes) n i;
-      vdp = (ap (take 65812) behind ∙ take_at b (c ++ (d ++ e)) 65812 lb) i;
+      vdp = (ap (take 65813) behind ∙ take_at b (c ++ (d ++ e)) 65813 lb) i;
       fm = (ap (take 12316) past_vdp ∙ take_at c (d ++ e) 12316 lc) i;
       held = (ap (take 10242) past_fm ∙ take_at d e 10242 ld) i;
       lines = (ap (drop 10242) past_fm ∙ drop_at d e 10242 ld) i;
@@ -102,30 +102,30 @@ own board = record {
   lines = lines_bytes (lines_of board);
 }
 
-cut_is : (at : ℕ) (bytes : List ℕ) (board : Board) → Spells at bytes board → cut bytes ≡ own board
-cut_is at bytes board p =
+cut_is : (at : ℕ) (pal : Bool) (bytes : List ℕ) (board : Board) → Spells at pal bytes board → cut bytes ≡ own board
+cut_is at pal bytes board p =
     ap cut p.all
     ∙ cut_of (store_bytes board.store) (vdp_spelling.vdp_bytes board.vdp) (fm_spelling.port_bytes board.fm) (psg_spelling.port_bytes board.held) (lines_bytes (lines_of board))
-    (vdp_long at _ board.vdp p.vdp) (fm_long at _ board.fm p.fm) (psg_long at _ board.held p.held) (lines_long at _ (lines_of board) p.lines)
+    (vdp_long at pal _ board.vdp p.vdp) (fm_long at _ board.fm p.fm) (psg_long at _ board.held p.held) (lines_long at _ (lines_of board) p.lines)
 
 -- parts one behind the other are the bytes
 pub joined_again : (bytes : List ℕ) → (cut bytes).store ++ ((cut bytes).vdp ++ ((cut bytes).fm ++ ((cut bytes).held ++ (cut bytes).lines))) ≡ bytes
 joined_again bytes =
     let n = store_length bytes in
     let behind = drop n bytes in
-    let past_vdp = drop 65812 behind in
+    let past_vdp = drop 65813 behind in
     let past_fm = drop 12316 past_vdp in
-    ap (λ (l : List ℕ). take n bytes ++ (take 65812 behind ++ (take 12316 past_vdp ++ l))) (take-append-drop 10242 past_fm)
-    ∙ ap (λ (l : List ℕ). take n bytes ++ (take 65812 behind ++ l)) (take-append-drop 12316 past_vdp)
-    ∙ ap (λ (l : List ℕ). take n bytes ++ l) (take-append-drop 65812 behind)
+    ap (λ (l : List ℕ). take n bytes ++ (take 65813 behind ++ (take 12316 past_vdp ++ l))) (take-append-drop 10242 past_fm)
+    ∙ ap (λ (l : List ℕ). take n bytes ++ (take 65813 behind ++ l)) (take-append-drop 12316 past_vdp)
+    ∙ ap (λ (l : List ℕ). take n bytes ++ l) (take-append-drop 65813 behind)
     ∙ take-append-drop n bytes
 
-length_by : (store : Option Store) (n : ℕ) → n ≡ store_size (is_some store) + 88388 → (n ≡ 88388) ⊎ (n ≡ 96582)
+length_by : (store : Option Store) (n : ℕ) → n ≡ store_size (is_some store) + 88389 → (n ≡ 88389) ⊎ (n ≡ 96583)
 length_by None n e = inl e
 length_by (Some store) n e = inr e
 
-is_length : (at : ℕ) (bytes : List ℕ) (board : Board) → Spells at bytes board → IsLength bytes
-is_length at bytes board p =
+is_length : (at : ℕ) (pal : Bool) (bytes : List ℕ) (board : Board) → Spells at pal bytes board → IsLength bytes
+is_length at pal bytes board p =
     let a = store_bytes board.store in
     let b = vdp_spelling.vdp_bytes board.vdp in
     let c = fm_spelling.port_bytes board.fm in
@@ -140,7 +140,7 @@ is_length at bytes board p =
       length-append c (d ++ e),
       length-append d e,
       store_long board.store p.store,
-      vdp_long at b board.vdp p.vdp,
+      vdp_long at pal b board.vdp p.vdp,
       fm_long at c board.fm p.fm,
       psg_long at d board.held p.held,
       lines_long at e (lines_of board) p.lines,
@@ -156,21 +156,21 @@ store_right (Some store) ok p wrong =
     let there : Stand 0 fs (spelling fs) = stand fs (spelling fs) (ok.ram, (omega (arith, ok.bank), tt)) refl in
     absurd (omega (arith, there.1.0, wrong.1, ok.bank))
 
-none_here : (at start : ℕ) (bytes : List ℕ) (board : Board) (place : ℕ) → Spells at bytes board → PartsGoWrongAt at start (own board) place → ⊥
-none_here at start bytes board place p (inl w) = store_right board.store p.store w.0 w.1
-none_here at start bytes board place p (inr (none, inl w)) =
-    vdp_laws.right_not_refused at (vdp_spelling.vdp_bytes board.vdp) (numbers_of board.vdp) w.0 p.vdp.keeps p.vdp.right w.1
-none_here at start bytes board place p (inr (none, inr (no_vdp, inl w))) = fm_laws.right_nowhere at (fm_spelling.port_bytes board.fm) board.fm p.fm w.0 w.1
-none_here at start bytes board place p (inr (none, inr (no_vdp, inr (no_fm, inl w)))) =
+none_here : (at : ℕ) (pal : Bool) (start : ℕ) (bytes : List ℕ) (board : Board) (place : ℕ) → Spells at pal bytes board → PartsGoWrongAt at pal start (own board) place → ⊥
+none_here at pal start bytes board place p (inl w) = store_right board.store p.store w.0 w.1
+none_here at pal start bytes board place p (inr (none, inl w)) =
+    vdp_laws.right_not_refused at pal (vdp_spelling.vdp_bytes board.vdp) (numbers_of board.vdp) w.0 p.vdp.keeps p.vdp.right w.1
+none_here at pal start bytes board place p (inr (none, inr (no_vdp, inl w))) = fm_laws.right_nowhere at (fm_spelling.port_bytes board.fm) board.fm p.fm w.0 w.1
+none_here at pal start bytes board place p (inr (none, inr (no_vdp, inr (no_fm, inl w)))) =
     psg_laws.right_nowhere at (psg_spelling.port_bytes board.held) board.held p.held w.0 w.1
-none_here at start bytes board place p (inr (none, inr (no_vdp, inr (no_fm, inr (no_psg, inl w))))) =
+none_here at pal start bytes board place p (inr (none, inr (no_vdp, inr (no_fm, inr (no_psg, inl w))))) =
     lines_laws.lines_right at (lines_bytes (lines_of board)) (lines_of board) w.0 p.lines p.right w.1
-none_here at start bytes board place p (inr (none, inr (no_vdp, inr (no_fm, inr (no_psg, inr w))))) = w.1
+none_here at pal start bytes board place p (inr (none, inr (no_vdp, inr (no_fm, inr (no_psg, inr w))))) = w.1
 
-pub right_nowhere : (at : ℕ) (bytes : List ℕ) (board : Board) → Spells at bytes board → (place : ℕ) → GoesWrongAt at bytes place → ⊥
-right_nowhere at bytes board p place (inl w) = w.0 (is_length at bytes board p)
-right_nowhere at bytes board p place (inr w) =
-    none_here at (store_length bytes) bytes board place p (subst (λ (parts : Parts). PartsGoWrongAt at (store_length bytes) parts place) (cut_is at bytes board p) w.1)
+pub right_nowhere : (at : ℕ) (pal : Bool) (bytes : List ℕ) (board : Board) → Spells at pal bytes board → (place : ℕ) → GoesWrongAt at pal bytes place → ⊥
+right_nowhere at pal bytes board p place (inl w) = w.0 (is_length at pal bytes board p)
+right_nowhere at pal bytes board p place (inr w) =
+    none_here at pal (store_length bytes) bytes board place p (subst (λ (parts : Parts). PartsGoWrongAt at pal (store_length bytes) parts place) (cut_is at pal bytes board p) w.1)
 
 -- ---- there is one place of a refusal
 
@@ -184,24 +184,25 @@ from_once start Wrong Behind once behind p q (inr x) (inr y) = behind p q x.1 y.
 store_once : (bytes : List ℕ) (p q : ℕ) → StoreGoesWrongAt bytes p → StoreGoesWrongAt bytes q → p ≡ q
 store_once bytes p q a b = a.2 ∙ sym b.2
 
-parts_once : (at start : ℕ) (parts : Parts) (p q : ℕ) → PartsGoWrongAt at start parts p → PartsGoWrongAt at start parts q → p ≡ q
-parts_once at start parts =
+parts_once : (at : ℕ) (pal : Bool) (start : ℕ) (parts : Parts) (p q : ℕ) → PartsGoWrongAt at pal start parts p → PartsGoWrongAt at pal start parts q → p ≡ q
+parts_once at pal start parts =
     from_once 0 _ _ (store_once parts.store)
-    (from_once start _ _ (vdp_laws.only_place at parts.vdp)
-    (from_once (start + 65812) _ _ (fm_laws.wrong_once at parts.fm)
-    (from_once (start + 65812 + 12316) _ _ (psg_laws.wrong_once at parts.held)
-    (from_once (start + 65812 + 22558) _ _ (lines_laws.lines_once at parts.lines) (λ p q a b. absurd a)))))
+    (from_once start _ _ (vdp_laws.only_place at pal parts.vdp)
+    (from_once (start + 65813) _ _ (fm_laws.wrong_once at parts.fm)
+    (from_once (start + 65813 + 12316) _ _ (psg_laws.wrong_once at parts.held)
+    (from_once (start + 65813 + 22558) _ _ (lines_laws.lines_once at parts.lines) (λ p q a b. absurd a)))))
 
-pub wrong_once : (at : ℕ) (bytes : List ℕ) (p q : ℕ) → GoesWrongAt at bytes p → GoesWrongAt at bytes q → p ≡ q
-wrong_once at bytes p q (inl a) (inl b) = a.1 ∙ sym b.1
-wrong_once at bytes p q (inl a) (inr b) = absurd (a.0 b.0)
-wrong_once at bytes p q (inr a) (inl b) = absurd (b.0 a.0)
-wrong_once at bytes p q (inr a) (inr b) = parts_once at (store_length bytes) (cut bytes) p q a.1 b.1
+pub wrong_once : (at : ℕ) (pal : Bool) (bytes : List ℕ) (p q : ℕ) → GoesWrongAt at pal bytes p → GoesWrongAt at pal bytes q → p ≡ q
+wrong_once at pal bytes p q (inl a) (inl b) = a.1 ∙ sym b.1
+wrong_once at pal bytes p q (inl a) (inr b) = absurd (a.0 b.0)
+wrong_once at pal bytes p q (inr a) (inl b) = absurd (b.0 a.0)
+wrong_once at pal bytes p q (inr a) (inr b) = parts_once at pal (store_length bytes) (cut bytes) p q a.1 b.1
 
 -- ---- bytes keep one board over a recording
 
-vdp_once : (at : ℕ) (bytes : List ℕ) (s t : Vdp) → vdp_spelling.Spells at bytes s → vdp_spelling.Spells at bytes t → s ≡ t
-vdp_once at bytes s t p q = sym (vdp_laws.vdp_again s) ∙ vdp_laws.no_other at bytes (numbers_of s) t p.keeps q
+vdp_once : (at : ℕ) (pal : Bool) (bytes : List ℕ) (s t : Vdp) → vdp_spelling.Spells at pal bytes s → vdp_spelling.Spells at pal bytes t → s ≡ t
+vdp_once at pal bytes s t p q =
+    sym (vdp_laws.vdp_again s) ∙ ap (λ (b : Bool). vdp_of b (numbers_of s)) p.region ∙ vdp_laws.no_other at pal bytes (numbers_of s) t p.keeps q
 
 store_same : (s t : Option Store) → IfSome s IsStore → IfSome t IsStore → store_bytes s ≡ store_bytes t → s ≡ t
 unfolding Stand spelling AreWithin
@@ -218,10 +219,10 @@ store_same (Some s) (Some t) p q e =
 flag_same : (a b : Bool) → eqb (flag_number a) 1 ≡ eqb (flag_number b) 1 → a ≡ b
 flag_same a b e = sym (flag_again a) ∙ e ∙ flag_again b
 
-pub spelled_once : (at : ℕ) (bytes : List ℕ) (s t : Board) → Spells at bytes s → Spells at bytes t → s.recording ≡ t.recording → s ≡ t
-spelled_once at bytes s t p q recording =
-    let parts : own s ≡ own t = sym (cut_is at bytes s p) ∙ cut_is at bytes t q in
-    let vdp = vdp_once at _ s.vdp t.vdp p.vdp (subst (λ (l : List ℕ). vdp_spelling.Spells at l t.vdp) (sym (ap (λ (x : Parts). x.vdp) parts)) q.vdp) in
+pub spelled_once : (at : ℕ) (pal : Bool) (bytes : List ℕ) (s t : Board) → Spells at pal bytes s → Spells at pal bytes t → s.recording ≡ t.recording → s ≡ t
+spelled_once at pal bytes s t p q recording =
+    let parts : own s ≡ own t = sym (cut_is at pal bytes s p) ∙ cut_is at pal bytes t q in
+    let vdp = vdp_once at pal _ s.vdp t.vdp p.vdp (subst (λ (l : List ℕ). vdp_spelling.Spells at pal l t.vdp) (sym (ap (λ (x : Parts). x.vdp) parts)) q.vdp) in
     let fm = fm_laws.spelled_once at _ s.fm t.fm p.fm (subst (λ (l : List ℕ). fm_spelling.SpellsPort at l t.fm) (sym (ap (λ (x : Parts). x.fm) parts)) q.fm) in
     let held = psg_laws.spelled_once at _ s.held t.held p.held (subst (λ (l : List ℕ). psg_spelling.SpellsPort at l t.held) (sym (ap (λ (x : Parts). x.held) parts)) q.held) in
     let store = store_same s.store t.store p.store q.store (ap (λ (x : Parts). x.store) parts) in
@@ -245,8 +246,8 @@ spelled_once at bytes s t p q recording =
 
 -- ---- places are near
 
-pub vdp_near : (at : ℕ) (bytes : List ℕ) (place : ℕ) → vdp_spelling.GoesWrongAt at bytes place → place ≤ 65812
-vdp_near at bytes place wrong = refused_within (vdp_fields at) bytes 65812 (vdp_laws.fields_size at) place wrong
+pub vdp_near : (at : ℕ) (pal : Bool) (bytes : List ℕ) (place : ℕ) → vdp_spelling.GoesWrongAt at pal bytes place → place ≤ 65813
+vdp_near at pal bytes place wrong = refused_within (vdp_fields at pal) bytes 65813 (vdp_laws.fields_size at pal) place wrong
 
 pub psg_near : (at : ℕ) (bytes : List ℕ) (place : ℕ) → psg_spelling.PortGoesWrongAt at bytes place → place ≤ 10242
 psg_near at bytes place wrong = refused_within (psg_spelling.port_fields at) bytes 10242 (psg_laws.port_size at) place wrong
@@ -268,19 +269,19 @@ lines_back recording store vdp fm held n flags = λ i. record {
 }
 
 -- the parts of bytes that each keep a part of a board
-pub record AreKept (at : ℕ) (parts : Parts) (store : Option Store) (vdp : Vdp) (fm : fm_ports.Port) (held : List PsgWrite) (n : SavedLines) : Type 0 where
+pub record AreKept (at : ℕ) (pal : Bool) (parts : Parts) (store : Option Store) (vdp : Vdp) (fm : fm_ports.Port) (held : List PsgWrite) (n : SavedLines) : Type 0 where
   pub store_is : parts.store ≡ store_bytes store
   pub store_fits : IfSome store IsStore
-  pub vdp_is : vdp_spelling.Spells at parts.vdp vdp
+  pub vdp_is : vdp_spelling.Spells at pal parts.vdp vdp
   pub fm_is : fm_spelling.SpellsPort at parts.fm fm
   pub held_is : psg_spelling.SpellsPort at parts.held held
   pub lines_are : Keeps (lines_fields at) parts.lines n
   pub lines_right : IsRight (lines_fields at) n
 
-pub whole : (at : ℕ) (bytes : List ℕ) (recording : List Frame) (store : Option Store) (vdp : Vdp) (fm : fm_ports.Port) (held : List PsgWrite) (n : SavedLines)
-    → AreKept at (cut bytes) store vdp fm held n → Spells at bytes (board_from recording store vdp fm held n)
-whole at bytes recording store vdp fm held n p =
-    let vdp_e = vdp_own at (cut bytes).vdp vdp p.vdp_is in
+pub whole : (at : ℕ) (pal : Bool) (bytes : List ℕ) (recording : List Frame) (store : Option Store) (vdp : Vdp) (fm : fm_ports.Port) (held : List PsgWrite) (n : SavedLines)
+    → AreKept at pal (cut bytes) store vdp fm held n → Spells at pal bytes (board_from recording store vdp fm held n)
+whole at pal bytes recording store vdp fm held n p =
+    let vdp_e = vdp_own at pal (cut bytes).vdp vdp p.vdp_is in
     let fm_e = fm_own at (cut bytes).fm fm p.fm_is in
     let held_e = psg_own at (cut bytes).held held p.held_is in
     let back : n ≡ lines_of (board_from recording store vdp fm held n) = sym (lines_back recording store vdp fm held n (lines_laws.flags_of at n p.lines_right)) in
@@ -289,7 +290,7 @@ whole at bytes recording store vdp fm held n p =
     record {
       all = sym (joined_again bytes) ∙ (λ i. p.store_is i ++ (vdp_e i ++ (fm_e i ++ (held_e i ++ lines_e i))));
       store = p.store_fits;
-      vdp = subst (λ (l : List ℕ). vdp_spelling.Spells at l vdp) vdp_e p.vdp_is;
+      vdp = subst (λ (l : List ℕ). vdp_spelling.Spells at pal l vdp) vdp_e p.vdp_is;
       fm = subst (λ (l : List ℕ). fm_spelling.SpellsPort at l fm) fm_e p.fm_is;
       held = subst (λ (l : List ℕ). psg_spelling.SpellsPort at l held) held_e p.held_is;
       lines = subst (λ (m : SavedLines). Keeps (lines_fields at) (lines_bytes (lines_of (board_from recording store vdp fm held n))) m) back keeps;
@@ -362,16 +363,16 @@ empty_store (b ∷ bytes) e = absurd (omega (arith, e))
 
 -- ---- refusals of each part are refusals of the whole
 
-pub vdp_exit : (at : ℕ) (bytes : List ℕ) (p place : ℕ) → IsLength bytes → ((q : ℕ) → StoreGoesWrongAt (cut bytes).store q → ⊥)
-    → vdp_spelling.GoesWrongAt at (cut bytes).vdp p → place ≡ store_length bytes + p → GoesWrongAt at bytes place
-vdp_exit at bytes p place long none wrong e = inr (long, inr (none, inl (p, wrong, e)))
+pub vdp_exit : (at : ℕ) (pal : Bool) (bytes : List ℕ) (p place : ℕ) → IsLength bytes → ((q : ℕ) → StoreGoesWrongAt (cut bytes).store q → ⊥)
+    → vdp_spelling.GoesWrongAt at pal (cut bytes).vdp p → place ≡ store_length bytes + p → GoesWrongAt at pal bytes place
+vdp_exit at pal bytes p place long none wrong e = inr (long, inr (none, inl (p, wrong, e)))
 
-pub ports_exit : (at : ℕ) (bytes : List ℕ) (p place : ℕ) → IsLength bytes → ((q : ℕ) → StoreGoesWrongAt (cut bytes).store q → ⊥)
-    → ((q : ℕ) → vdp_spelling.GoesWrongAt at (cut bytes).vdp q → ⊥) → PortsIn at (drop 65812 (drop (store_length bytes) bytes)) p
-    → place ≡ store_length bytes + 65812 + p → GoesWrongAt at bytes place
-ports_exit at bytes p place long none no_vdp wrong e =
-    subst (GoesWrongAt at bytes) (sym e)
-    (inr (long, inr (none, inr (no_vdp, ports_behind at (store_length bytes + 65812) (cut bytes).fm (cut bytes).held (cut bytes).lines p wrong))))
+pub ports_exit : (at : ℕ) (pal : Bool) (bytes : List ℕ) (p place : ℕ) → IsLength bytes → ((q : ℕ) → StoreGoesWrongAt (cut bytes).store q → ⊥)
+    → ((q : ℕ) → vdp_spelling.GoesWrongAt at pal (cut bytes).vdp q → ⊥) → PortsIn at (drop 65813 (drop (store_length bytes) bytes)) p
+    → place ≡ store_length bytes + 65813 + p → GoesWrongAt at pal bytes place
+ports_exit at pal bytes p place long none no_vdp wrong e =
+    subst (GoesWrongAt at pal bytes) (sym e)
+    (inr (long, inr (none, inr (no_vdp, ports_behind at (store_length bytes + 65813) (cut bytes).fm (cut bytes).held (cut bytes).lines p wrong))))
 
 pub ports_near : (at : ℕ) (fm held lines : List ℕ) (place : ℕ) → PortsGoWrongAt at 0 fm held lines place → place ≤ 22576
 ports_near at fm held lines place (inl w) = omega (arith, w.2, refused_within (fm_spelling.port_fields at) fm 12316 (fm_laws.port_size at) w.0 w.1)
@@ -381,12 +382,12 @@ ports_near at fm held lines place (inr (no_fm, inr (no_psg, inr w))) = absurd w.
 
 -- ---- a refusal that is no want of memory
 
-pub fault_only : (at : ℕ) (bytes : List ℕ) (board : Board) → Spells at bytes board → (fault : Unspell)
-    → ((place : ℕ) → fault ≡ Rule place → GoesWrongAt at bytes place) → (fault ≡ NoMemory → ⊥) → ⊥
-fault_only at bytes board spells (Rule place) wrong memory = right_nowhere at bytes board spells place (wrong place refl)
-fault_only at bytes board spells NoMemory wrong memory = memory refl
+pub fault_only : (at : ℕ) (pal : Bool) (bytes : List ℕ) (board : Board) → Spells at pal bytes board → (fault : Unspell)
+    → ((place : ℕ) → fault ≡ Rule place → GoesWrongAt at pal bytes place) → (fault ≡ NoMemory → ⊥) → ⊥
+fault_only at pal bytes board spells (Rule place) wrong memory = right_nowhere at pal bytes board spells place (wrong place refl)
+fault_only at pal bytes board spells NoMemory wrong memory = memory refl
 
-pub fault_refused : (at : ℕ) (bytes : List ℕ) (place : ℕ) → GoesWrongAt at bytes place → (fault : Unspell)
-    → ((p : ℕ) → fault ≡ Rule p → GoesWrongAt at bytes p) → (fault ≡ NoMemory → ⊥) → fault ≡ Rule place
-fault_refused at bytes place there (Rule p) wrong memory = ap (λ (q : ℕ). Rule q) (wrong_once at bytes p place (wrong p refl) there)
-fault_refused at bytes place there NoMemory wrong memory = absurd (memory refl)
+pub fault_refused : (at : ℕ) (pal : Bool) (bytes : List ℕ) (place : ℕ) → GoesWrongAt at pal bytes place → (fault : Unspell)
+    → ((p : ℕ) → fault ≡ Rule p → GoesWrongAt at pal bytes p) → (fault ≡ NoMemory → ⊥) → fault ≡ Rule place
+fault_refused at pal bytes place there (Rule p) wrong memory = ap (λ (q : ℕ). Rule q) (wrong_once at pal bytes p place (wrong p refl) there)
+fault_refused at pal bytes place there NoMemory wrong memory = absurd (memory refl)

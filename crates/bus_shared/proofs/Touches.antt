@@ -1,7 +1,7 @@
 -- What each chip's accesses leave as it was.
-use Rattle.std.proofs.Common.{◌≡◌, ◌≢◌, ℕ, ◌*◌, ◌/◌, ◌%◌, ◌==◌, Bool, true, false, Option, Some, None, if◌then◌else◌, refl, ap, ◌∙◌}
+use Rattle.std.proofs.Common.{◌≡◌, ◌≢◌, ℕ, ◌/◌, ◌%◌, ◌==◌, Bool, true, false, Option, Some, None, if◌then◌else◌, refl, ap, ◌∙◌}
 use Rattle.md_pads.specs.Recording.{Frame, pads_of}
-use Rattle.md_word.specs.Clock.{frame, line}
+use Rattle.md_word.specs.Region.{finished_at, frame_cycles}
 use Rattle.md_word.specs.Map.{area_of}
 use Rattle.md_word.specs.declared.area.Area.{Area}
 use Rattle.md_word.specs.declared.area.Area.TheVariants.{Z80Space, InputOutput, BusRequest, Z80Reset, VideoPorts}
@@ -14,7 +14,11 @@ use Rattle.bus_shared.specs.Accesses.{carried, line_board, main_board, pads_boar
 use Rattle.z80_parcel.specs.Requests.{RequestValue80, ReadByte, WriteByte, HandOver, TakeBack, request_value80}
 use Rattle.bus_shared.specs.Areas.{byte_written_at, byte_written_in, read_at, read_in, word_written_at, word_written_in}
 use Rattle.bus_shared.specs.Lines.{counted}
-use Rattle.bus_shared.specs.Video.{pins_by, port_at, video_byte_written, video_word_written}
+use Rattle.vdp_ports.proofs.Regions.{accessed_region, acknowledged_region, controlled_region, status_read_region, transferred_region, written_region}
+use Rattle.vdp_dma.specs.Settling.{settled}
+use Rattle.vdp_dma.proofs.Regions.{settled_region}
+use Rattle.vdp_time.proofs.Kept.{started_region}
+use Rattle.bus_shared.specs.Video.{both_halves, joined, line_begun, pins_by, port_at, port_read, port_written, video_byte_written, video_word_written}
 use Rattle.bus_shared.specs.Fm.{fm_board, fm_read, is_fm, with_fm, with_fm_reset}
 use Rattle.bus_shared.specs.Z80Space.{granted, is_psg80, space_read, space_written, with_psg, z80_address}
 use Rattle.z80_parcel.specs.Parcels.{Store}
@@ -28,37 +32,55 @@ use Rattle.bus_shared.specs.declared.request.Request.TheVariants as requests
 use Rattle.bus_shared.specs.declared.register.Register.{Register}
 use Rattle.bus_shared.specs.declared.register.Register.TheVariants.{Version, Data1, Data2, DataExpansion, Control1, Control2, Unused}
 
--- what the 68000 leaves: recording and buttons
+-- what the 68000 leaves: recording, buttons and region
 record Same (old new : Board) : Type 0 where
   recording : new.recording ≡ old.recording
   pads : new.pads ≡ old.pads
+  region : new.vdp.pal ≡ old.vdp.pal
+
+-- a port leaves the region
+port_read_region : (port : VideoPort) (cycle : ℕ) (vdp : Vdp) → (port_read port cycle vdp).pal ≡ vdp.pal
+unfolding port_read
+port_read_region Data cycle vdp = accessed_region (settled cycle vdp) ∙ settled_region cycle vdp
+port_read_region Control cycle vdp = status_read_region (settled cycle vdp) ∙ settled_region cycle vdp
+port_read_region Counter cycle vdp = refl
+port_read_region Sound cycle vdp = refl
+port_read_region NoPort cycle vdp = refl
+
+port_written_region : (port : VideoPort) (cycle word : ℕ) (vdp : Vdp) → (port_written port cycle word vdp).pal ≡ vdp.pal
+unfolding port_written
+port_written_region Data cycle word vdp = written_region cycle word (settled cycle vdp) ∙ settled_region cycle vdp
+port_written_region Control cycle word vdp = controlled_region cycle word (settled cycle vdp) ∙ settled_region cycle vdp
+port_written_region Counter cycle word vdp = refl
+port_written_region Sound cycle word vdp = refl
+port_written_region NoPort cycle word vdp = refl
 
 itself : (board : Board) → Same board board
-itself board = record { recording = refl; pads = refl }
+itself board = record { recording = refl; pads = refl; region = refl }
 
 register-same : (board : Board) (register : Register) (value : ℕ) → Same board (register_written board register value)
 unfolding register_written
 register-same board Version value = itself board
-register-same board Data1 value = record { recording = refl; pads = refl }
-register-same board Data2 value = record { recording = refl; pads = refl }
+register-same board Data1 value = record { recording = refl; pads = refl; region = refl }
+register-same board Data2 value = record { recording = refl; pads = refl; region = refl }
 register-same board DataExpansion value = itself board
-register-same board Control1 value = record { recording = refl; pads = refl }
-register-same board Control2 value = record { recording = refl; pads = refl }
+register-same board Control1 value = record { recording = refl; pads = refl; region = refl }
+register-same board Control2 value = record { recording = refl; pads = refl; region = refl }
 register-same board Unused value = itself board
 
 fm_read-same : (b : Bool) (board : Board) (cycle : ℕ) → Same board (if b then fm_read board cycle else board)
-fm_read-same true board cycle = record { recording = refl; pads = refl }
+fm_read-same true board cycle = record { recording = refl; pads = refl; region = refl }
 fm_read-same false board cycle = itself board
 
 psg-same : (b : Bool) (board : Board) (key : Key) (value : ℕ) → Same board (if b then with_psg board key value else board)
-psg-same true board key value = record { recording = refl; pads = refl }
+psg-same true board key value = record { recording = refl; pads = refl; region = refl }
 psg-same false board key value = itself board
 
 space-by : (b c : Bool) (board : Board) (key : Key) (at value : ℕ) (store : Option Store)
     → Same board (if b then with_psg board key value else (if c then with_fm board key at value else record board { store = store }))
-space-by true c board key at value store = record { recording = refl; pads = refl }
-space-by false true board key at value store = record { recording = refl; pads = refl }
-space-by false false board key at value store = record { recording = refl; pads = refl }
+space-by true c board key at value store = record { recording = refl; pads = refl; region = refl }
+space-by false true board key at value store = record { recording = refl; pads = refl; region = refl }
+space-by false false board key at value store = record { recording = refl; pads = refl; region = refl }
 
 space-same : (store : Option Store) (board : Board) (key : Key) (at value : ℕ) → Same board (space_written store board key at value)
 space-same None board key at value = itself board
@@ -66,8 +88,8 @@ space-same (Some store) board key at value = space-by (is_psg80 at) (is_fm at) b
 
 reset-same : (b : Bool) (board : Board) (key : Key)
     → Same board (if b then record (with_fm_reset board key) { reset = true; resets = counted board.resets } else record board { reset = false })
-reset-same true board key = record { recording = refl; pads = refl }
-reset-same false board key = record { recording = refl; pads = refl }
+reset-same true board key = record { recording = refl; pads = refl; region = refl }
+reset-same false board key = record { recording = refl; pads = refl; region = refl }
 
 even-same : (b : Bool) (board new : Board) → Same board new → Same board (if b then new else board)
 even-same true board new same = same
@@ -84,30 +106,30 @@ read-same (Some Z80Space) board key address = space_read-same (granted board.req
 read-same (Some InputOutput) board key address = itself board
 read-same (Some BusRequest) board key address = itself board
 read-same (Some Z80Reset) board key address = itself board
-read-same (Some VideoPorts) board key address = record { recording = refl; pads = refl }
+read-same (Some VideoPorts) board key address = record { recording = refl; pads = refl; region = port_read_region (port_at address) key.cycle board.vdp }
 
 video-byte-same : (port : VideoPort) (board : Board) (key : Key) (address value : ℕ) → Same board (video_byte_written port board key address value)
 unfolding video_byte_written
-video-byte-same Data board key address value = record { recording = refl; pads = refl }
-video-byte-same Control board key address value = record { recording = refl; pads = refl }
-video-byte-same Counter board key address value = record { recording = refl; pads = refl }
+video-byte-same Data board key address value = record { recording = refl; pads = refl; region = port_written_region Data key.cycle (both_halves value) board.vdp }
+video-byte-same Control board key address value = record { recording = refl; pads = refl; region = port_written_region Control key.cycle (both_halves value) board.vdp }
+video-byte-same Counter board key address value = record { recording = refl; pads = refl; region = port_written_region Counter key.cycle (both_halves value) board.vdp }
 video-byte-same Sound board key address value = psg-same (address % 2 == 1) board key value
-video-byte-same NoPort board key address value = record { recording = refl; pads = refl }
+video-byte-same NoPort board key address value = record { recording = refl; pads = refl; region = port_written_region NoPort key.cycle (both_halves value) board.vdp }
 
 video-word-same : (port : VideoPort) (board : Board) (key : Key) (value : ℕ) → Same board (video_word_written port board key value)
 unfolding video_word_written
-video-word-same Data board key value = record { recording = refl; pads = refl }
-video-word-same Control board key value = record { recording = refl; pads = refl }
-video-word-same Counter board key value = record { recording = refl; pads = refl }
-video-word-same Sound board key value = record { recording = refl; pads = refl }
-video-word-same NoPort board key value = record { recording = refl; pads = refl }
+video-word-same Data board key value = record { recording = refl; pads = refl; region = port_written_region Data key.cycle value board.vdp }
+video-word-same Control board key value = record { recording = refl; pads = refl; region = port_written_region Control key.cycle value board.vdp }
+video-word-same Counter board key value = record { recording = refl; pads = refl; region = port_written_region Counter key.cycle value board.vdp }
+video-word-same Sound board key value = record { recording = refl; pads = refl; region = refl }
+video-word-same NoPort board key value = record { recording = refl; pads = refl; region = port_written_region NoPort key.cycle value board.vdp }
 
 byte-same : (area : Option Area) (board : Board) (key : Key) (address value : ℕ) → Same board (byte_written_at area board key address value)
 unfolding byte_written_in
 byte-same None board key address value = itself board
 byte-same (Some Z80Space) board key address value = space-same (granted board.request board.store) board key (z80_address address) value
 byte-same (Some InputOutput) board key address value = register-same board (register_at address) (value % 0x100)
-byte-same (Some BusRequest) board key address value = even-same (address % 2 == 0) board _ (record { recording = refl; pads = refl })
+byte-same (Some BusRequest) board key address value = even-same (address % 2 == 0) board _ (record { recording = refl; pads = refl; region = refl })
 byte-same (Some Z80Reset) board key address value = even-same (address % 2 == 0) board _ (reset-same (value % 2 == 0) board key)
 byte-same (Some VideoPorts) board key address value = video-byte-same (port_at address) board key address value
 
@@ -116,7 +138,7 @@ unfolding word_written_in
 word-same None board key address value = itself board
 word-same (Some Z80Space) board key address value = space-same (granted board.request board.store) board key (z80_address address) (value / 0x100)
 word-same (Some InputOutput) board key address value = register-same board (register_at address) (value % 0x100)
-word-same (Some BusRequest) board key address value = record { recording = refl; pads = refl }
+word-same (Some BusRequest) board key address value = record { recording = refl; pads = refl; region = refl }
 word-same (Some Z80Reset) board key address value = reset-same (value / 0x100 % 2 == 0) board key
 word-same (Some VideoPorts) board key address value = video-word-same (port_at address) board key value
 
@@ -126,8 +148,8 @@ main-same board key (Read8 address) = read-same (area_of address) board key addr
 main-same board key (Read16 address) = read-same (area_of address) board key address
 main-same board key (Write8 address value) = byte-same (area_of address) board key address value
 main-same board key (Write16 address value) = word-same (area_of address) board key address value
-main-same board key (Ack level) = record { recording = refl; pads = refl }
-main-same board key (Word value) = record { recording = refl; pads = refl }
+main-same board key (Ack level) = record { recording = refl; pads = refl; region = acknowledged_region level board.vdp }
+main-same board key (Word value) = record { recording = refl; pads = refl; region = transferred_region value (settled key.cycle board.vdp) ∙ settled_region key.cycle board.vdp }
 
 -- a read
 fm_read-leaves : (b : Bool) (board : Board) (cycle : ℕ) → looked_at (if b then fm_read board cycle else board) board ≡ board
@@ -161,6 +183,7 @@ unfolding main_board
 main_leaves board key = record {
   recording = λ request. (main-same board key request).recording;
   pads = λ request. (main-same board key request).pads;
+  region = λ request. (main-same board key request).region;
   byte_read = λ address. read-leaves (area_of address) board key address;
   word_read = λ address. read-leaves (area_of address) board key address;
   byte_beside = λ address other away. read-beside (area_of address) board key address other away;
@@ -177,15 +200,21 @@ record Beside (old new : Board) : Type 0 where
   reset : new.reset ≡ old.reset
   resets : new.resets ≡ old.resets
   store : new.store ≡ old.store
+  vdp : new.vdp ≡ old.vdp
 
 pads-beside : (b : Bool) (board : Board) (pads : Frame) → Beside board (if b then record board { pads = pads } else board)
-pads-beside true board pads = record { recording = refl; port1 = refl; port2 = refl; held = refl; fm = refl; request = refl; reset = refl; resets = refl; store = refl }
-pads-beside false board pads = record { recording = refl; port1 = refl; port2 = refl; held = refl; fm = refl; request = refl; reset = refl; resets = refl; store = refl }
+pads-beside true board pads = record { recording = refl; port1 = refl; port2 = refl; held = refl; fm = refl; request = refl; reset = refl; resets = refl; store = refl; vdp = refl }
+pads-beside false board pads = record { recording = refl; port1 = refl; port2 = refl; held = refl; fm = refl; request = refl; reset = refl; resets = refl; store = refl; vdp = refl }
+
+pub begun_region : (cycle : ℕ) (note : SpriteNote) (vdp : Vdp) → (line_begun cycle note vdp).pal ≡ vdp.pal
+unfolding line_begun
+begun_region cycle note vdp = started_region cycle (joined note (settled cycle vdp)) ∙ settled_region cycle vdp
 
 pub line_leaves : (board : Board) (cycle : ℕ) (note : SpriteNote) → LineLeaves board cycle note
 unfolding line_board pads_board
 line_leaves board cycle note =
-    let beside = pads-beside (cycle % frame == 224 * line) (video_started board cycle note) (pads_of board.recording (cycle / frame)) in
+    let pal = (video_started board cycle note).vdp.pal in
+    let beside = pads-beside (cycle % frame_cycles pal == finished_at pal) (video_started board cycle note) (pads_of board.recording (cycle / frame_cycles pal)) in
     record {
       recording = beside.recording;
       port1 = beside.port1;
@@ -196,6 +225,7 @@ line_leaves board cycle note =
       reset = beside.reset;
       resets = beside.resets;
       store = beside.store;
+      region = ap (λ (vdp : Vdp). vdp.pal) beside.vdp ∙ begun_region cycle note board.vdp;
     }
 
 pub batch_leaves : (board : Board) (cycle : ℕ) → BatchLeaves board cycle

@@ -15,19 +15,21 @@ use Rattle.bus_shared.specs.Video.{is_shown, is_wide, joined, line_begun, port_r
 use Rattle.bus_shared.specs.declared.port.VideoPort.{VideoPort}
 use Rattle.bus_shared.specs.declared.port.VideoPort.TheVariants.{Data, Control, Counter, Sound, Unused}
 
--- the fields of the interrupts, at which settling does not look
+-- the fields of the interrupts and of the display, at which settling does not look
 record Marks : Type 0 where
   vertical : Bool
   horizontal : Bool
   line_counter : ℕ
   int_from : ℕ
   int_to : ℕ
+  pal : Bool
+  tall : Bool
 
 abbrev marks_of : Vdp → Marks
-marks_of s = record { vertical = s.vertical; horizontal = s.horizontal; line_counter = s.line_counter; int_from = s.int_from; int_to = s.int_to }
+marks_of s = record { vertical = s.vertical; horizontal = s.horizontal; line_counter = s.line_counter; int_from = s.int_from; int_to = s.int_to; pal = s.pal; tall = s.tall }
 
 abbrev marked : Vdp → Marks → Vdp
-marked s m = record s { vertical = m.vertical; horizontal = m.horizontal; line_counter = m.line_counter; int_from = m.int_from; int_to = m.int_to }
+marked s m = record s { vertical = m.vertical; horizontal = m.horizontal; line_counter = m.line_counter; int_from = m.int_from; int_to = m.int_to; pal = m.pal; tall = m.tall }
 
 -- the registers and these fields, which settling leaves
 abbrev Kept : Type 0
@@ -48,17 +50,13 @@ kept-stay : (c : ℕ) (s : Vdp) → kept_of (settled c s) ≡ kept_of s
 unfolding settled
 kept-stay c s = same-if kept_of (length (due c s) == 0) _ _ (kept_of s) refl (kept-advanced _ _ s)
 
-shown-stays : (c : ℕ) (s : Vdp) → is_shown (settled c s) ≡ is_shown s
-unfolding is_shown
-shown-stays c s = ap (λ (k : Kept). slice_index k.0 1 / 0x40 % 2 == 1) (kept-stay c s)
-
-wide-stays : (c : ℕ) (s : Vdp) → is_wide (settled c s) ≡ is_wide s
-unfolding is_wide
-wide-stays c s = ap (λ (k : Kept). slice_index k.0 12 % 2 == 1) (kept-stay c s)
-
 cost-stays : (e c : ℕ) (s : Vdp) → word_cost c (settled e s) ≡ word_cost c s
-unfolding word_cost
-cost-stays e c s = ap (λ (shown : Bool). if v_blank c shown then 34 else 380) (shown-stays e s)
+unfolding word_cost is_shown
+cost-stays e c s = ap (λ (k : Kept). if v_blank c (slice_index k.0 1 / 0x40 % 2 == 1) k.1.pal k.1.tall then 34 else 380) (kept-stay e s)
+
+counter-stays : (e c : ℕ) (s : Vdp) → port_word Counter c (settled e s) ≡ port_word Counter c s
+unfolding port_word is_wide
+counter-stays e c s = ap (λ (k : Kept). hv c (slice_index k.0 12 % 2 == 1) k.1.pal k.1.tall) (kept-stay e s)
 
 -- settling looks at none of the marks
 vram-marked : (s : Vdp) (m : Marks) (n : ℕ) → vram_after (marked s m) n ≡ vram_after s n
@@ -117,7 +115,7 @@ module _ (e c : ℕ) (s : Vdp) (twice : settled c (settled e s) ≡ settled c s)
   unfolding port_word
   word-unseen Data = ap (λ (v : Vdp). read v % 0x1_0000) twice
   word-unseen Control = ap (status_at c) twice
-  word-unseen Counter = ap (hv c) (wide-stays e s)
+  word-unseen Counter = counter-stays e c s
   word-unseen Sound = refl
   word-unseen Unused = refl
 

@@ -40,9 +40,13 @@ pad-below port word =
       | false ↦ eight (is_set port.value 7) false (released word start) (released word button_a) false false (released word down) (released word up)
     ]
 
+version-below : (pal : Bool) → (if pal then 0xe0 else 0xa0) < 0x100
+version-below true = lit< tt
+version-below false = lit< tt
+
 register-below : (board : Board) (register : Register) → IsBoard board → register_read board register < 0x100
 unfolding register_read
-register-below board Version ok = lit< tt
+register-below board Version ok = version-below board.vdp.pal
 register-below board Data1 ok = pad-below board.port1 board.pads.0
 register-below board Data2 ok = pad-below board.port2 board.pads.1
 register-below board DataExpansion ok = lit< tt

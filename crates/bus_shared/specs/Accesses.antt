@@ -1,6 +1,6 @@
 -- One access: its answer, its entry in the journal, and the board after it.
-use Rattle.std.specs.Prelude.{ℕ, ◌*◌, ◌/◌, ◌%◌, ◌==◌, true, false, if◌then◌else◌, List, length, None, Bool, Some, Option}
-use Rattle.md_word.specs.Clock.{frame, line}
+use Rattle.std.specs.Prelude.{ℕ, ◌/◌, ◌%◌, ◌==◌, true, false, if◌then◌else◌, List, length, None, Bool, Some, Option}
+use Rattle.md_word.specs.Region.{finished_at, frame_cycles}
 use Rattle.md_word.specs.Map.{area_of}
 use Rattle.md_word.specs.declared.event.Entry.{Entry}
 use Rattle.md_word.specs.declared.key.Key.{Key}
@@ -105,10 +105,11 @@ sub_access board key (WriteByte at value) = record {
 sub_access board key (HandOver store) = yielded board.request board key store
 sub_access board key TakeBack = taken_back board.request board.store board key
 
--- at the start of line 224 the pads take the recording's words of the frame
+-- at the start of the line behind the picture the pads take the recording's words of the frame
 unfoldable pub pads_board : Board → ℕ → Board
 pads_board board cycle =
-    if cycle % frame == 224 * line then record board { pads = pads_of board.recording (cycle / frame) } else board
+    let pal = board.vdp.pal in
+    if cycle % frame_cycles pal == finished_at pal then record board { pads = pads_of board.recording (cycle / frame_cycles pal) } else board
 
 -- the VDP at the start of a line, with what the sprites of the line before have set
 abbrev pub video_started : Board → ℕ → SpriteNote → Board
@@ -174,7 +175,7 @@ carried board key (requests.Sub request) =
     record { answer = Sub access.answer; entry = access.entry; board = access.board }
 carried board key (requests.Line view note) =
     let after = line_board board key.cycle note in
-    record { answer = Line (line_view key.cycle after.vdp view.value); entry = line_entry key (level_of after); board = after }
+    record { answer = Line (line_view key.cycle after.vdp view.value); entry = line_entry after.vdp.pal key (level_of after); board = after }
 carried board key (requests.Fm list) = record {
   answer = Fm (fm_ports.taken_below key.cycle board.fm.writes);
   entry = batch_entry 11 key (length (fm_ports.taken_below key.cycle board.fm.writes));

@@ -59,9 +59,9 @@ abbrev pub cleared : Latches
 cleared = record { value = 0; control = 0 }
 
 -- the board at power-on: no button is pressed, nothing was written, the reset is held of a Z80 that
--- has its RAM, and all of the VDP is 0
-abbrev pub power_on : List Frame → Board
-power_on recording = record {
+-- has its RAM, and all of the VDP is 0 but the region
+abbrev pub power_on : List Frame → Bool → Board
+power_on recording pal = record {
   recording = recording;
   pads = (0, 0);
   port1 = cleared;
@@ -72,5 +72,5 @@ power_on recording = record {
   reset = true;
   resets = 0;
   store = None;
-  vdp = at_power_on;
+  vdp = at_power_on pal;
 }

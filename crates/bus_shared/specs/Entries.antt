@@ -1,10 +1,11 @@
 -- How the journal tells an access. This project's profile.
-use Rattle.std.specs.Prelude.{ℕ, ◌/◌, ◌%◌, ◌^◌}
-use Rattle.md_word.specs.Clock.{batch, frame, line}
+use Rattle.std.specs.Prelude.{ℕ, ◌/◌, ◌%◌, ◌^◌, Bool}
+use Rattle.md_word.specs.Clock.{batch}
 use Rattle.md_word.specs.declared.event.Entry.{Entry}
 use Rattle.md_word.specs.declared.key.Key.{Key}
 use Rattle.md_word.specs.declared.main_bus.Request68.{Request68}
 use Rattle.md_word.specs.declared.main_bus.Request68.TheVariants.{Read8, Read16, Write8, Write16, Ack, Word}
+use Rattle.vdp_time.specs.Lines.{line_of}
 
 -- an access of the 68000 that gave this value, with the VDP's address before it, at which the word of
 -- a transfer is told
@@ -21,9 +22,9 @@ main_entry key (Word value) given a = record { key = key; kind = 5; address = a;
 abbrev pub sub_entry : Key → ℕ → ℕ → ℕ → Entry
 sub_entry key kind address value = record { key = key; kind = kind; address = address; value = value }
 
--- the start of a line: its number in the frame, and the 68000's interrupt level after it
-abbrev pub line_entry : Key → ℕ → Entry
-line_entry key level = record { key = key; kind = 10; address = key.cycle % frame / line; value = level }
+-- the start of a line: its number in a frame of the region, and the 68000's interrupt level after it
+abbrev pub line_entry : Bool → Key → ℕ → Entry
+line_entry pal key level = record { key = key; kind = 10; address = line_of key.cycle pal; value = level }
 
 -- the number of the batch at a cycle
 abbrev pub batch_number : ℕ → ℕ

@@ -17,11 +17,12 @@ use Rattle.bus_shared.specs.declared.request.Request.{Request}
 abbrev pub looked_at : Board → Board → Board
 looked_at board other = record board { vdp = other.vdp; fm = record board.fm { timers = other.fm.timers } }
 
--- the 68000 changes neither the recording nor the buttons, nothing but the VDP and the FM chip's timers
+-- the 68000 changes neither the recording, the buttons nor the region, nothing but the VDP and the FM chip's timers
 -- where it reads, and nothing at all where it reads beside the VDP's ports and the Z80's space
 pub record MainLeaves (board : Board) (key : Key) : Type 0 where
   pub recording : (request : Request68) → (main_board board key request).recording ≡ board.recording
   pub pads : (request : Request68) → (main_board board key request).pads ≡ board.pads
+  pub region : (request : Request68) → (main_board board key request).vdp.pal ≡ board.vdp.pal
   pub byte_read : (address : ℕ) → looked_at (main_board board key (Read8 address)) board ≡ board
   pub word_read : (address : ℕ) → looked_at (main_board board key (Read16 address)) board ≡ board
   pub byte_beside : (address : ℕ) → area_of address ≢ Some VideoPorts → area_of address ≢ Some Z80Space
@@ -40,7 +41,7 @@ pub record SubLeaves (board : Board) (key : Key) (asks : RequestValue80) : Type 
   pub resets : (sub_access board key asks).board.resets ≡ board.resets
   pub vdp : (sub_access board key asks).board.vdp ≡ board.vdp
 
--- a line changes the buttons and the VDP alone
+-- a line changes the buttons and the VDP alone, of which the region stays
 pub record LineLeaves (board : Board) (cycle : ℕ) (note : SpriteNote) : Type 0 where
   pub recording : (line_board board cycle note).recording ≡ board.recording
   pub port1 : (line_board board cycle note).port1 ≡ board.port1
@@ -51,6 +52,7 @@ pub record LineLeaves (board : Board) (cycle : ℕ) (note : SpriteNote) : Type 0
   pub reset : (line_board board cycle note).reset ≡ board.reset
   pub resets : (line_board board cycle note).resets ≡ board.resets
   pub store : (line_board board cycle note).store ≡ board.store
+  pub region : (line_board board cycle note).vdp.pal ≡ board.vdp.pal
 
 -- a batch of the PSG changes what its port holds alone
 pub record BatchLeaves (board : Board) (cycle : ℕ) : Type 0 where

@@ -20,7 +20,7 @@ register_at address =
 
 -- what a register reads
 unfoldable pub register_read : Board → Register → ℕ
-register_read board Version = 0xa0
+register_read board Version = if board.vdp.pal then 0xe0 else 0xa0
 register_read board Data1 = pad_value board.port1 board.pads.0
 register_read board Data2 = pad_value board.port2 board.pads.1
 register_read board DataExpansion = 0x7f

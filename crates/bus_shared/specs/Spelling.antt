@@ -34,8 +34,8 @@ store_size true = 8194
 
 -- how many bytes keep a board, by whether it has RAM and bank register
 abbrev pub board_size : Bool → ℕ
-board_size false = 88388
-board_size true = 96582
+board_size false = 88389
+board_size true = 96583
 
 -- the bytes that keep RAM and bank register, where the bus has them
 abbrev pub store_bytes : Option Store → List ℕ
@@ -45,18 +45,18 @@ store_bytes store = spelling (store_fields true store)
 abbrev pub lines_bytes : SavedLines → List ℕ
 lines_bytes lines = spelling (lines_fields 0 lines)
 
--- the bytes that keep a board; the rules, and so the cycle, have no part in them
+-- the bytes that keep a board; the rules, and so the cycle and the region, have no part in them
 abbrev pub board_bytes : Board → List ℕ
 board_bytes board =
     store_bytes board.store
     ++ (vdp_spelling.vdp_bytes board.vdp
     ++ (fm_spelling.port_bytes board.fm ++ (psg_spelling.port_bytes board.held ++ lines_bytes (lines_of board))))
 
--- the bytes of a state at a cycle keep the board, whose rules hold part by part
-pub record Spells (at : ℕ) (bytes : List ℕ) (board : Board) : Type 0 where
+-- the bytes of a state at a cycle and of a region keep the board, whose rules hold part by part
+pub record Spells (at : ℕ) (pal : Bool) (bytes : List ℕ) (board : Board) : Type 0 where
   pub all : bytes ≡ board_bytes board
   pub store : IfSome board.store IsStore
-  pub vdp : vdp_spelling.Spells at (vdp_spelling.vdp_bytes board.vdp) board.vdp
+  pub vdp : vdp_spelling.Spells at pal (vdp_spelling.vdp_bytes board.vdp) board.vdp
   pub fm : fm_spelling.SpellsPort at (fm_spelling.port_bytes board.fm) board.fm
   pub held : psg_spelling.SpellsPort at (psg_spelling.port_bytes board.held) board.held
   pub lines : Keeps (lines_fields at) (lines_bytes (lines_of board)) (lines_of board)
@@ -84,7 +84,7 @@ pub record Parts : Type 0 where
 
 -- how many bytes are too much for the other parts
 abbrev pub store_length : List ℕ → ℕ
-store_length bytes = length bytes - 88388
+store_length bytes = length bytes - 88389
 
 -- bytes as the parts in their order
 abbrev pub cut : List ℕ → Parts
@@ -92,10 +92,10 @@ cut bytes =
     let behind = drop (store_length bytes) bytes in
     record {
       store = take (store_length bytes) bytes;
-      vdp = take 65812 behind;
-      fm = take 12316 (drop 65812 behind);
-      held = take 10242 (drop 12316 (drop 65812 behind));
-      lines = drop 10242 (drop 12316 (drop 65812 behind));
+      vdp = take 65813 behind;
+      fm = take 12316 (drop 65813 behind);
+      held = take 10242 (drop 12316 (drop 65813 behind));
+      lines = drop 10242 (drop 12316 (drop 65813 behind));
     }
 
 -- the place of a refusal in what stands behind a start
@@ -124,19 +124,19 @@ PortsGoWrongAt at start fm held lines =
     (GoesWrongFrom (start + 22558) (LinesGoWrongAt at lines) (λ place. ⊥)))
 
 -- the same of all parts, where RAM and bank register have so many bytes
-abbrev pub PartsGoWrongAt : ℕ → ℕ → Parts → ℕ → Type 0
-PartsGoWrongAt at start parts =
+abbrev pub PartsGoWrongAt : ℕ → Bool → ℕ → Parts → ℕ → Type 0
+PartsGoWrongAt at pal start parts =
     GoesWrongFrom 0 (StoreGoesWrongAt parts.store)
-    (GoesWrongFrom start (vdp_spelling.GoesWrongAt at parts.vdp)
-    (PortsGoWrongAt at (start + 65812) parts.fm parts.held parts.lines))
+    (GoesWrongFrom start (vdp_spelling.GoesWrongAt at pal parts.vdp)
+    (PortsGoWrongAt at (start + 65813) parts.fm parts.held parts.lines))
 
 -- as many bytes as there can be
 abbrev pub IsLength : List ℕ → Type 0
-IsLength bytes = (length bytes ≡ 88388) ⊎ (length bytes ≡ 96582)
+IsLength bytes = (length bytes ≡ 88389) ⊎ (length bytes ≡ 96583)
 
--- bytes of a state at a cycle that keep no board are refused at this place: by their length, at the
--- lesser one, or by the first part that goes wrong
-abbrev pub GoesWrongAt : ℕ → List ℕ → ℕ → Type 0
-GoesWrongAt at bytes place =
-    ((IsLength bytes → ⊥) × (place ≡ min (length bytes) 96582))
-    ⊎ (IsLength bytes × PartsGoWrongAt at (store_length bytes) (cut bytes) place)
+-- bytes of a state at a cycle and of a region that keep no board are refused at this place: by their
+-- length, at the lesser one, or by the first part that goes wrong
+abbrev pub GoesWrongAt : ℕ → Bool → List ℕ → ℕ → Type 0
+GoesWrongAt at pal bytes place =
+    ((IsLength bytes → ⊥) × (place ≡ min (length bytes) 96583))
+    ⊎ (IsLength bytes × PartsGoWrongAt at pal (store_length bytes) (cut bytes) place)

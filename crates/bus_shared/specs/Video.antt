@@ -2,6 +2,7 @@
 -- Genesis Technical Overview, the VDP's ports, its status, the HV counter and DMA; the cost of a word
 -- is this project's profile.
 use Rattle.std.specs.Prelude.{ℕ, ◌*◌, ◌/◌, ◌%◌, ◌==◌, nat_lt, Bool, true, false, ◌&&◌, ◌||◌, IsTrue, if◌then◌else◌, Option, Some, None, refl}
+use Rattle.md_word.specs.Region.{rows}
 use Rattle.md_word.specs.declared.key.Key.{Key}
 use Rattle.md_word.specs.declared.main_bus.Transfer.{Transfer}
 use Rattle.md_word.specs.declared.pins.Pins68.{Pins68}
@@ -37,13 +38,13 @@ is_wide vdp = register vdp 12 % 2 == 1
 
 -- the status at a cycle
 abbrev pub status_at : ℕ → Vdp → ℕ
-status_at cycle vdp = status (is_busy cycle vdp) (h_blank cycle) (v_blank cycle (is_shown vdp)) vdp
+status_at cycle vdp = status (is_busy cycle vdp) (h_blank cycle) (v_blank cycle (is_shown vdp) vdp.pal vdp.tall) vdp
 
 -- the word that a port gives at a cycle: fill and copy are settled to it where data or status is read
 unfoldable pub port_word : VideoPort → ℕ → Vdp → ℕ
 port_word Data cycle vdp = read (settled cycle vdp) % 0x1_0000
 port_word Control cycle vdp = status_at cycle (settled cycle vdp)
-port_word Counter cycle vdp = hv cycle (is_wide vdp)
+port_word Counter cycle vdp = hv cycle (is_wide vdp) vdp.pal vdp.tall
 port_word Sound cycle vdp = 0xffff
 port_word Unused cycle vdp = 0xffff
 
@@ -62,7 +63,7 @@ port_written port cycle word vdp = vdp
 -- the cycles to the next word of a transfer: 34 in the vertical blanking and where the display is off,
 -- else 380
 unfoldable pub word_cost : ℕ → Vdp → ℕ
-word_cost cycle vdp = if v_blank cycle (is_shown vdp) then 34 else 380
+word_cost cycle vdp = if v_blank cycle (is_shown vdp) vdp.pal vdp.tall then 34 else 380
 
 -- a transfer that starts, with what its first word costs
 abbrev pub with_cost : ℕ → Option (ℕ × ℕ) → Option Transfer
@@ -113,9 +114,10 @@ joined note vdp = record vdp { overflow = vdp.overflow || note.overflow; collisi
 unfoldable pub line_begun : ℕ → SpriteNote → Vdp → Vdp
 line_begun cycle note vdp = line_started cycle (joined note (settled cycle vdp))
 
--- what the line at a cycle is drawn from; behind the picture a view stays as it was
+-- what the line at a cycle is drawn from, for a picture of the view's region; behind the picture a view
+-- stays as it was
 unfoldable pub line_view : ℕ → Vdp → LineView → LineView
-line_view cycle vdp view = if nat_lt (line_of cycle) 224 then view_of vdp else view
+line_view cycle vdp view = if nat_lt (line_of cycle view.pal) (rows view.pal) then view_of view.pal vdp else view
 
 -- the interrupt level: 6 where a vertical interrupt is asked for, else 4 for a horizontal one
 abbrev pub level_by : Bool → Bool → ℕ

@@ -1,8 +1,9 @@
 ghost use Rattle.std.specs.Prelude.{◌≡◌, ◌^◌, ◌≤◌};
 ghost use Rattle.bus_shared.specs.Entries as entries;
 
-use md_word::clock::{BATCH, FRAME, LINE};
+use md_word::clock::BATCH;
 use md_word::{Entry, Key, Request68};
+use vdp_time::line_of;
 
 /// The entry of an access of the 68000 that gave this value, with the VDP's address before it.
 pub(crate) fn main_entry(key: Key, request: Request68, given: u16, a: u16) -> Entry
@@ -36,15 +37,15 @@ pub(crate) fn sub_entry(key: Key, kind: u8, address: u16, value: u8) -> Entry
     }
 }
 
-/// The entry of the start of a line: its number in the frame, and the 68000's interrupt level after
-/// it.
-pub(crate) fn line_entry(key: Key, level: u8) -> Entry
-    ensures { result ≡ entries.line_entry key level }
+/// The entry of the start of a line: its number in a frame of the region, and the 68000's interrupt
+/// level after it.
+pub(crate) fn line_entry(pal: bool, key: Key, level: u8) -> Entry
+    ensures { result ≡ entries.line_entry pal key level }
 {
     Entry {
         key,
         kind: 10,
-        address: (key.cycle % FRAME / LINE) as u32,
+        address: line_of(key.cycle, pal),
         value: u16::from(level),
     }
 }

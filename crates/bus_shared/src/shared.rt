@@ -27,7 +27,7 @@ use crate::video::{
 };
 use fm_port::{FmList, FmPort};
 use md_pads::{PadPort, Recording};
-use md_word::clock::{FRAME, LINE};
+use md_word::region::{finished_at, frame_cycles};
 use md_word::{
     Answer68, Answer80, Area, Entry, Key, NoMemory, Parcel, Pins68, Pins80, Request68, Request80,
     Transfer,
@@ -40,8 +40,10 @@ use vdp_planes::{Scene, SpriteNote, scene_of};
 use vdp_ports::VdpState;
 use z80_parcel::{RAM_END, known, read, store_byte};
 
-/// The version register: an overseas console of NTSC without an expansion unit.
+/// The version register: an overseas console of NTSC, or one of PAL, without an expansion unit.
 const VERSION: u8 = 0xa0;
+
+const PAL_VERSION: u8 = 0xe0;
 
 /// What the data of the expansion port reads, at which nothing hangs.
 const NO_EXPANSION: u8 = 0x7f;
@@ -51,9 +53,6 @@ const PSG80: u16 = 0x7f11;
 
 /// The byte that is read where nothing answers.
 const OPEN_BYTE: u8 = 0xff;
-
-/// The first line below the picture, at whose start the pads change.
-const PADS_LINE: u64 = 224;
 
 /// What the chips share.
 #[derive(Drop)]
@@ -88,9 +87,9 @@ impl Shared {
     ghost use Rattle.bus_shared.specs.Board.{IsBoard};
 
     /// The board at power-on with a recording of the pads: no button is pressed, the latches are 0,
-    /// and all of the VDP is 0.
-    pub fn power_on(alloc: Global, recording: Arc<Recording>) -> Result<Shared, NoMemory>
-        ensures { IfOk result (λ shared. shared ≡ boards.power_on (arc_value recording)) }
+    /// and all of the VDP is 0 but the region.
+    pub fn power_on(alloc: Global, recording: Arc<Recording>, pal: bool) -> Result<Shared, NoMemory>
+        ensures { IfOk result (λ shared. shared ≡ boards.power_on (arc_value recording) pal) }
     {
         Ok(Shared {
             recording,
@@ -103,15 +102,23 @@ impl Shared {
             reset: true,
             resets: 0,
             parcel: None,
-            vdp: power_on(alloc)?,
+            vdp: power_on(alloc, pal)?,
         })
     }
 
-    /// The VDP's registers and memories, borrowed as they stand.
-    pub fn scene(&self) -> Scene<'_>
-        ensures { seen result ≡ view_of self.now.vdp }
+    /// The VDP's registers and memories, borrowed as they stand, for a picture of a region.
+    pub fn scene(&self, pal: bool) -> Scene<'_>
+        ensures { seen result ≡ view_of pal self.now.vdp }
     {
-        scene_of(&self.vdp)
+        scene_of(&self.vdp, pal)
+    }
+
+    /// Whether the console is one for PAL.
+    #[inline]
+    pub fn pal(&self) -> bool
+        ensures { result ≡ self.now.vdp.pal }
+    {
+        self.vdp.pal
     }
 
     /// Tells what holds of every board.
@@ -127,7 +134,7 @@ impl Shared {
         ensures { result ≡ registers.register_read self.now register }
     {
         match register {
-            Register::Version => VERSION,
+            Register::Version => { if self.vdp.pal { PAL_VERSION } else { VERSION } }
             Register::Data1 => self.port1.read(self.pads.0),
             Register::Data2 => self.port2.read(self.pads.1),
             Register::DataExpansion => NO_EXPANSION,
@@ -492,13 +499,14 @@ impl Shared {
         }
     }
 
-    /// Lets the pads take their words at the start of line 224.
+    /// Lets the pads take their words at the start of the line behind the picture.
     #[tactic(auto, unfolding(crate::specs::Accesses::pads_board))]
     fn change_pads(&mut self, cycle: u64)
         ensures { self.new ≡ accesses.pads_board self.old cycle }
     {
-        if cycle % FRAME == PADS_LINE * LINE {
-            self.pads = self.recording.pads_at(cycle / FRAME);
+        let frame = frame_cycles(self.vdp.pal);
+        if cycle % frame == finished_at(self.vdp.pal) {
+            self.pads = self.recording.pads_at(cycle / frame);
         }
     }
 
@@ -607,10 +615,10 @@ pub fn carry_out(shared: &mut Shared, key: Key, request: Request) -> (Answer, En
 pub fn start_line(shared: &mut Shared, key: Key, note: SpriteNote) -> Entry
     requires { key.cycle ≤ 2 ^ 50 }
     ensures board { shared.new ≡ accesses.line_board shared.old key.cycle note }
-    ensures entry { result ≡ entries.line_entry key (accesses.level_of shared.new) }
+    ensures entry { result ≡ entries.line_entry shared.new.vdp.pal key (accesses.level_of shared.new) }
 {
     shared.line(key.cycle, note);
-    line_entry(key, pins68(shared).level)
+    line_entry(shared.pal(), key, pins68(shared).level)
 }
 
 /// The interrupt pins of the 68000.

@@ -23,15 +23,15 @@ use vdp_ports::VdpState;
 use z80_parcel::{BANKS, parcel_of, put_store};
 
 /// How many bytes of a saved state keep a board without the Z80's RAM, and with it.
-const SHORT: usize = 88_388;
+const SHORT: usize = 88_389;
 
-const LONG: usize = 96_582;
+const LONG: usize = 96_583;
 
 /// Where the bank register stands behind the RAM.
 const BANK: usize = 8_192;
 
 /// How many bytes keep the VDP, the FM chip's port and the PSG's.
-const VDP: usize = 65_812;
+const VDP: usize = 65_813;
 
 const FM: usize = 12_316;
 
@@ -54,7 +54,7 @@ impl Shared {
     }
 
     /// Appends the bytes of a saved state at a cycle that keep this board, as it is once fill, copy and
-    /// timers are settled to the cycle: 88,388, and 8,194 more in front where the board has the Z80's
+    /// timers are settled to the cycle: 88,389, and 8,194 more in front where the board has the Z80's
     /// RAM. There is room for them. They are read again where the rules of the parts hold. The board stays
     /// as it is.
     pub fn spell(&self, at: u64, into: &mut Vec<u8>)
@@ -63,7 +63,7 @@ impl Shared {
         ensures bytes { into.new.items ≡ into.old.items ++ board_bytes (settled_board at self.now) }
         ensures length { vec_len into.new ≡ vec_len into.old + board_size (is_some self.now.store) }
         ensures room { vec_capacity into.old ≤ vec_capacity into.new }
-        ensures kept { IsReady at self.now → Spells at (board_bytes (settled_board at self.now)) (settled_board at self.now) }
+        ensures kept { IsReady at self.now → Spells at self.now.vdp.pal (board_bytes (settled_board at self.now)) (settled_board at self.now) }
     {
         put_store(&self.parcel, into);
         spell(&self.vdp, at, into);
@@ -76,7 +76,7 @@ impl Shared {
     /// of the parts hold.
     pub fn is_read_again(&self, at: u64)
         requires { at ≤ 2 ^ 50 }
-        ensures { IsReady at self.now → Spells at (board_bytes (settled_board at self.now)) (settled_board at self.now) }
+        ensures { IsReady at self.now → Spells at self.now.vdp.pal (board_bytes (settled_board at self.now)) (settled_board at self.now) }
     {
         is_read_again(&self.vdp);
         self.fm.is_read_again(at);
@@ -111,24 +111,26 @@ impl Shared {
         );
     }
 
-    /// The board that the bytes of a saved state at a cycle, of at most 2^50, keep, over a recording.
-    /// Bytes that are neither 88,388 nor 96,582 are refused at the lesser of their number and 96,582,
+    /// The board that the bytes of a saved state at a cycle, of at most 2^50, and of a region keep, over a
+    /// recording.
+    /// Bytes that are neither 88,389 nor 96,583 are refused at the lesser of their number and 96,583,
     /// others at the place of the first field whose rule fails. Memories are copied.
     pub fn unspell(
         alloc: Global,
         bytes: &[u8],
         at: u64,
         recording: Arc<Recording>,
+        pal: bool,
     ) -> Result<Shared, Unspell>
         requires { at ≤ 2 ^ 50 }
-        ensures found { IfOk result (λ shared. Spells at bytes.now shared × (shared.recording ≡ arc_value recording)) }
-        ensures only { (board : Board) → Spells at bytes.now board → board.recording ≡ arc_value recording
+        ensures found { IfOk result (λ shared. Spells at pal bytes.now shared × (shared.recording ≡ arc_value recording)) }
+        ensures only { (board : Board) → Spells at pal bytes.now board → board.recording ≡ arc_value recording
             → result ≢ Err Unspell.NoMemory → result ≡ Ok board }
-        ensures rule { (place : ℕ) → IsErrOf result (Unspell.Rule place) → GoesWrongAt at bytes.now place }
-        ensures refused { (place : ℕ) → GoesWrongAt at bytes.now place → result ≢ Err Unspell.NoMemory
+        ensures rule { (place : ℕ) → IsErrOf result (Unspell.Rule place) → GoesWrongAt at pal bytes.now place }
+        ensures refused { (place : ℕ) → GoesWrongAt at pal bytes.now place → result ≢ Err Unspell.NoMemory
             → IsErrOf result (Unspell.Rule place) }
     {
-        match read(alloc, bytes, at, recording) {
+        match read(alloc, bytes, at, recording, pal) {
             Ok(shared) => Ok(shared),
             Err(fault) => Err(fault),
         }
@@ -143,10 +145,16 @@ fn flag_byte(flag: bool) -> u8
 }
 
 /// The board that the bytes keep.
-fn read(alloc: Global, bytes: &[u8], at: u64, recording: Arc<Recording>) -> Result<Shared, Unspell>
+fn read(
+    alloc: Global,
+    bytes: &[u8],
+    at: u64,
+    recording: Arc<Recording>,
+    pal: bool,
+) -> Result<Shared, Unspell>
     requires { at ≤ 2 ^ 50 }
-    ensures found { IfOk result (λ shared. Spells at bytes.now shared × (shared.recording ≡ arc_value recording)) }
-    ensures rule { (place : ℕ) → IsErrOf result (Unspell.Rule place) → GoesWrongAt at bytes.now place }
+    ensures found { IfOk result (λ shared. Spells at pal bytes.now shared × (shared.recording ≡ arc_value recording)) }
+    ensures rule { (place : ℕ) → IsErrOf result (Unspell.Rule place) → GoesWrongAt at pal bytes.now place }
 {
     if bytes.len() != SHORT && bytes.len() != LONG {
         return Err(Unspell::Rule {
@@ -159,7 +167,7 @@ fn read(alloc: Global, bytes: &[u8], at: u64, recording: Arc<Recording>) -> Resu
         Err(fault) => return Err(fault),
     };
     let (video, rest) = rest.split_at(VDP);
-    let vdp = match VdpState::unspell(alloc, video, at) {
+    let vdp = match VdpState::unspell(alloc, video, at, pal) {
         Ok(vdp) => vdp,
         Err(fault) => return Err(behind(store.len() as u64, fault)),
     };

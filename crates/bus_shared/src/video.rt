@@ -7,6 +7,7 @@ ghost use Rattle.bus_shared.specs.Board.{AreBytes};
 ghost use Rattle.bus_shared.specs.Video as video;
 
 use crate::port::VideoPort;
+use md_word::region::rows;
 use md_word::{NoMemory, Transfer};
 use std::alloc::Global;
 use vdp_dma::{busy, settle, transfer_word};
@@ -14,7 +15,7 @@ use vdp_planes::register::MODE_4;
 use vdp_planes::{LineView, SpriteNote, fill_view};
 use vdp_ports::VdpState;
 use vdp_ports::register::MODE_2;
-use vdp_time::{HEIGHT, blank, hv, line_of, start_line};
+use vdp_time::{blank, hv, line_of, start_line};
 
 /// The word that is read where no port answers.
 pub(crate) const OPEN_WORD: u16 = 0xffff;
@@ -25,12 +26,12 @@ const DRAWN_COST: u16 = 380;
 /// The master cycles of a transferred word while nothing is drawn.
 const UNDRAWN_COST: u16 = 34;
 
-/// The VDP at power-on.
-pub(crate) fn power_on(alloc: Global) -> Result<Box<VdpState>, NoMemory>
-    ensures value { IfOk result (λ vdp. vdp.value ≡ at_power_on) }
+/// The VDP at power-on, of a region.
+pub(crate) fn power_on(alloc: Global, pal: bool) -> Result<Box<VdpState>, NoMemory>
+    ensures value { IfOk result (λ vdp. vdp.value ≡ at_power_on pal) }
     ensures bytes { IfOk result (λ vdp. AreBytes vdp.value.registers) }
 {
-    Ok(Box::new(alloc, VdpState::power_on(alloc)?)?)
+    Ok(Box::new(alloc, VdpState::power_on(alloc, pal)?)?)
 }
 
 /// Whether the display is on.
@@ -54,7 +55,7 @@ fn is_wide(vdp: &VdpState) -> bool
 fn word_cost(vdp: &VdpState, cycle: u64) -> u16
     ensures { result ≡ video.word_cost cycle vdp.now }
 {
-    let (_, vb) = blank(cycle, is_shown(vdp));
+    let (_, vb) = blank(cycle, is_shown(vdp), vdp.pal, vdp.tall);
     if vb { UNDRAWN_COST } else { DRAWN_COST }
 }
 
@@ -76,7 +77,7 @@ fn read_status(vdp: &mut VdpState, cycle: u64) -> u16
 {
     settle(vdp, cycle);
     let is_busy = busy(vdp, cycle);
-    let (hb, vb) = blank(cycle, is_shown(vdp));
+    let (hb, vb) = blank(cycle, is_shown(vdp), vdp.pal, vdp.tall);
     vdp.control_read(is_busy, hb, vb)
 }
 
@@ -91,7 +92,7 @@ pub(crate) fn read_port(port: VideoPort, vdp: &mut VdpState, cycle: u64) -> u16
     match port {
         VideoPort::Data => read_data(vdp, cycle),
         VideoPort::Control => read_status(vdp, cycle),
-        VideoPort::Counter => hv(cycle, is_wide(vdp)),
+        VideoPort::Counter => hv(cycle, is_wide(vdp), vdp.pal, vdp.tall),
         VideoPort::Sound | VideoPort::Unused => OPEN_WORD,
     }
 }
@@ -196,7 +197,7 @@ pub(crate) fn begin_line(vdp: &mut VdpState, cycle: u64, note: SpriteNote)
 pub(crate) fn show(vdp: &VdpState, cycle: u64, view: &mut LineView)
     ensures { view.new ≡ video.line_view cycle vdp.now view.old }
 {
-    if line_of(cycle) < HEIGHT {
+    if line_of(cycle, view.pal) < rows(view.pal) {
         fill_view(view, vdp);
     }
 }

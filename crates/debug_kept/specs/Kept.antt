@@ -8,7 +8,7 @@ all_pages = 16384
 
 -- how many pages a state has
 abbrev pub per_state : ℕ
-per_state = 96
+per_state = 97
 
 -- how many bytes those are
 abbrev pub state_size : ℕ

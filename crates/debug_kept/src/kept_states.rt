@@ -12,12 +12,12 @@ use std::marker::Model;
 const PAGES: u32 = 16_384;
 
 /// How many pages a state has.
-const PER_STATE: u32 = 96;
+const PER_STATE: u32 = 97;
 
 /// How many states there can be: the oldest takes all of its pages, and each later one at least one.
 const MOST_STATES: usize = (PAGES - PER_STATE + 1) as usize;
 
-/// The newest states that fit into 16,384 pages of 4,096 bytes, of which each has 96, with the cycle of
+/// The newest states that fit into 16,384 pages of 4,096 bytes, of which each has 97, with the cycle of
 /// each. Contracts see them newest first, and the state that was fetched last.
 #[derive(Drop)]
 pub struct KeptStates {

@@ -23,9 +23,9 @@ pub(crate) fn saved<R: Threads + Wait + Sync>(
 /// state.
 type Row = (usize, &'static [u8], u8, &'static str);
 
-// Nothing, the cycle, the 68000's next event and its stage, the mark, and the digest: it was SHA-256 of the
+// Nothing, the cycle, the region, the 68000's next event and its stage, the mark, and the digest: it was SHA-256 of the
 // cartridge, whose first byte is FBh.
-static ROWS: [Row; 6] = [
+static ROWS: [Row; 7] = [
     (
         0,
         b"M",
@@ -33,8 +33,9 @@ static ROWS: [Row; 6] = [
         "cycles 1 to 3421\nframes 0\nsamples 0\naccesses 1\n",
     ),
     (40, &[0; 8], 7, "refused: state at 40\n"),
-    (48, &[0; 8], 7, "refused: state at 48\n"),
-    (56, &[3], 7, "refused: state at 56\n"),
+    (48, &[2], 7, "refused: state at 48\n"),
+    (49, &[0; 8], 7, "refused: state at 49\n"),
+    (57, &[3], 7, "refused: state at 57\n"),
     (0, &[0], 7, "refused: state at 0\n"),
     (
         8,

@@ -8,6 +8,8 @@ mod failing;
 #[cfg(test)]
 mod inputs;
 #[cfg(test)]
+mod older;
+#[cfg(test)]
 mod prefixes;
 #[cfg(test)]
 mod random;

@@ -10,8 +10,9 @@ use std::thread::Threads;
 /// A recording of two frames: Start on pad 1, then Up and A on pad 1 and B on pad 2.
 const RECORDING: &[u8; 20] = b"MDREC001\0\0\0\x02\0\x80\0\0\0\x41\0\x10";
 
-/// The lengths of prefixes of a state: at the ends of the mark, of the digest and cycle, and of the whole.
-const LENGTHS: [usize; 7] = [0, 1, 7, 8, 47, 48, 378_239];
+/// The lengths of prefixes of a state: at the ends of the mark, of the digest and cycle, of the region, and of
+/// the whole.
+const LENGTHS: [usize; 8] = [0, 1, 7, 8, 47, 48, 49, 393_601];
 
 /// A cartridge as `Z`, and the front part of so many bytes as `P`.
 fn cut(alloc: Global, image: &[u8], bytes: &[u8], length: usize) -> Result<Files, AllocError> {

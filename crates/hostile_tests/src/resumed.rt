@@ -81,16 +81,16 @@ fn is_rest(whole: &Outside, parts: &Outside) -> bool {
         && is_joined(whole, parts, ("F", "A", "G"), 0)
         && is_joined(whole, parts, ("W", "B", "X"), 44)
         && is_joined(whole, parts, ("J", "C", "K"), 0)
-        && whole.file("S").len() == 378_240
+        && whole.file("S").len() == 393_602
         && whole.file("S") == parts.file("T")
 }
 
 /// Whether a state stands at an access at 364, of an instruction from 252 on that has three answers.
 fn has_three_answers(state: &[u8]) -> bool {
-    state.get(48..56) == Some(364u64.to_be_bytes().as_slice())
-        && state.get(56..57) == Some([1].as_slice())
-        && state.get(57..65) == Some(252u64.to_be_bytes().as_slice())
-        && state.get(151..152) == Some([3].as_slice())
+    state.get(49..57) == Some(364u64.to_be_bytes().as_slice())
+        && state.get(57..58) == Some([1].as_slice())
+        && state.get(58..66) == Some(252u64.to_be_bytes().as_slice())
+        && state.get(152..153) == Some([3].as_slice())
 }
 
 /// Whether a run that is cut within MOVEM goes on as it would have.

@@ -15,7 +15,7 @@ fn scheduler(alloc: Global) -> Result<Core<MdChips>, Fail>
     ensures room { IfOk result (λ core. core.room ≡ 8) }
 {
     let recording = Arc::new(alloc, Recording::empty(alloc))?;
-    let made = first_core(alloc, cartridge(alloc, &idle())?, recording, 8);
+    let made = first_core(alloc, cartridge(alloc, &idle())?, recording, false, 8);
     made.map_err(|_| Fail::from("no memory"))
 }
 

@@ -1,6 +1,7 @@
 // The frames of the machine. Line 224 begins at 766,080, and with it the frame is finished.
 use crate::cartridges::{idle, paints};
-use crate::made::{Made, run_once, run_whole};
+use crate::made::{Made, power_on, run_once, run_parts, run_whole};
+use md_pads::Recording;
 use std::test::Fail;
 
 /// How many bytes of a frame's rows, behind its head of 15 bytes, have this value from a place on, and up
@@ -49,6 +50,27 @@ fn a_frame_is_finished_by_line_224(rt: HostRuntime) -> Result<(), Fail> {
     let parts = run_whole(rt.alloc(), &idle(), &ENDS)?;
     assert_eq!(rt; first_wrong_length(&parts), None);
     assert!(rt; is_black(&parts));
+    Ok(())
+}
+
+// On PAL it is finished by line 240, which begins at 820,800.
+static TALL_ENDS: [u32; 4] = [820_800, 820_801, 1_891_260, 1_891_261];
+
+static TALL_LENGTHS: [usize; 4] = [0, 230_415, 0, 230_415];
+
+#[test]
+fn a_frame_of_pal_is_finished_by_line_240(rt: HostRuntime) -> Result<(), Fail> {
+    let mut machine = power_on(rt.alloc(), &idle(), Recording::empty(rt.alloc()), true)?;
+    let parts = run_parts(&mut machine, rt.alloc(), &TALL_ENDS)?;
+    for (number, want) in TALL_LENGTHS.iter().enumerate() {
+        let part = parts.get(number);
+        assert!(rt;
+            part.is_some_and(|part| part.frame.len() == *want),
+            "part {number}"
+        );
+    }
+    let finished = parts.get(1);
+    assert!(rt; finished.is_some_and(|part| part.frame.starts_with(b"P6\n320 240\n255\n")));
     Ok(())
 }
 

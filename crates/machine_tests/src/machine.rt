@@ -1,6 +1,7 @@
 use crate::cartridges::{beep, idle, image_of, put};
-use crate::made::{Made, run_once, run_parts, run_to, run_whole, started};
+use crate::made::{Made, power_on, run_once, run_parts, run_to, run_whole, started};
 use md_machine::Machine;
+use md_pads::Recording;
 use std::alloc::Global;
 use std::test::Fail;
 
@@ -25,6 +26,16 @@ fn a_silent_frame(rt: HostRuntime) -> Result<(), Fail> {
     let mut machine = started(rt.alloc(), &idle())?;
     let made = run_to(&mut machine, rt.alloc(), 896_040)?;
     assert_eq!(rt; frame_fault(&machine, &made), None);
+    Ok(())
+}
+
+// 313 lines and 66 batches of each sound chip.
+#[test]
+fn a_silent_frame_of_pal(rt: HostRuntime) -> Result<(), Fail> {
+    let mut machine = power_on(rt.alloc(), &idle(), Recording::empty(rt.alloc()), true)?;
+    let made = run_to(&mut machine, rt.alloc(), 1_070_460)?;
+    assert!(rt; machine.pal() && machine.least() == 1_070_460);
+    assert!(rt; made.entries.len() == 16 * 445 && made.pairs.len() == 4 * 1_056);
     Ok(())
 }
 

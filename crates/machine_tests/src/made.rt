@@ -1,10 +1,13 @@
 // What machines make.
-ghost use Rattle.std.specs.Prelude.{◌≡◌, ◌≤◌, [], length, IfOk};
+ghost use Rattle.std.specs.Prelude.{◌≡◌, ◌*◌, ◌≤◌, [], length, IfOk};
 ghost use Rattle.md_machine.specs.Media.{no_media};
+ghost use Rattle.md_machine.specs.Outputs.{frame_length};
+ghost use Rattle.md_machine.specs.Regions.{most_entries, most_pairs};
 
 use crate::cartridges::cartridge;
 use md_machine::Machine;
 use md_pads::Recording;
+use md_word::region::frame_cycles;
 use std::alloc::Global;
 use std::sync::Arc;
 use std::test::Fail;
@@ -21,15 +24,36 @@ pub struct Made {
 impl Made {
     /// Takes it from the machine.
     pub fn take(machine: &mut Machine, alloc: Global) -> Result<Made, Fail>
-        requires entries { length machine.old.entries ≤ 52500 }
+        requires entries { length machine.old.entries ≤ most_entries machine.old.console.pal }
         requires frames { length machine.old.media.frames ≤ 1 }
-        requires samples { length machine.old.media.levels ≤ 896 }
+        requires samples { length machine.old.media.levels ≤ most_pairs machine.old.console.pal }
         ensures entries { IfOk result (λ made. machine.new.entries ≡ []) }
         ensures media { IfOk result (λ made. machine.new.media ≡ no_media) }
     {
-        let mut entries = Vec::with_capacity(alloc, 840_000)?;
-        let mut pairs = Vec::with_capacity(alloc, 3_584)?;
-        let mut frame = Vec::with_capacity(alloc, 215_055)?;
+        if machine.pal() {
+            Made::take_up_to(machine, alloc, 1_001_600, 4_288, 230_415)
+        } else {
+            Made::take_up_to(machine, alloc, 840_000, 3_584, 215_055)
+        }
+    }
+
+    /// Takes it from the machine, with room for so many bytes of each.
+    fn take_up_to(
+        machine: &mut Machine,
+        alloc: Global,
+        entries: usize,
+        pairs: usize,
+        frame: usize,
+    ) -> Result<Made, Fail>
+        requires entries { 16 * length machine.old.entries ≤ entries }
+        requires frame { frame_length machine.old.console.pal * length machine.old.media.frames ≤ frame }
+        requires pairs { 4 * length machine.old.media.levels ≤ pairs }
+        ensures entries { IfOk result (λ made. machine.new.entries ≡ []) }
+        ensures media { IfOk result (λ made. machine.new.media ≡ no_media) }
+    {
+        let mut entries = Vec::with_capacity(alloc, entries)?;
+        let mut pairs = Vec::with_capacity(alloc, pairs)?;
+        let mut frame = Vec::with_capacity(alloc, frame)?;
         machine.drain_entries(&mut entries);
         machine.drain_pairs(&mut pairs);
         machine.drain_frames(&mut frame);
@@ -48,14 +72,19 @@ impl Made {
     }
 }
 
-/// The machine at power-on with a cartridge of this image and this recording.
-pub fn power_on(alloc: Global, image: &[u8; 512], recording: Recording) -> Result<Machine, Fail>
+/// The machine at power-on, of a region, with a cartridge of this image and this recording.
+pub fn power_on(
+    alloc: Global,
+    image: &[u8; 512],
+    recording: Recording,
+    pal: bool,
+) -> Result<Machine, Fail>
     ensures at { IfOk result (λ machine. machine.at ≡ 0) }
     ensures entries { IfOk result (λ machine. machine.entries ≡ []) }
     ensures media { IfOk result (λ machine. machine.media ≡ no_media) }
 {
     let recording = Arc::new(alloc, recording)?;
-    let machine = Machine::power_on(alloc, cartridge(alloc, image)?, recording);
+    let machine = Machine::power_on(alloc, cartridge(alloc, image)?, recording, pal);
     machine.map_err(|_| Fail::from("no memory"))
 }
 
@@ -65,7 +94,7 @@ pub fn started(alloc: Global, image: &[u8; 512]) -> Result<Machine, Fail>
     ensures entries { IfOk result (λ machine. machine.entries ≡ []) }
     ensures media { IfOk result (λ machine. machine.media ≡ no_media) }
 {
-    power_on(alloc, image, Recording::empty(alloc))
+    power_on(alloc, image, Recording::empty(alloc), false)
 }
 
 /// Brings the machine to a cycle, at most a frame on, and gives what it makes.
@@ -77,7 +106,7 @@ pub fn run_to(machine: &mut Machine, alloc: Global, to: u32) -> Result<Made, Fai
 {
     let to = u64::from(to);
     let at = machine.at();
-    if to <= at || to - at > 896_040 {
+    if to <= at || to - at > frame_cycles(machine.pal()) {
         return Err(Fail::from("more than a frame on"));
     }
     machine.alone(to);

@@ -69,7 +69,7 @@ fn sounding(pairs: &[u8]) -> [usize; 2] {
 /// Two frames with the recording.
 fn run_recorded(alloc: Global) -> Result<Vec<Made>, Fail> {
     let recording = Recording::read(alloc, B)?;
-    let mut machine = power_on(alloc, &image_of(0x1c0, &PADS), recording)?;
+    let mut machine = power_on(alloc, &image_of(0x1c0, &PADS), recording, false)?;
     run_parts(&mut machine, alloc, &[896_040, 1_792_080])
 }
 

@@ -7,7 +7,7 @@ use Rattle.std.proofs.lemmas.Slice.Eq.{bytes_eq-Decides}
 use Rattle.clap.specs.Walk.{Text}
 use Rattle.md_args.specs.Given.{Argument, Place, are_single, between, ended, given, has_name, is_marked, value_in, value_of, with_value}
 use Rattle.md_args.specs.Spelled.{apart, joined, words_of}
-use Rattle.md_args.specs.Words.{Run, Values, are_names, but_workers, names_of, number_of, run_by, run_from, run_given, run_of, run_of_arguments, run_options, values_by, workers_of}
+use Rattle.md_args.specs.Words.{Run, Values, are_names, but_workers, is_one_region, names_of, number_of, run_by, run_flags, run_from, run_given, run_of, run_of_arguments, run_options, values_by, workers_of}
 use Rattle.md_args.proofs.Gives.{given_open, given_option, given_value}
 use Rattle.md_args.proofs.Rows.{not_true, stands}
 use Rattle.md_args.proofs.Spellings.{left_of, readable_among, run_readable}
@@ -16,26 +16,26 @@ use Rattle.md_args.proofs.Tails.{Alike, Stays, alike_meant, alike_stays, behind,
 -- ---- an option and its value in two words, and in one
 
 written_here : (name value : Text) (after : List Text) → list_any (has_name name) run_options ≡ true → is_marked value ≡ false → (free : Bool) (place : Place)
-    → Alike (given (left_of free) run_options [] place (words_of (apart name value) ++ after)) (given (left_of free) run_options [] place (words_of (joined name value) ++ after))
+    → Alike (given (left_of free) run_options run_flags place (words_of (apart name value) ++ after)) (given (left_of free) run_options run_flags place (words_of (joined name value) ++ after))
 written_here name value after listed unmarked true ended =
     inr (
-      refused_here (codes "--" ++ name) (given [] run_options [] ended (value ∷ after)) refl,
-      refused_here (codes "--" ++ name ++ codes "=" ++ value) (given [] run_options [] ended after) refl,
+      refused_here (codes "--" ++ name) (given [] run_options run_flags ended (value ∷ after)) refl,
+      refused_here (codes "--" ++ name ++ codes "=" ++ value) (given [] run_options run_flags ended after) refl,
     )
 written_here name value after listed unmarked false ended = inl refl
 written_here name value after listed unmarked free (value_of other) = inl refl
 written_here name value after listed unmarked free between =
     let known = readable_among run_options name run_readable listed in
     inl
-    (sym (given_open run_options [] (left_of free) (codes "--" ++ name) (value ∷ after) name known.apart_no_end refl known.apart_word listed)
-    ∙ sym (given_value run_options [] (left_of free) value after name unmarked)
-    ∙ given_option run_options [] (left_of free) (codes "--" ++ name ++ codes "=" ++ value) after name value (known.joined_no_end value) refl (known.joined_word value) listed)
+    (sym (given_open run_options run_flags (left_of free) (codes "--" ++ name) (value ∷ after) name known.apart_no_end refl known.apart_word listed)
+    ∙ sym (given_value run_options run_flags (left_of free) value after name unmarked)
+    ∙ given_option run_options run_flags (left_of free) (codes "--" ++ name ++ codes "=" ++ value) after name value (known.joined_no_end value) refl (known.joined_word value) listed)
 
 pub written_alike : (before after : List Text) (name value : Text) → list_any (has_name name) run_options ≡ true → is_marked value ≡ false
     → run_of (before ++ (words_of (apart name value) ++ after)) ≡ run_of (before ++ (words_of (joined name value) ++ after))
 written_alike before after name value listed unmarked =
     alike_meant _ _
-    (behind run_options Alike alike_stays (words_of (apart name value) ++ after) (words_of (joined name value) ++ after) (written_here name value after listed unmarked) before true between)
+    (behind run_options run_flags Alike alike_stays (words_of (apart name value) ++ after) (words_of (joined name value) ++ after) (written_here name value after listed unmarked) before true between)
 
 -- ---- another value of one argument
 
@@ -85,7 +85,7 @@ workers = codes "workers"
 other_workers : (values : Values) (count other : Text) → IsSome (workers_of (Some count)) → IsSome (workers_of (Some other))
     → option_map but_workers (run_given (record values { workers = Some count })) ≡ option_map but_workers (run_given (record values { workers = Some other }))
 other_workers values count other fits other_fits =
-    by_names (are_names (names_of values)) _ _ (by_values values.rom (option_and_then number_of values.cycles) (workers_of (Some count)) (workers_of (Some other)) fits other_fits)
+    by_names (are_names (names_of values) && is_one_region values) _ _ (by_values values.rom (option_and_then number_of values.cycles) (workers_of (Some count)) (workers_of (Some other)) fits other_fits)
   where
     by_names : (b : Bool) (first second : Option Run) → option_map but_workers first ≡ option_map but_workers second
         → option_map but_workers (cond b first None) ≡ option_map but_workers (cond b second None)
@@ -118,6 +118,7 @@ values_are count before after single other =
       sound = same (codes "sound") refl i;
       journal = same (codes "journal") refl i;
       workers = own i;
+      pal = same (codes "pal") refl i;
     }
 
 module _ (count other : Text) (fits : IsSome (workers_of (Some count))) (other_fits : IsSome (workers_of (Some other))) where
@@ -169,16 +170,16 @@ module _ (count other : Text) (fits : IsSome (workers_of (Some count))) (other_f
       (λ alike. ap (option_map but_workers) (alike_meant first second alike)) nearly
 
   workers_here : (after : List Text) (free : Bool) (place : Place)
-      → Nearly (given (left_of free) run_options [] place (words_of (joined workers count) ++ after)) (given (left_of free) run_options [] place (words_of (joined workers other) ++ after))
+      → Nearly (given (left_of free) run_options run_flags place (words_of (joined workers count) ++ after)) (given (left_of free) run_options run_flags place (words_of (joined workers other) ++ after))
   workers_here after true ended =
       inr
       (inr (
-        refused_here (codes "--" ++ workers ++ codes "=" ++ count) (given [] run_options [] ended after) refl,
-        refused_here (codes "--" ++ workers ++ codes "=" ++ other) (given [] run_options [] ended after) refl,
+        refused_here (codes "--" ++ workers ++ codes "=" ++ count) (given [] run_options run_flags ended after) refl,
+        refused_here (codes "--" ++ workers ++ codes "=" ++ other) (given [] run_options run_flags ended after) refl,
       ))
   workers_here after false ended = inr (inl refl)
   workers_here after free (value_of name) = inr (inl refl)
-  workers_here after free between = go (given (left_of free) run_options [] between after)
+  workers_here after free between = go (given (left_of free) run_options run_flags between after)
     where
       go : (behind : Option (List Argument)) → Nearly (with_value workers count behind) (with_value workers other behind)
       go None = inr (inl refl)
@@ -188,4 +189,4 @@ module _ (count other : Text) (fits : IsSome (workers_of (Some count))) (other_f
       → option_map but_workers (run_of (before ++ (words_of (joined workers count) ++ after))) ≡ option_map but_workers (run_of (before ++ (words_of (joined workers other) ++ after)))
   but_workers_alike before after =
       nearly_meant _ _
-      (behind run_options Nearly nearly_stays (words_of (joined workers count) ++ after) (words_of (joined workers other) ++ after) (workers_here after) before true between)
+      (behind run_options run_flags Nearly nearly_stays (words_of (joined workers count) ++ after) (words_of (joined workers other) ++ after) (workers_here after) before true between)

@@ -9,9 +9,9 @@ use Rattle.clap.specs.Walk.{Rule, Text, is_empty, nothing_held, rows_after}
 use Rattle.clap.proofs.FaultLemmas.{leaf_fault}
 use Rattle.md_args.specs.Given.{Argument, value_in}
 use Rattle.md_args.specs.Parse.{conversion_app, conversion_parsed, info_app, info_parsed, parse_of, run_app, run_parsed}
-use Rattle.md_args.specs.Words.{Values, conversion_by, conversion_given, conversion_of, info_by, info_of, run_by, run_from, run_of, run_options, values_by, workers_of}
+use Rattle.md_args.specs.Words.{Values, conversion_by, conversion_given, conversion_of, info_by, info_of, run_by, run_from, run_flags, run_of, run_options, values_by, workers_of}
 use Rattle.md_args.specs.declared.convert_words.Product.{Product}
-use Rattle.md_args.proofs.Lookups.{AreFound, are_found, flag_found, flag_rule, option_rule, word_rule}
+use Rattle.md_args.proofs.Lookups.{AreFound, all_found, are_found, flag_found, flag_rule, option_rule, word_rule}
 use Rattle.md_args.proofs.Parsed.{means, options_have_none, parsed}
 use Rattle.md_args.proofs.Rows.{given_is, row}
 use Rattle.md_args.proofs.Turns.{lacks}
@@ -30,7 +30,7 @@ run_arguments =
     (codes "cycles", true) ∷ (codes "in", false) ∷ (codes "load", false) ∷ (codes "save", false) ∷ (codes "frames", false) ∷ (codes "sound", false) ∷ (codes "journal", false) ∷ (codes "workers", false) ∷ []
 
 abbrev run_rules : List Rule
-run_rules = rom ∷ map option_rule run_arguments
+run_rules = rom ∷ flag_rule (codes "pal") ∷ map option_rule run_arguments
 
 -- what has to be there
 rom_wanted : (b : Bool) → (not b || false) ≡ true → b ≡ false
@@ -81,13 +81,13 @@ run_parse_is : (words : List Text) → parse_of run_app words ≡ parsed (codes 
 unfolding run_app
 run_parse_is words = ap (λ kinds. cond (is_empty kinds) (Some (rows_after run_rules [] words)) None) (leaf_fault (built run_app) nothing_held words refl)
 
-run_found : AreFound run_rules run_options []
-run_found = are_found run_rules run_arguments (λ name. refl) (refl, (refl, (refl, (refl, (refl, (refl, (refl, (refl, tt))))))))
+run_found : AreFound run_rules run_options run_flags
+run_found = all_found run_rules (codes "pal") run_arguments (λ name. refl) refl (refl, (refl, (refl, (refl, (refl, (refl, (refl, (refl, tt))))))))
 
 pub run_means : (words : List Text) → AreTexts words → run_parsed words ≡ run_of words
 run_means words texts =
     ap (option_and_then _) (run_parse_is words)
-    ∙ means (codes "run") run_rules (codes "rom" ∷ []) run_options [] run_found (λ letter. refl) (refl, refl, refl) (refl, options_have_none run_arguments) run_by run_wants words texts
+    ∙ means (codes "run") run_rules (codes "rom" ∷ []) run_options run_flags run_found (λ letter. refl) (refl, refl, refl) (refl, (refl, options_have_none run_arguments)) run_by run_wants words texts
 
 abbrev conversion_rules : List Rule
 conversion_rules = word_rule (codes "input") 1 ∷ word_rule (codes "output") 2 ∷ flag_rule (codes "pal") ∷ []

@@ -132,6 +132,47 @@ flag_found rules flag longs name = go (bytes_eq flag name) refl
         inr (inl (record { long = longs name ∙ rw (is) (ap Some same); other = refl; listed = rw (is) refl }))
     go false is = inr (inr (record { long = longs name ∙ rw (is) refl; other = refl; unlisted = rw (is) refl }))
 
+-- a command of one flag and these options, each found by its own name
+pub all_found : (rules : List Rule) (flag : Text) (options : List (Text × Bool)) → ((name : Text) → arg_by_long rules name ≡ arg_by_long (flag_rule flag ∷ map option_rule options) name)
+    → list_any (has_name flag) (map (λ option. option.0) options) ≡ false → HaveIds rules options → AreFound rules (map (λ option. option.0) options) (flag ∷ [])
+all_found rules flag options longs apart have name = split (bytes_eq flag name) refl
+  where
+    go : (o : Option (Text × Bool)) → find (is_named name) options ≡ o → bytes_eq flag name ≡ false
+        → IsKnown rules (map (λ option. option.0) options) name
+        ⊎ (IsFlag rules (map (λ option. option.0) options) (flag ∷ []) name ⊎ IsUnknown rules (map (λ option. option.0) options) (flag ∷ []) name)
+    go None is other =
+        inr
+        (inr
+        (record {
+          long = longs name ∙ rw (other) (long_among options name ∙ ap (option_map option_rule) is);
+          other = listed_among options name ∙ ap (λ o. is_some o) is;
+          unlisted = rw (other) refl;
+        }))
+    go (Some option) is other =
+        let own = id_among rules options name option have is in
+        let rule_is : option_rule option ≡ single name (Some name) None option.1 = ap (λ n. single n (Some n) None option.1) own.0 in
+        inl
+        (record {
+          required = option.1;
+          long = longs name ∙ rw (other) (long_among options name ∙ ap (option_map option_rule) is ∙ ap Some rule_is);
+          id = ap (arg_by_id rules) (sym own.0) ∙ own.1 ∙ ap Some rule_is;
+          listed = listed_among options name ∙ ap (λ o. is_some o) is;
+        })
+
+    split : (b : Bool) → bytes_eq flag name ≡ b
+        → IsKnown rules (map (λ option. option.0) options) name
+        ⊎ (IsFlag rules (map (λ option. option.0) options) (flag ∷ []) name ⊎ IsUnknown rules (map (λ option. option.0) options) (flag ∷ []) name)
+    split true is =
+        let same : flag ≡ name = (bytes_eq-Decides flag name).0 is in
+        inr
+        (inl
+        (record {
+          long = longs name ∙ rw (is) (ap (λ n. Some (flag_rule n)) same);
+          other = subst (λ n. list_any (has_name n) (map (λ option. option.0) options) ≡ false) same apart;
+          listed = rw (is) refl;
+        }))
+    split false is = go (find (is_named name) options) refl is
+
 -- a command whose options are these, each found by its own name
 pub are_found : (rules : List Rule) (options : List (Text × Bool)) → ((name : Text) → arg_by_long rules name ≡ arg_by_long (map option_rule options) name) → HaveIds rules options
     → AreFound rules (map (λ option. option.0) options) []

@@ -8,9 +8,9 @@ use Rattle.std.proofs.lemmas.Slice.Eq.{bytes_eq-Decides}
 use Rattle.clap.specs.Lexer.{has_byte, long_of, name_and_value}
 use Rattle.clap.specs.Walk.{Text}
 use Rattle.md_args.specs.Given.{Argument, are_single, between, given, has_name, with_value}
-use Rattle.md_args.specs.Spelled.{AreWritten, Written, all_words, apart, argument_of, joined, rom}
-use Rattle.md_args.specs.Words.{run_of, run_of_arguments, run_options}
-use Rattle.md_args.proofs.Gives.{given_open, given_option, given_stray, given_value, given_word}
+use Rattle.md_args.specs.Spelled.{AreWritten, Written, all_words, apart, argument_of, joined, raised, rom}
+use Rattle.md_args.specs.Words.{run_flags, run_of, run_of_arguments, run_options}
+use Rattle.md_args.proofs.Gives.{given_flag, given_open, given_option, given_stray, given_value, given_word}
 use Rattle.md_args.proofs.Looks.{plain_word}
 use Rattle.md_args.proofs.Rows.{not_true, stands}
 
@@ -103,6 +103,7 @@ abbrev fits : Bool → List Written → Bool
 fits free [] = true
 fits free (apart name value ∷ written) = fits free written
 fits free (joined name value ∷ written) = fits free written
+fits free (raised name ∷ written) = fits free written
 fits true (rom name ∷ written) = fits false written
 fits false (rom name ∷ written) = false
 
@@ -114,44 +115,53 @@ with_cond : (name value : Text) (b : Bool) (arguments : List Argument) → with_
 with_cond name value true arguments = refl
 with_cond name value false arguments = refl
 
-module _ (options : List Text) (readable : AreReadable options) where
-  given_written : (free : Bool) (written : List Written) → AreWritten options written
-      → given (left_of free) options [] between (all_words written) ≡ cond (fits free written) (Some (map argument_of written)) None
+module _ (options flags : List Text) (readable : AreReadable options) (raisable : AreReadable flags) where
+  given_written : (free : Bool) (written : List Written) → AreWritten options flags written
+      → given (left_of free) options flags between (all_words written) ≡ cond (fits free written) (Some (map argument_of written)) None
   given_written true [] are = refl
   given_written false [] are = refl
   given_written free (apart name value ∷ written) are =
       let known = readable_among options name readable are.0.0 in
-      sym (given_open options [] (left_of free) (codes "--" ++ name) (value ∷ all_words written) name known.apart_no_end refl known.apart_word are.0.0)
-      ∙ sym (given_value options [] (left_of free) value (all_words written) name are.0.1)
+      sym (given_open options flags (left_of free) (codes "--" ++ name) (value ∷ all_words written) name known.apart_no_end refl known.apart_word are.0.0)
+      ∙ sym (given_value options flags (left_of free) value (all_words written) name are.0.1)
       ∙ ap (with_value name value) (given_written free written are.1) ∙ with_cond name value (fits free written) (map argument_of written)
   given_written free (joined name value ∷ written) are =
       let known = readable_among options name readable are.0 in
-      sym (given_option options [] (left_of free) (codes "--" ++ name ++ codes "=" ++ value) (all_words written) name value (known.joined_no_end value) refl (known.joined_word value) are.0)
+      sym (given_option options flags (left_of free) (codes "--" ++ name ++ codes "=" ++ value) (all_words written) name value (known.joined_no_end value) refl (known.joined_word value) are.0)
       ∙ ap (with_value name value) (given_written free written are.1) ∙ with_cond name value (fits free written) (map argument_of written)
+  given_written free (raised name ∷ written) are =
+      let known = readable_among flags name raisable are.0.1 in
+      sym (given_flag options flags (left_of free) (codes "--" ++ name) (all_words written) name known.apart_no_end refl known.apart_word are.0.0 are.0.1)
+      ∙ ap (with_value name []) (given_written free written are.1) ∙ with_cond name [] (fits free written) (map argument_of written)
   given_written true (rom name ∷ written) are =
-      sym (given_word options [] [] name (all_words written) (codes "rom") (plain_word name are.0).no_end are.0)
+      sym (given_word options flags [] name (all_words written) (codes "rom") (plain_word name are.0).no_end are.0)
       ∙ ap (with_value (codes "rom") name) (given_written false written are.1) ∙ with_cond (codes "rom") name (fits false written) (map argument_of written)
-  given_written false (rom name ∷ written) are = sym (given_stray options [] [] name (all_words written) (plain_word name are.0).no_end are.0)
+  given_written false (rom name ∷ written) are = sym (given_stray options flags [] name (all_words written) (plain_word name are.0).no_end are.0)
 
 -- a second name of the cartridge stands twice
 fits_no_other : (written : List Written) → fits false written ≡ false → stands (codes "rom") (map argument_of written) ≡ true
 fits_no_other [] many = absurd (true≢false many)
 fits_no_other (apart name value ∷ written) many = or_right _ _ (fits_no_other written many)
 fits_no_other (joined name value ∷ written) many = or_right _ _ (fits_no_other written many)
+fits_no_other (raised name ∷ written) many = or_right _ _ (fits_no_other written many)
 fits_no_other (rom name ∷ written) many = refl
 
 fits_single : (written : List Written) → fits true written ≡ false → are_single (map argument_of written) ≡ false
 fits_single [] many = absurd (true≢false many)
 fits_single (apart name value ∷ written) many = and_right _ _ (fits_single written many)
 fits_single (joined name value ∷ written) many = and_right _ _ (fits_single written many)
+fits_single (raised name ∷ written) many = and_right _ _ (fits_single written many)
 fits_single (rom name ∷ written) many = and_left _ _ (not_from_true _ (fits_no_other written many))
 
 pub run_readable : AreReadable run_options
 run_readable = are_readable run_options refl
 
+pub flags_readable : AreReadable run_flags
+flags_readable = are_readable run_flags refl
+
 -- a run that is written is the run of its arguments
-pub run_written : (written : List Written) → AreWritten run_options written → run_of (all_words written) ≡ run_of_arguments (map argument_of written)
-run_written written are = ap (option_and_then run_of_arguments) (given_written run_options run_readable true written are) ∙ go (fits true written) refl
+pub run_written : (written : List Written) → AreWritten run_options run_flags written → run_of (all_words written) ≡ run_of_arguments (map argument_of written)
+run_written written are = ap (option_and_then run_of_arguments) (given_written run_options run_flags run_readable flags_readable true written are) ∙ go (fits true written) refl
   where
     go : (b : Bool) → fits true written ≡ b → option_and_then run_of_arguments (cond b (Some (map argument_of written)) None) ≡ run_of_arguments (map argument_of written)
     go true is = refl

@@ -18,21 +18,22 @@ pub record Stays (Rel : Option (List Argument) → Option (List Argument) → Ty
   pub none : Rel None None
   pub more : (name value : Text) (first second : Option (List Argument)) → Rel first second → Rel (with_value name value first) (with_value name value second)
 
-module _ (options : List Text) (Rel : Option (List Argument) → Option (List Argument) → Type 0) (stays : Stays Rel) (first second : List Text)
-    (here : (free : Bool) (place : Place) → Rel (given (left_of free) options [] place first) (given (left_of free) options [] place second)) where
+module _ (options flags : List Text) (Rel : Option (List Argument) → Option (List Argument) → Type 0) (stays : Stays Rel) (first second : List Text)
+    (here : (free : Bool) (place : Place) → Rel (given (left_of free) options flags place first) (given (left_of free) options flags place second)) where
   -- it holds of what two lists of words give, as they stand behind these
   abbrev Behind : List Text → Type 0
   Behind before =
-      (free : Bool) (place : Place) → Rel (given (left_of free) options [] place (before ++ first)) (given (left_of free) options [] place (before ++ second))
+      (free : Bool) (place : Place) → Rel (given (left_of free) options flags place (before ++ first)) (given (left_of free) options flags place (before ++ second))
 
   by_test : (b : Bool) (one other one' other' : Option (List Argument)) → Rel one other → Rel one' other' → Rel (cond b one one') (cond b other other')
   by_test true one other one' other' is is' = is
   by_test false one other one' other' is is' = is'
 
   an_option : (look : Option (Text × Option Text)) (one other : Option (List Argument)) (waits waits' : Text → Option (List Argument)) → Rel one other → ((name : Text) → Rel (waits name) (waits' name))
-      → Rel (option_word options [] look one waits) (option_word options [] look other waits')
+      → Rel (option_word options flags look one waits) (option_word options flags look other waits')
   an_option None one other waits waits' is opens = stays.none
-  an_option (Some (name, None)) one other waits waits' is opens = by_test (list_any (has_name name) options) _ _ _ _ (opens name) stays.none
+  an_option (Some (name, None)) one other waits waits' is opens =
+      by_test (list_any (has_name name) options) _ _ _ _ (opens name) (by_test (list_any (has_name name) flags) _ _ _ _ (stays.more name [] one other is) stays.none)
   an_option (Some (name, Some value)) one other waits waits' is opens = by_test (list_any (has_name name) options) _ _ _ _ (stays.more name value one other is) stays.none
 
   pub behind : (before : List Text) → Behind before

@@ -42,19 +42,19 @@ bare name = record (new_app name) { top = record (new_app name).top { no_binary_
 unfoldable pub info_app : App
 info_app = fold with_rule (bare (codes "info")) (required (positional (codes "rom")) ∷ [])
 
--- `run ROM --cycles N`, with `--in P`, `--load S`, `--save S`, `--frames F`, `--sound W`, `--journal J`
--- and `--workers K` if wanted
+-- `run ROM --cycles N`, with `--in P`, `--load S`, `--save S`, `--frames F`, `--sound W`, `--journal J`,
+-- `--workers K` and `--pal` if wanted
 unfoldable pub run_app : App
 run_app =
     fold with_rule (bare (codes "run"))
-    (required (positional (codes "rom")) ∷ required (option (codes "cycles")) ∷ option (codes "in") ∷ option (codes "load") ∷ option (codes "save") ∷ option (codes "frames") ∷ option (codes "sound")
+    (required (positional (codes "rom")) ∷ flag (codes "pal") ∷ required (option (codes "cycles")) ∷ option (codes "in") ∷ option (codes "load") ∷ option (codes "save") ∷ option (codes "frames") ∷ option (codes "sound")
     ∷ option (codes "journal") ∷ option (codes "workers") ∷ [])
 
--- `demo NUMBER --cycles N --workers W`
+-- `demo NUMBER --cycles N --workers W`, with `--pal` if wanted
 unfoldable pub demo_app : App
 demo_app =
     fold with_rule (bare (codes "demo"))
-    (required (positional (codes "number")) ∷ required (option (codes "cycles")) ∷ required (option (codes "workers")) ∷ [])
+    (required (positional (codes "number")) ∷ flag (codes "pal") ∷ required (option (codes "cycles")) ∷ required (option (codes "workers")) ∷ [])
 
 -- `vgm JOURNAL OUT` and `play VGM OUT`, with `--pal` if wanted
 unfoldable pub conversion_app : Text → App

@@ -23,6 +23,7 @@ shown_run run =
       sound = option_copied run.sound;
       journal = option_copied run.journal;
       workers = run.workers;
+      pal = run.pal;
     }
 
 -- the conversion that words were read as
@@ -46,11 +47,12 @@ shown_values values =
       sound = option_copied values.sound;
       journal = option_copied values.journal;
       workers = option_copied values.workers;
+      pal = option_copied values.pal;
     }
 
 -- the run of a demonstration cartridge that words were read as
 abbrev pub shown_demo : DemoWords → Demo
-shown_demo demo = record { number = demo.number; cycles = demo.cycles; workers = demo.workers }
+shown_demo demo = record { number = demo.number; cycles = demo.cycles; workers = demo.workers; pal = demo.pal }
 
 -- the command that words were read as
 abbrev pub shown_command : CommandWords → Command

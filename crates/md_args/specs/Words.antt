@@ -12,7 +12,8 @@ use Rattle.md_args.specs.declared.convert_words.Product.TheVariants.{Vgm, Sound}
 
 -- a run of a cartridge, from power-on or from a saved state: the cartridge's name, the cycle of its end, the name of the
 -- recording and that of the saved state, each if one is given, those of the state to save, of the frames
--- file, of the sound file and of the journal, each if it is asked for, and how many workers make it
+-- file, of the sound file and of the journal, each if it is asked for, how many workers make it, and whether
+-- the machine is one for PAL
 pub record Run : Type 0 where
   pub rom : List ℕ
   pub cycles : ℕ
@@ -23,13 +24,15 @@ pub record Run : Type 0 where
   pub sound : Option (List ℕ)
   pub journal : Option (List ℕ)
   pub workers : ℕ
+  pub pal : Bool
 
 -- a run of a demonstration cartridge from power-on: the cartridge's number, the cycle of the run's end,
--- and how many workers make it
+-- how many workers make it, and whether the machine is one for PAL
 pub record Demo : Type 0 where
   pub number : ℕ
   pub cycles : ℕ
   pub workers : ℕ
+  pub pal : Bool
 
 -- a file that is made of another one: which, the names of the one that is read and of the one that is written, and
 -- whether the master clock is that of PAL
@@ -210,6 +213,7 @@ pub record Values : Type 0 where
   pub sound : Option Text
   pub journal : Option Text
   pub workers : Option Text
+  pub pal : Option Text
 
 -- the same, by the names of the arguments
 abbrev pub values_by : (Text → Option Text) → Values
@@ -224,6 +228,7 @@ values_by value =
       sound = value (codes "sound");
       journal = value (codes "journal");
       workers = value (codes "workers");
+      pal = value (codes "pal");
     }
 
 -- what is given for names of files
@@ -248,6 +253,10 @@ info_by value = info_from (value (codes "rom"))
 abbrev pub info_of : List Text → Option Text
 info_of words = option_and_then (meant_by info_by) (given (codes "rom" ∷ []) [] [] between words)
 
+-- the region is chosen where no saved state is named, which has its own
+abbrev pub is_one_region : Values → Bool
+is_one_region values = not (is_some values.load && is_some values.pal)
+
 -- the run of the cartridge of this name, with this cycle of its end and this number of workers
 abbrev pub run_from : Values → Option Text → Option ℕ → Option ℕ → Option Run
 run_from values (Some rom) (Some end) (Some workers) =
@@ -262,14 +271,15 @@ run_from values (Some rom) (Some end) (Some workers) =
       sound = values.sound;
       journal = values.journal;
       workers = workers;
+      pal = is_some values.pal;
     })
 run_from values rom end workers = None
 
 -- `run` has the name of a cartridge and `--cycles N`, with `--in P`, `--load S`, `--save S`, `--frames F`,
--- `--sound W`, `--journal J` and `--workers K` if wanted
+-- `--sound W`, `--journal J`, `--workers K` and `--pal` if wanted
 abbrev pub run_given : Values → Option Run
 run_given values =
-    if are_names (names_of values) then run_from values values.rom (option_and_then number_of values.cycles) (workers_of values.workers) else None
+    if are_names (names_of values) && is_one_region values then run_from values values.rom (option_and_then number_of values.cycles) (workers_of values.workers) else None
 
 -- the run, by the names of the arguments
 abbrev pub run_by : (Text → Option Text) → Option Run
@@ -279,13 +289,17 @@ run_by value = run_given (values_by value)
 abbrev pub run_options : List Text
 run_options = codes "cycles" ∷ codes "in" ∷ codes "load" ∷ codes "save" ∷ codes "frames" ∷ codes "sound" ∷ codes "journal" ∷ codes "workers" ∷ []
 
+-- those of its flags
+abbrev pub run_flags : List Text
+run_flags = codes "pal" ∷ []
+
 -- the run of these arguments
 abbrev pub run_of_arguments : List Argument → Option Run
 run_of_arguments = meant_by run_by
 
 -- the run that the words behind `run` give
 abbrev pub run_of : List Text → Option Run
-run_of words = option_and_then run_of_arguments (given (codes "rom" ∷ []) run_options [] between words)
+run_of words = option_and_then run_of_arguments (given (codes "rom" ∷ []) run_options run_flags between words)
 
 -- the conversion of these names, which are two
 abbrev pub conversion_given : Product → Option Text → Option Text → Bool → Option Conversion
@@ -325,23 +339,23 @@ wanted_number word = option_and_then number_of word
 abbrev pub wanted_workers : Option Text → Option ℕ
 wanted_workers word = option_and_then some_workers (wanted_number word)
 
--- the run of the demonstration cartridge of this number, with this cycle of its end and this number of
--- workers
-abbrev pub demo_from : Option ℕ → Option ℕ → Option ℕ → Option Demo
-demo_from (Some number) (Some end) (Some workers) = Some (record { number = number; cycles = end; workers = workers })
-demo_from number end workers = None
+-- the run of the demonstration cartridge of this number, with this cycle of its end, this number of
+-- workers and this region
+abbrev pub demo_from : Option ℕ → Option ℕ → Option ℕ → Bool → Option Demo
+demo_from (Some number) (Some end) (Some workers) pal = Some (record { number = number; cycles = end; workers = workers; pal = pal })
+demo_from number end workers pal = None
 
--- `demo` has a number, `--cycles N` and `--workers W`
-abbrev pub demo_given : Option Text → Option Text → Option Text → Option Demo
-demo_given number cycles workers = demo_from (wanted_number number) (wanted_number cycles) (wanted_workers workers)
+-- `demo` has a number, `--cycles N` and `--workers W`, with `--pal` if wanted
+abbrev pub demo_given : Option Text → Option Text → Option Text → Bool → Option Demo
+demo_given number cycles workers pal = demo_from (wanted_number number) (wanted_number cycles) (wanted_workers workers) pal
 
 -- the run, by the names of the arguments
 abbrev pub demo_by : (Text → Option Text) → Option Demo
-demo_by value = demo_given (value (codes "number")) (value (codes "cycles")) (value (codes "workers"))
+demo_by value = demo_given (value (codes "number")) (value (codes "cycles")) (value (codes "workers")) (is_some (value (codes "pal")))
 
 -- the run that the words behind `demo` give
 abbrev pub demo_of : List Text → Option Demo
-demo_of words = option_and_then (meant_by demo_by) (given (codes "number" ∷ []) (codes "cycles" ∷ codes "workers" ∷ []) [] between words)
+demo_of words = option_and_then (meant_by demo_by) (given (codes "number" ∷ []) (codes "cycles" ∷ codes "workers" ∷ []) (codes "pal" ∷ []) between words)
 
 -- the first word chooses the command
 unfoldable pub command_of : List Text → Option Command

@@ -13,13 +13,15 @@ pub(crate) fn info_command<'a>(alloc: Global) -> Result<Command<'a>, AllocError>
     with_wanted_word(bare(alloc, "info"), alloc, "rom")
 }
 
-/// The command `run ROM --cycles N --in P --load S --save S --frames F --sound W --journal J --workers K`,
+/// The command
+/// `run ROM --cycles N --in P --load S --save S --frames F --sound W --journal J --workers K --pal`,
 /// behind its word.
 pub(crate) fn run_command<'a>(alloc: Global) -> Result<Command<'a>, AllocError>
     ensures { IfOk result (λ command. app_of command ≡ meaning.run_app) }
 {
     let rom = with_wanted_word(bare(alloc, "run"), alloc, "rom")?;
-    let cycles = with_wanted_option(rom, alloc, "cycles")?;
+    let pal = with_flag(rom, alloc, "pal")?;
+    let cycles = with_wanted_option(pal, alloc, "cycles")?;
     let recording = with_option(cycles, alloc, "in")?;
     let load = with_option(recording, alloc, "load")?;
     let save = with_option(load, alloc, "save")?;
@@ -30,12 +32,13 @@ pub(crate) fn run_command<'a>(alloc: Global) -> Result<Command<'a>, AllocError>
     Ok(workers)
 }
 
-/// The command `demo NUMBER --cycles N --workers W`, behind its word.
+/// The command `demo NUMBER --cycles N --workers W --pal`, behind its word.
 pub(crate) fn demo_command<'a>(alloc: Global) -> Result<Command<'a>, AllocError>
     ensures { IfOk result (λ command. app_of command ≡ meaning.demo_app) }
 {
     let number = with_wanted_word(bare(alloc, "demo"), alloc, "number")?;
-    let cycles = with_wanted_option(number, alloc, "cycles")?;
+    let pal = with_flag(number, alloc, "pal")?;
+    let cycles = with_wanted_option(pal, alloc, "cycles")?;
     let workers = with_wanted_option(cycles, alloc, "workers")?;
     Ok(workers)
 }

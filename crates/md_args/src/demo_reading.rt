@@ -1,5 +1,8 @@
 ghost use Rattle.std.specs.Prelude.{◌≡◌, ◌≤◌, IfOk, IfSome, map, string_bytes};
 ghost use Rattle.std.specs.Option.{option_copied, option_map};
+ghost use Rattle.clap.specs.Matches.{found_of};
+ghost use Rattle.clap.specs.Walk.{rows_of};
+ghost use Rattle.md_args.specs.Parse.{found_by};
 ghost use Rattle.md_args.specs.Shown.{shown_demo};
 ghost use Rattle.md_args.specs.Words as meaning;
 
@@ -8,6 +11,7 @@ use crate::demo_words::DemoWords;
 use crate::numbers::read_workers;
 use crate::parse::parse;
 use crate::reading::{count, value};
+use clap::ArgMatches;
 use std::alloc::{AllocError, Global};
 
 /// Reads the words of `demo` behind its command.
@@ -16,13 +20,21 @@ pub(crate) fn read_demo(alloc: Global, words: &[String]) -> Result<Option<DemoWo
 {
     let command = demo_command(alloc)?;
     match parse(command, words)? {
-        Some(matches) => Ok(demo_given(
-            value(&matches, "number"),
-            value(&matches, "cycles"),
-            value(&matches, "workers"),
-        )),
+        Some(matches) => Ok(demo_chosen(&matches)),
         None => Ok(None),
     }
+}
+
+/// The run that the matches have.
+fn demo_chosen(matches: &ArgMatches<'_>) -> Option<DemoWords>
+    ensures { option_map shown_demo result ≡ meaning.demo_by (found_by (rows_of (found_of matches.now))) }
+{
+    demo_given(
+        value(matches, "number"),
+        value(matches, "cycles"),
+        value(matches, "workers"),
+        value(matches, "pal").is_some(),
+    )
 }
 
 /// The run of these values, if all are there and can be read.
@@ -30,14 +42,16 @@ fn demo_given(
     number: Option<&str>,
     cycles: Option<&str>,
     workers: Option<&str>,
+    pal: bool,
 ) -> Option<DemoWords>
-    ensures { option_map shown_demo result ≡ meaning.demo_given (option_copied number.entry) (option_copied cycles.entry) (option_copied workers.entry) }
+    ensures { option_map shown_demo result ≡ meaning.demo_given (option_copied number.entry) (option_copied cycles.entry) (option_copied workers.entry) pal }
 {
     match (count(number), count(cycles), wanted_workers(workers)) {
         (Some(number), Some(cycles), Some(workers)) => Some(DemoWords {
             number,
             cycles,
             workers,
+            pal,
         }),
         _ => None,
     }

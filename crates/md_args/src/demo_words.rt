@@ -9,6 +9,8 @@ pub struct DemoWords {
     pub cycles: u64,
     /// How many workers make it.
     pub workers: u32,
+    /// Whether the machine is one for PAL.
+    pub pal: bool,
     ghost some_workers: { 1 ≤ workers },
     ghost few_workers: { workers ≤ 5 },
 }

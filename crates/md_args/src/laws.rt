@@ -4,17 +4,17 @@ ghost use Rattle.std.specs.List.{list_any};
 ghost use Rattle.clap.specs.Walk.{Text};
 ghost use Rattle.md_args.specs.Given.{has_name, is_marked};
 ghost use Rattle.md_args.specs.Spelled.{AreWritten, Written, all_words, apart, argument_of, joined, words_of};
-ghost use Rattle.md_args.specs.Words.{but_workers, run_of, run_of_arguments, run_options, workers_of};
+ghost use Rattle.md_args.specs.Words.{but_workers, run_of, run_flags, run_of_arguments, run_options, workers_of};
 
 /// What is read of the arguments of a run that are written as words is these arguments.
 pub fn written_arguments_are_read()
-    ensures { (written : List Written) → AreWritten run_options written
+    ensures { (written : List Written) → AreWritten run_options run_flags written
         → run_of (all_words written) ≡ run_of_arguments (map argument_of written) }
 {}
 
 /// The order of a run's arguments does not matter, nor how each is written.
 pub fn order_is_free()
-    ensures { (first second : List Written) → AreWritten run_options first → AreWritten run_options second
+    ensures { (first second : List Written) → AreWritten run_options run_flags first → AreWritten run_options run_flags second
         → IsPermutation (map argument_of first) (map argument_of second)
         → run_of (all_words first) ≡ run_of (all_words second) }
 {}

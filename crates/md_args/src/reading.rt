@@ -24,11 +24,11 @@ use std::alloc::{AllocError, Global};
 /// that there is.
 ///
 /// They are `info ROM`, `run ROM --cycles N` with `--in P`, `--load S`, `--save S`, `--frames F`,
-/// `--sound W`, `--journal J` and `--workers K` where they are wanted, or
-/// `demo NUMBER --cycles N --workers W`. Options stand in any order among the other words, each at most
-/// once, as two words or as `--name=value`; `--` ends the options. Names are not empty, do not begin
-/// with a hyphen, and are pairwise different. Numbers are 1 to 20 decimal digits with a value below
-/// 2^64; K and W are 1 to 5.
+/// `--sound W`, `--journal J`, `--workers K` and, where no `--load` is, `--pal` where they are wanted, or
+/// `demo NUMBER --cycles N --workers W`, with `--pal` where it is wanted. Options stand in any order among
+/// the other words, each at most once, as two words or as `--name=value`; `--` ends the options. Names are
+/// not empty, do not begin with a hyphen, and are pairwise different. Numbers are 1 to 20 decimal digits
+/// with a value below 2^64; K and W are 1 to 5.
 #[tactic(auto, unfolding(crate::specs::Words::command_of))]
 pub fn read_words<'a>(
     alloc: Global,
@@ -137,6 +137,7 @@ fn values_of<'a>(matches: &ArgMatches<'a>) -> RunValues<'a>
         sound: value(matches, "sound"),
         journal: value(matches, "journal"),
         workers: value(matches, "workers"),
+        pal: value(matches, "pal"),
     }
 }
 
@@ -154,6 +155,9 @@ fn run_given<'a>(values: &RunValues<'a>) -> Option<RunWords<'a>>
     if !have_names(values) {
         return None;
     }
+    if !is_one_region(values) {
+        return None;
+    }
     match (
         values.rom,
         count(values.cycles),
@@ -169,9 +173,17 @@ fn run_given<'a>(values: &RunValues<'a>) -> Option<RunWords<'a>>
             sound: values.sound,
             journal: values.journal,
             workers,
+            pal: values.pal.is_some(),
         }),
         _ => None,
     }
+}
+
+/// Whether the region is chosen where no saved state is named, which has its own.
+fn is_one_region(values: &RunValues<'_>) -> bool
+    ensures { result ≡ meaning.is_one_region (shown_values values.now) }
+{
+    values.load.is_none() || values.pal.is_none()
 }
 
 /// A number that has to be there.

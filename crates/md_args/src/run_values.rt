@@ -10,4 +10,5 @@ pub(crate) struct RunValues<'a> {
     pub(crate) sound: Option<&'a str>,
     pub(crate) journal: Option<&'a str>,
     pub(crate) workers: Option<&'a str>,
+    pub(crate) pal: Option<&'a str>,
 }

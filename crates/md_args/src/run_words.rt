@@ -23,6 +23,8 @@ pub struct RunWords<'a> {
     pub journal: Option<&'a str>,
     /// How many workers make the run, 1 to 5.
     pub workers: u32,
+    /// Whether the machine is one for PAL, where it is not that of a saved state.
+    pub pal: bool,
     ghost save_and_frames_differ: { differ (option_copied save) (option_copied frames) ≡ true },
     ghost save_and_sound_differ: { differ (option_copied save) (option_copied sound) ≡ true },
     ghost save_and_journal_differ: { differ (option_copied save) (option_copied journal) ≡ true },

@@ -6,7 +6,7 @@ use Rattle.md_word.specs.Clock.{last_cycle}
 use Rattle.md_machine.specs.Machines.{MachineValue}
 use Rattle.page_ring.specs.Kept.{IsPushed}
 use Rattle.debug_kept.specs.Kept.{KeptValue, all_pages, padded, per_state, state_size}
-use Rattle.md_debug.specs.Debuggees.{IsDebuggee}
+use Rattle.md_debug.specs.Debuggees.{IsDebuggee, most_output}
 use Rattle.md_debug.specs.declared.debuggee.Debuggee.{Debuggee}
 use Rattle.md_debug.specs.Going.{RunsTo, Steps, drained, start_of}
 use Rattle.md_debug.specs.Keeping.{IsSession, KeepsMachines}
@@ -84,7 +84,7 @@ module _ (size : ℕ) (is_own : MachineValue → Type 0) (keeps : List ℕ → M
           start = session.machines.start new.machine own;
           entries = session.machines.entries new.machine own;
           media = session.machines.media new.machine own;
-          room = subst (λ (v : _). 840000 ≤ vec_capacity v) (sym output) ready.room;
+          room = subst (λ (v : _). most_output ≤ vec_capacity v) (sym output) ready.room;
           most = ap (λ (b : Buffer ℕ). b.capacity) begun ∙ ready.most;
           few = omega (arith, ready.few, ap (λ (b : Buffer ℕ). length b.items) begun);
         };

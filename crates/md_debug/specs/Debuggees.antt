@@ -5,13 +5,17 @@ use Rattle.md_machine.specs.Starts.{IsStart}
 use Rattle.md_debug.specs.Going.{Goes, latest, most_begun, start_of}
 use Rattle.md_debug.specs.declared.debuggee.Debuggee.{Debuggee}
 
+-- the bytes of a frame's entries on PAL, which are more than those of its picture or its samples
+abbrev pub most_output : ℕ
+most_output = 1001600
+
 -- the machine stands where a run may begin and holds no output, and there is room for the output of a
 -- frame and for the instructions that are remembered
 pub record IsDebuggee (d : Debuggee) : Type 0 where
   pub start : IsStart (start_of d.machine)
   pub entries : d.machine.entries ≡ []
   pub media : d.machine.media ≡ no_media
-  pub room : 840000 ≤ vec_capacity d.output
+  pub room : most_output ≤ vec_capacity d.output
   pub most : d.begun.capacity ≡ most_begun
   pub few : length d.begun.items ≤ most_begun
 

@@ -3,8 +3,9 @@ ghost use Rattle.md_word.specs.Clock.{frame, last_cycle};
 ghost use Rattle.md_word.specs.declared.event.Entry.{Entry};
 ghost use Rattle.md_machine.specs.Console.{IsRunTo, begins_in};
 ghost use Rattle.md_machine.specs.Media.{Media, no_media};
+ghost use Rattle.md_machine.specs.Regions.{most_entries, most_pairs};
 ghost use Rattle.md_machine.specs.Starts.{IsStart};
-ghost use Rattle.md_debug.specs.Debuggees.{IsDebuggee, WentOn};
+ghost use Rattle.md_debug.specs.Debuggees.{IsDebuggee, WentOn, most_output};
 ghost use Rattle.md_debug.specs.Going.{Goes, RunsTo, Steps, StepsOnce, drained, latest, least_of, start_of};
 
 use crate::laws;
@@ -17,8 +18,8 @@ use std::alloc::Global;
 /// How many instructions are remembered.
 const MOST_BEGUN: usize = 256;
 
-/// The most bytes of output: those of a frame's entries, which are more than its picture or its samples.
-const MOST_OUTPUT: usize = 840_000;
+/// The most bytes of output, on PAL: those of a frame's entries, which are more than its picture or its samples.
+const MOST_OUTPUT: usize = 1_001_600;
 
 /// A machine that goes on step by step, whose output nobody keeps.
 #[derive(Drop)]
@@ -50,13 +51,13 @@ impl Debuggee {
 
     /// Lets the machine's output go.
     fn forget_output(&mut self)
-        requires room { 840000 ≤ vec_capacity self.old.output }
-        requires entries { length self.old.machine.entries ≤ 52500 }
+        requires room { most_output ≤ vec_capacity self.old.output }
+        requires entries { length self.old.machine.entries ≤ most_entries self.old.machine.console.pal }
         requires frames { length self.old.machine.media.frames ≤ 1 }
-        requires samples { length self.old.machine.media.levels ≤ 896 }
+        requires samples { length self.old.machine.media.levels ≤ most_pairs self.old.machine.console.pal }
         ensures machine { self.new.machine ≡ drained (start_of self.old.machine) }
         ensures begun { self.new.begun ≡ self.old.begun }
-        ensures room { 840000 ≤ vec_capacity self.new.output }
+        ensures room { most_output ≤ vec_capacity self.new.output }
     {
         self.output.clear();
         self.machine.drain_entries(&mut self.output);
@@ -66,7 +67,7 @@ impl Debuggee {
         self.machine.drain_pairs(&mut self.output);
     }
 
-    /// Brings the machine to a cycle that is at most a frame on.
+    /// Brings the machine to a cycle that is at most a frame of NTSC on, which is shorter than one of PAL.
     fn reach(&mut self, to: u64)
         requires ready { IsDebuggee self.old }
         requires later { self.old.machine.at < to }

@@ -12,6 +12,7 @@ use Rattle.md_machine.specs.Assembled.{Assembly, assembled, bounds_of, chips_of}
 use Rattle.md_machine.specs.Machines.{IsMachine, MachineValue, core_in, machine_at}
 use Rattle.md_machine.specs.Media.{no_media}
 use Rattle.md_machine.specs.Refinement.{console}
+use Rattle.md_machine.specs.Regions.{most_entries}
 use Rattle.md_machine.specs.Rules.{IsChip, five}
 use Rattle.md_machine.specs.Starts.{first_batch}
 use Rattle.md_machine.specs.declared.chips.Chip.{Chip}
@@ -32,11 +33,11 @@ pub record AreLater (parts : Assembly) : Type 0 where
 abbrev core_of : Assembly → Board → List Chip → ℕ → MachineValue
 core_of parts board chips room = machine_at parts.at (core_in board chips (bounds_of chips) [] room)
 
-machine-by : (parts : Assembly) (board : Board) (room : ℕ) → IsBoard board → AreLater parts → 52500 ≤ room
+machine-by : (parts : Assembly) (board : Board) (room : ℕ) → IsBoard board → AreLater parts → parts.draw.pal ≡ board.vdp.pal → most_entries parts.draw.pal ≤ room
     → ((i : ℕ) → i < 5 → IsChip (chip_in five (chips_of parts) i))
     → IsMachine parts.at (Some (core_in board (chips_of parts) (bounds_of (chips_of parts)) [] room))
-unfolding next_of sub_next_of
-machine-by parts board room fits later ample valid =
+unfolding next_of sub_next_of console
+machine-by parts board room fits later one ample valid =
     let chips = chips_of parts in
     let key : ℕ → Key = key_in five chips in
     record {
@@ -53,18 +54,19 @@ machine-by parts board room fits later ample valid =
         shared = fits;
         chip = valid;
       };
+      region = one;
       room = ample;
       quiet = five-each (λ i. parts.at ≤ (key i).cycle) later.main later.sub later.line (not-below parts.at) (not-below parts.at);
     }
 
 pub assembled-machine : (parts : Assembly) (board : Board) (chips : List Chip) (bounds : List Key) (entries : List Entry) (room : ℕ) → IsBoard board → AreLater parts
-    → chips ≡ chips_of parts → bounds ≡ bounds_of chips → entries ≡ [] → 52500 ≤ room → ((i : ℕ) → i < 5 → IsChip (chip_in five chips i))
+    → parts.draw.pal ≡ board.vdp.pal → chips ≡ chips_of parts → bounds ≡ bounds_of chips → entries ≡ [] → most_entries parts.draw.pal ≤ room → ((i : ℕ) → i < 5 → IsChip (chip_in five chips i))
     → IsMachine parts.at (Some (core_in board chips bounds entries room))
-assembled-machine parts board chips bounds entries room fits later c b e ample valid =
+assembled-machine parts board chips bounds entries room fits later one c b e ample valid =
     subst (λ z. IsMachine parts.at (Some (core_in board chips z entries room))) (sym b)
     (subst (λ z. IsMachine parts.at (Some (core_in board chips (bounds_of chips) z room))) (sym e)
     (subst (λ z. ((i : ℕ) → i < 5 → IsChip (chip_in five z i)) → IsMachine parts.at (Some (core_in board z (bounds_of z) [] room))) (sym c)
-    (machine-by parts board room fits later ample) valid))
+    (machine-by parts board room fits later one ample) valid))
 
 value-by : (parts : Assembly) (board : Board) (bounds : List Key) (room : ℕ)
     → machine_at parts.at (core_in board (chips_of parts) bounds [] room) ≡ record { at = parts.at; console = assembled parts board; entries = []; media = no_media }

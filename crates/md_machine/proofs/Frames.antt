@@ -8,7 +8,9 @@ use Rattle.vdp_time.specs.Lines.{line_of}
 use Rattle.vdp_planes.specs.View.{view_of}
 use Rattle.vdp_planes.specs.declared.view.LineView.{LineView}
 use Rattle.vdp_chip.specs.Drawing.{Drawing, line_drawn, picture_after}
-use Rattle.vdp_chip.specs.Picture.{finished, height}
+use Rattle.md_word.specs.Region.{frame_cycles, rows}
+use Rattle.md_word.proofs.Regions.{only_one}
+use Rattle.vdp_chip.specs.Picture.{finished, frame_of}
 use Rattle.bus_shared.specs.Accesses.{line_board}
 use Rattle.bus_shared.specs.Board.{Board, IsBoard}
 use Rattle.md_machine.specs.Console.{Console, media, mover, ran, rendered}
@@ -29,25 +31,25 @@ abbrev drawing : Machine Chip Board → Drawing
 drawing m = (draw_of (m.chip 2)).chip
 
 -- a frame was finished at a line behind a cycle, and before the next line
-record Finished (from next : ℕ) : Type 0 where
+record Finished (pal : Bool) (from next : ℕ) : Type 0 where
   at : ℕ
   behind : from ≤ at
   before : at < next
-  line : line_of at ≡ height
+  line : line_of at pal ≡ rows pal
   whole : at % 3420 ≡ 0
 
 -- no frame is kept but one that was finished behind a cycle
-abbrev Once : ℕ → ℕ → Option (List ℕ) → Type 0
-Once from next frame = (frames_of frame ≡ []) ⊎ Finished from next
+abbrev Once : Bool → ℕ → ℕ → Option (List ℕ) → Type 0
+Once pal from next frame = (frames_of frame ≡ []) ⊎ Finished pal from next
 
 -- within a frame's cycles none follows
-only-one : (from next : ℕ) → Finished from next → line_of next ≡ height → next % 3420 ≡ 0 → next < from + 896040 → ⊥
+none-follows : (pal : Bool) (from next : ℕ) → Finished pal from next → line_of next pal ≡ rows pal → next % 3420 ≡ 0 → next < from + frame_cycles pal → ⊥
 unfolding line_of
-only-one from next f line whole near = omega (arith, f.behind, f.before, f.line, f.whole, line, whole, near)
+none-follows pal from next f line whole near = only_one pal from f.at next f.behind f.before f.line f.whole line whole near
 
-none-before : (from next : ℕ) (frame : Option (List ℕ)) → Once from next frame → line_of next ≡ height → next % 3420 ≡ 0 → next < from + 896040 → frames_of frame ≡ []
-none-before from next frame (inl none) line whole near = none
-none-before from next frame (inr f) line whole near = absurd (only-one from next f line whole near)
+none-before : (pal : Bool) (from next : ℕ) (frame : Option (List ℕ)) → Once pal from next frame → line_of next pal ≡ rows pal → next % 3420 ≡ 0 → next < from + frame_cycles pal → frames_of frame ≡ []
+none-before pal from next frame (inl none) line whole near = none
+none-before pal from next frame (inr f) line whole near = absurd (none-follows pal from next f line whole near)
 
 -- the frame behind a line, by whether that is the first behind the picture
 framed_by : (b : Bool) (old : Option (List ℕ)) (picture : List ℕ) (frames : List (List ℕ)) → frames_of old ≡ frames → (b ≡ true → frames_of old ≡ [])
@@ -55,48 +57,53 @@ framed_by : (b : Bool) (old : Option (List ℕ)) (picture : List ℕ) (frames : 
 framed_by true old picture frames same none = ap (λ (l : List (List ℕ)). l ++ (picture ∷ [])) (sym (none refl) ∙ same)
 framed_by false old picture frames same none = same ∙ sym (append-nil frames)
 
-once_by : (b : Bool) (old : Option (List ℕ)) (picture : List ℕ) (from next : ℕ) → (b ≡ true → line_of next ≡ height) → next % 3420 ≡ 0 → from ≤ next → Once from next old
-    → Once from (next + 3420) (cond b (Some picture) old)
-once_by true old picture from next line whole behind once =
+once_by : (b pal : Bool) (old : Option (List ℕ)) (picture : List ℕ) (from next : ℕ) → (b ≡ true → line_of next pal ≡ rows pal) → next % 3420 ≡ 0 → from ≤ next → Once pal from next old
+    → Once pal from (next + 3420) (cond b (Some picture) old)
+once_by true pal old picture from next line whole behind once =
     inr (record { at = next; behind = behind; before = omega arith; line = line refl; whole = whole })
-once_by false old picture from next line whole behind (inl none) = inl none
-once_by false old picture from next line whole behind (inr f) =
+once_by false pal old picture from next line whole behind (inl none) = inl none
+once_by false pal old picture from next line whole behind (inr f) =
     inr (record { at = f.at; behind = f.behind; before = omega (arith, f.before); line = f.line; whole = f.whole })
 
-is_line : (n : ℕ) → (n == height) ≡ true → n ≡ height
-is_line n e = grind (arith, nat_tests)
+is_line : (n height : ℕ) → (n == height) ≡ true → n ≡ height
+is_line n height e = grind (arith, nat_tests)
 
 -- the first stages of a run, seen from a cycle on
-record Framed (m : Machine Chip Board) (frames : List (List ℕ)) (from : ℕ) : Type 0 where
+record Framed (pal : Bool) (m : Machine Chip Board) (frames : List (List ℕ)) (from : ℕ) : Type 0 where
+  region : (drawing m).pal ≡ pal
   same : frames_of (drawing m).frame ≡ frames
   behind : from ≤ (drawing m).next
-  once : Once from (drawing m).next (drawing m).frame
+  once : Once pal from (drawing m).next (drawing m).frame
 
 -- the event of a line: the picture that it leaves, the frame, and the next line
 abbrev view_on : DrawValue → Board → LineView
-view_on v s = view_of (line_board s v.chip.next v.chip.note).vdp
+view_on v s = view_of v.chip.pal (line_board s v.chip.next v.chip.note).vdp
 
 abbrev picture_on : DrawValue → Board → List ℕ
-picture_on v s = (drawn_from (view_on v s) v.chip).picture
+picture_on v s = frame_of v.chip.pal (drawn_from (view_on v s) v.chip).picture
 
 frame-after : (v : DrawValue) (s : Board)
-    → (draw_advance (draw_perform v s).chip).chip.frame ≡ cond (line_of v.chip.next == height) (Some (picture_on v s)) v.chip.frame
+    → (draw_advance (draw_perform v s).chip).chip.frame ≡ cond (line_of v.chip.next v.chip.pal == rows v.chip.pal) (Some (picture_on v s)) v.chip.frame
 unfolding drawn_from line_drawn picture_after finished
-frame-after v s = ap (λ (d : Drawing). d.frame) (told-drawn (view_on v s) (record v.chip { has_view = false }))
+frame-after v s = ap (λ (d : Drawing). d.frame) (told-drawn (view_on v s) (record v.chip { has_view = false }) refl)
 
 next-after : (v : DrawValue) (s : Board) → (draw_advance (draw_perform v s).chip).chip.next ≡ v.chip.next + 3420
 unfolding drawn_from line_drawn
 next-after v s = refl
 
 abbrev unframed : Drawing → Drawing
-unframed d = record { next = d.next; note = d.note; has_view = true; picture = d.picture; frame = None }
+unframed d = record { next = d.next; note = d.note; has_view = true; picture = d.picture; frame = None; pal = d.pal }
 
-frames-made : (v : DrawValue) (s : Board) → frames_of (drawn_from (view_on v s) (unframed v.chip)).frame ≡ frames_of (cond (line_of v.chip.next == height) (Some (picture_on v s)) None)
+region-after : (v : DrawValue) (s : Board) → (draw_advance (draw_perform v s).chip).chip.pal ≡ v.chip.pal
+unfolding drawn_from line_drawn
+region-after v s = refl
+
+frames-made : (v : DrawValue) (s : Board) → frames_of (drawn_from (view_on v s) (unframed v.chip)).frame ≡ frames_of (cond (line_of v.chip.next v.chip.pal == rows v.chip.pal) (Some (picture_on v s)) None)
 unfolding drawn_from line_drawn picture_after finished
 frames-made v s = refl
 
 line-made : (m : Machine Chip Board) (v : DrawValue) → m.chip 2 ≡ Draw v
-    → (rendered (console m) 2).frames ≡ frames_of (cond (line_of v.chip.next == height) (Some (picture_on v m.shared)) None)
+    → (rendered (console m) 2).frames ≡ frames_of (cond (line_of v.chip.next v.chip.pal == rows v.chip.pal) (Some (picture_on v m.shared)) None)
 unfolding rendered console
 line-made m v is =
     ap (λ (c : Chip). frames_of (drawn_from (view_on (draw_of c) m.shared) (unframed (draw_of c).chip)).frame) is ∙ frames-made v m.shared
@@ -107,83 +114,90 @@ line-left m v is =
     ap drawing (move-access m 2 (ap (λ (c : Chip). (next c).sample) is)) ∙ ap (λ (c : Chip). (draw_of (advance (perform c m.shared).chip)).chip) is
 
 -- a line's event with the frame of the first lines kept
-line-framed : (m : Machine Chip Board) (v : DrawValue) (frames : List (List ℕ)) (from : ℕ) → m.chip 2 ≡ Draw v → IsDraw v → v.chip.next < from + 896040
-    → Framed m frames from → Framed (move five m 2) (frames ++ (rendered (console m) 2).frames) from
-line-framed m v frames from is ok near before =
+line-framed : (pal : Bool) (m : Machine Chip Board) (v : DrawValue) (frames : List (List ℕ)) (from : ℕ) → m.chip 2 ≡ Draw v → IsDraw v → v.chip.next < from + frame_cycles pal
+    → Framed pal m frames from → Framed pal (move five m 2) (frames ++ (rendered (console m) 2).frames) from
+line-framed pal m v frames from is ok near before =
     let here : drawing m ≡ v.chip = ap (λ (c : Chip). (draw_of c).chip) is in
     let left : drawing (move five m 2) ≡ (draw_advance (draw_perform v m.shared).chip).chip = line-left m v is in
-    let frame : (drawing (move five m 2)).frame ≡ cond (line_of v.chip.next == height) (Some (picture_on v m.shared)) v.chip.frame =
+    let frame : (drawing (move five m 2)).frame ≡ cond (line_of v.chip.next v.chip.pal == rows v.chip.pal) (Some (picture_on v m.shared)) v.chip.frame =
     ap (λ (d : Drawing). d.frame) left ∙ frame-after v m.shared in
+    let region : (draw_advance (draw_perform v m.shared).chip).chip.pal ≡ v.chip.pal = region-after v m.shared in
+    let its : v.chip.pal ≡ pal = subst (λ (d : Drawing). d.pal ≡ pal) here before.region in
     let later : (drawing (move five m 2)).next ≡ v.chip.next + 3420 = ap (λ (d : Drawing). d.next) left ∙ next-after v m.shared in
     let behind : from ≤ v.chip.next = subst (λ (d : Drawing). from ≤ d.next) here before.behind in
-    let once : Once from v.chip.next v.chip.frame = subst (λ (d : Drawing). Once from d.next d.frame) here before.once in
+    let once : Once pal from v.chip.next v.chip.frame = subst (λ (d : Drawing). Once pal from d.next d.frame) here before.once in
+    let on_line : (line_of v.chip.next v.chip.pal == rows v.chip.pal) ≡ true → line_of v.chip.next pal ≡ rows pal =
+    subst (λ (p : Bool). (line_of v.chip.next v.chip.pal == rows v.chip.pal) ≡ true → line_of v.chip.next p ≡ rows p) its (is_line (line_of v.chip.next v.chip.pal) (rows v.chip.pal)) in
     let kept : frames_of v.chip.frame ≡ frames = ap (λ (d : Drawing). frames_of d.frame) (sym here) ∙ before.same in
     record {
+      region = ap (λ (d : Drawing). d.pal) left ∙ region ∙ its;
       same =
           ap frames_of frame
-          ∙ framed_by (line_of v.chip.next == height) v.chip.frame (picture_on v m.shared) frames kept
-          (λ e. none-before from v.chip.next v.chip.frame once (is_line (line_of v.chip.next) e) ok.chip.at_line near)
+          ∙ framed_by (line_of v.chip.next v.chip.pal == rows v.chip.pal) v.chip.frame (picture_on v m.shared) frames kept
+          (λ e. none-before pal from v.chip.next v.chip.frame once (on_line e) ok.chip.at_line near)
           ∙ ap (λ (l : List (List ℕ)). frames ++ l) (sym (line-made m v is));
       behind = omega (arith, later, behind);
-      once = subst (λ (n : ℕ). Once from n (drawing (move five m 2)).frame) (sym later)
-          (subst (λ (f : Option (List ℕ)). Once from (v.chip.next + 3420) f) (sym frame)
-          (once_by (line_of v.chip.next == height) v.chip.frame (picture_on v m.shared) from v.chip.next (is_line (line_of v.chip.next)) ok.chip.at_line behind once));
+      once = subst (λ (n : ℕ). Once pal from n (drawing (move five m 2)).frame) (sym later)
+          (subst (λ (f : Option (List ℕ)). Once pal from (v.chip.next + 3420) f) (sym frame)
+          (once_by (line_of v.chip.next v.chip.pal == rows v.chip.pal) pal v.chip.frame (picture_on v m.shared) from v.chip.next on_line ok.chip.at_line behind once));
     }
 
 -- the event of another chip
-other-framed : (m : Machine Chip Board) (i : ℕ) (frames : List (List ℕ)) (from : ℕ) → (2 == i) ≡ false → (rendered (console m) i).frames ≡ []
-    → Framed m frames from → Framed (move five m i) (frames ++ (rendered (console m) i).frames) from
-other-framed m i frames from away none before =
+other-framed : (pal : Bool) (m : Machine Chip Board) (i : ℕ) (frames : List (List ℕ)) (from : ℕ) → (2 == i) ≡ false → (rendered (console m) i).frames ≡ []
+    → Framed pal m frames from → Framed pal (move five m i) (frames ++ (rendered (console m) i).frames) from
+other-framed pal m i frames from away none before =
     let left : drawing (move five m i) ≡ drawing m = ap (λ (c : Chip). (draw_of c).chip) (other_by (is_sample five m i) m i 2 refl away) in
     record {
+      region = ap (λ (d : Drawing). d.pal) left ∙ before.region;
       same = ap (λ (d : Drawing). frames_of d.frame) left ∙ before.same ∙ sym (append-nil frames) ∙ ap (λ (l : List (List ℕ)). frames ++ l) (sym none);
       behind = subst (λ (d : Drawing). from ≤ d.next) (sym left) before.behind;
-      once = subst (λ (d : Drawing). Once from d.next d.frame) (sym left) before.once;
+      once = subst (λ (d : Drawing). Once pal from d.next d.frame) (sym left) before.once;
     }
 
-frames-more : (m : Machine Chip Board) (frames : List (List ℕ)) (from : ℕ) → IsValid five IsChip IsBoard m → (i : ℕ) → i < 5 → (key_of five m i).cycle < from + 896040
-    → Framed m frames from → Framed (move five m i) (frames ++ (rendered (console m) i).frames) from
+frames-more : (pal : Bool) (m : Machine Chip Board) (frames : List (List ℕ)) (from : ℕ) → IsValid five IsChip IsBoard m → (i : ℕ) → i < 5 → (key_of five m i).cycle < from + frame_cycles pal
+    → Framed pal m frames from → Framed pal (move five m i) (frames ++ (rendered (console m) i).frames) from
 unfolding rendered
-frames-more m frames from valid =
+frames-more pal m frames from valid =
     let k2 = kind2 (m.chip 2) (valid.number 2 (lit< tt)) in
-    five-each (λ i. (key_of five m i).cycle < from + 896040 → Framed m frames from → Framed (move five m i) (frames ++ (rendered (console m) i).frames) from)
-    (λ near before. other-framed m 0 frames from refl refl before)
-    (λ near before. other-framed m 1 frames from refl refl before)
-    (λ near before. line-framed m k2.0 frames from k2.1 (subst IsChip k2.1 (valid.chip 2 (lit< tt))) (subst (λ (c : Chip). (next c).key.cycle < from + 896040) k2.1 near) before)
-    (λ near before. other-framed m 3 frames from refl refl before)
-    (λ near before. other-framed m 4 frames from refl refl before)
+    five-each (λ i. (key_of five m i).cycle < from + frame_cycles pal → Framed pal m frames from → Framed pal (move five m i) (frames ++ (rendered (console m) i).frames) from)
+    (λ near before. other-framed pal m 0 frames from refl refl before)
+    (λ near before. other-framed pal m 1 frames from refl refl before)
+    (λ near before. line-framed pal m k2.0 frames from k2.1 (subst IsChip k2.1 (valid.chip 2 (lit< tt))) (subst (λ (c : Chip). (next c).key.cycle < from + frame_cycles pal) k2.1 near) before)
+    (λ near before. other-framed pal m 3 frames from refl refl before)
+    (λ near before. other-framed pal m 4 frames from refl refl before)
 
 -- the first moves of a segment, from a machine that keeps no frame
-frames-framed : (m : Machine Chip Board) (from to n : ℕ) → ValidTo m n → Movers → frames_of (drawing m).frame ≡ [] → machines.IsQuiet five m from
-    → to ≤ from + 896040 → AllBelow five m to n → Framed m [] from → Framed (run five m n) (media (console m) n).frames from
+frames-framed : (pal : Bool) (m : Machine Chip Board) (from to n : ℕ) → ValidTo m n → Movers → frames_of (drawing m).frame ≡ [] → machines.IsQuiet five m from
+    → to ≤ from + frame_cycles pal → AllBelow five m to n → Framed pal m [] from → Framed pal (run five m n) (media (console m) n).frames from
 unfolding run media
-frames-framed m from to zero valid movers none quiet near below first = first
-frames-framed m from to (suc n) valid movers none quiet near below first =
+frames-framed pal m from to zero valid movers none quiet near below first = first
+frames-framed pal m from to (suc n) valid movers none quiet near below first =
     let stage : IsValid five IsChip IsBoard (run five m n) = valid n (omega arith) in
     let valid' : ValidTo m n = λ k earlier. valid k (omega arith) in
     let below' : AllBelow five m to n = record { each = λ k earlier. below.each k (omega arith) } in
-    let before : Framed (run five m n) (media (console m) n).frames from = frames-framed m from to n valid' movers none quiet near below' first in
-    let here : (key_of five (run five m n) (machines.mover five (run five m n))).cycle < from + 896040 = omega (arith, below.each n (omega arith), near) in
+    let before : Framed pal (run five m n) (media (console m) n).frames from = frames-framed pal m from to n valid' movers none quiet near below' first in
+    let here : (key_of five (run five m n) (machines.mover five (run five m n))).cycle < from + frame_cycles pal = omega (arith, below.each n (omega arith), near) in
     let same : rendered (console (run five m n)) (machines.mover five (run five m n)) ≡ rendered (ran (console m) n) (mover (ran (console m) n)) =
     ap (λ (j : ℕ). rendered (console (run five m n)) j) (mover-same (run five m n) stage)
     ∙ ap (λ (z : Console). rendered z (mover z)) (ran-same m n valid' movers) in
-    subst (λ (output : Media). Framed (run five m (suc n)) ((media (console m) n).frames ++ output.frames) from) same
-    (frames-more (run five m n) (media (console m) n).frames from stage (machines.mover five (run five m n)) (movers (run five m n)) here before)
+    subst (λ (output : Media). Framed pal (run five m (suc n)) ((media (console m) n).frames ++ output.frames) from) same
+    (frames-more pal (run five m n) (media (console m) n).frames from stage (machines.mover five (run five m n)) (movers (run five m n)) here before)
 
-first-framed : (m : Machine Chip Board) (from : ℕ) → IsValid five IsChip IsBoard m → frames_of (drawing m).frame ≡ [] → machines.IsQuiet five m from → Framed m [] from
+first-framed : (m : Machine Chip Board) (from : ℕ) → IsValid five IsChip IsBoard m → frames_of (drawing m).frame ≡ [] → machines.IsQuiet five m from → Framed (drawing m).pal m [] from
 first-framed m from valid none quiet =
     let k2 = kind2 (m.chip 2) (valid.number 2 (lit< tt)) in
     let late : from ≤ k2.0.chip.next = subst (λ (c : Chip). from ≤ (next c).key.cycle) k2.1 (quiet 2 (lit< tt)) in
     record {
+      region = refl;
       same = none;
       behind = subst (λ (c : Chip). from ≤ (draw_of c).chip.next) (sym k2.1) late;
       once = inl none;
     }
 
 pub frames-kept : (m : Machine Chip Board) (from to n : ℕ) → ValidTo m n → IsValid five IsChip IsBoard m → Movers → frames_of (drawing m).frame ≡ [] → machines.IsQuiet five m from
-    → to ≤ from + 896040 → AllBelow five m to n → frames_of (draw_of ((run five m n).chip 2)).chip.frame ≡ (media (console m) n).frames
+    → to ≤ from + frame_cycles (drawing m).pal → AllBelow five m to n → frames_of (draw_of ((run five m n).chip 2)).chip.frame ≡ (media (console m) n).frames
 frames-kept m from to n valid here movers none quiet near below =
-    (frames-framed m from to n valid movers none quiet near below (first-framed m from here none quiet)).same
+    (frames-framed (drawing m).pal m from to n valid movers none quiet near below (first-framed m from here none quiet)).same
 
 -- there is one at most
 pub one-frame : (frame : Option (List ℕ)) → length (frames_of frame) ≤ 1

@@ -16,6 +16,7 @@ pub mod Moves
 pub mod OneRun
 pub mod Owners
 pub mod Pads
+pub mod Regions
 pub mod QuietStays
 pub mod Samples
 pub mod Segments

@@ -85,20 +85,22 @@ kind4 (Fm c) is = absurd (omega arith)
 kind4 (Psg c) is = (c, refl)
 
 -- the parts of the drawing half that the record has
-line-seen : (z : Console) (view : LineView) (d : Drawing)
+line-seen : (z : Console) (view : LineView) (d : Drawing) → view.pal ≡ d.pal
     → record z {
       note = (drawn_from (told_view d.next view) (record d { has_view = false })).note;
       picture = (drawn_from (told_view d.next view) (record d { has_view = false })).picture;
+      pal = (drawn_from (told_view d.next view) (record d { has_view = false })).pal;
       line = (drawn_from (told_view d.next view) (record d { has_view = false })).next;
     }
     ≡ record z {
-      note = (drawn_from view (record { next = d.next; note = d.note; has_view = true; picture = d.picture; frame = None })).note;
-      picture = (drawn_from view (record { next = d.next; note = d.note; has_view = true; picture = d.picture; frame = None })).picture;
+      note = (drawn_from view (record { next = d.next; note = d.note; has_view = true; picture = d.picture; frame = None; pal = d.pal })).note;
+      picture = (drawn_from view (record { next = d.next; note = d.note; has_view = true; picture = d.picture; frame = None; pal = d.pal })).picture;
+      pal = d.pal;
       line = d.next + 3420;
     }
 unfolding drawn_from line_drawn picture_after
-line-seen z view d =
-    ap (λ (after : Drawing). record z { note = after.note; picture = after.picture; line = after.next }) (told-drawn view (record d { has_view = false }))
+line-seen z view d same =
+    ap (λ (after : Drawing). record z { note = after.note; picture = after.picture; pal = after.pal; line = after.next }) (told-drawn view (record d { has_view = false }) same)
 
 -- the moves, chip by chip
 main_move : (b : Bool) (m : Machine Chip Board) (v : MainChip) → (next_of v.chip.state).sample ≡ b → m.chip 0 ≡ Main v
@@ -120,7 +122,7 @@ draw_move m v is =
     let lent : Drawing = record v.chip { has_view = false } in
     let after : Board = line_board m.shared v.chip.next v.chip.note in
     let before : Console = record_of (m.chip 0) (m.chip 1) (Draw v) (m.chip 3) (m.chip 4) after in
-    rw (move-access m 2 (ap (λ (c : Chip). (next c).sample) is)) (rw is (line-seen before (view_of after.vdp) v.chip))
+    rw (move-access m 2 (ap (λ (c : Chip). (next c).sample) is)) (rw is (line-seen before (view_of v.chip.pal after.vdp) v.chip refl))
 
 fm_move : (m : Machine Chip Board) (v : FmValue) → m.chip 3 ≡ Fm v → console (move five m 3) ≡ moved (console m) 3
 unfolding console moved fm_moved put
@@ -187,7 +189,7 @@ told-same m valid =
     (at-kind read
     (λ c. let s = (sub_of c).chip.state in cond (sub_next_of s).sample [] ((sub_access m.shared (sub_next_of s).key (asked_of (sub_of c).chip.cart s)).entry ∷ []))
     (m.chip 1) (Sub k1.0) k1.1 refl)
-    (at-kind read (λ c. line_entry (record { cycle = (draw_of c).chip.next; chip = 2 }) (level_of (line_board m.shared (draw_of c).chip.next (draw_of c).chip.note)) ∷ []) (m.chip 2) (Draw k2.0) k2.1 refl)
+    (at-kind read (λ c. let after = line_board m.shared (draw_of c).chip.next (draw_of c).chip.note in line_entry after.vdp.pal (record { cycle = (draw_of c).chip.next; chip = 2 }) (level_of after) ∷ []) (m.chip 2) (Draw k2.0) k2.1 refl)
     (at-kind read
     (λ c. batch_entry 11 (record { cycle = (fm_of c).cycle; chip = 3 }) (length (fm_ports.taken_below (fm_of c).cycle m.shared.fm.writes)) ∷ [])
     (m.chip 3) (Fm k3.0) k3.1 refl)

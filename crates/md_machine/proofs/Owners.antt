@@ -1,8 +1,8 @@
 -- The Z80's RAM and bank register have one owner at every moment of a run.
-use Rattle.std.proofs.Common.{◌≡◌, ℕ, zero, suc, ◌*◌, ◌/◌, ◌%◌, ◌==◌, ◌<◌, cond, Bool, true, false, not, if◌then◌else◌, List, Option, Some, None, Result, Ok, Err, refl, sym, ap, ◌∙◌, subst, arith, lit<}
+use Rattle.std.proofs.Common.{◌≡◌, ℕ, zero, suc, ◌/◌, ◌%◌, ◌==◌, ◌<◌, cond, Bool, true, false, not, if◌then◌else◌, List, Option, Some, None, Result, Ok, Err, refl, sym, ap, ◌∙◌, subst, arith, lit<}
 use Rattle.std.specs.Prelude.{is_some, option_map}
-use Rattle.md_pads.specs.Recording.{Frame, pads_of}
-use Rattle.md_word.specs.Clock.{frame, line}
+use Rattle.md_pads.specs.Recording.{Frame}
+use Rattle.md_word.specs.Region.{finished_at, frame_cycles}
 use Rattle.md_word.specs.Map.{area_of}
 use Rattle.md_word.specs.declared.area.Area.{Area}
 use Rattle.md_word.specs.declared.area.Area.TheVariants.{Z80Space, InputOutput, BusRequest, Z80Reset, VideoPorts}
@@ -19,7 +19,7 @@ use Rattle.vdp_planes.specs.declared.view.SpriteNote.{SpriteNote}
 use Rattle.bus_shared.specs.Accesses.{line_board, main_board, pads_board, psg_board, sub_access, sub_pins, taken_back, video_started, yielded}
 use Rattle.bus_shared.specs.Areas.{byte_written_at, byte_written_in, read_at, read_in, word_written_at, word_written_in}
 use Rattle.bus_shared.specs.Board.{Board, IsBoard}
-use Rattle.bus_shared.specs.Fm.{chip_read, fm_board, fm_read, is_fm, with_fm, with_fm_reset}
+use Rattle.bus_shared.specs.Fm.{fm_board, fm_read, is_fm, with_fm, with_fm_reset}
 use Rattle.bus_shared.specs.Lines.{counted}
 use Rattle.bus_shared.specs.Registers.{register_at, register_written}
 use Rattle.bus_shared.specs.Video.{port_at, video_byte_written, video_word_written}
@@ -41,7 +41,7 @@ use Rattle.z80_exec.proofs.Bounds.Samples as bounds80
 use Rattle.z80_exec.specs.Sample.Bounds.{IsAccess}
 use Rattle.z80_exec.specs.Sample.Samples.{Ended}
 use Rattle.z80_parcel.specs.Parcels.{Store, written}
-use Rattle.z80_parcel.specs.Requests.{RequestValue80, ReadByte, WriteByte, HandOver, TakeBack, AnswerValue80, store_in}
+use Rattle.z80_parcel.specs.Requests.{RequestValue80, TakeBack, AnswerValue80, store_in}
 use Rattle.md_machine.specs.Console.{Console, fm_moved, line_moved, main_moved, moved, mover, power_on, psg_moved, ran, sub_accessed, sub_moved}
 use Rattle.md_machine.specs.Movers.{mover-lt}
 use Rattle.md_machine.specs.Owners.{HasOneOwner}
@@ -145,7 +145,9 @@ main-has board key (Word value) = refl
 
 line-has : (board : Board) (cycle : ℕ) (note : SpriteNote) → is_some (line_board board cycle note).store ≡ is_some board.store
 unfolding line_board pads_board
-line-has board cycle note = has-same (cycle % frame == 224 * line) _ (video_started board cycle note) (is_some board.store) refl refl
+line-has board cycle note =
+    let pal = (video_started board cycle note).vdp.pal in
+    has-same (cycle % frame_cycles pal == finished_at pal) _ (video_started board cycle note) (is_some board.store) refl refl
 
 -- what the Z80 has stays with it but at a yield and a take
 map-has : (f : Store → Store) (store : Option Store) → is_some (option_map f store) ≡ is_some store
@@ -374,11 +376,11 @@ owns-ran m (suc n) valid movers first =
     move-owns (ran (console m) n) ok (owns-ran m n valid' movers first) (mover (ran (console m) n)) (mover-lt (ran (console m) n))
 
 -- at power-on the Z80 has them
-pub one-owner : (m : Machine Chip Board) (cart : List ℕ) (recording : List Frame) (n : ℕ) → console m ≡ power_on cart recording → ValidTo m n → Movers
-    → HasOneOwner (ran (power_on cart recording) n)
+pub one-owner : (m : Machine Chip Board) (cart : List ℕ) (recording : List Frame) (pal : Bool) (n : ℕ) → console m ≡ power_on cart recording pal → ValidTo m n → Movers
+    → HasOneOwner (ran (power_on cart recording pal) n)
 unfolding states80.power_on
-one-owner m cart recording n is valid movers =
-    let first : Owns (power_on cart recording).sub.state (power_on cart recording).shared = record { one = refl; taking = λ take. absurd (clash (sym take)) } in
+one-owner m cart recording pal n is valid movers =
+    let first : Owns (power_on cart recording pal).sub.state (power_on cart recording pal).shared = record { one = refl; taking = λ take. absurd (clash (sym take)) } in
     let run_owns : Owns (ran (console m) n).sub.state (ran (console m) n).shared =
     owns-ran m n valid movers (subst (λ (z : Console). Owns z.sub.state z.shared) (sym is) first) in
     ap (λ (z : Console). is_some (ran z n).sub.state.store) (sym is) ∙ run_owns.one ∙ ap (λ (z : Console). not (is_some (ran z n).shared.store)) is

@@ -30,15 +30,15 @@ pub record Part (A : Type 0) : Type 0 where
   pub none : of no_media ≡ []
   pub more : (first second : Media) → of (joined first second) ≡ of first ++ of second
   pub number : ℕ
-  pub grows : (m : Machine Chip Board) → IsValid five IsChip IsBoard m → (i : ℕ) → i < 5 → (i ≡ number → length (of (kept_in m)) ≤ 880) → of (kept_in (move five m i)) ≡ of (kept_in m) ++ of (rendered (console m) i)
+  pub grows : (m : Machine Chip Board) → IsValid five IsChip IsBoard m → (i : ℕ) → i < 5 → (i ≡ number → length (of (kept_in m)) ≤ 1056) → of (kept_in (move five m i)) ≡ of (kept_in m) ++ of (rendered (console m) i)
   pub long : (z : Console) (i : ℕ) → i < 5 → length (of (rendered z i)) ≡ 16 * cond (i == number) 1 0
 
 is_room : (n limit : ℕ) → n ≤ limit → nat_le n limit ≡ true
 is_room n limit within = grind (arith, nat_tests)
 
 -- with room a batch goes behind what is kept
-kept-all : {A : Type 0} (old batch : List A) → length old ≤ 880 → kept old batch ≡ old ++ batch
-kept-all old batch room = ap (λ (b : Bool). cond b (old ++ batch) old) (is_room (length old) 880 room)
+kept-all : {A : Type 0} (old batch : List A) → length old ≤ 1056 → kept old batch ≡ old ++ batch
+kept-all old batch room = ap (λ (b : Bool). cond b (old ++ batch) old) (is_room (length old) 1056 room)
 
 -- a move of another chip leaves chip j
 pub other_by : (b : Bool) (m : Machine Chip Board) (i j : ℕ) → is_sample five m i ≡ b → (j == i) ≡ false → (move five m i).chip j ≡ m.chip j
@@ -47,48 +47,48 @@ other_by true m i j kind other = ap (λ (z : Machine Chip Board). z.chip j) (mov
 other_by false m i j kind other = ap (λ (z : Machine Chip Board). z.chip j) (move-access m i kind) ∙ rw other refl
 
 -- a move of the FM synthesis adds the sums of its batch
-fm-kept : (m : Machine Chip Board) (v : FmValue) → m.chip 3 ≡ Fm v → length (kept_in m).sides ≤ 880 → (kept_in (move five m 3)).sides ≡ (kept_in m).sides ++ (rendered (console m) 3).sides
+fm-kept : (m : Machine Chip Board) (v : FmValue) → m.chip 3 ≡ Fm v → length (kept_in m).sides ≤ 1056 → (kept_in (move five m 3)).sides ≡ (kept_in m).sides ++ (rendered (console m) 3).sides
 unfolding console rendered put
 fm-kept m v is room =
     let batch : List (ℤ × ℤ) = fm_batches.samples (first_of v.cycle) v.synth (fm_ports.taken_below v.cycle m.shared.fm.writes) in
-    let room' : length v.samples ≤ 880 = subst (λ (c : Chip). length (fm_of c).samples ≤ 880) is room in
+    let room' : length v.samples ≤ 1056 = subst (λ (c : Chip). length (fm_of c).samples ≤ 1056) is room in
     ap (λ (z : Machine Chip Board). (kept_in z).sides) (move-access m 3 (ap (λ (c : Chip). (next c).sample) is))
     ∙ at-kind (λ c. (fm_of (advance (perform c m.shared).chip)).samples)
     (λ c. (fm_of c).samples ++ fm_batches.samples (first_of (fm_of c).cycle) (fm_of c).synth (fm_ports.taken_below (fm_of c).cycle m.shared.fm.writes))
     (m.chip 3) (Fm v) is (kept-all v.samples batch room')
 
 -- a move of the PSG adds the levels of its batch
-psg-kept : (m : Machine Chip Board) (v : PsgValue) → m.chip 4 ≡ Psg v → length (kept_in m).levels ≤ 880 → (kept_in (move five m 4)).levels ≡ (kept_in m).levels ++ (rendered (console m) 4).levels
+psg-kept : (m : Machine Chip Board) (v : PsgValue) → m.chip 4 ≡ Psg v → length (kept_in m).levels ≤ 1056 → (kept_in (move five m 4)).levels ≡ (kept_in m).levels ++ (rendered (console m) 4).levels
 unfolding console rendered put
 psg-kept m v is room =
     let batch : List ℤ = samples (first_of v.cycle) v.synth (taken_below v.cycle m.shared.held) in
-    let room' : length v.samples ≤ 880 = subst (λ (c : Chip). length (psg_of c).samples ≤ 880) is room in
+    let room' : length v.samples ≤ 1056 = subst (λ (c : Chip). length (psg_of c).samples ≤ 1056) is room in
     ap (λ (z : Machine Chip Board). (kept_in z).levels) (move-access m 4 (ap (λ (c : Chip). (next c).sample) is))
     ∙ at-kind (λ c. (psg_of (advance (perform c m.shared).chip)).samples)
     (λ c. (psg_of c).samples ++ samples (first_of (psg_of c).cycle) (psg_of c).synth (taken_below (psg_of c).cycle m.shared.held))
     (m.chip 4) (Psg v) is (kept-all v.samples batch room')
 
 -- a move keeps the sums that it makes, and the levels
-pub sides-grow : (m : Machine Chip Board) → IsValid five IsChip IsBoard m → (i : ℕ) → i < 5 → (i ≡ 3 → length (kept_in m).sides ≤ 880) → (kept_in (move five m i)).sides ≡ (kept_in m).sides ++ (rendered (console m) i).sides
+pub sides-grow : (m : Machine Chip Board) → IsValid five IsChip IsBoard m → (i : ℕ) → i < 5 → (i ≡ 3 → length (kept_in m).sides ≤ 1056) → (kept_in (move five m i)).sides ≡ (kept_in m).sides ++ (rendered (console m) i).sides
 unfolding rendered
 sides-grow m valid =
     let k3 = kind3 (m.chip 3) (valid.number 3 (lit< tt)) in
     let other : (i : ℕ) → (3 == i) ≡ false → (kept_in (move five m i)).sides ≡ (kept_in m).sides =
     λ i away. ap (λ (c : Chip). (fm_of c).samples) (other_by (is_sample five m i) m i 3 refl away) in
-    five-each (λ i. (i ≡ 3 → length (kept_in m).sides ≤ 880) → (kept_in (move five m i)).sides ≡ (kept_in m).sides ++ (rendered (console m) i).sides)
+    five-each (λ i. (i ≡ 3 → length (kept_in m).sides ≤ 1056) → (kept_in (move five m i)).sides ≡ (kept_in m).sides ++ (rendered (console m) i).sides)
     (λ room. other 0 refl ∙ sym (append-nil (kept_in m).sides))
     (λ room. other 1 refl ∙ sym (append-nil (kept_in m).sides))
     (λ room. other 2 refl ∙ sym (append-nil (kept_in m).sides))
     (λ room. fm-kept m k3.0 k3.1 (room refl))
     (λ room. other 4 refl ∙ sym (append-nil (kept_in m).sides))
 
-pub levels-grow : (m : Machine Chip Board) → IsValid five IsChip IsBoard m → (i : ℕ) → i < 5 → (i ≡ 4 → length (kept_in m).levels ≤ 880) → (kept_in (move five m i)).levels ≡ (kept_in m).levels ++ (rendered (console m) i).levels
+pub levels-grow : (m : Machine Chip Board) → IsValid five IsChip IsBoard m → (i : ℕ) → i < 5 → (i ≡ 4 → length (kept_in m).levels ≤ 1056) → (kept_in (move five m i)).levels ≡ (kept_in m).levels ++ (rendered (console m) i).levels
 unfolding rendered
 levels-grow m valid =
     let k4 = kind4 (m.chip 4) (valid.number 4 (lit< tt)) in
     let other : (i : ℕ) → (4 == i) ≡ false → (kept_in (move five m i)).levels ≡ (kept_in m).levels =
     λ i away. ap (λ (c : Chip). (psg_of c).samples) (other_by (is_sample five m i) m i 4 refl away) in
-    five-each (λ i. (i ≡ 4 → length (kept_in m).levels ≤ 880) → (kept_in (move five m i)).levels ≡ (kept_in m).levels ++ (rendered (console m) i).levels)
+    five-each (λ i. (i ≡ 4 → length (kept_in m).levels ≤ 1056) → (kept_in (move five m i)).levels ≡ (kept_in m).levels ++ (rendered (console m) i).levels)
     (λ room. other 0 refl ∙ sym (append-nil (kept_in m).levels))
     (λ room. other 1 refl ∙ sym (append-nil (kept_in m).levels))
     (λ room. other 2 refl ∙ sym (append-nil (kept_in m).levels))
@@ -115,14 +115,14 @@ fm_part = record { of = λ s. s.sides; none = refl; more = λ first second. refl
 unfoldable pub psg_part : Part ℤ
 psg_part = record { of = λ s. s.levels; none = refl; more = λ first second. refl; number = 4; grows = levels-grow; long = levels-long }
 
-fewer : (a b : ℕ) → a + b ≤ 56 → a ≤ 56
+fewer : (a b : ℕ) → a + b ≤ 67 → a ≤ 67
 fewer a b few = omega arith
 
 -- a batch more has room
-has_room : (number i count : ℕ) → count + cond (i == number) 1 0 ≤ 56 → (number == number) ≡ true → i ≡ number → 16 * count ≤ 880
+has_room : (number i count : ℕ) → count + cond (i == number) 1 0 ≤ 67 → (number == number) ≡ true → i ≡ number → 16 * count ≤ 1056
 has_room number i count few own is =
-    let more : count + cond (number == number) 1 0 ≤ 56 = subst (λ (j : ℕ). count + cond (j == number) 1 0 ≤ 56) is few in
-    let one : count + 1 ≤ 56 = subst (λ (b : Bool). count + cond b 1 0 ≤ 56) own more in
+    let more : count + cond (number == number) 1 0 ≤ 67 = subst (λ (j : ℕ). count + cond (j == number) 1 0 ≤ 67) is few in
+    let one : count + 1 ≤ 67 = subst (λ (b : Bool). count + cond b 1 0 ≤ 67) own more in
     omega arith
 
 sum_long : (a b count more : ℕ) → a ≡ 16 * count → b ≡ 16 * more → a + b ≡ 16 * (count + more)
@@ -137,10 +137,10 @@ pub record KeepsMore {A : Type 0} (p : Part A) (z : Machine Chip Board) (i : ℕ
   pub long : length (p.of (kept_in (move five z i))) ≡ 16 * (count + cond (i == p.number) 1 0)
 
 keeps-more : {A : Type 0} (p : Part A) (z : Machine Chip Board) (i : ℕ) (old : List A) (count : ℕ) → IsValid five IsChip IsBoard z → i < 5
-    → p.of (kept_in z) ≡ old → length (p.of (kept_in z)) ≡ 16 * count → count + cond (i == p.number) 1 0 ≤ 56 → KeepsMore p z i old count
+    → p.of (kept_in z) ≡ old → length (p.of (kept_in z)) ≡ 16 * count → count + cond (i == p.number) 1 0 ≤ 67 → KeepsMore p z i old count
 keeps-more p z i old count valid below is long few =
     let moved : p.of (kept_in (move five z i)) ≡ p.of (kept_in z) ++ p.of (rendered (console z) i) =
-    p.grows z valid i below (λ same. subst (λ (n : ℕ). n ≤ 880) (sym long) (has_room p.number i count few (own p.number) same)) in
+    p.grows z valid i below (λ same. subst (λ (n : ℕ). n ≤ 1056) (sym long) (has_room p.number i count few (own p.number) same)) in
     record {
       samples_are = moved ∙ ap (λ l. l ++ p.of (rendered (console z) i)) is;
       long = ap length moved ∙ length-append (p.of (kept_in z)) (p.of (rendered (console z) i)) ∙ sum_long (length (p.of (kept_in z))) (length (p.of (rendered (console z) i))) count (cond (i == p.number) 1 0) long (p.long (console z) i below);
@@ -151,7 +151,7 @@ pub record KeepsAll {A : Type 0} (p : Part A) (m : Machine Chip Board) (n : ℕ)
   pub samples_are : p.of (kept_in (run five m n)) ≡ p.of (media (console m) n)
   pub long : length (p.of (kept_in (run five m n))) ≡ 16 * made five m p.number n
 
-pub samples-kept : {A : Type 0} (p : Part A) (m : Machine Chip Board) (n : ℕ) → ValidTo m n → Movers → p.of (kept_in m) ≡ [] → made five m p.number n ≤ 56 → KeepsAll p m n
+pub samples-kept : {A : Type 0} (p : Part A) (m : Machine Chip Board) (n : ℕ) → ValidTo m n → Movers → p.of (kept_in m) ≡ [] → made five m p.number n ≤ 67 → KeepsAll p m n
 unfolding run media made
 samples-kept p m zero valid movers none few = record { samples_are = none ∙ sym p.none; long = ap length none }
 samples-kept p m (suc n) valid movers none few =

@@ -1,5 +1,5 @@
 -- A segment of the five chips' run, as the record's.
-use Rattle.std.proofs.Common.{◌≡◌, refl, ℕ, suc, ◌+◌, ◌-◌, ◌/◌, ◌<◌, ◌≤◌, cond, Bool, true, false, List, length, ap, ◌∙◌, arith, subst, lit<, zero, sym, ◌==◌, ◌⊎◌, inl, inr}
+use Rattle.std.proofs.Common.{◌≡◌, refl, ℕ, suc, ◌+◌, ◌-◌, ◌*◌, ◌/◌, ◌<◌, ◌≤◌, cond, Bool, true, false, List, length, ap, ◌∙◌, arith, subst, lit<, zero, sym, ◌==◌, ◌⊎◌, inl, inr}
 use Rattle.std.specs.Prelude.{nat_lt}
 use Rattle.md_word.specs.declared.event.Entry.{Entry}
 use Rattle.md_word.specs.declared.key.Key.{Key}
@@ -11,7 +11,9 @@ use Rattle.md_machine.specs.Console.{Console, key_in, mover, ran}
 use Rattle.md_machine.specs.Lines.{frames_of}
 use Rattle.md_machine.specs.Machines.{kept_in}
 use Rattle.bus_shared.specs.Board.{Board, IsBoard}
+use Rattle.md_word.specs.Region.{frame_cycles}
 use Rattle.md_machine.specs.Refinement.{console, draw_of, fm_of, psg_of, record_of}
+use Rattle.md_machine.specs.Regions.{most_batches, most_entries, most_pairs}
 use Rattle.md_machine.specs.Media.{Media, no_media}
 use Rattle.md_machine.specs.Rules.{IsChip, five}
 use Rattle.md_machine.specs.declared.chips.Chip.{Chip}
@@ -21,24 +23,38 @@ use Rattle.md_machine.proofs.Lifts.{Movers, ValidTo, journal-same, mover-same, r
 use Rattle.md_machine.proofs.Samples.{KeepsAll, fm_part, psg_part, samples-kept}
 
 -- how many moves a segment has at most
-pub within-few : (span : ℕ) → span ≤ 896040 → moves_within five span ≤ 52500
+pub within-few : (pal : Bool) (span : ℕ) → span ≤ frame_cycles pal → moves_within five span ≤ most_entries pal
 unfolding total
-within-few span short = omega arith
+within-few true span short = omega (arith, short)
+within-few false span short = omega (arith, short)
 
 -- how many batches of a sound chip
-left_by : (b : Bool) (key to : ℕ) → to ≤ key + 896040 → cond b ((to - key) / 16128 + 1) 0 ≤ 56
-left_by true key to near = omega arith
-left_by false key to near = omega arith
+left-of : (pal : Bool) (key to : ℕ) → to ≤ key + frame_cycles pal → (to - key) / 16128 + 1 ≤ most_batches pal
+left-of true key to near = omega (arith, near)
+left-of false key to near = omega (arith, near)
 
-pub fm_batches-few : (m : Machine Chip Board) (from to : ℕ) → to ≤ from + 896040 → machines.IsQuiet five m from → moves_left five to m 3 ≤ 56
-fm_batches-few m from to near quiet =
+left_by : (b pal : Bool) (key to : ℕ) → to ≤ key + frame_cycles pal → cond b ((to - key) / 16128 + 1) 0 ≤ most_batches pal
+left_by true pal key to near = left-of pal key to near
+left_by false pal key to near = omega arith
+
+pub fm_batches-few : (pal : Bool) (m : Machine Chip Board) (from to : ℕ) → to ≤ from + frame_cycles pal → machines.IsQuiet five m from → moves_left five to m 3 ≤ most_batches pal
+fm_batches-few pal m from to near quiet =
     let late : from ≤ (key_of five m 3).cycle = quiet 3 (lit< tt) in
-    left_by (nat_lt (key_of five m 3).cycle to) (key_of five m 3).cycle to (omega arith)
+    left_by (nat_lt (key_of five m 3).cycle to) pal (key_of five m 3).cycle to (omega (arith, near, late))
 
-pub batches-few : (m : Machine Chip Board) (from to : ℕ) → to ≤ from + 896040 → machines.IsQuiet five m from → moves_left five to m 4 ≤ 56
-batches-few m from to near quiet =
+pub batches-few : (pal : Bool) (m : Machine Chip Board) (from to : ℕ) → to ≤ from + frame_cycles pal → machines.IsQuiet five m from → moves_left five to m 4 ≤ most_batches pal
+batches-few pal m from to near quiet =
     let late : from ≤ (key_of five m 4).cycle = quiet 4 (lit< tt) in
-    left_by (nat_lt (key_of five m 4).cycle to) (key_of five m 4).cycle to (omega arith)
+    left_by (nat_lt (key_of five m 4).cycle to) pal (key_of five m 4).cycle to (omega (arith, near, late))
+
+-- so many there is room for
+room-for : (pal : Bool) (n : ℕ) → n ≤ most_batches pal → n ≤ 67
+room-for true n few = few
+room-for false n few = omega (arith, few)
+
+pairs-of : (pal : Bool) (n : ℕ) → n ≤ most_batches pal → 16 * n ≤ most_pairs pal
+pairs-of true n few = omega (arith, few)
+pairs-of false n few = omega (arith, few)
 
 -- two machines with the same shared state and the same five chips have the same record
 pub console-alike : (w z : Machine Chip Board) → w.shared ≡ z.shared → ((i : ℕ) → i < 5 → w.chip i ≡ z.chip i) → console w ≡ console z
@@ -64,14 +80,14 @@ move_key-same m k valid movers =
 -- record's, with its entries, frame and samples
 pub segment-run : (m w : Machine Chip Board) (from to : ℕ) (entered : List Entry) → machines.IsRunTo five m to w entered
     → ((n : ℕ) → AllBelow five m to n → IsValid five IsChip IsBoard (run five m n)) → Movers → IsValid five IsChip IsBoard w
-    → ((n : ℕ) → AllBelow five m to n → made five m 3 n ≤ 56) → ((n : ℕ) → AllBelow five m to n → made five m 4 n ≤ 56) → kept_in m ≡ no_media
-    → IsValid five IsChip IsBoard m → machines.IsQuiet five m from → to ≤ from + 896040 → consoles.IsRunTo (console m) to (console w) entered (kept_in w)
-unfolding fm_part psg_part
+    → ((n : ℕ) → AllBelow five m to n → made five m 3 n ≤ most_batches (console m).pal) → ((n : ℕ) → AllBelow five m to n → made five m 4 n ≤ most_batches (console m).pal) → kept_in m ≡ no_media
+    → IsValid five IsChip IsBoard m → machines.IsQuiet five m from → to ≤ from + frame_cycles (console m).pal → consoles.IsRunTo (console m) to (console w) entered (kept_in w)
+unfolding fm_part psg_part console
 segment-run m w from to entered runs valid movers valid-w few_fm few none here quiet near =
     let earlier : (k : ℕ) → k ≤ runs.moves → AllBelow five m to k = λ k within. record { each = λ j below. runs.below.each j (omega arith) } in
     let stages : ValidTo m runs.moves = λ k below. valid k (earlier k (omega arith)) in
-    let sides : KeepsAll fm_part m runs.moves = samples-kept fm_part m runs.moves stages movers (ap (λ (s : Media). s.sides) none) (few_fm runs.moves runs.below) in
-    let levels : KeepsAll psg_part m runs.moves = samples-kept psg_part m runs.moves stages movers (ap (λ (s : Media). s.levels) none) (few runs.moves runs.below) in
+    let sides : KeepsAll fm_part m runs.moves = samples-kept fm_part m runs.moves stages movers (ap (λ (s : Media). s.sides) none) (room-for (console m).pal _ (few_fm runs.moves runs.below)) in
+    let levels : KeepsAll psg_part m runs.moves = samples-kept psg_part m runs.moves stages movers (ap (λ (s : Media). s.levels) none) (room-for (console m).pal _ (few runs.moves runs.below)) in
     let frames = frames-kept m from to runs.moves stages here movers (ap (λ (s : Media). s.frames) none) quiet near runs.below in
     record {
       moves = runs.moves;
@@ -86,14 +102,27 @@ segment-run m w from to entered runs valid movers valid-w few_fm few none here q
       };
     }
 
+-- and so many samples of the PSG it leaves
+pub segment-pairs : (m w : Machine Chip Board) (from to : ℕ) (entered : List Entry) → machines.IsRunTo five m to w entered
+    → ((n : ℕ) → AllBelow five m to n → IsValid five IsChip IsBoard (run five m n)) → Movers
+    → (pal : Bool) → ((n : ℕ) → AllBelow five m to n → made five m 4 n ≤ most_batches pal) → kept_in m ≡ no_media → length (kept_in w).levels ≤ most_pairs pal
+unfolding psg_part
+segment-pairs m w from to entered runs valid movers pal few none =
+    let earlier : (k : ℕ) → k ≤ runs.moves → AllBelow five m to k = λ k within. record { each = λ j below. runs.below.each j (omega arith) } in
+    let stages : ValidTo m runs.moves = λ k below. valid k (earlier k (omega arith)) in
+    let here : made five m 4 runs.moves ≤ most_batches pal = few runs.moves runs.below in
+    let levels : KeepsAll psg_part m runs.moves = samples-kept psg_part m runs.moves stages movers (ap (λ (s : Media). s.levels) none) (room-for pal _ here) in
+    let same : length (kept_in w).levels ≡ 16 * made five m 4 runs.moves = ap (λ (c : Chip). length (psg_of c).samples) (runs.chips 4 (lit< tt)) ∙ levels.long in
+    subst (λ (n : ℕ). n ≤ most_pairs pal) (sym same) (pairs-of pal _ here)
+
 pub at_most : {a b limit : ℕ} → a ≤ b → b ≤ limit → a ≤ limit
 at_most first second = omega arith
 
 -- the entries of a segment
 pub few_entries : (m : Machine Chip Board) (from to : ℕ) {w : Machine Chip Board} {entered : List Entry} (runs : machines.IsRunTo five m to w entered)
-    → length (machines.journal five m runs.moves) ≤ all_moves_left five to m → all_moves_left five to m ≤ moves_within five (to - from) → to ≤ from + 896040
-    → length entered ≤ 52500
-few_entries m from to runs within all near = omega (arith, ap length runs.journal, within-few (to - from) (omega arith))
+    → length (machines.journal five m runs.moves) ≤ all_moves_left five to m → all_moves_left five to m ≤ moves_within five (to - from) → (pal : Bool) → to ≤ from + frame_cycles pal
+    → length entered ≤ most_entries pal
+few_entries m from to runs within all pal near = omega (arith, within, all, ap length runs.journal, within-few pal (to - from) (omega (arith, near)))
 
 -- moves that stand below a cycle in the record stand there in the chips
 below_or_is : (k n : ℕ) → k < suc n → (k < n) ⊎ (k ≡ n)

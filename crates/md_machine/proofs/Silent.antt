@@ -10,6 +10,7 @@ use Rattle.md_machine.specs.Drained.{silenced, silent}
 use Rattle.md_machine.specs.Lines.{frames_of}
 use Rattle.md_machine.specs.Machines.{IsMachine, MachineValue, kept_in, machine_at}
 use Rattle.bus_shared.specs.Board.{Board, IsBoard}
+use Rattle.md_machine.specs.Regions.{IsOneRegion, most_entries}
 use Rattle.md_machine.specs.Refinement.{console, draw_of, fm_of, psg_of, record_of}
 use Rattle.md_machine.specs.Rules.{IsChip, five, next}
 use Rattle.md_machine.specs.declared.chips.Chip.{Chip}
@@ -164,11 +165,36 @@ key-silenced false v j i below long e =
 quiet-silenced : (v : CoreValue Chip Board) (at j : ℕ) → j < 5 → length v.chips ≡ 5 → IsQuiet five (machine_of five v) at → IsQuiet five (machine_of five (silenced v j)) at
 quiet-silenced v at j below long quiet i within = subst (λ (k : Key). at ≤ k.cycle) (sym (key-silenced (i == j) v j i below long refl)) (quiet i within)
 
+silent-pal : (c : Chip) → (draw_of (silent c)).chip.pal ≡ (draw_of c).chip.pal
+silent-pal (Main c) = refl
+silent-pal (Sub c) = refl
+silent-pal (Draw c) = refl
+silent-pal (Fm c) = refl
+silent-pal (Psg c) = refl
+
+pal-by : (b : Bool) (v : CoreValue Chip Board) (j : ℕ) → j < 5 → length v.chips ≡ 5 → (2 == j) ≡ b
+    → (draw_of (chip_in five (silenced v j).chips 2)).chip.pal ≡ (draw_of (chip_in five v.chips 2)).chip.pal
+pal-by true v j below long e =
+    ap (λ (c : Chip). (draw_of c).chip.pal) (silenced_by true v j (silent (chip_in five v.chips j)) 2 below long refl e)
+    ∙ silent-pal (chip_in five v.chips j) ∙ ap (λ (k : ℕ). (draw_of (chip_in five v.chips k)).chip.pal) (sym (equal 2 j e))
+pal-by false v j below long e = ap (λ (c : Chip). (draw_of c).chip.pal) (silenced_by false v j (silent (chip_in five v.chips j)) 2 below long refl e)
+
+-- the region stays
+pal-silenced : (v : CoreValue Chip Board) (j : ℕ) → j < 5 → length v.chips ≡ 5 → (console (machine_of five (silenced v j))).pal ≡ (console (machine_of five v)).pal
+unfolding console
+pal-silenced v j below long = pal-by (2 == j) v j below long refl
+
+one-silenced : (v : CoreValue Chip Board) (j : ℕ) → j < 5 → length v.chips ≡ 5 → IsOneRegion (console (machine_of five v)) → IsOneRegion (console (machine_of five (silenced v j)))
+unfolding console
+one-silenced v j below long one = pal-by (2 == j) v j below long refl ∙ one
+
 pub machine-silenced : (v w : CoreValue Chip Board) (at j : ℕ) → j < 5 → IsMachine at (Some v) → w ≡ silenced v j → IsCore five IsChip IsBoard w → IsMachine at (Some w)
 machine-silenced v w at j below has is valid = record {
   has_core = refl;
   valid = valid;
-  room = subst (λ (u : CoreValue Chip Board). 52500 ≤ u.room) (sym is) has.room;
+  region = subst (λ (u : CoreValue Chip Board). IsOneRegion (console (machine_of five u))) (sym is) (one-silenced v j below has.valid.shape.chip_count has.region);
+  room = subst (λ (u : CoreValue Chip Board). most_entries (console (machine_of five u)).pal ≤ u.room) (sym is)
+      (subst (λ (pal : Bool). most_entries pal ≤ v.room) (sym (pal-silenced v j below has.valid.shape.chip_count)) has.room);
   quiet = subst (λ (u : CoreValue Chip Board). IsQuiet five (machine_of five u) at) (sym is) (quiet-silenced v at j below has.valid.shape.chip_count has.quiet);
 }
 

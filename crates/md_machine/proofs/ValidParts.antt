@@ -1,5 +1,5 @@
 -- The parts of a machine stay valid over a run.
-use Rattle.std.proofs.Common.{◌≡◌, ℕ, ◌==◌, ◌≤◌, ◌^◌, [], None, List, cond, refl, sym, subst, arith, lit<, lit≤}
+use Rattle.std.proofs.Common.{◌≡◌, ℕ, ◌==◌, ◌≤◌, ◌^◌, Bool, [], None, List, cond, refl, sym, subst, arith, lit<, lit≤}
 use Rattle.chip_core.specs.Machines.{IsValid, Machine, key_of, run}
 use Rattle.chip_core.specs.Machines as machines
 use Rattle.m68k_chip.proofs.Laws as laws68
@@ -91,13 +91,13 @@ parts_in m valid =
 
 -- ---- at power-on, and over a run
 
-pub parts_begun : (cart : List ℕ) (recording : List Frame) → IsImage cart → HasValidParts (consoles.power_on cart recording)
-parts_begun cart recording image = record {
+pub parts_begun : (cart : List ℕ) (recording : List Frame) (pal : Bool) → IsImage cart → HasValidParts (consoles.power_on cart recording pal)
+parts_begun cart recording pal image = record {
   main = laws68.power_on-ok cart image;
   sub = laws80.power_on-ok cart image;
-  drawing = drawing_begun;
+  drawing = drawing_begun pal;
   psg = IsSynth-at_power_on;
-  board = power_on-ok recording;
+  board = power_on-ok recording pal;
 }
 
 -- the stages of a run of valid machines are valid

@@ -46,6 +46,7 @@ assembled parts board = record {
   sub = parts.sub;
   note = parts.draw.note;
   picture = parts.draw.picture;
+  pal = parts.draw.pal;
   line = parts.draw.next;
   fm_cycle = first_batch parts.at;
   psg_cycle = first_batch parts.at;

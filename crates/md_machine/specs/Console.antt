@@ -1,5 +1,6 @@
--- The machine as one record, with each memory once, and what a move of each chip changes.
-use Rattle.std.specs.Prelude.{◌≡◌, ℕ, zero, suc, ◌+◌, ◌-◌, ◌*◌, ◌/◌, ◌<◌, ◌≤◌, ◌==◌, ◌&&◌, cond, true, List, [], ◌∷◌, ◌++◌, length, Option, None}
+-- The machine as one record, and what a move of each chip changes. Each memory that may be written
+-- stands once; the cartridge stands with each of the two processors.
+use Rattle.std.specs.Prelude.{◌≡◌, ℕ, Bool, zero, suc, ◌+◌, ◌-◌, ◌*◌, ◌/◌, ◌<◌, ◌≤◌, ◌==◌, ◌&&◌, cond, true, List, [], ◌∷◌, ◌++◌, length, Option, None}
 use Rattle.md_word.specs.declared.event.Entry.{Entry}
 use Rattle.md_word.specs.declared.key.Key.{Key}
 use Rattle.chip_core.specs.Machines.{least_below}
@@ -43,6 +44,8 @@ pub record Console : Type 0 where
   -- the drawing half of the VDP: what the sprites of the last line have set, and the picture
   pub note : SpriteNote
   pub picture : List ℕ
+  -- whether it draws pictures for PAL; the board's half has the same region
+  pub pal : Bool
   -- the cycles of the next events of the lines, the FM batches and the PSG batches
   pub line : ℕ
   pub fm_cycle : ℕ
@@ -53,19 +56,20 @@ pub record Console : Type 0 where
 
 -- at power-on the 68000, the Z80 and the lines have their first event at 0, and the batches at
 -- 16128
-abbrev pub power_on : List ℕ → List Frame → Console
-power_on cart recording = record {
+abbrev pub power_on : List ℕ → List Frame → Bool → Console
+power_on cart recording pal = record {
   cart = cart;
   main = states.power_on cart;
   sub = record { cart = cart; state = states80.power_on };
-  note = drawings.at_power_on.note;
-  picture = drawings.at_power_on.picture;
+  note = (drawings.at_power_on pal).note;
+  picture = (drawings.at_power_on pal).picture;
+  pal = pal;
   line = 0;
   fm_cycle = 16128;
   psg_cycle = 16128;
   fm = fm_synths.at_power_on;
   psg = at_power_on;
-  shared = boards.power_on recording;
+  shared = boards.power_on recording pal;
 }
 
 -- the number of the first sample of the batch at a cycle
@@ -106,11 +110,11 @@ sub_moved m =
 
 -- the drawing half of the VDP, of which no frame is kept
 abbrev pub drawing_in : Console → Drawing
-drawing_in m = record { next = m.line; note = m.note; has_view = true; picture = m.picture; frame = None }
+drawing_in m = record { next = m.line; note = m.note; has_view = true; picture = m.picture; frame = None; pal = m.pal }
 
 -- what it is behind the event of its next line: that is drawn from the VDP as the event leaves it
 abbrev pub line_done : Console → Drawing
-line_done m = drawn_from (view_of (line_board m.shared m.line m.note).vdp) (drawing_in m)
+line_done m = drawn_from (view_of m.pal (line_board m.shared m.line m.note).vdp) (drawing_in m)
 
 -- the event of a line
 unfoldable pub line_moved : Console → Console
@@ -154,7 +158,7 @@ unfoldable pub told : Console → ℕ → List Entry
 told m i =
     cond (i == 0) (cond (next_of m.main).sample [] (main_told m.shared (next_of m.main).key (request_of m.cart m.main) ∷ []))
     (cond (i == 1) (cond (sub_next_of m.sub.state).sample [] ((sub_accessed m).entry ∷ []))
-    (cond (i == 2) (line_entry (record { cycle = m.line; chip = 2 }) (level_of (line_board m.shared m.line m.note)) ∷ [])
+    (cond (i == 2) (let after = line_board m.shared m.line m.note in line_entry after.vdp.pal (record { cycle = m.line; chip = 2 }) (level_of after) ∷ [])
     (cond (i == 3) (batch_entry 11 (record { cycle = m.fm_cycle; chip = 3 }) (length (fm_taken m)) ∷ [])
     (batch_entry 12 (record { cycle = m.psg_cycle; chip = 4 }) (length (taken_below m.psg_cycle m.shared.held)) ∷ []))))
 

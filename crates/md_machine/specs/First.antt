@@ -1,5 +1,5 @@
 -- The parts of the machine at power-on.
-use Rattle.std.specs.Prelude.{ℕ, List, [], ◌∷◌, None}
+use Rattle.std.specs.Prelude.{ℕ, Bool, List, [], ◌∷◌, None}
 use Rattle.md_word.specs.declared.key.Key.{Key}
 use Rattle.m68k_chip.specs.States.{power_on}
 use Rattle.z80_chip.specs.States as states80
@@ -10,10 +10,10 @@ use Rattle.md_machine.specs.declared.chips.Chip.{Chip}
 use Rattle.md_machine.specs.declared.chips.Chip.TheVariants.{Main, Sub, Draw, Fm, Psg}
 
 -- the five chips at power-on
-abbrev pub first_chips : List ℕ → List Chip
-first_chips cart =
+abbrev pub first_chips : List ℕ → Bool → List Chip
+first_chips cart pal =
     Main (record { chip = record { cart = cart; state = power_on cart }; answer = None })
-    ∷ Sub (record { chip = record { cart = cart; state = states80.power_on }; answer = None }) ∷ Draw (record { chip = drawings.at_power_on; view = None })
+    ∷ Sub (record { chip = record { cart = cart; state = states80.power_on }; answer = None }) ∷ Draw (record { chip = drawings.at_power_on pal; view = None })
     ∷ Fm (record { synth = fm_synths.at_power_on; cycle = 16128; taken = []; samples = [] })
     ∷ Psg (record { synth = at_power_on; cycle = 16128; taken = []; samples = [] }) ∷ []
 

@@ -181,15 +181,15 @@ sample-next (Draw c) s i d = absurd (clash (sym d.kind))
 sample-next (Fm c) s i d = absurd (clash (sym d.kind))
 sample-next (Psg c) s i d = absurd (clash (sym d.kind))
 
-kept_by : {A : Type 0} (b : Bool) (old batch : List A) → (b ≡ true → length old ≤ 880) → length batch ≡ 16 → length old ≤ 896 → length (cond b (old ++ batch) old) ≤ 896
+kept_by : {A : Type 0} (b : Bool) (old batch : List A) → (b ≡ true → length old ≤ 1056) → length batch ≡ 16 → length old ≤ 1072 → length (cond b (old ++ batch) old) ≤ 1072
 kept_by true old batch room sixteen few = omega (arith, room refl, length-append old batch)
 kept_by false old batch room sixteen few = few
 
 le_from : (n limit : ℕ) → nat_le n limit ≡ true → n ≤ limit
 le_from n limit is = grind (arith, nat_tests)
 
-kept-few : {A : Type 0} (old batch : List A) → length batch ≡ 16 → length old ≤ 896 → length (kept old batch) ≤ 896
-kept-few old batch sixteen few = kept_by (nat_le (length old) 880) old batch (le_from (length old) 880) sixteen few
+kept-few : {A : Type 0} (old batch : List A) → length batch ≡ 16 → length old ≤ 1072 → length (kept old batch) ≤ 1072
+kept-few old batch sixteen few = kept_by (nat_le (length old) 1056) old batch (le_from (length old) 1056) sixteen few
 
 -- a batch of the FM synthesis has sixteen samples
 pub sixteen-fm : (c : FmValue) → length (fm_batches.samples (first_of c.cycle) c.synth c.taken) ≡ 16

@@ -17,6 +17,7 @@ pub mod Pads
 pub mod Parts
 pub mod Pins
 pub mod Refinement
+pub mod Regions
 pub mod Rules
 pub mod ValidParts
 pub mod Starts

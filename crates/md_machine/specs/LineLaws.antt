@@ -1,22 +1,21 @@
 -- What the event of a line leaves, and when two ways to draw it are one.
-use Rattle.std.specs.Prelude.{◌≡◌, ℕ, ◌+◌, ◌-◌, ◌/◌, ◌<◌, nat_lt, not, Bool, true, false, List, Option, Some, None, is_some, option_map}
+use Rattle.std.specs.Prelude.{◌≡◌, ℕ, ◌+◌, ◌<◌, ◌≤◌, ◌&&◌, nat_lt, not, Bool, true, false, List, Option, Some, None, is_some, option_map}
 use Rattle.std.proofs.Common.{refl, sym, ap, ◌∙◌, arith, inl, inr}
-use Rattle.std.proofs.lemmas.Bool.{cases_Bool}
-use Rattle.std.proofs.lemmas.List.{ext_get_or}
+use Rattle.std.proofs.lemmas.Bool.{cases_Bool, le-ltb, ltb-false, ltb-true}
 use Rattle.std.proofs.lemmas.List.FromFn.{get_or-map-range_with_len}
 use Rattle.md_word.specs.Clock.{line}
+use Rattle.md_word.specs.Region.{height, rows}
 use Rattle.vdp_ports.specs.Vdp.{Vdp}
 use Rattle.vdp_time.specs.Lines.{line_of}
 use Rattle.vdp_planes.specs.Dots.{Dot}
 use Rattle.vdp_planes.specs.declared.view.LineView.{LineView}
 use Rattle.vdp_planes.specs.declared.view.SpriteNote.{SpriteNote}
-use Rattle.vdp_planes.specs.Mixing.{border_of, line_byte, shown_at}
-use Rattle.vdp_planes.specs.View.{clear, dot_at, view_of}
+use Rattle.vdp_planes.specs.View.{clear, display_height, dot_at, view_of}
 use Rattle.vdp_sprites.specs.Sprites.{sprite_dot}
 use Rattle.vdp_chip.specs.Drawing.{Drawing, IsDrawing, answered, line_drawn, picture_after}
-use Rattle.vdp_chip.specs.Picture.{cleared, drawn, finished, height, plane_dots, row_of}
+use Rattle.vdp_chip.specs.Picture.{cleared, drawn, finished, row_of}
 use Rattle.vdp_chip.proofs.Lined.{drawing_drawn}
-use Rattle.vdp_chip.proofs.Rows.{length-row_of}
+use Rattle.vdp_chip.proofs.Rows.{row_hidden, row_same}
 use Rattle.bus_shared.specs.Video.{line_view}
 use Rattle.md_machine.specs.Parts.{IsDraw}
 use Rattle.md_machine.specs.Lines.{drawn_from, note_on, sprites_on, told_view, untold}
@@ -28,7 +27,7 @@ drawing-wherever b d h = record { picture = h.picture; frame = h.frame; at_line 
 -- what holds of the drawing half holds behind the event of a line
 pub drawing-ok : (view : LineView) (d : Drawing) → IsDrawing d → IsDrawing (drawn_from view d)
 unfolding drawn_from
-drawing-ok view d h = drawing_drawn view (sprites_on (line_of d.next) view) (note_on (line_of d.next) view) d h
+drawing-ok view d h = drawing_drawn view (sprites_on (line_of d.next d.pal) view) (note_on (line_of d.next d.pal) view) d h
 
 -- what stands under a function stands there where it is
 some-told : {A B : Type 0} (f : A → B) (o : Option A) → is_some (option_map f o) ≡ is_some o
@@ -50,88 +49,96 @@ drawn-home : (view : LineView) (d : Drawing) → d.has_view ≡ true
 unfolding drawn_from line_drawn picture_after
 drawn-home view d home = λ i. record (drawn_from view d) { has_view = sym home i }
 
--- a byte of a line reads the sprites' dots of the line alone
-byte-same : (view : LineView) (a b s t : List Dot) (n : ℕ) → n < 960 → ((x : ℕ) → x < 320 → dot_at s x ≡ dot_at t x) → line_byte view a b s n ≡ line_byte view a b t n
-unfolding line_byte shown_at
-byte-same view a b s t n h same =
-    let dot : ℕ = n / 3 - border_of view in
-    let within : dot < 320 = omega arith in
-    rw (same dot within) refl
-
-row-same : (view : LineView) (s t : List Dot) (y : ℕ) → ((x : ℕ) → x < 320 → dot_at s x ≡ dot_at t x) → row_of view s y ≡ row_of view t y
-unfolding row_of
-row-same view s t y same =
-    let a : List Dot = plane_dots view false y in
-    let b : List Dot = plane_dots view true y in
-    ext_get_or 0 (row_of view s y) (row_of view t y) (length-row_of view s y ∙ sym (length-row_of view t y))
-    (λ n h.
-    let within : n < 960 = omega (arith, h, length-row_of view s y) in
-    get_or-map-range_with_len (line_byte view a b s) 0 960 n n 0 within (omega arith)
-    ∙ byte-same view a b s t n within same
-    ∙ sym (get_or-map-range_with_len (line_byte view a b t) 0 960 n n 0 within (omega arith)))
-
-line-same : (view : LineView) (s t : List Dot) (note : SpriteNote) (d : Drawing) → ((x : ℕ) → x < 320 → dot_at s x ≡ dot_at t x) → line_drawn view s note d ≡ line_drawn view t note d
+-- a line whose row is the same from other dots of the sprites
+line-same : (view : LineView) (s t : List Dot) (note : SpriteNote) (d : Drawing) → row_of view s (line_of d.next d.pal) ≡ row_of view t (line_of d.next d.pal)
+    → line_drawn view s note d ≡ line_drawn view t note d
 unfolding line_drawn picture_after
 line-same view s t note d same =
     ap (λ (row : List ℕ).
-    let picture = drawn (line_of d.next) row (cleared (line_of d.next) d.picture) in
-    record d { next = d.next + line; note = note; picture = picture; frame = finished (line_of d.next) picture d.frame })
-    (row-same view s t (line_of d.next) same)
+    let number = line_of d.next d.pal in
+    let picture = drawn d.pal number row (cleared number d.picture) in
+    record d { next = d.next + line; note = note; picture = picture; frame = finished d.pal number picture d.frame })
+    same
 
 -- the dots of the sprites, by their places
-sprites-at : (view : LineView) (y x : ℕ) → nat_lt y height ≡ true → x < 320 → dot_at (sprites_on y view) x ≡ sprite_dot view y x
+sprites-at : (view : LineView) (y x : ℕ) → nat_lt y (display_height view) ≡ true → x < 320 → dot_at (sprites_on y view) x ≡ sprite_dot view y x
 unfolding sprites_on
 sprites-at view y x below within = rw below (get_or-map-range_with_len (sprite_dot view y) 0 320 x x clear within (omega arith))
 
 -- behind the picture it is no matter from what a line is drawn
-unseen-view : (v w : LineView) (s t : List Dot) (note : SpriteNote) (d : Drawing) → nat_lt (line_of d.next) height ≡ false → line_drawn v s note d ≡ line_drawn w t note d
+unseen-view : (v w : LineView) (s t : List Dot) (note : SpriteNote) (d : Drawing) → nat_lt (line_of d.next d.pal) (rows d.pal) ≡ false → line_drawn v s note d ≡ line_drawn w t note d
 unfolding line_drawn picture_after drawn
 unseen-view v w s t note d behind = rw behind refl
 
-note-behind : (v w : LineView) (y : ℕ) → nat_lt y height ≡ false → note_on y v ≡ note_on y w
+note-behind : (v w : LineView) (y : ℕ) → display_height v ≤ y → display_height w ≤ y → note_on y v ≡ note_on y w
 unfolding note_on
-note-behind v w y behind = rw behind refl
+note-behind v w y first second = rw (le-ltb y (display_height v) first, le-ltb y (display_height w) second) refl
 
 -- a line that is drawn from a view and the dots of its sprites
-line-made : (view : LineView) (s : List Dot) (note : SpriteNote) (d : Drawing) → note ≡ note_on (line_of d.next) view
-    → (line_of d.next < height → (x : ℕ) → x < 320 → dot_at s x ≡ sprite_dot view (line_of d.next) x)
+line-made : (view : LineView) (s : List Dot) (note : SpriteNote) (d : Drawing) → note ≡ note_on (line_of d.next d.pal) view
+    → (line_of d.next d.pal < display_height view → (x : ℕ) → x < 320 → dot_at s x ≡ sprite_dot view (line_of d.next d.pal) x)
     → line_drawn view s note d ≡ drawn_from view d
 unfolding drawn_from
-line-made view s note d noted dots = elim (cases_Bool (nat_lt (line_of d.next) height)) [
-  | inl below ↦ (let low : line_of d.next < height = grind arith in
-      rw noted (line-same view s (sprites_on (line_of d.next) view) (note_on (line_of d.next) view) d
-      (λ x within. dots low x within ∙ sym (sprites-at view (line_of d.next) x below within))))
-  | inr behind ↦ rw noted (unseen-view view view s (sprites_on (line_of d.next) view) (note_on (line_of d.next) view) d behind)
-]
+line-made view s note d noted dots =
+    let y = line_of d.next d.pal in
+    elim (cases_Bool (nat_lt y (display_height view))) [
+      | inl below ↦ (let low : y < display_height view = ltb-true y (display_height view) below in
+          rw noted (line-same view s (sprites_on y view) (note_on y view) d
+          (row_same view s (sprites_on y view) y (λ x within. dots low x within ∙ sym (sprites-at view y x below within)))))
+      | inr behind ↦ rw noted (line-same view s (sprites_on y view) (note_on y view) d (row_hidden view s (sprites_on y view) y (ltb-false y (display_height view) behind)))
+    ]
+
+-- the display has no line behind the picture
+height-within : (pal tall : Bool) → height (pal && tall) ≤ rows pal
+height-within true true = omega arith
+height-within true false = omega arith
+height-within false tall = omega arith
 
 -- what is not told of a view is not seen
-pub told-drawn : (view : LineView) (d : Drawing) → drawn_from (told_view d.next view) d ≡ drawn_from view d
+pub told-drawn : (view : LineView) (d : Drawing) → view.pal ≡ d.pal → drawn_from (told_view d.next view) d ≡ drawn_from view d
 unfolding drawn_from told_view
-told-drawn view d = elim (cases_Bool (nat_lt (line_of d.next) height)) [
-  | inl below ↦ rw below refl
-  | inr behind ↦ rw behind (
-      ap (λ (n : SpriteNote). line_drawn untold (sprites_on (line_of d.next) untold) n d) (note-behind untold view (line_of d.next) behind)
-      ∙ unseen-view untold view (sprites_on (line_of d.next) untold) (sprites_on (line_of d.next) view) (note_on (line_of d.next) view) d behind)
-]
+told-drawn view d same =
+    let y = line_of d.next d.pal in
+    let test : nat_lt (line_of d.next view.pal) (rows view.pal) ≡ nat_lt y (rows d.pal) = ap (λ (pal : Bool). nat_lt (line_of d.next pal) (rows pal)) same in
+    elim (cases_Bool (nat_lt y (rows d.pal))) [
+      | inl below ↦ rw (test ∙ below) refl
+      | inr behind ↦
+          (let past : rows d.pal ≤ y = ltb-false y (rows d.pal) behind in
+          let region : rows view.pal ≡ rows d.pal = ap rows same in
+          let none = untold view.pal in
+          let first : display_height none ≤ y = omega (arith, height-within view.pal false, region, past) in
+          let second : display_height view ≤ y = omega (arith, height-within view.pal view.tall, region, past) in
+          rw (test ∙ behind) (
+          ap (λ (n : SpriteNote). line_drawn none (sprites_on y none) n d) (note-behind none view y first second)
+          ∙ unseen-view none view (sprites_on y none) (sprites_on y view) (note_on y view) d behind))
+    ]
 
 -- what the board fills is told
-pub told_filled : (cycle : ℕ) (vdp : Vdp) (view : LineView) → told_view cycle (line_view cycle vdp view) ≡ told_view cycle (view_of vdp)
+pub told_filled : (pal : Bool) (cycle : ℕ) (vdp : Vdp) (view : LineView) → view.pal ≡ pal → told_view cycle (line_view cycle vdp view) ≡ told_view cycle (view_of pal vdp)
 unfolding told_view line_view
-told_filled cycle vdp view = elim (cases_Bool (nat_lt (line_of cycle) height)) [
+told_filled pal cycle vdp view same = elim (cases_Bool (nat_lt (line_of cycle view.pal) (rows view.pal))) [
+  | inl below ↦ rw (below, sym same, below) refl
+  | inr behind ↦ rw (behind, sym same, behind) refl
+]
+
+-- and its region stays
+pub filled_region : (cycle : ℕ) (vdp : Vdp) (view : LineView) → (line_view cycle vdp view).pal ≡ view.pal
+unfolding line_view
+filled_region cycle vdp view = elim (cases_Bool (nat_lt (line_of cycle view.pal) (rows view.pal))) [
   | inl below ↦ rw below refl
   | inr behind ↦ rw behind refl
 ]
 
 -- a line that is drawn from a view which was lent, and comes back with it
-pub lent_drawn : (view : LineView) (s : List Dot) (note : SpriteNote) (d : Drawing) → note ≡ note_on (line_of d.next) view
-    → (line_of d.next < height → (x : ℕ) → x < 320 → dot_at s x ≡ sprite_dot view (line_of d.next) x)
+pub lent_drawn : (view : LineView) (s : List Dot) (note : SpriteNote) (d : Drawing) → view.pal ≡ d.pal → note ≡ note_on (line_of d.next d.pal) view
+    → (line_of d.next d.pal < display_height view → (x : ℕ) → x < 320 → dot_at s x ≡ sprite_dot view (line_of d.next d.pal) x)
     → answered view s note d ≡ record (drawn_from (told_view d.next view) d) { has_view = true }
 unfolding answered
-lent_drawn view s note d noted dots = ap (λ (after : Drawing). record after { has_view = true }) (line-made view s note d noted dots ∙ sym (told-drawn view d))
+lent_drawn view s note d same noted dots = ap (λ (after : Drawing). record after { has_view = true }) (line-made view s note d noted dots ∙ sym (told-drawn view d same))
 
 -- a line that is drawn straight from a scene
-pub straight_drawn : (view : LineView) (s : List Dot) (note : SpriteNote) (d : Drawing) → d.has_view ≡ true → note ≡ note_on (line_of d.next) view
-    → (line_of d.next < height → (x : ℕ) → x < 320 → dot_at s x ≡ sprite_dot view (line_of d.next) x)
+pub straight_drawn : (view : LineView) (s : List Dot) (note : SpriteNote) (d : Drawing) → d.has_view ≡ true → view.pal ≡ d.pal → note ≡ note_on (line_of d.next d.pal) view
+    → (line_of d.next d.pal < display_height view → (x : ℕ) → x < 320 → dot_at s x ≡ sprite_dot view (line_of d.next d.pal) x)
     → line_drawn view s note d ≡ record (drawn_from (told_view d.next view) (record d { has_view = false })) { has_view = true }
-straight_drawn view s note d home noted dots =
-    line-made view s note d noted dots ∙ sym (told-drawn view d) ∙ sym (drawn-home (told_view d.next view) d home)
+straight_drawn view s note d home same noted dots =
+    line-made view s note d noted dots ∙ sym (told-drawn view d same) ∙ sym (drawn-home (told_view d.next view) d home)

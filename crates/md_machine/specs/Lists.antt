@@ -1,7 +1,8 @@
 -- Where lists of enabled events of the five chips lead, in whatever order they come. Time stamps after
 -- Chandy and Misra.
 use Rattle.std.specs.Prelude.{◌≡◌, ◌⊎◌, ℕ, ◌+◌, ◌-◌, ◌≤◌, List, length}
-use Rattle.md_word.specs.Clock.{last_cycle, frame}
+use Rattle.md_word.specs.Clock.{last_cycle}
+use Rattle.md_word.specs.Region.{frame_cycles}
 use Rattle.bus_shared.specs.Board.{Board}
 use Rattle.chip_core.specs.declared.event.Event.{Event}
 use Rattle.chip_core.specs.Cores.{CoreValue, machine_of, seen}
@@ -26,5 +27,5 @@ pub record EndsAsRun (start : Console) (from to : ℕ) (list : List Event) (z : 
 pub record ListsEndAsRun (at : ℕ) (start : Console) : Type 0 where
   pub core : CoreValue Chip Board
   pub is : console (machine_of five core) ≡ start
-  pub each : (to : ℕ) (list : List Event) (z : Seen Chip Board) → to ≤ at + frame → to ≤ last_cycle
+  pub each : (to : ℕ) (list : List Event) (z : Seen Chip Board) → to ≤ at + frame_cycles start.pal → to ≤ last_cycle
       → Leads five to (seen five core) list z → EndsAsRun start at to list z

@@ -1,5 +1,5 @@
 -- The machine as contracts see it.
-use Rattle.std.specs.Prelude.{ℕ, ◌≤◌, List, [], Option, IsSome, unwrap_or}
+use Rattle.std.specs.Prelude.{ℕ, ◌≤◌, false, List, [], Option, IsSome, unwrap_or}
 use Rattle.md_word.specs.declared.event.Entry.{Entry}
 use Rattle.md_word.specs.declared.key.Key.{Key}
 use Rattle.chip_core.specs.Cores.{CoreValue, IsCore, machine_of}
@@ -8,6 +8,7 @@ use Rattle.chip_core.specs.Machines.{Machine}
 use Rattle.md_machine.specs.Console.{Console}
 use Rattle.bus_shared.specs.Board.{Board, IsBoard, power_on}
 use Rattle.md_machine.specs.Refinement.{console, draw_of, fm_of, psg_of}
+use Rattle.md_machine.specs.Regions.{IsOneRegion, most_entries}
 use Rattle.md_machine.specs.Lines.{frames_of}
 use Rattle.md_machine.specs.Media.{Media}
 use Rattle.md_machine.specs.Rules.{IsChip, five}
@@ -27,7 +28,7 @@ core_in board chips bounds entries room = record { shared = board; chips = chips
 
 -- the core that a machine has; an empty one stands for it while it runs
 abbrev pub core_held : Option (CoreValue Chip Board) → CoreValue Chip Board
-core_held core = unwrap_or core (core_in (power_on []) [] [] [] 0)
+core_held core = unwrap_or core (core_in (power_on [] false) [] [] [] 0)
 
 -- the frames and samples that a machine of five chips keeps
 abbrev pub kept_in : Machine Chip Board → Media
@@ -42,9 +43,11 @@ machine_at at core = record {
   media = kept_in (machine_of five core);
 }
 
--- what holds of each machine: room for the entries of a segment, and no event below its cycle
+-- what holds of each machine: it is of one region, and has room for the entries of a segment, and no
+-- event stands below its cycle
 pub record IsMachine (at : ℕ) (core : Option (CoreValue Chip Board)) : Type 0 where
   pub has_core : IsSome core
   pub valid : IsCore five IsChip IsBoard (core_held core)
-  pub room : 52500 ≤ (core_held core).room
+  pub region : IsOneRegion (console (machine_of five (core_held core)))
+  pub room : most_entries (console (machine_of five (core_held core))).pal ≤ (core_held core).room
   pub quiet : machines.IsQuiet five (machine_of five (core_held core)) at

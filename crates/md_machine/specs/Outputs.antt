@@ -1,7 +1,9 @@
 -- The bytes of the machine's output.
-use Rattle.std.specs.Prelude.{ℕ, ℤ, pos, List, [], ◌∷◌, ◌++◌, drop}
+use Rattle.std.specs.Prelude.{◌≡◌, ◌⊎◌, ℕ, ◌+◌, ℤ, pos, Bool, true, false, List, [], ◌∷◌, ◌++◌, drop}
+use Rattle.std.proofs.Common.{inl, inr}
 use Rattle.std.specs.List.{flat_map}
 use Rattle.md_files.specs.Journal.{entry_bytes}
+use Rattle.md_word.specs.Region.{picture_length}
 use Rattle.md_files.specs.Wav.{pair_bytes}
 use Rattle.md_word.specs.declared.event.Entry.{Entry}
 use Rattle.psg_sound.specs.Pair.{mixed}
@@ -26,17 +28,22 @@ mixed_bytes (level ∷ levels) sides = sample_bytes (first_sums sides) level ++ 
 unfoldable pub sound_bytes : Media → List ℕ
 sound_bytes media = mixed_bytes media.levels media.sides
 
--- the bytes of a frame with its head
-abbrev pub frame_length : ℕ
-frame_length = 215055
+-- the bytes of a frame of a region with its head
+abbrev pub frame_length : Bool → ℕ
+frame_length pal = 15 + picture_length pal
+
+-- a picture has one of two lengths
+pub a_length : (n : ℕ) (pal : Bool) → n ≡ picture_length pal → (n ≡ picture_length false) ⊎ (n ≡ picture_length true)
+a_length n true e = inr e
+a_length n false e = inl e
 
 -- a frame with its head
-abbrev pub frame_bytes : List ℕ → List ℕ
-frame_bytes picture = ppm_head ++ picture
+abbrev pub frame_bytes : Bool → List ℕ → List ℕ
+frame_bytes pal picture = ppm_head pal ++ picture
 
 -- the frames, one behind the other
-unfoldable pub frames_bytes : List (List ℕ) → List ℕ
-frames_bytes frames = flat_map frame_bytes frames
+unfoldable pub frames_bytes : Bool → List (List ℕ) → List ℕ
+frames_bytes pal frames = flat_map (frame_bytes pal) frames
 
 -- the records of entries
 unfoldable pub journal_bytes : List Entry → List ℕ

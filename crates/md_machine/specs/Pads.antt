@@ -1,5 +1,5 @@
 -- The buttons that the pads show during a run.
-use Rattle.std.specs.Prelude.{◌≡◌, ℕ, ◌+◌, ◌-◌, ◌*◌, ◌/◌, List, nat_le, if◌then◌else◌, false}
+use Rattle.std.specs.Prelude.{◌≡◌, ℕ, ◌+◌, ◌-◌, ◌*◌, ◌/◌, List, nat_le, if◌then◌else◌, Bool}
 use Rattle.md_word.specs.Region.{lines, rows}
 use Rattle.md_pads.specs.Recording.{Frame, pads_of}
 use Rattle.md_word.specs.Clock.{line}
@@ -9,14 +9,15 @@ use Rattle.md_machine.specs.Console.{Console}
 abbrev pub lines_begun : Console → ℕ
 lines_begun z = z.line / line
 
--- the words of the pads after so many lines have begun, of which each frame has 262: none is pressed
--- before line 224 of the first frame, which is the 225th; from then on they are the recording's words
--- of the frame whose line 224 began last
-abbrev pub pads_shown : List Frame → ℕ → Frame
-pads_shown recording begun = if nat_le begun (rows false) then (0, 0) else pads_of recording ((begun - (rows false + 1)) / lines false)
+-- the words of the pads after so many lines have begun: none is pressed before the line behind the
+-- picture of the first frame; from then on they are the recording's words of the frame of which that
+-- line began last
+abbrev pub pads_shown : Bool → List Frame → ℕ → Frame
+pads_shown pal recording begun = if nat_le begun (rows pal) then (0, 0) else pads_of recording ((begun - (rows pal + 1)) / lines pal)
 
--- what holds of the pads
-pub record ShowsPads (recording : List Frame) (z : Console) : Type 0 where
+-- what holds of the pads in a region
+pub record ShowsPads (pal : Bool) (recording : List Frame) (z : Console) : Type 0 where
+  pub region : z.shared.vdp.pal ≡ pal
   pub recording_is : z.shared.recording ≡ recording
   pub lines : z.line ≡ line * lines_begun z
-  pub pads : z.shared.pads ≡ pads_shown recording (lines_begun z)
+  pub pads : z.shared.pads ≡ pads_shown pal recording (lines_begun z)

@@ -45,7 +45,7 @@ pub record FmValue : Type 0 where
 -- what holds of the FM synthesis: the most that it takes and keeps
 pub record IsFm (c : FmValue) : Type 0 where
   pub taken : length c.taken ≤ 1024
-  pub samples : length c.samples ≤ 896
+  pub samples : length c.samples ≤ 1072
 
 -- the PSG's synthesis, the cycle of its next batch, the writes that it took for it, and its samples
 pub record PsgValue : Type 0 where
@@ -58,4 +58,4 @@ pub record PsgValue : Type 0 where
 pub record IsPsg (c : PsgValue) : Type 0 where
   pub synth : IsSynth c.synth
   pub taken : length c.taken ≤ 1024
-  pub samples : length c.samples ≤ 896
+  pub samples : length c.samples ≤ 1072

@@ -48,6 +48,7 @@ record_of c0 c1 c2 c3 c4 b = record {
   line = (draw_of c2).chip.next;
   note = (draw_of c2).chip.note;
   picture = (draw_of c2).chip.picture;
+  pal = (draw_of c2).chip.pal;
   fm_cycle = (fm_of c3).cycle;
   fm = (fm_of c3).synth;
   psg_cycle = (psg_of c4).cycle;

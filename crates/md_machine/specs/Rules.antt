@@ -82,14 +82,14 @@ abbrev pub draw_perform : DrawValue → Board → Accessed DrawValue Board
 draw_perform c b =
     let after = line_board b c.chip.next c.chip.note in
     record {
-      chip = record { chip = record c.chip { has_view = false }; view = Some (told_view c.chip.next (view_of after.vdp)) };
+      chip = record { chip = record c.chip { has_view = false }; view = Some (told_view c.chip.next (view_of c.chip.pal after.vdp)) };
       shared = after;
-      entry = line_entry (drawings.next_of c.chip).key (level_of after);
+      entry = line_entry after.vdp.pal (drawings.next_of c.chip).key (level_of after);
     }
 
 -- the view that was filled; where none was, any
 abbrev pub view_in : Option LineView → LineView
-view_in None = untold
+view_in None = untold false
 view_in (Some view) = view
 
 -- the line is drawn from it
@@ -110,7 +110,7 @@ first_of cycle = 16 * (cycle / 16128 - 1)
 
 -- the samples are kept as long as there is room for a batch
 abbrev pub kept : {A : Type 0} → List A → List A → List A
-kept old batch = if nat_le (length old) 880 then old ++ batch else old
+kept old batch = if nat_le (length old) 1056 then old ++ batch else old
 
 -- the FM synthesis takes the writes below its cycle, and tells how many
 abbrev pub fm_perform : FmValue → Board → Accessed FmValue Board

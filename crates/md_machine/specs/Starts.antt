@@ -1,5 +1,5 @@
 -- Where a run may begin: at power-on, or where a saved state was kept.
-use Rattle.std.specs.Prelude.{◌≡◌, ℕ, ◌+◌, ◌-◌, ◌*◌, ◌/◌, false}
+use Rattle.std.specs.Prelude.{◌≡◌, ℕ, ◌+◌, ◌-◌, ◌*◌, ◌/◌, Bool}
 use Rattle.md_word.specs.Region.{finished_at, frame_cycles}
 use Rattle.md_machine.specs.Console.{Console, IsQuiet}
 
@@ -27,6 +27,7 @@ pub record IsStart (start : Start) : Type 0 where
 abbrev pub batches_below : ℕ → ℕ
 batches_below end = (end - 1) / 16128
 
--- how many frames are finished below a cycle, each at the start of its line 224
-abbrev pub frames_below : ℕ → ℕ
-frames_below end = (end + (frame_cycles false - finished_at false - 1)) / frame_cycles false
+-- how many frames of a region are finished below a cycle, each at the start of the line behind its
+-- picture
+abbrev pub frames_below : Bool → ℕ → ℕ
+frames_below pal end = (end + (frame_cycles pal - finished_at pal - 1)) / frame_cycles pal

@@ -13,8 +13,8 @@ vdp_way =
     by_way
     (both (both (both (many number) (many number)) (both (many number) (many number)))
     (both (both (both flag number) (both number flag))
-    (both (both (both number number) (both number number)) (both (both number number) (both (both (both flag flag) (both flag flag)) (both number (both number number)))))))
-    (λ v. (((v.registers, v.vram), (v.cram, v.vsram)), (((v.pending, v.code), (v.a, v.armed)), (((v.dma_kind, v.byte), (v.source, v.address)), ((v.left, v.next_stamp), (((v.vertical, v.horizontal), (v.overflow, v.collision)), (v.line_counter, (v.int_from, v.int_to))))))))
+    (both (both (both number number) (both number number)) (both (both number number) (both (both (both flag flag) (both flag flag)) (both number (both number (both number (both flag flag)))))))))
+    (λ v. (((v.registers, v.vram), (v.cram, v.vsram)), (((v.pending, v.code), (v.a, v.armed)), (((v.dma_kind, v.byte), (v.source, v.address)), ((v.left, v.next_stamp), (((v.vertical, v.horizontal), (v.overflow, v.collision)), (v.line_counter, (v.int_from, (v.int_to, (v.pal, v.tall))))))))))
     (λ p. record {
       registers = p.0.0.0;
       vram = p.0.0.1;
@@ -36,7 +36,9 @@ vdp_way =
       collision = p.1.1.1.1.0.1.1;
       line_counter = p.1.1.1.1.1.0;
       int_from = p.1.1.1.1.1.1.0;
-      int_to = p.1.1.1.1.1.1.1;
+      int_to = p.1.1.1.1.1.1.1.0;
+      pal = p.1.1.1.1.1.1.1.1.0;
+      tall = p.1.1.1.1.1.1.1.1.1;
     })
     (λ v. refl)
 
@@ -47,16 +49,16 @@ note_way = by_way (both flag flag) (λ n. (n.overflow, n.collision)) (λ p. reco
 -- the way of a view
 abbrev pub view_way : Way LineView
 view_way =
-    by_way (both (both (many number) (many number)) (both (many number) (many number)))
-    (λ v. ((v.registers, v.vram), (v.cram, v.vsram)))
-    (λ p. record { registers = p.0.0; vram = p.0.1; cram = p.1.0; vsram = p.1.1 }) (λ v. refl)
+    by_way (both (both (many number) (many number)) (both (both (many number) (many number)) (both flag flag)))
+    (λ v. ((v.registers, v.vram), ((v.cram, v.vsram), (v.pal, v.tall))))
+    (λ p. record { registers = p.0.0; vram = p.0.1; cram = p.1.0.0; vsram = p.1.0.1; pal = p.1.1.0; tall = p.1.1.1 }) (λ v. refl)
 
 -- the way of the drawing half
 abbrev pub drawing_way : Way Drawing
 drawing_way =
-    by_way (both (both number note_way) (both flag (both (many number) (maybe (many number)))))
-    (λ d. ((d.next, d.note), (d.has_view, (d.picture, d.frame))))
-    (λ p. record { next = p.0.0; note = p.0.1; has_view = p.1.0; picture = p.1.1.0; frame = p.1.1.1 }) (λ d. refl)
+    by_way (both (both number note_way) (both (both flag flag) (both (many number) (maybe (many number)))))
+    (λ d. ((d.next, d.note), ((d.has_view, d.pal), (d.picture, d.frame))))
+    (λ p. record { next = p.0.0; note = p.0.1; has_view = p.1.0.0; picture = p.1.1.0; frame = p.1.1.1; pal = p.1.0.1 }) (λ d. refl)
 
 -- the way of the drawing half with the view that was filled for it
 abbrev pub draw_way : Way DrawValue

@@ -5,8 +5,8 @@ use arrayvec::ArrayVec;
 use md_word::clock::BATCH;
 use md_word::{Key, Next};
 
-/// The samples of a frame at most, in whole batches.
-pub(crate) const MOST_SAMPLES: usize = 896;
+/// The samples of a frame at most, in whole batches, also on PAL.
+pub(crate) const MOST_SAMPLES: usize = 1_072;
 
 /// The number of the first sample of the batch at a cycle.
 pub(crate) fn first_sample(cycle: u64) -> u64

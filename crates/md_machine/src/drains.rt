@@ -1,5 +1,6 @@
 ghost use Rattle.std.specs.Prelude.{◌≡◌, ◌<◌, ◌+◌, ◌*◌, ◌≤◌, ◌++◌, IfSome, drop, length, option_copied, vec_len, vec_capacity};
-ghost use Rattle.vdp_chip.specs.Picture.{picture_length};
+ghost use Rattle.md_word.specs.Region.{picture_length};
+ghost use Rattle.md_machine.specs.Refinement.{draw_of};
 ghost use Rattle.md_machine.specs.Lines.{frames_of};
 ghost use Rattle.md_machine.specs.Outputs.{first_sums, frame_length, frames_bytes, journal_bytes, mixed_bytes, sample_bytes};
 ghost use Rattle.chip_core.specs.Cores.{IsCore};
@@ -27,17 +28,17 @@ pub(crate) fn put_entries(entries: &[Entry], into: &mut Vec<u8>)
     }
 }
 
-/// Appends a frame with its head, where there is one.
-#[tactic(auto, unfolding(crate::specs::Outputs::frames_bytes))]
-pub(crate) fn put_frames(frame: Option<&[u8]>, into: &mut Vec<u8>)
-    requires size { IfSome (option_copied frame) (λ picture. length picture ≡ picture_length) }
-    requires room { vec_len into.old + frame_length * length (frames_of (option_copied frame)) ≤ vec_capacity into.old }
-    ensures bytes { into.new.items ≡ into.old.items ++ frames_bytes (frames_of (option_copied frame.entry)) }
-    ensures length { vec_len into.new ≡ vec_len into.old + frame_length * length (frames_of (option_copied frame.entry)) }
+/// Appends a frame of a region with its head, where there is one.
+#[tactic(auto, using(crate::specs::Outputs::a_length), unfolding(crate::specs::Outputs::frames_bytes))]
+pub(crate) fn put_frames(frame: Option<&[u8]>, pal: bool, into: &mut Vec<u8>)
+    requires size { IfSome (option_copied frame) (λ picture. length picture ≡ picture_length pal) }
+    requires room { vec_len into.old + frame_length pal * length (frames_of (option_copied frame)) ≤ vec_capacity into.old }
+    ensures bytes { into.new.items ≡ into.old.items ++ frames_bytes pal (frames_of (option_copied frame.entry)) }
+    ensures length { vec_len into.new ≡ vec_len into.old + frame_length pal * length (frames_of (option_copied frame.entry)) }
     ensures room { vec_capacity into.old ≤ vec_capacity into.new }
 {
     if let Some(picture) = frame {
-        ppm_head(into);
+        ppm_head(pal, into);
         put_frame(picture, into);
     }
 }
@@ -85,7 +86,7 @@ fn put_pair_of(sums: (i32, i32), level: &i32, into: &mut Vec<u8>)
 /// The frame that a chip keeps: another chip than the drawing half of the VDP has none.
 pub(crate) fn frame_in(chip: &Chip) -> Option<&[u8]>
     ensures value { option_copied result ≡ drained.frame_of chip.now }
-    ensures size { IfSome (option_copied result) (λ picture. length picture ≡ picture_length) }
+    ensures size { IfSome (option_copied result) (λ picture. length picture ≡ picture_length (draw_of chip.now).chip.pal) }
 {
     match chip {
         Chip::Draw(draw) => draw.frame(),

@@ -1,7 +1,7 @@
 ghost use Rattle.std.specs.Prelude.{◌≡◌, ℕ, ◌^◌, ◌<◌, IfOk, IsSome, None, true, false, is_some, not, option_copied, IfSome, length};
 ghost use Rattle.vdp_chip.specs.Drawing.{at_power_on, next_of};
-ghost use Rattle.vdp_chip.specs.Picture.{height, picture_length};
-ghost use Rattle.vdp_planes.specs.View.{AllColours, dot_at, seen};
+ghost use Rattle.md_word.specs.Region.{picture_length};
+ghost use Rattle.vdp_planes.specs.View.{AllColours, display_height, dot_at, seen};
 ghost use Rattle.vdp_sprites.specs.Sprites.{sprite_dot};
 ghost use Rattle.md_machine.specs.Lines as lines;
 ghost use Rattle.md_machine.specs.Rules as rules;
@@ -13,7 +13,7 @@ use std::marker::Model;
 use vdp_chip::{ChipVdp, clear_dots};
 use vdp_planes::{Dot, LineView, Scene, SpriteNote};
 use vdp_sprites::draw_sprites;
-use vdp_time::{HEIGHT, line_of};
+use vdp_time::line_of;
 
 /// The drawing half of the VDP, chip 2: an access at each line. Between the two halves of an access it
 /// keeps the view that the board has filled.
@@ -24,7 +24,7 @@ pub struct DrawChip {
 }
 
 impl Model for DrawChip {
-    ghost use Rattle.std.specs.Prelude.{◌≡◌, is_some, not, option_map};
+    ghost use Rattle.std.specs.Prelude.{◌≡◌, IfSome, is_some, not, option_map};
     ghost use Rattle.md_machine.specs.Lines.{told_view};
     ghost use Rattle.md_machine.specs.Parts.{DrawValue};
 
@@ -32,18 +32,18 @@ impl Model for DrawChip {
 
     ghost view = { λ c. record { chip = c.chip; view = option_map (λ v. told_view c.chip.next v.value) c.view } };
 
-    ghost invariant = { λ c. c.chip.has_view ≡ not (is_some c.view) };
+    ghost invariant = { λ c. (c.chip.has_view ≡ not (is_some c.view)) × IfSome c.view (λ v. v.value.pal ≡ c.chip.pal) };
 }
 
 impl DrawChip {
     ghost use Rattle.md_machine.specs.Parts.{IsDraw};
 
-    /// The drawing half at power-on, with the memory of its picture and its view.
-    pub(crate) fn power_on(alloc: Global) -> Result<DrawChip, NoMemory>
-        ensures { IfOk result (λ chip. chip ≡ record { chip = at_power_on; view = None }) }
+    /// The drawing half at power-on, of a region, with the memory of its picture and its view.
+    pub(crate) fn power_on(alloc: Global, pal: bool) -> Result<DrawChip, NoMemory>
+        ensures { IfOk result (λ chip. chip ≡ record { chip = at_power_on pal; view = None }) }
     {
         Ok(DrawChip {
-            chip: ChipVdp::power_on(alloc)?,
+            chip: ChipVdp::power_on(alloc, pal)?,
             view: None,
         })
     }
@@ -67,7 +67,7 @@ impl DrawChip {
     }
 
     /// The part of a line's event that needs the board: the view is filled.
-    #[tactic(auto, using(crate::specs::LineLaws::told_filled), unfolding(bus_shared::specs::Accesses::carried))]
+    #[tactic(auto, using(crate::specs::LineLaws::told_filled, crate::specs::LineLaws::filled_region), unfolding(bus_shared::specs::Accesses::carried))]
     pub(crate) fn perform(&mut self, shared: &mut Shared) -> Entry
         requires { self.old.chip.next < 2 ^ 50 }
         ensures chip { self.new ≡ (rules.draw_perform self.old shared.old).chip }
@@ -108,7 +108,8 @@ impl DrawChip {
             None => {
                 let key = self.chip.next().key;
                 let entry = start_line(shared, key, self.chip.note());
-                draw_straight(&mut self.chip, &shared.scene());
+                let pal = self.chip.pal();
+                draw_straight(&mut self.chip, &shared.scene(pal));
                 entry
             }
         }
@@ -123,7 +124,7 @@ impl DrawChip {
     /// The frame that was finished last and not dropped.
     pub(crate) fn frame(&self) -> Option<&[u8]>
         ensures value { option_copied result ≡ self.now.chip.frame }
-        ensures size { IfSome self.now.chip.frame (λ picture. length picture ≡ picture_length) }
+        ensures size { IfSome self.now.chip.frame (λ picture. length picture ≡ picture_length self.now.chip.pal) }
     {
         self.chip.next();
         self.chip.frame()
@@ -140,8 +141,10 @@ impl DrawChip {
 /// The view that is to be filled, from the one of two places where it is, and what the sprites of the
 /// last line have set.
 fn lent_view(chip: &mut ChipVdp, view: &mut Option<Box<LineView>>) -> (Box<LineView>, SpriteNote)
-    requires { chip.old.has_view ≡ not (is_some view.old) }
+    requires here { chip.old.has_view ≡ not (is_some view.old) }
+    requires region { IfSome view.old (λ v. v.value.pal ≡ chip.old.pal) }
     ensures note { result.1 ≡ chip.old.note }
+    ensures region { result.0.value.pal ≡ chip.old.pal }
     ensures chip { chip.new ≡ record chip.old { has_view = false } }
     ensures view { view.new ≡ None }
 {
@@ -155,11 +158,12 @@ fn lent_view(chip: &mut ChipVdp, view: &mut Option<Box<LineView>>) -> (Box<LineV
 #[tactic(auto, using(crate::specs::LineLaws::lent_drawn))]
 fn draw_lent(chip: &mut ChipVdp, view: Box<LineView>)
     requires view { chip.old.has_view ≡ false }
+    requires region { view.value.pal ≡ chip.old.pal }
     requires cycle { chip.old.next < 2 ^ 50 }
     ensures { chip.new ≡ record (lines.drawn_from (lines.told_view chip.old.next view.value) chip.old) { has_view = true } }
 {
     let mut dots = clear_dots();
-    let line = line_of(chip.next().key.cycle);
+    let line = line_of(chip.next().key.cycle, chip.pal());
     let note = draw_line_sprites(&view.scene(), line, &mut dots);
     chip.answer_with(view, &dots, note);
 }
@@ -168,25 +172,26 @@ fn draw_lent(chip: &mut ChipVdp, view: Box<LineView>)
 #[tactic(auto, using(crate::specs::LineLaws::straight_drawn))]
 fn draw_straight(chip: &mut ChipVdp, scene: &Scene)
     requires view { chip.old.has_view ≡ true }
+    requires region { (seen scene.now).pal ≡ chip.old.pal }
     requires cycle { chip.old.next < 2 ^ 50 }
     ensures { chip.new ≡ record (lines.drawn_from (lines.told_view chip.old.next (seen scene.now)) (record chip.old { has_view = false })) { has_view = true } }
 {
     let mut dots = clear_dots();
-    let line = line_of(chip.next().key.cycle);
+    let line = line_of(chip.next().key.cycle, chip.pal());
     let note = draw_line_sprites(scene, line, &mut dots);
     chip.draw_line(scene, &dots, note);
 }
 
-/// Draws the sprites of a line of the picture over clear dots: what they set. Behind the picture nothing
+/// Draws the sprites of a line of the display over clear dots: what they set. Behind the display nothing
 /// is drawn or set.
 #[tactic(auto, unfolding(crate::specs::Lines::note_on))]
 fn draw_line_sprites(scene: &Scene, line: u32, dots: &mut [Dot; 320]) -> SpriteNote
     requires { AllColours dots.old }
     ensures note { result ≡ lines.note_on line (seen scene.now) }
-    ensures dots { line < height → (x : ℕ) → x < 320 → dot_at dots.new x ≡ sprite_dot (seen scene.now) line x }
+    ensures dots { line < display_height (seen scene.now) → (x : ℕ) → x < 320 → dot_at dots.new x ≡ sprite_dot (seen scene.now) line x }
     ensures colours { AllColours dots.new }
 {
-    if line < HEIGHT {
+    if line < scene.height() {
         return draw_sprites(scene, line, dots);
     }
     SpriteNote {

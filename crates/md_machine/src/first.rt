@@ -22,9 +22,9 @@ use std::alloc::Global;
 use std::sync::Arc;
 use z80_chip::Chip80;
 
-/// The five chips at power-on.
-pub(crate) fn first_chips(alloc: Global, cart: Arc<Cart>) -> Result<Vec<Chip>, NoMemory>
-    ensures { IfOk result (λ chips. (chips.items ≡ first.first_chips (arc_value cart)) × IsImage (arc_value cart)) }
+/// The five chips at power-on, of a region.
+pub(crate) fn first_chips(alloc: Global, cart: Arc<Cart>, pal: bool) -> Result<Vec<Chip>, NoMemory>
+    ensures { IfOk result (λ chips. (chips.items ≡ first.first_chips (arc_value cart) pal) × IsImage (arc_value cart)) }
 {
     cart.bytes();
     let sub = SubChip {
@@ -39,7 +39,7 @@ pub(crate) fn first_chips(alloc: Global, cart: Arc<Cart>) -> Result<Vec<Chip>, N
     let chips = [
         Chip::Main(main),
         Chip::Sub(sub),
-        Chip::Draw(DrawChip::power_on(alloc)?),
+        Chip::Draw(DrawChip::power_on(alloc, pal)?),
         Chip::Fm(FmChip::power_on(alloc)?),
         Chip::Psg(psg),
     ];
@@ -66,24 +66,25 @@ pub(crate) fn first_bounds(alloc: Global) -> Result<Vec<Key>, NoMemory>
     Ok(Vec::from_array(alloc, bounds)?)
 }
 
-/// The core of the five chips at power-on with this cartridge and this recording of the pads: each
-/// bound is its chip's key, and the journal has room for so many entries.
+/// The core of the five chips at power-on, of a region, with this cartridge and this recording of the
+/// pads: each bound is its chip's key, and the journal has room for so many entries.
 pub fn first_core(
     alloc: Global,
     cart: Arc<Cart>,
     recording: Arc<Recording>,
+    pal: bool,
     room: usize,
 ) -> Result<Core<MdChips>, NoMemory>
     ensures { IfOk result (λ core. core ≡ record {
-      shared = power_on (arc_value recording);
-      chips = first.first_chips (arc_value cart);
+      shared = power_on (arc_value recording) pal;
+      chips = first.first_chips (arc_value cart) pal;
       bounds = first.first_bounds;
       journal = [];
       room = room;
     }) }
 {
-    let shared = Shared::power_on(alloc, recording)?;
-    let chips = first_chips(alloc, cart)?;
+    let shared = Shared::power_on(alloc, recording, pal)?;
+    let chips = first_chips(alloc, cart, pal)?;
     let bounds = first_bounds(alloc)?;
     let journal = Vec::with_capacity(alloc, room)?;
     Ok(Core::make(shared, chips, bounds, journal))

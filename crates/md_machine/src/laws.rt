@@ -1,6 +1,6 @@
 //! Laws of the machine, as calls that do nothing and stand for what they ensure.
 
-ghost use Rattle.std.specs.Prelude.{◌≡◌, ℕ, ◌+◌, ◌-◌, ◌*◌, ◌/◌, ◌^◌, ◌<◌, ◌≤◌, ◌++◌, [], List, length};
+ghost use Rattle.std.specs.Prelude.{◌≡◌, ℕ, Bool, ◌+◌, ◌-◌, ◌*◌, ◌/◌, ◌^◌, ◌<◌, ◌≤◌, ◌++◌, [], List, length};
 ghost use Rattle.md_word.specs.declared.event.Entry.{Entry};
 ghost use Rattle.chip_core.specs.Limits.{events_within};
 ghost use Rattle.md_pads.specs.Recording.{Frame};
@@ -57,7 +57,7 @@ pub fn one_run()
 
 /// Power-on is a start, at cycle 0.
 pub fn power_on_is_start()
-    ensures { (cart : List ℕ) (recording : List Frame) → IsStart (record { at = 0; console = power_on cart recording }) }
+    ensures { (cart : List ℕ) (recording : List Frame) (pal : Bool) → IsStart (record { at = 0; console = power_on cart recording pal }) }
 {}
 
 /// Where a run from a start ends, another may start.
@@ -75,11 +75,12 @@ pub fn samples_counted()
         → IsRunTo start.console end z entries output → length output.levels ≡ 16 * (batches_below end - batches_below start.at) }
 {}
 
-/// A run from a start to a cycle makes a frame for each cycle 766,080 + 896,040 n, at which line 224 of
-/// frame n begins, that lies between the two and below the end.
+/// A run from a start to a cycle makes a frame for each cycle 766,080 + 896,040 n, or on PAL
+/// 820,800 + 1,070,460 n, at which the line behind the picture of frame n begins, that lies between the
+/// two and below the end.
 pub fn frames_counted()
     ensures { (start : Start) (z : Console) (end : ℕ) (entries : List Entry) (output : Media) → IsStart start
-        → IsRunTo start.console end z entries output → length output.frames ≡ frames_below end - frames_below start.at }
+        → IsRunTo start.console end z entries output → length output.frames ≡ frames_below start.console.pal end - frames_below start.console.pal start.at }
 {}
 
 /// From a machine on there are never more events below a cycle than cycles up to it, and chips.
@@ -105,17 +106,18 @@ pub fn few_in_list()
     ensures { (span : ℕ) → events_within five span ≤ 2 * (span / 28 + span / 45 + span / 3420 + 2 * (span / 16128) + 10) }
 {}
 
-/// From power-on, after any number of events, the pads show no button before line 224 of the first
-/// frame has begun, and from then on the recording's words of the frame whose line 224 began last.
+/// From power-on, after any number of events, the pads show no button before the line behind the picture
+/// of the first frame has begun, line 224 or on PAL 240, and from then on the recording's words of the
+/// frame of which that line began last.
 pub fn pads_are_recorded()
-    ensures { (cart : List ℕ) (recording : List Frame) (moves : ℕ) → ShowsPads recording (ran (power_on cart recording) moves) }
+    ensures { (cart : List ℕ) (recording : List Frame) (pal : Bool) (moves : ℕ) → ShowsPads pal recording (ran (power_on cart recording pal) moves) }
 {}
 
 /// From power-on, after events below a cycle of at most 2^50, the Z80's RAM and bank register have one
 /// owner: the Z80 or the bus.
 pub fn one_owner(cart: &Cart)
-    ensures { (recording : List Frame) (end n : ℕ) → end ≤ 2 ^ 50 → AllBelow (power_on cart.now recording) end n
-        → HasOneOwner (ran (power_on cart.now recording) n) }
+    ensures { (recording : List Frame) (pal : Bool) (end n : ℕ) → end ≤ 2 ^ 50 → AllBelow (power_on cart.now recording pal) end n
+        → HasOneOwner (ran (power_on cart.now recording pal) n) }
 {
     cart.bytes();
     laws::stages::<MdChips>();
@@ -130,7 +132,7 @@ pub fn parts_are_valid(machine: &Machine)
 
 /// At power-on with a cartridge they are.
 pub fn parts_start_valid(cart: &Cart)
-    ensures { (recording : List Frame) → HasValidParts (power_on cart.now recording) }
+    ensures { (recording : List Frame) (pal : Bool) → HasValidParts (power_on cart.now recording pal) }
 {
     cart.bytes();
 }
@@ -141,6 +143,11 @@ pub fn parts_stay_valid()
 {
     laws::stages::<MdChips>();
 }
+
+/// A run leaves the region: that of the drawing half of the VDP, and that of the board.
+pub fn region_stays()
+    ensures { (m : Console) (moves : ℕ) → ((ran m moves).pal ≡ m.pal) × ((ran m moves).shared.vdp.pal ≡ m.shared.vdp.pal) }
+{}
 
 /// Where no event stood before a cycle, none does after any events below a cycle of at most 2^50.
 pub fn quiet_stays()

@@ -21,6 +21,6 @@ mod shown;
 mod sub_chip;
 
 pub use first::first_core;
-pub use machine::Machine;
+pub use machine::{Machine, most_entries, most_pairs};
 pub use pins::Pins;
 pub use set::MdChips;

@@ -1,6 +1,7 @@
 ghost use Rattle.std.specs.Prelude.{◌≡◌, ℕ, ◌≤◌, ◌<◌, ◌+◌, ◌-◌, ◌*◌, ◌^◌, ◌++◌, [], IfOk, length, vec_len, vec_capacity};
 ghost use Rattle.std.specs.Arc.{arc_value};
-ghost use Rattle.md_word.specs.Clock.{last_cycle, frame};
+ghost use Rattle.md_word.specs.Clock.{last_cycle};
+ghost use Rattle.md_word.specs.Region.{frame_cycles};
 ghost use Rattle.chip_core.specs.Cores.{CoreValue, IsCore, machine_of};
 ghost use Rattle.chip_core.specs.Machines.{IsQuiet};
 ghost use Rattle.bus_shared.specs.Board.{Board, IsBoard};
@@ -10,6 +11,7 @@ ghost use Rattle.md_machine.specs.Console.{AllBelow, IsRunTo, key_in, mover, pow
 ghost use Rattle.md_machine.specs.Outputs.{frame_length, frames_bytes, journal_bytes, sound_bytes};
 ghost use Rattle.md_machine.specs.Lists.{ListsEndAsRun};
 ghost use Rattle.md_machine.specs.Refinement.{main_of};
+ghost use Rattle.md_machine.specs.Regions.{IsOneRegion, most_entries, most_pairs};
 ghost use Rattle.md_machine.specs.Machines.{machine_at};
 ghost use Rattle.md_machine.specs.Rules.{IsChip, five, next};
 ghost use Rattle.md_machine.specs.ValidParts.{HasValidParts};
@@ -33,8 +35,21 @@ use std::marker::Model;
 use std::sync::{Arc, Wait};
 use std::thread::Threads;
 
-/// The entries of a frame at most.
-pub(crate) const MOST_ENTRIES: usize = 52_500;
+/// The entries of a frame of a region at most: 52,500 or 62,600.
+pub fn most_entries(pal: bool) -> usize
+    ensures value { result ≡ most_entries pal }
+    ensures few { result ≤ 62600 }
+{
+    if pal { 62_600 } else { 52_500 }
+}
+
+/// The pairs of samples of a frame of a region at most: 896 or 1,072.
+pub fn most_pairs(pal: bool) -> usize
+    ensures value { result ≡ most_pairs pal }
+    ensures few { result ≤ 1072 }
+{
+    if pal { 1_072 } else { 896 }
+}
 
 /// A Mega Drive: five chips and the board that they share.
 #[derive(Drop)]
@@ -55,19 +70,20 @@ impl Model for Machine {
 }
 
 impl Machine {
-    /// The machine at power-on with this cartridge and this recording of the pads. All memory that it
-    /// ever needs is taken here.
+    /// The machine at power-on, of a region, with this cartridge and this recording of the pads. All
+    /// memory that it ever needs is taken here.
     pub fn power_on(
         alloc: Global,
         cart: Arc<Cart>,
         recording: Arc<Recording>,
+        pal: bool,
     ) -> Result<Machine, NoMemory>
-        ensures { IfOk result (λ machine. machine ≡ record { at = 0; console = power_on (arc_value cart) (arc_value recording); entries = []; media = no_media }) }
+        ensures { IfOk result (λ machine. machine ≡ record { at = 0; console = power_on (arc_value cart) (arc_value recording) pal; entries = []; media = no_media }) }
     {
-        let shared = Shared::power_on(alloc, recording)?;
-        let chips = first_chips(alloc, cart)?;
+        let shared = Shared::power_on(alloc, recording, pal)?;
+        let chips = first_chips(alloc, cart, pal)?;
         let bounds = first_bounds(alloc)?;
-        let journal = Vec::with_capacity(alloc, MOST_ENTRIES)?;
+        let journal = Vec::with_capacity(alloc, most_entries(pal))?;
         let core = Core::make(shared, chips, bounds, journal);
         Ok(Machine {
             at: 0,
@@ -80,6 +96,23 @@ impl Machine {
         ensures { result ≡ self.now.at }
     {
         self.at
+    }
+
+    /// Whether the machine is one for PAL: the board and the drawing half of the VDP are of one region.
+    pub fn pal(&self) -> bool
+        ensures value { result ≡ self.now.console.pal }
+        ensures one { IsOneRegion self.now.console }
+    {
+        self.one_region();
+        self.draw_chip().pal()
+    }
+
+    /// The board and the drawing half are of one region.
+    fn one_region(&self)
+        ensures { IsOneRegion self.now.console }
+    {
+        // what holds of each machine holds of its core
+        let _ = &self.core;
     }
 
     /// The least cycle of a next event: that of the chip of least key.
@@ -133,15 +166,16 @@ impl Machine {
     /// Brings the machine to the cycle `to`, at most a frame on. It waits for nobody.
     pub fn alone(&mut self, to: u64)
         requires later { self.old.at < to }
-        requires near { to ≤ self.old.at + frame }
+        requires near { to ≤ self.old.at + frame_cycles self.old.console.pal }
         requires far { to ≤ last_cycle }
         requires entries { self.old.entries ≡ [] }
         requires media { self.old.media ≡ no_media }
         ensures at { self.new.at ≡ to }
         ensures run { IsRunTo self.old.console to self.new.console self.new.entries self.new.media }
-        ensures entries { length self.new.entries ≤ 52500 }
+        ensures entries { length self.new.entries ≤ most_entries self.old.console.pal }
         ensures frames { length self.new.media.frames ≤ 1 }
-        ensures samples { length self.new.media.levels ≤ 896 }
+        ensures samples { length self.new.media.levels ≤ most_pairs self.old.console.pal }
+        ensures region { self.new.console.pal ≡ self.old.console.pal }
     {
         if let Some(core) = self.core.take() {
             self.core = Some(run_alone(core, self.at, to));
@@ -165,15 +199,16 @@ impl Machine {
         requires some { 1 ≤ workers }
         requires few { workers ≤ 5 }
         requires later { self.old.at < to }
-        requires near { to ≤ self.old.at + frame }
+        requires near { to ≤ self.old.at + frame_cycles self.old.console.pal }
         requires far { to ≤ last_cycle }
         requires entries { self.old.entries ≡ [] }
         requires media { self.old.media ≡ no_media }
         ensures at { self.new.at ≡ to }
         ensures run { IsRunTo self.old.console to self.new.console self.new.entries self.new.media }
-        ensures entries { length self.new.entries ≤ 52500 }
+        ensures entries { length self.new.entries ≤ most_entries self.old.console.pal }
         ensures frames { length self.new.media.frames ≤ 1 }
-        ensures samples { length self.new.media.levels ≤ 896 }
+        ensures samples { length self.new.media.levels ≤ most_pairs self.old.console.pal }
+        ensures region { self.new.console.pal ≡ self.old.console.pal }
     {
         if let Some(core) = self.core.take() {
             self.core = Some(run_workers(rt, core, self.at, to, workers, gate));
@@ -195,13 +230,14 @@ impl Machine {
 
     /// Appends the frame that was finished since the machine was last drained, with its head, if one was.
     pub fn drain_frames(&mut self, into: &mut Vec<u8>)
-        requires { vec_len into.old + frame_length * length self.old.media.frames ≤ vec_capacity into.old }
-        ensures bytes { into.new.items ≡ into.old.items ++ frames_bytes self.old.media.frames }
-        ensures length { vec_len into.new ≡ vec_len into.old + frame_length * length self.old.media.frames }
+        requires { vec_len into.old + frame_length self.old.console.pal * length self.old.media.frames ≤ vec_capacity into.old }
+        ensures bytes { into.new.items ≡ into.old.items ++ frames_bytes self.old.console.pal self.old.media.frames }
+        ensures length { vec_len into.new ≡ vec_len into.old + frame_length self.old.console.pal * length self.old.media.frames }
         ensures machine { self.new ≡ record self.old { media = record self.old.media { frames = [] } } }
         ensures room { vec_capacity into.old ≤ vec_capacity into.new }
     {
-        put_frames(frame_in(&self.core().chips()[2]), into);
+        let pal = self.pal();
+        put_frames(frame_in(&self.core().chips()[2]), pal, into);
         self.silence_draw();
     }
 

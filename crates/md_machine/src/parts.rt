@@ -11,7 +11,7 @@ ghost use Rattle.md_machine.specs.Starts.{first_batch as batch_from};
 use crate::chips::Chip;
 use crate::draw::DrawChip;
 use crate::fm::FmChip;
-use crate::machine::{MOST_ENTRIES, Machine};
+use crate::machine::{Machine, most_entries};
 use crate::main_chip::MainChip;
 use crate::psg_chip::PsgChip;
 use crate::set::MdChips;
@@ -29,7 +29,7 @@ use z80_chip::Chip80;
 
 impl Machine {
     /// The machine at a cycle that these parts make: chips without an answer that waits, the drawing
-    /// half with its view, and the board. Its batches of samples come next at the first multiple of
+    /// half with its view, and the board of its region. Its batches of samples come next at the first multiple of
     /// 16,128 from `at` on, at 16,128 where `at` is 0. It holds no output: a finished frame is dropped,
     /// whose picture stays. All memory that it ever needs is taken here.
     pub fn from_parts(
@@ -43,6 +43,7 @@ impl Machine {
         psg: PsgSynth,
     ) -> Result<Machine, NoMemory>
         requires view { draw.has_view ≡ true }
+        requires region { draw.pal ≡ shared.vdp.pal }
         requires main { at ≤ (next_of main.state).key.cycle }
         requires sub { at ≤ (sub_next_of sub.state).key.cycle }
         requires line { at ≤ draw.next }
@@ -55,9 +56,10 @@ impl Machine {
         }) }
     {
         shared.known();
+        let pal = draw.pal();
         let chips = chips_of(alloc, at, main, sub, draw, fm, psg)?;
         let bounds = bounds_of(alloc, chips.as_slice())?;
-        let journal = Vec::with_capacity(alloc, MOST_ENTRIES)?;
+        let journal = Vec::with_capacity(alloc, most_entries(pal))?;
         let core = Core::make(shared, chips, bounds, journal);
         Ok(Machine {
             at,

@@ -1,5 +1,6 @@
 ghost use Rattle.std.specs.Prelude.{◌≡◌, ℕ, ◌≤◌, ◌+◌, Some, [], length, vec_capacity};
-ghost use Rattle.md_word.specs.Clock.{last_cycle, frame};
+ghost use Rattle.md_word.specs.Clock.{last_cycle};
+ghost use Rattle.md_word.specs.Region.{frame_cycles};
 ghost use Rattle.chip_core.specs.Cores.{CoreValue, IsCore, machine_of};
 ghost use Rattle.chip_core.specs.Limits.{all_moves_left};
 ghost use Rattle.chip_core.specs.Machines as machines;
@@ -7,6 +8,7 @@ ghost use Rattle.md_machine.specs.Console.{IsRunTo};
 ghost use Rattle.md_machine.specs.Machines.{kept_in};
 ghost use Rattle.bus_shared.specs.Board.{Board, IsBoard};
 ghost use Rattle.md_machine.specs.Refinement.{console};
+ghost use Rattle.md_machine.specs.Regions.{Stays, most_entries, most_pairs};
 ghost use Rattle.md_machine.specs.Rules.{IsChip, five};
 ghost use Rattle.md_machine.specs.Media.{no_media};
 ghost use Rattle.md_machine.specs.declared.chips.Chip.{Chip};
@@ -21,9 +23,9 @@ use std::thread::Threads;
 pub(crate) fn run_alone(core: Core<MdChips>, from: u64, to: u64) -> Core<MdChips>
     requires core { IsCore five IsChip IsBoard core }
     requires quiet { machines.IsQuiet five (machine_of five core) from }
-    requires near { to ≤ from + frame }
+    requires near { to ≤ from + frame_cycles (console (machine_of five core)).pal }
     requires far { to ≤ last_cycle }
-    requires room { 52500 ≤ core.room }
+    requires room { most_entries (console (machine_of five core)).pal ≤ core.room }
     requires entries { core.journal ≡ [] }
     requires media { kept_in (machine_of five core) ≡ no_media }
     ensures core { IsCore five IsChip IsBoard result }
@@ -31,7 +33,9 @@ pub(crate) fn run_alone(core: Core<MdChips>, from: u64, to: u64) -> Core<MdChips
     ensures run { IsRunTo (console (machine_of five core)) to (console (machine_of five result))
         result.journal (kept_in (machine_of five result)) }
     ensures quiet { machines.IsQuiet five (machine_of five result) to }
-    ensures entries { length result.journal ≤ 52500 }
+    ensures region { Stays (console (machine_of five core)) (console (machine_of five result)) }
+    ensures entries { length result.journal ≤ most_entries (console (machine_of five core)).pal }
+    ensures samples { length (kept_in (machine_of five result)).levels ≤ most_pairs (console (machine_of five core)).pal }
 {
     know_segments();
     let mut core = core;
@@ -51,9 +55,9 @@ pub(crate) fn run_workers<R: Threads + Wait + Sync, G: Gate>(
 ) -> Core<MdChips>
     requires core { IsCore five IsChip IsBoard core }
     requires quiet { machines.IsQuiet five (machine_of five core) from }
-    requires near { to ≤ from + frame }
+    requires near { to ≤ from + frame_cycles (console (machine_of five core)).pal }
     requires far { to ≤ last_cycle }
-    requires room { 52500 ≤ core.room }
+    requires room { most_entries (console (machine_of five core)).pal ≤ core.room }
     requires entries { core.journal ≡ [] }
     requires media { kept_in (machine_of five core) ≡ no_media }
     requires some { 1 ≤ workers }
@@ -63,7 +67,9 @@ pub(crate) fn run_workers<R: Threads + Wait + Sync, G: Gate>(
     ensures run { IsRunTo (console (machine_of five core)) to (console (machine_of five result))
         result.journal (kept_in (machine_of five result)) }
     ensures quiet { machines.IsQuiet five (machine_of five result) to }
-    ensures entries { length result.journal ≤ 52500 }
+    ensures region { Stays (console (machine_of five core)) (console (machine_of five result)) }
+    ensures entries { length result.journal ≤ most_entries (console (machine_of five core)).pal }
+    ensures samples { length (kept_in (machine_of five result)).levels ≤ most_pairs (console (machine_of five core)).pal }
 {
     know_segments();
     chip_run::run_core(rt, core, to, workers, gate)
@@ -72,16 +78,22 @@ pub(crate) fn run_workers<R: Threads + Wait + Sync, G: Gate>(
 /// What a run of the five chips over a segment is, whoever made it.
 fn know_segments()
     ensures few { (v : CoreValue Chip Board) (from to : ℕ) → machines.IsQuiet five (machine_of five v) from
-        → to ≤ from + frame → to ≤ last_cycle → all_moves_left five to (machine_of five v) ≤ 52500 }
+        → to ≤ from + frame_cycles (console (machine_of five v)).pal → to ≤ last_cycle
+        → all_moves_left five to (machine_of five v) ≤ most_entries (console (machine_of five v)).pal }
     ensures run { (v w : CoreValue Chip Board) (from to : ℕ) → IsCore five IsChip IsBoard v
-        → machines.IsQuiet five (machine_of five v) from → to ≤ from + frame → to ≤ last_cycle
+        → machines.IsQuiet five (machine_of five v) from → to ≤ from + frame_cycles (console (machine_of five v)).pal → to ≤ last_cycle
         → kept_in (machine_of five v) ≡ no_media
         → IsCore five IsChip IsBoard w → machines.IsRunTo five (machine_of five v) to (machine_of five w) w.journal
         → IsRunTo (console (machine_of five v)) to (console (machine_of five w)) w.journal (kept_in (machine_of five w)) }
     ensures entries { (v w : CoreValue Chip Board) (from to : ℕ) → IsCore five IsChip IsBoard v
-        → machines.IsQuiet five (machine_of five v) from → to ≤ from + frame → to ≤ last_cycle
+        → machines.IsQuiet five (machine_of five v) from → to ≤ from + frame_cycles (console (machine_of five v)).pal → to ≤ last_cycle
         → machines.IsRunTo five (machine_of five v) to (machine_of five w) w.journal
-        → length w.journal ≤ 52500 }
+        → length w.journal ≤ most_entries (console (machine_of five v)).pal }
+    ensures samples { (v w : CoreValue Chip Board) (from to : ℕ) → IsCore five IsChip IsBoard v
+        → machines.IsQuiet five (machine_of five v) from → to ≤ from + frame_cycles (console (machine_of five v)).pal → to ≤ last_cycle
+        → kept_in (machine_of five v) ≡ no_media
+        → machines.IsRunTo five (machine_of five v) to (machine_of five w) w.journal
+        → length (kept_in (machine_of five w)).levels ≤ most_pairs (console (machine_of five v)).pal }
 {
     laws::stages::<MdChips>();
     laws::limits::<MdChips>();

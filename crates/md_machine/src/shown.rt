@@ -36,6 +36,7 @@ impl Machine {
         ensures next { result.now.next ≡ self.now.console.line }
         ensures note { result.now.note ≡ self.now.console.note }
         ensures picture { result.now.picture ≡ self.now.console.picture }
+        ensures region { result.now.pal ≡ self.now.console.pal }
     {
         draw_in(&self.core().chips()[2])
     }

@@ -31,7 +31,7 @@ pub have-none : (start : Start) (hashers : Hashers) → IsStart start → RunLaw
     → Holds256 hashers.frames [] → Holds256 hashers.samples [] → Holds256 hashers.journal [] → HaveUntil start start.at hashers
 unfolding frames_bytes sound_bytes journal_bytes
 have-none start hashers is laws small frames samples journal = record {
-  frames = subst (λ (m : Media). Holds256 hashers.frames (frames_bytes m.frames)) (sym (no-media start is laws small)) frames;
+  frames = subst (λ (m : Media). Holds256 hashers.frames (frames_bytes start.console.pal m.frames)) (sym (no-media start is laws small)) frames;
   samples = subst (λ (m : Media). Holds256 hashers.samples (sound_bytes m)) (sym (no-media start is laws small)) samples;
   journal = subst (λ (l : List Entry). Holds256 hashers.journal (journal_bytes l)) (sym (no-entries start is laws small)) journal;
 }
@@ -41,17 +41,17 @@ pub have-more : (start : Start) (at to : ℕ) (old new : Hashers) (frames sample
     → ((bytes : List ℕ) → Holds256 old.frames bytes → Holds256 new.frames (bytes ++ frames))
     → ((bytes : List ℕ) → Holds256 old.samples bytes → Holds256 new.samples (bytes ++ samples))
     → ((bytes : List ℕ) → Holds256 old.journal bytes → Holds256 new.journal (bytes ++ journal))
-    → frames_bytes (media_from start to).frames ≡ frames_bytes (media_from start at).frames ++ frames
+    → frames_bytes start.console.pal (media_from start to).frames ≡ frames_bytes start.console.pal (media_from start at).frames ++ frames
     → sound_bytes (media_from start to) ≡ sound_bytes (media_from start at) ++ samples
     → journal_bytes (entries_from start to) ≡ journal_bytes (entries_from start at) ++ journal → HaveUntil start to new
 have-more start at to old new frames samples journal have more_frames more_samples more_journal frames_are samples_are journal_is = record {
-  frames = subst (λ (l : List ℕ). Holds256 new.frames l) (sym frames_are) (more_frames (frames_bytes (media_from start at).frames) have.frames);
+  frames = subst (λ (l : List ℕ). Holds256 new.frames l) (sym frames_are) (more_frames (frames_bytes start.console.pal (media_from start at).frames) have.frames);
   samples = subst (λ (l : List ℕ). Holds256 new.samples l) (sym samples_are) (more_samples (sound_bytes (media_from start at)) have.samples);
   journal = subst (λ (l : List ℕ). Holds256 new.journal l) (sym journal_is) (more_journal (journal_bytes (entries_from start at)) have.journal);
 }
 
 -- the digests at the end
-pub digests-are : (start : Start) (end : ℕ) (digests : Digests) → digests.frames ≡ sha256 (frames_bytes (media_from start end).frames)
+pub digests-are : (start : Start) (end : ℕ) (digests : Digests) → digests.frames ≡ sha256 (frames_bytes start.console.pal (media_from start end).frames)
     → digests.samples ≡ sha256 (sound_bytes (media_from start end)) → digests.journal ≡ sha256 (journal_bytes (entries_from start end))
     → digests ≡ digests_from start end
 unfolding digests_from
@@ -111,11 +111,11 @@ right_demo_near demo files verdict state outcome near = ap (λ (b : Bool). cond 
 
 demo_ending_behind : (demo : Demo) → demo.cycles ≤ 0 → demo_ending demo ≡ Behind 0
 demo_ending_behind demo none =
-    ap (λ (b : Bool). cond b (Behind 0) (DemoDone (summary_from (demo_start demo.number) demo.cycles))) (is_behind demo.cycles 0 none)
+    ap (λ (b : Bool). cond b (Behind 0) (DemoDone (summary_from (demo_start demo) demo.cycles))) (is_behind demo.cycles 0 none)
 
-demo_ending_done : (demo : Demo) → 0 < demo.cycles → demo_ending demo ≡ DemoDone (summary_from (demo_start demo.number) demo.cycles)
+demo_ending_done : (demo : Demo) → 0 < demo.cycles → demo_ending demo ≡ DemoDone (summary_from (demo_start demo) demo.cycles)
 demo_ending_done demo some =
-    ap (λ (b : Bool). cond b (Behind 0) (DemoDone (summary_from (demo_start demo.number) demo.cycles))) (is_ahead demo.cycles 0 some)
+    ap (λ (b : Bool). cond b (Behind 0) (DemoDone (summary_from (demo_start demo) demo.cycles))) (is_ahead demo.cycles 0 some)
 
 -- a run with an end within the limits ends well
 pub right_demo_done : (demo : Demo) (files : Files) (verdict : Verdict) (state : StateVerdict) (outcome : Outcome) → IsEnd demo.cycles

@@ -118,7 +118,7 @@ unwritten-cause start run old new _ fault = absurd fault
 
 -- a cause from later on is one from before
 pub cause-before : (start : Start) (run : Run) (old mid new : DepotState) (ending : Ending) → GoesOn old mid → RunCause start run mid new ending → RunCause start run old new ending
-cause-before start run old mid new (Done from accesses halted) on cause = cause
+cause-before start run old mid new (Done from frames accesses halted) on cause = cause
 cause-before start run old mid new Memory on cause = tt
 cause-before start run old mid new FramesFault on cause = (cause.0, rose_later old.write_faults mid.write_faults new.write_faults on.writes cause.1)
 cause-before start run old mid new SoundFault on cause = (cause.0, rose_later old.write_faults mid.write_faults new.write_faults on.writes cause.1)
@@ -166,7 +166,7 @@ untouched run old new same = record {
 
 pub refused-leaves : (told : Type 0) (run : Run) (old new : DepotState) (ending : Ending) → InputCause told run old new ending
     → new.files ≡ old.files → RunFiles run old.files new.files ending
-refused-leaves told run old new (Done from accesses halted) cause same = absurd cause
+refused-leaves told run old new (Done from frames accesses halted) cause same = absurd cause
 refused-leaves told run old new FramesFault cause same = absurd cause
 refused-leaves told run old new SoundFault cause same = absurd cause
 refused-leaves told run old new JournalFault cause same = absurd cause
@@ -178,7 +178,7 @@ refused-leaves told run old new _ cause same = same
 -- a run that found its start
 pub run-ends : (told : Type 0) (run : Run) (start : Start) (old mid new : DepotState) (ending : Ending) → IsEnd run.cycles → MayBeginAt run start.at
     → (told → Begins run old.files start) → start.at < run.cycles → GoesOn old mid → RunCause start run mid new ending → RunEnds told run old new ending
-run-ends told run start old mid new (Done from accesses halted) end may begins ahead on cause =
+run-ends told run start old mid new (Done from frames accesses halted) end may begins ahead on cause =
     (end, (λ none. cause.from ∙ may none), λ t. (start, begins t, ahead, cause))
 run-ends told run start old mid new Memory end may begins ahead on cause = tt
 run-ends told run start old mid new FramesFault end may begins ahead on cause =
@@ -193,7 +193,7 @@ run-ends told run start old mid new Unsaved end may begins ahead on cause = (end
 run-ends told run start old mid new _ end may begins ahead on cause = absurd cause
 
 pub run-leaves : (run : Run) (start : Start) (old new : Files) (ending : Ending) → Begins run old start → RunLeaves start run old new ending → RunFiles run old new ending
-run-leaves run start old new (Done from accesses halted) begins leaves = (start, begins, leaves)
+run-leaves run start old new (Done from frames accesses halted) begins leaves = (start, begins, leaves)
 run-leaves run start old new FramesFault begins leaves = (start, begins, leaves)
 run-leaves run start old new SoundFault begins leaves = (start, begins, leaves)
 run-leaves run start old new JournalFault begins leaves = (start, begins, leaves)

@@ -5,8 +5,7 @@ use Rattle.md_outer.specs.Outside.{DepotState, Files, GoesOn, Rose}
 use Rattle.md_machine.specs.Machines.{MachineValue}
 use Rattle.md_machine.specs.Media.{no_media}
 use Rattle.md_machine.specs.Starts.{Start}
-use Rattle.save_state.specs.Faults.{IsOtherCart, IsWrongAt}
-use Rattle.save_state.specs.States.{IsState}
+use Rattle.save_state.specs.Versions.{IsOtherCart, IsState, IsWrongAt}
 use Rattle.save_state.specs.declared.fault.StateFault.{StateFault}
 use Rattle.save_state.specs.declared.fault.StateFault.TheVariants as fault
 use Rattle.md_top.specs.Courses.{start_at}

@@ -1,5 +1,5 @@
 -- A run that came to its end ends well.
-use Rattle.std.proofs.Common.{◌≡◌, ℕ, ◌^◌, ◌≤◌, List, ◌++◌, Option, refl, sym, ap, subst, ◌∙◌, arith}
+use Rattle.std.proofs.Common.{◌≡◌, ℕ, ◌^◌, ◌≤◌, List, ◌++◌, refl, sym, ap, subst, ◌∙◌, arith}
 use Rattle.md_word.specs.declared.event.Entry.{Entry}
 use Rattle.md_machine.specs.Lists.{ListsEndAsRun}
 use Rattle.md_machine.specs.Console.{Console, IsRunTo}
@@ -10,8 +10,10 @@ use Rattle.md_machine.proofs.Kept.{cart-stays}
 use Rattle.md_reached.specs.Reached.{IsReached}
 use Rattle.md_reached.specs.Settling.{GoesOn}
 use Rattle.save_state.specs.Ready.{IsReady}
-use Rattle.save_state.specs.States.{IsState, kept_bytes, settled_console, state_bytes}
+use Rattle.save_state.specs.Versions.{IsState}
+use Rattle.save_state.specs.States.{kept_bytes, settled_console, state_bytes}
 use Rattle.md_top.specs.Courses.{CameTo}
+use Rattle.md_top.specs.Counts.{frames_between}
 use Rattle.md_top.specs.Limits.{IsEnd}
 use Rattle.md_top.specs.Resuming.{GoesOnFrom, IsKept, RunsWell, StateLaws}
 use Rattle.md_top.specs.Runs.{RunLaws, entries_from, halted_from, media_from, moves_from, run_from, state_to}
@@ -42,11 +44,11 @@ kept start at m same is =
     (subst (λ (z : Console). IsState z.cart (state_bytes at z) (record { at = at; console = settled_console at z })) same is)
 
 -- at the cycle to which it came
-ends-here : (start : Start) (machine : MachineValue) (accesses : ℕ) → CameTo start machine accesses → StateLaws → ListsEndAsRun start.at start.console → IsEnd machine.at
+ends-here : (start : Start) (machine : MachineValue) (accesses finished : ℕ) → CameTo start machine accesses → finished ≡ frames_between start.console.pal start.at machine.at → StateLaws → ListsEndAsRun start.at start.console → IsEnd machine.at
     → (IsReady machine.at machine.console → IsState machine.console.cart (state_bytes machine.at machine.console) (record { at = machine.at; console = settled_console machine.at machine.console }))
-    → RunsWell start machine.at start.at accesses machine.console.main.halted
+    → RunsWell start machine.at start.at finished accesses machine.console.main.halted
 unfolding halted_from
-ends-here start machine accesses came states lists end saved =
+ends-here start machine accesses finished came told states lists end saved =
     let small : machine.at ≤ 2 ^ 50 = omega (arith, end.1) in
     let made : IsRunTo start.console machine.at (run_from start machine.at) (entries_from start machine.at) (media_from start machine.at) = run-made start machine.at came.laws small in
     let found : Found start machine.at machine.console (entries_from start machine.at) (media_from start machine.at) = run-found start machine.at came.laws small came.run in
@@ -56,7 +58,7 @@ ends-here start machine accesses came states lists end saved =
       least = made;
       lists = lists;
       from = refl;
-      frames = sym (came.laws.frames_counted (run_from start machine.at) machine.at (entries_from start machine.at) (media_from start machine.at) came.from made ∙ frames-counted start.at machine.at);
+      frames = told ∙ sym (came.laws.frames_counted (run_from start machine.at) machine.at (entries_from start machine.at) (media_from start machine.at) came.from made ∙ frames-counted start.console.pal start.at machine.at);
       samples = sym (came.laws.levels_counted (run_from start machine.at) machine.at (entries_from start machine.at) (media_from start machine.at) came.from made ∙ pairs-counted start.at machine.at);
       accesses = came.counted;
       halted = ap (λ (m : Console). m.main.halted) found.console;
@@ -65,9 +67,9 @@ ends-here start machine accesses came states lists end saved =
       rest = goes-on start machine.at came.laws states (subst (IsReached machine.at) found.console reached);
     }
 
-pub ends-well : (start : Start) (end : ℕ) (machine : MachineValue) (accesses : ℕ) → machine.at ≡ end → CameTo start machine accesses → StateLaws → ListsEndAsRun start.at start.console → IsEnd end
+pub ends-well : (start : Start) (end : ℕ) (machine : MachineValue) (accesses finished : ℕ) → machine.at ≡ end → CameTo start machine accesses → finished ≡ frames_between start.console.pal start.at end → StateLaws → ListsEndAsRun start.at start.console → IsEnd end
     → (IsReady machine.at machine.console → IsState machine.console.cart (state_bytes machine.at machine.console) (record { at = machine.at; console = settled_console machine.at machine.console }))
-    → RunsWell start end start.at accesses machine.console.main.halted
-ends-well start end machine accesses at came states lists ends saved =
-    subst (λ (n : ℕ). RunsWell start n start.at accesses machine.console.main.halted) at
-    (ends-here start machine accesses came states lists (subst IsEnd (sym at) ends) saved)
+    → RunsWell start end start.at finished accesses machine.console.main.halted
+ends-well start end machine accesses finished at came told states lists ends saved =
+    subst (λ (n : ℕ). RunsWell start n start.at finished accesses machine.console.main.halted) at
+    (ends-here start machine accesses finished came (told ∙ ap (frames_between start.console.pal start.at) (sym at)) states lists (subst IsEnd (sym at) ends) saved)

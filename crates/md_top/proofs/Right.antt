@@ -1,5 +1,5 @@
 -- The ending where neither a fault nor want of memory comes between.
-use Rattle.std.proofs.Common.{◌≡◌, ◌⊎◌, inl, inr, ℕ, ◌<◌, ◌≤◌, Bool, true, false, cond, List, [], length, Option, Some, None, refl, sym, ap, subst, ◌∙◌, arith}
+use Rattle.std.proofs.Common.{◌≡◌, ◌⊎◌, inl, inr, ℕ, ◌<◌, ◌≤◌, Bool, true, false, cond, List, [], length, Option, Some, None, refl, sym, ap, ap₂, subst, ◌∙◌, arith}
 use Rattle.std.specs.Prelude.{IsSomeAnd, nat_le, nat_lt, unwrap_or}
 use Rattle.std.proofs.lemmas.Bool.Decides.{nat_tests}
 use Rattle.rom_header.specs.Cartridge.{fault_of, has_mark}
@@ -11,7 +11,7 @@ use Rattle.md_top.specs.Endings.{accepted_ending, asked_ending, cart_ending, fil
 use Rattle.md_top.specs.Inputs.{AreInputs, CartCause, IsAccepted, IsJudged, IsVerdict, Recorded, RecordingCause, Records, Verdict, WrongAt, cart_limit, cart_of, recording_limit}
 use Rattle.md_word.specs.Clock.{last_cycle}
 use Rattle.md_top.specs.Loads.{Begins, BeginsWith, IsFoundIn, IsLoadJudged, IsStateJudged, IsStateVerdict, Keeps, LoadCause, OfOther, StateCause, StateVerdict, StateWrongAt, inputs_by, recording_by, state_limit}
-use Rattle.md_top.specs.Runs.{entries_from, halted_from, powered_on}
+use Rattle.md_top.specs.Runs.{entries_from, halted_from, media_from, powered_on}
 use Rattle.md_machine.specs.Starts.{Start}
 use Rattle.md_args.specs.Words.{Run}
 use Rattle.md_top.specs.declared.ending.Ending.{Ending}
@@ -130,7 +130,7 @@ recording_right told (Some name) old new verdict ready _ cause judged clean t = 
 -- BEHIND THE SAVED STATE'S FILE
 
 -- a run whose end is not above its start, and one whose end is
-ended_by : (b : Bool) (start : Start) (end : ℕ) → status_of (cond b (Behind start.at) (Done start.at (length (entries_from start end)) (halted_from start end))) ≡ cond b 9 0
+ended_by : (b : Bool) (start : Start) (end : ℕ) → status_of (cond b (Behind start.at) (Done start.at (length (media_from start end).frames) (length (entries_from start end)) (halted_from start end))) ≡ cond b 9 0
 ended_by true start end = refl
 ended_by false start end = refl
 
@@ -196,7 +196,7 @@ right_behind_cart run files verdict state near accepted = right_near run files v
 -- behind both inputs: they are those that the verdict on the recording tells
 inputs_same : (run : Run) (files : Files) (verdict : Verdict) (inputs : Inputs) → AreInputs run files inputs → IsJudged run.recording files verdict
     → inputs ≡ inputs_by run files verdict
-inputs_same run files verdict inputs are is = λ i. record { cart = are.cart i; recording = recording_same run.recording files verdict inputs.recording are.recording is i }
+inputs_same run files verdict inputs are is = λ i. record { cart = are.cart i; recording = recording_same run.recording files verdict inputs.recording are.recording is i; pal = are.pal i }
 
 -- behind both inputs
 right_inputs : (run : Run) (files : Files) (verdict : Verdict) (state : StateVerdict) (inputs : Inputs) → run.cycles ≤ last_cycle → AreInputs run files inputs
@@ -204,8 +204,8 @@ right_inputs : (run : Run) (files : Files) (verdict : Verdict) (state : StateVer
 right_inputs run files verdict state inputs near are is =
     right_behind_cart run files verdict state near are.accepted
     ∙ right_recorded run.recording files verdict inputs.recording
-    (λ recording. loaded_ending run.load files state (record { cart = cart_of run.rom files; recording = recording }) run.cycles) are.recording is
-    ∙ ap (λ (cart : List ℕ). loaded_ending run.load files state (record { cart = cart; recording = inputs.recording }) run.cycles) (sym are.cart)
+    (λ recording. loaded_ending run.load files state (record { cart = cart_of run.rom files; recording = recording; pal = run.pal }) run.cycles) are.recording is
+    ∙ ap₂ (λ (cart : List ℕ) (pal : Bool). loaded_ending run.load files state (record { cart = cart; recording = inputs.recording; pal = pal }) run.cycles) (sym are.cart) (sym are.pal)
 
 judged_inputs : (run : Run) (files : Files) (verdict : Verdict) (state : StateVerdict) (inputs : Inputs) → AreInputs run files inputs → IsJudged run.recording files verdict
     → IsStateJudged (Some run) files verdict state → IsLoadJudged run.load inputs files state

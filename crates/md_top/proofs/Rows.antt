@@ -45,7 +45,7 @@ run_recorded : (told : Type 0) (run : Run) (old new : DepotState) (verdict : Ver
     → RecordingCause told run.recording old new ending → IsJudged run.recording old.files verdict → ¬ Rose old.read_faults new.read_faults → told
     → (status_of ending ≡ status_of (asked_ending run old.files verdict state)) ⊎ (status_of ending ≡ 10)
 run_recorded told run old new verdict state ending near accepted cause is clean t =
-    same (recording_right told run.recording old new verdict (λ recording. loaded_ending run.load old.files state (record { cart = cart_of run.rom old.files; recording = recording }) run.cycles) ending cause is clean t)
+    same (recording_right told run.recording old new verdict (λ recording. loaded_ending run.load old.files state (record { cart = cart_of run.rom old.files; recording = recording; pal = run.pal }) run.cycles) ending cause is clean t)
   where
     same : (status_of ending ≡ status_of (accepted_ending run old.files verdict state)) ⊎ (status_of ending ≡ 10)
         → (status_of ending ≡ status_of (asked_ending run old.files verdict state)) ⊎ (status_of ending ≡ 10)
@@ -55,7 +55,7 @@ run_recorded told run old new verdict state ending near accepted cause is clean 
 run_right : (told : Type 0) (run : Run) (old new : DepotState) (verdict : Verdict) (state : StateVerdict) (ending : Ending) → RunEnds told run old new ending
     → IsJudged run.recording old.files verdict → IsStateJudged (Some run) old.files verdict state → ¬ Rose old.read_faults new.read_faults → ¬ Rose old.write_faults new.write_faults → told
     → (status_of ending ≡ status_of (asked_ending run old.files verdict state)) ⊎ (status_of ending ≡ 10)
-run_right told run old new verdict state (Done from accesses halted) (end, may, cause) is judged reads writes t =
+run_right told run old new verdict state (Done from frames accesses halted) (end, may, cause) is judged reads writes t =
     let found = cause t in inl (sym (right_done run old.files verdict state found.0 end.1 found.2 found.1 is judged))
 run_right told run old new verdict state TooFar cause is judged reads writes t = inl (sym (ap status_of (right_far run old.files verdict state cause)))
 run_right told run old new verdict state (Behind from) (near, behind, may, cause) is judged reads writes t =
@@ -130,7 +130,7 @@ parts_other run old new whole leaves name no_frames no_sound no_journal no_save 
 
 leaves_other : (run : Run) (old new : Files) (ending : Ending) → RunFiles run old new ending
     → (name : List ℕ) → run.frames ≢ Some name → run.sound ≢ Some name → run.journal ≢ Some name → run.save ≢ Some name → new name ≡ old name
-leaves_other run old new (Done from accesses halted) (start, begins, leaves) name no_frames no_sound no_journal no_save =
+leaves_other run old new (Done from frames accesses halted) (start, begins, leaves) name no_frames no_sound no_journal no_save =
     ap (λ (files : Files). files name) leaves ∙ written_other run old (all_of (pieces_of start run.cycles)) name no_frames no_sound no_journal no_save
 leaves_other run old new FramesFault (start, begins, leaves) name no_frames no_sound no_journal no_save =
     parts_other run old new (pieces_of start run.cycles) leaves name no_frames no_sound no_journal no_save

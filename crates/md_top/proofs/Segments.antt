@@ -1,5 +1,5 @@
 -- A segment behind a run is a run, and what its outputs hold.
-use Rattle.std.proofs.Common.{◌≡◌, ℕ, zero, suc, ◌+◌, ◌-◌, ◌*◌, ◌≤◌, ◌^◌, List, [], ◌∷◌, ◌++◌, length, refl, sym, ap, ◌∙◌, subst, append_assoc, append-nil, arith}
+use Rattle.std.proofs.Common.{◌≡◌, ℕ, Bool, true, false, zero, suc, ◌+◌, ◌-◌, ◌*◌, ◌≤◌, ◌^◌, List, [], ◌∷◌, ◌++◌, length, refl, sym, ap, ◌∙◌, subst, append_assoc, append-nil, arith}
 use Rattle.std.specs.Prelude.{ℤ}
 use Rattle.std.proofs.lemmas.Grind.{flat_map-append}
 use Rattle.md_outer.specs.Outside.{IsPrefix}
@@ -8,7 +8,7 @@ use Rattle.md_files.specs.Wav.{wav_head}
 use Rattle.md_word.specs.declared.event.Entry.{Entry}
 use Rattle.md_machine.specs.Console.{AllBelow, Console, IsRunTo, journal, mover, ran, media}
 use Rattle.md_machine.specs.Machines.{MachineValue}
-use Rattle.md_machine.specs.Outputs.{frame_bytes, frames_bytes, journal_bytes, mixed_bytes, sample_bytes, sound_bytes}
+use Rattle.md_machine.specs.Outputs.{frame_bytes, frame_length, frames_bytes, journal_bytes, mixed_bytes, sample_bytes, sound_bytes}
 use Rattle.md_machine.specs.Media.{Media, joined, no_media}
 use Rattle.md_machine.specs.Movers.{mover-lt}
 use Rattle.md_machine.specs.Starts.{IsStart, Start, batches_below}
@@ -38,9 +38,17 @@ unfolding sound_bytes
 sound_bytes-append first second paired = mixed-append first.levels second.levels first.sides second.sides paired
 
 -- the frames one behind the other
-pub frames_bytes-append : (first second : List (List ℕ)) → frames_bytes (first ++ second) ≡ frames_bytes first ++ frames_bytes second
+pub frames_bytes-append : (pal : Bool) (first second : List (List ℕ)) → frames_bytes pal (first ++ second) ≡ frames_bytes pal first ++ frames_bytes pal second
 unfolding frames_bytes
-frames_bytes-append first second = flat_map-append frame_bytes first second
+frames_bytes-append pal first second = flat_map-append (frame_bytes pal) first second
+
+-- a frame of a segment, if there is one, has room
+pub frame-room : (old new : Bool) (frames room : ℕ) → new ≡ old → frames ≤ 1 → frame_length old ≤ room → frame_length new * frames ≤ room
+frame-room old new frames room same few fit = subst (λ (b : Bool). frame_length b * frames ≤ room) (sym same) (within old fit)
+  where
+    within : (b : Bool) → frame_length b ≤ room → frame_length b * frames ≤ room
+    within false enough = omega (arith, few, enough)
+    within true enough = omega (arith, few, enough)
 
 -- the bytes of records one behind the other
 pub journal_bytes-append : (first second : List Entry) → journal_bytes (first ++ second) ≡ journal_bytes first ++ journal_bytes second
@@ -105,15 +113,15 @@ unfolding sound_until
 sound-grows start end s t is laws small within =
     let more : Later start s t = later start s t laws small within in (
       sound_bytes more.output,
-      append_assoc (wav_head (length (media_from start end).levels)) (sound_bytes (media_from start s)) (sound_bytes more.output)
-          ∙ ap (λ (l : List ℕ). wav_head (length (media_from start end).levels) ++ l) (sym (sound_bytes-append (media_from start s) more.output (paired start s is laws (omega (arith, small, within)))) ∙ ap sound_bytes (sym more.more_media)),
+      append_assoc (wav_head (length (media_from start end).levels) start.console.pal) (sound_bytes (media_from start s)) (sound_bytes more.output)
+          ∙ ap (λ (l : List ℕ). wav_head (length (media_from start end).levels) start.console.pal ++ l) (sym (sound_bytes-append (media_from start s) more.output (paired start s is laws (omega (arith, small, within)))) ∙ ap sound_bytes (sym more.more_media)),
     )
 
 frames-grow : (start : Start) (s t : ℕ) → RunLaws start → t ≤ 2 ^ 50 → s ≤ t → IsPrefix (frames_to start s) (frames_to start t)
 unfolding frames_to
 frames-grow start s t laws small within =
     let more : Later start s t = later start s t laws small within in
-    (frames_bytes more.output.frames, sym (frames_bytes-append (media_from start s).frames more.output.frames) ∙ ap (λ (m : Media). frames_bytes m.frames) (sym more.more_media))
+    (frames_bytes start.console.pal more.output.frames, sym (frames_bytes-append start.console.pal (media_from start s).frames more.output.frames) ∙ ap (λ (m : Media). frames_bytes start.console.pal m.frames) (sym more.more_media))
 
 journal-grows : (start : Start) (s t : ℕ) → RunLaws start → t ≤ 2 ^ 50 → s ≤ t → IsPrefix (journal_to start s) (journal_to start t)
 unfolding journal_to
@@ -159,10 +167,10 @@ sound-next : (start : Start) (end at to : ℕ) (pairs : List ℕ) → sound_byte
     → sound_until start end at ++ pairs ≡ sound_until start end to
 unfolding sound_until
 sound-next start end at to pairs is =
-    append_assoc (wav_head (length (media_from start end).levels)) (sound_bytes (media_from start at)) pairs
-    ∙ ap (λ (l : List ℕ). wav_head (length (media_from start end).levels) ++ l) (sym is)
+    append_assoc (wav_head (length (media_from start end).levels) start.console.pal) (sound_bytes (media_from start at)) pairs
+    ∙ ap (λ (l : List ℕ). wav_head (length (media_from start end).levels) start.console.pal ++ l) (sym is)
 
-frames-next : (start : Start) (at to : ℕ) (frames : List ℕ) → frames_bytes (media_from start to).frames ≡ frames_bytes (media_from start at).frames ++ frames
+frames-next : (start : Start) (at to : ℕ) (frames : List ℕ) → frames_bytes start.console.pal (media_from start to).frames ≡ frames_bytes start.console.pal (media_from start at).frames ++ frames
     → frames_to start at ++ frames ≡ frames_to start to
 unfolding frames_to
 frames-next start at to frames is = sym is
@@ -172,7 +180,7 @@ journal-next : (start : Start) (at to : ℕ) (records : List ℕ) → journal_by
 unfolding journal_to
 journal-next start at to records is = sym is
 
-pub pieces-next : (start : Start) (end at to : ℕ) (more : Pieces) → more.state ≡ [] → frames_bytes (media_from start to).frames ≡ frames_bytes (media_from start at).frames ++ more.frames
+pub pieces-next : (start : Start) (end at to : ℕ) (more : Pieces) → more.state ≡ [] → frames_bytes start.console.pal (media_from start to).frames ≡ frames_bytes start.console.pal (media_from start at).frames ++ more.frames
     → sound_bytes (media_from start to) ≡ sound_bytes (media_from start at) ++ more.sound → journal_bytes (entries_from start to) ≡ journal_bytes (entries_from start at) ++ more.journal
     → lengthened (pieces_until start end at) more ≡ pieces_until start end to
 pieces-next start end at to more none frames sound journal = λ i. record {
@@ -184,18 +192,18 @@ pieces-next start end at to more none frames sound journal = λ i. record {
 
 -- the outputs before the first segment: the head, and nothing else
 pub head-first : (start : Start) (end : ℕ) → IsStart start → RunLaws start → start.at ≤ 2 ^ 50 → IsEnd end
-    → wav_head (pairs_between start.at end) ≡ sound_until start end start.at
+    → wav_head (pairs_between start.at end) start.console.pal ≡ sound_until start end start.at
 unfolding sound_until sound_bytes
 head-first start end is laws small (some, near) =
     let counted : length (media_from start end).levels ≡ 16 * (batches_below end - batches_below start.at) =
     laws.levels_counted (run_from start end) end (entries_from start end) (media_from start end) is (run-made start end laws (omega (arith, near))) in
     let count : length (media_from start end).levels ≡ pairs_between start.at end = counted ∙ omega arith in
-    ap wav_head (sym count) ∙ sym (append-nil (wav_head (length (media_from start end).levels)))
-    ∙ ap (λ (l : Media). wav_head (length (media_from start end).levels) ++ sound_bytes l) (sym (no-media start is laws small))
+    ap (λ (n : ℕ). wav_head n start.console.pal) (sym count) ∙ sym (append-nil (wav_head (length (media_from start end).levels) start.console.pal))
+    ∙ ap (λ (l : Media). wav_head (length (media_from start end).levels) start.console.pal ++ sound_bytes l) (sym (no-media start is laws small))
 
 frames-first : (start : Start) → IsStart start → RunLaws start → start.at ≤ 2 ^ 50 → frames_to start start.at ≡ []
 unfolding frames_to frames_bytes
-frames-first start is laws small = ap (λ (m : Media). frames_bytes m.frames) (no-media start is laws small)
+frames-first start is laws small = ap (λ (m : Media). frames_bytes start.console.pal m.frames) (no-media start is laws small)
 
 journal-first : (start : Start) → IsStart start → RunLaws start → start.at ≤ 2 ^ 50 → journal_to start start.at ≡ []
 unfolding journal_to journal_bytes

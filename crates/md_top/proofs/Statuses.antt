@@ -21,7 +21,7 @@ put_output told text out out' status (inr part) = inr (part.0, part.1.rose)
 pub reported : (sink : Type 0) (command : Option Command) (ending : Ending) (out out' : SinkState) (status : ℕ) → Reports sink command ending out out' status
     → (status ≡ status_of ending) ⊎ ((status ≡ 13) × Rose out.faults out'.faults)
 reported sink command (Shown lines) out out' status reports = put_output sink (text_of command (Shown lines)) out out' status reports
-reported sink command (Done from accesses halted) out out' status reports = put_output sink (text_of command (Done from accesses halted)) out out' status reports
+reported sink command (Done from frames accesses halted) out out' status reports = put_output sink (text_of command (Done from frames accesses halted)) out out' status reports
 reported sink command (DemoDone summary) out out' status reports = put_output sink (text_of command (DemoDone summary)) out out' status reports
 reported sink command (Converted size) out out' status reports = put_output sink (text_of command (Converted size)) out out' status reports
 reported sink command _ out out' status reports = inl reports.0
@@ -147,7 +147,7 @@ run_write_fault told run old new _ cause is = absurd (omega (arith, is))
 pub far_only : (told sink : Type 0) (run : Run) (old new : DepotState) (out out' : SinkState) (status : ℕ) (ending : Ending)
     → RunEnds told run old new ending → Reports sink (Some (RunCart run)) ending out out' status → last_cycle < run.cycles → (status ≡ 11) ⊎ (status ≡ 10)
 far_only told sink run old new out out' status (Shown lines) cause reports far = absurd cause.1
-far_only told sink run old new out out' status (Done from accesses halted) cause reports far = absurd (omega (arith, cause.0.1))
+far_only told sink run old new out out' status (Done from frames accesses halted) cause reports far = absurd (omega (arith, cause.0.1))
 far_only told sink run old new out out' status (DemoDone summary) cause reports far = absurd cause.1
 far_only told sink run old new out out' status TooFar cause reports far = inl reports.0
 far_only told sink run old new out out' status FramesFault cause reports far = absurd (omega (arith, cause.0.1))

@@ -31,7 +31,7 @@ PutsOutput told text old new status = ((status ≡ 0) × PutsAll told text old n
 -- the status, and what was put: a sink that fails changes the status of a command that ended well alone
 abbrev pub Reports : Type 0 → Option Command → Ending → SinkState → SinkState → ℕ → Type 0
 Reports told command (Shown lines) old new status = PutsOutput told (text_of command (Shown lines)) old new status
-Reports told command (Done from accesses halted) old new status = PutsOutput told (text_of command (Done from accesses halted)) old new status
+Reports told command (Done from frames accesses halted) old new status = PutsOutput told (text_of command (Done from frames accesses halted)) old new status
 Reports told command (DemoDone summary) old new status = PutsOutput told (text_of command (DemoDone summary)) old new status
 Reports told command (Converted size) old new status = PutsOutput told (text_of command (Converted size)) old new status
 Reports told command ending old new status =

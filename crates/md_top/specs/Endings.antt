@@ -8,14 +8,14 @@ use Rattle.hex.specs.Hex.{encode_lower}
 use Rattle.md_outer.specs.Outside.{DepotState, Files}
 use Rattle.md_pads.specs.Recording.{Frame}
 use Rattle.md_machine.specs.Starts.{Start}
-use Rattle.md_top.specs.Counts.{frames_between, pairs_between}
+use Rattle.md_top.specs.Counts.{pairs_between}
 use Rattle.md_top.specs.Demos.{DemoEnds, demo_start, summary_from}
 use Rattle.md_top.specs.Inputs.{CartCause, InputCause, IsAccepted, Recorded, Verdict, WrongAt, cart_limit, cart_of, recording_limit, refusal_of}
 use Rattle.md_word.specs.Clock.{last_cycle}
 use Rattle.md_top.specs.Limits.{IsEnd}
 use Rattle.md_top.specs.Loads.{Begins, CanRun, Keeps, LoadCause, MayBeginAt, OfOther, StateVerdict, StateWrongAt, state_limit}
 use Rattle.md_top.specs.Resuming.{RunsWell}
-use Rattle.md_top.specs.Runs.{entries_from, halted_from, pieces_of, pieces_until, powered_on}
+use Rattle.md_top.specs.Runs.{entries_from, halted_from, media_from, pieces_of, pieces_until, powered_on}
 use Rattle.md_top.specs.Outputs.{Holds, IsUnwritten, LeavesParts, nothing}
 use Rattle.md_vgm.specs.Outcomes.{Outcome}
 use Rattle.md_args.specs.Words.{Assemble, Command, Convert, Demo, Info, Run, RunCart, RunDemo, end_of, frames_name, journal_name, list_name, load_name, output_of, recording_name, rom_of, save_name, sound_name}
@@ -29,7 +29,7 @@ use Rattle.md_top.specs.declared.ending.Ending.TheVariants.{Shown, Done, DemoDon
 -- the status that the program ends with
 abbrev pub status_of : Ending → ℕ
 status_of (Shown lines) = 0
-status_of (Done from accesses halted) = 0
+status_of (Done from frames accesses halted) = 0
 status_of (DemoDone summary) = 0
 status_of (Converted size) = 0
 status_of (InputRefused fault) = 17
@@ -77,14 +77,14 @@ halted_line None = []
 halted_line (Some since) = number_line (codes "halted at ") since
 
 -- how far a run went, and how much it made
-abbrev pub counts_of : ℕ → ℕ → ℕ → List ℕ
-counts_of from end accesses =
-    (numbers_line (codes "cycles ") from (codes " to ") end ++ number_line (codes "frames ") (frames_between from end))
+abbrev pub counts_of : ℕ → ℕ → ℕ → ℕ → List ℕ
+counts_of from end frames accesses =
+    (numbers_line (codes "cycles ") from (codes " to ") end ++ number_line (codes "frames ") frames)
     ++ (number_line (codes "samples ") (pairs_between from end) ++ number_line (codes "accesses ") accesses)
 
 -- what a run from a cycle to another puts that ends well
-abbrev pub lines_of : ℕ → ℕ → ℕ → Option ℕ → List ℕ
-lines_of from end accesses halted = counts_of from end accesses ++ halted_line halted
+abbrev pub lines_of : ℕ → ℕ → ℕ → ℕ → Option ℕ → List ℕ
+lines_of from end frames accesses halted = counts_of from end frames accesses ++ halted_line halted
 
 -- the line of a digest, in hexadecimal
 abbrev pub digest_line : List ℕ → List ℕ → List ℕ
@@ -99,8 +99,8 @@ digest_lines digests =
 -- what is put: the output, or the one line of a refusal
 abbrev pub text_of : Option Command → Ending → List ℕ
 text_of (Some command) (Shown lines) = lines
-text_of (Some command) (Done from accesses halted) = lines_of from (end_of command) accesses halted
-text_of (Some command) (DemoDone summary) = lines_of 0 (end_of command) summary.accesses summary.halted ++ digest_lines summary.digests
+text_of (Some command) (Done from frames accesses halted) = lines_of from (end_of command) frames accesses halted
+text_of (Some command) (DemoDone summary) = lines_of 0 (end_of command) summary.frames summary.accesses summary.halted ++ digest_lines summary.digests
 text_of (Some command) (Converted size) = number_line (codes "bytes ") size
 text_of (Some command) (InputRefused fault) = fault_line fault
 text_of (Some command) OutputFault = codes "fault: writing " ++ output_of command ++ codes "\n"
@@ -137,7 +137,7 @@ IsReady (Assemble words) files = CanAssemble words files
 
 -- why a run from a start ends, once it has begun
 abbrev pub RunCause : Start → Run → DepotState → DepotState → Ending → Type 0
-RunCause start run old new (Done from accesses halted) = RunsWell start run.cycles from accesses halted
+RunCause start run old new (Done from frames accesses halted) = RunsWell start run.cycles from frames accesses halted
 RunCause start run old new Unsaved = IsSome run.save
 RunCause start run old new ending = IsUnwritten run old new ending
 
@@ -156,9 +156,9 @@ RunEnds told run old new TooFar = last_cycle < run.cycles
 RunEnds told run old new (Behind from) =
     (run.cycles ≤ last_cycle) × (run.cycles ≤ from) × MayBeginAt run from
     × (told → (start : Start) × Begins run old.files start × (from ≡ start.at))
-RunEnds told run old new (Done from accesses halted) =
+RunEnds told run old new (Done from frames accesses halted) =
     IsEnd run.cycles × MayBeginAt run from
-    × (told → (start : Start) × Begins run old.files start × (start.at < run.cycles) × RunCause start run old new (Done from accesses halted))
+    × (told → (start : Start) × Begins run old.files start × (start.at < run.cycles) × RunCause start run old new (Done from frames accesses halted))
 RunEnds told run old new FramesFault = IsEnd run.cycles × (told → CanRun run old.files) × IsUnwritten run old new FramesFault
 RunEnds told run old new SoundFault = IsEnd run.cycles × (told → CanRun run old.files) × IsUnwritten run old new SoundFault
 RunEnds told run old new JournalFault = IsEnd run.cycles × (told → CanRun run old.files) × IsUnwritten run old new JournalFault
@@ -187,7 +187,7 @@ HoldsUntil start run old new at = Holds run old new (pieces_until start run.cycl
 
 -- what the files hold once the run from a start has ended
 abbrev pub RunLeaves : Start → Run → Files → Files → Ending → Type 0
-RunLeaves start run old new (Done from accesses halted) = Holds run old new (pieces_of start run.cycles)
+RunLeaves start run old new (Done from frames accesses halted) = Holds run old new (pieces_of start run.cycles)
 RunLeaves start run old new Unsaved = HoldsUntil start run old new run.cycles
 RunLeaves start run old new FramesFault = LeavesParts run old new (pieces_of start run.cycles)
 RunLeaves start run old new SoundFault = LeavesParts run old new (pieces_of start run.cycles)
@@ -202,7 +202,7 @@ StartLeaves run old new ending = (start : Start) × Begins run old start × RunL
 
 -- what the files hold once a run has ended, or was refused
 abbrev pub RunFiles : Run → Files → Files → Ending → Type 0
-RunFiles run old new (Done from accesses halted) = StartLeaves run old new (Done from accesses halted)
+RunFiles run old new (Done from frames accesses halted) = StartLeaves run old new (Done from frames accesses halted)
 RunFiles run old new FramesFault = StartLeaves run old new FramesFault
 RunFiles run old new SoundFault = StartLeaves run old new SoundFault
 RunFiles run old new JournalFault = StartLeaves run old new JournalFault
@@ -250,7 +250,7 @@ recorded_ending (Some name) files verdict ready = recording_ending (files name) 
 -- where a run begins
 abbrev pub run_ending : Start → ℕ → Ending
 run_ending start end =
-    if nat_le end start.at then Behind start.at else Done start.at (length (entries_from start end)) (halted_from start end)
+    if nat_le end start.at then Behind start.at else Done start.at (length (media_from start end).frames) (length (entries_from start end)) (halted_from start end)
 
 -- behind a saved state that the verdict is on
 abbrev pub kept_ending : StateVerdict → ℕ → Ending
@@ -272,11 +272,11 @@ loaded_ending (Some name) files state inputs end = state_ending (files name) sta
 abbrev pub accepted_ending : Run → Files → Verdict → StateVerdict → Ending
 accepted_ending run files verdict state =
     recorded_ending run.recording files verdict
-    (λ recording. loaded_ending run.load files state (record { cart = cart_of run.rom files; recording = recording }) run.cycles)
+    (λ recording. loaded_ending run.load files state (record { cart = cart_of run.rom files; recording = recording; pal = run.pal }) run.cycles)
 
 -- where a run of a demonstration cartridge begins
 abbrev pub demo_ending : Demo → Ending
-demo_ending demo = if nat_le demo.cycles 0 then Behind 0 else DemoDone (summary_from (demo_start demo.number) demo.cycles)
+demo_ending demo = if nat_le demo.cycles 0 then Behind 0 else DemoDone (summary_from (demo_start demo) demo.cycles)
 
 -- what a run comes to, with these files and these verdicts on its recording and on its saved state
 abbrev pub asked_ending : Run → Files → Verdict → StateVerdict → Ending

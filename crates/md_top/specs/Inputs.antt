@@ -85,6 +85,7 @@ pub record AreInputs (run : Run) (files : Files) (inputs : Inputs) : Type 0 wher
   pub accepted : IsAccepted (files run.rom)
   pub cart : inputs.cart ≡ cart_of run.rom files
   pub recording : Records run.recording files inputs.recording
+  pub pal : inputs.pal ≡ run.pal
 
 -- why the inputs of a run are not there
 abbrev pub InputCause : Type 0 → Run → DepotState → DepotState → Ending → Type 0

@@ -3,8 +3,7 @@ use Rattle.std.specs.Prelude.{◌≡◌, ◌⊎◌, ℕ, ◌<◌, ◌≤◌, Lis
 use Rattle.md_outer.specs.Outside.{DepotState, Files, Rose, bytes_of}
 use Rattle.md_pads.specs.Recording.{Frame}
 use Rattle.md_machine.specs.Starts.{Start}
-use Rattle.save_state.specs.Faults.{IsOtherCart, IsWrongAt}
-use Rattle.save_state.specs.States.{IsState}
+use Rattle.save_state.specs.Versions.{IsOtherCart, IsState, IsWrongAt}
 use Rattle.md_args.specs.Words.{Run}
 use Rattle.md_top.specs.Inputs.{AreInputs, Recorded, Verdict, cart_of}
 use Rattle.md_top.specs.Runs.{powered_on}
@@ -89,7 +88,7 @@ recording_by name verdict = []
 
 -- the inputs of a run by a verdict on its recording
 abbrev pub inputs_by : Run → Files → Verdict → Inputs
-inputs_by run files verdict = record { cart = cart_of run.rom files; recording = recording_by run.recording verdict }
+inputs_by run files verdict = record { cart = cart_of run.rom files; recording = recording_by run.recording verdict; pal = run.pal }
 
 -- with these inputs the bytes of the saved state of this name are so, if one is named
 abbrev pub IsLoadJudged : Option (List ℕ) → Inputs → Files → StateVerdict → Type 0

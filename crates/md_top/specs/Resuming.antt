@@ -9,8 +9,9 @@ use Rattle.md_machine.specs.Starts.{Start}
 use Rattle.md_reached.specs.Reached.{IsReached}
 use Rattle.md_reached.specs.Settling.{GoesOn}
 use Rattle.save_state.specs.Ready.{IsReady}
-use Rattle.save_state.specs.States.{IsState, settled_console, state_bytes}
-use Rattle.md_top.specs.Counts.{frames_between, pairs_between}
+use Rattle.save_state.specs.States.{settled_console, state_bytes}
+use Rattle.save_state.specs.Versions.{IsState}
+use Rattle.md_top.specs.Counts.{pairs_between}
 use Rattle.md_top.specs.Heard.{IsHeard}
 use Rattle.md_word.specs.Clock.{last_cycle}
 use Rattle.md_top.specs.Runs.{entries_from, halted_from, media_from, run_from, state_to}
@@ -33,7 +34,7 @@ GoesOnFrom start at =
     → IsRunTo (settled_console at (run_from start at)) end after entries output → IsRest start at end after entries output
 
 -- A RUN THAT ENDS WELL, from a start to a cycle: what is promised of it, and of what is told of it
-pub record RunsWell (start : Start) (end : ℕ) (begun counted : ℕ) (since : Option ℕ) : Type 0 where
+pub record RunsWell (start : Start) (end : ℕ) (begun finished counted : ℕ) (since : Option ℕ) : Type 0 where
   -- the machine that always moves the chip of least key has made all events below the end and no other
   pub least : IsRunTo start.console end (run_from start end) (entries_from start end) (media_from start end)
   -- from its start every list of enabled events of the chips, up to a frame on and in whatever order, ends as
@@ -41,7 +42,7 @@ pub record RunsWell (start : Start) (end : ℕ) (begun counted : ℕ) (since : O
   pub lists : ListsEndAsRun start.at start.console
   -- it is told from where it began, and how much it made
   pub from : begun ≡ start.at
-  pub frames : frames_between start.at end ≡ length (media_from start end).frames
+  pub frames : finished ≡ length (media_from start end).frames
   pub samples : pairs_between start.at end ≡ length (media_from start end).levels
   pub accesses : counted ≡ length (entries_from start end)
   -- and since when the 68000 is halted, if it is

@@ -11,9 +11,9 @@ use Rattle.md_top.specs.Least.{least}
 use Rattle.md_top.specs.Outputs.{Pieces}
 use Rattle.md_top.specs.declared.inputs.Inputs.{Inputs}
 
--- power-on, with the cartridge and the recording of a run
+-- power-on, with the cartridge, the recording and the region of a run
 abbrev pub powered_on : Inputs → Start
-powered_on inputs = record { at = 0; console = power_on inputs.cart inputs.recording }
+powered_on inputs = record { at = 0; console = power_on inputs.cart inputs.recording inputs.pal }
 
 -- no next event stands below the cycle: the least one does not
 abbrev pub is_quiet : ℕ → Console → Bool
@@ -44,11 +44,11 @@ media_from start end = media start.console (moves_from start end)
 -- the sound file of a run to the cycle `end`, as far as the cycle `at`: a head for all samples of
 -- the run, and the pairs of those below `at`
 unfoldable pub sound_until : Start → ℕ → ℕ → List ℕ
-sound_until start end at = wav_head (length (media_from start end).levels) ++ sound_bytes (media_from start at)
+sound_until start end at = wav_head (length (media_from start end).levels) start.console.pal ++ sound_bytes (media_from start at)
 
 -- the frames file of a run to the cycle
 unfoldable pub frames_to : Start → ℕ → List ℕ
-frames_to start end = frames_bytes (media_from start end).frames
+frames_to start end = frames_bytes start.console.pal (media_from start end).frames
 
 -- the journal of a run to the cycle
 unfoldable pub journal_to : Start → ℕ → List ℕ
@@ -89,6 +89,6 @@ pub record RunLaws (start : Start) : Type 0 where
       → IsRunTo start.console end z entries output → length output.sides ≡ 16 * (batches_below end - batches_below start.at)
   pub levels_counted : (z : Console) (end : ℕ) (entries : List Entry) (output : Media) → IsStart start
       → IsRunTo start.console end z entries output → length output.levels ≡ 16 * (batches_below end - batches_below start.at)
-  -- and a frame for each start of a line 224
+  -- and a frame for each start of the line behind the picture
   pub frames_counted : (z : Console) (end : ℕ) (entries : List Entry) (output : Media) → IsStart start
-      → IsRunTo start.console end z entries output → length output.frames ≡ frames_below end - frames_below start.at
+      → IsRunTo start.console end z entries output → length output.frames ≡ frames_below start.console.pal end - frames_below start.console.pal start.at

@@ -1,4 +1,6 @@
-ghost use Rattle.std.specs.Prelude.{◌≤◌, vec_capacity};
+ghost use Rattle.std.specs.Prelude.{◌*◌, ◌≤◌, vec_capacity};
+ghost use Rattle.md_machine.specs.Outputs.{frame_length};
+ghost use Rattle.md_machine.specs.Regions.{most_entries, most_pairs};
 
 use md_machine::Machine;
 
@@ -15,7 +17,7 @@ pub(crate) struct Course {
     pub pairs: Vec<u8>,
     /// The last segment's records of the journal.
     pub records: Vec<u8>,
-    ghost frames_fit: { 215055 ≤ vec_capacity frames },
-    ghost pairs_fit: { 3584 ≤ vec_capacity pairs },
-    ghost records_fit: { 840000 ≤ vec_capacity records },
+    ghost frames_fit: { frame_length machine.console.pal ≤ vec_capacity frames },
+    ghost pairs_fit: { 4 * most_pairs machine.console.pal ≤ vec_capacity pairs },
+    ghost records_fit: { 16 * most_entries machine.console.pal ≤ vec_capacity records },
 }

@@ -14,7 +14,7 @@ use crate::hashers::Hashers;
 use crate::inputs::Inputs;
 use crate::laws::states_keep_laws;
 use crate::loading::power_on;
-use crate::run_on::segment_end;
+use crate::run_on::{frames_between, segment_end};
 use crate::segment::{advance, begin};
 use crate::summary::Summary;
 use md_args::DemoWords;
@@ -46,7 +46,7 @@ pub(crate) fn run_demo<F: Fn(&mut Machine, u64)>(
     if demo.cycles == 0 {
         return Ending::Behind(0);
     }
-    let machine = match demo_machine(alloc, demo.number) {
+    let machine = match demo_machine(alloc, &demo) {
         Ok(machine) => machine,
         Err(NoMemory) => return Ending::Memory,
     };
@@ -56,14 +56,21 @@ pub(crate) fn run_demo<F: Fn(&mut Machine, u64)>(
     }
 }
 
-/// The machine with the demonstration cartridge of a number, at power-on.
-fn demo_machine(alloc: Global, number: u64) -> Result<Machine, NoMemory>
-    ensures start { IfOk result (λ machine. start_at machine ≡ demo_start number) }
+/// The machine with the demonstration cartridge that the words ask for, at power-on.
+fn demo_machine(alloc: Global, demo: &DemoWords) -> Result<Machine, NoMemory>
+    ensures start { IfOk result (λ machine. start_at machine ≡ demo_start (shown_demo demo.now)) }
     ensures fresh { IfOk result IsFresh }
 {
-    let cart = accepted_cart(alloc, number)?;
+    let cart = accepted_cart(alloc, demo.number)?;
     let recording = Recording::empty(alloc);
-    power_on(alloc, Inputs { cart, recording })
+    power_on(
+        alloc,
+        Inputs {
+            cart,
+            recording,
+            pal: demo.pal,
+        },
+    )
 }
 
 /// The demonstration cartridge of a number. None is refused.
@@ -86,6 +93,8 @@ fn sum_up<F: Fn(&mut Machine, u64)>(go_on: &F, end: u64, course: Course) -> Summ
     requires start { IsAtStart course }
     ensures { IsSummary (start_in course) end result }
 {
+    let from = course.machine.at();
+    let pal = course.machine.pal();
     lists_end_as_run(&course.machine);
     let mut course = course;
     let mut hashers = Hashers::new();
@@ -95,6 +104,7 @@ fn sum_up<F: Fn(&mut Machine, u64)>(go_on: &F, end: u64, course: Course) -> Summ
     states_keep_laws();
     kept(&course.machine);
     Summary {
+        frames: frames_between(pal, from, end),
         accesses: course.accesses,
         halted: course.machine.main_chip().halted(),
         digests: hashers.digests(),
@@ -113,12 +123,12 @@ fn sum_segment<F: Fn(&mut Machine, u64)>(
     requires end { IsEnd end }
     requires before { cycle_of course.old < end }
     requires underway { IsUnderway course.old }
-    ensures cycle { cycle_of course.new ≡ limits.segment_end (cycle_of course.old) end }
+    ensures cycle { cycle_of course.new ≡ limits.segment_end course.old.machine.console.pal (cycle_of course.old) end }
     ensures underway { (start : Start) → CameFrom start course.old → CameFrom start course.new }
     ensures taken { (start : Start) → CameFrom start course.old → HaveUntil start (cycle_of course.old) hashers.old
         → HaveUntil start (cycle_of course.new) hashers.new }
 {
-    let to = segment_end(course.machine.at(), end);
+    let to = segment_end(course.machine.pal(), course.machine.at(), end);
     advance(go_on, course, to);
     hashers.update(
         course.frames.as_slice(),

@@ -11,6 +11,8 @@ pub(crate) enum Ending {
     Done {
         /// The cycle at which it began.
         from: u64,
+        /// How many frames were finished.
+        frames: u64,
         /// How many accesses were made.
         accesses: u64,
         /// Where the 68000 is halted, the start of what halted it.

@@ -7,4 +7,6 @@ pub(crate) struct Inputs {
     pub cart: Cart,
     /// What is pressed on the pads. It has no frames where no recording is named.
     pub recording: Recording,
+    /// Whether the machine is one for PAL, where it is not that of a saved state.
+    pub pal: bool,
 }

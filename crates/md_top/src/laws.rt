@@ -58,7 +58,7 @@ pub fn pairs_are_counted(machine: &Machine, end: u64)
 pub fn frames_are_counted(machine: &Machine, end: u64)
     requires start { IsStart (start_at machine.now) }
     requires near { end < 2 ^ 40 }
-    ensures { length (media_from (start_at machine.now) end).frames ≡ frames_between machine.now.at end }
+    ensures { length (media_from (start_at machine.now) end).frames ≡ frames_between machine.now.console.pal machine.now.at end }
 {
     runs_keep_laws(machine);
 }

@@ -99,13 +99,14 @@ pub(crate) fn power_on(alloc: Global, inputs: Inputs) -> Result<Machine, NoMemor
 {
     laws::power_on_is_start();
     saved::power_on_is_reached(&inputs.cart);
+    let pal = inputs.pal;
     let (cart, recording) = shared(alloc, inputs)?;
-    Machine::power_on(alloc, cart, recording)
+    Machine::power_on(alloc, cart, recording, pal)
 }
 
 /// The inputs, each to be held by several owners.
 fn shared(alloc: Global, inputs: Inputs) -> Result<(Arc<Cart>, Arc<Recording>), NoMemory>
-    ensures { IfOk result (λ both. record { cart = arc_value both.0; recording = arc_value both.1 } ≡ inputs) }
+    ensures { IfOk result (λ both. record { cart = arc_value both.0; recording = arc_value both.1; pal = inputs.pal } ≡ inputs) }
 {
     let cart = Arc::new(alloc, inputs.cart)?;
     let recording = Arc::new(alloc, inputs.recording)?;

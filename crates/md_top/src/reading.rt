@@ -33,7 +33,11 @@ pub(crate) fn read_inputs<D: Depot>(
         Err(ending) => return Err(ending),
     };
     match read_recording(alloc, run.recording, depot) {
-        Ok(recording) => Ok(Inputs { cart, recording }),
+        Ok(recording) => Ok(Inputs {
+            cart,
+            recording,
+            pal: run.pal,
+        }),
         Err(ending) => Err(ending),
     }
 }

@@ -12,7 +12,7 @@ use crate::converting::refuse_input;
 use crate::ending::Ending;
 use crate::put::{put_three, put_two};
 use crate::report_demo::put_summary;
-use crate::run_on::{frames_between, pairs_between};
+use crate::run_on::pairs_between;
 use hex::encode_to_slice;
 use itoa::Buffer;
 use md_args::CommandWords;
@@ -26,9 +26,10 @@ pub(crate) fn report<S: Sink>(command: &CommandWords<'_>, ending: Ending, out: &
         Ending::Shown(lines) => status_of(out.put(lines.bytes())),
         Ending::Done {
             from,
+            frames,
             accesses,
             halted,
-        } => status_of(put_lines(out, from, command.end(), accesses, halted)),
+        } => status_of(put_lines(out, from, command.end(), frames, accesses, halted)),
         Ending::DemoDone(summary) => status_of(put_summary(out, command.end(), &summary)),
         Ending::Usage => refuse(out, 2, "refused: usage\n", "", ""),
         Ending::TooFar => refuse_cycle(out, 11, command.end(), " is too far\n"),
@@ -178,12 +179,13 @@ pub(crate) fn put_lines<S: Sink>(
     out: &mut S,
     from: u64,
     end: u64,
+    frames: u64,
     accesses: u64,
     halted: Option<u64>,
 ) -> Result<(), Failed>
-    ensures { PutsText S.told (lines_of from end accesses halted) (S.state out.old) (S.state out.new) result }
+    ensures { PutsText S.told (lines_of from end frames accesses halted) (S.state out.old) (S.state out.new) result }
 {
-    match put_counts(out, from, end, accesses) {
+    match put_counts(out, from, end, frames, accesses) {
         Ok(()) => put_halted(out, halted),
         Err(failed) => Err(failed),
     }
@@ -200,22 +202,28 @@ fn put_halted<S: Sink>(out: &mut S, halted: Option<u64>) -> Result<(), Failed>
 }
 
 /// Puts how far a run went, and how much it made.
-fn put_counts<S: Sink>(out: &mut S, from: u64, end: u64, accesses: u64) -> Result<(), Failed>
-    ensures { PutsText S.told (counts_of from end accesses) (S.state out.old) (S.state out.new) result }
+fn put_counts<S: Sink>(
+    out: &mut S,
+    from: u64,
+    end: u64,
+    frames: u64,
+    accesses: u64,
+) -> Result<(), Failed>
+    ensures { PutsText S.told (counts_of from end frames accesses) (S.state out.old) (S.state out.new) result }
 {
-    match put_course(out, from, end) {
+    match put_course(out, from, end, frames) {
         Ok(()) => put_made(out, pairs_between(from, end), accesses),
         Err(failed) => Err(failed),
     }
 }
 
 /// Puts the cycles from which to which a run went, and how many frames it finished.
-fn put_course<S: Sink>(out: &mut S, from: u64, end: u64) -> Result<(), Failed>
+fn put_course<S: Sink>(out: &mut S, from: u64, end: u64, frames: u64) -> Result<(), Failed>
     ensures { PutsText S.told (numbers_line (codes "cycles ") from (codes " to ") end
-        ++ number_line (codes "frames ") (frames_between from end)) (S.state out.old) (S.state out.new) result }
+        ++ number_line (codes "frames ") frames) (S.state out.old) (S.state out.new) result }
 {
     match put_numbers(out, "cycles ", from, " to ", end) {
-        Ok(()) => put_number(out, "frames ", frames_between(from, end)),
+        Ok(()) => put_number(out, "frames ", frames),
         Err(failed) => Err(failed),
     }
 }

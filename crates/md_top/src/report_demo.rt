@@ -11,10 +11,17 @@ use md_outer::{Failed, Sink};
 
 /// Puts the lines of a run of a demonstration cartridge that ends well.
 pub(crate) fn put_summary<S: Sink>(out: &mut S, end: u64, summary: &Summary) -> Result<(), Failed>
-    ensures { PutsText S.told (lines_of 0 end summary.now.accesses summary.now.halted ++ digest_lines summary.now.digests)
+    ensures { PutsText S.told (lines_of 0 end summary.now.frames summary.now.accesses summary.now.halted ++ digest_lines summary.now.digests)
         (S.state out.old) (S.state out.new) result }
 {
-    match put_lines(out, 0, end, summary.accesses, summary.halted) {
+    match put_lines(
+        out,
+        0,
+        end,
+        summary.frames,
+        summary.accesses,
+        summary.halted,
+    ) {
         Ok(()) => put_digest_lines(out, &summary.digests),
         Err(failed) => Err(failed),
     }

@@ -24,12 +24,10 @@ use md_files::wav_head;
 use md_machine::Machine;
 use md_machine::laws::lists_end_as_run;
 use md_outer::Depot;
-use md_word::clock::{BATCH, FRAME};
+use md_word::clock::BATCH;
+use md_word::region::{finished_at, frame_cycles};
 use save_state::laws::kept;
 use std::alloc::Global;
-
-/// The cycle of a frame at which its picture is finished: the start of line 224.
-const FINISHED: u64 = 766_080;
 
 /// Begins the outputs of a run, runs it from its start to its end, and writes what it makes. `go_on`
 /// makes each segment.
@@ -59,19 +57,23 @@ pub(crate) fn write_all<F: Fn(&mut Machine, u64), D: Depot>(
     }
 }
 
-/// How many frames are finished below a cycle.
-fn count_frames(cycles: u64) -> u64
-    ensures { result ≡ count_of_frames cycles }
+/// How many frames of a region are finished below a cycle.
+fn count_frames(pal: bool, cycles: u64) -> u64
+    ensures { result ≡ count_of_frames pal cycles }
 {
-    let last = if cycles % FRAME > FINISHED { 1 } else { 0 };
-    cycles / FRAME + last
+    let last = if cycles % frame_cycles(pal) > finished_at(pal) {
+        1
+    } else {
+        0
+    };
+    cycles / frame_cycles(pal) + last
 }
 
-/// How many frames a run from a cycle to another finishes.
-pub(crate) fn frames_between(from: u64, end: u64) -> u64
-    ensures { result ≡ frames_between from end }
+/// How many frames of a region a run from a cycle to another finishes.
+pub(crate) fn frames_between(pal: bool, from: u64, end: u64) -> u64
+    ensures { result ≡ frames_between pal from end }
 {
-    count_frames(end).saturating_sub(count_frames(from))
+    count_frames(pal, end).saturating_sub(count_frames(pal, from))
 }
 
 /// How many pairs of samples are made below a cycle.
@@ -111,16 +113,17 @@ fn append_head<D: Depot>(
 {
     course.pairs.clear();
     let pairs = pairs_between(course.machine.at(), run.cycles);
-    wav_head(pairs as u32, &mut course.pairs);
+    wav_head(pairs as u32, course.machine.pal(), &mut course.pairs);
     append_sound(run, outputs, depot, course.pairs.as_slice())
 }
 
-/// A segment has a frame's cycles at most. Where the one ends that begins at the cycle `at` of a run to `end`.
-pub(crate) fn segment_end(at: u64, end: u64) -> u64
+/// A segment has a frame's cycles at most. Where the one ends that begins at the cycle `at` of a run of a
+/// region to `end`.
+pub(crate) fn segment_end(pal: bool, at: u64, end: u64) -> u64
     requires { at ≤ last_cycle }
-    ensures { result ≡ limits.segment_end at end }
+    ensures { result ≡ limits.segment_end pal at end }
 {
-    (at + FRAME).min(end)
+    (at + frame_cycles(pal)).min(end)
 }
 
 /// Runs on for a segment, and appends what it makes.
@@ -137,7 +140,7 @@ fn run_segment<F: Fn(&mut Machine, u64), D: Depot>(
     requires before { cycle_of course.old < run.now.cycles }
     requires underway { IsUnderway course.old }
     requires begun { AreBegun (shown_run run.now) (D.state depot.old).begun outputs.now }
-    ensures cycle { OnOk result (cycle_of course.new ≡ limits.segment_end (cycle_of course.old) run.now.cycles) }
+    ensures cycle { OnOk result (cycle_of course.new ≡ limits.segment_end course.old.machine.console.pal (cycle_of course.old) run.now.cycles) }
     ensures underway { OnOk result ((start : Start) → CameFrom start course.old → CameFrom start course.new) }
     ensures files { OnOk result (D.told → (start : Start) (first : Files) → CameFrom start course.old
         → HoldsUntil start (shown_run run.now) first (D.state depot.old).files (cycle_of course.old)
@@ -148,7 +151,7 @@ fn run_segment<F: Fn(&mut Machine, u64), D: Depot>(
         → RunLeaves start (shown_run run.now) first (D.state depot.new).files ending) }
     ensures goes_on { GoesOn (D.state depot.old) (D.state depot.new) }
 {
-    let end = segment_end(course.machine.at(), run.cycles);
+    let end = segment_end(course.machine.pal(), course.machine.at(), run.cycles);
     advance(go_on, course, end);
     append_all(
         run,
@@ -182,6 +185,7 @@ fn run_on<F: Fn(&mut Machine, u64), D: Depot>(
         → RunLeaves (start_in course) (shown_run run.now) first (D.state depot.new).files result }
 {
     let from = course.machine.at();
+    let pal = course.machine.pal();
     lists_end_as_run(&course.machine);
     let mut course = course;
     'segments: while course.machine.at() < run.cycles {
@@ -194,6 +198,7 @@ fn run_on<F: Fn(&mut Machine, u64), D: Depot>(
     match save(alloc, run, outputs, depot, &course.machine) {
         Ok(()) => Ending::Done {
             from,
+            frames: frames_between(pal, from, run.cycles),
             accesses: course.accesses,
             halted: course.machine.main_chip().halted(),
         },

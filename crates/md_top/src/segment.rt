@@ -9,19 +9,14 @@ ghost use Rattle.md_top.specs.Workers.{CanGoOn, WentOn};
 
 use crate::course::Course;
 use crate::laws::runs_keep_laws;
-use md_machine::Machine;
+use md_machine::{Machine, most_entries, most_pairs};
 use md_reached::heard;
 use md_word::NoMemory;
+use md_word::region::picture_length;
 use std::alloc::Global;
 
-/// The bytes of a segment's frame.
-const FRAME: usize = 215_055;
-
-/// The bytes of a segment's pairs of samples at most.
-const MOST_PAIRS: usize = 4 * 896;
-
-/// The bytes of a segment's records at most.
-const MOST_RECORDS: usize = 16 * 52_500;
+/// The bytes of the head of a frame.
+const HEAD: usize = 15;
 
 /// The run of a machine at its start. All memory that it ever needs is taken here.
 pub(crate) fn begin(alloc: Global, machine: Machine) -> Result<Course, NoMemory>
@@ -33,9 +28,10 @@ pub(crate) fn begin(alloc: Global, machine: Machine) -> Result<Course, NoMemory>
     runs_keep_laws(&machine);
     heard::levels_are_heard(machine.cart());
     heard::sides_are_heard(machine.cart());
-    let frames = Vec::with_capacity(alloc, FRAME)?;
-    let pairs = Vec::with_capacity(alloc, MOST_PAIRS)?;
-    let records = Vec::with_capacity(alloc, MOST_RECORDS)?;
+    let pal = machine.pal();
+    let frames = Vec::with_capacity(alloc, HEAD + picture_length(pal))?;
+    let pairs = Vec::with_capacity(alloc, 4 * most_pairs(pal))?;
+    let records = Vec::with_capacity(alloc, 16 * most_entries(pal))?;
     Ok(Course {
         machine,
         accesses: 0,
@@ -52,12 +48,12 @@ pub(crate) fn advance<F: Fn(&mut Machine, u64)>(go_on: &F, course: &mut Course, 
     requires goes { (m : _) (to : ℕ) (after : _) → F.post go_on.now m to tt after → WentOn m.now to after.now }
     requires underway { IsUnderway course.old }
     requires later { cycle_of course.old < to }
-    requires near { to ≤ cycle_of course.old + segment_cycles }
+    requires near { to ≤ cycle_of course.old + segment_cycles course.old.machine.console.pal }
     requires far { to ≤ last_cycle }
     ensures cycle { cycle_of course.new ≡ to }
     ensures underway { (start : Start) → CameFrom start course.old → CameFrom start course.new }
-    ensures frames { (start : Start) → CameFrom start course.old → frames_bytes (media_from start to).frames
-        ≡ frames_bytes (media_from start (cycle_of course.old)).frames ++ course.new.frames.items }
+    ensures frames { (start : Start) → CameFrom start course.old → frames_bytes start.console.pal (media_from start to).frames
+        ≡ frames_bytes start.console.pal (media_from start (cycle_of course.old)).frames ++ course.new.frames.items }
     ensures pairs { (start : Start) → CameFrom start course.old → sound_bytes (media_from start to)
         ≡ sound_bytes (media_from start (cycle_of course.old)) ++ course.new.pairs.items }
     ensures records { (start : Start) → CameFrom start course.old → journal_bytes (entries_from start to)

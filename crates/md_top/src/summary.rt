@@ -3,6 +3,8 @@ use crate::digests::Digests;
 /// What is told of a run from power-on that keeps no file.
 #[derive(Clone, Copy)]
 pub(crate) struct Summary {
+    /// How many frames were finished.
+    pub frames: u64,
     /// How many accesses were made.
     pub accesses: u64,
     /// Where the 68000 is halted, the start of what halted it.

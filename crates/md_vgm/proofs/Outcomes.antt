@@ -67,7 +67,7 @@ module _ (pal : Bool) (file : List ℕ) where
   sounds_once : (sound other : List ℕ) → IsPlayed pal file (Made sound) → IsPlayed pal file (Made other) → sound ≡ other
   sounds_once sound other (none, (m, comes, ends, bytes)) (none', (n, comes', ends', bytes')) =
       let same : m ≡ n = stops_once pal file m n comes comes' (ends_stop _ ends) (ends_stop _ ends') in
-      bytes ∙ ap (λ (k : ℕ). sound_file (psg_before pal file k) (fm_before pal file k) (stamp pal file k)) same ∙ sym bytes'
+      bytes ∙ ap (λ (k : ℕ). sound_file pal (psg_before pal file k) (fm_before pal file k) (stamp pal file k)) same ∙ sym bytes'
 
   pub played_once : (first second : Outcome) → IsPlayed pal file first → IsPlayed pal file second → first ≡ second
   played_once (Made sound) (Made other) is is' = ap Made (sounds_once sound other is is')

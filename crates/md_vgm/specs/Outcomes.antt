@@ -23,7 +23,7 @@ IsMade pal journal (Failed fault) = (right_bytes journal < length journal) × (f
 abbrev pub IsPlayed : Bool → List ℕ → Outcome → Type 0
 IsPlayed pal file (Made sound) =
     (head_fault file ≡ None) × ((n : ℕ) × ComesTo pal file n × (verdict pal file n ≡ Ends)
-    × (sound ≡ sound_file (psg_before pal file n) (fm_before pal file n) (stamp pal file n)))
+    × (sound ≡ sound_file pal (psg_before pal file n) (fm_before pal file n) (stamp pal file n)))
 IsPlayed pal file (Failed fault) =
     ((place : ℕ) × (head_fault file ≡ Some place) × (fault ≡ Form place))
     ⊎ ((head_fault file ≡ None) × ((n : ℕ) × ComesTo pal file n × (verdict pal file n ≡ Refused fault)))

@@ -40,12 +40,12 @@ fn sound(
     requires within { start ≤ length file.now }
     requires few { batches ≤ 2000000 }
     ensures sound { IfOk result (λ sound. (n : ℕ) × ComesTo pal file.now n × (16128 * batches ≤ stamp pal file.now n)
-        × (sound.items ≡ wav_head (16 * batches) ++ pairs (psg_before pal file.now n) (fm_before pal file.now n) batches)) }
+        × (sound.items ≡ wav_head (16 * batches) pal ++ pairs (psg_before pal file.now n) (fm_before pal file.now n) batches)) }
     ensures fine { (last : ℕ) → ComesTo pal file.now last → verdict pal file.now last ≡ Ends
         → 16128 * batches < stamp pal file.now last + 1 → IfErr result (λ fault. fault ≡ VgmFault.NoMemory) }
 {
     let mut sound = Vec::with_capacity(alloc, HEAD + PAIRS * batches as usize)?;
-    wav_head(16 * batches as u32, &mut sound);
+    wav_head(16 * batches as u32, pal, &mut sound);
     let mut player = Player::power_on(alloc, start)?;
     for batch in 0..batches {
         player.fill(file, pal, batch)?;

@@ -8,7 +8,7 @@ fn picture(alloc: Global) -> Result<Vec<u8>, Fail> {
     rgb[0] = 0xfc;
     rgb[215_039] = 0x90;
     let mut file = Vec::with_capacity(alloc, 215_055)?;
-    ppm_head(&mut file);
+    ppm_head(false, &mut file);
     put_frame(rgb.as_slice(), &mut file);
     Ok(file)
 }

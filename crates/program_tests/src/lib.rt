@@ -20,6 +20,8 @@ mod recordings;
 #[cfg(test)]
 mod refusals;
 #[cfg(test)]
+mod regions;
+#[cfg(test)]
 mod rows;
 #[cfg(test)]
 mod runs;

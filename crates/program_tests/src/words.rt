@@ -8,27 +8,36 @@ fn name_of(name: Option<&str>) -> &str {
     name.unwrap_or("-")
 }
 
+fn region_of(pal: bool) -> &'static str {
+    if pal { " PAL" } else { "" }
+}
+
 /// What was read, as a text: the cartridge, and of a run its count and the names of the recording, of
 /// the frames file, of the sound file and of the journal, and how many workers make it; of a
-/// demonstration cartridge its number, the count and the workers; of a conversion both names and whether
-/// PAL is asked for; of an assembly the names of the source, the image and the list.
+/// demonstration cartridge its number, the count and the workers, each with PAL where it is asked for; of a
+/// conversion both names and whether PAL is asked for; of an assembly the names of the source, the image and the list.
 fn told(alloc: Global, read: Option<CommandWords<'_>>) -> Result<String, AllocError> {
     match read {
         None => String::from_str(alloc, "refused"),
         Some(CommandWords::Info(rom)) => format!(in alloc; "{rom}"),
         Some(CommandWords::Run(run)) => format!(in alloc;
-            "{} {} {} {} {} {} {}",
+            "{} {} {} {} {} {} {}{}",
             run.rom,
             run.cycles,
             name_of(run.recording),
             name_of(run.frames),
             name_of(run.sound),
             name_of(run.journal),
-            run.workers
+            run.workers,
+            region_of(run.pal)
         ),
-        Some(CommandWords::Demo(demo)) => {
-            format!(in alloc; "{} {} {}", demo.number, demo.cycles, demo.workers)
-        }
+        Some(CommandWords::Demo(demo)) => format!(in alloc;
+            "{} {} {}{}",
+            demo.number,
+            demo.cycles,
+            demo.workers,
+            region_of(demo.pal)
+        ),
         Some(CommandWords::Convert(words)) => format!(in alloc;
             "{} {} {}",
             words.input, words.output, words.pal
@@ -45,7 +54,10 @@ fn told(alloc: Global, read: Option<CommandWords<'_>>) -> Result<String, AllocEr
 // Worked out by the rules: options in any order among the other words, each at most once, as two
 // words or with `=`; behind `--` no options; names that are not empty, begin with no hyphen and are
 // pairwise different; numbers of 1 to 20 digits below 2^64.
-static READ: [(&str, &str); 36] = [
+static READ: [(&str, &str); 39] = [
+    ("run --pal Z --cycles 5", "Z 5 - - - - 1 PAL"),
+    ("run Z --cycles 5 --save S --pal", "Z 5 - - - - 1 PAL"),
+    ("demo 7 --pal --cycles 5 --workers 2", "7 5 2 PAL"),
     ("info Z", "Z"),
     ("info -- Z", "Z"),
     ("info info", "info"),
@@ -102,7 +114,12 @@ static READ: [(&str, &str); 36] = [
     ("vgm -- J V", "J V false"),
 ];
 
-static REFUSED: [&str; 97] = [
+static REFUSED: [&str; 102] = [
+    "run Z --cycles 5 --pal --load S",
+    "run Z --load S --cycles 5 --pal",
+    "run Z --cycles 5 --pal --pal",
+    "run Z --cycles 5 --pal=1",
+    "demo 7 --cycles 5 --workers 2 --pal 1",
     "play V",
     "vgm J V W",
     "play V V",

@@ -1,5 +1,5 @@
 -- The holder of the Z80's RAM is that of its stage.
-use Rattle.std.proofs.Common.{◌≡◌, ℕ, Bool, true, false, not, is_some, cond, refl, sym, ◌∙◌}
+use Rattle.std.proofs.Common.{◌≡◌, Bool, true, false, not, is_some, cond, refl, sym, ◌∙◌}
 use Rattle.z80_chip.specs.Rules.{IsHolder}
 use Rattle.z80_chip.specs.Saved.{stage_number}
 use Rattle.z80_chip.specs.States.{State80}

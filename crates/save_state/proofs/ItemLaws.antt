@@ -27,7 +27,7 @@ use Rattle.fm_port.proofs.PortBytes.{spelled_once as fm_once}
 use Rattle.psg_sound.specs.PortSpelling as psg_port
 use Rattle.psg_sound.specs.declared.write.PsgWrite.{PsgWrite}
 use Rattle.psg_sound.proofs.PortBytes.{spelled_once as psg_once}
-use Rattle.save_state.specs.Items.{at_of, main_next, sub_next, holder_in, stage_of, seen_resets, resets_of, resets_place, fm_writes_place, main_bytes, sub_bytes, shared_bytes, drawing_bytes, IsMain, MainFails, IsSub, SubFails, chip_fails, holder_fails, IsShared, SharedFails, board_fails, resets_fail, IsPicture, DrawingFails, HasLateFm, IsFm, FmFails, synth_fails, next_fails, writes_fail, HasLatePsg, IsPsg, PsgFails, psg_synth_fails, psg_next_fails, psg_writes_fail}
+use Rattle.save_state.specs.Items.{at_of, region_of, main_next, sub_next, holder_in, stage_of, seen_resets, resets_of, resets_place, fm_writes_place, main_bytes, sub_bytes, shared_bytes, drawing_bytes, IsMain, MainFails, IsSub, SubFails, chip_fails, holder_fails, IsShared, SharedFails, board_fails, resets_fail, IsPicture, DrawingFails, HasLateFm, IsFm, FmFails, synth_fails, next_fails, writes_fail, HasLatePsg, IsPsg, PsgFails, psg_synth_fails, psg_next_fails, psg_writes_fail}
 use Rattle.save_state.specs.Joining.{Reads, FailsIn, placed, with_rule, Either}
 use Rattle.save_state.specs.Layout.{main_part, holder_part, drawing_part, fm_port_part, fm_part, fm_next_part, psg_part, psg_next_part, psg_port_part, part_of, sub_parts, shared_parts, gathered, are_ordered}
 use Rattle.save_state.specs.States.{is_holder, are_fm_early, are_psg_early}
@@ -91,24 +91,24 @@ sub_read cart bytes at parts part has holds answer chip read r s h b e g f found
 
 -- ---- the board
 
-abbrev SharedKept : List Frame → ℕ → List ℕ → Board → Type 0
-SharedKept recording at bytes board = shared.Spells at bytes board × (board.recording ≡ recording)
+abbrev SharedKept : List Frame → Bool → ℕ → List ℕ → Board → Type 0
+SharedKept recording pal at bytes board = shared.Spells at pal bytes board × (board.recording ≡ recording)
 
 not_below : (a b : ℕ) → ¬ (b < a) → a ≤ b
 not_below a b h = grind (arith, h)
 
-pub shared_read : (recording : List Frame) (bytes : List ℕ) (at : ℕ) (parts : List Part) (part : List ℕ) (has : Bool) (seen resets : ℕ) (answer board read : Result Board Unspell) → board ≡ placed parts answer → read ≡ with_rule board (leb seen resets) resets_place → has ≡ (holder_in bytes == 1) → seen ≡ seen_resets bytes → resets ≡ resets_of bytes → at ≡ at_of bytes → parts ≡ shared_parts has → part ≡ gathered parts bytes → IfOk answer (SharedKept recording at part) → ((b : Board) → shared.Spells at part b → b.recording ≡ recording → answer ≢ failed NoMemory → answer ≡ Ok b) → ((p : ℕ) → answer ≡ failed (Rule p) → shared.GoesWrongAt at part p) → ((p : ℕ) → shared.GoesWrongAt at part p → answer ≢ failed NoMemory → answer ≡ failed (Rule p)) → Reads (IsShared recording bytes) (SharedFails bytes) read
-shared_read recording bytes at parts part has seen resets answer board read r s h a b e g f found only rule wrong =
+shared_read_in : (recording : List Frame) (bytes : List ℕ) (at : ℕ) (parts : List Part) (part : List ℕ) (has : Bool) (seen resets : ℕ) (answer board read : Result Board Unspell) → board ≡ placed parts answer → read ≡ with_rule board (leb seen resets) resets_place → has ≡ (holder_in bytes == 1) → seen ≡ seen_resets bytes → resets ≡ resets_of bytes → at ≡ at_of bytes → parts ≡ shared_parts has → part ≡ gathered parts bytes → IfOk answer (SharedKept recording (region_of bytes) at part) → ((b : Board) → shared.Spells at (region_of bytes) part b → b.recording ≡ recording → answer ≢ failed NoMemory → answer ≡ Ok b) → ((p : ℕ) → answer ≡ failed (Rule p) → shared.GoesWrongAt at (region_of bytes) part p) → ((p : ℕ) → shared.GoesWrongAt at (region_of bytes) part p → answer ≢ failed NoMemory → answer ≡ failed (Rule p)) → Reads (IsShared recording bytes) (SharedFails bytes) read
+shared_read_in recording bytes at parts part has seen resets answer board read r s h a b e g f found only rule wrong =
     subst (Reads (IsShared recording bytes) (SharedFails bytes)) (sym (s ∙ ap (λ (x : Result Board Unspell). with_rule x (leb seen resets) resets_place) r)) (
-    said (Ruled (SharedKept recording (at_of bytes) (shared_bytes bytes)) Broken) (IsShared recording bytes)
-    (Either (FailsIn (shared_parts (holder_in bytes == 1)) (shared.GoesWrongAt (at_of bytes) (shared_bytes bytes))) (Breaks resets_place Broken)) (SharedFails bytes)
+    said (Ruled (SharedKept recording (region_of bytes) (at_of bytes) (shared_bytes bytes)) Broken) (IsShared recording bytes)
+    (Either (FailsIn (shared_parts (holder_in bytes == 1)) (shared.GoesWrongAt (at_of bytes) (region_of bytes) (shared_bytes bytes))) (Breaks resets_place Broken)) (SharedFails bytes)
     (with_rule (placed parts answer) (leb seen resets) resets_place)
     (λ x k. record { pads = k.0.1; spells = k.0.0; resets = not_below (seen_resets bytes) (resets_of bytes) k.1 })
     (λ x k. ((k.spells, k.pads), λ t. omega (arith, t, k.resets)))
     (λ p w. elim w [ inl q ↦ board_fails q | inr q ↦ resets_fail q.0 q.1 ])
     (λ p w. elim w [ board_fails q ↦ inl q | resets_fail q t ↦ inr (q, t) ])
-    (ruled (SharedKept recording (at_of bytes) (shared_bytes bytes)) (FailsIn (shared_parts (holder_in bytes == 1)) (shared.GoesWrongAt (at_of bytes) (shared_bytes bytes))) (placed parts answer) (leb seen resets) resets_place Broken (λ q. omega (arith, a, b, leb-false seen resets q)) (λ q. lt-leb seen resets (omega (arith, a, b, q)))
-    (item (SharedKept recording) shared.GoesWrongAt (shared_parts (holder_in bytes == 1)) parts at (at_of bytes) part (shared_bytes bytes) answer whole (shared_ordered (holder_in bytes == 1)) e (f ∙ ap (λ (ps : List Part). gathered ps bytes) whole) found
+    (ruled (SharedKept recording (region_of bytes) (at_of bytes) (shared_bytes bytes)) (FailsIn (shared_parts (holder_in bytes == 1)) (shared.GoesWrongAt (at_of bytes) (region_of bytes) (shared_bytes bytes))) (placed parts answer) (leb seen resets) resets_place Broken (λ q. omega (arith, a, b, leb-false seen resets q)) (λ q. lt-leb seen resets (omega (arith, a, b, q)))
+    (item (SharedKept recording (region_of bytes)) (λ (n : ℕ). shared.GoesWrongAt n (region_of bytes)) (shared_parts (holder_in bytes == 1)) parts at (at_of bytes) part (shared_bytes bytes) answer whole (shared_ordered (holder_in bytes == 1)) e (f ∙ ap (λ (ps : List Part). gathered ps bytes) whole) found
     (λ x k n. only x k.0 k.1 n) rule wrong))) where
       Broken : Type 0
       Broken = resets_of bytes < seen_resets bytes
@@ -116,12 +116,37 @@ shared_read recording bytes at parts part has seen resets answer board read r s 
       whole : parts ≡ shared_parts (holder_in bytes == 1)
       whole = g ∙ ap shared_parts h
 
+-- what a reader of the board says, by its region
+record SharedSays (recording : List Frame) (at : ℕ) (part : List ℕ) (answer : Result Board Unspell) (pal : Bool) : Type 0 where
+  found : IfOk answer (SharedKept recording pal at part)
+  only : (b : Board) → shared.Spells at pal part b → b.recording ≡ recording → answer ≢ failed NoMemory → answer ≡ Ok b
+  rule : (p : ℕ) → answer ≡ failed (Rule p) → shared.GoesWrongAt at pal part p
+  wrong : (p : ℕ) → shared.GoesWrongAt at pal part p → answer ≢ failed NoMemory → answer ≡ failed (Rule p)
+
+pub shared_read : (recording : List Frame) (bytes : List ℕ) (pal : Bool) (at : ℕ) (parts : List Part) (part : List ℕ) (has : Bool) (seen resets : ℕ) (answer board read : Result Board Unspell) → board ≡ placed parts answer → read ≡ with_rule board (leb seen resets) resets_place → has ≡ (holder_in bytes == 1) → seen ≡ seen_resets bytes → resets ≡ resets_of bytes → at ≡ at_of bytes → pal ≡ region_of bytes → parts ≡ shared_parts has → part ≡ gathered parts bytes → IfOk answer (SharedKept recording pal at part) → ((b : Board) → shared.Spells at pal part b → b.recording ≡ recording → answer ≢ failed NoMemory → answer ≡ Ok b) → ((p : ℕ) → answer ≡ failed (Rule p) → shared.GoesWrongAt at pal part p) → ((p : ℕ) → shared.GoesWrongAt at pal part p → answer ≢ failed NoMemory → answer ≡ failed (Rule p)) → Reads (IsShared recording bytes) (SharedFails bytes) read
+shared_read recording bytes pal at parts part has seen resets answer board read r s h a b e region g f found only rule wrong =
+    let says : SharedSays recording at part answer (region_of bytes) =
+    subst (SharedSays recording at part answer) region (record { found = found; only = only; rule = rule; wrong = wrong }) in
+    shared_read_in recording bytes at parts part has seen resets answer board read r s h a b e g f says.found says.only says.rule says.wrong
+
 -- ---- the drawing half of the VDP
 
-pub drawing_read : (bytes : List ℕ) (at : ℕ) (part : List ℕ) (answer read : Result Drawing Unspell) → read ≡ placed (drawing_part ∷ []) answer → at ≡ at_of bytes → part ≡ drawing_bytes bytes → IfOk answer (drawing.Spells at part) → ((d : Drawing) → drawing.Spells at part d → answer ≢ failed NoMemory → answer ≡ Ok d) → ((p : ℕ) → answer ≡ failed (Rule p) → drawing.GoesWrongAt at part p) → ((p : ℕ) → drawing.GoesWrongAt at part p → answer ≡ failed (Rule p)) → Reads (IsPicture bytes) (DrawingFails bytes) read
-drawing_read bytes at part answer read r e f found only rule wrong =
+drawing_read_in : (bytes : List ℕ) (at : ℕ) (part : List ℕ) (answer read : Result Drawing Unspell) → read ≡ placed (drawing_part ∷ []) answer → at ≡ at_of bytes → part ≡ drawing_bytes bytes → IfOk answer (drawing.Spells at (region_of bytes) part) → ((d : Drawing) → drawing.Spells at (region_of bytes) part d → answer ≢ failed NoMemory → answer ≡ Ok d) → ((p : ℕ) → answer ≡ failed (Rule p) → drawing.GoesWrongAt at (region_of bytes) part p) → ((p : ℕ) → drawing.GoesWrongAt at (region_of bytes) part p → answer ≡ failed (Rule p)) → Reads (IsPicture bytes) (DrawingFails bytes) read
+drawing_read_in bytes at part answer read r e f found only rule wrong =
     subst (Reads (IsPicture bytes) (DrawingFails bytes)) (sym r) (
-    item drawing.Spells drawing.GoesWrongAt (drawing_part ∷ []) (drawing_part ∷ []) at (at_of bytes) part (drawing_bytes bytes) answer refl refl e f found only rule (λ p h n. wrong p h))
+    item (λ (n : ℕ). drawing.Spells n (region_of bytes)) (λ (n : ℕ). drawing.GoesWrongAt n (region_of bytes)) (drawing_part ∷ []) (drawing_part ∷ []) at (at_of bytes) part (drawing_bytes bytes) answer refl refl e f found only rule (λ p h n. wrong p h))
+
+-- what a reader of the drawing half says, by its region
+record DrawingSays (at : ℕ) (part : List ℕ) (answer : Result Drawing Unspell) (pal : Bool) : Type 0 where
+  found : IfOk answer (drawing.Spells at pal part)
+  only : (d : Drawing) → drawing.Spells at pal part d → answer ≢ failed NoMemory → answer ≡ Ok d
+  rule : (p : ℕ) → answer ≡ failed (Rule p) → drawing.GoesWrongAt at pal part p
+  wrong : (p : ℕ) → drawing.GoesWrongAt at pal part p → answer ≡ failed (Rule p)
+
+pub drawing_read : (bytes : List ℕ) (pal : Bool) (at : ℕ) (part : List ℕ) (answer read : Result Drawing Unspell) → read ≡ placed (drawing_part ∷ []) answer → at ≡ at_of bytes → pal ≡ region_of bytes → part ≡ drawing_bytes bytes → IfOk answer (drawing.Spells at pal part) → ((d : Drawing) → drawing.Spells at pal part d → answer ≢ failed NoMemory → answer ≡ Ok d) → ((p : ℕ) → answer ≡ failed (Rule p) → drawing.GoesWrongAt at pal part p) → ((p : ℕ) → drawing.GoesWrongAt at pal part p → answer ≡ failed (Rule p)) → Reads (IsPicture bytes) (DrawingFails bytes) read
+drawing_read bytes pal at part answer read r e region f found only rule wrong =
+    let says : DrawingSays at part answer (region_of bytes) = subst (DrawingSays at part answer) region (record { found = found; only = only; rule = rule; wrong = wrong }) in
+    drawing_read_in bytes at part answer read r e f says.found says.only says.rule says.wrong
 
 -- ---- the sound chips
 

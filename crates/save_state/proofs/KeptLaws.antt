@@ -2,6 +2,9 @@
 use Rattle.std.proofs.Common.{◌≡◌, ℕ, zero, suc, ◌≤◌, ◌==◌, ◌||◌, eqb, leb, cond, Bool, true, false, not, List, length, Option, is_some, if◌then◌else◌, refl, sym, ap, subst, ◌∙◌, arith}
 use Rattle.std.proofs.lemmas.Bool.{eqb-true, leb-true}
 use Rattle.sha2.specs.Sha256.{sha256}
+use Rattle.std.specs.Prelude.{slice_index}
+use Rattle.md_word.specs.Coding.{flag_number}
+use Rattle.md_fields.proofs.Flags.{flag_back}
 use Rattle.md_fields.specs.Places.{IsBytes}
 use Rattle.md_pads.specs.Recording.{Frame}
 use Rattle.m68k_chip.specs.Spelling as main
@@ -20,9 +23,9 @@ use Rattle.md_machine.specs.Console.{Console, drawing_in}
 use Rattle.md_machine.specs.Machines.{MachineValue}
 use Rattle.md_machine.specs.Starts.{first_batch}
 use Rattle.save_state.specs.Faults.{HasForm, IsMachineOf}
-use Rattle.save_state.specs.Items.{at_of, main_next, sub_next, stage_of, holder_in, main_bytes, sub_bytes, shared_bytes, drawing_bytes}
+use Rattle.save_state.specs.Items.{at_of, region_of, main_next, sub_next, stage_of, holder_in, main_bytes, sub_bytes, shared_bytes, drawing_bytes}
 use Rattle.save_state.specs.Layout.{part_of, digest_part, sub_part, store_part}
-use Rattle.save_state.specs.States.{store_of, number_bytes, is_holder, are_fm_early, are_psg_early, IsSaved, IsState}
+use Rattle.save_state.specs.States.{store_of, number_bytes, is_holder, are_fm_early, are_psg_early, IsSaved, IsNewest}
 use Rattle.save_state.proofs.Gathered.{sub_gathered_long, one_size, one_store, cut_sub, cut_shared, AreBehind}
 use Rattle.save_state.proofs.Places.{yes}
 use Rattle.save_state.proofs.Parts.{main_own, drawing_own, sub_own, sub_joined, numbers_long, sub_long, vdp_long, fm_port_long, psg_port_long, lines_long}
@@ -58,14 +61,14 @@ record Owners (bytes : List ℕ) (m : Console) : Type 0 where
   numbers : part_of sub_part bytes ≡ number_bytes m.sub.state
   store : part_of store_part bytes ≡ shared.store_bytes (store_of m)
 
-shared_cut : (cart : List ℕ) (recording : List Frame) (bytes : List ℕ) (m : MachineValue) → length bytes ≡ 378240 → IsMachineOf cart recording bytes m → (length (shared.store_bytes m.console.shared.store) ≡ shared.store_size (holder_in bytes == 1)) × ((holder_in bytes == 1) ≡ true → part_of store_part bytes ≡ shared.store_bytes m.console.shared.store) × AreBehind bytes (vdp_bytes m.console.shared.vdp) (fm_port.port_bytes m.console.shared.fm) (psg_port.port_bytes m.console.shared.held) (shared.lines_bytes (lines_of m.console.shared))
+shared_cut : (cart : List ℕ) (recording : List Frame) (bytes : List ℕ) (m : MachineValue) → length bytes ≡ 393602 → IsMachineOf cart recording bytes m → (length (shared.store_bytes m.console.shared.store) ≡ shared.store_size (holder_in bytes == 1)) × ((holder_in bytes == 1) ≡ true → part_of store_part bytes ≡ shared.store_bytes m.console.shared.store) × AreBehind bytes (vdp_bytes m.console.shared.vdp) (fm_port.port_bytes m.console.shared.fm) (psg_port.port_bytes m.console.shared.held) (shared.lines_bytes (lines_of m.console.shared))
 shared_cut cart recording bytes m long is =
     let b = m.console.shared in
     let s = is.shared.spells in
     cut_shared bytes (shared.store_bytes b.store) (vdp_bytes b.vdp) (fm_port.port_bytes b.fm) (psg_port.port_bytes b.held) (shared.lines_bytes (lines_of b)) (holder_in bytes == 1) long
-    (vdp_long (at_of bytes) (vdp_bytes b.vdp) b.vdp s.vdp) (fm_port_long (at_of bytes) (fm_port.port_bytes b.fm) b.fm s.fm) (psg_port_long (at_of bytes) (psg_port.port_bytes b.held) b.held s.held) (lines_long (at_of bytes) (shared_bytes bytes) b s) s.all
+    (vdp_long (at_of bytes) (region_of bytes) (vdp_bytes b.vdp) b.vdp s.vdp) (fm_port_long (at_of bytes) (fm_port.port_bytes b.fm) b.fm s.fm) (psg_port_long (at_of bytes) (psg_port.port_bytes b.held) b.held s.held) (lines_long (at_of bytes) (region_of bytes) (shared_bytes bytes) b s) s.all
 
-owners : (cart : List ℕ) (recording : List Frame) (bytes : List ℕ) (m : MachineValue) → length bytes ≡ 378240 → IsMachineOf cart recording bytes m → Owners bytes m.console
+owners : (cart : List ℕ) (recording : List Frame) (bytes : List ℕ) (m : MachineValue) → length bytes ≡ 393602 → IsMachineOf cart recording bytes m → Owners bytes m.console
 owners cart recording bytes m long is =
     let h = holder_in bytes in
     let s = m.console.sub.state in
@@ -92,12 +95,13 @@ machine_parts cart recording bytes digest m form d is =
       head = form.mark;
       digest_is = d;
       at_is = sym is.at;
+      region = sym (flag_back (slice_index bytes 48) is.region) ∙ ap flag_number (sym is.drawing.region);
       main = main_own cart (at_of bytes) (main_bytes bytes) m.console.main is.main.spells;
       numbers = o.numbers;
       holder = back (holder_in bytes) o.few ∙ ap (λ (has : Bool). if has then 1 else 0) (sym o.shared_has);
       store = o.store;
       video = rest.video;
-      drawing = drawing_own (at_of bytes) (drawing_bytes bytes) (drawing_in m.console) is.drawing;
+      drawing = drawing_own (at_of bytes) (region_of bytes) (drawing_bytes bytes) (drawing_in m.console) is.drawing;
       fm_port = rest.fm_port;
       fm_next = is.fm.next ∙ ap first_batch (sym is.at);
       fm = is.fm.spells.keeps.all;
@@ -115,11 +119,12 @@ saved_there cart recording bytes digest m form d is =
     let at = sym is.at in
     let main_kept : main.Spells cart m.at (main.chip_bytes c.main) c.main = subst (λ (a : ℕ). main.Spells cart a (main.chip_bytes c.main) c.main) at (subst (λ (l : List ℕ). main.Spells cart (at_of bytes) l c.main) p.main is.main.spells) in
     let sub_kept : sub.Spells cart m.at (sub.chip_bytes c.sub.state) c.sub.state = subst (λ (a : ℕ). sub.Spells cart a (sub.chip_bytes c.sub.state) c.sub.state) at (subst (λ (l : List ℕ). sub.Spells cart (at_of bytes) l c.sub.state) (sub_own cart (at_of bytes) (sub_bytes bytes) c.sub.state is.sub.spells) is.sub.spells) in
-    let shared_kept : shared.Spells m.at (shared.board_bytes c.shared) c.shared = subst (λ (a : ℕ). shared.Spells a (shared.board_bytes c.shared) c.shared) at (subst (λ (l : List ℕ). shared.Spells (at_of bytes) l c.shared) is.shared.spells.all is.shared.spells) in
-    let drawing_kept : drawing.Spells m.at (drawing.drawing_bytes (drawing_in c)) (drawing_in c) = subst (λ (a : ℕ). drawing.Spells a (drawing.drawing_bytes (drawing_in c)) (drawing_in c)) at (subst (λ (l : List ℕ). drawing.Spells (at_of bytes) l (drawing_in c)) p.drawing is.drawing) in
+    let its : region_of bytes ≡ c.pal = sym is.drawing.region in
+    let shared_kept : shared.Spells m.at c.pal (shared.board_bytes c.shared) c.shared = subst (λ (b : Bool). shared.Spells m.at b (shared.board_bytes c.shared) c.shared) its (subst (λ (a : ℕ). shared.Spells a (region_of bytes) (shared.board_bytes c.shared) c.shared) at (subst (λ (l : List ℕ). shared.Spells (at_of bytes) (region_of bytes) l c.shared) is.shared.spells.all is.shared.spells)) in
+    let drawing_kept : drawing.Spells m.at c.pal (drawing.drawing_bytes (drawing_in c)) (drawing_in c) = subst (λ (b : Bool). drawing.Spells m.at b (drawing.drawing_bytes (drawing_in c)) (drawing_in c)) its (subst (λ (a : ℕ). drawing.Spells a (region_of bytes) (drawing.drawing_bytes (drawing_in c)) (drawing_in c)) at (subst (λ (l : List ℕ). drawing.Spells (at_of bytes) (region_of bytes) l (drawing_in c)) p.drawing is.drawing)) in
     let numbers = sub_numbers_are cart digest bytes m.at c p sub_kept in
     let next = main_next_is cart digest bytes m.at c p main_kept in
-    let resets = resets_are digest bytes m.at c (shared.board_bytes c.shared) p shared_kept in
+    let resets = resets_are digest bytes m.at c.pal c (shared.board_bytes c.shared) p shared_kept in
     record {
       begun = is.begun;
       near = is.near;
@@ -148,7 +153,7 @@ saved_there cart recording bytes digest m form d is =
       }));
     }
 
-pub state_there : (cart : List ℕ) (recording : List Frame) (bytes : List ℕ) (m : MachineValue) → IsBytes bytes → HasForm bytes → part_of digest_part bytes ≡ sha256 cart → IsMachineOf cart recording bytes m → IsState cart bytes (record { at = m.at; console = m.console })
+pub state_there : (cart : List ℕ) (recording : List Frame) (bytes : List ℕ) (m : MachineValue) → IsBytes bytes → HasForm bytes → part_of digest_part bytes ≡ sha256 cart → IsMachineOf cart recording bytes m → IsNewest cart bytes (record { at = m.at; console = m.console })
 state_there cart recording bytes m fits form d is = record {
   saved = saved_there cart recording bytes (sha256 cart) m form d is;
   all = parts_spelled (sha256 m.console.cart) m.at m.console bytes fits (machine_parts cart recording bytes (sha256 m.console.cart) m form (d ∙ ap sha256 (sym is.main.image)) is);

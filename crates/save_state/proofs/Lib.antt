@@ -10,4 +10,5 @@ pub mod ReadLaws
 pub mod ReadyLaws
 pub mod Standing
 pub mod WholeLaws
+pub mod VersionLaws
 pub mod WriteLaws

@@ -1,5 +1,6 @@
 -- A machine from the items that are read together.
 use Rattle.std.proofs.Common.{◌≡◌, ℕ, zero, suc, ◌+◌, ◌-◌, ◌*◌, ◌/◌, ◌%◌, ◌<◌, ◌≤◌, leb, ltb, eqb, Bool, true, false, ◌==◌, ◌⊎◌, List, [], ◌∷◌, length, refl, sym, ap, subst, ◌∙◌, arith, inl, inr, Result}
+use Rattle.std.specs.Prelude.{slice_index}
 use Rattle.std.proofs.lemmas.Bool.{leb-true, ltb-true, eqb-true}
 use Rattle.md_word.specs.Clock.{last_cycle}
 use Rattle.md_word.specs.declared.unspell.Unspell.{Unspell}
@@ -29,9 +30,9 @@ use Rattle.bus_shared.specs.Board.{Board}
 use Rattle.md_machine.specs.Console.{Console, drawing_in, key_in, IsQuiet}
 use Rattle.md_machine.specs.Machines.{MachineValue}
 use Rattle.md_machine.specs.Starts.{IsStart, first_batch, first_line}
-use Rattle.save_state.specs.Faults.{FailsAt, at_fails, main_fails, sub_fails, shared_fails, drawing_fails, fm_fails, psg_fails, IsMachineOf}
+use Rattle.save_state.specs.Faults.{FailsAt, at_fails, region_fails, main_fails, sub_fails, shared_fails, drawing_fails, fm_fails, psg_fails, IsMachineOf}
 use Rattle.save_state.specs.declared.layout.Part.{Part}
-use Rattle.save_state.specs.Items.{at_of, holder_in, main_bytes, sub_bytes, shared_bytes, drawing_bytes, IsMain, MainFails, IsSub, SubFails, chip_fails, holder_fails, IsShared, SharedFails, board_fails, resets_fail, IsPicture, DrawingFails, IsFm, FmFails, synth_fails, next_fails, writes_fail, IsPsg, PsgFails, psg_synth_fails, psg_next_fails, psg_writes_fail}
+use Rattle.save_state.specs.Items.{at_of, region_of, holder_in, main_bytes, sub_bytes, shared_bytes, drawing_bytes, IsMain, MainFails, IsSub, SubFails, chip_fails, holder_fails, IsShared, SharedFails, board_fails, resets_fail, IsPicture, DrawingFails, IsFm, FmFails, synth_fails, next_fails, writes_fail, IsPsg, PsgFails, psg_synth_fails, psg_next_fails, psg_writes_fail}
 use Rattle.save_state.specs.Layout.{are_ordered, main_part, sub_parts, shared_parts, drawing_part, fm_part, psg_part, part_of}
 use Rattle.save_state.specs.Joining.{Reads, FailsIn, both, KeepsBoth, Either}
 use Rattle.save_state.specs.Pieces.{Pieces, Kept, Fails, built}
@@ -54,7 +55,7 @@ pieces_read cart recording bytes m s b d f p processors board sound rest all ep 
 -- ---- what fails
 
 abbrev pub IsAtRight : List ℕ → Type 0
-IsAtRight bytes = (1 ≤ at_of bytes) × (at_of bytes ≤ last_cycle)
+IsAtRight bytes = ((1 ≤ at_of bytes) × (at_of bytes ≤ last_cycle)) × (slice_index bytes 48 ≤ 1)
 
 to_fails : (cart bytes : List ℕ) (p : ℕ) → Fails cart bytes p → FailsAt cart bytes p
 to_fails cart bytes p w =
@@ -64,7 +65,8 @@ to_fails cart bytes p w =
     ]
 
 from_fails : (cart bytes : List ℕ) (p : ℕ) → IsAtRight bytes → FailsAt cart bytes p → Fails cart bytes p
-from_fails cart bytes p right (at_fails e h) = absurd (h right)
+from_fails cart bytes p right (at_fails e h) = absurd (h right.0)
+from_fails cart bytes p right (region_fails e h) = absurd (h right.1)
 from_fails cart bytes p right (main_fails h) = inl (inl h)
 from_fails cart bytes p right (sub_fails h) = inl (inr h)
 from_fails cart bytes p right (shared_fails h) = inr (inl (inl h))
@@ -83,13 +85,14 @@ kept_of cart recording bytes m is = ((is.main, is.sub), ((is.shared, is.drawing)
 
 -- a drawing half that is drained is the one in the machine
 again : (at : ℕ) (t : Pieces) → drawing.IsDrained t.1.0.1 → t.1.0.1 ≡ drawing_in (built at t).console
-again at t is = λ i. record { next = t.1.0.1.next; note = t.1.0.1.note; has_view = is.view i; picture = t.1.0.1.picture; frame = is.frame i }
+again at t is = λ i. record { next = t.1.0.1.next; note = t.1.0.1.note; has_view = is.view i; picture = t.1.0.1.picture; frame = is.frame i; pal = t.1.0.1.pal }
 
 machine_is : (cart : List ℕ) (recording : List Frame) (bytes : List ℕ) (at : ℕ) (t : Pieces) → at ≡ at_of bytes → IsAtRight bytes → Kept cart recording bytes t → IsMachineOf cart recording bytes (built at t)
 machine_is cart recording bytes at t e right k = record {
   at = e;
-  begun = omega (arith, e, right.0);
-  near = omega (arith, e, right.1);
+  begun = omega (arith, e, right.0.0);
+  near = omega (arith, e, right.0.1);
+  region = right.1;
   main = k.0.0;
   sub = k.0.1;
   shared = k.1.0.0;
@@ -116,6 +119,7 @@ one_machine cart recording bytes at t m e is same =
         sub = (same i).0.1;
         note = (same i).1.0.1.note;
         picture = (same i).1.0.1.picture;
+        pal = (same i).1.0.1.pal;
         line = (same i).1.0.1.next;
         fm_cycle = fm_batch i;
         psg_cycle = psg_batch i;
@@ -186,10 +190,10 @@ pub next_80 : (cart : List ℕ) (at : ℕ) (bytes : List ℕ) (state : State80) 
 unfolding sub_next_of
 next_80 cart at bytes state s = sub_soon cart at bytes state s
 
-pub is_first : (at : ℕ) (bytes : List ℕ) (d : Drawing) → drawing.Spells at bytes d → (at ≤ d.next) × (d.next ≡ first_line at)
+pub is_first : (at : ℕ) (pal : Bool) (bytes : List ℕ) (d : Drawing) → drawing.Spells at pal bytes d → (at ≤ d.next) × (d.next ≡ first_line at)
 unfolding AllHold
-is_first at bytes d s =
-    let h = all_hold 0 (saved_drawing.drawing_fields at (saved_drawing.numbers_of d)) s.right in
+is_first at pal bytes d s =
+    let h = all_hold 0 (saved_drawing.drawing_fields at pal (saved_drawing.numbers_of d)) s.right in
     let a = both_hold (eqb (d.next % 3420) 0) _ h.0 in
     let b = both_hold (leb at d.next) (ltb (d.next - at) 3420) a.1 in
     let whole : d.next % 3420 ≡ 0 = eqb-true _ _ a.0 in
@@ -215,7 +219,7 @@ pub is_start : (cart : List ℕ) (recording : List Frame) (bytes : List ℕ) (m 
 is_start cart recording bytes m is =
     let main_at = main_soon cart (at_of bytes) _ m.console.main is.main.spells in
     let sub_at = sub_soon cart (at_of bytes) _ m.console.sub.state is.sub.spells in
-    let line_at = is_first (at_of bytes) _ (drawing_in m.console) is.drawing in
+    let line_at = is_first (at_of bytes) (region_of bytes) _ (drawing_in m.console) is.drawing in
     let batch = late_batch m.at is.begun in
     record {
       quiet = quiet m.at m.console (omega (arith, main_at, is.at)) (omega (arith, sub_at, is.at)) (omega (arith, line_at.0, is.at)) (omega (arith, batch, is.fm_cycle)) (omega (arith, batch, is.psg_cycle));
@@ -224,13 +228,13 @@ is_start cart recording bytes m is =
       psg = is.psg_cycle;
     }
 
--- ---- a wrong cycle is refused before all else
+-- ---- a wrong cycle is refused before all else, and then a wrong region
 
-from_48 : (parts : List Part) (Wrong : ℕ → Type 0) (p : ℕ) → are_ordered 48 parts ≡ true → 1 ≤ length parts → FailsIn parts Wrong p → 40 ≤ p
-from_48 [] Wrong p ordered some w = absurd (omega (arith, some))
-from_48 (q ∷ ps) Wrong p ordered some w = omega (arith, w.1, from_first q ps 48 w.0 ordered)
+from_49 : (parts : List Part) (Wrong : ℕ → Type 0) (p : ℕ) → are_ordered 49 parts ≡ true → 1 ≤ length parts → FailsIn parts Wrong p → 48 ≤ p
+from_49 [] Wrong p ordered some w = absurd (omega (arith, some))
+from_49 (q ∷ ps) Wrong p ordered some w = omega (arith, w.1, from_first q ps 49 w.0 ordered)
 
-sub_behind : (has : Bool) → are_ordered 48 (sub_parts has) ≡ true
+sub_behind : (has : Bool) → are_ordered 49 (sub_parts has) ≡ true
 sub_behind true = refl
 sub_behind false = refl
 
@@ -238,7 +242,7 @@ sub_some : (has : Bool) → 1 ≤ length (sub_parts has)
 sub_some true = omega arith
 sub_some false = omega arith
 
-shared_behind : (has : Bool) → are_ordered 48 (shared_parts has) ≡ true
+shared_behind : (has : Bool) → are_ordered 49 (shared_parts has) ≡ true
 shared_behind true = refl
 shared_behind false = refl
 
@@ -246,34 +250,49 @@ shared_some : (has : Bool) → 1 ≤ length (shared_parts has)
 shared_some true = omega arith
 shared_some false = omega arith
 
-in_sub : (cart bytes : List ℕ) (p : ℕ) → SubFails cart bytes p → 40 ≤ p
-in_sub cart bytes p (chip_fails h) = from_48 (sub_parts (holder_in bytes == 0)) (sub.GoesWrongAt cart (at_of bytes) (sub_bytes bytes)) p (sub_behind (holder_in bytes == 0)) (sub_some (holder_in bytes == 0)) h
+in_sub : (cart bytes : List ℕ) (p : ℕ) → SubFails cart bytes p → 48 ≤ p
+in_sub cart bytes p (chip_fails h) = from_49 (sub_parts (holder_in bytes == 0)) (sub.GoesWrongAt cart (at_of bytes) (sub_bytes bytes)) p (sub_behind (holder_in bytes == 0)) (sub_some (holder_in bytes == 0)) h
 in_sub cart bytes p (holder_fails e h) = omega (arith, e)
 
-in_shared : (bytes : List ℕ) (p : ℕ) → SharedFails bytes p → 40 ≤ p
-in_shared bytes p (board_fails h) = from_48 (shared_parts (holder_in bytes == 1)) (shared.GoesWrongAt (at_of bytes) (shared_bytes bytes)) p (shared_behind (holder_in bytes == 1)) (shared_some (holder_in bytes == 1)) h
+in_shared : (bytes : List ℕ) (p : ℕ) → SharedFails bytes p → 48 ≤ p
+in_shared bytes p (board_fails h) = from_49 (shared_parts (holder_in bytes == 1)) (shared.GoesWrongAt (at_of bytes) (region_of bytes) (shared_bytes bytes)) p (shared_behind (holder_in bytes == 1)) (shared_some (holder_in bytes == 1)) h
 in_shared bytes p (resets_fail e h) = omega (arith, e)
 
-in_fm : (bytes : List ℕ) (p : ℕ) → FmFails bytes p → 40 ≤ p
-in_fm bytes p (synth_fails h) = from_48 (fm_part ∷ []) (fm.SynthGoesWrongAt (part_of fm_part bytes)) p refl (omega arith) h
+in_fm : (bytes : List ℕ) (p : ℕ) → FmFails bytes p → 48 ≤ p
+in_fm bytes p (synth_fails h) = from_49 (fm_part ∷ []) (fm.SynthGoesWrongAt (part_of fm_part bytes)) p refl (omega arith) h
 in_fm bytes p (next_fails e h) = omega (arith, e)
 in_fm bytes p (writes_fail e h) = omega (arith, e)
 
-in_psg : (bytes : List ℕ) (p : ℕ) → PsgFails bytes p → 40 ≤ p
-in_psg bytes p (psg_synth_fails h) = from_48 (psg_part ∷ []) (psg.SynthGoesWrongAt (part_of psg_part bytes)) p refl (omega arith) h
+in_psg : (bytes : List ℕ) (p : ℕ) → PsgFails bytes p → 48 ≤ p
+in_psg bytes p (psg_synth_fails h) = from_49 (psg_part ∷ []) (psg.SynthGoesWrongAt (part_of psg_part bytes)) p refl (omega arith) h
 in_psg bytes p (psg_next_fails e h) = omega (arith, e)
 in_psg bytes p (psg_writes_fail e h) = omega (arith, e)
 
+from_48 : (cart bytes : List ℕ) (p : ℕ) → (1 ≤ at_of bytes) × (at_of bytes ≤ last_cycle) → FailsAt cart bytes p → 48 ≤ p
+from_48 cart bytes p right (at_fails e h) = absurd (h right)
+from_48 cart bytes p right (region_fails e h) = omega (arith, e)
+from_48 cart bytes p right (main_fails h) = from_49 (main_part ∷ []) (main.GoesWrongAt cart (at_of bytes) (main_bytes bytes)) p refl (omega arith) h
+from_48 cart bytes p right (sub_fails h) = in_sub cart bytes p h
+from_48 cart bytes p right (shared_fails h) = in_shared bytes p h
+from_48 cart bytes p right (drawing_fails h) = from_49 (drawing_part ∷ []) (drawing.GoesWrongAt (at_of bytes) (region_of bytes) (drawing_bytes bytes)) p refl (omega arith) h
+from_48 cart bytes p right (fm_fails h) = in_fm bytes p h
+from_48 cart bytes p right (psg_fails h) = in_psg bytes p h
+
+-- and no place stands before the cycle
 from_40 : (cart bytes : List ℕ) (p : ℕ) → FailsAt cart bytes p → 40 ≤ p
 from_40 cart bytes p (at_fails e h) = omega (arith, e)
-from_40 cart bytes p (main_fails h) = from_48 (main_part ∷ []) (main.GoesWrongAt cart (at_of bytes) (main_bytes bytes)) p refl (omega arith) h
-from_40 cart bytes p (sub_fails h) = in_sub cart bytes p h
-from_40 cart bytes p (shared_fails h) = in_shared bytes p h
-from_40 cart bytes p (drawing_fails h) = from_48 (drawing_part ∷ []) (drawing.GoesWrongAt (at_of bytes) (drawing_bytes bytes)) p refl (omega arith) h
-from_40 cart bytes p (fm_fails h) = in_fm bytes p h
-from_40 cart bytes p (psg_fails h) = in_psg bytes p h
+from_40 cart bytes p (region_fails e h) = omega (arith, e)
+from_40 cart bytes p (main_fails h) = omega (arith, from_49 (main_part ∷ []) (main.GoesWrongAt cart (at_of bytes) (main_bytes bytes)) p refl (omega arith) h)
+from_40 cart bytes p (sub_fails h) = omega (arith, in_sub cart bytes p h)
+from_40 cart bytes p (shared_fails h) = omega (arith, in_shared bytes p h)
+from_40 cart bytes p (drawing_fails h) = omega (arith, from_49 (drawing_part ∷ []) (drawing.GoesWrongAt (at_of bytes) (region_of bytes) (drawing_bytes bytes)) p refl (omega arith) h)
+from_40 cart bytes p (fm_fails h) = omega (arith, in_fm bytes p h)
+from_40 cart bytes p (psg_fails h) = omega (arith, in_psg bytes p h)
 
-pub at_refused : (cart : List ℕ) (recording : List Frame) (bytes : List ℕ) → ¬ IsAtRight bytes → Reads {T = MachineValue} (IsMachineOf cart recording bytes) (FailsAt cart bytes) (failed (Rule 40))
+abbrev pub IsCycle : List ℕ → Type 0
+IsCycle bytes = (1 ≤ at_of bytes) × (at_of bytes ≤ last_cycle)
+
+pub at_refused : (cart : List ℕ) (recording : List Frame) (bytes : List ℕ) → ¬ IsCycle bytes → Reads {T = MachineValue} (IsMachineOf cart recording bytes) (FailsAt cart bytes) (failed (Rule 40))
 at_refused cart recording bytes wrong = record {
   found = tt;
   only = λ m is n. absurd (wrong (omega (arith, is.at, is.begun), omega (arith, is.at, is.near)));
@@ -285,9 +304,33 @@ at_refused cart recording bytes wrong = record {
   here : (p : ℕ) → failed {T = MachineValue} (Rule 40) ≡ failed (Rule p) → 40 ≡ p
   here p e = cc
 
-pub wrong_at : (bytes : List ℕ) (at : ℕ) → at ≡ at_of bytes → (at < 1) ⊎ (last_cycle < at) → ¬ IsAtRight bytes
+-- a wrong region is refused before all else but the cycle
+pub region_refused : (cart : List ℕ) (recording : List Frame) (bytes : List ℕ) → IsCycle bytes → ¬ (slice_index bytes 48 ≤ 1)
+    → Reads {T = MachineValue} (IsMachineOf cart recording bytes) (FailsAt cart bytes) (failed (Rule 48))
+region_refused cart recording bytes right wrong = record {
+  found = tt;
+  only = λ m is n. absurd (wrong is.region);
+  none = tt;
+  least = λ p e. (
+      let same : 48 ≡ p = here p e in
+      record { fails = region_fails (sym same) wrong; least = λ q fails. omega (arith, same, from_48 cart bytes q right fails) });
+} where
+  here : (p : ℕ) → failed {T = MachineValue} (Rule 48) ≡ failed (Rule p) → 48 ≡ p
+  here p e = cc
+
+pub wrong_at : (bytes : List ℕ) (at : ℕ) → at ≡ at_of bytes → (at < 1) ⊎ (last_cycle < at) → ¬ IsCycle bytes
 wrong_at bytes at e (inl low) right = omega (arith, e, low, right.0)
 wrong_at bytes at e (inr high) right = omega (arith, e, high, right.1)
 
-pub right_at : (bytes : List ℕ) (at : ℕ) → at ≡ at_of bytes → 1 ≤ at → at ≤ last_cycle → IsAtRight bytes
-right_at bytes at e low high = (omega (arith, e, low), omega (arith, e, high))
+pub right_cycle : (bytes : List ℕ) (at : ℕ) → at ≡ at_of bytes → 1 ≤ at → at ≤ last_cycle → IsCycle bytes
+right_cycle bytes at e low high = (omega (arith, e, low), omega (arith, e, high))
+
+pub wrong_region : (bytes : List ℕ) (region : ℕ) → region ≡ slice_index bytes 48 → 1 < region → ¬ (slice_index bytes 48 ≤ 1)
+wrong_region bytes region e high right = omega (arith, e, high, right)
+
+pub right_at : (bytes : List ℕ) (at region : ℕ) → at ≡ at_of bytes → 1 ≤ at → at ≤ last_cycle → region ≡ slice_index bytes 48 → region ≤ 1 → IsAtRight bytes
+right_at bytes at region e low high f few = (right_cycle bytes at e low high, omega (arith, f, few))
+
+-- the two halves of the VDP are of the state's region
+pub one_region : (cart : List ℕ) (recording : List Frame) (bytes : List ℕ) (t : Pieces) → Kept cart recording bytes t → t.1.0.1.pal ≡ t.1.0.0.vdp.pal
+one_region cart recording bytes t k = k.1.0.1.region ∙ sym k.1.0.0.spells.vdp.region

@@ -68,11 +68,11 @@ number_front w place a b inside =
 pub main_long : (cart : List ℕ) (at : ℕ) (bytes : List ℕ) (s : State68) → main.Spells cart at bytes s → length bytes ≡ 65714
 main_long cart at bytes s p = main_laws.spelled_long cart at bytes s p
 
-pub vdp_long : (at : ℕ) (bytes : List ℕ) (s : Vdp) → video.Spells at bytes s → length bytes ≡ 65812
-vdp_long at bytes s p = ap length p.keeps.all ∙ long_as (vdp_fields at (numbers_vdp.numbers_of s)) p.keeps.within ∙ vdp_laws.fields_size at (numbers_vdp.numbers_of s)
+pub vdp_long : (at : ℕ) (pal : Bool) (bytes : List ℕ) (s : Vdp) → video.Spells at pal bytes s → length bytes ≡ 65813
+vdp_long at pal bytes s p = ap length p.keeps.all ∙ long_as (vdp_fields at pal (numbers_vdp.numbers_of s)) p.keeps.within ∙ vdp_laws.fields_size at pal (numbers_vdp.numbers_of s)
 
-pub drawing_long : (at : ℕ) (bytes : List ℕ) (d : Drawing) → drawing.Spells at bytes d → length bytes ≡ 215050
-drawing_long at bytes d p = ap length p.keeps.all ∙ long_as (saved_drawing.drawing_fields at (saved_drawing.numbers_of d)) p.keeps.within ∙ drawing_laws.fields_size at (saved_drawing.numbers_of d)
+pub drawing_long : (at : ℕ) (pal : Bool) (bytes : List ℕ) (d : Drawing) → drawing.Spells at pal bytes d → length bytes ≡ 230410
+drawing_long at pal bytes d p = ap length p.keeps.all ∙ long_as (saved_drawing.drawing_fields at pal (saved_drawing.numbers_of d)) p.keeps.within ∙ drawing_laws.fields_size at pal (saved_drawing.numbers_of d)
 
 pub fm_port_long : (at : ℕ) (bytes : List ℕ) (p : Port) → fm_port.SpellsPort at bytes p → length bytes ≡ 12316
 fm_port_long at bytes p s = ap length s.keeps.all ∙ long_as (fm_port.port_fields at (fm_port.saved_port p)) s.keeps.within ∙ fm_port_laws.port_size at (fm_port.saved_port p)
@@ -86,8 +86,8 @@ fm_long bytes s p = ap length p.keeps.all ∙ long_as (fm.synth_fields (fm.saved
 pub psg_long : (bytes : List ℕ) (s : psg_synths.Synth) → psg.SpellsSynth bytes s → length bytes ≡ 26
 psg_long bytes s p = ap length p.keeps.all ∙ long_as (psg.synth_fields (psg.saved_synth s)) p.keeps.within ∙ psg_laws.synth_size (psg.saved_synth s)
 
-pub lines_long : (at : ℕ) (bytes : List ℕ) (b : Board) → shared.Spells at bytes b → length (shared.lines_bytes (lines_of b)) ≡ 18
-lines_long at bytes b p = ap length p.lines.all ∙ long_as (lines_fields at (lines_of b)) p.lines.within ∙ lines_laws.lines_size at (lines_of b)
+pub lines_long : (at : ℕ) (pal : Bool) (bytes : List ℕ) (b : Board) → shared.Spells at pal bytes b → length (shared.lines_bytes (lines_of b)) ≡ 18
+lines_long at pal bytes b p = ap length p.lines.all ∙ long_as (lines_fields at (lines_of b)) p.lines.within ∙ lines_laws.lines_size at (lines_of b)
 
 -- ---- their bytes do not depend on the rules
 
@@ -95,8 +95,8 @@ pub main_own : (cart : List ℕ) (at : ℕ) (bytes : List ℕ) (s : State68) →
 unfolding spelling
 main_own cart at bytes s p = p.keeps.all
 
-pub drawing_own : (at : ℕ) (bytes : List ℕ) (d : Drawing) → drawing.Spells at bytes d → bytes ≡ drawing.drawing_bytes d
-drawing_own at bytes d p = p.keeps.all ∙ drawing_laws.same_bytes at 0 (saved_drawing.numbers_of d)
+pub drawing_own : (at : ℕ) (pal : Bool) (bytes : List ℕ) (d : Drawing) → drawing.Spells at pal bytes d → bytes ≡ drawing.drawing_bytes d
+drawing_own at pal bytes d p = p.keeps.all ∙ drawing_laws.same_bytes at 0 pal false (saved_drawing.numbers_of d)
 
 -- ---- the Z80: its numbers, and RAM with the bank register behind them
 

@@ -1,5 +1,5 @@
 -- What is written of a machine that may be kept is a saved state of its cartridge.
-use Rattle.std.proofs.Common.{◌≡◌, ℕ, ◌≤◌, ◌<◌, ◌+◌, lit<, true, None, List, refl, sym, subst, ◌∙◌}
+use Rattle.std.proofs.Common.{◌≡◌, ℕ, ◌≤◌, ◌<◌, ◌+◌, lit<, Bool, true, None, List, refl, sym, subst}
 use Rattle.m68k_chip.specs.Rules as main_rules
 use Rattle.m68k_chip.specs.Validity.{Chip68Value}
 use Rattle.m68k_chip.specs.Spelling as main
@@ -17,9 +17,10 @@ use Rattle.psg_sound.specs.SynthSpelling as psg
 use Rattle.bus_shared.specs.Board.{Board}
 use Rattle.bus_shared.specs.Spelling as shared
 use Rattle.md_machine.specs.Console.{Console, drawing_in, key_in}
+use Rattle.md_machine.specs.Regions.{IsOneRegion}
 use Rattle.md_machine.specs.Starts.{IsStart}
 use Rattle.save_state.specs.Ready.{IsReady}
-use Rattle.save_state.specs.States.{IsSaved, IsState, settled_console, state_bytes}
+use Rattle.save_state.specs.States.{IsSaved, IsNewest, settled_console, state_bytes}
 use Rattle.save_state.proofs.Holders.{holder_right}
 
 -- what each chip's spelling says of it
@@ -30,10 +31,10 @@ abbrev pub SubKept : ℕ → Chip80Value → Type 0
 SubKept at x = at ≤ x.state.next → sub_rules.HasRules x.cart at x.state → sub.Spells x.cart at (sub.chip_bytes x.state) x.state
 
 abbrev pub BoardKept : ℕ → Board → Type 0
-BoardKept at b = shared.IsReady at b → shared.Spells at (shared.board_bytes (shared.settled_board at b)) (shared.settled_board at b)
+BoardKept at b = shared.IsReady at b → shared.Spells at b.vdp.pal (shared.board_bytes (shared.settled_board at b)) (shared.settled_board at b)
 
 abbrev pub DrawingKept : ℕ → Drawing → Type 0
-DrawingKept at d = drawing.IsReady at d → drawing.Spells at (drawing.drawing_bytes d) (drawing.drained d)
+DrawingKept at d = drawing.IsReady at d → drawing.Spells at d.pal (drawing.drawing_bytes d) (drawing.drained d)
 
 abbrev pub FmKept : fm_synths.Synth → Type 0
 FmKept s = fm.SpellsSynth (fm.synth_bytes s) s
@@ -51,18 +52,18 @@ unfolding key_in sub_next_of
 sub_from at m start = start.quiet 1 (lit< tt)
 
 -- a drawing half that shows line, note and picture of a machine
-pub drawing_kept : (at : ℕ) (d : Drawing) (m : Console) → d.next ≡ m.line → d.note ≡ m.note → d.picture ≡ m.picture → DrawingKept at d → DrawingKept at (drawing_in m)
-drawing_kept at d m line note picture kept ready =
+pub drawing_kept : (at : ℕ) (d : Drawing) (m : Console) → d.next ≡ m.line → d.note ≡ m.note → d.picture ≡ m.picture → d.pal ≡ m.pal → DrawingKept at d → DrawingKept at (drawing_in m)
+drawing_kept at d m line note picture pal kept ready =
     let own : drawing.IsReady at d = record {
       from = subst (λ (n : ℕ). at ≤ n) (sym line) ready.from;
       near = subst (λ (n : ℕ). n < at + 3420) (sym line) ready.near;
     } in
-    let same : drawing.drained d ≡ drawing_in m = λ i. record { next = line i; note = note i; has_view = true; picture = picture i; frame = None } in
-    subst (λ (x : Drawing). drawing.Spells at (drawing.drawing_bytes x) x) same (kept own)
+    let same : drawing.drained d ≡ drawing_in m = λ i. record { next = line i; note = note i; has_view = true; picture = picture i; frame = None; pal = pal i } in
+    subst (λ (x : Drawing). drawing.Spells at x.pal (drawing.drawing_bytes x) x) same (kept own)
 
 pub saved : (at : ℕ) (m : Console) → MainKept at (record { cart = m.cart; state = m.main }) → SubKept at m.sub → BoardKept at m.shared → DrawingKept at (drawing_in m)
-    → FmKept m.fm → PsgKept m.psg → IsReady at m → IsSaved m.cart (record { at = at; console = settled_console at m })
-saved at m of_main of_sub of_board of_drawing of_fm of_psg ready = record {
+    → FmKept m.fm → PsgKept m.psg → IsOneRegion m → IsReady at m → IsSaved m.cart (record { at = at; console = settled_console at m })
+saved at m of_main of_sub of_board of_drawing of_fm of_psg one ready = record {
   begun = ready.begun;
   near = ready.near;
   image = refl;
@@ -71,7 +72,7 @@ saved at m of_main of_sub of_board of_drawing of_fm of_psg ready = record {
   holder = holder_right m ready.one_owner ready.sub.holder;
   main = of_main (main_from at m ready.start) ready.main;
   sub = subst (λ (cart : List ℕ). sub.Spells cart at (sub.chip_bytes m.sub.state) m.sub.state) ready.one_cart (of_sub (sub_from at m ready.start) ready.sub);
-  shared = of_board ready.shared;
+  shared = subst (λ (pal : Bool). shared.Spells at pal (shared.board_bytes (shared.settled_board at m.shared)) (shared.settled_board at m.shared)) (sym one) (of_board ready.shared);
   drawing = of_drawing ready.drawing;
   fm_cycle = ready.start.fm;
   psg_cycle = ready.start.psg;
@@ -84,8 +85,8 @@ saved at m of_main of_sub of_board of_drawing of_fm of_psg ready = record {
 
 -- and so the bytes of a machine that may be kept are a state of its cartridge, which keeps it settled
 pub state_kept : (at : ℕ) (m : Console) → MainKept at (record { cart = m.cart; state = m.main }) → SubKept at m.sub → BoardKept at m.shared → DrawingKept at (drawing_in m)
-    → FmKept m.fm → PsgKept m.psg → IsReady at m → IsState m.cart (state_bytes at m) (record { at = at; console = settled_console at m })
-state_kept at m of_main of_sub of_board of_drawing of_fm of_psg ready = record {
-  saved = saved at m of_main of_sub of_board of_drawing of_fm of_psg ready;
+    → FmKept m.fm → PsgKept m.psg → IsOneRegion m → IsReady at m → IsNewest m.cart (state_bytes at m) (record { at = at; console = settled_console at m })
+state_kept at m of_main of_sub of_board of_drawing of_fm of_psg one ready = record {
+  saved = saved at m of_main of_sub of_board of_drawing of_fm of_psg one ready;
   all = refl;
 }

@@ -1,6 +1,8 @@
 -- What stands in the bytes of a state, part by part.
-use Rattle.std.proofs.Common.{◌≡◌, ℕ, List, length, get_or, sym, ap, ◌∙◌, arith}
+use Rattle.std.proofs.Common.{◌≡◌, ℕ, Bool, List, length, get_or, sym, ap, ◌∙◌, arith}
 use Rattle.std.specs.Int.{w64}
+use Rattle.std.specs.Prelude.{slice_index}
+use Rattle.md_word.specs.Coding.{flag_number}
 use Rattle.std.proofs.lemmas.List.{get_or_append_left}
 use Rattle.md_fields.specs.Fields.{AreWithin, spelling}
 use Rattle.md_fields.specs.Places.{IsBytes, Stand, number_at}
@@ -24,16 +26,17 @@ use Rattle.bus_shared.specs.Spelling as shared
 use Rattle.md_machine.specs.Console.{Console, drawing_in}
 use Rattle.md_machine.specs.Starts.{first_batch}
 use Rattle.save_state.specs.Items.{at_of, main_next, sub_next, stage_of, seen_resets, holder_in, resets_of}
-use Rattle.save_state.specs.Layout.{part_of, mark_part, digest_part, main_part, sub_part, store_part, video_part, drawing_part, fm_port_part, fm_next_part, fm_part, psg_next_part, psg_port_part, psg_part, board_part}
+use Rattle.save_state.specs.Layout.{part_of, mark_part, digest_part, region_part, main_part, sub_part, store_part, video_part, drawing_part, fm_port_part, fm_next_part, fm_part, psg_next_part, psg_port_part, psg_part, board_part}
 use Rattle.save_state.specs.States.{mark, holder_of, store_of, number_bytes, state_fields}
 use Rattle.save_state.proofs.Parts.{number_front, sub_joined, numbers_long}
 
 -- each part of the bytes is the one of this machine
 pub record AreParts (digest : List ℕ) (at : ℕ) (m : Console) (bytes : List ℕ) : Type 0 where
-  pub long : length bytes ≡ 378240
+  pub long : length bytes ≡ 393602
   pub head : part_of mark_part bytes ≡ mark
   pub digest_is : part_of digest_part bytes ≡ digest
   pub at_is : at_of bytes ≡ at
+  pub region : slice_index bytes region_part.place ≡ flag_number m.pal
   pub main : part_of main_part bytes ≡ main.chip_bytes m.main
   pub numbers : part_of sub_part bytes ≡ number_bytes m.sub.state
   pub holder : holder_in bytes ≡ holder_of m
@@ -67,31 +70,33 @@ parts_there digest at m bytes within e =
     let s13 = s12.1 in
     let s14 = s13.1 in
     let s15 = s14.1 in
+    let s16 = s15.1 in
     record {
-      long = s15.1;
+      long = s16.1;
       head = sym s0.0;
       digest_is = sym s1.0;
       at_is = sym s2.0;
-      main = sym s3.0;
-      numbers = sym s4.0;
-      holder = sym s5.0;
-      store = sym s6.0;
-      video = sym s7.0;
-      drawing = sym s8.0;
-      fm_port = sym s9.0;
-      fm_next = sym s10.0;
-      fm = sym s11.0;
-      psg_next = sym s12.0;
-      psg_port = sym s13.0;
-      psg = sym s14.0;
-      lines = sym s15.0;
+      region = sym s3.0;
+      main = sym s4.0;
+      numbers = sym s5.0;
+      holder = sym s6.0;
+      store = sym s7.0;
+      video = sym s8.0;
+      drawing = sym s9.0;
+      fm_port = sym s10.0;
+      fm_next = sym s11.0;
+      fm = sym s12.0;
+      psg_next = sym s13.0;
+      psg_port = sym s14.0;
+      psg = sym s15.0;
+      lines = sym s16.0;
     }
 
 pub parts_spelled : (digest : List ℕ) (at : ℕ) (m : Console) (bytes : List ℕ) → IsBytes bytes → AreParts digest at m bytes → bytes ≡ spelling (state_fields digest at m)
 unfolding Stand
 parts_spelled digest at m bytes fits p =
     sym (spelled (state_fields digest at m) bytes fits
-    (sym p.head, (sym p.digest_is, (sym p.at_is, (sym p.main, (sym p.numbers, (sym p.holder, (sym p.store, (sym p.video, (sym p.drawing, (sym p.fm_port, (sym p.fm_next, (sym p.fm, (sym p.psg_next, (sym p.psg_port, (sym p.psg, (sym p.lines, p.long)))))))))))))))))
+    (sym p.head, (sym p.digest_is, (sym p.at_is, (sym p.region, (sym p.main, (sym p.numbers, (sym p.holder, (sym p.store, (sym p.video, (sym p.drawing, (sym p.fm_port, (sym p.fm_next, (sym p.fm, (sym p.psg_next, (sym p.psg_port, (sym p.psg, (sym p.lines, p.long))))))))))))))))))
 
 -- ---- numbers in the parts
 
@@ -102,7 +107,7 @@ first_68 cart at bytes s p = (stand (saved68.chip_fields cart at (numbers68.numb
 -- the next event of the 68000
 pub main_next_is : (cart digest bytes : List ℕ) (at : ℕ) (m : Console) → AreParts digest at m bytes → main.Spells cart at (main.chip_bytes m.main) m.main → m.main.next ≡ main_next bytes
 main_next_is cart digest bytes at m p s =
-    first_68 cart at (main.chip_bytes m.main) m.main s ∙ ap (number_at w64 0) (sym p.main) ∙ number_inside w64 0 48 65714 bytes (omega arith)
+    first_68 cart at (main.chip_bytes m.main) m.main s ∙ ap (number_at w64 0) (sym p.main) ∙ number_inside w64 0 49 65714 bytes (omega arith)
 
 pub record FirstNumbers (bytes : List ℕ) (s : State80) : Type 0 where
   pub next : s.next ≡ number_at w64 0 bytes
@@ -133,16 +138,16 @@ sub_numbers_are cart digest bytes at m p s =
     let rest = shared.store_bytes m.sub.state.store in
     let numbers = number_bytes m.sub.state in
     record {
-      next = first.next ∙ ap (number_at w64 0) joined ∙ number_front w64 0 numbers rest (omega (arith, long)) ∙ ap (number_at w64 0) (sym p.numbers) ∙ number_inside w64 0 65762 62 bytes (omega arith);
-      stage = first.stage ∙ ap (λ (l : List ℕ). get_or l 8 0) joined ∙ get_or_append_left numbers rest 0 8 (omega (arith, long)) ∙ ap (λ (l : List ℕ). get_or l 8 0) (sym p.numbers) ∙ byte_inside 8 65762 62 bytes (omega arith);
-      resets = first.resets ∙ ap (number_at w64 48) joined ∙ number_front w64 48 numbers rest (omega (arith, long)) ∙ ap (number_at w64 48) (sym p.numbers) ∙ number_inside w64 48 65762 62 bytes (omega arith);
+      next = first.next ∙ ap (number_at w64 0) joined ∙ number_front w64 0 numbers rest (omega (arith, long)) ∙ ap (number_at w64 0) (sym p.numbers) ∙ number_inside w64 0 65763 62 bytes (omega arith);
+      stage = first.stage ∙ ap (λ (l : List ℕ). get_or l 8 0) joined ∙ get_or_append_left numbers rest 0 8 (omega (arith, long)) ∙ ap (λ (l : List ℕ). get_or l 8 0) (sym p.numbers) ∙ byte_inside 8 65763 62 bytes (omega arith);
+      resets = first.resets ∙ ap (number_at w64 48) joined ∙ number_front w64 48 numbers rest (omega (arith, long)) ∙ ap (number_at w64 48) (sym p.numbers) ∙ number_inside w64 48 65763 62 bytes (omega arith);
     }
 
-first_lines : (at : ℕ) (b : Board) (bytes : List ℕ) → shared.Spells at bytes b → b.resets ≡ number_at w64 2 (shared.lines_bytes (lines_of b))
+first_lines : (at : ℕ) (pal : Bool) (b : Board) (bytes : List ℕ) → shared.Spells at pal bytes b → b.resets ≡ number_at w64 2 (shared.lines_bytes (lines_of b))
 unfolding Stand
-first_lines at b bytes p = (stand (lines_fields at (lines_of b)) (shared.lines_bytes (lines_of b)) p.lines.within (sym p.lines.all)).1.1.0
+first_lines at pal b bytes p = (stand (lines_fields at (lines_of b)) (shared.lines_bytes (lines_of b)) p.lines.within (sym p.lines.all)).1.1.0
 
 -- the count of resets
-pub resets_are : (digest bytes : List ℕ) (at : ℕ) (m : Console) (whole : List ℕ) → AreParts digest at m bytes → shared.Spells at whole m.shared → m.shared.resets ≡ resets_of bytes
-resets_are digest bytes at m whole p s =
-    first_lines at m.shared whole s ∙ ap (number_at w64 2) (sym p.lines) ∙ number_inside w64 2 378222 18 bytes (omega arith)
+pub resets_are : (digest bytes : List ℕ) (at : ℕ) (pal : Bool) (m : Console) (whole : List ℕ) → AreParts digest at m bytes → shared.Spells at pal whole m.shared → m.shared.resets ≡ resets_of bytes
+resets_are digest bytes at pal m whole p s =
+    first_lines at pal m.shared whole s ∙ ap (number_at w64 2) (sym p.lines) ∙ number_inside w64 2 393584 18 bytes (omega arith)

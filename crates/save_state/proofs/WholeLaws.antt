@@ -3,6 +3,9 @@ use Rattle.std.proofs.Common.{◌≡◌, ℕ, ◌<◌, ◌≤◌, ◌^◌, ◌==
 use Rattle.md_word.specs.Clock.{last_cycle}
 use Rattle.sha2.specs.Sha256.{sha256}
 use Rattle.md_fields.specs.Fields.{AreWithin}
+use Rattle.md_fields.proofs.Flags.{flag_again}
+use Rattle.md_word.specs.Coding.{flag_number}
+use Rattle.vdp_ports.proofs.RuleLaws.{flag_byte}
 use Rattle.md_pads.specs.Recording.{Frame}
 use Rattle.m68k_chip.specs.Spelling as main
 use Rattle.z80_chip.specs.Spelling as sub
@@ -22,9 +25,9 @@ use Rattle.md_machine.specs.Console.{Console, drawing_in}
 use Rattle.md_machine.specs.Media.{no_media}
 use Rattle.md_machine.specs.Starts.{Start, first_batch}
 use Rattle.save_state.specs.Faults.{IsMachineOf}
-use Rattle.save_state.specs.Items.{at_of, main_next, sub_next, holder_in, main_bytes, sub_bytes, shared_bytes, drawing_bytes, HasLateFm, HasLatePsg}
+use Rattle.save_state.specs.Items.{at_of, region_of, main_next, sub_next, holder_in, main_bytes, sub_bytes, shared_bytes, drawing_bytes, HasLateFm, HasLatePsg}
 use Rattle.save_state.specs.Layout.{part_of, fm_port_part, psg_port_part}
-use Rattle.save_state.specs.States.{holder_of, number_bytes, state_fields, is_holder, are_fm_early, are_psg_early, IsSaved, IsState}
+use Rattle.save_state.specs.States.{holder_of, number_bytes, state_fields, is_holder, are_fm_early, are_psg_early, IsSaved, IsNewest}
 use Rattle.save_state.proofs.Gathered.{zero_one, gathered_sub, gathered_shared}
 use Rattle.save_state.proofs.Parts.{sub_joined, numbers_long, store_long, main_long, vdp_long, drawing_long, fm_port_long, psg_port_long, fm_long, psg_long, lines_long}
 use Rattle.save_state.proofs.Standing.{AreParts, parts_there, main_next_is, sub_numbers_are, resets_are}
@@ -42,6 +45,10 @@ batch_fits at near = omega (arith, below at near) where
   below : (at : ℕ) → at ≤ last_cycle → first_batch at ≤ 549755830016
   below at near = omega arith
 
+flag_most : (flag : Bool) → flag_number flag ≤ 1
+flag_most true = omega arith
+flag_most false = omega arith
+
 -- RAM and bank register of whoever has them
 owned_long : (ours theirs : Option Store) → is_some theirs ≡ not (is_some ours) → length (shared.store_bytes ours) ≡ shared.store_size (is_some ours) → length (shared.store_bytes theirs) ≡ shared.store_size (is_some theirs) → length (shared.store_bytes (if is_some ours then ours else theirs)) ≡ 8194
 owned_long (Some s) theirs e a b = a
@@ -58,30 +65,33 @@ fields_within cart start d s =
         (
           omega (arith, s.near),
           (
-            main_long cart start.at (main.chip_bytes m.main) m.main s.main,
+            flag_byte m.pal,
             (
-              numbers_long cart start.at (sub.chip_bytes m.sub.state) m.sub.state s.sub,
+              main_long cart start.at (main.chip_bytes m.main) m.main s.main,
               (
-                small_holder m,
+                numbers_long cart start.at (sub.chip_bytes m.sub.state) m.sub.state s.sub,
                 (
-                  owned_long m.shared.store m.sub.state.store s.one_owner (shared_laws.store_long m.shared.store s.shared.store) (store_long cart start.at (sub.chip_bytes m.sub.state) m.sub.state s.sub),
+                  small_holder m,
                   (
-                    vdp_long start.at (vdp_bytes m.shared.vdp) m.shared.vdp s.shared.vdp,
+                    owned_long m.shared.store m.sub.state.store s.one_owner (shared_laws.store_long m.shared.store s.shared.store) (store_long cart start.at (sub.chip_bytes m.sub.state) m.sub.state s.sub),
                     (
-                      drawing_long start.at (drawing.drawing_bytes (drawing_in m)) (drawing_in m) s.drawing,
+                      vdp_long start.at m.pal (vdp_bytes m.shared.vdp) m.shared.vdp s.shared.vdp,
                       (
-                        fm_port_long start.at (fm_port.port_bytes m.shared.fm) m.shared.fm s.shared.fm,
+                        drawing_long start.at m.pal (drawing.drawing_bytes (drawing_in m)) (drawing_in m) s.drawing,
                         (
-                          batch_fits start.at s.near,
+                          fm_port_long start.at (fm_port.port_bytes m.shared.fm) m.shared.fm s.shared.fm,
                           (
-                            fm_long (fm.synth_bytes m.fm) m.fm s.fm,
+                            batch_fits start.at s.near,
                             (
-                              batch_fits start.at s.near,
+                              fm_long (fm.synth_bytes m.fm) m.fm s.fm,
                               (
-                                psg_port_long start.at (psg_port.port_bytes m.shared.held) m.shared.held s.shared.held,
+                                batch_fits start.at s.near,
                                 (
-                                  psg_long (psg.synth_bytes m.psg) m.psg s.psg,
-                                  (lines_long start.at (shared.board_bytes m.shared) m.shared s.shared, tt),
+                                  psg_port_long start.at (psg_port.port_bytes m.shared.held) m.shared.held s.shared.held,
+                                  (
+                                    psg_long (psg.synth_bytes m.psg) m.psg s.psg,
+                                    (lines_long start.at m.pal (shared.board_bytes m.shared) m.shared s.shared, tt),
+                                  ),
                                 ),
                               ),
                             ),
@@ -98,7 +108,7 @@ fields_within cart start d s =
       ),
     )
 
-pub state_parts : (cart bytes : List ℕ) (start : Start) → length (sha256 start.console.cart) ≡ 32 → IsState cart bytes start → AreParts (sha256 start.console.cart) start.at start.console bytes
+pub state_parts : (cart bytes : List ℕ) (start : Start) → length (sha256 start.console.cart) ≡ 32 → IsNewest cart bytes start → AreParts (sha256 start.console.cart) start.at start.console bytes
 state_parts cart bytes start d s = parts_there (sha256 start.console.cart) start.at start.console bytes (fields_within cart start d s.saved) s.all
 
 -- ---- the parts of a state keep its machine
@@ -146,8 +156,9 @@ pub machine_there : (cart digest bytes : List ℕ) (recording : List Frame) (sta
 machine_there cart digest bytes recording start s p pads =
     let m = start.console in
     let numbers = sub_numbers_are cart digest bytes start.at m p s.sub in
-    let resets = resets_are digest bytes start.at m (shared.board_bytes m.shared) p s.shared in
+    let resets = resets_are digest bytes start.at m.pal m (shared.board_bytes m.shared) p s.shared in
     let at = sym p.at_is in
+    let its : m.pal ≡ region_of bytes = sym (flag_again m.pal) ∙ ap (λ (n : ℕ). n == 1) (sym p.region) in
     record {
       at = at;
       begun = s.begun;
@@ -161,12 +172,13 @@ machine_there cart digest bytes recording start s p pads =
         spells = subst (λ (a : ℕ). sub.Spells cart a (sub_bytes bytes) m.sub.state) at (subst (λ (l : List ℕ). sub.Spells cart start.at l m.sub.state) (sym (whole_sub digest bytes start.at m s.one_owner p)) s.sub);
         holder = (λ i. is_holder (p.holder i) (sym numbers.stage i)) ∙ s.holder;
       };
+      region = subst (λ (n : ℕ). n ≤ 1) (sym p.region) (flag_most m.pal);
       shared = record {
         pads = pads;
-        spells = subst (λ (a : ℕ). shared.Spells a (shared_bytes bytes) m.shared) at (subst (λ (l : List ℕ). shared.Spells start.at l m.shared) (sym (whole_shared digest bytes start.at m p)) s.shared);
+        spells = subst (λ (b : Bool). shared.Spells (at_of bytes) b (shared_bytes bytes) m.shared) its (subst (λ (a : ℕ). shared.Spells a m.pal (shared_bytes bytes) m.shared) at (subst (λ (l : List ℕ). shared.Spells start.at m.pal l m.shared) (sym (whole_shared digest bytes start.at m p)) s.shared));
         resets = omega (arith, s.resets, numbers.resets, resets);
       };
-      drawing = subst (λ (a : ℕ). drawing.Spells a (drawing_bytes bytes) (drawing_in m)) at (subst (λ (l : List ℕ). drawing.Spells start.at l (drawing_in m)) (sym p.drawing) s.drawing);
+      drawing = subst (λ (b : Bool). drawing.Spells (at_of bytes) b (drawing_bytes bytes) (drawing_in m)) its (subst (λ (a : ℕ). drawing.Spells a m.pal (drawing_bytes bytes) (drawing_in m)) at (subst (λ (l : List ℕ). drawing.Spells start.at m.pal l (drawing_in m)) (sym p.drawing) s.drawing));
       fm_cycle = s.fm_cycle;
       psg_cycle = s.psg_cycle;
       fm = record {

@@ -4,6 +4,7 @@ use Rattle.std.specs.Int.{w64, to_be_bytes}
 use Rattle.std.proofs.lemmas.List.{append-nil, take_at, drop_at, length-append, length-drop, length-replicate}
 use mir.Val.{bool_byte}
 use Rattle.sha2.specs.Sha256.{sha256}
+use Rattle.md_word.specs.Coding.{flag_number}
 use Rattle.md_fields.specs.Fields.{AreSized, spelling}
 use Rattle.md_fields.specs.Padding.{padded}
 use Rattle.md_fields.proofs.Standing.{long_as_sized}
@@ -71,20 +72,20 @@ numbers_cut bytes s ok e long =
 
 -- what stands behind RAM and bank register
 pub record IsBehind (at : ℕ) (b : Board) (rest : List ℕ) : Type 0 where
-  pub video : part_of (record { place = 0; size = 65812 }) rest ≡ vdp_bytes (shared.settled_board at b).vdp
-  pub fm_port : part_of (record { place = 65812; size = 12316 }) rest ≡ fm_port.port_bytes (shared.settled_board at b).fm
-  pub psg_port : part_of (record { place = 78128; size = 10242 }) rest ≡ psg_port.port_bytes b.held
-  pub lines : part_of (record { place = 88370; size = 18 }) rest ≡ shared.lines_bytes (lines_of b)
+  pub video : part_of (record { place = 0; size = 65813 }) rest ≡ vdp_bytes (shared.settled_board at b).vdp
+  pub fm_port : part_of (record { place = 65813; size = 12316 }) rest ≡ fm_port.port_bytes (shared.settled_board at b).fm
+  pub psg_port : part_of (record { place = 78129; size = 10242 }) rest ≡ psg_port.port_bytes b.held
+  pub lines : part_of (record { place = 88371; size = 18 }) rest ≡ shared.lines_bytes (lines_of b)
 
-four_cut : (v f p l : List ℕ) → length v ≡ 65812 → length f ≡ 12316 → length p ≡ 10242 → length l ≡ 18 → (take 65812 (drop 0 (v ++ (f ++ (p ++ l)))) ≡ v) × (take 12316 (drop 65812 (v ++ (f ++ (p ++ l)))) ≡ f) × (take 10242 (drop 78128 (v ++ (f ++ (p ++ l)))) ≡ p) × (take 18 (drop 88370 (v ++ (f ++ (p ++ l)))) ≡ l)
+four_cut : (v f p l : List ℕ) → length v ≡ 65813 → length f ≡ 12316 → length p ≡ 10242 → length l ≡ 18 → (take 65813 (drop 0 (v ++ (f ++ (p ++ l)))) ≡ v) × (take 12316 (drop 65813 (v ++ (f ++ (p ++ l)))) ≡ f) × (take 10242 (drop 78129 (v ++ (f ++ (p ++ l)))) ≡ p) × (take 18 (drop 88371 (v ++ (f ++ (p ++ l)))) ≡ l)
 four_cut v f p l a b c d = (
-  take_at v (f ++ (p ++ l)) 65812 a,
-  ap (take 12316) (drop_at v (f ++ (p ++ l)) 65812 a) ∙ take_at f (p ++ l) 12316 b,
-  ap (take 10242) (ap (drop 78128) (sym (append_assoc v f (p ++ l))) ∙ drop_at (v ++ f) (p ++ l) 78128 (omega (arith, a, b, length-append v f))) ∙ take_at p l 10242 c,
-  ap (take 18) (ap (drop 88370) (ap (λ (x : List ℕ). v ++ x) (sym (append_assoc f p l)) ∙ sym (append_assoc v (f ++ p) l)) ∙ drop_at (v ++ (f ++ p)) l 88370 (omega (arith, a, b, c, length-append v (f ++ p), length-append f p))) ∙ ap (take 18) (sym (append-nil l)) ∙ take_at l [] 18 d,
+  take_at v (f ++ (p ++ l)) 65813 a,
+  ap (take 12316) (drop_at v (f ++ (p ++ l)) 65813 a) ∙ take_at f (p ++ l) 12316 b,
+  ap (take 10242) (ap (drop 78129) (sym (append_assoc v f (p ++ l))) ∙ drop_at (v ++ f) (p ++ l) 78129 (omega (arith, a, b, length-append v f))) ∙ take_at p l 10242 c,
+  ap (take 18) (ap (drop 88371) (ap (λ (x : List ℕ). v ++ x) (sym (append_assoc f p l)) ∙ sym (append_assoc v (f ++ p) l)) ∙ drop_at (v ++ (f ++ p)) l 88371 (omega (arith, a, b, c, length-append v (f ++ p), length-append f p))) ∙ ap (take 18) (sym (append-nil l)) ∙ take_at l [] 18 d,
 )
 
-size_split : (has : Bool) → shared.board_size has ≡ shared.store_size has + 88388
+size_split : (has : Bool) → shared.board_size has ≡ shared.store_size has + 88389
 size_split true = refl
 size_split false = refl
 
@@ -99,23 +100,23 @@ behind_cut at b ok long =
     let flen = fm_port_full at b.fm ok.fm.most in
     let plen = psg_port_full b.held ok.held.most in
     let llen = lines_full (lines_of b) in
-    let vlen : length v ≡ 65812 = left (shared.store_bytes b.store) v f p l (shared.store_size (is_some b.store)) store flen plen llen (long ∙ size_split (is_some b.store)) in
+    let vlen : length v ≡ 65813 = left (shared.store_bytes b.store) v f p l (shared.store_size (is_some b.store)) store flen plen llen (long ∙ size_split (is_some b.store)) in
     let rest : drop (shared.store_size (is_some b.store)) (shared.board_bytes s) ≡ v ++ (f ++ (p ++ l)) = drop_at (shared.store_bytes b.store) (v ++ (f ++ (p ++ l))) (shared.store_size (is_some b.store)) store in
     let c = four_cut v f p l vlen flen plen llen in
     record {
-      video = ap (λ (x : List ℕ). take 65812 (drop 0 x)) rest ∙ c.0;
-      fm_port = ap (λ (x : List ℕ). take 12316 (drop 65812 x)) rest ∙ c.1;
-      psg_port = ap (λ (x : List ℕ). take 10242 (drop 78128 x)) rest ∙ c.2;
-      lines = ap (λ (x : List ℕ). take 18 (drop 88370 x)) rest ∙ c.3;
+      video = ap (λ (x : List ℕ). take 65813 (drop 0 x)) rest ∙ c.0;
+      fm_port = ap (λ (x : List ℕ). take 12316 (drop 65813 x)) rest ∙ c.1;
+      psg_port = ap (λ (x : List ℕ). take 10242 (drop 78129 x)) rest ∙ c.2;
+      lines = ap (λ (x : List ℕ). take 18 (drop 88371 x)) rest ∙ c.3;
     } where
-      left : (s v f p l : List ℕ) (n : ℕ) → length s ≡ n → length f ≡ 12316 → length p ≡ 10242 → length l ≡ 18 → length (s ++ (v ++ (f ++ (p ++ l)))) ≡ n + 88388 → length v ≡ 65812
+      left : (s v f p l : List ℕ) (n : ℕ) → length s ≡ n → length f ≡ 12316 → length p ≡ 10242 → length l ≡ 18 → length (s ++ (v ++ (f ++ (p ++ l)))) ≡ n + 88389 → length v ≡ 65813
       left s v f p l n a b c d e = omega (arith, a, b, c, d, e, length-append s (v ++ (f ++ (p ++ l))), length-append v (f ++ (p ++ l)), length-append f (p ++ l), length-append p l)
 
 pub board_cut : (at : ℕ) (b : Board) (bytes rest : List ℕ) (has : Bool) → IsBoard b → has ≡ is_some b.store → bytes ≡ shared.board_bytes (shared.settled_board at b) → length bytes ≡ shared.board_size (is_some b.store) → rest ≡ drop (shared.store_size has) bytes → IsBehind at b rest
 board_cut at b bytes rest has ok h e long r =
     subst (IsBehind at b) (sym (r ∙ (λ i. drop (shared.store_size (h i)) (e i)))) (behind_cut at b ok (sym (ap length e) ∙ long))
 
-pub rest_long : (bytes rest : List ℕ) (has some : Bool) → has ≡ some → length bytes ≡ shared.board_size some → rest ≡ drop (shared.store_size has) bytes → length rest ≡ 88388
+pub rest_long : (bytes rest : List ℕ) (has some : Bool) → has ≡ some → length bytes ≡ shared.board_size some → rest ≡ drop (shared.store_size has) bytes → length rest ≡ 88389
 rest_long bytes rest true some h long r = omega (arith, long, ap shared.board_size h, ap length r, length-drop 8194 bytes)
 rest_long bytes rest false some h long r = omega (arith, long, ap shared.board_size h, ap length r, length-drop 0 bytes)
 
@@ -134,25 +135,26 @@ store_cut at m sub_part board has ok h s e = by has m.shared.store h (shared_law
 -- ---- all of it
 
 same_drawing : (d : Drawing) (m : Console) → d.next ≡ m.line → d.note ≡ m.note → d.picture ≡ m.picture → drawing.drawing_bytes d ≡ drawing.drawing_bytes (drawing_in m)
-same_drawing d m a b c = λ i. spelling (saved_drawing.drawing_fields 0 (saved_drawing.numbers_of (record { next = a i; note = b i; has_view = true; picture = c i; frame = None })))
+same_drawing d m a b c = λ i. spelling (saved_drawing.drawing_fields 0 false (saved_drawing.numbers_of (record { next = a i; note = b i; has_view = true; picture = c i; frame = None; pal = m.pal })))
 
-regroup : (a b c d e f g h i j k l m n o p : List ℕ) → ((([] ++ (a ++ (b ++ (c ++ d)))) ++ (e ++ (f ++ (g ++ h)))) ++ (i ++ (j ++ (k ++ l)))) ++ (m ++ (n ++ (o ++ p))) ≡ a ++ (b ++ (c ++ (d ++ (e ++ (f ++ (g ++ (h ++ (i ++ (j ++ (k ++ (l ++ (m ++ (n ++ (o ++ (p ++ [])))))))))))))))
-regroup a b c d e f g h i j k l m n o p = simp (append_assoc, append-nil)
+regroup : (a b c q d e f g h i j k l m n o p : List ℕ) → (((([] ++ (a ++ (b ++ (c ++ q)))) ++ d) ++ (e ++ (f ++ (g ++ h)))) ++ (i ++ (j ++ (k ++ l)))) ++ (m ++ (n ++ (o ++ p))) ≡ a ++ (b ++ (c ++ (q ++ (d ++ (e ++ (f ++ (g ++ (h ++ (i ++ (j ++ (k ++ (l ++ (m ++ (n ++ (o ++ (p ++ []))))))))))))))))
+regroup a b c q d e f g h i j k l m n o p = simp (append_assoc, append-nil)
 
-pub written : (at : ℕ) (m : Console) (digest numbers holder store video drawn port batch pairs lines : List ℕ) (d : Drawing) (r1 r2 r3 r4 : List ℕ)
-    → digest ≡ sha256 m.cart → numbers ≡ number_bytes m.sub.state → holder ≡ holder_of m ∷ [] → store ≡ shared.store_bytes (store_of m)
+pub written : (at : ℕ) (m : Console) (digest region numbers holder store video drawn port batch pairs lines : List ℕ) (d : Drawing) (r0 r1 r2 r3 r4 : List ℕ)
+    → digest ≡ sha256 m.cart → region ≡ flag_number m.pal ∷ [] → numbers ≡ number_bytes m.sub.state → holder ≡ holder_of m ∷ [] → store ≡ shared.store_bytes (store_of m)
     → video ≡ vdp_bytes (shared.settled_board at m.shared).vdp → drawn ≡ drawing.drawing_bytes d → d.next ≡ m.line → d.note ≡ m.note → d.picture ≡ m.picture
     → port ≡ fm_port.port_bytes (shared.settled_board at m.shared).fm → batch ≡ to_be_bytes w64 (first_batch at) → pairs ≡ psg_port.port_bytes m.shared.held → lines ≡ shared.lines_bytes (lines_of m.shared)
-    → r1 ≡ [] ++ (mark ++ (digest ++ (to_be_bytes w64 at ++ main.chip_bytes m.main)))
+    → r0 ≡ [] ++ (mark ++ (digest ++ (to_be_bytes w64 at ++ region)))
+    → r1 ≡ r0 ++ main.chip_bytes m.main
     → r2 ≡ r1 ++ (numbers ++ (holder ++ (store ++ video)))
     → r3 ≡ r2 ++ (drawn ++ (port ++ (batch ++ fm.synth_bytes m.fm)))
     → r4 ≡ r3 ++ (batch ++ (pairs ++ (psg.synth_bytes m.psg ++ lines)))
     → r4 ≡ state_bytes at m
 unfolding spelling
-written at m digest numbers holder store video drawn port batch pairs lines d r1 r2 r3 r4 e1 e2 e3 e4 e5 e6 dn dt dp e7 e8 e9 e10 f1 f2 f3 f4 =
-    f4 ∙ (λ i. (((f3 ∙ (λ j. (f2 ∙ (λ k. f1 k ++ (e2 k ++ (e3 k ++ (e4 k ++ e5 k))))) j ++ ((e6 ∙ same_drawing d m dn dt dp) j ++ (e7 j ++ (e8 j ++ fm.synth_bytes m.fm))))) i) ++ (e8 i ++ (e9 i ++ (psg.synth_bytes m.psg ++ e10 i)))))
-    ∙ ap (λ (x : List ℕ). ((([] ++ (mark ++ (x ++ (to_be_bytes w64 at ++ main.chip_bytes m.main)))) ++ (number_bytes m.sub.state ++ ((holder_of m ∷ []) ++ (shared.store_bytes (store_of m) ++ vdp_bytes (shared.settled_board at m.shared).vdp)))) ++ (drawing.drawing_bytes (drawing_in m) ++ (fm_port.port_bytes (shared.settled_board at m.shared).fm ++ (to_be_bytes w64 (first_batch at) ++ fm.synth_bytes m.fm)))) ++ (to_be_bytes w64 (first_batch at) ++ (psg_port.port_bytes m.shared.held ++ (psg.synth_bytes m.psg ++ shared.lines_bytes (lines_of m.shared))))) e1
-    ∙ regroup mark (sha256 m.cart) (to_be_bytes w64 at) (main.chip_bytes m.main) (number_bytes m.sub.state) (holder_of m ∷ []) (shared.store_bytes (store_of m)) (vdp_bytes (shared.settled_board at m.shared).vdp) (drawing.drawing_bytes (drawing_in m)) (fm_port.port_bytes (shared.settled_board at m.shared).fm) (to_be_bytes w64 (first_batch at)) (fm.synth_bytes m.fm) (to_be_bytes w64 (first_batch at)) (psg_port.port_bytes m.shared.held) (psg.synth_bytes m.psg) (shared.lines_bytes (lines_of m.shared))
+written at m digest region numbers holder store video drawn port batch pairs lines d r0 r1 r2 r3 r4 e1 er e2 e3 e4 e5 e6 dn dt dp e7 e8 e9 e10 f0 f1 f2 f3 f4 =
+    f4 ∙ (λ i. (((f3 ∙ (λ j. (f2 ∙ (λ k. (f1 ∙ (λ n. f0 n ++ main.chip_bytes m.main)) k ++ (e2 k ++ (e3 k ++ (e4 k ++ e5 k))))) j ++ ((e6 ∙ same_drawing d m dn dt dp) j ++ (e7 j ++ (e8 j ++ fm.synth_bytes m.fm))))) i) ++ (e8 i ++ (e9 i ++ (psg.synth_bytes m.psg ++ e10 i)))))
+    ∙ (λ i. (((([] ++ (mark ++ (e1 i ++ (to_be_bytes w64 at ++ er i)))) ++ main.chip_bytes m.main) ++ (number_bytes m.sub.state ++ ((holder_of m ∷ []) ++ (shared.store_bytes (store_of m) ++ vdp_bytes (shared.settled_board at m.shared).vdp)))) ++ (drawing.drawing_bytes (drawing_in m) ++ (fm_port.port_bytes (shared.settled_board at m.shared).fm ++ (to_be_bytes w64 (first_batch at) ++ fm.synth_bytes m.fm)))) ++ (to_be_bytes w64 (first_batch at) ++ (psg_port.port_bytes m.shared.held ++ (psg.synth_bytes m.psg ++ shared.lines_bytes (lines_of m.shared)))))
+    ∙ regroup mark (sha256 m.cart) (to_be_bytes w64 at) (flag_number m.pal ∷ []) (main.chip_bytes m.main) (number_bytes m.sub.state) (holder_of m ∷ []) (shared.store_bytes (store_of m)) (vdp_bytes (shared.settled_board at m.shared).vdp) (drawing.drawing_bytes (drawing_in m)) (fm_port.port_bytes (shared.settled_board at m.shared).fm) (to_be_bytes w64 (first_batch at)) (fm.synth_bytes m.fm) (to_be_bytes w64 (first_batch at)) (psg_port.port_bytes m.shared.held) (psg.synth_bytes m.psg) (shared.lines_bytes (lines_of m.shared))
 
 byte_of : (b : Bool) → bool_byte b ≡ (if b then 1 else 0)
 byte_of true = refl
@@ -160,3 +162,10 @@ byte_of false = refl
 
 pub holder_byte : (m : Console) (has : Bool) (byte : ℕ) → has ≡ is_some m.shared.store → byte ≡ bool_byte has → byte ∷ [] ≡ holder_of m ∷ []
 holder_byte m has byte h e = ap (λ (n : ℕ). n ∷ []) (e ∙ byte_of has ∙ ap (λ (b : Bool). if b then 1 else 0) h)
+
+flag_of : (b : Bool) → bool_byte b ≡ flag_number b
+flag_of true = refl
+flag_of false = refl
+
+pub region_byte : (m : Console) (pal : Bool) (byte : ℕ) → pal ≡ m.pal → byte ≡ bool_byte pal → byte ∷ [] ≡ flag_number m.pal ∷ []
+region_byte m pal byte h e = ap (λ (n : ℕ). n ∷ []) (e ∙ flag_of pal ∙ ap flag_number h)

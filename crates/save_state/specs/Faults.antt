@@ -1,5 +1,6 @@
--- Where bytes that are no saved state of a cartridge go wrong. This project's profile.
-use Rattle.std.specs.Prelude.{◌≡◌, ◌≢◌, ℕ, ◌≤◌, min, ◌⊎◌, List, [], length}
+-- Where bytes of the form that is written, which are no saved state of a cartridge, go wrong. This
+-- project's profile.
+use Rattle.std.specs.Prelude.{◌≡◌, ℕ, ◌≤◌, List, [], length, slice_index}
 use Rattle.sha2.specs.Sha256.{sha256}
 use Rattle.md_pads.specs.Recording.{Frame}
 use Rattle.md_machine.specs.Console.{drawing_in}
@@ -7,7 +8,7 @@ use Rattle.md_machine.specs.Machines.{MachineValue}
 use Rattle.md_machine.specs.Media.{no_media}
 use Rattle.md_machine.specs.Starts.{first_batch}
 use Rattle.save_state.specs.Joining.{IsLeast}
-use Rattle.save_state.specs.Layout.{part_of, at_part, digest_part, mark_part, state_size}
+use Rattle.save_state.specs.Layout.{part_of, at_part, digest_part, mark_part, region_part, state_size}
 use Rattle.save_state.specs.Items.{at_of, IsMain, MainFails, IsSub, SubFails, IsShared, SharedFails, IsPicture, DrawingFails, IsFm, FmFails, IsPsg, PsgFails}
 use Rattle.md_word.specs.Clock.{last_cycle}
 use Rattle.save_state.specs.States.{mark}
@@ -15,6 +16,7 @@ use Rattle.save_state.specs.States.{mark}
 -- a field at this place breaks its rule
 pub data FailsAt (cart bytes : List ℕ) (place : ℕ) : Type 0 where
   at_fails : place ≡ at_part.place → ¬ ((1 ≤ at_of bytes) × (at_of bytes ≤ last_cycle)) → FailsAt cart bytes place
+  region_fails : place ≡ region_part.place → ¬ (slice_index bytes region_part.place ≤ 1) → FailsAt cart bytes place
   main_fails : MainFails cart bytes place → FailsAt cart bytes place
   sub_fails : SubFails cart bytes place → FailsAt cart bytes place
   shared_fails : SharedFails bytes place → FailsAt cart bytes place
@@ -31,26 +33,16 @@ pub record HasForm (bytes : List ℕ) : Type 0 where
   pub long : length bytes ≡ state_size
   pub mark : part_of mark_part bytes ≡ mark
 
--- the bytes are refused at this place: by their length, by their mark, or, where they are of this
--- cartridge, by a field
-abbrev pub IsWrongAt : List ℕ → List ℕ → ℕ → Type 0
-IsWrongAt cart bytes place =
-    ((length bytes ≢ state_size) × (place ≡ min (length bytes) state_size))
-    ⊎ (((length bytes ≡ state_size) × (part_of mark_part bytes ≢ mark) × (place ≡ 0))
-    ⊎ (HasForm bytes × (part_of digest_part bytes ≡ sha256 cart) × IsFirstFault cart bytes place))
-
--- the bytes have the form of a state, and keep another digest than the cartridge's
-pub record IsOtherCart (cart bytes kept given : List ℕ) : Type 0 where
-  pub form : HasForm bytes
-  pub kept_is : kept ≡ part_of digest_part bytes
-  pub given_is : given ≡ sha256 cart
-  pub differ : kept ≢ given
+-- bytes of that form and of this cartridge are refused at this place, by a field
+abbrev pub FieldFailsAt : List ℕ → List ℕ → ℕ → Type 0
+FieldFailsAt cart bytes place = (part_of digest_part bytes ≡ sha256 cart) × IsFirstFault cart bytes place
 
 -- the parts behind the digest keep this machine, with nothing made that waits to be drained
 pub record IsMachineOf (cart : List ℕ) (recording : List Frame) (bytes : List ℕ) (m : MachineValue) : Type 0 where
   pub at : m.at ≡ at_of bytes
   pub begun : 1 ≤ m.at
   pub near : m.at ≤ last_cycle
+  pub region : slice_index bytes region_part.place ≤ 1
   pub main : IsMain cart bytes (record { cart = m.console.cart; state = m.console.main })
   pub sub : IsSub cart bytes m.console.sub
   pub shared : IsShared recording bytes m.console.shared

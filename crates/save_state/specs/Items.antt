@@ -1,6 +1,6 @@
 -- The items of a saved state: what its bytes keep of each, and where they fail, with the rules that
 -- an item shares with those before it. This project's profile.
-use Rattle.std.specs.Prelude.{◌≡◌, ◌≢◌, ℕ, ◌+◌, ◌<◌, ◌≤◌, ◌==◌, true, false, List, [], ◌∷◌, slice_index}
+use Rattle.std.specs.Prelude.{◌≡◌, ◌≢◌, ℕ, ◌+◌, ◌<◌, ◌≤◌, ◌==◌, Bool, true, false, List, [], ◌∷◌, slice_index}
 use Rattle.std.specs.Int.{w64}
 use Rattle.md_fields.specs.Places.{number_at}
 use Rattle.md_pads.specs.Recording.{Frame}
@@ -22,7 +22,7 @@ use Rattle.bus_shared.specs.Board.{Board}
 use Rattle.bus_shared.specs.Spelling as shared
 use Rattle.md_machine.specs.Starts.{first_batch}
 use Rattle.save_state.specs.Joining.{FailsIn}
-use Rattle.save_state.specs.Layout.{part_of, gathered, sub_parts, shared_parts, at_part, main_part, sub_part, holder_part, drawing_part, fm_port_part, fm_next_part, fm_part, psg_next_part, psg_port_part, psg_part, board_part}
+use Rattle.save_state.specs.Layout.{part_of, gathered, sub_parts, shared_parts, at_part, region_part, main_part, sub_part, holder_part, drawing_part, fm_port_part, fm_next_part, fm_part, psg_next_part, psg_port_part, psg_part, board_part}
 use Rattle.save_state.specs.States.{is_holder, are_fm_early, are_psg_early}
 
 -- ---- numbers of the bytes that several items look at
@@ -30,6 +30,10 @@ use Rattle.save_state.specs.States.{is_holder, are_fm_early, are_psg_early}
 -- the cycle
 abbrev pub at_of : List ℕ → ℕ
 at_of bytes = number_at w64 at_part.place bytes
+
+-- the region, whether it is PAL
+abbrev pub region_of : List ℕ → Bool
+region_of bytes = slice_index bytes region_part.place == 1
 
 -- the next event of the 68000, with which its part begins
 abbrev pub main_next : List ℕ → ℕ
@@ -104,12 +108,12 @@ shared_bytes bytes = gathered (shared_parts (holder_in bytes == 1)) bytes
 -- they keep this board, of this recording, and the Z80 has seen no more resets than were written
 pub record IsShared (recording : List Frame) (bytes : List ℕ) (board : Board) : Type 0 where
   pub pads : board.recording ≡ recording
-  pub spells : shared.Spells (at_of bytes) (shared_bytes bytes) board
+  pub spells : shared.Spells (at_of bytes) (region_of bytes) (shared_bytes bytes) board
   pub resets : seen_resets bytes ≤ resets_of bytes
 
 -- they keep no board, or fewer resets than were seen, and fail at this place of the state
 pub data SharedFails (bytes : List ℕ) (place : ℕ) : Type 0 where
-  board_fails : FailsIn (shared_parts (holder_in bytes == 1)) (shared.GoesWrongAt (at_of bytes) (shared_bytes bytes)) place → SharedFails bytes place
+  board_fails : FailsIn (shared_parts (holder_in bytes == 1)) (shared.GoesWrongAt (at_of bytes) (region_of bytes) (shared_bytes bytes)) place → SharedFails bytes place
   resets_fail : place ≡ resets_place → resets_of bytes < seen_resets bytes → SharedFails bytes place
 
 -- ---- the drawing half of the VDP
@@ -120,11 +124,11 @@ drawing_bytes bytes = part_of drawing_part bytes
 
 -- they keep this drawing half
 abbrev pub IsPicture : List ℕ → Drawing → Type 0
-IsPicture bytes d = drawing.Spells (at_of bytes) (drawing_bytes bytes) d
+IsPicture bytes d = drawing.Spells (at_of bytes) (region_of bytes) (drawing_bytes bytes) d
 
 -- they keep no drawing half, and fail at this place of the state
 abbrev pub DrawingFails : List ℕ → ℕ → Type 0
-DrawingFails bytes place = FailsIn (drawing_part ∷ []) (drawing.GoesWrongAt (at_of bytes) (drawing_bytes bytes)) place
+DrawingFails bytes place = FailsIn (drawing_part ∷ []) (drawing.GoesWrongAt (at_of bytes) (region_of bytes) (drawing_bytes bytes)) place
 
 -- ---- the FM chip: its synthesis, its next batch, and the writes that its port holds
 

@@ -5,14 +5,14 @@ use Rattle.save_state.specs.declared.layout.Part.{Part}
 -- how many bytes each part has, in their order; nothing stands between them
 abbrev pub layout : List ℕ
 layout =
-    -- the mark, the digest of the cartridge, and the cycle
-    8 ∷ 32 ∷ 8 ∷
+    -- the mark, the digest of the cartridge, the cycle, and the region
+    8 ∷ 32 ∷ 8 ∷ 1 ∷
     -- the 68000
     65714 ∷
     -- the Z80's numbers, who has its RAM, and RAM with the bank register
     62 ∷ 1 ∷ 8194 ∷
     -- the VDP, and its drawing half
-    65812 ∷ 215050 ∷
+    65813 ∷ 230410 ∷
     -- the FM chip: its port, its next batch, and its synthesis
     12316 ∷ 8 ∷ 741 ∷
     -- the PSG: its next batch, its port, and its synthesis
@@ -40,57 +40,61 @@ digest_part = part 1
 abbrev pub at_part : Part
 at_part = part 2
 
+-- the region: 0 NTSC, 1 PAL
+abbrev pub region_part : Part
+region_part = part 3
+
 -- the 68000, with its work RAM
 abbrev pub main_part : Part
-main_part = part 3
+main_part = part 4
 
 -- the Z80's numbers
 abbrev pub sub_part : Part
-sub_part = part 4
+sub_part = part 5
 
 -- who has the Z80's RAM and bank register: 0 the Z80, 1 the bus
 abbrev pub holder_part : Part
-holder_part = part 5
+holder_part = part 6
 
 -- the Z80's RAM and bank register
 abbrev pub store_part : Part
-store_part = part 6
+store_part = part 7
 
 -- the VDP, with its memories
 abbrev pub video_part : Part
-video_part = part 7
+video_part = part 8
 
 -- the VDP's drawing half, with its picture
 abbrev pub drawing_part : Part
-drawing_part = part 8
+drawing_part = part 9
 
 -- the FM chip's port
 abbrev pub fm_port_part : Part
-fm_port_part = part 9
+fm_port_part = part 10
 
 -- the cycle of the FM chip's next batch
 abbrev pub fm_next_part : Part
-fm_next_part = part 10
+fm_next_part = part 11
 
 -- the FM chip's synthesis
 abbrev pub fm_part : Part
-fm_part = part 11
+fm_part = part 12
 
 -- the cycle of the PSG's next batch
 abbrev pub psg_next_part : Part
-psg_next_part = part 12
+psg_next_part = part 13
 
 -- the PSG's port
 abbrev pub psg_port_part : Part
-psg_port_part = part 13
+psg_port_part = part 14
 
 -- the PSG's synthesis
 abbrev pub psg_part : Part
-psg_part = part 14
+psg_part = part 15
 
 -- the board's lines and pads
 abbrev pub board_part : Part
-board_part = part 15
+board_part = part 16
 
 -- the Z80 has its RAM behind its numbers, where the bus has not
 abbrev pub sub_parts : Bool → List Part

@@ -6,3 +6,4 @@ pub mod Pieces
 pub mod Ready
 pub mod Refusals
 pub mod States
+pub mod Versions

@@ -37,6 +37,7 @@ built at t = record {
     sub = t.0.1;
     note = t.1.0.1.note;
     picture = t.1.0.1.picture;
+    pal = t.1.0.1.pal;
     line = t.1.0.1.next;
     fm_cycle = first_batch at;
     psg_cycle = first_batch at;

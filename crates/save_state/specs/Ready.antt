@@ -6,7 +6,7 @@ use Rattle.vdp_chip.specs.Spelling as drawing
 use Rattle.bus_shared.specs.Spelling as shared
 use Rattle.md_machine.specs.Console.{Console, drawing_in}
 use Rattle.md_machine.specs.Owners.{HasOneOwner}
-use Rattle.md_machine.specs.Starts.{IsStart, first_batch}
+use Rattle.md_machine.specs.Starts.{IsStart}
 use Rattle.md_word.specs.Clock.{last_cycle}
 use Rattle.save_state.specs.States.{are_fm_early, are_psg_early}
 

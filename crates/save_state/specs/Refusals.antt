@@ -1,10 +1,21 @@
--- The refusal of a state, from that of its fields.
+-- The refusal of a state of a version, from that of a field of the form that is written.
+use Rattle.std.specs.Prelude.{◌≡◌, ℕ, List}
 use Rattle.md_word.specs.declared.unspell.Unspell.{Unspell}
 use Rattle.md_word.specs.declared.unspell.Unspell.TheVariants as fields
+use Rattle.save_state.specs.Faults.{FieldFailsAt}
+use Rattle.save_state.specs.Versions.{place_back}
 use Rattle.save_state.specs.declared.fault.StateFault.{StateFault}
 use Rattle.save_state.specs.declared.fault.StateFault.TheVariants.{Form, NoMemory}
+use Rattle.save_state.specs.declared.version.Version.{Version}
 
--- a rule that fails is one of the state's form, at the same place
-abbrev pub fault_of : Unspell → StateFault
-fault_of (fields.Rule place) = Form place
-fault_of fields.NoMemory = NoMemory
+-- a rule that fails is one of the state's form, at the place of the version's bytes
+abbrev pub refusal_of : Version → Unspell → StateFault
+refusal_of version (fields.Rule place) = Form (place_back version place)
+refusal_of version fields.NoMemory = NoMemory
+
+-- bytes of the form that is written, and of this cartridge, are refused at a field of which this is the
+-- place in the bytes of the version
+pub record FieldFailsBack (version : Version) (cart newest : List ℕ) (place : ℕ) : Type 0 where
+  pub field : ℕ
+  pub fails : FieldFailsAt cart newest field
+  pub place_is : place ≡ place_back version field

@@ -2,6 +2,7 @@
 use Rattle.std.specs.Prelude.{◌≡◌, ℕ, ◌≤◌, ◌==◌, ◌||◌, Bool, true, is_some, nat_le, if◌then◌else◌, codes, List, [], ◌∷◌, Option, None}
 use Rattle.std.specs.List.{list_all}
 use Rattle.md_word.specs.Clock.{last_cycle}
+use Rattle.md_word.specs.Coding.{flag_number}
 use Rattle.sha2.specs.Sha256.{sha256}
 use Rattle.md_fields.specs.Fields.{Field, byte, quad, block, spelling}
 use Rattle.sound_writes.specs.Keys.{is_before_next}
@@ -27,7 +28,7 @@ use Rattle.md_machine.specs.Starts.{Start, first_batch}
 
 -- what a state begins with
 abbrev pub mark : List ℕ
-mark = codes "MDSTATE1"
+mark = codes "MDSTATE2"
 
 -- who has the Z80's RAM and bank register: 0 the Z80, 1 the bus
 abbrev pub holder_of : Console → ℕ
@@ -47,12 +48,13 @@ state_fields digest at m =
     block 8 mark true
     ∷ block 32 digest true
     ∷ quad at true
+    ∷ byte (flag_number m.pal) true
     ∷ block 65714 (main.chip_bytes m.main) true
     ∷ block 62 (number_bytes m.sub.state) true
     ∷ byte (holder_of m) true
     ∷ block 8194 (shared.store_bytes (store_of m)) true
-    ∷ block 65812 (vdp_bytes m.shared.vdp) true
-    ∷ block 215050 (drawing.drawing_bytes (drawing_in m)) true
+    ∷ block 65813 (vdp_bytes m.shared.vdp) true
+    ∷ block 230410 (drawing.drawing_bytes (drawing_in m)) true
     ∷ block 12316 (fm_port.port_bytes m.shared.fm) true
     ∷ quad (first_batch at) true
     ∷ block 741 (fm.synth_bytes m.fm) true
@@ -101,8 +103,8 @@ pub record IsSaved (cart : List ℕ) (start : Start) : Type 0 where
   pub holder : is_holder (holder_of start.console) (stage_number start.console.sub.state.stage) ≡ true
   pub main : main.Spells cart start.at (main.chip_bytes start.console.main) start.console.main
   pub sub : sub.Spells cart start.at (sub.chip_bytes start.console.sub.state) start.console.sub.state
-  pub shared : shared.Spells start.at (shared.board_bytes start.console.shared) start.console.shared
-  pub drawing : drawing.Spells start.at (drawing.drawing_bytes (drawing_in start.console)) (drawing_in start.console)
+  pub shared : shared.Spells start.at start.console.pal (shared.board_bytes start.console.shared) start.console.shared
+  pub drawing : drawing.Spells start.at start.console.pal (drawing.drawing_bytes (drawing_in start.console)) (drawing_in start.console)
   -- batches come at their next multiples
   pub fm_cycle : start.console.fm_cycle ≡ first_batch start.at
   pub psg_cycle : start.console.psg_cycle ≡ first_batch start.at
@@ -113,7 +115,7 @@ pub record IsSaved (cart : List ℕ) (start : Start) : Type 0 where
   pub fm_writes : are_fm_early start.console.main.next start.console.sub.state.next start.console.shared.fm ≡ true
   pub psg_writes : are_psg_early start.console.main.next start.console.sub.state.next start.console.shared.held ≡ true
 
--- the bytes are a saved state of this cartridge and keep this machine
-pub record IsState (cart : List ℕ) (bytes : List ℕ) (start : Start) : Type 0 where
+-- the bytes are a saved state of this cartridge, of the form that is written, and keep this machine
+pub record IsNewest (cart : List ℕ) (bytes : List ℕ) (start : Start) : Type 0 where
   pub saved : IsSaved cart start
   pub all : bytes ≡ kept_bytes start.at start.console

@@ -1,7 +1,3 @@
-ghost use Rattle.std.specs.Prelude.{◌≡◌};
-
-use md_word::Unspell;
-
 /// Why bytes are no saved state of a cartridge.
 #[derive(Clone, Copy, PartialEq, Eq, Debug)]
 pub enum StateFault {
@@ -18,17 +14,4 @@ pub enum StateFault {
         given: [u8; 32],
     },
     NoMemory,
-}
-
-impl From<Unspell> for StateFault {
-    ghost use Rattle.save_state.specs.Refusals.{fault_of};
-
-    ghost from_gives = { λ fault answer. answer ≡ fault_of fault };
-
-    fn from(fault: Unspell) -> Self {
-        match fault {
-            Unspell::Rule { place } => StateFault::Form { place },
-            Unspell::NoMemory => StateFault::NoMemory,
-        }
-    }
 }

@@ -2,7 +2,7 @@ ghost use Rattle.std.specs.Prelude.{◌≡◌, ◌≤◌, ◌^◌, ◌==◌, ℕ
 ghost use Rattle.std.specs.Arc.{arc_value};
 ghost use Rattle.md_machine.specs.Starts as starts;
 ghost use Rattle.save_state.specs.Items as items;
-ghost use Rattle.save_state.specs.Items.{at_of, HasLateFm, HasLatePsg, IsMain, MainFails, IsSub, SubFails, IsShared, SharedFails, IsPicture, DrawingFails, IsFm, FmFails, IsPsg, PsgFails};
+ghost use Rattle.save_state.specs.Items.{at_of, region_of, HasLateFm, HasLatePsg, IsMain, MainFails, IsSub, SubFails, IsShared, SharedFails, IsPicture, DrawingFails, IsFm, FmFails, IsPsg, PsgFails};
 ghost use Rattle.save_state.specs.Joining.{Reads};
 ghost use Rattle.save_state.specs.Layout.{state_size};
 ghost use Rattle.save_state.specs.States as states;
@@ -108,15 +108,17 @@ pub fn read_sub(alloc: Global, bytes: &[u8], at: u64, cart: Arc<Cart>) -> Result
     with_rule(chip, is_holder(holder, u8_at(bytes, STAGE)), HOLDER.place)
 }
 
-/// The board, with the Z80's RAM where the holder is 1.
+/// The board of a region, with the Z80's RAM where the holder is 1.
 pub fn read_shared(
     alloc: Global,
     bytes: &[u8],
     at: u64,
+    pal: bool,
     recording: Arc<Recording>,
 ) -> Result<Shared, Unspell>
     requires whole { length bytes.now ≡ state_size }
     requires cycle { at ≡ at_of bytes.now }
+    requires region { pal ≡ region_of bytes.now }
     requires near { at ≤ last_cycle }
     ensures { Reads (IsShared (arc_value recording) bytes.now) (SharedFails bytes.now) result }
 {
@@ -124,7 +126,7 @@ pub fn read_shared(
     let kept = gathered(alloc, bytes, parts)?;
     let shared = placed(
         parts,
-        Shared::unspell(alloc, kept.as_slice(), at, recording),
+        Shared::unspell(alloc, kept.as_slice(), at, recording, pal),
     );
     with_rule(
         shared,
@@ -133,13 +135,17 @@ pub fn read_shared(
     )
 }
 
-/// The drawing half of the VDP.
-pub fn read_drawing(alloc: Global, bytes: &[u8], at: u64) -> Result<ChipVdp, Unspell>
+/// The drawing half of the VDP, of a region.
+pub fn read_drawing(alloc: Global, bytes: &[u8], at: u64, pal: bool) -> Result<ChipVdp, Unspell>
     requires whole { length bytes.now ≡ state_size }
     requires cycle { at ≡ at_of bytes.now }
+    requires region { pal ≡ region_of bytes.now }
     ensures { Reads (IsPicture bytes.now) (DrawingFails bytes.now) result }
 {
-    placed(&[DRAWING], ChipVdp::unspell(alloc, DRAWING.of(bytes), at))
+    placed(
+        &[DRAWING],
+        ChipVdp::unspell(alloc, DRAWING.of(bytes), at, pal),
+    )
 }
 
 /// The FM synthesis, with its next batch and the writes that its port holds.

@@ -2,7 +2,8 @@
 ghost use Rattle.std.specs.Prelude.{◌≤◌};
 ghost use Rattle.md_word.specs.Clock.{last_cycle};
 ghost use Rattle.save_state.specs.Ready.{IsReady};
-ghost use Rattle.save_state.specs.States.{IsState, settled_console, state_bytes};
+ghost use Rattle.save_state.specs.States.{settled_console, state_bytes};
+ghost use Rattle.save_state.specs.Versions.{IsState};
 
 use md_machine::Machine;
 
@@ -13,6 +14,7 @@ pub fn kept(machine: &Machine)
     ensures { IsReady machine.now.at machine.now.console
         → IsState machine.now.console.cart (state_bytes machine.now.at machine.now.console) (record { at = machine.now.at; console = settled_console machine.now.at machine.now.console }) }
 {
+    machine.pal();
     machine.main_chip().is_read_again();
     machine.sub_chip().is_read_again();
     machine.shared().is_read_again(machine.at());

@@ -13,7 +13,7 @@ pub struct Part {
 }
 
 /// The text with which a state begins.
-pub const TEXT: [u8; 8] = *b"MDSTATE1";
+pub const TEXT: [u8; 8] = *b"MDSTATE2";
 
 /// Where it stands.
 pub const MARK: Part = Part { place: 0, size: 8 };
@@ -24,86 +24,89 @@ pub const DIGEST: Part = Part { place: 8, size: 32 };
 /// The cycle.
 pub const AT: Part = Part { place: 40, size: 8 };
 
+/// The region: 0 NTSC, 1 PAL.
+pub const REGION: Part = Part { place: 48, size: 1 };
+
 /// The 68000.
 pub const MAIN: Part = Part {
-    place: 48,
+    place: 49,
     size: 65_714,
 };
 
 /// The Z80's numbers.
 pub const SUB: Part = Part {
-    place: 65_762,
+    place: 65_763,
     size: 62,
 };
 
 /// Who has the Z80's RAM: 0 the Z80, 1 the bus.
 pub const HOLDER: Part = Part {
-    place: 65_824,
+    place: 65_825,
     size: 1,
 };
 
 /// RAM and bank register.
 pub const STORE: Part = Part {
-    place: 65_825,
+    place: 65_826,
     size: 8_194,
 };
 
 /// The VDP.
 pub const VIDEO: Part = Part {
-    place: 74_019,
-    size: 65_812,
+    place: 74_020,
+    size: 65_813,
 };
 
 /// Its drawing half.
 pub const DRAWING: Part = Part {
-    place: 139_831,
-    size: 215_050,
+    place: 139_833,
+    size: 230_410,
 };
 
 /// The FM chip's port.
 pub const FM_PORT: Part = Part {
-    place: 354_881,
+    place: 370_243,
     size: 12_316,
 };
 
 /// The FM chip's next batch.
 pub const FM_NEXT: Part = Part {
-    place: 367_197,
+    place: 382_559,
     size: 8,
 };
 
 /// The FM synthesis.
 pub const FM: Part = Part {
-    place: 367_205,
+    place: 382_567,
     size: 741,
 };
 
 /// The PSG's next batch.
 pub const PSG_NEXT: Part = Part {
-    place: 367_946,
+    place: 383_308,
     size: 8,
 };
 
 /// The PSG's port.
 pub const PSG_PORT: Part = Part {
-    place: 367_954,
+    place: 383_316,
     size: 10_242,
 };
 
 /// The PSG's synthesis.
 pub const PSG: Part = Part {
-    place: 378_196,
+    place: 393_558,
     size: 26,
 };
 
 /// The board's lines and pads.
 pub const BOARD: Part = Part {
-    place: 378_222,
+    place: 393_584,
     size: 18,
 };
 
 /// How many bytes a saved state has.
-pub const LENGTH: usize = 378_240;
+pub const LENGTH: usize = 393_602;
 
 static SUB_WITH_STORE: [Part; 2] = [SUB, STORE];
 

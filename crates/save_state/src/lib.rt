@@ -7,6 +7,7 @@ mod joining;
 pub mod laws;
 mod layout;
 mod reading;
+mod version;
 mod writing;
 
 pub use fault::StateFault;

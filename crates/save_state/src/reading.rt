@@ -3,25 +3,27 @@ ghost use Rattle.std.specs.Arc.{arc_value};
 ghost use Rattle.sha2.specs.Sha256.{sha256};
 ghost use Rattle.md_machine.specs.Media.{no_media};
 ghost use Rattle.md_machine.specs.Starts.{Start, IsStart};
-ghost use Rattle.save_state.specs.Faults.{FailsAt, IsMachineOf, IsOtherCart, IsWrongAt};
-ghost use Rattle.save_state.specs.Items.{at_of, IsMain, MainFails, IsSub, SubFails, IsShared, SharedFails, IsPicture, DrawingFails, IsFm, FmFails, IsPsg, PsgFails};
+ghost use Rattle.save_state.specs.Faults.{FailsAt, HasForm, IsMachineOf};
+ghost use Rattle.save_state.specs.Refusals.{FieldFailsBack, refusal_of};
+ghost use Rattle.save_state.specs.Versions.{IsOtherCart, IsState, IsWrongAt};
+ghost use Rattle.save_state.specs.Items.{at_of, region_of, IsMain, MainFails, IsSub, SubFails, IsShared, SharedFails, IsPicture, DrawingFails, IsFm, FmFails, IsPsg, PsgFails};
 ghost use Rattle.m68k_chip.specs.States.{next_of};
 ghost use Rattle.z80_chip.specs.States.{next_of as sub_next_of};
 ghost use Rattle.save_state.specs.Joining.{Reads};
 ghost use Rattle.save_state.specs.Pieces.{Kept, Fails, built};
-ghost use Rattle.save_state.specs.Layout.{digest_part, mark_part, part_of, state_size};
-ghost use Rattle.save_state.specs.States as states;
+ghost use Rattle.save_state.specs.Layout.{digest_part, part_of, state_size};
 ghost use Rattle.md_word.specs.Clock.{last_cycle};
-ghost use Rattle.save_state.specs.States.{IsState};
+ghost use Rattle.save_state.specs.States.{IsNewest};
 
 use crate::fault::StateFault;
 use crate::items::{read_drawing, read_fm, read_main, read_psg, read_shared, read_sub};
 use crate::joining::both;
-use crate::layout::{AT, DIGEST, LENGTH, MARK, TEXT};
+use crate::layout::{AT, DIGEST, REGION};
+use crate::version::{Version, migrated, place_back, version_of};
 use bus_shared::Shared;
 use fm_chip::FmSynth;
 use m68k_chip::Chip68;
-use md_fields::u64_at;
+use md_fields::{u8_at, u64_at};
 use md_machine::Machine;
 use md_pads::Recording;
 use md_word::clock::LAST_CYCLE;
@@ -34,7 +36,8 @@ use std::sync::Arc;
 use vdp_chip::ChipVdp;
 use z80_chip::Chip80;
 
-/// The machine that the bytes of a saved state of this cartridge keep, with a recording of the pads.
+/// The machine that the bytes of a saved state of this cartridge keep, with a recording of the pads. The
+/// state may be of any version.
 pub fn read(
     alloc: Global,
     bytes: &[u8],
@@ -72,14 +75,10 @@ fn read_with(
     ensures wrong { (place : ℕ) → IsWrongAt (arc_value cart) bytes.now place → result ≢ Err StateFault.NoMemory → IsErrOf result (StateFault.Form place) }
     ensures other { (kept given : List ℕ) → IsErrOf result (StateFault.OtherCart kept given) ↔ IsOtherCart (arc_value cart) bytes.now kept given }
 {
-    if bytes.len() != LENGTH {
-        return Err(StateFault::Form {
-            place: bytes.len().min(LENGTH) as u64,
-        });
-    }
-    if !has_mark(bytes) {
-        return Err(StateFault::Form { place: 0 });
-    }
+    let version = match version_of(bytes) {
+        Ok(version) => version,
+        Err(place) => return Err(StateFault::Form { place }),
+    };
     let kept = digest_at(bytes);
     if !is_same(&kept, digest) {
         return Err(StateFault::OtherCart {
@@ -87,9 +86,46 @@ fn read_with(
             given: *digest,
         });
     }
+    match migrated(alloc, version, bytes) {
+        Ok(newest) => read_newest(alloc, version, newest.as_slice(), cart, recording),
+        Err(NoMemory) => Err(StateFault::NoMemory),
+    }
+}
+
+/// The same of the bytes of the form that is written, made of those of a version: refused at their places.
+fn read_newest(
+    alloc: Global,
+    version: Version,
+    bytes: &[u8],
+    cart: Arc<Cart>,
+    recording: Arc<Recording>,
+) -> Result<Machine, StateFault>
+    requires form { HasForm bytes.now }
+    requires own { part_of digest_part bytes.now ≡ sha256 (arc_value cart) }
+    ensures found { IfOk result (λ m. IsNewest (arc_value cart) bytes.now (record { at = m.at; console = m.console }) × (m.console.shared.recording ≡ arc_value recording)) }
+    ensures start { IfOk result (λ m. IsStart (record { at = m.at; console = m.console })) }
+    ensures empty { IfOk result (λ m. (m.entries ≡ []) × (m.media ≡ no_media)) }
+    ensures only { (start : Start) → IsNewest (arc_value cart) bytes.now start → start.console.shared.recording ≡ arc_value recording → result ≢ Err StateFault.NoMemory
+        → result ≡ Ok (record { at = start.at; console = start.console; entries = []; media = no_media }) }
+    ensures form { (place : ℕ) → IsErrOf result (StateFault.Form place) → FieldFailsBack version (arc_value cart) bytes.now place }
+    ensures wrong { (place : ℕ) → FieldFailsBack version (arc_value cart) bytes.now place → result ≢ Err StateFault.NoMemory → IsErrOf result (StateFault.Form place) }
+    ensures own { (kept given : List ℕ) → result ≢ Err (StateFault.OtherCart kept given) }
+{
     match read_machine(alloc, bytes, cart, recording) {
         Ok(machine) => Ok(machine),
-        Err(fault) => Err(StateFault::from(fault)),
+        Err(fault) => Err(refusal_of(version, fault)),
+    }
+}
+
+/// The refusal of a state of a version, from that of a field of the form that is written.
+fn refusal_of(version: Version, fault: Unspell) -> StateFault
+    ensures { result ≡ refusal_of version fault }
+{
+    match fault {
+        Unspell::Rule { place } => StateFault::Form {
+            place: place_back(version, place),
+        },
+        Unspell::NoMemory => StateFault::NoMemory,
     }
 }
 
@@ -109,7 +145,13 @@ fn read_machine(
             place: AT.place as u64,
         });
     }
-    match read_pieces(alloc, bytes, at, cart, recording) {
+    let region = u8_at(bytes, REGION.place);
+    if region > 1 {
+        return Err(Unspell::Rule {
+            place: REGION.place as u64,
+        });
+    }
+    match read_pieces(alloc, bytes, at, region == 1, cart, recording) {
         Ok(pieces) => Ok(machine_of(alloc, at, pieces)?),
         Err(fault) => Err(fault),
     }
@@ -123,11 +165,13 @@ fn read_pieces(
     alloc: Global,
     bytes: &[u8],
     at: u64,
+    pal: bool,
     cart: Arc<Cart>,
     recording: Arc<Recording>,
 ) -> Result<Pieces, Unspell>
     requires whole { length bytes.now ≡ state_size }
     requires cycle { at ≡ at_of bytes.now }
+    requires region { pal ≡ region_of bytes.now }
     requires begun { 1 ≤ at }
     requires near { at ≤ last_cycle }
     ensures { Reads (Kept (arc_value cart) (arc_value recording) bytes.now) (Fails (arc_value cart) bytes.now) result }
@@ -138,8 +182,8 @@ fn read_pieces(
         read_sub(alloc, bytes, at, window),
     );
     let board = both(
-        read_shared(alloc, bytes, at, recording),
-        read_drawing(alloc, bytes, at),
+        read_shared(alloc, bytes, at, pal, recording),
+        read_drawing(alloc, bytes, at, pal),
     );
     let sound = both(read_fm(alloc, bytes, at), read_psg(alloc, bytes, at));
     let chips = both(board, sound);
@@ -152,19 +196,12 @@ fn machine_of(alloc: Global, at: u64, pieces: Pieces) -> Result<Machine, NoMemor
     requires sub { at ≤ (sub_next_of pieces.0.1.state).key.cycle }
     requires line { at ≤ pieces.1.0.1.next }
     requires view { pieces.1.0.1.has_view ≡ true }
+    requires region { pieces.1.0.1.pal ≡ pieces.1.0.0.vdp.pal }
     requires near { at ≤ last_cycle }
     ensures { IfOk result (λ m. m ≡ built at pieces) }
 {
     let ((main, sub), ((shared, draw), (fm, psg))) = pieces;
     Machine::from_parts(alloc, at, shared, main, sub, draw, fm, psg)
-}
-
-/// Whether the bytes begin with the mark of a state.
-fn has_mark(bytes: &[u8]) -> bool
-    requires { length bytes.now ≡ state_size }
-    ensures { IsTrue result ↔ (part_of mark_part bytes.now ≡ states.mark) }
-{
-    MARK.of(bytes) == TEXT.as_slice()
 }
 
 fn is_same(kept: &[u8; 32], given: &[u8; 32]) -> bool
@@ -175,7 +212,7 @@ fn is_same(kept: &[u8; 32], given: &[u8; 32]) -> bool
 
 /// The digest that the bytes keep.
 fn digest_at(bytes: &[u8]) -> [u8; 32]
-    requires { length bytes.now ≡ state_size }
+    requires { 40 ≤ length bytes.now }
     ensures { result ≡ part_of digest_part bytes.now }
 {
     let mut digest = [0; 32];

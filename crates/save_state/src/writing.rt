@@ -12,7 +12,8 @@ ghost use Rattle.m68k_chip.specs.Rules as main_rules;
 ghost use Rattle.z80_chip.specs.Rules as sub_rules;
 ghost use Rattle.save_state.specs.Ready.{IsReady};
 ghost use Rattle.md_word.specs.Clock.{last_cycle};
-ghost use Rattle.save_state.specs.States.{IsState, settled_console, state_bytes};
+ghost use Rattle.save_state.specs.States.{settled_console, state_bytes};
+ghost use Rattle.save_state.specs.Versions.{IsState};
 
 use crate::items::first_batch;
 use crate::layout::{
@@ -35,25 +36,25 @@ const NUMBERS_THERE: Part = Part { place: 0, size: 62 };
 /// The parts of what the bus keeps behind RAM and bank register.
 const VIDEO_THERE: Part = Part {
     place: 0,
-    size: 65_812,
+    size: 65_813,
 };
 
 const FM_PORT_THERE: Part = Part {
-    place: 65_812,
+    place: 65_813,
     size: 12_316,
 };
 
 const PSG_PORT_THERE: Part = Part {
-    place: 78_128,
+    place: 78_129,
     size: 10_242,
 };
 
 const LINES_THERE: Part = Part {
-    place: 88_370,
+    place: 88_371,
     size: 18,
 };
 
-/// The bytes of the machine at its cycle, 378,240. Where its parts may be kept, they are a saved state of
+/// The bytes of the machine at its cycle, 393,602. Where its parts may be kept, they are a saved state of
 /// its cartridge, which is read again.
 pub fn write(alloc: Global, machine: &Machine) -> Result<Vec<u8>, NoMemory>
     requires { machine.now.at ≤ last_cycle }
@@ -87,9 +88,10 @@ fn write_with(alloc: Global, machine: &Machine, digest: &[u8; 32]) -> Result<Vec
         &TEXT,
         digest,
         &at.to_be_bytes(),
-        main.as_slice(),
+        &[u8::from(machine.pal())],
         &mut bytes,
     )?;
+    bytes.extend_from_slice(main.as_slice())?;
     append(
         NUMBERS_THERE.of(sub.as_slice()),
         &[u8::from(has)],
@@ -164,7 +166,7 @@ fn board_bytes(alloc: Global, board: &Shared, at: u64) -> Result<Vec<u8>, NoMemo
     ensures long { IfOk result (λ bytes. length bytes.items ≡ shared.board_size (is_some board.now.store)) }
     ensures valid { IsBoard board.now }
     ensures kept { IfOk result (λ bytes. shared.IsReady at board.now
-        → shared.Spells at (shared.board_bytes (shared.settled_board at board.now)) (shared.settled_board at board.now)) }
+        → shared.Spells at board.now.vdp.pal (shared.board_bytes (shared.settled_board at board.now)) (shared.settled_board at board.now)) }
 {
     board.known();
     let mut bytes = Vec::with_capacity(
@@ -178,7 +180,7 @@ fn board_bytes(alloc: Global, board: &Shared, at: u64) -> Result<Vec<u8>, NoMemo
 /// What the drawing half of the VDP keeps.
 fn drawing_bytes(alloc: Global, chip: &ChipVdp, at: u64) -> Result<Vec<u8>, NoMemory>
     ensures bytes { IfOk result (λ bytes. bytes.items ≡ drawing.drawing_bytes chip.now) }
-    ensures kept { IfOk result (λ bytes. drawing.IsReady at chip.now → drawing.Spells at (drawing.drawing_bytes chip.now) (drawing.drained chip.now)) }
+    ensures kept { IfOk result (λ bytes. drawing.IsReady at chip.now → drawing.Spells at chip.now.pal (drawing.drawing_bytes chip.now) (drawing.drained chip.now)) }
 {
     let mut bytes = Vec::with_capacity(alloc, DRAWING.size)?;
     chip.spell(at, &mut bytes);

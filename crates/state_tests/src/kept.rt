@@ -1,5 +1,5 @@
 // A state is written, read back, and goes on as the machine that was kept.
-ghost use Rattle.std.specs.Prelude.{◌≡◌, ◌≤◌, ◌<◌, []};
+ghost use Rattle.std.specs.Prelude.{◌≡◌, ◌≤◌, ◌<◌, [], false};
 ghost use Rattle.md_machine.specs.Media.{no_media};
 
 use crate::machines::{at, cartridge, drained, read_with, storing};
@@ -10,13 +10,14 @@ use std::alloc::Global;
 use std::sync::Arc;
 use std::test::Fail;
 
-const LENGTH: usize = 378_240;
+const LENGTH: usize = 393_602;
 
 /// The bytes of the machine at the end of its first frame, and its journal's records up to there.
 fn gone_on(alloc: Global, machine: &mut Machine) -> Result<(Vec<u8>, Vec<u8>), Fail>
     requires at { machine.old.at < 896040 }
     requires entries { machine.old.entries ≡ [] }
     requires media { machine.old.media ≡ no_media }
+    requires region { machine.old.console.pal ≡ false }
 {
     machine.alone(896_040);
     let bytes = write(alloc, machine)?;
@@ -36,7 +37,7 @@ fn kept(alloc: Global, cart: Arc<Cart>, cycle: u64, count: usize) -> Result<Opti
         Ok(machine) => machine,
         Err(_) => return Ok(None),
     };
-    if again.at() != cycle {
+    if again.at() != cycle || again.pal() {
         return Ok(None);
     }
     let same = write(alloc, &again)?.as_slice() == bytes.as_slice();
@@ -68,10 +69,10 @@ fn an_instruction_goes_on_between_two_accesses(rt: HostRuntime) -> Result<(), Fa
             None => return Err(Fail::from("another run")),
         };
         // The next event, that it is an access, where the instruction began, and how many answers it has.
-        assert_eq!(rt; bytes.get(48..56), Some(364u64.to_be_bytes().as_slice()));
-        assert_eq!(rt; bytes.get(56..57), Some([1].as_slice()));
-        assert_eq!(rt; bytes.get(57..65), Some(252u64.to_be_bytes().as_slice()));
-        assert_eq!(rt; bytes.get(151..152), Some([3].as_slice()));
+        assert_eq!(rt; bytes.get(49..57), Some(364u64.to_be_bytes().as_slice()));
+        assert_eq!(rt; bytes.get(57..58), Some([1].as_slice()));
+        assert_eq!(rt; bytes.get(58..66), Some(252u64.to_be_bytes().as_slice()));
+        assert_eq!(rt; bytes.get(152..153), Some([3].as_slice()));
     }
     Ok(())
 }

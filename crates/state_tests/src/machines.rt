@@ -1,4 +1,4 @@
-ghost use Rattle.std.specs.Prelude.{◌≡◌, ◌≤◌, [], length, IfOk, IsOk};
+ghost use Rattle.std.specs.Prelude.{◌≡◌, ◌≤◌, [], false, length, IfOk, IsOk};
 ghost use Rattle.md_machine.specs.Media.{no_media};
 
 use md_machine::Machine;
@@ -49,9 +49,11 @@ pub fn drained(alloc: Global, machine: &mut Machine) -> Result<Vec<u8>, Fail>
     requires entries { length machine.old.entries ≤ 52500 }
     requires frames { length machine.old.media.frames ≤ 1 }
     requires samples { length machine.old.media.levels ≤ 896 }
+    requires region { machine.old.console.pal ≡ false }
     ensures at { machine.new.at ≡ machine.old.at }
     ensures entries { IsOk result → machine.new.entries ≡ [] }
     ensures media { IsOk result → machine.new.media ≡ no_media }
+    ensures region { machine.new.console.pal ≡ machine.old.console.pal }
 {
     let mut entries = Vec::with_capacity(alloc, 840_000)?;
     let mut pairs = Vec::with_capacity(alloc, 3_584)?;
@@ -69,9 +71,12 @@ pub fn at(alloc: Global, cart: Arc<Cart>, cycle: u64) -> Result<Machine, Fail>
     ensures at { IfOk result (λ machine. machine.at ≡ cycle) }
     ensures entries { IfOk result (λ machine. machine.entries ≡ []) }
     ensures media { IfOk result (λ machine. machine.media ≡ no_media) }
+    ensures region { IfOk result (λ machine. machine.console.pal ≡ false) }
 {
     let recording = no_recording(alloc)?;
-    let mut machine = Machine::power_on(alloc, cart, recording).map_err(|_| Fail::from("memory"))?;
+    let mut machine = Machine::power_on(alloc, cart, recording, false).map_err(|_| Fail::from(
+        "memory",
+    ))?;
     machine.alone(cycle);
     drained(alloc, &mut machine)?;
     Ok(machine)

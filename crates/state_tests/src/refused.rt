@@ -9,110 +9,116 @@ use std::sync::Arc;
 use std::test::Fail;
 
 /// Where each part begins.
-const MAIN: usize = 48;
+const MAIN: usize = 49;
 
-const SUB: usize = 65_762;
+const SUB: usize = 65_763;
 
-const VIDEO: usize = 74_019;
+const VIDEO: usize = 74_020;
 
-const FM_PORT: usize = 354_881;
+const FM_PORT: usize = 370_243;
 
-const FM: usize = 367_205;
+const FM: usize = 382_567;
 
-const PSG: usize = 378_196;
+const PSG: usize = 393_558;
 
 /// Bytes at their places, and the place of the refusal.
 type Row = (&'static [(usize, u8)], Option<u64>);
 
-const ROWS: [Row; 62] = [
+const ROWS: [Row; 67] = [
     // nothing is changed
     (&[], None),
-    // the mark, and the cycle: 0, and above 2^39
-    (&[(7, 0x32)], Some(0)),
+    // the mark, that of version 1 with the other length, and the cycle: 0, and above 2^39
+    (&[(7, 0x33)], Some(0)),
+    (&[(7, 0x31)], Some(378_240)),
     (&[(47, 0)], Some(40)),
     (&[(42, 1)], Some(40)),
+    // the region; on PAL the display may be 240 lines high, and so may the picture
+    (&[(48, 2)], Some(48)),
+    (&[(48, 1)], None),
+    (&[(48, 1), (VIDEO + 65_812, 1)], None),
+    (&[(VIDEO + 65_812, 1)], Some(139_832)),
     // the 68000: next, stage, start, SR, flags, since, cause, answers, a transfer's words and cost
-    (&[(MAIN, 1)], Some(48)),
-    (&[(MAIN + 8, 3)], Some(56)),
-    (&[(MAIN + 9, 1)], Some(57)),
-    (&[(MAIN + 89, 0xff)], Some(137)),
-    (&[(MAIN + 91, 2)], Some(139)),
-    (&[(MAIN + 92, 2)], Some(140)),
-    (&[(MAIN + 93, 2)], Some(141)),
-    (&[(MAIN + 101, 1)], Some(142)),
-    (&[(MAIN + 102, 5)], Some(150)),
-    (&[(MAIN + 103, 32)], Some(151)),
-    (&[(MAIN + 171, 2)], Some(220)),
-    (&[(MAIN + 175, 1)], Some(220)),
-    (&[(MAIN + 177, 1)], Some(224)),
+    (&[(MAIN, 1)], Some(49)),
+    (&[(MAIN + 8, 3)], Some(57)),
+    (&[(MAIN + 9, 1)], Some(58)),
+    (&[(MAIN + 89, 0xff)], Some(138)),
+    (&[(MAIN + 91, 2)], Some(140)),
+    (&[(MAIN + 92, 2)], Some(141)),
+    (&[(MAIN + 93, 2)], Some(142)),
+    (&[(MAIN + 101, 1)], Some(143)),
+    (&[(MAIN + 102, 5)], Some(151)),
+    (&[(MAIN + 103, 32)], Some(152)),
+    (&[(MAIN + 171, 2)], Some(221)),
+    (&[(MAIN + 175, 1)], Some(221)),
+    (&[(MAIN + 177, 1)], Some(225)),
     // the Z80: next, stage, start, flags, mode, cause, answers
-    (&[(SUB, 1)], Some(65_762)),
-    (&[(SUB + 8, 4)], Some(65_770)),
-    (&[(SUB + 9, 1)], Some(65_771)),
-    (&[(SUB + 43, 2)], Some(65_805)),
-    (&[(SUB + 44, 2)], Some(65_806)),
-    (&[(SUB + 45, 3)], Some(65_807)),
-    (&[(SUB + 46, 2)], Some(65_808)),
-    (&[(SUB + 47, 2)], Some(65_809)),
-    (&[(SUB + 56, 1)], Some(65_818)),
-    (&[(SUB + 57, 1)], Some(65_819)),
+    (&[(SUB, 1)], Some(65_763)),
+    (&[(SUB + 8, 4)], Some(65_771)),
+    (&[(SUB + 9, 1)], Some(65_772)),
+    (&[(SUB + 43, 2)], Some(65_806)),
+    (&[(SUB + 44, 2)], Some(65_807)),
+    (&[(SUB + 45, 3)], Some(65_808)),
+    (&[(SUB + 46, 2)], Some(65_809)),
+    (&[(SUB + 47, 2)], Some(65_810)),
+    (&[(SUB + 56, 1)], Some(65_819)),
+    (&[(SUB + 57, 1)], Some(65_820)),
     // who has RAM, and the bank register
-    (&[(65_824, 2)], Some(65_824)),
-    (&[(74_017, 2)], Some(74_017)),
-    (&[(65_824, 1), (74_017, 2)], Some(74_017)),
+    (&[(65_825, 2)], Some(65_825)),
+    (&[(74_018, 2)], Some(74_018)),
+    (&[(65_825, 1), (74_018, 2)], Some(74_018)),
     // the VDP: CRAM, VSRAM, code, kind of DMA, flags
-    (&[(VIDEO + 65_560, 0xff)], Some(139_579)),
-    (&[(VIDEO + 65_688, 0xff)], Some(139_707)),
-    (&[(VIDEO + 65_769, 64)], Some(139_788)),
-    (&[(VIDEO + 65_773, 3)], Some(139_792)),
+    (&[(VIDEO + 65_560, 0xff)], Some(139_580)),
+    (&[(VIDEO + 65_688, 0xff)], Some(139_708)),
+    (&[(VIDEO + 65_769, 64)], Some(139_789)),
+    (&[(VIDEO + 65_773, 3)], Some(139_793)),
     // the drawing half: next, note, a row that is not drawn
-    (&[(139_831, 1)], Some(139_831)),
-    (&[(139_839, 2)], Some(139_839)),
-    (&[(354_880, 1)], Some(139_841)),
+    (&[(139_833, 1)], Some(139_833)),
+    (&[(139_841, 2)], Some(139_841)),
+    (&[(354_882, 1)], Some(139_843)),
     // the FM chip: a timer's run, a flag, writes, next, synthesis
-    (&[(FM_PORT + 6, 1)], Some(354_887)),
-    (&[(FM_PORT + 24, 2)], Some(354_905)),
-    (&[(FM_PORT + 26, 5)], Some(354_907)),
-    (&[(367_204, 1)], Some(367_197)),
-    (&[(FM + 521, 128)], Some(367_726)),
-    (&[(FM + 522, 108)], Some(367_727)),
-    (&[(FM + 523, 0x10)], Some(367_728)),
-    (&[(FM + 526, 0x10)], Some(367_730)),
-    (&[(FM + 529, 4)], Some(367_734)),
-    (&[(FM + 531, 4)], Some(367_736)),
-    (&[(FM + 532, 2)], Some(367_737)),
-    (&[(FM + 717, 0x20)], Some(367_922)),
+    (&[(FM_PORT + 6, 1)], Some(370_249)),
+    (&[(FM_PORT + 24, 2)], Some(370_267)),
+    (&[(FM_PORT + 26, 5)], Some(370_269)),
+    (&[(382_566, 1)], Some(382_559)),
+    (&[(FM + 521, 128)], Some(383_088)),
+    (&[(FM + 522, 108)], Some(383_089)),
+    (&[(FM + 523, 0x10)], Some(383_090)),
+    (&[(FM + 526, 0x10)], Some(383_092)),
+    (&[(FM + 529, 4)], Some(383_096)),
+    (&[(FM + 531, 4)], Some(383_098)),
+    (&[(FM + 532, 2)], Some(383_099)),
+    (&[(FM + 717, 0x20)], Some(383_284)),
     // the PSG: next, writes, synthesis
-    (&[(367_953, 1)], Some(367_946)),
-    (&[(367_954, 5)], Some(367_954)),
-    (&[(PSG, 8)], Some(378_196)),
-    (&[(PSG + 1, 4)], Some(378_197)),
-    (&[(PSG + 7, 16)], Some(378_203)),
-    (&[(PSG + 12, 4)], Some(378_208)),
-    (&[(PSG + 20, 2)], Some(378_216)),
+    (&[(383_315, 1)], Some(383_308)),
+    (&[(383_316, 5)], Some(383_316)),
+    (&[(PSG, 8)], Some(393_558)),
+    (&[(PSG + 1, 4)], Some(393_559)),
+    (&[(PSG + 7, 16)], Some(393_565)),
+    (&[(PSG + 12, 4)], Some(393_570)),
+    (&[(PSG + 20, 2)], Some(393_578)),
     // the board: request, reset, resets, pads
-    (&[(378_222, 2)], Some(378_222)),
-    (&[(378_223, 2)], Some(378_223)),
-    (&[(378_231, 2)], Some(378_224)),
-    (&[(378_236, 1)], Some(378_236)),
+    (&[(393_584, 2)], Some(393_584)),
+    (&[(393_585, 2)], Some(393_585)),
+    (&[(393_593, 2)], Some(393_586)),
+    (&[(393_598, 1)], Some(393_598)),
     // the Z80 has seen a reset that was not, also where the board fails behind it
-    (&[(SUB + 55, 1)], Some(378_224)),
-    (&[(SUB + 55, 1), (378_236, 1)], Some(378_224)),
+    (&[(SUB + 55, 1)], Some(393_586)),
+    (&[(SUB + 55, 1), (393_598, 1)], Some(393_586)),
 ];
 
 // A write of the 68000 at cycle 0, and its next event at 20: they stand less than 28 cycles apart. With
 // the next event of the Z80 at 20 one of the Z80 stands less than 45 cycles before it.
 const JOINED: [Row; 5] = [
-    (&[(354_908, 1)], None),
-    (&[(354_908, 1), (55, 20), (64, 20)], Some(354_907)),
+    (&[(370_270, 1)], None),
+    (&[(370_270, 1), (56, 20), (65, 20)], Some(370_269)),
     (
-        &[(354_908, 1), (354_917, 1), (65_769, 20), (65_778, 20)],
-        Some(354_907),
+        &[(370_270, 1), (370_279, 1), (65_770, 20), (65_779, 20)],
+        Some(370_269),
     ),
-    (&[(367_955, 1), (55, 20), (64, 20)], Some(367_954)),
+    (&[(383_317, 1), (56, 20), (65, 20)], Some(383_316)),
     (
-        &[(354_908, 1), (55, 20), (64, 20), (378_236, 1)],
-        Some(354_907),
+        &[(370_270, 1), (56, 20), (65, 20), (393_598, 1)],
+        Some(370_269),
     ),
 ];
 
@@ -156,10 +162,14 @@ fn a_wrong_length_is_refused_at_the_lesser(rt: HostRuntime) -> Result<(), Fail> 
     let alloc = rt.alloc();
     let cart = cartridge(alloc, 0)?;
     let mut bytes = state_at_1(alloc, cart.clone()?)?;
-    let short = bytes.get(1..).unwrap_or(&[]);
-    assert_eq!(rt; place_of(alloc, short, cart.clone()?)?, Some(378_239));
+    let short = bytes.get(..393_601).unwrap_or(&[]);
+    assert_eq!(rt; place_of(alloc, short, cart.clone()?)?, Some(393_601));
+    let few = bytes.get(..7).unwrap_or(&[]);
+    assert_eq!(rt; place_of(alloc, few, cart.clone()?)?, Some(7));
+    let behind = bytes.get(1..).unwrap_or(&[]);
+    assert_eq!(rt; place_of(alloc, behind, cart.clone()?)?, Some(0));
     bytes.push(0)?;
-    assert_eq!(rt; place_of(alloc, &bytes, cart)?, Some(378_240));
+    assert_eq!(rt; place_of(alloc, &bytes, cart)?, Some(393_602));
     Ok(())
 }
 

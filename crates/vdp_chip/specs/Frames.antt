@@ -1,10 +1,11 @@
 -- A whole frame by the events of its lines. This project's profile.
 use Rattle.std.specs.Prelude.{◌≡◌, ℕ, ◌+◌, List, [], ◌∷◌, ◌++◌, length, Some}
+use Rattle.md_word.specs.Region.{rows}
 use Rattle.vdp_time.specs.Lines.{line_of}
 use Rattle.vdp_planes.specs.Dots.{Dot}
 use Rattle.vdp_planes.specs.declared.view.LineView.{LineView}
 use Rattle.vdp_planes.specs.declared.view.SpriteNote.{SpriteNote}
-use Rattle.vdp_chip.specs.Picture.{height, row_of}
+use Rattle.vdp_chip.specs.Picture.{row_of}
 use Rattle.vdp_chip.specs.Drawing.{Drawing, line_drawn}
 
 -- what the event of a line finds: the view, the dots of the sprites and their note
@@ -26,5 +27,5 @@ after (first ∷ rest) d = after rest (line_drawn first.view first.sprites first
 -- from line 0 on: behind the events of the picture's lines and of the one behind it the frame is their
 -- rows, each as its own event found it
 abbrev pub IsItsRows : Drawing → Type 0
-IsItsRows d = (lines : List Line) (last : Line) → line_of d.next ≡ 0 → length lines ≡ height
+IsItsRows d = (lines : List Line) (last : Line) → line_of d.next d.pal ≡ 0 → length lines ≡ rows d.pal
     → (after (lines ++ (last ∷ [])) d).frame ≡ Some (rows_from 0 lines)

@@ -1,35 +1,49 @@
 -- A picture and how the events of the lines change it. Genesis Technical Overview, the display; the
 -- bytes of a picture are this project's profile.
-use Rattle.std.specs.Prelude.{ℕ, ◌+◌, ◌*◌, ◌==◌, nat_lt, Bool, true, false, if◌then◌else◌, List, map, replicate, Option, Some}
+use Rattle.std.specs.Prelude.{ℕ, ◌+◌, ◌*◌, ◌/◌, ◌%◌, ◌==◌, nat_lt, Bool, true, false, if◌then◌else◌, List, map, replicate, slice_set, take, Option, Some}
 use Rattle.std.specs.List.{range_with_len, replace_range}
+use Rattle.md_word.specs.Region.{picture_length, rows}
 use Rattle.vdp_planes.specs.Dots.{Dot}
 use Rattle.vdp_planes.specs.declared.view.LineView.{LineView}
 use Rattle.vdp_planes.specs.Planes.{plane_dot}
 use Rattle.vdp_planes.specs.Mixing.{line_byte}
-
--- the lines of the picture; those behind them lie in the vertical blanking
-abbrev pub height : ℕ
-height = 224
+use Rattle.vdp_planes.specs.View.{display_height, register}
 
 -- the bytes of a row: red, green and blue of 320 dots
 abbrev pub row_length : ℕ
 row_length = 960
 
--- the bytes of the picture, row by row
-abbrev pub picture_length : ℕ
-picture_length = 215040
+-- the bytes that a picture takes, row by row: as many as one for PAL has
+abbrev pub memory_length : ℕ
+memory_length = 230400
 
 -- a picture of which no row is drawn
 abbrev pub blank : List ℕ
-blank = replicate picture_length 0
+blank = replicate memory_length 0
 
 -- the dots of a line of plane A with the window, or of plane B
 unfoldable pub plane_dots : LineView → Bool → ℕ → List Dot
 plane_dots view second y = map (plane_dot view second y) (range_with_len 0 320)
 
--- row y as the view has it, with these dots of the sprites
+-- a byte with bit 6 cleared
+abbrev pub without_bit_6 : ℕ → ℕ
+without_bit_6 byte = byte / 128 * 128 + byte % 64
+
+-- a view with its display off, which is bit 6 of register 1
+unfoldable pub hidden : LineView → LineView
+hidden view = record view { registers = slice_set view.registers 1 (without_bit_6 (register view 1)) }
+
+-- what a row is drawn from: behind the lines of the display that is as where it is off
+unfoldable pub on_row : ℕ → LineView → LineView
+on_row y view = if nat_lt y (display_height view) then view else hidden view
+
+-- a row as a view has line y, with these dots of the sprites
+unfoldable pub line_row : LineView → List Dot → ℕ → List ℕ
+line_row view sprites y = map (line_byte view (plane_dots view false y) (plane_dots view true y) sprites) (range_with_len 0 row_length)
+
+-- row y of the picture
 unfoldable pub row_of : LineView → List Dot → ℕ → List ℕ
-row_of view sprites y = map (line_byte view (plane_dots view false y) (plane_dots view true y) sprites) (range_with_len 0 row_length)
+row_of view sprites y = line_row (on_row y view) sprites y
 
 -- a picture with another row y; the other rows stay
 unfoldable pub with_row : ℕ → List ℕ → List ℕ → List ℕ
@@ -40,9 +54,13 @@ unfoldable pub cleared : ℕ → List ℕ → List ℕ
 cleared line picture = if line == 0 then blank else picture
 
 -- each line of the picture draws its row, the others none
-unfoldable pub drawn : ℕ → List ℕ → List ℕ → List ℕ
-drawn line row picture = if nat_lt line height then with_row line row picture else picture
+unfoldable pub drawn : Bool → ℕ → List ℕ → List ℕ → List ℕ
+drawn pal line row picture = if nat_lt line (rows pal) then with_row line row picture else picture
 
--- the first line behind the picture finishes the frame
-unfoldable pub finished : ℕ → List ℕ → Option (List ℕ) → Option (List ℕ)
-finished line picture frame = if line == height then Some picture else frame
+-- the frame is the rows of the region
+abbrev pub frame_of : Bool → List ℕ → List ℕ
+frame_of pal picture = take (picture_length pal) picture
+
+-- the first line behind the picture finishes it
+unfoldable pub finished : Bool → ℕ → List ℕ → Option (List ℕ) → Option (List ℕ)
+finished pal line picture frame = if line == rows pal then Some (frame_of pal picture) else frame

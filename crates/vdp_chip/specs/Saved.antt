@@ -1,13 +1,13 @@
 -- What a saved state keeps of the drawing half of the VDP: its numbers, whatever they are, with their
--- order, their sizes and their rules. What is finished is handed out before a state is kept, and the
--- view is filled anew with each line. This project's profile.
+-- order, their sizes and their rules. What is finished is handed out before a state is kept, the view
+-- is filled anew with each line, and the region stands elsewhere in the state. This project's profile.
 use Rattle.std.specs.Prelude.{ℕ, ◌-◌, ◌*◌, ◌%◌, ◌==◌, ◌&&◌, Bool, true, nat_le, nat_lt, List, [], ◌∷◌, drop, None}
 use Rattle.md_fields.specs.Fields.{Field, byte, quad, block}
 use Rattle.md_fields.specs.Padding.{are_zeros}
 use Rattle.md_word.specs.Clock.{line}
 use Rattle.md_word.specs.Coding.{flag_number}
 use Rattle.vdp_chip.specs.Drawing.{Drawing, undrawn_from}
-use Rattle.vdp_chip.specs.Picture.{picture_length, row_length}
+use Rattle.vdp_chip.specs.Picture.{memory_length, row_length}
 
 -- what is kept: the next event, what the sprites have set, and the picture
 pub record DrawingNumbers : Type 0 where
@@ -25,14 +25,15 @@ numbers_of d = record {
   picture = d.picture;
 }
 
--- the chip of which these numbers are kept
-abbrev pub drawing_of : DrawingNumbers → Drawing
-drawing_of n = record {
+-- the chip of a region of which these numbers are kept
+abbrev pub drawing_of : Bool → DrawingNumbers → Drawing
+drawing_of pal n = record {
   next = n.next;
   note = record { overflow = n.overflow == 1; collision = n.collision == 1 };
   has_view = true;
   picture = n.picture;
   frame = None;
+  pal = pal;
 }
 
 -- the first event of a line from `at` on
@@ -44,14 +45,14 @@ abbrev pub is_note : DrawingNumbers → Bool
 is_note n = nat_le n.overflow 1 && nat_le n.collision 1
 
 -- rows behind the line of the last cycle below `at` are not drawn
-abbrev pub is_picture : ℕ → List ℕ → Bool
-is_picture at picture = are_zeros (drop (row_length * undrawn_from at) picture)
+abbrev pub is_picture : ℕ → Bool → List ℕ → Bool
+is_picture at pal picture = are_zeros (drop (row_length * undrawn_from at pal) picture)
 
--- the fields in their order, and their rules, by the cycle of the state
-abbrev pub drawing_fields : ℕ → DrawingNumbers → List Field
-drawing_fields at n =
+-- the fields in their order, and their rules, by the cycle of the state and its region
+abbrev pub drawing_fields : ℕ → Bool → DrawingNumbers → List Field
+drawing_fields at pal n =
     quad n.next (is_first n.next at)
     ∷ byte n.overflow (is_note n)
     ∷ byte n.collision true
-    ∷ block picture_length n.picture (is_picture at n.picture)
+    ∷ block memory_length n.picture (is_picture at pal n.picture)
     ∷ []

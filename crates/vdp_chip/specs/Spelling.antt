@@ -1,5 +1,5 @@
 -- The bytes of a saved state that keep the drawing half of the VDP. This project's profile.
-use Rattle.std.specs.Prelude.{◌≡◌, ℕ, ◌+◌, ◌<◌, ◌≤◌, true, None, List}
+use Rattle.std.specs.Prelude.{◌≡◌, ℕ, ◌+◌, ◌<◌, ◌≤◌, Bool, true, false, None, List}
 use Rattle.md_fields.specs.Fields.{spelling}
 use Rattle.md_fields.specs.Items.{IsRefused, IsRight, Keeps}
 use Rattle.md_word.specs.Clock.{line}
@@ -8,27 +8,28 @@ use Rattle.vdp_chip.specs.Saved.{drawing_fields, numbers_of}
 
 -- how many bytes there are
 abbrev pub drawing_size : ℕ
-drawing_size = 215050
+drawing_size = 230410
 
--- the bytes that keep a chip; the rules, and so the cycle, have no part in them
+-- the bytes that keep a chip; the rules, and so the cycle and the region, have no part in them
 abbrev pub drawing_bytes : Drawing → List ℕ
-drawing_bytes d = spelling (drawing_fields 0 (numbers_of d))
+drawing_bytes d = spelling (drawing_fields 0 false (numbers_of d))
 
 -- its view is here, and no frame waits to be handed out
 pub record IsDrained (d : Drawing) : Type 0 where
   pub view : d.has_view ≡ true
   pub frame : d.frame ≡ None
 
--- the bytes of a state at a cycle keep the chip, whose rules hold
-pub record Spells (at : ℕ) (bytes : List ℕ) (d : Drawing) : Type 0 where
-  pub keeps : Keeps (drawing_fields at) bytes (numbers_of d)
-  pub right : IsRight (drawing_fields at) (numbers_of d)
+-- the bytes of a state at a cycle and of a region keep the chip, whose rules hold
+pub record Spells (at : ℕ) (pal : Bool) (bytes : List ℕ) (d : Drawing) : Type 0 where
+  pub keeps : Keeps (drawing_fields at pal) bytes (numbers_of d)
+  pub right : IsRight (drawing_fields at pal) (numbers_of d)
+  pub region : d.pal ≡ pal
   pub drained : IsDrained d
 
--- bytes of a state at a cycle that keep no chip are refused at this place: by their length, or by the
--- first rule that fails
-abbrev pub GoesWrongAt : ℕ → List ℕ → ℕ → Type 0
-GoesWrongAt at bytes place = IsRefused drawing_size (drawing_fields at) bytes place
+-- bytes of a state at a cycle and of a region that keep no chip are refused at this place: by their
+-- length, or by the first rule that fails
+abbrev pub GoesWrongAt : ℕ → Bool → List ℕ → ℕ → Type 0
+GoesWrongAt at pal bytes place = IsRefused drawing_size (drawing_fields at pal) bytes place
 
 -- a chip as it is kept: with its view here, and without a frame
 abbrev pub drained : Drawing → Drawing

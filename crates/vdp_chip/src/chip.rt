@@ -6,6 +6,7 @@ ghost use Rattle.vdp_chip.specs.Drawing.{IsDrawing, answered, at_power_on, line_
 use crate::kept::{Kept, draw};
 use crate::picture::PICTURE;
 use md_word::clock::LINE;
+use md_word::region::picture_length;
 use md_word::{Key, Next, NoMemory};
 use std::alloc::Global;
 use std::marker::Model;
@@ -16,9 +17,10 @@ use vdp_time::line_of;
 const DRAWING: u8 = 2;
 
 /// The drawing half of the VDP. Its events are the lines, each 3,420 master cycles behind the one
-/// before: those of lines 0 to 223 draw a row of the picture, the event of line 224 finishes the
-/// frame, and the lines up to 261 draw nothing. Contracts see the cycle of the next event, the note
-/// of the last line's sprites, whether the view is there, the picture and the frame that is kept.
+/// before: those of lines 0 to 223, on PAL 0 to 239, draw a row of the picture, the event of the next
+/// line finishes the frame, and the others draw nothing. Contracts see the cycle of the next event, the note
+/// of the last line's sprites, whether the view is there, the picture, the frame that is kept and the
+/// region.
 ///
 /// All memory, about 500 KB, is taken at making. Source: Genesis Technical Overview, the display; the
 /// places of the events are this project's profile.
@@ -30,30 +32,31 @@ pub struct ChipVdp {
     pub(crate) picture: Box<[u8; PICTURE]>,
     pub(crate) aside: Box<[u8; PICTURE]>,
     pub(crate) kept: Kept,
+    pub(crate) pal: bool,
 }
 
 impl Model for ChipVdp {
     ghost use Rattle.std.specs.Prelude.{is_some};
     ghost use Rattle.vdp_chip.specs.Drawing.{Drawing, IsDrawing};
-    ghost use Rattle.vdp_chip.specs.Kept.{IsKept, frame_of};
+    ghost use Rattle.vdp_chip.specs.Kept.{IsKept, kept_frame};
 
     ghost Value = { Drawing };
 
-    ghost view = { λ c. record { next = c.next; note = c.note; has_view = is_some c.view; picture = c.picture.value; frame = frame_of c.kept c.picture.value c.aside.value } };
+    ghost view = { λ c. record { next = c.next; note = c.note; has_view = is_some c.view; picture = c.picture.value; frame = kept_frame c.pal c.kept c.picture.value c.aside.value; pal = c.pal } };
 
-    ghost invariant = { λ c. IsDrawing (record { next = c.next; note = c.note; has_view = is_some c.view; picture = c.picture.value; frame = frame_of c.kept c.picture.value c.aside.value }) × IsKept c.kept c.next c.aside.value };
+    ghost invariant = { λ c. IsDrawing (record { next = c.next; note = c.note; has_view = is_some c.view; picture = c.picture.value; frame = kept_frame c.pal c.kept c.picture.value c.aside.value; pal = c.pal }) × IsKept c.pal c.kept c.next c.aside.value };
 }
 
 impl ChipVdp {
-    /// The chip at power-on: the picture is black, no frame is kept, and the event of line 0 comes at
+    /// The chip at power-on, of a region: the picture is black, no frame is kept, and the event of line 0 comes at
     /// cycle 0. It is refused where there is no memory for the picture and the view.
-    pub fn power_on(alloc: Global) -> Result<ChipVdp, NoMemory>
-        ensures { IfOk result (λ chip. chip ≡ at_power_on) }
+    pub fn power_on(alloc: Global, pal: bool) -> Result<ChipVdp, NoMemory>
+        ensures { IfOk result (λ chip. chip ≡ at_power_on pal) }
     {
-        let view = empty_view(alloc)?;
+        let view = empty_view(alloc, pal)?;
         let picture = black(alloc)?;
         let aside = black(alloc)?;
-        Ok(with_memory(view, picture, aside))
+        Ok(with_memory(view, picture, aside, pal))
     }
 
     /// The next line's event.
@@ -77,6 +80,14 @@ impl ChipVdp {
         self.view.is_some()
     }
 
+    /// Whether the picture is one for PAL.
+    #[inline]
+    pub fn pal(&self) -> bool
+        ensures { result ≡ self.now.pal }
+    {
+        self.pal
+    }
+
     /// What the sprites of the last line have set.
     pub fn note(&self) -> SpriteNote
         ensures { result ≡ self.now.note }
@@ -84,14 +95,16 @@ impl ChipVdp {
         self.note
     }
 
-    /// Gives the view, to be filled with the VDP's registers and memories, and what the sprites of the
-    /// last line have set. What the view holds is not told.
+    /// Gives the view of this region, to be filled with the VDP's registers and memories, and what the
+    /// sprites of the last line have set. What else the view holds is not told.
     pub fn request(&mut self) -> (Box<LineView>, SpriteNote)
         requires { self.old.has_view ≡ true }
         ensures note { result.1 ≡ self.old.note }
+        ensures region { result.0.value.pal ≡ self.old.pal }
         ensures gone { self.new ≡ record self.old { has_view = false } }
     {
-        if let Some(view) = self.view.take() {
+        if let Some(mut view) = self.view.take() {
+            view.pal = self.pal;
             (view, self.note)
         } else {
             unreachable!()
@@ -118,8 +131,9 @@ impl ChipVdp {
         requires cycle { self.old.next < 2 ^ 50 }
         ensures { self.new ≡ line_drawn (seen scene.now) sprites.now note self.old }
     {
-        let line = line_of(self.next);
+        let line = line_of(self.next, self.pal);
         self.kept = draw(
+            self.pal,
             scene,
             line,
             sprites,
@@ -131,15 +145,15 @@ impl ChipVdp {
         self.next += LINE;
     }
 
-    /// The latest frame that was finished and not dropped: 224 rows of 320 dots of red, green and
-    /// blue. Lines that are drawn later do not change it.
+    /// The latest frame that was finished and not dropped: 224 rows, on PAL 240, of 320 dots of red,
+    /// green and blue. Lines that are drawn later do not change it.
     pub fn frame(&self) -> Option<&[u8]>
         ensures { option_copied result ≡ self.now.frame }
     {
         match self.kept {
             Kept::Nowhere => None,
-            Kept::Picture => Some(&self.picture[..]),
-            Kept::Aside => Some(&self.aside[..]),
+            Kept::Picture => Some(&self.picture[..picture_length(self.pal)]),
+            Kept::Aside => Some(&self.aside[..picture_length(self.pal)]),
         }
     }
 
@@ -156,10 +170,11 @@ fn with_memory(
     view: Box<LineView>,
     picture: Box<[u8; PICTURE]>,
     aside: Box<[u8; PICTURE]>,
+    pal: bool,
 ) -> ChipVdp
     requires picture { picture.value ≡ blank }
     requires aside { aside.value ≡ blank }
-    ensures { result ≡ at_power_on }
+    ensures { result ≡ at_power_on pal }
 {
     ChipVdp {
         next: 0,
@@ -171,6 +186,7 @@ fn with_memory(
         picture,
         aside,
         kept: Kept::Nowhere,
+        pal,
     }
 }
 
@@ -184,13 +200,15 @@ pub(crate) fn black(alloc: Global) -> Result<Box<[u8; PICTURE]>, NoMemory>
     }
 }
 
-/// A view of a VDP whose registers and memories are 0.
-pub(crate) fn empty_view(alloc: Global) -> Result<Box<LineView>, NoMemory> {
+/// A view for a picture of a region, of a VDP whose registers and memories are 0.
+pub(crate) fn empty_view(alloc: Global, pal: bool) -> Result<Box<LineView>, NoMemory> {
     let view = LineView {
         registers: [0; 24],
         vram: [0; 65536],
         cram: [0; 64],
         vsram: [0; 40],
+        pal,
+        tall: false,
     };
     match Box::new(alloc, view) {
         Ok(view) => Ok(view),

@@ -1,13 +1,14 @@
 ghost use Rattle.std.specs.Prelude.{◌≡◌, ℕ, ◌<◌, ◌≤◌, List, length};
+ghost use Rattle.md_word.specs.Region as region;
 ghost use Rattle.vdp_planes.specs.View.{AllColours, seen};
-ghost use Rattle.vdp_chip.specs.Picture.{cleared, drawn, finished, picture_length, row_of};
-ghost use Rattle.vdp_chip.specs.Kept.{frame_of};
+ghost use Rattle.vdp_chip.specs.Picture.{cleared, drawn, finished, memory_length, row_of};
+ghost use Rattle.vdp_chip.specs.Kept.{kept_frame};
 ghost use Rattle.vdp_chip.specs.declared.kept.Kept.TheVariants as kinds;
 
 use crate::picture::{PICTURE, clear, draw_row};
+use md_word::region::rows;
 use std::mem::swap;
 use vdp_planes::{Dot, Scene};
-use vdp_time::HEIGHT;
 
 /// Where the finished frame stands.
 #[derive(Clone, Copy)]
@@ -24,19 +25,20 @@ pub enum Kept {
 /// The answer is where the frame stands then.
 #[tactic(auto, unfolding(crate::specs::Picture::cleared))]
 fn make_room(
+    pal: bool,
     line: u32,
     kept: Kept,
     picture: &mut Box<[u8; PICTURE]>,
     aside: &mut Box<[u8; PICTURE]>,
 ) -> Kept
-    requires line { line < 224 }
-    requires free { kept ≡ kinds.Picture → 0 < line → 224 < line }
-    requires picture { length picture.old.value ≡ picture_length }
-    requires aside { length aside.old.value ≡ picture_length }
+    requires line { line < region.rows pal }
+    requires free { kept ≡ kinds.Picture → 0 < line → region.rows pal < line }
+    requires picture { length picture.old.value ≡ memory_length }
+    requires aside { length aside.old.value ≡ memory_length }
     ensures picture { picture.new.value ≡ cleared line picture.old.value }
-    ensures frame { (p : List ℕ) → frame_of result p aside.new.value ≡ frame_of kept picture.old.value aside.old.value }
-    ensures whole { length aside.new.value ≡ picture_length }
-    ensures put_aside { result ≡ kinds.Picture → 224 ≤ line }
+    ensures frame { (p : List ℕ) → kept_frame pal result p aside.new.value ≡ kept_frame pal kept picture.old.value aside.old.value }
+    ensures whole { length aside.new.value ≡ memory_length }
+    ensures put_aside { result ≡ kinds.Picture → region.rows pal ≤ line }
 {
     match kept {
         Kept::Nowhere => {
@@ -58,7 +60,7 @@ fn make_room(
 /// Line 0 begins a picture.
 #[tactic(auto, unfolding(crate::specs::Picture::cleared))]
 fn begin(line: u32, picture: &mut [u8; PICTURE])
-    requires { length picture.old ≡ picture_length }
+    requires { length picture.old ≡ memory_length }
     ensures { picture.new ≡ cleared line picture.old }
 {
     if line == 0 {
@@ -70,6 +72,7 @@ fn begin(line: u32, picture: &mut [u8; PICTURE])
 /// stands then.
 #[tactic(auto, unfolding(crate::specs::Picture::drawn, crate::specs::Picture::finished))]
 pub fn draw(
+    pal: bool,
     scene: &Scene,
     line: u32,
     sprites: &[Dot; 320],
@@ -78,18 +81,22 @@ pub fn draw(
     aside: &mut Box<[u8; PICTURE]>,
 ) -> Kept
     requires colours { AllColours sprites.now }
-    requires free { kept ≡ kinds.Picture → 0 < line → 224 < line }
-    requires picture { length picture.old.value ≡ picture_length }
-    requires aside { length aside.old.value ≡ picture_length }
-    ensures picture { picture.new.value ≡ drawn line (row_of (seen scene.now) sprites.now line) (cleared line picture.old.value) }
-    ensures frame { frame_of result picture.new.value aside.new.value ≡ finished line picture.new.value (frame_of kept picture.old.value aside.old.value) }
-    ensures whole { length aside.new.value ≡ picture_length }
-    ensures free { result ≡ kinds.Picture → 224 ≤ line }
+    requires free { kept ≡ kinds.Picture → 0 < line → region.rows pal < line }
+    requires picture { length picture.old.value ≡ memory_length }
+    requires aside { length aside.old.value ≡ memory_length }
+    ensures picture { picture.new.value ≡ drawn pal line (row_of (seen scene.now) sprites.now line) (cleared line picture.old.value) }
+    ensures frame { kept_frame pal result picture.new.value aside.new.value ≡ finished pal line picture.new.value (kept_frame pal kept picture.old.value aside.old.value) }
+    ensures whole { length aside.new.value ≡ memory_length }
+    ensures free { result ≡ kinds.Picture → region.rows pal ≤ line }
 {
-    if line < HEIGHT {
-        let kept = make_room(line, kept, picture, aside);
+    if line < rows(pal) {
+        let kept = make_room(pal, line, kept, picture, aside);
         draw_row(scene, line, sprites, picture);
         return kept;
     }
-    if line == HEIGHT { Kept::Picture } else { kept }
+    if line == rows(pal) {
+        Kept::Picture
+    } else {
+        kept
+    }
 }

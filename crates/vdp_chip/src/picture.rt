@@ -1,21 +1,20 @@
-ghost use Rattle.std.specs.Prelude.{◌≡◌, ℕ, ◌<◌, true, false, length};
+ghost use Rattle.std.specs.Prelude.{◌≡◌, ℕ, ◌<◌, true, false, length, slice_index, slice_set};
 ghost use Rattle.vdp_planes.specs.Planes.{plane_dot};
 ghost use Rattle.vdp_planes.specs.View.{AllColours, clear, dot_at, has_bit, register, seen};
-ghost use Rattle.vdp_chip.specs.Picture.{blank, picture_length, row_of, with_row};
+ghost use Rattle.vdp_chip.specs.Picture.{blank, line_row, memory_length, row_of, with_row, without_bit_6};
 
 use vdp_planes::register::MODE_2;
 use vdp_planes::{Dot, Scene, draw_plane, mix_dots};
-use vdp_time::HEIGHT;
 
 /// Bytes of a row: red, green and blue of 320 dots.
 pub const ROW: usize = 960;
 
-/// Bytes of the picture.
-pub const PICTURE: usize = 215_040;
+/// Bytes that a picture takes: as many as one for PAL has.
+pub const PICTURE: usize = 230_400;
 
 /// Clears the picture.
 pub fn clear(picture: &mut [u8; PICTURE])
-    requires { length picture.old ≡ picture_length }
+    requires { length picture.old ≡ memory_length }
     ensures { picture.new ≡ blank }
 {
     picture.fill(0);
@@ -48,12 +47,46 @@ pub fn clear_dots() -> [Dot; 320]
     [Dot::new(0, false); 320]
 }
 
-/// Draws a row of the picture from the two planes and the sprites' dots.
+/// Draws a row of the picture from the two planes and the sprites' dots. Behind the lines of the display
+/// it shows the backdrop.
+#[tactic(auto, unfolding(crate::specs::Picture::row_of, crate::specs::Picture::on_row, crate::specs::Picture::hidden))]
 pub fn draw_row(scene: &Scene, line: u32, sprites: &[Dot; 320], picture: &mut [u8; PICTURE])
-    requires line { line < 224 }
+    requires line { line < 240 }
     requires colours { AllColours sprites.now }
-    requires whole { length picture.old ≡ picture_length }
+    requires whole { length picture.old ≡ memory_length }
     ensures { picture.new ≡ with_row line (row_of (seen scene.now) sprites.now line) picture.old }
+{
+    if line < scene.height() {
+        draw_line(scene, line, sprites, picture);
+    } else {
+        let registers = without_display(scene.registers);
+        let hidden = Scene {
+            registers: &registers,
+            vram: scene.vram,
+            cram: scene.cram,
+            vsram: scene.vsram,
+            pal: scene.pal,
+            tall: scene.tall,
+        };
+        draw_line(&hidden, line, sprites, picture);
+    }
+}
+
+/// The registers with the display off.
+fn without_display(registers: &[u8; 24]) -> [u8; 24]
+    ensures { result ≡ slice_set registers.now 1 (without_bit_6 (slice_index registers.now 1)) }
+{
+    let mut off = *registers;
+    off[MODE_2] = registers[MODE_2] / 128 * 128 + registers[MODE_2] % 64;
+    off
+}
+
+/// Draws a line as a scene has it as a row of the picture.
+fn draw_line(scene: &Scene, line: u32, sprites: &[Dot; 320], picture: &mut [u8; PICTURE])
+    requires line { line < 240 }
+    requires colours { AllColours sprites.now }
+    requires whole { length picture.old ≡ memory_length }
+    ensures { picture.new ≡ with_row line (line_row (seen scene.now) sprites.now line) picture.old }
 {
     let mut a = clear_dots();
     let mut b = clear_dots();

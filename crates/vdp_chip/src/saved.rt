@@ -1,21 +1,22 @@
-ghost use Rattle.std.specs.Prelude.{◌≡◌, ◌^◌, ◌<◌, ℕ, length, map, IfErr, IfOk};
+ghost use Rattle.std.specs.Prelude.{◌≡◌, ◌^◌, ◌<◌, ◌≤◌, ℕ, Bool, length, map, IfErr, IfOk};
 ghost use Rattle.md_fields.specs.Fields.{AreSized, seen};
 ghost use Rattle.md_fields.specs.Items.{IsRefused, IsRight, Keeps};
 ghost use Rattle.md_fields.specs.Places.{Stand};
 ghost use Rattle.vdp_chip.specs.Drawing as drawing;
-ghost use Rattle.vdp_chip.specs.Picture.{picture_length};
+ghost use Rattle.vdp_chip.specs.Picture.{memory_length};
 ghost use Rattle.vdp_chip.specs.Saved as rules;
 ghost use Rattle.vdp_chip.specs.Saved.{drawing_fields};
 ghost use Rattle.vdp_chip.specs.Spelling.{drawing_size};
 
-use crate::picture::{PICTURE, ROW};
+use crate::picture::ROW;
 use md_fields::{Field, are_zeros, first_wrong, u8_at, u64_at};
 use md_word::clock::LINE;
+use md_word::region::rows;
 use std::marker::Model;
 use vdp_time::line_of;
 
 /// How many bytes of a saved state keep the drawing half of a VDP.
-const LENGTH: usize = 215_050;
+const LENGTH: usize = 230_410;
 
 /// Where the picture stands among them.
 const DOTS: usize = 10;
@@ -32,22 +33,22 @@ pub struct SavedDrawing<'a> {
 
 impl<'a> Model for SavedDrawing<'a> {
     ghost use Rattle.std.specs.Prelude.{◌≡◌, length};
-    ghost use Rattle.vdp_chip.specs.Picture.{picture_length};
+    ghost use Rattle.vdp_chip.specs.Picture.{memory_length};
     ghost use Rattle.vdp_chip.specs.Saved.{DrawingNumbers};
 
     ghost Value = { DrawingNumbers };
 
     ghost view = { λ s. record { next = s.next; overflow = s.overflow; collision = s.collision; picture = s.picture.now } };
 
-    ghost invariant = { λ s. length s.picture.now ≡ picture_length };
+    ghost invariant = { λ s. length s.picture.now ≡ memory_length };
 }
 
 impl<'a> SavedDrawing<'a> {
     /// The numbers that stand in the bytes.
     #[tactic(auto, unfolding(md_fields::specs::Places::Stand))]
     fn read(bytes: &'a [u8]) -> SavedDrawing<'a>
-        requires { length bytes.now ≡ 215050 }
-        ensures { (at : ℕ) → Stand 0 (drawing_fields at result) bytes.now }
+        requires { length bytes.now ≡ 230410 }
+        ensures { (at : ℕ) (pal : Bool) → Stand 0 (drawing_fields at pal result) bytes.now }
     {
         SavedDrawing {
             next: u64_at(bytes, 0),
@@ -57,30 +58,30 @@ impl<'a> SavedDrawing<'a> {
         }
     }
 
-    /// The fields in their order, and whether their rules hold.
+    /// The fields in their order, and whether their rules hold in a state at a cycle and of a region.
     #[tactic(auto, unfolding(md_fields::specs::Fields::AreSized))]
-    pub fn fields(&self, at: u64) -> [Field<'_>; 4]
-        ensures fields { map seen result ≡ drawing_fields at self.now }
+    pub fn fields(&self, at: u64, pal: bool) -> [Field<'_>; 4]
+        ensures fields { map seen result ≡ drawing_fields at pal self.now }
         ensures sizes { AreSized (map seen result) }
     {
         [
             Field::Quad(self.next, is_first(self.next, at)),
             Field::Byte(self.overflow, self.overflow <= 1 && self.collision <= 1),
             Field::Byte(self.collision, true),
-            Field::Block(self.picture, is_picture(at, self.picture)),
+            Field::Block(self.picture, is_picture(at, pal, self.picture)),
         ]
     }
 
     /// The numbers that the bytes keep, where the rules hold of them; else the place of the refusal.
-    pub fn checked(bytes: &'a [u8], at: u64) -> Result<SavedDrawing<'a>, usize>
-        ensures found { IfOk result (λ n. Keeps (drawing_fields at) bytes.now n × IsRight (drawing_fields at) n) }
-        ensures refused { IfErr result (λ place. IsRefused drawing_size (drawing_fields at) bytes.now place) }
+    pub fn checked(bytes: &'a [u8], at: u64, pal: bool) -> Result<SavedDrawing<'a>, usize>
+        ensures found { IfOk result (λ n. Keeps (drawing_fields at pal) bytes.now n × IsRight (drawing_fields at pal) n) }
+        ensures refused { IfErr result (λ place. IsRefused drawing_size (drawing_fields at pal) bytes.now place) }
     {
         if bytes.len() != LENGTH {
             return Err(bytes.len().min(LENGTH));
         }
         let saved = SavedDrawing::read(bytes);
-        match first_wrong(&saved.fields(at)) {
+        match first_wrong(&saved.fields(at, pal)) {
             Some(place) => Err(place),
             None => Ok(saved),
         }
@@ -93,19 +94,22 @@ fn is_first(next: u64, at: u64) -> bool
     next % LINE == 0 && at <= next && next - at < LINE
 }
 
-/// The first row that is not drawn below a cycle; 224 or more where all are.
+/// The first row that is not drawn below a cycle: 224, on PAL 240, where all are.
 #[tactic(auto, unfolding(crate::specs::Drawing::undrawn_from))]
-fn undrawn_from(at: u64) -> u32
-    ensures row { result ≡ drawing.undrawn_from at }
-    ensures below { result < 263 }
+fn undrawn_from(at: u64, pal: bool) -> u32
+    ensures row { result ≡ drawing.undrawn_from at pal }
+    ensures most { result ≤ 240 }
 {
-    if at == 0 { 0 } else { line_of(at - 1) + 1 }
+    if at == 0 {
+        0
+    } else {
+        (line_of(at - 1, pal) + 1).min(rows(pal))
+    }
 }
 
-fn is_picture(at: u64, picture: &[u8]) -> bool
-    requires { length picture.now ≡ picture_length }
-    ensures { result ≡ rules.is_picture at picture.now }
+fn is_picture(at: u64, pal: bool, picture: &[u8]) -> bool
+    requires { length picture.now ≡ memory_length }
+    ensures { result ≡ rules.is_picture at pal picture.now }
 {
-    let drawn = ROW * undrawn_from(at) as usize;
-    drawn >= PICTURE || are_zeros(&picture[drawn..])
+    are_zeros(&picture[ROW * undrawn_from(at, pal) as usize..])
 }

@@ -1,6 +1,6 @@
 ghost use Rattle.std.specs.Prelude.{◌≡◌, ◌≢◌, ◌+◌, ◌^◌, ◌<◌, ◌≤◌, ◌++◌, ◌↔◌, ℕ, length, vec_len, vec_capacity, IfOk, IsErrOf, Ok, Err};
 ghost use Rattle.vdp_chip.specs.Drawing.{Drawing, IsDrawing};
-ghost use Rattle.vdp_chip.specs.Picture.{picture_length};
+ghost use Rattle.vdp_chip.specs.Picture.{memory_length};
 ghost use Rattle.vdp_chip.specs.Saved.{drawing_of, numbers_of};
 ghost use Rattle.vdp_chip.specs.Spelling.{GoesWrongAt, IsReady, Spells, drained, drawing_bytes, drawing_size};
 
@@ -34,7 +34,7 @@ impl ChipVdp {
         let _next = self.next;
     }
 
-    /// Appends the bytes of a saved state at a cycle that keep this chip, 215,050 in all. There is room
+    /// Appends the bytes of a saved state at a cycle that keep this chip, 230,410 in all. There is room
     /// for them. A frame that waits to be handed out is not kept. They are read again where the next event
     /// is the first of a line from the cycle on.
     pub fn spell(&self, at: u64, into: &mut Vec<u8>)
@@ -42,30 +42,30 @@ impl ChipVdp {
         ensures bytes { into.new.items ≡ into.old.items ++ drawing_bytes self.now }
         ensures length { vec_len into.new ≡ vec_len into.old + drawing_size }
         ensures room { vec_capacity into.old ≤ vec_capacity into.new }
-        ensures kept { IsReady at self.now → Spells at (drawing_bytes self.now) (drained self.now) }
+        ensures kept { IsReady at self.now → Spells at self.now.pal (drawing_bytes self.now) (drained self.now) }
     {
         self.known();
-        put(&self.saved().fields(at), into);
+        put(&self.saved().fields(at, self.pal), into);
     }
 
     /// Tells that the bytes of this chip are read again where its next event is the first of a line from a cycle
     /// on, with its view here and without a frame.
     pub fn is_read_again(&self)
-        ensures { (at : ℕ) → IsReady at self.now → Spells at (drawing_bytes self.now) (drained self.now) }
+        ensures { (at : ℕ) → IsReady at self.now → Spells at self.now.pal (drawing_bytes self.now) (drained self.now) }
     {
         self.known();
     }
 
-    /// The chip that the bytes of a saved state at a cycle keep, with its view here and without a
-    /// frame. Bytes that are not 215,050 are refused at the lesser of the two lengths, others at the place
-    /// of the first field whose rule fails. The picture is copied.
-    pub fn unspell(alloc: Global, bytes: &[u8], at: u64) -> Result<ChipVdp, Unspell>
-        ensures found { IfOk result (λ d. Spells at bytes.now d) }
-        ensures only { (d : Drawing) → Spells at bytes.now d → result ≢ Err Unspell.NoMemory → result ≡ Ok d }
-        ensures rule { (place : ℕ) → IsErrOf result (Unspell.Rule place) ↔ GoesWrongAt at bytes.now place }
+    /// The chip that the bytes of a saved state at a cycle and of a region keep, with its view here and
+    /// without a frame. Bytes that are not 230,410 are refused at the lesser of the two lengths, others at
+    /// the place of the first field whose rule fails. The picture is copied.
+    pub fn unspell(alloc: Global, bytes: &[u8], at: u64, pal: bool) -> Result<ChipVdp, Unspell>
+        ensures found { IfOk result (λ d. Spells at pal bytes.now d) }
+        ensures only { (d : Drawing) → Spells at pal bytes.now d → result ≢ Err Unspell.NoMemory → result ≡ Ok d }
+        ensures rule { (place : ℕ) → IsErrOf result (Unspell.Rule place) ↔ GoesWrongAt at pal bytes.now place }
     {
-        match SavedDrawing::checked(bytes, at) {
-            Ok(saved) => Ok(saved.chip(alloc)?),
+        match SavedDrawing::checked(bytes, at, pal) {
+            Ok(saved) => Ok(saved.chip(alloc, pal)?),
             Err(place) => Err(Unspell::Rule {
                 place: place as u64,
             }),
@@ -74,12 +74,12 @@ impl ChipVdp {
 }
 
 impl<'a> SavedDrawing<'a> {
-    /// The chip of which these numbers are kept. The picture is copied.
-    fn chip(&self, alloc: Global) -> Result<ChipVdp, NoMemory>
-        requires { IsDrawing (drawing_of self.now) }
-        ensures { IfOk result (λ chip. chip ≡ drawing_of self.now) }
+    /// The chip of a region of which these numbers are kept. The picture is copied.
+    fn chip(&self, alloc: Global, pal: bool) -> Result<ChipVdp, NoMemory>
+        requires { IsDrawing (drawing_of pal self.now) }
+        ensures { IfOk result (λ chip. chip ≡ drawing_of pal self.now) }
     {
-        let view = empty_view(alloc)?;
+        let view = empty_view(alloc, pal)?;
         let picture = copied(alloc, self.picture)?;
         let aside = black(alloc)?;
         Ok(ChipVdp {
@@ -92,13 +92,14 @@ impl<'a> SavedDrawing<'a> {
             picture,
             aside,
             kept: Kept::Nowhere,
+            pal,
         })
     }
 }
 
 /// A picture of these bytes.
 fn copied(alloc: Global, bytes: &[u8]) -> Result<Box<[u8; PICTURE]>, NoMemory>
-    requires { length bytes.now ≡ picture_length }
+    requires { length bytes.now ≡ memory_length }
     ensures { IfOk result (λ picture. picture.value ≡ bytes.now) }
 {
     let mut picture = Box::new(alloc, [0; PICTURE])?;

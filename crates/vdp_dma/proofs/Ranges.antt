@@ -1,5 +1,5 @@
 -- What is settled fits the bytes of a saved state, as what it was settled from did.
-use Rattle.std.proofs.Common.{◌≡◌, ◌∙◌, ℕ, zero, suc, ◌+◌, ◌-◌, ◌%◌, ◌^◌, ◌<◌, ◌≤◌, Bool, true, false, nat_lt, if◌then◌else◌, List, length, inl, inr, arith}
+use Rattle.std.proofs.Common.{◌≡◌, ◌∙◌, ℕ, zero, suc, ◌+◌, ◌%◌, ◌^◌, ◌<◌, ◌≤◌, Bool, true, false, nat_lt, if◌then◌else◌, List, length, inl, inr, subst, arith}
 use Rattle.std.proofs.lemmas.Bool.{cases_lt}
 use Rattle.std.proofs.lemmas.List.{length-set}
 use Rattle.vdp_ports.specs.Vdp.{Vdp}
@@ -10,6 +10,7 @@ use Rattle.vdp_ports.proofs.RuleLaws.{spelled_back}
 use Rattle.vdp_dma.specs.Settling.{advanced, copies, finished, moved, running, settled, vram_after, write}
 use Rattle.vdp_dma.proofs.Counts.{count}
 use Rattle.vdp_dma.proofs.Kept.{settled_is, settled_kept}
+use Rattle.vdp_dma.proofs.Regions.{settled_region}
 use Rattle.vdp_dma.proofs.Settled.{by-none, by-some}
 
 after-long : (s : Vdp) (n : ℕ) → length (vram_after s n) ≡ length s.vram
@@ -90,5 +91,7 @@ settled_range earlier at s behind far r h = elim (cases_lt 0 (count at s)) [
 ]
 
 -- the bytes of a VDP whose rules hold at a cycle, settled to a later one, are read again
-pub settled_spelled : (earlier at : ℕ) (s : Vdp) → earlier ≤ at → at ≤ 2 ^ 50 → IsInRange s → HasRules earlier s → Spells at (vdp_bytes (settled at s)) (settled at s)
-settled_spelled earlier at s behind far r h = spelled_back at (settled at s) (settled_range earlier at s behind far r h) (settled_is earlier at s behind h)
+pub settled_spelled : (earlier at : ℕ) (s : Vdp) → earlier ≤ at → at ≤ 2 ^ 50 → IsInRange s → HasRules earlier s → Spells at s.pal (vdp_bytes (settled at s)) (settled at s)
+settled_spelled earlier at s behind far r h =
+    subst (λ (pal : Bool). Spells at pal (vdp_bytes (settled at s)) (settled at s)) (settled_region at s)
+    (spelled_back at (settled at s) (settled_range earlier at s behind far r h) (settled_is earlier at s behind h))

@@ -204,7 +204,7 @@ fn rest_after(state: &VdpState, count: u32) -> Rest
     }
 }
 
-/// Appends the bytes of a saved state at a cycle that keep this VDP, 65,812 in all, as once its fill or
+/// Appends the bytes of a saved state at a cycle that keep this VDP, 65,813 in all, as once its fill or
 /// copy is settled to the cycle. There is room for them. They are read again where the rules hold at an
 /// earlier cycle. The VDP stays as it is.
 pub fn spell(state: &VdpState, at: u64, into: &mut Vec<u8>)
@@ -214,7 +214,7 @@ pub fn spell(state: &VdpState, at: u64, into: &mut Vec<u8>)
     ensures length { vec_len into.new ≡ vec_len into.old + vdp_size }
     ensures room { vec_capacity into.old ≤ vec_capacity into.new }
     ensures kept { (earlier : ℕ) → earlier ≤ at → HasRules earlier state.now
-        → Spells at (vdp_bytes (meaning.settled at state.now)) (meaning.settled at state.now) }
+        → Spells at state.now.pal (vdp_bytes (meaning.settled at state.now)) (meaning.settled at state.now) }
 {
     let count = due(state, at);
     if count == 0 {
@@ -230,7 +230,7 @@ pub fn spell(state: &VdpState, at: u64, into: &mut Vec<u8>)
 /// cycle.
 pub fn is_read_again(state: &VdpState)
     ensures { (earlier at : ℕ) → earlier ≤ at → at ≤ 2 ^ 50 → HasRules earlier state.now
-        → Spells at (vdp_bytes (meaning.settled at state.now)) (meaning.settled at state.now) }
+        → Spells at state.now.pal (vdp_bytes (meaning.settled at state.now)) (meaning.settled at state.now) }
 {
     state.known();
 }

@@ -1,5 +1,6 @@
 -- What a line is drawn from, and its dots.
-use Rattle.std.specs.Prelude.{◌≡◌, ℕ, ◌+◌, ◌*◌, ◌/◌, ◌%◌, ◌<◌, ◌≤◌, Bool, false, ◌==◌, List, length, slice_index, slice_index_or}
+use Rattle.std.specs.Prelude.{◌≡◌, ℕ, ◌+◌, ◌*◌, ◌/◌, ◌%◌, ◌<◌, ◌≤◌, Bool, false, ◌==◌, ◌&&◌, List, length, slice_index, slice_index_or}
+use Rattle.md_word.specs.Region.{height}
 use Rattle.vdp_planes.specs.Dots.{Dot}
 use Rattle.vdp_planes.specs.declared.view.LineView.{LineView}
 use Rattle.vdp_planes.specs.declared.view.Scene.{Scene}
@@ -7,11 +8,15 @@ use Rattle.vdp_ports.specs.Vdp.{Vdp}
 
 -- what a scene borrows
 abbrev pub seen : Scene → LineView
-seen s = record { registers = s.registers.now; vram = s.vram.now; cram = s.cram.now; vsram = s.vsram.now }
+seen s = record { registers = s.registers.now; vram = s.vram.now; cram = s.cram.now; vsram = s.vsram.now; pal = s.pal; tall = s.tall }
 
--- what a line is drawn from of the VDP
-abbrev pub view_of : Vdp → LineView
-view_of s = record { registers = s.registers; vram = s.vram; cram = s.cram; vsram = s.vsram }
+-- what a line of a picture of a region is drawn from of the VDP
+abbrev pub view_of : Bool → Vdp → LineView
+view_of pal s = record { registers = s.registers; vram = s.vram; cram = s.cram; vsram = s.vsram; pal = pal; tall = s.tall }
+
+-- the lines of the display, of which a picture for PAL may have 240
+abbrev pub display_height : LineView → ℕ
+display_height view = height (view.pal && view.tall)
 
 -- a register by its number
 abbrev pub register : LineView → ℕ → ℕ

@@ -1,18 +1,23 @@
-ghost use Rattle.std.specs.Prelude.{◌≡◌, ◌<◌, ◌%◌};
-ghost use Rattle.vdp_planes.specs.View.{seen, view_of};
+ghost use Rattle.std.specs.Prelude.{◌≡◌, ◌<◌, ◌≤◌, ◌%◌};
+ghost use Rattle.vdp_planes.specs.View.{display_height, seen, view_of};
 ghost use Rattle.vdp_planes.specs.Dots.{dot_of, word_of};
 
+use md_word::region::height;
 use std::marker::Model;
 use vdp_ports::VdpState;
 
-/// What a line is drawn from: the registers and memories of the VDP at the line's event. It takes
-/// 64 KiB: keep it in a box.
+/// What a line of a picture is drawn from: the registers and memories of the VDP at the line's event,
+/// and the height of its display. The region is that of the picture. It takes 64 KiB: keep it in a box.
 #[derive(Drop)]
 pub struct LineView {
     pub registers: [u8; 24],
     pub vram: [u8; 65536],
     pub cram: [u16; 64],
     pub vsram: [u16; 40],
+    /// Whether the picture is one for PAL.
+    pub pal: bool,
+    /// Whether the display has 240 lines, where the picture has them.
+    pub tall: bool,
 }
 
 /// The same, borrowed from where it stands.
@@ -22,6 +27,8 @@ pub struct Scene<'a> {
     pub vram: &'a [u8; 65536],
     pub cram: &'a [u16; 64],
     pub vsram: &'a [u16; 40],
+    pub pal: bool,
+    pub tall: bool,
 }
 
 /// A dot of a plane or of the sprites. A plane's dot has its name's priority also where it is
@@ -107,30 +114,46 @@ impl LineView {
             vram: &self.vram,
             cram: &self.cram,
             vsram: &self.vsram,
+            pal: self.pal,
+            tall: self.tall,
         }
     }
 }
 
-/// The VDP's registers and memories, borrowed as they stand.
-pub fn scene_of(state: &VdpState) -> Scene<'_>
-    ensures { seen result ≡ view_of state.now }
+/// The VDP's registers and memories, borrowed as they stand, for a picture of a region.
+pub fn scene_of(state: &VdpState, pal: bool) -> Scene<'_>
+    ensures { seen result ≡ view_of pal state.now }
 {
     Scene {
         registers: &state.registers,
         vram: &state.vram,
         cram: &state.cram,
         vsram: &state.vsram,
+        pal,
+        tall: state.tall,
     }
 }
 
-/// Fills a view with the VDP's registers and memories: a copy of 64 KiB.
+/// Fills a view with the VDP's registers, memories and height: a copy of 64 KiB. Its region stays.
 pub fn fill_view(view: &mut LineView, state: &VdpState)
-    ensures { view.new ≡ view_of state.now }
+    ensures { view.new ≡ view_of view.old.pal state.now }
 {
     view.registers = state.registers;
     view.vram = *state.vram;
     view.cram = state.cram;
     view.vsram = state.vsram;
+    view.tall = state.tall;
+}
+
+impl<'a> Scene<'a> {
+    /// The lines of the display, 224 or 240; behind them the rows of the picture show the backdrop.
+    #[inline]
+    pub fn height(&self) -> u32
+        ensures value { result ≡ display_height (seen self.now) }
+        ensures few { result ≤ 240 }
+    {
+        height(self.pal && self.tall)
+    }
 }
 
 /// What the sprites of a line have set.

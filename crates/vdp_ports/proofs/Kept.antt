@@ -22,6 +22,7 @@ unfolding dropped
 dropped-kept at s h = record {
   code = h.code;
   interval = h.interval;
+  region = h.region;
   cram = h.cram;
   vsram = h.vsram;
   going = record { known = omega arith; none = λ e. (refl, refl, refl, refl, refl); fill = λ e. absurd (omega (arith, e)); copy = λ e. absurd (omega (arith, e)) };
@@ -32,6 +33,7 @@ unfolding filling
 filling-kept cycle at word s l h = record {
   code = h.code;
   interval = h.interval;
+  region = h.region;
   cram = h.cram;
   vsram = h.vsram;
   going = record {
@@ -47,6 +49,7 @@ unfolding copying
 copying-kept cycle at s l h = record {
   code = h.code;
   interval = h.interval;
+  region = h.region;
   cram = h.cram;
   vsram = h.vsram;
   going = record {
@@ -59,16 +62,16 @@ copying-kept cycle at s l h = record {
 
 first-kept : (at word : ℕ) (s : Vdp) → HasRules at s → HasRules at (first word s)
 unfolding first
-first-kept at word s h = record { code = omega (arith, h.code); interval = h.interval; cram = h.cram; vsram = h.vsram; going = h.going }
+first-kept at word s h = record { code = omega (arith, h.code); interval = h.interval; region = h.region; cram = h.cram; vsram = h.vsram; going = h.going }
 
 second-kept : (at word : ℕ) (s : Vdp) → HasRules at s → HasRules at (second word s)
 unfolding second
-second-kept at word s h = record { code = omega arith; interval = h.interval; cram = h.cram; vsram = h.vsram; going = h.going }
+second-kept at word s h = record { code = omega arith; interval = h.interval; region = h.region; cram = h.cram; vsram = h.vsram; going = h.going }
 
 -- the fields of a fill or copy, the code and the two tables are all that the rules look at
 accessed-kept : (at : ℕ) (s : Vdp) → HasRules at s → HasRules at (accessed s)
 unfolding accessed
-accessed-kept at s h = record { code = h.code; interval = h.interval; cram = h.cram; vsram = h.vsram; going = h.going }
+accessed-kept at s h = record { code = h.code; interval = h.interval; region = h.region; cram = h.cram; vsram = h.vsram; going = h.going }
 
 -- a choice keeps the rules where both of its sides do
 pub kept_if : (b : Bool) (at : ℕ) (s t : Vdp) → (b ≡ true → HasRules at s) → (b ≡ false → HasRules at t) → HasRules at (if b then s else t)
@@ -78,7 +81,7 @@ kept_if false at s t h k = k refl
 stored-kept : (at word : ℕ) (s : Vdp) → HasRules at s → HasRules at (stored word s)
 unfolding stored
 stored-kept at word s h = kept_if (nat_lt (word / 256 % 32) 24) at _ _
-    (λ e. record { code = h.code; interval = h.interval; cram = h.cram; vsram = h.vsram; going = h.going }) (λ e. h)
+    (λ e. record { code = h.code; interval = h.interval; region = h.region; cram = h.cram; vsram = h.vsram; going = h.going }) (λ e. h)
 
 and-twice : (m w : ℕ) → bit_and (bit_and w m) m ≡ bit_and w m
 and-twice m w = and_assoc m w m ∙ ap (bit_and w) (and_self m)
@@ -87,11 +90,12 @@ put-kept : (at word : ℕ) (s : Vdp) → HasRules at s → HasRules at (put word
 unfolding put
 put-kept at word s h =
     kept_if (s.code % 16 == 1) at _ _
-    (λ e. record { code = h.code; interval = h.interval; cram = h.cram; vsram = h.vsram; going = h.going })
+    (λ e. record { code = h.code; interval = h.interval; region = h.region; cram = h.cram; vsram = h.vsram; going = h.going })
     (λ e. kept_if (s.code % 16 == 3) at _ _
     (λ f. record {
       code = h.code;
       interval = h.interval;
+      region = h.region;
       cram = All-set (λ w. bit_and w 0x0eee ≡ w) s.cram (s.a / 2 % 64) (bit_and word 0x0eee) (and-twice 0x0eee word) h.cram;
       vsram = h.vsram;
       going = h.going;
@@ -100,6 +104,7 @@ put-kept at word s h =
     (λ g. record {
       code = h.code;
       interval = h.interval;
+      region = h.region;
       cram = h.cram;
       vsram = All-set (λ w. bit_and w 0x07ff ≡ w) s.vsram (s.a / 2 % 64) (bit_and word 0x07ff) (and-twice 0x07ff word) h.vsram;
       going = h.going;
@@ -115,7 +120,7 @@ accessed_kept at s h = accessed-kept at s h
 
 pub status_read_kept : (at : ℕ) (s : Vdp) → HasRules at s → HasRules at (status_read s)
 unfolding status_read
-status_read_kept at s h = record { code = h.code; interval = h.interval; cram = h.cram; vsram = h.vsram; going = h.going }
+status_read_kept at s h = record { code = h.code; interval = h.interval; region = h.region; cram = h.cram; vsram = h.vsram; going = h.going }
 
 pub written_kept : (cycle at word : ℕ) (s : Vdp) → cycle < at → HasRules at s → HasRules at (written cycle word s)
 unfolding written
@@ -125,7 +130,7 @@ written_kept cycle at word s l h =
 armed-kept : (at : ℕ) (s : Vdp) → HasRules at s → HasRules at (armed s)
 unfolding armed
 armed-kept at s h = (let d = dropped-kept at s h in
-    record { code = d.code; interval = d.interval; cram = d.cram; vsram = d.vsram; going = d.going })
+    record { code = d.code; interval = d.interval; region = d.region; cram = d.cram; vsram = d.vsram; going = d.going })
 
 started-kept : (cycle at : ℕ) (s : Vdp) → cycle < at → HasRules at s → HasRules at (started cycle s)
 unfolding started
@@ -143,13 +148,14 @@ pub acknowledged_kept : (at level : ℕ) (s : Vdp) → HasRules at s → HasRule
 unfolding acknowledged
 acknowledged_kept at level s h =
     kept_if (level == 6) at _ _
-    (λ e. record { code = h.code; interval = h.interval; cram = h.cram; vsram = h.vsram; going = h.going })
-    (λ e. kept_if (level == 4) at _ _ (λ f. record { code = h.code; interval = h.interval; cram = h.cram; vsram = h.vsram; going = h.going }) (λ f. h))
+    (λ e. record { code = h.code; interval = h.interval; region = h.region; cram = h.cram; vsram = h.vsram; going = h.going })
+    (λ e. kept_if (level == 4) at _ _ (λ f. record { code = h.code; interval = h.interval; region = h.region; cram = h.cram; vsram = h.vsram; going = h.going }) (λ f. h))
 
-pub power_on_rules : (at : ℕ) → HasRules at at_power_on
-power_on_rules at = record {
+pub power_on_rules : (at : ℕ) (pal : Bool) → HasRules at (at_power_on pal)
+power_on_rules at pal = record {
   code = omega arith;
   interval = inl (refl, refl);
+  region = λ e. absurd (cc e);
   cram = All-replicate (λ w. bit_and w 0x0eee ≡ w) 64 0 refl;
   vsram = All-replicate (λ w. bit_and w 0x07ff ≡ w) 40 0 refl;
   going = record { known = omega arith; none = λ e. (refl, refl, refl, refl, refl); fill = λ e. absurd (omega (arith, e)); copy = λ e. absurd (omega (arith, e)) };

@@ -1,5 +1,6 @@
 pub mod ByCases
 pub mod Kept
+pub mod Regions
 pub mod RuleLaws
 pub mod Same
 pub mod SavedLaws

@@ -16,7 +16,7 @@ use Rattle.vdp_ports.specs.Ranges.{IsInRange}
 use Rattle.vdp_ports.specs.Rules.{IsGoing, IsInterval}
 use Rattle.vdp_ports.specs.Saved.{have_only, vdp_fields}
 use Rattle.vdp_ports.specs.Spelling.{IsSettled, Spells, vdp_bytes}
-use Rattle.vdp_ports.specs.Vdp.{IsVdp, Vdp}
+use Rattle.vdp_ports.specs.Vdp.{Vdp}
 use Rattle.vdp_ports.proofs.SavedLaws.{same_bytes}
 
 -- ---- colours and scrolls
@@ -156,12 +156,25 @@ pub flag_small : (flag : Bool) → leb (flag_number flag) 1 ≡ true
 flag_small true = refl
 flag_small false = refl
 
+-- ---- the height of the display
+
+region_from : (tall pal : Bool) → leb (flag_number tall) (flag_number pal) ≡ true → tall ≡ true → pal ≡ true
+region_from true true e f = refl
+region_from true false e f = absurd (cc e)
+region_from false pal e f = absurd (cc f)
+
+region_to : (tall pal : Bool) → (tall ≡ true → pal ≡ true) → leb (flag_number tall) (flag_number pal) ≡ true
+region_to true true h = refl
+region_to true false h = absurd (cc (h refl))
+region_to false true h = refl
+region_to false false h = refl
+
 -- ---- all of them
 
-pub settled_from : (at : ℕ) (s : Vdp) → IsRight (vdp_fields at) (numbers_of s) → IsSettled at s
+pub settled_from : (at : ℕ) (s : Vdp) → IsRight (vdp_fields at s.pal) (numbers_of s) → IsSettled at s
 unfolding AllHold
 settled_from at s right =
-    let h0 = all_hold 0 (vdp_fields at (numbers_of s)) right in
+    let h0 = all_hold 0 (vdp_fields at s.pal (numbers_of s)) right in
     let h1 = h0.1 in
     let h2 = h1.1 in
     let h3 = h2.1 in
@@ -182,6 +195,7 @@ settled_from at s right =
     let h18 = h17.1 in
     let h19 = h18.1 in
     let h20 = h19.1 in
+    let h21 = h20.1 in
     let goes = goes_from at s.dma_kind s.byte s.source s.address s.left s.next_stamp (record { known = h8.0; byte = h9.0; source = h10.0; address = h11.0; left = h12.0; next = h13.0 }) in
     record {
       rules = record {
@@ -190,16 +204,17 @@ settled_from at s right =
         vsram = only_from 0x07ff s.vsram h3.0;
         going = goes.0;
         interval = interval_from at s.int_from s.int_to h20.0;
+        region = region_from s.tall s.pal h21.0;
       };
       settled = goes.1;
     }
 
-pub right_to : (at : ℕ) (s : Vdp) → IsSettled at s → IsRight (vdp_fields at) (numbers_of s)
+pub right_to : (at : ℕ) (s : Vdp) → IsSettled at s → IsRight (vdp_fields at s.pal) (numbers_of s)
 unfolding AllHold
 right_to at s is =
     let r = is.rules in
     let g = goes_to at s.dma_kind s.byte s.source s.address s.left s.next_stamp r.going is.settled in
-    none_wrong 0 (vdp_fields at (numbers_of s)) (
+    none_wrong 0 (vdp_fields at s.pal (numbers_of s)) (
       refl,
       (
         refl,
@@ -227,7 +242,7 @@ right_to at s is =
                               g.left,
                               (
                                 g.next,
-                                (flag_small s.vertical, (flag_small s.horizontal, (flag_small s.overflow, (flag_small s.collision, (refl, (refl, (interval_to at s.int_from s.int_to r.interval, tt))))))),
+                                (flag_small s.vertical, (flag_small s.horizontal, (flag_small s.overflow, (flag_small s.collision, (refl, (refl, (interval_to at s.int_from s.int_to r.interval, (region_to s.tall s.pal r.region, tt)))))))),
                               ),
                             ),
                           ),
@@ -252,7 +267,7 @@ flag_byte false = omega arith
 are_words : (ws : List ℕ) → ((k : ℕ) → slice_index ws k < 2 ^ 16) → AllByRecursion (λ n. n < 2 ^ 16) ws
 are_words ws h = recursion_from_All (λ n. n < 2 ^ 16) ws (All-from_get_or (λ n. n < 2 ^ 16) ws 0 (λ k lt. h k))
 
-within : (at : ℕ) (s : Vdp) → IsInRange s → AreWithin (vdp_fields at (numbers_of s))
+within : (at : ℕ) (s : Vdp) → IsInRange s → AreWithin (vdp_fields at s.pal (numbers_of s))
 unfolding AreWithin
 within at s r = (
   r.sizes.of_registers,
@@ -282,7 +297,7 @@ within at s r = (
                           r.left,
                           (
                             r.next_stamp,
-                            (flag_byte s.vertical, (flag_byte s.horizontal, (flag_byte s.overflow, (flag_byte s.collision, (r.line_counter, (r.int_from, (r.int_to, tt))))))),
+                            (flag_byte s.vertical, (flag_byte s.horizontal, (flag_byte s.overflow, (flag_byte s.collision, (r.line_counter, (r.int_from, (r.int_to, (flag_byte s.tall, tt)))))))),
                           ),
                         ),
                       ),
@@ -298,8 +313,9 @@ within at s r = (
   ),
 )
 
-pub spelled_back : (at : ℕ) (s : Vdp) → IsInRange s → IsSettled at s → Spells at (vdp_bytes s) s
+pub spelled_back : (at : ℕ) (s : Vdp) → IsInRange s → IsSettled at s → Spells at s.pal (vdp_bytes s) s
 spelled_back at s range is = record {
-  keeps = record { within = within at s range; all = same_bytes 0 at (numbers_of s) };
+  keeps = record { within = within at s range; all = same_bytes 0 at false s.pal (numbers_of s) };
   right = right_to at s is;
+  region = refl;
 }

@@ -1,29 +1,30 @@
 -- Laws of what a saved state keeps of the VDP.
-use Rattle.std.proofs.Common.{◌≡◌, ℕ, List, refl, sym, ap, subst, ◌∙◌}
+use Rattle.std.proofs.Common.{◌≡◌, ℕ, ◌≤◌, Bool, true, false, List, refl, sym, ap, subst, ◌∙◌, arith}
 use Rattle.std.proofs.lemmas.Bool.{leb-true}
 use Rattle.md_fields.specs.Fields.{AllHold, sizes, spelling}
 use Rattle.md_fields.specs.Items.{IsRight, Keeps}
 use Rattle.md_fields.specs.Places.{Stand}
 use Rattle.md_fields.proofs.Flags.{flag_again, flag_back}
 use Rattle.md_fields.proofs.Items.{all_hold, not_both, one_place, same, same_words}
+use Rattle.md_word.specs.Coding.{flag_number}
 use Rattle.vdp_ports.specs.Numbers.{VdpNumbers, numbers_of, vdp_of}
 use Rattle.vdp_ports.specs.Saved.{vdp_fields}
 use Rattle.vdp_ports.specs.Spelling.{GoesWrongAt, Spells, vdp_size}
 use Rattle.vdp_ports.specs.Vdp.{Vdp}
 
--- the bytes do not depend on the cycle
-pub same_bytes : (at other : ℕ) (n : VdpNumbers) → spelling (vdp_fields at n) ≡ spelling (vdp_fields other n)
+-- the bytes depend neither on the cycle nor on the region
+pub same_bytes : (at other : ℕ) (pal region : Bool) (n : VdpNumbers) → spelling (vdp_fields at pal n) ≡ spelling (vdp_fields other region n)
 unfolding spelling
-same_bytes at other n = refl
+same_bytes at other pal region n = refl
 
-pub fields_size : (at : ℕ) (n : VdpNumbers) → sizes (vdp_fields at n) ≡ vdp_size
+pub fields_size : (at : ℕ) (pal : Bool) (n : VdpNumbers) → sizes (vdp_fields at pal n) ≡ vdp_size
 unfolding sizes
-fields_size at n = refl
+fields_size at pal n = refl
 
 -- the numbers that stand in bytes are the only ones
-pub only_one : (at : ℕ) (bytes : List ℕ) (s t : VdpNumbers) → Stand 0 (vdp_fields at s) bytes → Stand 0 (vdp_fields at t) bytes → s ≡ t
+pub only_one : (at : ℕ) (pal : Bool) (bytes : List ℕ) (s t : VdpNumbers) → Stand 0 (vdp_fields at pal s) bytes → Stand 0 (vdp_fields at pal t) bytes → s ≡ t
 unfolding Stand
-only_one at bytes s t p0 q0 =
+only_one at pal bytes s t p0 q0 =
     let p1 = p0.1 in let q1 = q0.1 in
     let p2 = p1.1 in let q2 = q1.1 in
     let p3 = p2.1 in let q3 = q2.1 in
@@ -44,6 +45,7 @@ only_one at bytes s t p0 q0 =
     let p18 = p17.1 in let q18 = q17.1 in
     let p19 = p18.1 in let q19 = q18.1 in
     let p20 = p19.1 in let q20 = q19.1 in
+    let p21 = p20.1 in let q21 = q20.1 in
     λ i. record {
       registers = (p0.0 ∙ sym q0.0) i;
       vram = (p1.0 ∙ sym q1.0) i;
@@ -66,10 +68,11 @@ only_one at bytes s t p0 q0 =
       line_counter = (p18.0 ∙ sym q18.0) i;
       int_from = (p19.0 ∙ sym q19.0) i;
       int_to = (p20.0 ∙ sym q20.0) i;
+      tall = (p21.0 ∙ sym q21.0) i;
     }
 
 -- a VDP is that of its numbers
-pub vdp_again : (s : Vdp) → vdp_of (numbers_of s) ≡ s
+pub vdp_again : (s : Vdp) → vdp_of s.pal (numbers_of s) ≡ s
 vdp_again s = λ i. record {
   registers = s.registers;
   vram = s.vram;
@@ -92,13 +95,20 @@ vdp_again s = λ i. record {
   line_counter = s.line_counter;
   int_from = s.int_from;
   int_to = s.int_to;
+  pal = s.pal;
+  tall = flag_again s.tall i;
 }
 
+-- what is at most a flag is at most 1
+flag_below : (n : ℕ) (flag : Bool) → n ≤ flag_number flag → n ≤ 1
+flag_below n true l = l
+flag_below n false l = omega (arith, l)
+
 -- the numbers that are right are those of their VDP
-pub numbers_back : (at : ℕ) (n : VdpNumbers) → IsRight (vdp_fields at) n → numbers_of (vdp_of n) ≡ n
+pub numbers_back : (at : ℕ) (pal : Bool) (n : VdpNumbers) → IsRight (vdp_fields at pal) n → numbers_of (vdp_of pal n) ≡ n
 unfolding AllHold
-numbers_back at n right =
-    let h0 = all_hold 0 (vdp_fields at n) right in
+numbers_back at pal n right =
+    let h0 = all_hold 0 (vdp_fields at pal n) right in
     let h1 = h0.1 in
     let h2 = h1.1 in
     let h3 = h2.1 in
@@ -119,6 +129,7 @@ numbers_back at n right =
     let h18 = h17.1 in
     let h19 = h18.1 in
     let h20 = h19.1 in
+    let h21 = h20.1 in
     λ i. record {
       registers = n.registers;
       vram = n.vram;
@@ -141,23 +152,27 @@ numbers_back at n right =
       line_counter = n.line_counter;
       int_from = n.int_from;
       int_to = n.int_to;
+      tall = flag_back n.tall (flag_below n.tall pal (leb-true n.tall (flag_number pal) h21.0)) i;
     }
 
 -- ---- what bytes keep
 
-pub spells : (at : ℕ) (bytes : List ℕ) (n : VdpNumbers) → Keeps (vdp_fields at) bytes n → IsRight (vdp_fields at) n → Spells at bytes (vdp_of n)
-spells at bytes n keeps right =
-    let e : numbers_of (vdp_of n) ≡ n = numbers_back at n right in
+pub spells : (at : ℕ) (pal : Bool) (bytes : List ℕ) (n : VdpNumbers) → Keeps (vdp_fields at pal) bytes n → IsRight (vdp_fields at pal) n → Spells at pal bytes (vdp_of pal n)
+spells at pal bytes n keeps right =
+    let e : numbers_of (vdp_of pal n) ≡ n = numbers_back at pal n right in
     record {
-      keeps = subst (Keeps (vdp_fields at) bytes) (sym e) keeps;
-      right = subst (λ (x : VdpNumbers). IsRight (vdp_fields at) x) (sym e) right;
+      keeps = subst (Keeps (vdp_fields at pal) bytes) (sym e) keeps;
+      right = subst (λ (x : VdpNumbers). IsRight (vdp_fields at pal) x) (sym e) right;
+      region = refl;
     }
 
-pub no_other : (at : ℕ) (bytes : List ℕ) (n : VdpNumbers) (s : Vdp) → Keeps (vdp_fields at) bytes n → Spells at bytes s → vdp_of n ≡ s
-no_other at bytes n s keeps p = ap vdp_of (same (vdp_fields at) bytes (only_one at bytes) n (numbers_of s) keeps p.keeps) ∙ vdp_again s
+pub no_other : (at : ℕ) (pal : Bool) (bytes : List ℕ) (n : VdpNumbers) (s : Vdp) → Keeps (vdp_fields at pal) bytes n → Spells at pal bytes s → vdp_of pal n ≡ s
+no_other at pal bytes n s keeps p =
+    ap (vdp_of pal) (same (vdp_fields at pal) bytes (only_one at pal bytes) n (numbers_of s) keeps p.keeps)
+    ∙ ap (λ (b : Bool). vdp_of b (numbers_of s)) (sym p.region) ∙ vdp_again s
 
-pub right_not_refused : (at : ℕ) (bytes : List ℕ) (n : VdpNumbers) (place : ℕ) → Keeps (vdp_fields at) bytes n → IsRight (vdp_fields at) n → GoesWrongAt at bytes place → ⊥
-right_not_refused at bytes n place keeps right wrong = not_both (vdp_fields at) bytes (only_one at bytes) vdp_size n place keeps right (fields_size at n) wrong
+pub right_not_refused : (at : ℕ) (pal : Bool) (bytes : List ℕ) (n : VdpNumbers) (place : ℕ) → Keeps (vdp_fields at pal) bytes n → IsRight (vdp_fields at pal) n → GoesWrongAt at pal bytes place → ⊥
+right_not_refused at pal bytes n place keeps right wrong = not_both (vdp_fields at pal) bytes (only_one at pal bytes) vdp_size n place keeps right (fields_size at pal n) wrong
 
-pub only_place : (at : ℕ) (bytes : List ℕ) (p q : ℕ) → GoesWrongAt at bytes p → GoesWrongAt at bytes q → p ≡ q
-only_place at bytes p q a b = one_place (vdp_fields at) bytes (only_one at bytes) vdp_size (fields_size at) p q a b
+pub only_place : (at : ℕ) (pal : Bool) (bytes : List ℕ) (p q : ℕ) → GoesWrongAt at pal bytes p → GoesWrongAt at pal bytes q → p ≡ q
+only_place at pal bytes p q a b = one_place (vdp_fields at pal) bytes (only_one at pal bytes) vdp_size (fields_size at pal) p q a b

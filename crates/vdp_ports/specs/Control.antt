@@ -65,10 +65,10 @@ started_by word s = if s.pending then transfer_of (second word s) else None
 abbrev pub bit : Bool → ℕ
 bit b = if b then 1 else 0
 
--- the status word
+-- the status word, of which bit 0 tells the region
 unfoldable pub status : Bool → Bool → Bool → Vdp → ℕ
 status busy hb vb s =
-    512 + 128 * bit s.vertical + 64 * bit s.overflow + 32 * bit s.collision + 8 * bit vb + 4 * bit hb + 2 * bit busy
+    512 + 128 * bit s.vertical + 64 * bit s.overflow + 32 * bit s.collision + 8 * bit vb + 4 * bit hb + 2 * bit busy + bit s.pal
 
 -- a status read ends the pending state, and clears overflow and collision
 unfoldable pub status_read : Vdp → Vdp

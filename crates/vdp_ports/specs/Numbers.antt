@@ -1,6 +1,6 @@
--- The numbers that a saved state keeps of the VDP, whatever they are, in their order. This project's
--- profile.
-use Rattle.std.specs.Prelude.{ℕ, ◌==◌, List}
+-- The numbers that a saved state keeps of the VDP, whatever they are, in their order. The region stands
+-- elsewhere in the state. This project's profile.
+use Rattle.std.specs.Prelude.{ℕ, ◌==◌, Bool, List}
 use Rattle.md_word.specs.Coding.{flag_number}
 use Rattle.vdp_ports.specs.Vdp.{Vdp}
 
@@ -27,6 +27,7 @@ pub record VdpNumbers : Type 0 where
   pub line_counter : ℕ
   pub int_from : ℕ
   pub int_to : ℕ
+  pub tall : ℕ
 
 -- what is kept of a VDP: a flag is 0 or 1
 abbrev pub numbers_of : Vdp → VdpNumbers
@@ -52,11 +53,12 @@ numbers_of s = record {
   line_counter = s.line_counter;
   int_from = s.int_from;
   int_to = s.int_to;
+  tall = flag_number s.tall;
 }
 
--- the VDP of which these numbers are kept
-abbrev pub vdp_of : VdpNumbers → Vdp
-vdp_of n = record {
+-- the VDP of a region of which these numbers are kept
+abbrev pub vdp_of : Bool → VdpNumbers → Vdp
+vdp_of pal n = record {
   registers = n.registers;
   vram = n.vram;
   cram = n.cram;
@@ -78,4 +80,6 @@ vdp_of n = record {
   line_counter = n.line_counter;
   int_from = n.int_from;
   int_to = n.int_to;
+  pal = pal;
+  tall = n.tall == 1;
 }

@@ -1,6 +1,6 @@
 -- What holds of a VDP's values from power-on on, and of every saved one. Each holds at a cycle that
 -- lies above all that has happened.
-use Rattle.std.specs.Prelude.{◌≡◌, ℕ, ◌+◌, ◌%◌, ◌<◌, ◌≤◌, ◌⊎◌, All, bit_and}
+use Rattle.std.specs.Prelude.{◌≡◌, ℕ, ◌+◌, ◌%◌, ◌<◌, ◌≤◌, ◌⊎◌, true, All, bit_and}
 use Rattle.md_word.specs.Clock.{line}
 use Rattle.vdp_ports.specs.Vdp.{Vdp}
 
@@ -11,14 +11,15 @@ pub record IsGoing (at kind byte source address left next : ℕ) : Type 0 where
   pub fill : kind ≡ 1 → (source ≡ 0) × (0 < left) × (left ≤ 0x1_0000) × (next < at + 17)
   pub copy : kind ≡ 2 → (byte ≡ 0) × (0 < left) × (left ≤ 0x1_0000) × (next < at + 34)
 
--- the Z80's interrupt is asked for during line 224: none came yet, or the last began below the cycle
+-- the Z80's interrupt is asked for during the line behind the display: none came yet, or the last began below the cycle
 abbrev pub IsInterval : ℕ → ℕ → ℕ → Type 0
 IsInterval at from to = ((from ≡ 0) × (to ≡ 0)) ⊎ ((from % line ≡ 0) × (from < at) × (to ≡ from + line))
 
--- the code is CD5 to CD0, colours and scrolls have only their bits
+-- the code is CD5 to CD0, colours and scrolls have only their bits, and only on PAL the display is tall
 pub record HasRules (at : ℕ) (s : Vdp) : Type 0 where
   pub code : s.code < 64
   pub cram : All (λ w. bit_and w 0x0eee ≡ w) s.cram
   pub vsram : All (λ w. bit_and w 0x07ff ≡ w) s.vsram
   pub going : IsGoing at s.dma_kind s.byte s.source s.address s.left s.next_stamp
   pub interval : IsInterval at s.int_from s.int_to
+  pub region : s.tall ≡ true → s.pal ≡ true

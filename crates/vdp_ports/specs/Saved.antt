@@ -5,6 +5,7 @@ use Rattle.std.specs.List.{list_all}
 use Rattle.md_fields.specs.Distances.{is_after}
 use Rattle.md_fields.specs.Fields.{Field, byte, word, long, quad, words, block}
 use Rattle.md_word.specs.Clock.{line}
+use Rattle.md_word.specs.Coding.{flag_number}
 use Rattle.vdp_ports.specs.Numbers.{VdpNumbers}
 
 -- each word has only these bits
@@ -42,9 +43,10 @@ is_begun at n = (n.int_from % line == 0) && (nat_lt n.int_from at && is_after n.
 abbrev pub is_interval : ℕ → VdpNumbers → Bool
 is_interval at n = ((n.int_from == 0) && (n.int_to == 0)) || is_begun at n
 
--- the fields in their order, and their rules, by the cycle of the state
-abbrev pub vdp_fields : ℕ → VdpNumbers → List Field
-vdp_fields at n =
+-- the fields in their order, and their rules, by the cycle of the state and its region: only on PAL
+-- the display may be tall
+abbrev pub vdp_fields : ℕ → Bool → VdpNumbers → List Field
+vdp_fields at pal n =
     block 24 n.registers true
     ∷ block 0x1_0000 n.vram true
     ∷ words 64 n.cram (have_only 0x0eee n.cram)
@@ -66,4 +68,5 @@ vdp_fields at n =
     ∷ byte n.line_counter true
     ∷ quad n.int_from true
     ∷ quad n.int_to (is_interval at n)
+    ∷ byte n.tall (nat_le n.tall (flag_number pal))
     ∷ []

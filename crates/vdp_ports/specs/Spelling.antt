@@ -1,5 +1,5 @@
 -- The bytes of a saved state that keep the VDP. This project's profile.
-use Rattle.std.specs.Prelude.{ℕ, ◌<◌, ◌≤◌, List}
+use Rattle.std.specs.Prelude.{◌≡◌, ℕ, ◌<◌, ◌≤◌, Bool, false, List}
 use Rattle.md_fields.specs.Fields.{spelling}
 use Rattle.md_fields.specs.Items.{IsRefused, IsRight, Keeps}
 use Rattle.vdp_ports.specs.Numbers.{numbers_of}
@@ -9,21 +9,22 @@ use Rattle.vdp_ports.specs.Vdp.{Vdp}
 
 -- how many bytes there are
 abbrev pub vdp_size : ℕ
-vdp_size = 65812
+vdp_size = 65813
 
--- the bytes that keep a VDP; the rules, and so the cycle, have no part in them
+-- the bytes that keep a VDP; the rules, and so the cycle and the region, have no part in them
 abbrev pub vdp_bytes : Vdp → List ℕ
-vdp_bytes s = spelling (vdp_fields 0 (numbers_of s))
+vdp_bytes s = spelling (vdp_fields 0 false (numbers_of s))
 
--- the bytes of a state at a cycle keep the VDP, whose rules hold
-pub record Spells (at : ℕ) (bytes : List ℕ) (s : Vdp) : Type 0 where
-  pub keeps : Keeps (vdp_fields at) bytes (numbers_of s)
-  pub right : IsRight (vdp_fields at) (numbers_of s)
+-- the bytes of a state at a cycle and of a region keep the VDP, whose rules hold
+pub record Spells (at : ℕ) (pal : Bool) (bytes : List ℕ) (s : Vdp) : Type 0 where
+  pub keeps : Keeps (vdp_fields at pal) bytes (numbers_of s)
+  pub right : IsRight (vdp_fields at pal) (numbers_of s)
+  pub region : s.pal ≡ pal
 
--- bytes of a state at a cycle that keep no VDP are refused at this place: by their length, or by the
--- first rule that fails
-abbrev pub GoesWrongAt : ℕ → List ℕ → ℕ → Type 0
-GoesWrongAt at bytes place = IsRefused vdp_size (vdp_fields at) bytes place
+-- bytes of a state at a cycle and of a region that keep no VDP are refused at this place: by their
+-- length, or by the first rule that fails
+abbrev pub GoesWrongAt : ℕ → Bool → List ℕ → ℕ → Type 0
+GoesWrongAt at pal bytes place = IsRefused vdp_size (vdp_fields at pal) bytes place
 
 -- the values that a state at a cycle may have: those that the ports keep, where what goes on is
 -- settled to it

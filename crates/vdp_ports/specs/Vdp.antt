@@ -26,6 +26,10 @@ pub record Vdp : Type 0 where
   pub line_counter : ℕ
   pub int_from : ℕ
   pub int_to : ℕ
+  -- whether the console is one for PAL
+  pub pal : Bool
+  -- whether the display has 240 lines, which it may have on PAL alone
+  pub tall : Bool
 
 -- the sizes of the registers and the three memories, which hold of each VDP
 pub record IsVdp (registers vram cram vsram : List ℕ) : Type 0 where
@@ -38,9 +42,9 @@ pub record IsVdp (registers vram cram vsram : List ℕ) : Type 0 where
 abbrev pub register : Vdp → ℕ → ℕ
 register s n = slice_index s.registers n
 
--- at power-on all is 0
-abbrev pub at_power_on : Vdp
-at_power_on = record {
+-- at power-on all is 0 but the region
+abbrev pub at_power_on : Bool → Vdp
+at_power_on pal = record {
   registers = replicate 24 0;
   vram = replicate 0x1_0000 0;
   cram = replicate 64 0;
@@ -62,4 +66,6 @@ at_power_on = record {
   line_counter = 0;
   int_from = 0;
   int_to = 0;
+  pal = pal;
+  tall = false;
 }

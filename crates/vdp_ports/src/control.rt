@@ -26,8 +26,8 @@ impl VdpState {
         self.write_control(cycle, word)
     }
 
-    /// The status word, with the busy bit and HB and VB as they are given. Reading it ends the
-    /// pending state, and clears overflow and collision.
+    /// The status word, with the busy bit and HB and VB as they are given; bit 0 is 1 on PAL. Reading
+    /// it ends the pending state, and clears overflow and collision.
     #[tactic(auto, unfolding(crate::specs::Control::status, crate::specs::Control::status_read))]
     pub fn control_read(&mut self, busy: bool, hb: bool, vb: bool) -> u16
         ensures value { result ≡ meaning.status busy hb vb self.old }
@@ -41,7 +41,8 @@ impl VdpState {
             + 32 * u16::from(self.collision)
             + 8 * u16::from(vb)
             + 4 * u16::from(hb)
-            + 2 * u16::from(busy);
+            + 2 * u16::from(busy)
+            + u16::from(self.pal);
         self.pending = false;
         self.overflow = false;
         self.collision = false;

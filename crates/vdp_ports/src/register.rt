@@ -2,7 +2,8 @@
 
 /// Bit 4 lets the horizontal interrupt through.
 pub const MODE_1: usize = 0;
-/// Bit 6 the display, bit 5 the vertical interrupt, bit 4 fills, copies and transfers.
+/// Bit 6 the display, bit 5 the vertical interrupt, bit 4 fills, copies and transfers, bit 3 the tall
+/// display of PAL.
 pub const MODE_2: usize = 1;
 /// How many lines pass between two horizontal interrupts, less 1.
 pub const LINE_INTERVAL: usize = 10;

@@ -1,4 +1,4 @@
-ghost use Rattle.std.specs.Prelude.{◌≡◌, ℕ, length, map, IfErr, IfOk};
+ghost use Rattle.std.specs.Prelude.{◌≡◌, ℕ, Bool, length, map, IfErr, IfOk};
 ghost use Rattle.md_fields.specs.Fields.{AreSized, seen};
 ghost use Rattle.md_fields.specs.Items.{IsRefused, IsRight, Keeps};
 ghost use Rattle.md_fields.specs.Places.{Stand};
@@ -18,7 +18,7 @@ use std::alloc::Global;
 use std::marker::Model;
 
 /// How many bytes of a saved state keep a VDP.
-const LENGTH: usize = 65_812;
+const LENGTH: usize = 65_813;
 
 /// Where VRAM and CRAM stand among them.
 const VRAM: usize = 24;
@@ -58,6 +58,7 @@ pub struct SavedVdp<'a> {
     line_counter: u8,
     int_from: u64,
     int_to: u64,
+    tall: u8,
 }
 
 impl<'a> Model for SavedVdp<'a> {
@@ -88,6 +89,7 @@ impl<'a> Model for SavedVdp<'a> {
       line_counter = s.line_counter;
       int_from = s.int_from;
       int_to = s.int_to;
+      tall = s.tall;
     } };
 
     ghost invariant = { λ s. IsVdp s.registers.now s.vram.now s.cram s.vsram };
@@ -127,14 +129,15 @@ impl<'a> SavedVdp<'a> {
             line_counter: state.line_counter,
             int_from: state.int_from,
             int_to: state.int_to,
+            tall: u8::from(state.tall),
         }
     }
 
     /// The numbers that stand in the bytes.
     #[tactic(auto, unfolding(md_fields::specs::Places::Stand))]
     fn read(bytes: &'a [u8]) -> SavedVdp<'a>
-        requires { length bytes.now ≡ 65812 }
-        ensures { (at : ℕ) → Stand 0 (vdp_fields at result) bytes.now }
+        requires { length bytes.now ≡ 65813 }
+        ensures { (at : ℕ) (pal : Bool) → Stand 0 (vdp_fields at pal result) bytes.now }
     {
         SavedVdp {
             registers: &bytes[..VRAM],
@@ -158,13 +161,14 @@ impl<'a> SavedVdp<'a> {
             line_counter: u8_at(bytes, 65_795),
             int_from: u64_at(bytes, 65_796),
             int_to: u64_at(bytes, 65_804),
+            tall: u8_at(bytes, 65_812),
         }
     }
 
-    /// The fields in their order, and whether their rules hold.
+    /// The fields in their order, and whether their rules hold in a state at a cycle and of a region.
     #[tactic(auto, unfolding(md_fields::specs::Fields::AreSized))]
-    pub fn fields(&self, at: u64) -> [Field<'_>; 21]
-        ensures fields { map seen result ≡ vdp_fields at self.now }
+    pub fn fields(&self, at: u64, pal: bool) -> [Field<'_>; 22]
+        ensures fields { map seen result ≡ vdp_fields at pal self.now }
         ensures sizes { AreSized (map seen result) }
     {
         [
@@ -189,6 +193,7 @@ impl<'a> SavedVdp<'a> {
             Field::Byte(self.line_counter, true),
             Field::Quad(self.int_from, true),
             Field::Quad(self.int_to, self.is_interval(at)),
+            Field::Byte(self.tall, self.tall <= u8::from(pal)),
         ]
     }
 
@@ -242,32 +247,32 @@ impl<'a> SavedVdp<'a> {
     }
 
     /// The numbers that the bytes keep, where the rules hold of them; else the place of the refusal.
-    pub fn checked(bytes: &'a [u8], at: u64) -> Result<SavedVdp<'a>, usize>
-        ensures found { IfOk result (λ n. Keeps (vdp_fields at) bytes.now n × IsRight (vdp_fields at) n) }
-        ensures refused { IfErr result (λ place. IsRefused vdp_size (vdp_fields at) bytes.now place) }
+    pub fn checked(bytes: &'a [u8], at: u64, pal: bool) -> Result<SavedVdp<'a>, usize>
+        ensures found { IfOk result (λ n. Keeps (vdp_fields at pal) bytes.now n × IsRight (vdp_fields at pal) n) }
+        ensures refused { IfErr result (λ place. IsRefused vdp_size (vdp_fields at pal) bytes.now place) }
     {
         if bytes.len() != LENGTH {
             return Err(bytes.len().min(LENGTH));
         }
         let saved = SavedVdp::read(bytes);
-        match first_wrong(&saved.fields(at)) {
+        match first_wrong(&saved.fields(at, pal)) {
             Some(place) => Err(place),
             None => Ok(saved),
         }
     }
 
-    /// The VDP of which these numbers are kept. VRAM is copied.
-    pub fn state(&self, alloc: Global) -> Result<VdpState, NoMemory>
-        ensures { IfOk result (λ state. state ≡ vdp_of self.now) }
+    /// The VDP of a region of which these numbers are kept. VRAM is copied.
+    pub fn state(&self, alloc: Global, pal: bool) -> Result<VdpState, NoMemory>
+        ensures { IfOk result (λ state. state ≡ vdp_of pal self.now) }
     {
         let mut vram = Box::new(alloc, [0; 65536])?;
         vram.copy_from_slice(self.vram);
-        Ok(self.with_vram(vram))
+        Ok(self.with_vram(vram, pal))
     }
 
-    fn with_vram(&self, vram: Box<[u8; 65536]>) -> VdpState
+    fn with_vram(&self, vram: Box<[u8; 65536]>, pal: bool) -> VdpState
         requires { vram.value ≡ self.now.vram }
-        ensures { result ≡ vdp_of self.now }
+        ensures { result ≡ vdp_of pal self.now }
     {
         VdpState {
             registers: registers_of(self.registers),
@@ -291,6 +296,8 @@ impl<'a> SavedVdp<'a> {
             line_counter: self.line_counter,
             int_from: self.int_from,
             int_to: self.int_to,
+            pal,
+            tall: self.tall == 1,
         }
     }
 }

@@ -13,17 +13,17 @@ use md_word::Unspell;
 use std::alloc::Global;
 
 impl VdpState {
-    /// Appends the bytes of a saved state at a cycle that keep this VDP, 65,812 in all. There is room
+    /// Appends the bytes of a saved state at a cycle that keep this VDP, 65,813 in all. There is room
     /// for them. They are read again where fill and copy are settled to the cycle.
     pub fn spell(&self, at: u64, into: &mut Vec<u8>)
         requires { vec_len into.old + vdp_size ≤ vec_capacity into.old }
         ensures bytes { into.new.items ≡ into.old.items ++ vdp_bytes self.now }
         ensures length { vec_len into.new ≡ vec_len into.old + vdp_size }
         ensures room { vec_capacity into.old ≤ vec_capacity into.new }
-        ensures kept { IsSettled at self.now → Spells at (vdp_bytes self.now) self.now }
+        ensures kept { IsSettled at self.now → Spells at self.now.pal (vdp_bytes self.now) self.now }
     {
         self.known();
-        put(&SavedVdp::of(self).fields(at), into);
+        put(&SavedVdp::of(self).fields(at, self.pal), into);
     }
 
     /// Tells that its numbers have the bytes that they take.
@@ -44,27 +44,27 @@ impl VdpState {
         ensures length { vec_len into.new ≡ vec_len into.old + vdp_size }
         ensures room { vec_capacity into.old ≤ vec_capacity into.new }
         ensures kept { IsSettled at (with_rest self.now vram.now rest)
-            → Spells at (vdp_bytes (with_rest self.now vram.now rest)) (with_rest self.now vram.now rest) }
+            → Spells at self.now.pal (vdp_bytes (with_rest self.now vram.now rest)) (with_rest self.now vram.now rest) }
     {
         known_memories(self);
         known_port(self);
         known_interval(self);
         known_size(vram);
         known_rest(&rest);
-        put(&SavedVdp::with(self, vram, rest).fields(at), into);
+        put(&SavedVdp::with(self, vram, rest).fields(at, self.pal), into);
     }
 
-    /// The VDP that the bytes of a saved state at a cycle keep. Bytes that are not 65,812 are refused at
-    /// the lesser of the two lengths, others at the place of the first field whose rule fails. Fill and
+    /// The VDP that the bytes of a saved state at a cycle and of a region keep. Bytes that are not
+    /// 65,813 are refused at the lesser of the two lengths, others at the place of the first field whose rule fails. Fill and
     /// copy are to be settled to the cycle. VRAM is copied.
-    pub fn unspell(alloc: Global, bytes: &[u8], at: u64) -> Result<VdpState, Unspell>
-        ensures found { IfOk result (λ s. Spells at bytes.now s) }
+    pub fn unspell(alloc: Global, bytes: &[u8], at: u64, pal: bool) -> Result<VdpState, Unspell>
+        ensures found { IfOk result (λ s. Spells at pal bytes.now s) }
         ensures settled { IfOk result (λ s. IsSettled at s) }
-        ensures only { (s : Vdp) → Spells at bytes.now s → result ≢ Err Unspell.NoMemory → result ≡ Ok s }
-        ensures rule { (place : ℕ) → IsErrOf result (Unspell.Rule place) ↔ GoesWrongAt at bytes.now place }
+        ensures only { (s : Vdp) → Spells at pal bytes.now s → result ≢ Err Unspell.NoMemory → result ≡ Ok s }
+        ensures rule { (place : ℕ) → IsErrOf result (Unspell.Rule place) ↔ GoesWrongAt at pal bytes.now place }
     {
-        match SavedVdp::checked(bytes, at) {
-            Ok(saved) => Ok(saved.state(alloc)?),
+        match SavedVdp::checked(bytes, at, pal) {
+            Ok(saved) => Ok(saved.state(alloc, pal)?),
             Err(place) => Err(Unspell::Rule {
                 place: place as u64,
             }),

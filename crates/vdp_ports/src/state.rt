@@ -56,6 +56,10 @@ pub struct VdpState {
     pub int_from: u64,
     /// The cycle from which it is asked for no longer.
     pub int_to: u64,
+    /// Whether the console is one for PAL.
+    pub pal: bool,
+    /// Whether the display has 240 lines, which it may have on PAL alone.
+    pub tall: bool,
 }
 
 impl Model for VdpState {
@@ -85,18 +89,20 @@ impl Model for VdpState {
       line_counter = s.line_counter;
       int_from = s.int_from;
       int_to = s.int_to;
+      pal = s.pal;
+      tall = s.tall;
     } };
 
     ghost invariant = { λ s. IsVdp s.registers s.vram.value s.cram s.vsram };
 }
 
 impl VdpState {
-    /// The VDP at power-on: all is 0. It is refused where there is no memory for VRAM.
-    pub fn power_on(alloc: Global) -> Result<VdpState, NoMemory>
-        ensures value { IfOk result (λ s. s ≡ at_power_on) }
+    /// The VDP at power-on, of a region: all else is 0. It is refused where there is no memory for VRAM.
+    pub fn power_on(alloc: Global, pal: bool) -> Result<VdpState, NoMemory>
+        ensures value { IfOk result (λ s. s ≡ at_power_on pal) }
         ensures rules { IfOk result (λ s. (at : ℕ) → HasRules at s) }
     {
-        Ok(with_memory(zeroed(alloc)?))
+        Ok(with_memory(zeroed(alloc)?, pal))
     }
 
     /// A register, 0 to 23.
@@ -111,9 +117,9 @@ impl VdpState {
 }
 
 /// The VDP at power-on with its VRAM.
-fn with_memory(vram: Box<[u8; 65536]>) -> VdpState
+fn with_memory(vram: Box<[u8; 65536]>, pal: bool) -> VdpState
     requires { vram.value ≡ replicate 0x1_0000 0 }
-    ensures { result ≡ at_power_on }
+    ensures { result ≡ at_power_on pal }
 {
     VdpState {
         registers: [0; 24],
@@ -137,6 +143,8 @@ fn with_memory(vram: Box<[u8; 65536]>) -> VdpState
         line_counter: 0,
         int_from: 0,
         int_to: 0,
+        pal,
+        tall: false,
     }
 }
 

@@ -63,7 +63,7 @@ fn first_wrong(vdp: &mut VdpState) -> Option<u32> {
 
 #[test]
 fn a_fill_of_length_0_fills_all(rt: HostRuntime) -> Result<(), Fail> {
-    let mut vdp = VdpState::power_on(rt.alloc())?;
+    let mut vdp = VdpState::power_on(rt.alloc(), false)?;
     prepared(&mut vdp, 0x80, 0, 1, 0);
     begin_fill(&mut vdp, 0, START, 0xab12);
     assert_eq!(rt; first_wrong(&mut vdp), None);
@@ -96,11 +96,11 @@ fn is_filled(vram: &[u8; 65_536]) -> bool {
 
 #[test]
 fn settling_twice_is_settling_once(rt: HostRuntime) -> Result<(), Fail> {
-    let mut once = VdpState::power_on(rt.alloc())?;
+    let mut once = VdpState::power_on(rt.alloc(), false)?;
     begin_by_threes(&mut once);
     settle(&mut once, 1300);
     assert!(rt; is_settled(&once) && is_filled(&once.vram));
-    let mut twice = VdpState::power_on(rt.alloc())?;
+    let mut twice = VdpState::power_on(rt.alloc(), false)?;
     begin_by_threes(&mut twice);
     settle(&mut twice, 1100);
     let left = twice.left;
@@ -127,7 +127,7 @@ fn begins_with(vdp: &mut VdpState, cycle: u32, bytes: &[u8]) -> bool {
 
 #[test]
 fn a_copy_reads_what_it_has_written(rt: HostRuntime) -> Result<(), Fail> {
-    let mut vdp = VdpState::power_on(rt.alloc())?;
+    let mut vdp = VdpState::power_on(rt.alloc(), false)?;
     begin_copy(&mut vdp);
     let address = vdp.a;
     let two = begins_with(&mut vdp, START + 34 * 2 + 1, &[7, 7, 7, 3, 4, 5]);
@@ -146,7 +146,7 @@ fn is_told(vdp: &mut VdpState) -> bool {
 
 #[test]
 fn a_transfer_of_length_0_has_65536_words(rt: HostRuntime) -> Result<(), Fail> {
-    let mut vdp = VdpState::power_on(rt.alloc())?;
+    let mut vdp = VdpState::power_on(rt.alloc(), false)?;
     prepared(&mut vdp, 0x7f, 0, 2, 0x34);
     set(&mut vdp, &[(22, 0x12)]);
     let told = is_told(&mut vdp);

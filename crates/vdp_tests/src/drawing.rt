@@ -1,6 +1,6 @@
 // The bytes of a saved state that keep the drawing half of the VDP: the cycle of the next line's event,
 // high byte first, whether the last line had too many sprites and whether two met, and from 10 on the
-// picture, 960 bytes a row.
+// picture, 960 bytes a row: 224 rows, and behind them 16 that only a picture for PAL has.
 use crate::frames::make_event;
 use md_word::Unspell;
 use std::alloc::Global;
@@ -8,7 +8,7 @@ use std::test::Fail;
 use vdp_chip::ChipVdp;
 use vdp_ports::VdpState;
 
-const LENGTH: usize = 215_050;
+const LENGTH: usize = 230_410;
 
 /// The bytes that keep a chip.
 fn spelled(alloc: Global, chip: &ChipVdp, at: u64) -> Result<Vec<u8>, Fail> {
@@ -19,7 +19,7 @@ fn spelled(alloc: Global, chip: &ChipVdp, at: u64) -> Result<Vec<u8>, Fail> {
 
 /// The place at which the bytes are refused.
 fn place_of(alloc: Global, bytes: &[u8], at: u64) -> Result<Option<u64>, Fail> {
-    match ChipVdp::unspell(alloc, bytes, at) {
+    match ChipVdp::unspell(alloc, bytes, at, false) {
         Ok(_) => Ok(None),
         Err(Unspell::Rule { place }) => Ok(Some(place)),
         Err(Unspell::NoMemory) => Err(Fail::from("no memory")),
@@ -33,7 +33,7 @@ type Row = (u64, u64, [u8; 2], Option<usize>, Option<u64>);
 // The next line is the first from the state's cycle on. Rows behind the line of the last cycle below the
 // state are not drawn: below 1,000 that is line 0, below 3,421 line 1, and below 766,081 line 224,
 // behind which all rows are drawn. A frame has 896,040 cycles, and then row 0 is the last one again.
-const ROWS: [Row; 18] = [
+const ROWS: [Row; 19] = [
     (0, 0, [0, 0], None, None),
     (0, 3420, [0, 0], None, Some(0)),
     (0, 0, [0, 0], Some(0), Some(10)),
@@ -50,6 +50,7 @@ const ROWS: [Row; 18] = [
     (3421, 6840, [0, 0], Some(960), None),
     (3421, 6840, [0, 0], Some(1920), Some(10)),
     (766_081, 769_500, [0, 0], Some(215_039), None),
+    (766_081, 769_500, [0, 0], Some(215_040), Some(10)),
     (896_040, 896_040, [0, 0], Some(215_039), None),
     (896_041, 899_460, [0, 0], Some(960), Some(10)),
 ];
@@ -87,7 +88,7 @@ fn refused_length(alloc: Global, length: usize) -> Result<Option<u64>, Fail> {
     place_of(alloc, &vec![in alloc; 0; length]?, 0)
 }
 
-const LENGTHS: [(usize, u64); 4] = [(0, 0), (9, 9), (215_049, 215_049), (215_051, 215_050)];
+const LENGTHS: [(usize, u64); 4] = [(0, 0), (9, 9), (230_409, 230_409), (230_411, 230_410)];
 
 #[test]
 fn other_lengths_of_the_drawing_half(rt: HostRuntime) -> Result<(), Fail> {
@@ -102,7 +103,7 @@ fn other_lengths_of_the_drawing_half(rt: HostRuntime) -> Result<(), Fail> {
 
 /// A VDP that shows the backdrop alone, of this colour.
 fn backdrop(alloc: Global, colour: u16) -> Result<VdpState, Fail> {
-    let mut vdp = VdpState::power_on(alloc)?;
+    let mut vdp = VdpState::power_on(alloc, false)?;
     vdp.cram[0] = colour;
     Ok(vdp)
 }
@@ -139,7 +140,7 @@ fn later(alloc: Global, chip: &mut ChipVdp) -> Result<Vec<u8>, Fail> {
 
 /// Whether a chip and the one that is read of its bytes go on in the same way.
 fn go_on_alike(alloc: Global, chip: &mut ChipVdp, bytes: &[u8]) -> Result<bool, Fail> {
-    let again = ChipVdp::unspell(alloc, bytes, 342_000);
+    let again = ChipVdp::unspell(alloc, bytes, 342_000, false);
     let mut again = again.map_err(|_| Fail::from("refused"))?;
     let one = later(alloc, chip)?;
     let other = later(alloc, &mut again)?;
@@ -148,7 +149,7 @@ fn go_on_alike(alloc: Global, chip: &mut ChipVdp, bytes: &[u8]) -> Result<bool, 
 
 #[test]
 fn a_picture_goes_on_as_it_was_kept(rt: HostRuntime) -> Result<(), Fail> {
-    let mut chip = ChipVdp::power_on(rt.alloc())?;
+    let mut chip = ChipVdp::power_on(rt.alloc(), false)?;
     make_events(rt.alloc(), &mut chip, (0, 100), 0x0eee)?;
     let bytes = spelled(rt.alloc(), &chip, 342_000)?;
     assert!(rt; are_amid(&bytes) && go_on_alike(rt.alloc(), &mut chip, &bytes)?);

@@ -120,8 +120,8 @@ fn has_rows(chip: &mut ChipVdp, vdp: &mut VdpState) -> bool {
 
 #[test]
 fn a_frame_has_the_rows_of_its_lines(rt: HostRuntime) -> Result<(), Fail> {
-    let mut vdp = VdpState::power_on(rt.alloc())?;
-    let mut chip = ChipVdp::power_on(rt.alloc())?;
+    let mut vdp = VdpState::power_on(rt.alloc(), false)?;
+    let mut chip = ChipVdp::power_on(rt.alloc(), false)?;
     prepare(&mut vdp);
     assert!(rt; has_rows(&mut chip, &mut vdp));
     Ok(())
@@ -165,8 +165,8 @@ fn is_dropped(chip: &mut ChipVdp) -> bool {
 
 #[test]
 fn a_frame_stays_while_the_next_one_is_drawn(rt: HostRuntime) -> Result<(), Fail> {
-    let mut vdp = VdpState::power_on(rt.alloc())?;
-    let mut chip = ChipVdp::power_on(rt.alloc())?;
+    let mut vdp = VdpState::power_on(rt.alloc(), false)?;
+    let mut chip = ChipVdp::power_on(rt.alloc(), false)?;
     let wrong = first_wrong_event(&mut chip, &mut vdp);
     assert!(rt; wrong.is_none() && is_dropped(&mut chip));
     Ok(())

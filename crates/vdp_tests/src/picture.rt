@@ -226,8 +226,8 @@ fn make_events(chip: &mut ChipVdp, vdp: &VdpState) {
 
 #[test]
 fn a_picture_with_each_part_of_the_drawing(rt: HostRuntime) -> Result<(), Fail> {
-    let mut vdp = VdpState::power_on(rt.alloc())?;
-    let mut chip = ChipVdp::power_on(rt.alloc())?;
+    let mut vdp = VdpState::power_on(rt.alloc(), false)?;
+    let mut chip = ChipVdp::power_on(rt.alloc(), false)?;
     prepare(&mut vdp);
     make_events(&mut chip, &vdp);
     assert_eq!(rt; first_wrong(&chip, &DOTS), None);

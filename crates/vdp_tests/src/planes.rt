@@ -41,7 +41,7 @@ fn prepare(vdp: &mut VdpState, mode: u8) {
 
 /// Draws a line of the picture.
 fn draw(vdp: &VdpState, y: u8, rgb: &mut [u8; 960]) {
-    let scene = scene_of(vdp);
+    let scene = scene_of(vdp, false);
     let mut a = [Dot::new(0, false); 320];
     let mut b = [Dot::new(0, false); 320];
     let mut sprites = [Dot::new(0, false); 320];
@@ -92,7 +92,7 @@ fn first_wrong_level(vdp: &mut VdpState) -> Option<usize> {
 
 #[test]
 fn levels_are_printed(rt: HostRuntime) -> Result<(), Fail> {
-    let mut vdp = VdpState::power_on(rt.alloc())?;
+    let mut vdp = VdpState::power_on(rt.alloc(), false)?;
     assert_eq!(rt; first_wrong_level(&mut vdp), None);
     Ok(())
 }
@@ -134,7 +134,7 @@ fn first_wrong_order(vdp: &mut VdpState) -> Option<usize> {
 // The red of a palette's colours is its number, and the backdrop is colour 2.
 #[test]
 fn planes_and_sprites_stand_in_order(rt: HostRuntime) -> Result<(), Fail> {
-    let mut vdp = VdpState::power_on(rt.alloc())?;
+    let mut vdp = VdpState::power_on(rt.alloc(), false)?;
     prepare(&mut vdp, 0x01);
     vdp.registers[BACKDROP] = 2;
     vdp.cram[17] = 2;
@@ -161,7 +161,7 @@ fn first_wrong(vdp: &VdpState) -> Option<usize> {
 // where plane B is opaque.
 #[test]
 fn the_narrow_picture_has_borders(rt: HostRuntime) -> Result<(), Fail> {
-    let mut vdp = VdpState::power_on(rt.alloc())?;
+    let mut vdp = VdpState::power_on(rt.alloc(), false)?;
     prepare(&mut vdp, 0x00);
     vdp.cram[0] = 0x0eee;
     for k in 0..1024u16 {
@@ -174,7 +174,7 @@ fn the_narrow_picture_has_borders(rt: HostRuntime) -> Result<(), Fail> {
 /// A dot of plane A on a line.
 fn dot(vdp: &VdpState, line: u32, x: usize) -> Dot {
     let mut a = [Dot::new(0, false); 320];
-    draw_plane(&scene_of(vdp), line % 224, false, &mut a);
+    draw_plane(&scene_of(vdp, false), line % 224, false, &mut a);
     a[x % 320]
 }
 
@@ -193,7 +193,7 @@ fn is_scrolled(vdp: &VdpState) -> bool {
 // of column 1 and row 255, and the one at (7, 0) is in the next cell.
 #[test]
 fn a_plane_is_scrolled(rt: HostRuntime) -> Result<(), Fail> {
-    let mut vdp = VdpState::power_on(rt.alloc())?;
+    let mut vdp = VdpState::power_on(rt.alloc(), false)?;
     prepare(&mut vdp, 0x01);
     vdp.registers[PLANE_SIZE] = 0x01;
     put(&mut vdp, 0xfc00, 511);
@@ -243,7 +243,7 @@ fn first_wrong_edge(vdp: &mut VdpState) -> Option<usize> {
 
 #[test]
 fn the_window_takes_the_place_of_plane_a(rt: HostRuntime) -> Result<(), Fail> {
-    let mut vdp = VdpState::power_on(rt.alloc())?;
+    let mut vdp = VdpState::power_on(rt.alloc(), false)?;
     prepare(&mut vdp, 0x01);
     fill_both(&mut vdp);
     assert_eq!(rt; first_wrong_edge(&mut vdp), None);

@@ -85,7 +85,7 @@ const MEMORIES: [Access; 33] = [
 
 #[test]
 fn memories_are_written_and_read_back(rt: HostRuntime) -> Result<(), Fail> {
-    let mut vdp = VdpState::power_on(rt.alloc())?;
+    let mut vdp = VdpState::power_on(rt.alloc(), false)?;
     assert_eq!(rt; first_wrong(&mut vdp, &MEMORIES), None);
     Ok(())
 }
@@ -105,7 +105,7 @@ fn waits(vdp: &mut VdpState) -> bool {
 
 #[test]
 fn a_first_word_waits_for_its_second(rt: HostRuntime) -> Result<(), Fail> {
-    let mut vdp = VdpState::power_on(rt.alloc())?;
+    let mut vdp = VdpState::power_on(rt.alloc(), false)?;
     assert!(rt; waits(&mut vdp));
     vdp.control_write(0, 0x8f02);
     assert!(rt; vdp.register(15) == 2);
@@ -127,7 +127,7 @@ fn are_acknowledged(vdp: &mut VdpState) -> bool {
 
 #[test]
 fn interrupts_are_acknowledged_by_their_level(rt: HostRuntime) -> Result<(), Fail> {
-    let mut vdp = VdpState::power_on(rt.alloc())?;
+    let mut vdp = VdpState::power_on(rt.alloc(), false)?;
     vdp.control_write(0, 0x8010);
     vdp.control_write(0, 0x8120);
     assert!(rt; are_acknowledged(&mut vdp));

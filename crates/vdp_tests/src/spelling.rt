@@ -1,13 +1,14 @@
 // The bytes of a saved state that keep the VDP, worked out by hand from the order and the sizes of its
 // fields: registers 0, VRAM 24, CRAM 65,560, VSRAM 65,688, then pending, code, address, armed and what goes
-// on from 65,768 on, flags 65,791, line counter 65,795 and the Z80's interrupt 65,796.
+// on from 65,768 on, flags 65,791, line counter 65,795, the Z80's interrupt 65,796 and the height of the
+// display 65,812.
 use md_word::Unspell;
 use std::alloc::Global;
 use std::test::Fail;
 use vdp_dma::settle;
 use vdp_ports::VdpState;
 
-const LENGTH: usize = 65_812;
+const LENGTH: usize = 65_813;
 
 /// Bytes of 0: a VDP at power-on.
 fn zeros(alloc: Global) -> Result<Vec<u8>, Fail> {
@@ -30,12 +31,12 @@ fn spelled(alloc: Global, vdp: &VdpState, at: u64) -> Result<Vec<u8>, Fail> {
 
 /// The VDP that the bytes keep.
 fn kept(alloc: Global, bytes: &[u8], at: u64) -> Result<VdpState, Fail> {
-    VdpState::unspell(alloc, bytes, at).map_err(|_| Fail::from("refused"))
+    VdpState::unspell(alloc, bytes, at, false).map_err(|_| Fail::from("refused"))
 }
 
 /// The place at which the bytes are refused.
 fn place_of(alloc: Global, bytes: &[u8], at: u64) -> Result<Option<u64>, Fail> {
-    match VdpState::unspell(alloc, bytes, at) {
+    match VdpState::unspell(alloc, bytes, at, false) {
         Ok(_) => Ok(None),
         Err(Unspell::Rule { place }) => Ok(Some(place)),
         Err(Unspell::NoMemory) => Err(Fail::from("no memory")),
@@ -52,7 +53,7 @@ fn refused(alloc: Global, at: u64, changes: &[(usize, &[u8])]) -> Result<Option<
 }
 
 // Each rule broken once: the byte that is changed, its value, and the place of the refusal.
-const BROKEN: [(usize, u8, u64); 20] = [
+const BROKEN: [(usize, u8, u64); 21] = [
     (65_560, 0x10, 65_560),
     (65_561, 0x01, 65_560),
     (65_686, 0x10, 65_560),
@@ -73,6 +74,7 @@ const BROKEN: [(usize, u8, u64); 20] = [
     (65_794, 2, 65_794),
     (65_803, 1, 65_804),
     (65_811, 1, 65_804),
+    (65_812, 1, 65_812),
 ];
 
 #[test]
@@ -154,9 +156,9 @@ fn refused_length(alloc: Global, length: usize) -> Result<Option<u64>, Fail> {
 
 const LENGTHS: [(usize, Option<u64>); 4] = [
     (0, Some(0)),
-    (65_811, Some(65_811)),
-    (65_812, None),
-    (65_813, Some(65_812)),
+    (65_812, Some(65_812)),
+    (65_813, None),
+    (65_814, Some(65_813)),
 ];
 
 #[test]
@@ -170,14 +172,14 @@ fn other_lengths_are_refused(rt: HostRuntime) -> Result<(), Fail> {
 // A fill of 40 bytes of 12h that begins at 1000, with register 15 at 3, whose data write is at 100h.
 // Below 1100 it has put 5 bytes, at 1017, 1034, 1051, 1068 and 1085: 35 (23h) are left, the next at
 // 1102 (044Eh) beside 112h. The port's address is 103h + 40 * 3, which is 17Bh; the code is 21h.
-const AMID: [u8; 44] = [
+const AMID: [u8; 45] = [
     0, 0x21, 0x01, 0x7b, 0, 1, 0x12, 0, 0, 0x01, 0x12, 0, 0, 0, 0x23, 0, 0, 0, 0, 0, 0, 0x04, 0x4e,
-    0, 0, 0, 0, 0, 0, 0, 0, 0, 0, 0, 0, 0, 0, 0, 0, 0, 0, 0, 0, 0,
+    0, 0, 0, 0, 0, 0, 0, 0, 0, 0, 0, 0, 0, 0, 0, 0, 0, 0, 0, 0, 0, 0,
 ];
 
 /// The fill at 1100.
 fn filling(alloc: Global) -> Result<VdpState, Fail> {
-    let mut vdp = VdpState::power_on(alloc)?;
+    let mut vdp = VdpState::power_on(alloc, false)?;
     for word in [0x8110, 0x8f03, 0x9328, 0x9780, 0x4100, 0x0080] {
         vdp.control_write(0, word);
     }
@@ -226,7 +228,7 @@ fn is_again(alloc: Global, bytes: &[u8]) -> Result<bool, Fail> {
 // At power-on all is 0.
 #[test]
 fn power_on_is_spelled(rt: HostRuntime) -> Result<(), Fail> {
-    let bytes = spelled(rt.alloc(), &VdpState::power_on(rt.alloc())?, 1)?;
+    let bytes = spelled(rt.alloc(), &VdpState::power_on(rt.alloc(), false)?, 1)?;
     assert!(rt; bytes.as_slice() == [0; LENGTH].as_slice() && is_again(rt.alloc(), &bytes)?);
     Ok(())
 }

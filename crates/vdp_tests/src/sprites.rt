@@ -51,6 +51,8 @@ fn blank_view(alloc: Global) -> Result<Box<LineView>, Fail> {
         vram: [0; 65536],
         cram: [0; 64],
         vsram: [0; 40],
+        pal: false,
+        tall: false,
     };
     Ok(Box::new(alloc, view)?)
 }
@@ -92,7 +94,7 @@ fn first_wrong(vdp: &mut VdpState, view: &mut LineView) -> Option<u16> {
 
 #[test]
 fn a_line_has_its_limits(rt: HostRuntime) -> Result<(), Fail> {
-    let mut vdp = VdpState::power_on(rt.alloc())?;
+    let mut vdp = VdpState::power_on(rt.alloc(), false)?;
     prepare(&mut vdp);
     let mut view = blank_view(rt.alloc())?;
     assert_eq!(rt; first_wrong(&mut vdp, &mut view), None);
@@ -115,7 +117,7 @@ fn drawn(view: &LineView) -> [u8; 5] {
 // With the sprites of before, whose colour is white.
 #[test]
 fn a_view_is_drawn(rt: HostRuntime) -> Result<(), Fail> {
-    let mut vdp = VdpState::power_on(rt.alloc())?;
+    let mut vdp = VdpState::power_on(rt.alloc(), false)?;
     prepare(&mut vdp);
     vdp.cram[1] = 0x0eee;
     let mut view = blank_view(rt.alloc())?;

@@ -5,5 +5,5 @@
 mod clock;
 mod event;
 
-pub use clock::{HEIGHT, blank, frame_of, hv, line_of};
+pub use clock::{blank, frame_of, hv, line_of};
 pub use event::start_line;

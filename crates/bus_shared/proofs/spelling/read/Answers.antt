@@ -17,7 +17,7 @@ use Rattle.bus_shared.proofs.spelling.read.Goals as goal
 use Rattle.bus_shared.proofs.spelling.read.Goals.{else-bytes-ne-SHORT-via-then-bytes-ne-SHORT+else-bytes-ne-LONG, else-bytes-ne-SHORT-via-else-bytes-ne-SHORT}
 
 pub behind-requires-clause-near : goal.behind-requires-clause-near
-behind-requires-clause-near c = λ place e. omega (arith, vdp_near c.args.at _ place ((c.in-Err-unspell.ensures.rule place).0 (ap Err e)))
+behind-requires-clause-near c = λ place e. omega (arith, vdp_near c.args.at c.args.pal _ place ((c.in-Err-unspell.ensures.rule place).0 (ap Err e)))
 
 pub returns-in-Err-unspell-clause-rule : goal.returns-in-Err-unspell-clause-rule
 returns-in-Err-unspell-clause-rule c = λ place e.
@@ -27,10 +27,10 @@ returns-in-Err-unspell-clause-rule c = λ place e.
       | else-bytes-ne-SHORT-via-else-bytes-ne-SHORT w ↦ inl (w.if-bytes-ne-SHORT.false)
     ] in
     let w = behind_rule (length c.split_at.result.0.now) c.in-Err-unspell.fault place (sym c.behind.ensures ∙ same_fault c.behind.result (Rule place) e) in
-    let front : c.split_at-2.result.0.now ≡ (cut bytes).vdp = c.split_at-2.ensures.front ∙ ap (take 65812) c.split_at.ensures.back in
-    vdp_exit c.args.at bytes w.0 place long
+    let front : c.split_at-2.result.0.now ≡ (cut bytes).vdp = c.split_at-2.ensures.front ∙ ap (take 65813) c.split_at.ensures.back in
+    vdp_exit c.args.at c.args.pal bytes w.0 place long
     (λ q wrong. c.in-Ok.ensures.right q (subst (λ (l : List ℕ). StoreGoesWrongAt l q) (sym c.split_at.ensures.front) wrong))
-    (subst (λ (l : List ℕ). vdp_spelling.GoesWrongAt c.args.at l w.0) front ((c.in-Err-unspell.ensures.rule w.0).0 (ap Err w.1)))
+    (subst (λ (l : List ℕ). vdp_spelling.GoesWrongAt c.args.at c.args.pal l w.0) front ((c.in-Err-unspell.ensures.rule w.0).0 (ap Err w.1)))
     (w.2 ∙ ap (λ (n : ℕ). n + w.0) c.split_at.ensures.front_len)
 
 pub ports_in-requires-clause-length : goal.ports_in-requires-clause-length
@@ -55,14 +55,14 @@ returns-in-Err-ports_in-clause-rule c = λ place e.
       | else-bytes-ne-SHORT-via-then-bytes-ne-SHORT+else-bytes-ne-LONG w ↦ inr (w.if-bytes-ne-LONG.false)
       | else-bytes-ne-SHORT-via-else-bytes-ne-SHORT w ↦ inl (w.if-bytes-ne-SHORT.false)
     ] in
-    let w = behind_rule (length c.split_at.result.0.now + 65812) c.in-Err-ports_in.fault place (sym c.behind-in-Err-ports_in.ensures ∙ same_fault c.behind-in-Err-ports_in.result (Rule place) e) in
-    let front : c.split_at-2.result.0.now ≡ (cut bytes).vdp = c.split_at-2.ensures.front ∙ ap (take 65812) c.split_at.ensures.back in
-    let back : c.split_at-2.result.1.now ≡ drop 65812 (drop (store_length bytes) bytes) = c.split_at-2.ensures.back ∙ ap (drop 65812) c.split_at.ensures.back in
-    ports_exit c.args.at bytes w.0 place long
+    let w = behind_rule (length c.split_at.result.0.now + 65813) c.in-Err-ports_in.fault place (sym c.behind-in-Err-ports_in.ensures ∙ same_fault c.behind-in-Err-ports_in.result (Rule place) e) in
+    let front : c.split_at-2.result.0.now ≡ (cut bytes).vdp = c.split_at-2.ensures.front ∙ ap (take 65813) c.split_at.ensures.back in
+    let back : c.split_at-2.result.1.now ≡ drop 65813 (drop (store_length bytes) bytes) = c.split_at-2.ensures.back ∙ ap (drop 65813) c.split_at.ensures.back in
+    ports_exit c.args.at c.args.pal bytes w.0 place long
     (λ q wrong. c.in-Ok.ensures.right q (subst (λ (l : List ℕ). StoreGoesWrongAt l q) (sym c.split_at.ensures.front) wrong))
-    (λ q wrong. ok_not _ (Rule q) ((c.in-Ok-unspell.ensures.rule q).1 (subst (λ (l : List ℕ). vdp_spelling.GoesWrongAt c.args.at l q) (sym front) wrong)))
+    (λ q wrong. ok_not _ (Rule q) ((c.in-Ok-unspell.ensures.rule q).1 (subst (λ (l : List ℕ). vdp_spelling.GoesWrongAt c.args.at c.args.pal l q) (sym front) wrong)))
     (subst (λ (l : List ℕ). PortsIn c.args.at l w.0) back (c.in-Err-ports_in.ensures.rule w.0 (ap Err w.1)))
-    (w.2 ∙ ap (λ (n : ℕ). n + 65812 + w.0) c.split_at.ensures.front_len)
+    (w.2 ∙ ap (λ (n : ℕ). n + 65813 + w.0) c.split_at.ensures.front_len)
 
 pub returns-in_err-board_of-clause-rule : goal.returns-in_err-board_of-clause-rule
 returns-in_err-board_of-clause-rule c =
@@ -73,14 +73,14 @@ pub returns-clause-found : goal.returns-clause-found
 returns-clause-found c =
     let bytes = c.args.bytes.now in
     let ports = c.in-Ok-ports_in.ports in
-    let front : c.split_at-2.result.0.now ≡ (cut bytes).vdp = c.split_at-2.ensures.front ∙ ap (take 65812) c.split_at.ensures.back in
-    let back : c.split_at-2.result.1.now ≡ drop 65812 (drop (store_length bytes) bytes) = c.split_at-2.ensures.back ∙ ap (drop 65812) c.split_at.ensures.back in
+    let front : c.split_at-2.result.0.now ≡ (cut bytes).vdp = c.split_at-2.ensures.front ∙ ap (take 65813) c.split_at.ensures.back in
+    let back : c.split_at-2.result.1.now ≡ drop 65813 (drop (store_length bytes) bytes) = c.split_at-2.ensures.back ∙ ap (drop 65813) c.split_at.ensures.back in
     let made = c.in_ok-board_of.ensures {u = tt} in (
-      subst (Spells c.args.at bytes) (sym made)
-          (whole c.args.at bytes (arc_value c.args.recording) (option_map store_of c.in-Ok.parcel) c.in-Ok-unspell.vdp ports.fm ports.psg ports.lines (record {
+      subst (Spells c.args.at c.args.pal bytes) (sym made)
+          (whole c.args.at c.args.pal bytes (arc_value c.args.recording) (option_map store_of c.in-Ok.parcel) c.in-Ok-unspell.vdp ports.fm ports.psg ports.lines (record {
             store_is = sym c.split_at.ensures.front ∙ c.in-Ok.ensures.found.0;
             store_fits = c.in-Ok.ensures.found.1;
-            vdp_is = subst (λ (l : List ℕ). vdp_spelling.Spells c.args.at l c.in-Ok-unspell.vdp) front c.in-Ok-unspell.ensures.found;
+            vdp_is = subst (λ (l : List ℕ). vdp_spelling.Spells c.args.at c.args.pal l c.in-Ok-unspell.vdp) front c.in-Ok-unspell.ensures.found;
             fm_is = subst (λ (l : List ℕ). fm_spelling.SpellsPort c.args.at (take 12316 l) ports.fm) back c.in-Ok-ports_in.ensures.fm;
             held_is = subst (λ (l : List ℕ). psg_spelling.SpellsPort c.args.at (take 10242 (drop 12316 l)) ports.psg) back c.in-Ok-ports_in.ensures.psg;
             lines_are = subst (λ (l : List ℕ). Keeps (lines_fields c.args.at) (drop 10242 (drop 12316 l)) ports.lines) back c.in-Ok-ports_in.ensures.lines.0;

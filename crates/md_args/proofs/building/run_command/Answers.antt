@@ -1,7 +1,7 @@
 use Rattle.std.proofs.Common.{◌∙◌, ap, codes}
 use Rattle.clap.specs.Simple.{App, with_rule}
 use Rattle.clap.specs.Walk.{Rule}
-use Rattle.md_args.specs.Parse.{option, positional, required, run_app}
+use Rattle.md_args.specs.Parse.{flag, option, positional, required, run_app}
 use Rattle.md_args.proofs.building.run_command.Goals as goal
 
 after : Rule → App → App
@@ -11,7 +11,8 @@ pub returns : goal.returns
 unfolding run_app after
 returns c =
     let rom_is = c.in_ok-rom.ensures ∙ ap (after (required (positional (codes "rom")))) c.bare.ensures in
-    let cycles_is = c.in_ok-cycles.ensures ∙ ap (after (required (option (codes "cycles")))) rom_is in
+    let pal_is = c.in_ok-pal.ensures ∙ ap (after (flag (codes "pal"))) rom_is in
+    let cycles_is = c.in_ok-cycles.ensures ∙ ap (after (required (option (codes "cycles")))) pal_is in
     let recording_is = c.in_ok-recording.ensures ∙ ap (after (option (codes "in"))) cycles_is in
     let load_is = c.in_ok-load.ensures ∙ ap (after (option (codes "load"))) recording_is in
     let save_is = c.in_ok-save.ensures ∙ ap (after (option (codes "save"))) load_is in

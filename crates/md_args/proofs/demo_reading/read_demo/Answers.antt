@@ -2,7 +2,7 @@ use Rattle.std.proofs.Common.{◌∙◌, ap, map, string_bytes, sym}
 use Rattle.std.specs.Option.{option_and_then}
 use Rattle.clap.specs.Simple.{app_of}
 use Rattle.md_args.specs.Parse.{demo_app, found_by}
-use Rattle.md_args.specs.Words.{demo_by, demo_given}
+use Rattle.md_args.specs.Words.{demo_by}
 use Rattle.md_args.proofs.Commands.{texts_are}
 use Rattle.md_args.proofs.Demos.{demo_means}
 use Rattle.md_args.proofs.Simple.{as_parsed, demo_is_simple, rows_in}
@@ -12,8 +12,8 @@ pub returns-in-Some : goal.returns-in-Some
 returns-in-Some c =
     let words = map string_bytes c.args.words.now in
     let found = as_parsed (app_of c.in_ok-command.command) demo_app words c.in_ok-matches.field-0 c.in_ok-command.ensures demo_is_simple c.in_ok-matches.ensures in
-    rw (c.demo_given.ensures, c.value.ensures, c.value-in-Some.ensures, c.value-in-Some-2.ensures)
-    (ap (option_and_then (λ rows. demo_by (found_by rows))) (ap rows_in (sym c.in-Some.is) ∙ found) ∙ demo_means words (texts_are c.args.words.now))
+    c.demo_chosen.ensures
+    ∙ ap (option_and_then (λ rows. demo_by (found_by rows))) (ap rows_in (sym c.in-Some.is) ∙ found) ∙ demo_means words (texts_are c.args.words.now)
 
 pub returns-in-None : goal.returns-in-None
 returns-in-None c =

@@ -1,4 +1,4 @@
-use Rattle.std.proofs.Common.{[], Some, arith}
+use Rattle.std.proofs.Common.{[], arith}
 use Rattle.chip_core.specs.Cores.{machine_of}
 use Rattle.chip_core.specs.Machines.{AllBelow, IsValid, Machine}
 use Rattle.md_machine.specs.First.{first_bounds, first_chips}
@@ -15,12 +15,12 @@ use Rattle.md_machine.proofs.laws.one_owner.Goals as goal
 
 pub returns : goal.returns
 unfolding console
-returns c = λ recording end n small below.
-    let first : Machine Chip Board = machine_of five (core_in (power_on recording) (first_chips c.args.cart.now) first_bounds [] 0) in
+returns c = λ recording pal end n small below.
+    let first : Machine Chip Board = machine_of five (core_in (power_on recording pal) (first_chips c.args.cart.now pal) first_bounds [] 0) in
     let valid : IsValid five IsChip IsBoard first =
-    c.stages.ensures.core (core_in (power_on recording) (first_chips c.args.cart.now) first_bounds [] 0) (first-core c.args.cart.now recording 0 c.bytes.ensures.image) in
+    c.stages.ensures.core (core_in (power_on recording pal) (first_chips c.args.cart.now pal) first_bounds [] 0) (first-core c.args.cart.now recording pal 0 c.bytes.ensures.image) in
     let lower : AllBelow five first end n =
     below-lift first end n (λ k earlier. c.stages.ensures.valid first end k (omega arith) valid earlier) c.stages.ensures.mover below in
     let stages : ValidTo first n = λ k within.
     c.stages.ensures.valid first end k (omega arith) valid (record { each = λ j earlier. lower.each j (omega arith) }) in
-    one-owner first c.args.cart.now recording n (first-console c.args.cart.now recording 0) stages c.stages.ensures.mover
+    one-owner first c.args.cart.now recording pal n (first-console c.args.cart.now recording pal 0) stages c.stages.ensures.mover

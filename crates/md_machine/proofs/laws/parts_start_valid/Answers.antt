@@ -2,4 +2,4 @@ use Rattle.md_machine.proofs.ValidParts.{parts_begun}
 use Rattle.md_machine.proofs.laws.parts_start_valid.Goals as goal
 
 pub returns : goal.returns
-returns c = λ recording. parts_begun c.args.cart.now recording c.bytes.ensures.image
+returns c = λ recording pal. parts_begun c.args.cart.now recording pal c.bytes.ensures.image

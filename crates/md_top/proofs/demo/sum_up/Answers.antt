@@ -1,8 +1,8 @@
-use Rattle.std.proofs.Common.{rules, ◌≡◌, ℕ, Option, None, sym, subst, arith}
-use Rattle.std.proofs.lemmas.Bool.{false≢true}
+use Rattle.std.proofs.Common.{rules, ◌≡◌, ◌∙◌, ℕ, Bool, Option, ap₂, sym, subst, arith}
 use Rattle.md_machine.specs.Outputs.{frames_bytes, journal_bytes, sound_bytes}
 use Rattle.md_machine.specs.Starts.{Start}
 use Rattle.md_top.specs.Courses.{cycle_of, start_in}
+use Rattle.md_top.specs.Counts.{frames_between}
 use Rattle.md_top.specs.Demos.{HaveUntil, digests_from}
 use Rattle.md_top.specs.Resuming.{RunsWell}
 use Rattle.md_top.specs.Runs.{entries_from, media_from}
@@ -35,13 +35,15 @@ returns g c =
     let at : cycle_of course ≡ c.args.end = omega (arith, c.segments.invariant.0, c.segments-test.false, c.at.ensures) in
     let have : HaveUntil start c.args.end c.segments.hashers = subst (λ (n : ℕ). HaveUntil start n c.segments.hashers) at c.segments.invariant.2 in
     let halted : c.halted.result ≡ course.machine.console.main.halted = rw c.main_chip.ensures at c.halted.ensures in
+    let finished : c.frames_between.result ≡ frames_between start.console.pal start.at c.args.end =
+    c.frames_between.ensures ∙ ap₂ (λ (pal : Bool) (from : ℕ). frames_between pal from c.args.end) c.pal-pal.ensures.value c.at-from.ensures in
     let digests : c.digests.result ≡ digests_from start c.args.end =
     digests-are start c.args.end c.digests.result
-    (c.digests.ensures.frames (frames_bytes (media_from start c.args.end).frames) have.frames)
+    (c.digests.ensures.frames (frames_bytes start.console.pal (media_from start c.args.end).frames) have.frames)
     (c.digests.ensures.samples (sound_bytes (media_from start c.args.end)) have.samples)
     (c.digests.ensures.journal (journal_bytes (entries_from start c.args.end)) have.journal) in
     record {
-      well = subst (λ (since : Option ℕ). RunsWell start c.args.end start.at course.accesses since) (sym halted)
-          (ends-well start c.args.end course.machine course.accesses at c.segments.invariant.1 c.states_keep_laws.ensures c.lists_end_as_run.ensures c.requires.end c.kept.ensures);
+      well = subst (λ (since : Option ℕ). RunsWell start c.args.end start.at c.frames_between.result course.accesses since) (sym halted)
+          (ends-well start c.args.end course.machine course.accesses c.frames_between.result at c.segments.invariant.1 finished c.states_keep_laws.ensures c.lists_end_as_run.ensures c.requires.end c.kept.ensures);
       digests = digests;
     }

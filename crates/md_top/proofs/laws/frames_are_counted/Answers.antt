@@ -11,4 +11,4 @@ returns c =
     let start : Start = start_at c.args.machine.now in
     c.runs_keep_laws.ensures.frames_counted (run_from start c.args.end) c.args.end (entries_from start c.args.end) (media_from start c.args.end)
     c.requires.start (run-made start c.args.end c.runs_keep_laws.ensures (omega (arith, c.requires.near)))
-    ∙ frames-counted start.at c.args.end
+    ∙ frames-counted start.console.pal start.at c.args.end

@@ -11,7 +11,7 @@ use Rattle.md_top.proofs.loading.kept_machine.Goals as goal
 
 pub returns-in-Ok-read-clause-found : goal.returns-in-Ok-read-clause-found
 returns-in-Ok-read-clause-found c =
-    let given : Inputs = record { cart = arc_value c.in-Ok.both.0; recording = arc_value c.in-Ok.both.1 } in
+    let given : Inputs = record { cart = arc_value c.in-Ok.both.0; recording = arc_value c.in-Ok.both.1; pal = c.args.inputs.pal } in
     let read : Read given c.args.bytes.now (Ok c.in-Ok-read.machine) =
     record { only = c.in-Ok-read.ensures.only; form = c.in-Ok-read.ensures.form; wrong = c.in-Ok-read.ensures.wrong; other = c.in-Ok-read.ensures.other } in
     subst (λ (inputs : Inputs). IsFound inputs c.args.bytes.now (Keeps (start_at c.in-Ok-read.machine))) c.in-Ok.ensures
@@ -28,7 +28,7 @@ returns-in-Ok-read-clause-fresh c = record {
 
 pub returns-in-Err-Form-clause-err : goal.returns-in-Err-Form-clause-err
 returns-in-Err-Form-clause-err c =
-    let given : Inputs = record { cart = arc_value c.in-Ok.both.0; recording = arc_value c.in-Ok.both.1 } in
+    let given : Inputs = record { cart = arc_value c.in-Ok.both.0; recording = arc_value c.in-Ok.both.1; pal = c.args.inputs.pal } in
     let read : Read given c.args.bytes.now (Err (fault.Form c.in-Err-Form.place)) =
     record {
       only = rw c.in-Err-Form.field-0-is at c.in-Err-Form.ensures.only;
@@ -40,7 +40,7 @@ returns-in-Err-Form-clause-err c =
 
 pub returns-in-Err-OtherCart-clause-err : goal.returns-in-Err-OtherCart-clause-err
 returns-in-Err-OtherCart-clause-err c =
-    let given : Inputs = record { cart = arc_value c.in-Ok.both.0; recording = arc_value c.in-Ok.both.1 } in
+    let given : Inputs = record { cart = arc_value c.in-Ok.both.0; recording = arc_value c.in-Ok.both.1; pal = c.args.inputs.pal } in
     let read : Read given c.args.bytes.now (Err (fault.OtherCart c.in-Err-OtherCart.kept c.in-Err-OtherCart.given)) =
     record {
       only = rw c.in-Err-OtherCart.field-0-is at c.in-Err-OtherCart.ensures.only;

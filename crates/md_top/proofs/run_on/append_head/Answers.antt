@@ -15,8 +15,9 @@ returns-clause-files g c =
     let start : Start = start_in c.args.course.now in
     let end : ℕ = c.args.run.now.cycles in
     let head : c.as_slice.result.now ≡ sound_until start end start.at =
-    c.as_slice.ensures.value ∙ c.wav_head.ensures.bytes ∙ ap (λ (l : List ℕ). l ++ wav_head c.pairs_between-pairs.result) c.clear.ensures.items
-    ∙ ap wav_head c.pairs_between-pairs.ensures ∙ ap (λ (from : ℕ). wav_head (pairs_between from end)) c.at.ensures
+    c.as_slice.ensures.value ∙ c.wav_head.ensures.bytes ∙ ap (λ (l : List ℕ). l ++ wav_head c.pairs_between-pairs.result c.pal.result) c.clear.ensures.items
+    ∙ ap (λ (pairs : ℕ). wav_head pairs c.pal.result) c.pairs_between-pairs.ensures ∙ ap (λ (from : ℕ). wav_head (pairs_between from end) c.pal.result) c.at.ensures
+    ∙ ap (wav_head (pairs_between start.at end)) c.pal.ensures.value
     ∙ head-first start end c.requires.start.from c.requires.start.laws (omega (arith, c.requires.before, c.requires.end.1)) c.requires.end in
     on-ok c.append_sound.result
     (λ adds t first holds.
@@ -29,8 +30,9 @@ returns-clause-err_files g c =
     let start : Start = start_in c.args.course.now in
     let end : ℕ = c.args.run.now.cycles in
     let head : c.as_slice.result.now ≡ sound_until start end start.at =
-    c.as_slice.ensures.value ∙ c.wav_head.ensures.bytes ∙ ap (λ (l : List ℕ). l ++ wav_head c.pairs_between-pairs.result) c.clear.ensures.items
-    ∙ ap wav_head c.pairs_between-pairs.ensures ∙ ap (λ (from : ℕ). wav_head (pairs_between from end)) c.at.ensures
+    c.as_slice.ensures.value ∙ c.wav_head.ensures.bytes ∙ ap (λ (l : List ℕ). l ++ wav_head c.pairs_between-pairs.result c.pal.result) c.clear.ensures.items
+    ∙ ap (λ (pairs : ℕ). wav_head pairs c.pal.result) c.pairs_between-pairs.ensures ∙ ap (λ (from : ℕ). wav_head (pairs_between from end) c.pal.result) c.at.ensures
+    ∙ ap (wav_head (pairs_between start.at end)) c.pal.ensures.value
     ∙ head-first start end c.requires.start.from c.requires.start.laws (omega (arith, c.requires.before, c.requires.end.1)) c.requires.end in
     on-err c.append_sound.result
     (λ adds t first holds.

@@ -1,6 +1,7 @@
-use Rattle.std.proofs.Common.{rules, ◌≡◌, ℕ, Option, ap, sym, subst, ◌∙◌, arith}
+use Rattle.std.proofs.Common.{rules, ◌≡◌, ℕ, Bool, Option, ap, ap₂, sym, subst, ◌∙◌, arith}
 use Rattle.md_machine.specs.Starts.{Start}
 use Rattle.md_top.specs.Courses.{cycle_of, start_in}
+use Rattle.md_top.specs.Counts.{frames_between}
 use Rattle.md_top.specs.Endings.{HoldsUntil}
 use Rattle.md_top.specs.Resuming.{RunsWell}
 use Rattle.md_top.specs.Runs.{state_to}
@@ -33,9 +34,11 @@ returns-in-Ok-clause-cause g c =
     let start : Start = start_in c.args.course in
     let at : cycle_of course ≡ c.args.run.now.cycles = omega (arith, c.segments.invariant.0, c.segments-test.false, c.at.ensures) in
     let halted : c.halted.result ≡ course.machine.console.main.halted = rw c.main_chip.ensures at c.halted.ensures in
-    subst (λ (from : ℕ). RunsWell start c.args.run.now.cycles from course.accesses c.halted.result) (sym c.at-from.ensures)
-    (subst (λ (since : Option ℕ). RunsWell start c.args.run.now.cycles start.at course.accesses since) (sym halted)
-    (ends-well start c.args.run.now.cycles course.machine course.accesses at c.segments.invariant.1 c.states_keep_laws.ensures c.lists_end_as_run.ensures c.requires.end
+    let finished : c.frames_between.result ≡ frames_between start.console.pal start.at c.args.run.now.cycles =
+    c.frames_between.ensures ∙ ap₂ (λ (pal : Bool) (from : ℕ). frames_between pal from c.args.run.now.cycles) c.pal-pal.ensures.value c.at-from.ensures in
+    subst (λ (from : ℕ). RunsWell start c.args.run.now.cycles from c.frames_between.result course.accesses c.halted.result) (sym c.at-from.ensures)
+    (subst (λ (since : Option ℕ). RunsWell start c.args.run.now.cycles start.at c.frames_between.result course.accesses since) (sym halted)
+    (ends-well start c.args.run.now.cycles course.machine course.accesses c.frames_between.result at c.segments.invariant.1 finished c.states_keep_laws.ensures c.lists_end_as_run.ensures c.requires.end
     c.kept.ensures))
 
 pub returns-in-Ok-clause-files : goal.returns-in-Ok-clause-files

@@ -1,18 +1,24 @@
-use Rattle.std.proofs.Common.{◌≡◌, ℕ, ◌+◌, ◌-◌, ◌/◌, ◌≤◌, List, [], ◌++◌, length, length-append, sym, ap, ◌∙◌, arith}
+use Rattle.std.proofs.Common.{◌≡◌, ℕ, ◌+◌, ◌-◌, ◌/◌, ◌≤◌, ◌*◌, Bool, List, [], ◌++◌, length, length-append, sym, ap, subst, ◌∙◌, arith}
 use Rattle.md_machine.specs.Machines.{MachineValue}
-use Rattle.md_machine.specs.Outputs.{frames_bytes, journal_bytes, sound_bytes}
+use Rattle.std.specs.Prelude.{vec_capacity}
+use Rattle.md_machine.specs.Outputs.{frame_length, frames_bytes, journal_bytes, sound_bytes}
 use Rattle.md_machine.specs.Media.{Media, no_media}
+use Rattle.md_machine.specs.Regions.{most_entries, most_pairs}
 use Rattle.md_machine.specs.Starts.{Start}
 use Rattle.md_top.specs.Courses.{CameFrom, cycle_of}
 use Rattle.md_top.specs.Runs.{entries_from, media_from}
 use Rattle.md_top.specs.Workers.{WentOn}
-use Rattle.md_top.proofs.Segments.{Segment, came-to, few-entries, frames_bytes-append, journal_bytes-append, paired, segment, sound_bytes-append}
+use Rattle.md_machine.proofs.Regions.{run_stays}
+use Rattle.md_top.proofs.Segments.{Segment, came-to, few-entries, frame-room, frames_bytes-append, journal_bytes-append, paired, segment, sound_bytes-append}
 use Rattle.md_top.proofs.segment.advance.Goals as goal
 
 pub drain_frames-requires : goal.drain_frames-requires
 drain_frames-requires g c =
     let went : WentOn c.args.course.now.machine c.args.to c.go_on.new.arg2 = c.requires.goes _ c.args.to _ c.go_on.ensures in
-    omega (arith, went.frames, c.clear.ensures.len, c.clear.ensures.capacity, c.args.course.now.frames_fit)
+    let fit : frame_length c.go_on.new.arg2.console.pal * length c.go_on.new.arg2.media.frames ≤ vec_capacity c.args.course.now.frames =
+    frame-room c.args.course.now.machine.console.pal c.go_on.new.arg2.console.pal (length c.go_on.new.arg2.media.frames) (vec_capacity c.args.course.now.frames)
+    (run_stays c.args.course.now.machine.console c.go_on.new.arg2.console c.args.to c.go_on.new.arg2.entries c.go_on.new.arg2.media went.run).pal went.frames c.args.course.now.frames_fit in
+    omega (arith, fit, c.clear.ensures.len, c.clear.ensures.capacity)
 
 pub drain_pairs-requires : goal.drain_pairs-requires
 drain_pairs-requires g c =
@@ -99,11 +105,14 @@ returns-clause-frames g c = λ start came.
     let made : Segment start (cycle_of c.args.course.now) c.args.to c.go_on.new.arg2 =
     segment start (cycle_of c.args.course.now) c.args.to c.args.course.now.machine.console c.go_on.new.arg2 came.laws
     (omega (arith, c.requires.far)) (omega (arith, c.requires.later)) came.run went.run in
-    let piece : c.drain_frames.new.into.items ≡ frames_bytes c.go_on.new.arg2.media.frames =
-    c.drain_frames.ensures.bytes ∙ ap (λ (l : List ℕ). l ++ frames_bytes c.go_on.new.arg2.media.frames) c.clear.ensures.items in
-    ap (λ (m : Media). frames_bytes m.frames) made.output
-    ∙ frames_bytes-append (media_from start (cycle_of c.args.course.now)).frames c.go_on.new.arg2.media.frames
-    ∙ ap (λ (l : List ℕ). frames_bytes (media_from start (cycle_of c.args.course.now)).frames ++ l) (sym piece)
+    let piece : c.drain_frames.new.into.items ≡ frames_bytes c.go_on.new.arg2.console.pal c.go_on.new.arg2.media.frames =
+    c.drain_frames.ensures.bytes ∙ ap (λ (l : List ℕ). l ++ frames_bytes c.go_on.new.arg2.console.pal c.go_on.new.arg2.media.frames) c.clear.ensures.items in
+    let pal = start.console.pal in
+    let region : c.go_on.new.arg2.console.pal ≡ pal = (run_stays start.console c.go_on.new.arg2.console c.args.to (entries_from start c.args.to) (media_from start c.args.to) made.run).pal in
+    ap (λ (m : Media). frames_bytes pal m.frames) made.output
+    ∙ frames_bytes-append pal (media_from start (cycle_of c.args.course.now)).frames c.go_on.new.arg2.media.frames
+    ∙ ap (λ (l : List ℕ). frames_bytes pal (media_from start (cycle_of c.args.course.now)).frames ++ l)
+    (ap (λ (b : Bool). frames_bytes b c.go_on.new.arg2.media.frames) (sym region) ∙ sym piece)
 
 pub returns-clause-pairs : goal.returns-clause-pairs
 unfolding sound_bytes
@@ -130,3 +139,20 @@ returns-clause-records g c = λ start came.
     ∙ ap (λ (m : MachineValue). journal_bytes m.entries) c.drain_pairs.ensures.machine ∙ ap (λ (m : MachineValue). journal_bytes m.entries) c.drain_frames.ensures.machine in
     ap journal_bytes made.entries ∙ journal_bytes-append (entries_from start (cycle_of c.args.course.now)) c.go_on.new.arg2.entries
     ∙ ap (λ (l : List ℕ). journal_bytes (entries_from start (cycle_of c.args.course.now)) ++ l) (sym piece)
+
+pub invariant_of-course : goal.invariant_of-course
+invariant_of-course g c =
+    let course = c.args.course.now in
+    let went : WentOn course.machine c.args.to c.go_on.new.arg2 = c.requires.goes _ c.args.to _ c.go_on.ensures in
+    let region : c.drain_entries.new.self.console.pal ≡ course.machine.console.pal =
+    ap (λ (m : MachineValue). m.console.pal) c.drain_entries.ensures.machine ∙ ap (λ (m : MachineValue). m.console.pal) c.drain_pairs.ensures.machine
+    ∙ ap (λ (m : MachineValue). m.console.pal) c.drain_frames.ensures.machine
+    ∙ (run_stays course.machine.console c.go_on.new.arg2.console c.args.to c.go_on.new.arg2.entries c.go_on.new.arg2.media went.run).pal in
+    record {
+      frames_fit = subst (λ (b : Bool). frame_length b ≤ vec_capacity c.drain_frames.new.into) (sym region)
+          (omega (arith, course.frames_fit, c.clear.ensures.capacity, c.drain_frames.ensures.room));
+      pairs_fit = subst (λ (b : Bool). 4 * most_pairs b ≤ vec_capacity c.drain_pairs.new.into) (sym region)
+          (omega (arith, course.pairs_fit, c.clear-2.ensures.capacity, c.drain_pairs.ensures.room));
+      records_fit = subst (λ (b : Bool). 16 * most_entries b ≤ vec_capacity c.drain_entries.new.into) (sym region)
+          (omega (arith, course.records_fit, c.clear-3.ensures.capacity, c.drain_entries.ensures.room));
+    }

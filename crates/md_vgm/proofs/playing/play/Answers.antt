@@ -22,8 +22,8 @@ returns-clause-played c =
         n,
         found.1,
         found.2.0,
-        h.3 ∙ ap (λ (l : List ℕ). wav_head (16 * c.batches_below.result) ++ l) (whole_sound pal file c.batches_below.result h.0 n h.1 found.2.0 h.2)
-            ∙ ap (λ (k : ℕ). wav_head (16 * k) ++ pairs (psg_before pal file n) (fm_before pal file n) k) batches,
+        h.3 ∙ ap (λ (l : List ℕ). wav_head (16 * c.batches_below.result) pal ++ l) (whole_sound pal file c.batches_below.result h.0 n h.1 found.2.0 h.2)
+            ∙ ap (λ (k : ℕ). wav_head (16 * k) pal ++ pairs (psg_before pal file n) (fm_before pal file n) k) batches,
       ),
     ))
     c.sound.ensures.sound
@@ -40,6 +40,6 @@ returns-clause-fault c =
     IfErr-weaker c.sound.result _ _
     (λ fault h. inr (
       h,
-      (sound_file (psg_before pal file n) (fm_before pal file n) (stamp pal file n), (c.in-Ok.ensures.0, (n, found.1, found.2.0, refl))),
+      (sound_file pal (psg_before pal file n) (fm_before pal file n) (stamp pal file n), (c.in-Ok.ensures.0, (n, found.1, found.2.0, refl))),
     ))
     (c.sound.ensures.fine n found.1 found.2.0 below)

@@ -1,47 +1,53 @@
-use Rattle.std.proofs.Common.{◌≡◌, sym, ◌∙◌, arith, true}
+use Rattle.std.proofs.Common.{◌≡◌, ◌∙◌, ℕ, List, ap, sym, subst, inl, true}
 use Rattle.std.specs.Arc.{arc_value}
-use Rattle.save_state.proofs.ReadLaws.{parts_of_state, digest_long, fields_only, fields_wrong, read_only, read_wrong, read_found, read_start, same_cart}
+use Rattle.save_state.specs.Faults.{HasForm}
+use Rattle.save_state.specs.Layout.{digest_part, part_of}
+use Rattle.save_state.specs.Refusals.{FieldFailsBack}
+use Rattle.save_state.specs.States.{IsNewest}
+use Rattle.save_state.specs.Versions.{IsWrongAt, migrated}
+use Rattle.save_state.proofs.VersionLaws.{form_of, form_wrong, only_of, same_digest, state_own, unversioned, wrong_of}
 use Rattle.save_state.proofs.reading.read_with.Goals as goal
 
-pub returns-then-bytes-ne-LENGTH-clause-only : goal.returns-then-bytes-ne-LENGTH-clause-only
-returns-then-bytes-ne-LENGTH-clause-only c = λ start s pads n.
-    absurd (c.if-bytes-ne-LENGTH.true (parts_of_state (arc_value c.args.cart) c.args.bytes.now start (digest_long (arc_value c.args.cart) c.args.digest.now c.requires c.told-digest) s).long)
+pub returns-in-Err-clause-only : goal.returns-in-Err-clause-only
+returns-in-Err-clause-only c = λ start s pads n. absurd (unversioned s.version c.args.bytes.now c.in-Err.place c.in-Err.ensures.none s.has)
 
-pub returns-then-not-has_mark-clause-only : goal.returns-then-not-has_mark-clause-only
-returns-then-not-has_mark-clause-only c = λ start s pads n.
-    let yes : c.has_mark.result ≡ true = c.has_mark.ensures.1 (parts_of_state (arc_value c.args.cart) c.args.bytes.now start (digest_long (arc_value c.args.cart) c.args.digest.now c.requires c.told-digest) s).head in
-    let no = c.if-not-has_mark.true in
-    absurd cc
+pub returns-in-Err-clause-form : goal.returns-in-Err-clause-form
+returns-in-Err-clause-form c = λ place e.
+    let same : c.in-Err.place ≡ place = cc in
+    subst (IsWrongAt (arc_value c.args.cart) c.args.bytes.now) same (inl c.in-Err.ensures.none)
 
 pub returns-then-not-is_same-clause-only : goal.returns-then-not-is_same-clause-only
 returns-then-not-is_same-clause-only c = λ start s pads n.
-    let yes : c.is_same.result ≡ true = c.is_same.ensures.1 (c.digest_at-kept.ensures ∙ (parts_of_state (arc_value c.args.cart) c.args.bytes.now start (digest_long (arc_value c.args.cart) c.args.digest.now c.requires c.told-digest) s).digest_is ∙ sym c.requires) in
+    let yes : c.is_same.result ≡ true = c.is_same.ensures.1 (c.digest_at-kept.ensures ∙ state_own (arc_value c.args.cart) c.args.bytes.now start s ∙ sym c.requires) in
     let no = c.if-not-is_same.true in
     absurd cc
 
-pub returns-in-Ok-clause-found : goal.returns-in-Ok-clause-found
-returns-in-Ok-clause-found c =
-    read_found (arc_value c.args.cart) (arc_value c.args.recording) c.args.bytes.now c.in-Ok.machine (λ i. omega (arith, c.type_inv.bytes i)) (record { long = c.if-bytes-ne-LENGTH.false; mark = c.has_mark.ensures.0 c.if-not-has_mark.false }) (sym c.digest_at-kept.ensures ∙ c.is_same.ensures.0 c.if-not-is_same.false ∙ c.requires) c.in-Ok.ensures
+pub read_newest-requires-clause-form : goal.read_newest-requires-clause-form
+read_newest-requires-clause-form c =
+    subst HasForm (sym (c.as_slice.ensures.value ∙ c.in-Ok-migrated.ensures)) (form_of c.in-Ok.version c.args.bytes.now c.in-Ok.ensures.version)
 
-pub returns-in-Ok-clause-start : goal.returns-in-Ok-clause-start
-returns-in-Ok-clause-start c = read_start (arc_value c.args.cart) (arc_value c.args.recording) c.args.bytes.now c.in-Ok.machine c.in-Ok.ensures
+pub read_newest-requires-clause-own : goal.read_newest-requires-clause-own
+read_newest-requires-clause-own c =
+    ap (part_of digest_part) (c.as_slice.ensures.value ∙ c.in-Ok-migrated.ensures) ∙ same_digest c.in-Ok.version c.args.bytes.now c.in-Ok.ensures.version
+    ∙ sym c.digest_at-kept.ensures ∙ c.is_same.ensures.0 c.if-not-is_same.false ∙ c.requires
 
-pub returns-in-Ok-clause-only : goal.returns-in-Ok-clause-only
-returns-in-Ok-clause-only c = λ start s pads n.
-    read_only (arc_value c.args.cart) (arc_value c.args.recording) c.args.bytes.now c.in-Ok.machine start (digest_long (arc_value c.args.cart) c.args.digest.now c.requires c.told-digest) c.in-Ok.ensures s pads
+pub returns-in-Ok-migrated-clause-only : goal.returns-in-Ok-migrated-clause-only
+returns-in-Ok-migrated-clause-only c = λ start s pads n.
+    let cart = arc_value c.args.cart in
+    let same : c.as_slice.result.now ≡ migrated c.in-Ok.version c.args.bytes.now = c.as_slice.ensures.value ∙ c.in-Ok-migrated.ensures in
+    c.read_newest.ensures.only start
+    (subst (λ (l : List ℕ). IsNewest cart l start) (sym same) (only_of c.in-Ok.version cart c.args.bytes.now start c.in-Ok.ensures.version s)) pads n
 
-pub returns-in-Ok-clause-wrong : goal.returns-in-Ok-clause-wrong
-returns-in-Ok-clause-wrong c = λ place w n.
-    absurd (read_wrong (arc_value c.args.cart) (arc_value c.args.recording) c.args.bytes.now c.in-Ok.machine place (record { long = c.if-bytes-ne-LENGTH.false; mark = c.has_mark.ensures.0 c.if-not-has_mark.false }) c.in-Ok.ensures w)
+pub returns-in-Ok-migrated-clause-form : goal.returns-in-Ok-migrated-clause-form
+returns-in-Ok-migrated-clause-form c = λ place e.
+    let cart = arc_value c.args.cart in
+    let same : c.as_slice.result.now ≡ migrated c.in-Ok.version c.args.bytes.now = c.as_slice.ensures.value ∙ c.in-Ok-migrated.ensures in
+    form_wrong c.in-Ok.version cart c.args.bytes.now place c.in-Ok.ensures.version
+    (subst (λ (l : List ℕ). FieldFailsBack c.in-Ok.version cart l place) same (c.read_newest.ensures.form place e))
 
-pub returns-in-Ok-clause-other : goal.returns-in-Ok-clause-other
-returns-in-Ok-clause-other c = λ kept given.
-    (λ e. absurd cc, λ o. absurd (same_cart (arc_value c.args.cart) c.args.bytes.now kept given (sym c.digest_at-kept.ensures ∙ c.is_same.ensures.0 c.if-not-is_same.false ∙ c.requires) o))
-
-pub returns-in-Err-clause-only : goal.returns-in-Err-clause-only
-returns-in-Err-clause-only c = λ start s pads n.
-    fields_only (arc_value c.args.cart) (arc_value c.args.recording) c.args.bytes.now c.in-Err.fault c.from.result start (digest_long (arc_value c.args.cart) c.args.digest.now c.requires c.told-digest) c.from.ensures c.in-Err.ensures s pads n
-
-pub returns-in-Err-clause-wrong : goal.returns-in-Err-clause-wrong
-returns-in-Err-clause-wrong c = λ place w n.
-    fields_wrong (arc_value c.args.cart) (arc_value c.args.recording) c.args.bytes.now c.in-Err.fault c.from.result place (record { long = c.if-bytes-ne-LENGTH.false; mark = c.has_mark.ensures.0 c.if-not-has_mark.false }) c.from.ensures c.in-Err.ensures w n
+pub returns-in-Ok-migrated-clause-wrong : goal.returns-in-Ok-migrated-clause-wrong
+returns-in-Ok-migrated-clause-wrong c = λ place w n.
+    let cart = arc_value c.args.cart in
+    let same : c.as_slice.result.now ≡ migrated c.in-Ok.version c.args.bytes.now = c.as_slice.ensures.value ∙ c.in-Ok-migrated.ensures in
+    c.read_newest.ensures.wrong place
+    (subst (λ (l : List ℕ). FieldFailsBack c.in-Ok.version cart l place) (sym same) (wrong_of c.in-Ok.version cart c.args.bytes.now place c.in-Ok.ensures.version w)) n

@@ -12,12 +12,13 @@ use Rattle.bus_shared.specs.Board.{Board, IsBoard}
 use Rattle.bus_shared.specs.Spelling as shared
 use Rattle.md_machine.specs.Starts as starts
 use Rattle.md_machine.specs.Console.{Console, drawing_in}
-use Rattle.save_state.specs.States.{mark}
+use Rattle.save_state.specs.States.{mark, settled_console}
+use Rattle.save_state.proofs.VersionLaws.{newest_state}
 use Rattle.save_state.proofs.ReadyLaws.{BoardKept, DrawingKept, FmKept, MainKept, PsgKept, SubKept, drawing_kept, saved}
-use Rattle.save_state.proofs.WriteLaws.{rest_long, numbers_cut, board_cut, store_cut, written, holder_byte}
+use Rattle.save_state.proofs.WriteLaws.{rest_long, numbers_cut, board_cut, store_cut, written, holder_byte, region_byte}
 use Rattle.save_state.proofs.writing.write_with.Goals as goal
 
-long_rest : (board rest items : List ℕ) (has : Bool) (b b2 m : Board) → has ≡ is_some b.store → b ≡ m → b2 ≡ m → board ≡ items → length items ≡ shared.board_size (is_some b2.store) → rest ≡ drop (shared.store_size has) board → length rest ≡ 88388
+long_rest : (board rest items : List ℕ) (has : Bool) (b b2 m : Board) → has ≡ is_some b.store → b ≡ m → b2 ≡ m → board ≡ items → length items ≡ shared.board_size (is_some b2.store) → rest ≡ drop (shared.store_size has) board → length rest ≡ 88389
 long_rest board rest items has b b2 m h e f g long r = rest_long board rest has (is_some b2.store) (h ∙ ap (λ (x : Board). is_some x.store) (e ∙ sym f)) (ap length g ∙ long) r
 
 least_sub : (has : Bool) → 62 ≤ sub.spelled_size has
@@ -29,6 +30,9 @@ long_sub bytes items has e long = omega (arith, ap length e ∙ long, least_sub 
 
 pub store_in-requires-clause-sub : goal.store_in-requires-clause-sub
 store_in-requires-clause-sub c = long_sub c.as_slice-4.result.now c.in_ok-sub.sub.items _ c.as_slice-4.ensures.value c.in_ok-sub.ensures.long
+
+pub of-requires : goal.of-requires
+of-requires c = omega (arith, long_sub c.as_slice-3.result.now c.in_ok-sub.sub.items _ c.as_slice-3.ensures.value c.in_ok-sub.ensures.long)
 
 pub of-requires-2 : goal.of-requires-2
 of-requires-2 c =
@@ -61,11 +65,12 @@ returns-clause-bytes c =
     let board_long : length c.as_slice.result.now ≡ shared.board_size (is_some m.shared.store) = ap length c.as_slice.ensures.value ∙ c.in_ok-board.ensures.long ∙ ap (λ (b : Board). shared.board_size (is_some b.store)) c.shared-2.ensures in
     let same_board : c.as_slice-5.result.now ≡ c.as_slice.result.now = c.as_slice-5.ensures.value ∙ sym c.as_slice.ensures.value in
     let parts = board_cut at m.shared c.as_slice.result.now c.behind_store-rest.result.now c.has_store-has.result board_ok has board_is board_long c.behind_store-rest.ensures in
-    written at m c.args.digest.now c.of.result.now (c.from.result ∷ []) c.store_in.result.now c.of-2.result.now c.as_slice-6.result.now c.of-3.result.now c.to_be_bytes-batch.result c.of-4.result.now c.of-5.result.now c.draw_chip.result.now
-    c.append.new.into.items c.append-2.new.into.items c.append-3.new.into.items c.append-4.new.into.items
+    written at m c.args.digest.now (c.from.result ∷ []) c.of.result.now (c.from-2.result ∷ []) c.store_in.result.now c.of-2.result.now c.as_slice-6.result.now c.of-3.result.now c.to_be_bytes-batch.result c.of-4.result.now c.of-5.result.now c.draw_chip.result.now
+    c.append.new.into.items c.extend_from_slice.new.self.items c.append-2.new.into.items c.append-3.new.into.items c.append-4.new.into.items
     c.requires.digest
+    (region_byte m c.pal.result c.from.result c.pal.ensures.value c.from.ensures)
     (c.of.ensures ∙ cut.0)
-    (holder_byte m c.has_store-has.result c.from.result has c.from.ensures)
+    (holder_byte m c.has_store-has.result c.from-2.result has c.from-2.ensures)
     (c.store_in.ensures ∙ store_cut at m c.as_slice-4.result.now c.as_slice-5.result.now c.has_store-has.result board_ok has (ap (drop 62) same_sub ∙ cut.1) (same_board ∙ board_is))
     (c.of-2.ensures ∙ parts.video)
     (c.as_slice-6.ensures.value ∙ c.in_ok-drawing.ensures.bytes)
@@ -74,7 +79,8 @@ returns-clause-bytes c =
     (c.to_be_bytes-batch.ensures ∙ ap (to_be_bytes w64) (c.first_batch.ensures ∙ ap starts.first_batch c.at-at.ensures))
     (c.of-4.ensures ∙ parts.psg_port)
     (c.of-5.ensures ∙ parts.lines)
-    (c.in_ok-append.ensures ∙ (λ i. c.in_ok-bytes.ensures.items i ++ (mark ++ (c.args.digest.now ++ ((c.to_be_bytes.ensures ∙ ap (to_be_bytes w64) c.at-at.ensures) i ++ (c.as_slice-2.ensures.value ∙ c.in_ok-main.ensures.bytes ∙ ap (λ (x : Chip68Value). main.chip_bytes x.state) c.main_chip.ensures) i)))))
+    (c.in_ok-append.ensures ∙ (λ i. c.in_ok-bytes.ensures.items i ++ (mark ++ (c.args.digest.now ++ ((c.to_be_bytes.ensures ∙ ap (to_be_bytes w64) c.at-at.ensures) i ++ (c.from.result ∷ []))))))
+    (c.in_ok-extend_from_slice.ensures.items ∙ ap (λ (l : List ℕ). c.append.new.into.items ++ l) (c.as_slice-2.ensures.value ∙ c.in_ok-main.ensures.bytes ∙ ap (λ (x : Chip68Value). main.chip_bytes x.state) c.main_chip.ensures))
     c.in_ok-append-2.ensures
     (c.in_ok-append-3.ensures ∙ (λ i. c.append-2.new.into.items ++ (c.as_slice-6.result.now ++ (c.of-3.result.now ++ (c.to_be_bytes-batch.result ++ (c.as_slice-7.ensures.value ∙ c.in_ok-fm.ensures.bytes ∙ ap (λ (x : fm_synths.Synth). fm.synth_bytes x) c.fm.ensures) i)))))
     (c.in_ok-append-4.ensures ∙ (λ i. c.append-3.new.into.items ++ (c.to_be_bytes-batch.result ++ (c.of-4.result.now ++ ((c.as_slice-8.ensures.value ∙ c.in_ok-psg.ensures.bytes ∙ ap (λ (x : psg_synths.Synth). psg.synth_bytes x) c.psg.ensures) i ++ c.of-5.result.now)))))
@@ -88,8 +94,9 @@ returns-clause-kept c = λ ready.
     let of_sub : SubKept at m.sub = subst (λ (n : ℕ). SubKept n m.sub) here (subst (λ (x : Chip80Value). SubKept c.at-at.result x) c.sub_chip.ensures c.in_ok-sub.ensures.kept) in
     let of_board : BoardKept at m.shared = subst (λ (n : ℕ). BoardKept n m.shared) here (subst (λ (b : Board). BoardKept c.at-at.result b) c.shared-2.ensures c.in_ok-board.ensures.kept) in
     let of_drawing : DrawingKept at (drawing_in m) =
-    drawing_kept at c.draw_chip.result.now m c.draw_chip.ensures.next c.draw_chip.ensures.note c.draw_chip.ensures.picture
+    drawing_kept at c.draw_chip.result.now m c.draw_chip.ensures.next c.draw_chip.ensures.note c.draw_chip.ensures.picture c.draw_chip.ensures.region
     (subst (λ (n : ℕ). DrawingKept n c.draw_chip.result.now) here c.in_ok-drawing.ensures.kept) in
     let of_fm : FmKept m.fm = subst FmKept c.fm.ensures c.in_ok-fm.ensures.kept in
     let of_psg : PsgKept m.psg = subst PsgKept c.psg.ensures c.in_ok-psg.ensures.kept in
-    record { saved = saved at m of_main of_sub of_board of_drawing of_fm of_psg ready; all = returns-clause-bytes c }
+    newest_state m.cart _ (record { at = at; console = settled_console at m })
+    (record { saved = saved at m of_main of_sub of_board of_drawing of_fm of_psg c.pal.ensures.one ready; all = returns-clause-bytes c })

@@ -4,4 +4,5 @@ use Rattle.vdp_time.proofs.event.start_line.Goals as goal
 
 pub returns-clause-rules : goal.returns-clause-rules
 unfolding line_started
-returns-clause-rules c = λ at l e h. rw (c.raise.ensures, c.count_line.ensures, c.line_of-line.ensures.value) (started_kept at c.args.cycle _ l e h)
+returns-clause-rules c = λ at l e h.
+    rw (c.raise.ensures, c.count_line.ensures, c.latch_height.ensures, c.line_at-line.ensures) (started_kept at c.args.cycle _ l e h)

@@ -1,12 +1,8 @@
-use Rattle.std.proofs.Common.{◌∙◌, ℕ, is_some, ap, refl, subst, sym, arith}
+use Rattle.std.proofs.Common.{◌∙◌, is_some, ap, refl, arith}
 use Rattle.std.specs.Prelude.{option_map}
 use Rattle.z80_parcel.specs.Parcels.{store_of}
 use Rattle.bus_shared.specs.Board.{Board}
-use Rattle.vdp_dma.specs.Settling.{settled}
-use Rattle.vdp_ports.specs.Rules.{HasRules}
-use Rattle.vdp_ports.specs.Spelling as vdp_spelling
-use Rattle.vdp_ports.specs.Vdp.{Vdp}
-use Rattle.bus_shared.specs.Spelling.{IsReady, Spells, board_bytes, board_size, settled_board}
+use Rattle.bus_shared.specs.Spelling.{board_size}
 use Rattle.bus_shared.proofs.Keeping.{board_spelled}
 use Rattle.bus_shared.proofs.SavedLaws.{five}
 use Rattle.bus_shared.proofs.SpellingLaws.{board_long, store_long}

@@ -1,11 +1,23 @@
-use Rattle.std.proofs.Common.{ap, ◌∙◌, lit<, sym, subst, ℕ, List, length, ◌≤◌, ◌*◌, ◌+◌, ◌++◌}
-use Rattle.std.specs.Prelude.{vec_len, vec_capacity}
+use Rattle.std.proofs.Common.{◌≡◌, ap, ◌∙◌, lit<, sym, subst, ℕ, Bool, List, length, ◌≤◌, ◌*◌, ◌+◌, ◌++◌, IfSome}
+use Rattle.std.specs.Prelude.{option_copied, vec_len, vec_capacity}
+use Rattle.md_word.specs.Region.{picture_length}
 use Rattle.md_machine.specs.Drained.{frame_of}
 use Rattle.md_machine.specs.Lines.{frames_of}
 use Rattle.md_machine.specs.Machines.{MachineValue}
 use Rattle.md_machine.specs.Outputs.{frame_length, frames_bytes}
+use Rattle.md_machine.specs.Refinement.{console, draw_of}
+use Rattle.md_machine.specs.declared.chips.Chip.{Chip}
 use Rattle.md_machine.proofs.Held.{read-chip}
 use Rattle.md_machine.proofs.machine.Machine.drain_frames.Goals as goal
+
+pub put_frames-requires-clause-size : goal.put_frames-requires-clause-size
+unfolding console
+put_frames-requires-clause-size c =
+    let v = c.core.result.now in
+    let region : (draw_of c.index-chips-2.result).chip.pal ≡ c.pal-pal.result =
+    ap (λ (x : Chip). (draw_of x).chip.pal) (read-chip v c.chips.result.now 2 c.index-chips-2.result c.core.ensures.core c.chips.ensures.value (lit< tt) c.index-chips-2.is)
+    ∙ ap (λ (m : MachineValue). m.console.pal) c.core.ensures.value ∙ sym c.pal-pal.ensures.value in
+    subst (λ (b : Bool). IfSome (option_copied c.frame_in.result) (λ picture. length picture ≡ picture_length b)) region c.frame_in.ensures.size
 
 pub put_frames-requires-clause-room : goal.put_frames-requires-clause-room
 put_frames-requires-clause-room c =
@@ -13,7 +25,8 @@ put_frames-requires-clause-room c =
     let kept = ap frames_of (c.frame_in.ensures.value
     ∙ ap frame_of (read-chip v c.chips.result.now 2 c.index-chips-2.result c.core.ensures.core c.chips.ensures.value (lit< tt) c.index-chips-2.is))
     ∙ ap (λ (v : MachineValue). v.media.frames) c.core.ensures.value in
-    subst (λ (l : List (List ℕ)). vec_len c.args.into.now + frame_length * length l ≤ vec_capacity c.args.into.now) (sym kept) c.requires
+    subst (λ (b : Bool). vec_len c.args.into.now + frame_length b * length (frames_of (option_copied c.frame_in.result)) ≤ vec_capacity c.args.into.now) (sym c.pal-pal.ensures.value)
+    (subst (λ (l : List (List ℕ)). vec_len c.args.into.now + frame_length c.args.self.now.console.pal * length l ≤ vec_capacity c.args.into.now) (sym kept) c.requires)
 
 pub returns-clause-bytes : goal.returns-clause-bytes
 returns-clause-bytes c =
@@ -21,7 +34,7 @@ returns-clause-bytes c =
     let kept = ap frames_of (c.frame_in.ensures.value
     ∙ ap frame_of (read-chip v c.chips.result.now 2 c.index-chips-2.result c.core.ensures.core c.chips.ensures.value (lit< tt) c.index-chips-2.is))
     ∙ ap (λ (v : MachineValue). v.media.frames) c.core.ensures.value in
-    c.put_frames.ensures.bytes ∙ ap (λ (l : List (List ℕ)). c.args.into.now.items ++ frames_bytes l) kept
+    c.put_frames.ensures.bytes ∙ (λ i. c.args.into.now.items ++ frames_bytes (c.pal-pal.ensures.value i) (kept i))
 
 pub returns-clause-length : goal.returns-clause-length
 returns-clause-length c =
@@ -29,4 +42,4 @@ returns-clause-length c =
     let kept = ap frames_of (c.frame_in.ensures.value
     ∙ ap frame_of (read-chip v c.chips.result.now 2 c.index-chips-2.result c.core.ensures.core c.chips.ensures.value (lit< tt) c.index-chips-2.is))
     ∙ ap (λ (v : MachineValue). v.media.frames) c.core.ensures.value in
-    c.put_frames.ensures.length ∙ ap (λ (l : List (List ℕ)). vec_len c.args.into.now + frame_length * length l) kept
+    c.put_frames.ensures.length ∙ (λ i. vec_len c.args.into.now + frame_length (c.pal-pal.ensures.value i) * length (kept i))

@@ -40,3 +40,12 @@ returns-clause-picture c =
     ∙ ap (λ (x : Chip). (draw_of x).chip.picture)
     (read-chip v c.chips.result.now 2 c.index-chips-2.result c.core.ensures.core c.chips.ensures.value (lit< tt) c.index-chips-2.is)
     ∙ ap (λ (v : MachineValue). v.console.picture) c.core.ensures.value
+
+pub returns-clause-region : goal.returns-clause-region
+unfolding console
+returns-clause-region c =
+    let v = c.core.result.now in
+    ap (λ (d : Drawing). d.pal) c.draw_in.ensures
+    ∙ ap (λ (x : Chip). (draw_of x).chip.pal)
+    (read-chip v c.chips.result.now 2 c.index-chips-2.result c.core.ensures.core c.chips.ensures.value (lit< tt) c.index-chips-2.is)
+    ∙ ap (λ (v : MachineValue). v.console.pal) c.core.ensures.value

@@ -1,5 +1,6 @@
 use Rattle.std.proofs.Common.{◌≡◌, ◌∙◌, ℕ, ◌+◌, ◌≤◌, refl, sym, ap, subst, arith, lit<, List, []}
 use Rattle.md_word.specs.Clock.{last_cycle}
+use Rattle.md_word.specs.Region.{frame_cycles}
 use Rattle.md_word.specs.declared.event.Entry.{Entry}
 use Rattle.bus_shared.specs.Board.{Board, IsBoard}
 use Rattle.chip_core.specs.declared.event.Event.{Event}
@@ -28,7 +29,7 @@ returns c =
     let begun : IsTidy five IsChip IsBoard (seen five core) = c.events.ensures.core core c.self.invariant.valid in
     let entries : core.journal ≡ [] = ap (λ (v : MachineValue). v.entries) c.self.view_is ∙ c.requires.entries in
     let media : kept_in first ≡ no_media = ap (λ (v : MachineValue). v.media) c.self.view_is ∙ c.requires.media in
-    let each : (to : ℕ) (list : List Event) (z : Seen Chip Board) → to ≤ m.at + 896040 → to ≤ last_cycle → Leads five to (seen five core) list z
+    let each : (to : ℕ) (list : List Event) (z : Seen Chip Board) → to ≤ m.at + frame_cycles (console first).pal → to ≤ last_cycle → Leads five to (seen five core) list z
     → EndsAsRun (console first) m.at to list z = λ to list z near far leads.
     (let tidy : IsTidy five IsChip IsBoard z = tidy-leads five IsChip IsBoard lawful to (omega arith) (seen five core) begun list z leads in
     let opens : Stands five (seen five core) to (seen five core) =
@@ -39,8 +40,8 @@ returns c =
       goes_on = goes-on z tidy to;
       there = λ quiet. segment-run first z.machine m.at to z.journal (c.events.ensures.ended (seen five core) z to (omega arith) valid tidy stands quiet)
           (λ n below. c.stages.ensures.valid first to n (omega arith) valid below) c.stages.ensures.mover tidy.valid
-          (λ n below. at_most (c.limits.ensures.made first to n 3 (omega arith) valid below (lit< tt)) (fm_batches-few first m.at to near c.self.invariant.quiet))
-          (λ n below. at_most (c.limits.ensures.made first to n 4 (omega arith) valid below (lit< tt)) (batches-few first m.at to near c.self.invariant.quiet))
+          (λ n below. at_most (c.limits.ensures.made first to n 3 (omega arith) valid below (lit< tt)) (fm_batches-few (console first).pal first m.at to near c.self.invariant.quiet))
+          (λ n below. at_most (c.limits.ensures.made first to n 4 (omega arith) valid below (lit< tt)) (batches-few (console first).pal first m.at to near c.self.invariant.quiet))
           media valid c.self.invariant.quiet near;
     }) in
     subst (λ (v : MachineValue). ListsEndAsRun v.at v.console) c.self.view_is (record { core = core; is = refl; each = each })

@@ -8,30 +8,30 @@ use Rattle.vdp_chip.proofs.SavedLaws.{no_other, only_place, right_not_refused, v
 use Rattle.vdp_chip.proofs.chip.ChipVdp.unspell.Goals as goal
 
 pub chip-requires : goal.chip-requires
-chip-requires c = valid c.args.at c.args.bytes.now c.in-Ok.saved c.in-Ok.ensures.found.0 c.in-Ok.ensures.found.1
+chip-requires c = valid c.args.at c.args.pal c.args.bytes.now c.in-Ok.saved c.in-Ok.ensures.found.0 c.in-Ok.ensures.found.1
 
 pub returns-in_err-chip-in-Ok-clause-rule : goal.returns-in_err-chip-in-Ok-clause-rule
 returns-in_err-chip-in-Ok-clause-rule c =
     let p = err_from_is_err_and c.from_residual.result c.from_residual.ensures.1 in
     λ place. (
       λ e. absurd (no_rule place p.0 (sym p.2) (sym p.1 ∙ e)),
-      λ wrong. absurd (right_not_refused c.args.at c.args.bytes.now c.in-Ok.saved place c.in-Ok.ensures.found.0 c.in-Ok.ensures.found.1 wrong),
+      λ wrong. absurd (right_not_refused c.args.at c.args.pal c.args.bytes.now c.in-Ok.saved place c.in-Ok.ensures.found.0 c.in-Ok.ensures.found.1 wrong),
     )
 
 pub returns-in_ok-chip-in-Ok-clause-found : goal.returns-in_ok-chip-in-Ok-clause-found
-returns-in_ok-chip-in-Ok-clause-found c = subst (Spells c.args.at c.args.bytes.now) (sym c.in_ok-chip-in-Ok.ensures) (spells c.args.at c.args.bytes.now c.in-Ok.saved c.in-Ok.ensures.found.0 c.in-Ok.ensures.found.1)
+returns-in_ok-chip-in-Ok-clause-found c = subst (Spells c.args.at c.args.pal c.args.bytes.now) (sym c.in_ok-chip-in-Ok.ensures) (spells c.args.at c.args.pal c.args.bytes.now c.in-Ok.saved c.in-Ok.ensures.found.0 c.in-Ok.ensures.found.1)
 
 pub returns-in_ok-chip-in-Ok-clause-only : goal.returns-in_ok-chip-in-Ok-clause-only
-returns-in_ok-chip-in-Ok-clause-only c = λ d p n. ap (λ m. Ok m) (c.in_ok-chip-in-Ok.ensures ∙ no_other c.args.at c.args.bytes.now c.in-Ok.saved d c.in-Ok.ensures.found.0 p)
+returns-in_ok-chip-in-Ok-clause-only c = λ d p n. ap (λ m. Ok m) (c.in_ok-chip-in-Ok.ensures ∙ no_other c.args.at c.args.pal c.args.bytes.now c.in-Ok.saved d c.in-Ok.ensures.found.0 p)
 
 pub returns-in_ok-chip-in-Ok-clause-rule : goal.returns-in_ok-chip-in-Ok-clause-rule
-returns-in_ok-chip-in-Ok-clause-rule c = λ place. (λ e. absurd cc, λ wrong. absurd (right_not_refused c.args.at c.args.bytes.now c.in-Ok.saved place c.in-Ok.ensures.found.0 c.in-Ok.ensures.found.1 wrong))
+returns-in_ok-chip-in-Ok-clause-rule c = λ place. (λ e. absurd cc, λ wrong. absurd (right_not_refused c.args.at c.args.pal c.args.bytes.now c.in-Ok.saved place c.in-Ok.ensures.found.0 c.in-Ok.ensures.found.1 wrong))
 
 pub returns-in-Err-clause-only : goal.returns-in-Err-clause-only
-returns-in-Err-clause-only c = λ d p n. absurd (right_not_refused c.args.at c.args.bytes.now (numbers_of d) c.in-Err.place p.keeps p.right c.in-Err.ensures.refused)
+returns-in-Err-clause-only c = λ d p n. absurd (right_not_refused c.args.at c.args.pal c.args.bytes.now (numbers_of d) c.in-Err.place p.keeps p.right c.in-Err.ensures.refused)
 
 pub returns-in-Err-clause-rule : goal.returns-in-Err-clause-rule
 returns-in-Err-clause-rule c = λ place. (
-  λ e. subst (GoesWrongAt c.args.at c.args.bytes.now) (same_rule c.in-Err.place place e) c.in-Err.ensures.refused,
-  λ wrong. ap (λ (p : ℕ). Err (Rule p)) (only_place c.args.at c.args.bytes.now c.in-Err.place place c.in-Err.ensures.refused wrong),
+  λ e. subst (GoesWrongAt c.args.at c.args.pal c.args.bytes.now) (same_rule c.in-Err.place place e) c.in-Err.ensures.refused,
+  λ wrong. ap (λ (p : ℕ). Err (Rule p)) (only_place c.args.at c.args.pal c.args.bytes.now c.in-Err.place place c.in-Err.ensures.refused wrong),
 )

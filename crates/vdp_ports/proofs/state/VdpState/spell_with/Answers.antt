@@ -1,4 +1,4 @@
-use Rattle.std.proofs.Common.{◌++◌, List, ℕ, ap, ◌∙◌, arith}
+use Rattle.std.proofs.Common.{◌++◌, List, ℕ, false, ap, ◌∙◌, arith}
 use Rattle.md_fields.specs.Fields.{spelling, sizes}
 use Rattle.md_fields.proofs.Standing.{long_as_sized}
 use Rattle.vdp_ports.specs.Numbers.{VdpNumbers}
@@ -9,13 +9,13 @@ use Rattle.vdp_ports.specs.Dma.{with_rest}
 use Rattle.vdp_ports.proofs.state.VdpState.spell_with.Goals as goal
 
 pub put-requires : goal.put-requires
-put-requires c = omega (arith, long_as_sized _ c.fields.ensures.sizes ∙ ap sizes c.fields.ensures.fields ∙ fields_size c.args.at c.with.result, c.requires)
+put-requires c = omega (arith, long_as_sized _ c.fields.ensures.sizes ∙ ap sizes c.fields.ensures.fields ∙ fields_size c.args.at c.self.inside.pal c.with.result, c.requires)
 
 pub returns-clause-bytes : goal.returns-clause-bytes
-returns-clause-bytes c = c.put.ensures.bytes ∙ ap (λ (l : List ℕ). c.args.into.now.items ++ l) (ap spelling c.fields.ensures.fields ∙ same_bytes c.args.at 0 c.with.result ∙ ap (λ (n : VdpNumbers). spelling (vdp_fields 0 n)) c.with.ensures)
+returns-clause-bytes c = c.put.ensures.bytes ∙ ap (λ (l : List ℕ). c.args.into.now.items ++ l) (ap spelling c.fields.ensures.fields ∙ same_bytes c.args.at 0 c.self.inside.pal false c.with.result ∙ ap (λ (n : VdpNumbers). spelling (vdp_fields 0 false n)) c.with.ensures)
 
 pub returns-clause-length : goal.returns-clause-length
-returns-clause-length c = omega (arith, c.put.ensures.length, long_as_sized _ c.fields.ensures.sizes ∙ ap sizes c.fields.ensures.fields ∙ fields_size c.args.at c.with.result)
+returns-clause-length c = omega (arith, c.put.ensures.length, long_as_sized _ c.fields.ensures.sizes ∙ ap sizes c.fields.ensures.fields ∙ fields_size c.args.at c.self.inside.pal c.with.result)
 
 pub returns-clause-kept : goal.returns-clause-kept
 returns-clause-kept c = λ is. spelled_back c.args.at (with_rest c.args.self.now c.args.vram.now c.args.rest) (record {

@@ -13,28 +13,28 @@ returns-in_err-state-in-Ok-clause-rule c =
     let p = err_from_is_err_and c.from_residual.result c.from_residual.ensures.1 in
     λ place. (
       λ e. absurd (no_rule place p.0 (sym p.2) (sym p.1 ∙ e)),
-      λ wrong. absurd (right_not_refused c.args.at c.args.bytes.now c.in-Ok.saved place c.in-Ok.ensures.found.0 c.in-Ok.ensures.found.1 wrong),
+      λ wrong. absurd (right_not_refused c.args.at c.args.pal c.args.bytes.now c.in-Ok.saved place c.in-Ok.ensures.found.0 c.in-Ok.ensures.found.1 wrong),
     )
 
 pub returns-in_ok-state-in-Ok-clause-found : goal.returns-in_ok-state-in-Ok-clause-found
-returns-in_ok-state-in-Ok-clause-found c = subst (Spells c.args.at c.args.bytes.now) (sym c.in_ok-state-in-Ok.ensures) (spells c.args.at c.args.bytes.now c.in-Ok.saved c.in-Ok.ensures.found.0 c.in-Ok.ensures.found.1)
+returns-in_ok-state-in-Ok-clause-found c = subst (Spells c.args.at c.args.pal c.args.bytes.now) (sym c.in_ok-state-in-Ok.ensures) (spells c.args.at c.args.pal c.args.bytes.now c.in-Ok.saved c.in-Ok.ensures.found.0 c.in-Ok.ensures.found.1)
 
 pub returns-in_ok-state-in-Ok-clause-settled : goal.returns-in_ok-state-in-Ok-clause-settled
 returns-in_ok-state-in-Ok-clause-settled c =
     subst (IsSettled c.args.at) (sym c.in_ok-state-in-Ok.ensures)
-    (settled_from c.args.at (vdp_of c.in-Ok.saved) (spells c.args.at c.args.bytes.now c.in-Ok.saved c.in-Ok.ensures.found.0 c.in-Ok.ensures.found.1).right)
+    (settled_from c.args.at (vdp_of c.args.pal c.in-Ok.saved) (spells c.args.at c.args.pal c.args.bytes.now c.in-Ok.saved c.in-Ok.ensures.found.0 c.in-Ok.ensures.found.1).right)
 
 pub returns-in_ok-state-in-Ok-clause-only : goal.returns-in_ok-state-in-Ok-clause-only
-returns-in_ok-state-in-Ok-clause-only c = λ s p n. ap (λ m. Ok m) (c.in_ok-state-in-Ok.ensures ∙ no_other c.args.at c.args.bytes.now c.in-Ok.saved s c.in-Ok.ensures.found.0 p)
+returns-in_ok-state-in-Ok-clause-only c = λ s p n. ap (λ m. Ok m) (c.in_ok-state-in-Ok.ensures ∙ no_other c.args.at c.args.pal c.args.bytes.now c.in-Ok.saved s c.in-Ok.ensures.found.0 p)
 
 pub returns-in_ok-state-in-Ok-clause-rule : goal.returns-in_ok-state-in-Ok-clause-rule
-returns-in_ok-state-in-Ok-clause-rule c = λ place. (λ e. absurd cc, λ wrong. absurd (right_not_refused c.args.at c.args.bytes.now c.in-Ok.saved place c.in-Ok.ensures.found.0 c.in-Ok.ensures.found.1 wrong))
+returns-in_ok-state-in-Ok-clause-rule c = λ place. (λ e. absurd cc, λ wrong. absurd (right_not_refused c.args.at c.args.pal c.args.bytes.now c.in-Ok.saved place c.in-Ok.ensures.found.0 c.in-Ok.ensures.found.1 wrong))
 
 pub returns-in-Err-clause-only : goal.returns-in-Err-clause-only
-returns-in-Err-clause-only c = λ s p n. absurd (right_not_refused c.args.at c.args.bytes.now (numbers_of s) c.in-Err.place p.keeps p.right c.in-Err.ensures.refused)
+returns-in-Err-clause-only c = λ s p n. absurd (right_not_refused c.args.at c.args.pal c.args.bytes.now (numbers_of s) c.in-Err.place p.keeps p.right c.in-Err.ensures.refused)
 
 pub returns-in-Err-clause-rule : goal.returns-in-Err-clause-rule
 returns-in-Err-clause-rule c = λ place. (
-  λ e. subst (GoesWrongAt c.args.at c.args.bytes.now) (same_rule c.in-Err.place place e) c.in-Err.ensures.refused,
-  λ wrong. ap (λ (p : ℕ). Err (Rule p)) (only_place c.args.at c.args.bytes.now c.in-Err.place place c.in-Err.ensures.refused wrong),
+  λ e. subst (GoesWrongAt c.args.at c.args.pal c.args.bytes.now) (same_rule c.in-Err.place place e) c.in-Err.ensures.refused,
+  λ wrong. ap (λ (p : ℕ). Err (Rule p)) (only_place c.args.at c.args.pal c.args.bytes.now c.in-Err.place place c.in-Err.ensures.refused wrong),
 )

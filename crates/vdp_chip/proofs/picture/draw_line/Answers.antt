@@ -2,7 +2,7 @@ use Rattle.std.proofs.Common.{◌≡◌, ◌∙◌, ℕ, ◌+◌, ◌-◌, ◌*�
 use Rattle.vdp_planes.specs.View.{seen}
 use Rattle.vdp_chip.specs.Picture.{row_length, with_row}
 use Rattle.vdp_chip.proofs.Rows.{row_made, row_put}
-use Rattle.vdp_chip.proofs.picture.draw_row.Goals as goal
+use Rattle.vdp_chip.proofs.picture.draw_line.Goals as goal
 
 pub returns : goal.returns
 returns c =

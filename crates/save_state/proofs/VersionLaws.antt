@@ -1,0 +1,166 @@
+-- What bytes of either version are, from what their migration is.
+use Rattle.std.proofs.Common.{◌≡◌, ◌≢◌, ◌∙◌, ℕ, ◌≤◌, min, List, [], ◌∷◌, ◌++◌, length, take, drop, get_or, refl, sym, ap, subst, arith, inl, inr}
+use Rattle.std.specs.Prelude.{replicate}
+use Rattle.std.proofs.lemmas.List.{drop_at, length-append, length-drop, length-replicate, length-take, take-append-le, take-take, take_at}
+use Rattle.sha2.specs.Sha256.{sha256}
+use Rattle.md_machine.specs.Starts.{Start}
+use Rattle.save_state.specs.Faults.{HasForm}
+use Rattle.save_state.specs.Refusals.{FieldFailsBack}
+use Rattle.save_state.specs.Layout.{digest_part, mark_part, part_of}
+use Rattle.save_state.specs.States.{IsNewest, mark}
+use Rattle.save_state.specs.Versions.{HasVersion, IsOtherCart, IsState, IsUnversioned, IsWrongAt, from_first, mark_of, migrated, other_size, size_of, strange, unmarked}
+use Rattle.save_state.specs.declared.fault.StateFault.TheVariants.{OtherCart}
+use Rattle.save_state.specs.declared.version.Version.{Version}
+use Rattle.save_state.specs.declared.version.Version.TheVariants.{First, Second}
+use Rattle.save_state.proofs.ReadLaws.{bad, parts_of_state}
+
+-- ---- bytes have one version
+
+marks_differ : (v w : Version) → mark_of v ≡ mark_of w → v ≡ w
+marks_differ First First e = refl
+marks_differ Second Second e = refl
+marks_differ First Second e = (let last : 49 ≡ 50 = ap (λ (l : List ℕ). get_or l 7 0) e in absurd (omega (arith, last)))
+marks_differ Second First e = (let last : 50 ≡ 49 = ap (λ (l : List ℕ). get_or l 7 0) e in absurd (omega (arith, last)))
+
+some-size : (v : Version) → 8 ≤ size_of v
+some-size First = omega arith
+some-size Second = omega arith
+
+mark-long : (v : Version) → length (mark_of v) ≡ 8
+mark-long First = refl
+mark-long Second = refl
+
+-- bytes with a mark are long enough for it
+marked-long : (v : Version) (bytes : List ℕ) → part_of mark_part bytes ≡ mark_of v → 8 ≤ length bytes
+marked-long v bytes e = omega (arith, ap length e ∙ mark-long v, length-take 8 (drop 0 bytes), length-drop 0 bytes)
+
+pub unversioned : (v : Version) (bytes : List ℕ) (place : ℕ) → IsUnversioned bytes place → HasVersion v bytes → ⊥
+unversioned v bytes place (unmarked few e) has = omega (arith, few, has.long, some-size v)
+unversioned v bytes place (strange long none e) has = none v has.mark_is
+unversioned v bytes place (other_size w m ne e) has =
+    ne (has.long ∙ ap size_of (marks_differ v w (sym has.mark_is ∙ m)))
+
+pub one_place : (bytes : List ℕ) (p q : ℕ) → IsUnversioned bytes p → IsUnversioned bytes q → p ≡ q
+one_place bytes p q (unmarked few e) (unmarked few' f) = e ∙ sym f
+one_place bytes p q (unmarked few e) (strange long none f) = absurd (omega (arith, few, long))
+one_place bytes p q (unmarked few e) (other_size w m ne f) = absurd (omega (arith, few, marked-long w bytes m))
+one_place bytes p q (strange long none e) (unmarked few f) = absurd (omega (arith, few, long))
+one_place bytes p q (strange long none e) (strange long' none' f) = e ∙ sym f
+one_place bytes p q (strange long none e) (other_size w m ne f) = absurd (none w m)
+one_place bytes p q (other_size w m ne e) (unmarked few f) = absurd (omega (arith, few, marked-long w bytes m))
+one_place bytes p q (other_size w m ne e) (strange long none f) = absurd (none w m)
+one_place bytes p q (other_size v m ne e) (other_size w n nf f) =
+    e ∙ ap (λ (u : Version). min (length bytes) (size_of u)) (marks_differ v w (sym m ∙ n)) ∙ sym f
+
+-- ---- their migration
+
+abbrev first-rest : List ℕ → List ℕ
+first-rest bytes = (0 ∷ []) ++ (take 139783 (drop 48 bytes) ++ ((0 ∷ []) ++ (take 215050 (drop 139831 bytes) ++ (replicate 15360 0 ++ drop 354881 bytes))))
+
+migrated-first : (bytes : List ℕ) → migrated First bytes ≡ mark ++ (take 40 (drop 8 bytes) ++ first-rest bytes)
+unfolding migrated from_first
+migrated-first bytes = refl
+
+migrated-long : (bytes : List ℕ) → length bytes ≡ 378240 → length (migrated First bytes) ≡ 393602
+unfolding migrated from_first
+migrated-long bytes long =
+    let rows = replicate 15360 0 ++ drop 354881 bytes in
+    let drawing = take 215050 (drop 139831 bytes) ++ rows in
+    let middle = take 139783 (drop 48 bytes) ++ ((0 ∷ []) ++ drawing) in
+    omega (
+      arith,
+      long,
+      length-append mark (take 40 (drop 8 bytes) ++ ((0 ∷ []) ++ middle)),
+      length-append (take 40 (drop 8 bytes)) ((0 ∷ []) ++ middle),
+      length-take 40 (drop 8 bytes),
+      length-drop 8 bytes,
+      length-append (take 139783 (drop 48 bytes)) ((0 ∷ []) ++ drawing),
+      length-take 139783 (drop 48 bytes),
+      length-drop 48 bytes,
+      length-append (take 215050 (drop 139831 bytes)) rows,
+      length-take 215050 (drop 139831 bytes),
+      length-drop 139831 bytes,
+      length-append (replicate 15360 0) (drop 354881 bytes),
+      length-replicate {A = ℕ} 15360 0,
+      length-drop 354881 bytes,
+    )
+
+second-form : (bytes : List ℕ) → HasVersion Second bytes → HasForm (migrated Second bytes)
+unfolding migrated
+second-form bytes has = record { long = has.long; mark = has.mark_is }
+
+pub form_of : (v : Version) (bytes : List ℕ) → HasVersion v bytes → HasForm (migrated v bytes)
+form_of First bytes has = record {
+  long = migrated-long bytes has.long;
+  mark = ap (take 8) (migrated-first bytes) ∙ take_at mark (take 40 (drop 8 bytes) ++ first-rest bytes) 8 refl;
+}
+form_of Second bytes has = second-form bytes has
+
+second-digest : (bytes : List ℕ) → part_of digest_part (migrated Second bytes) ≡ part_of digest_part bytes
+unfolding migrated
+second-digest bytes = refl
+
+pub same_digest : (v : Version) (bytes : List ℕ) → HasVersion v bytes → part_of digest_part (migrated v bytes) ≡ part_of digest_part bytes
+same_digest First bytes has =
+    let front = take 40 (drop 8 bytes) in
+    let long : 32 ≤ length front = omega (arith, has.long, length-take 40 (drop 8 bytes), length-drop 8 bytes) in
+    ap (λ (l : List ℕ). take 32 (drop 8 l)) (migrated-first bytes)
+    ∙ ap (take 32) (drop_at mark (front ++ first-rest bytes) 8 refl)
+    ∙ take-append-le 32 front (first-rest bytes) long
+    ∙ take-take 32 40 (drop 8 bytes) (omega arith)
+same_digest Second bytes has = second-digest bytes
+
+-- ---- what the bytes are
+
+pub found_of : (v : Version) (cart bytes : List ℕ) (start : Start) → HasVersion v bytes → IsNewest cart (migrated v bytes) start → IsState cart bytes start
+found_of v cart bytes start has newest = record { version = v; has = has; newest = newest }
+
+pub only_of : (v : Version) (cart bytes : List ℕ) (start : Start) → HasVersion v bytes → IsState cart bytes start → IsNewest cart (migrated v bytes) start
+only_of v cart bytes start has is =
+    subst (λ (w : Version). IsNewest cart (migrated w bytes) start) (marks_differ is.version v (sym is.has.mark_is ∙ has.mark_is)) is.newest
+
+-- what a machine is kept in
+second-state : (cart bytes : List ℕ) (start : Start) → HasVersion Second bytes → IsNewest cart bytes start → IsState cart bytes start
+unfolding migrated
+second-state cart bytes start has newest = record { version = Second; has = has; newest = newest }
+
+pub newest_state : (cart bytes : List ℕ) (start : Start) → IsNewest cart bytes start → IsState cart bytes start
+newest_state cart bytes start newest =
+    let parts = parts_of_state cart bytes start newest in
+    second-state cart bytes start (record { mark_is = parts.head; long = parts.long }) newest
+
+pub state_own : (cart bytes : List ℕ) (start : Start) → IsState cart bytes start → part_of digest_part bytes ≡ sha256 cart
+state_own cart bytes start is =
+    sym (same_digest is.version bytes is.has) ∙ (parts_of_state cart (migrated is.version bytes) start is.newest).digest_is
+
+pub form_wrong : (v : Version) (cart bytes : List ℕ) (place : ℕ) → HasVersion v bytes → FieldFailsBack v cart (migrated v bytes) place → IsWrongAt cart bytes place
+form_wrong v cart bytes place has w =
+    inr (record { version = v; has = has; own = sym (same_digest v bytes has) ∙ w.fails.0; field = w.field; first = w.fails.1; place_is = w.place_is })
+
+pub wrong_of : (v : Version) (cart bytes : List ℕ) (place : ℕ) → HasVersion v bytes → IsWrongAt cart bytes place → FieldFailsBack v cart (migrated v bytes) place
+wrong_of v cart bytes place has (inl none) = absurd (unversioned v bytes place none has)
+wrong_of v cart bytes place has (inr w) =
+    subst (λ (u : Version). FieldFailsBack u cart (migrated u bytes) place) (marks_differ w.version v (sym w.has.mark_is ∙ has.mark_is))
+    (record { field = w.field; fails = (same_digest w.version bytes w.has ∙ w.own, w.first); place_is = w.place_is })
+
+pub wrong_own : (v : Version) (cart bytes : List ℕ) (place : ℕ) → HasVersion v bytes → IsWrongAt cart bytes place → part_of digest_part bytes ≡ sha256 cart
+wrong_own v cart bytes place has w = sym (same_digest v bytes has) ∙ (wrong_of v cart bytes place has w).fails.0
+
+pub wrong_unversioned : (cart bytes : List ℕ) (p q : ℕ) → IsUnversioned bytes p → IsWrongAt cart bytes q → p ≡ q
+wrong_unversioned cart bytes p q none (inl other) = one_place bytes p q none other
+wrong_unversioned cart bytes p q none (inr w) = absurd (unversioned w.version bytes p none w.has)
+
+-- ---- another cartridge
+
+pub other_cart : (v : Version) (cart bytes kept digest k g : List ℕ) → HasVersion v bytes → kept ≡ part_of digest_part bytes → digest ≡ sha256 cart → kept ≢ digest
+    → bad (OtherCart kept digest) ≡ bad (OtherCart k g) → IsOtherCart cart bytes k g
+other_cart v cart bytes kept digest k g has ek ed ne e =
+    let a : kept ≡ k = cc in
+    let b : digest ≡ g = cc in
+    record { version = v; has = has; kept_is = sym a ∙ ek; given_is = sym b ∙ ed; differ = λ same. ne (a ∙ same ∙ sym b) }
+
+pub told_other : (cart bytes kept digest k g : List ℕ) → kept ≡ part_of digest_part bytes → digest ≡ sha256 cart → IsOtherCart cart bytes k g → bad (OtherCart kept digest) ≡ bad (OtherCart k g)
+told_other cart bytes kept digest k g ek ed o = λ i. bad (OtherCart ((ek ∙ sym o.kept_is) i) ((ed ∙ sym o.given_is) i))
+
+pub same_cart : (cart bytes k g : List ℕ) → part_of digest_part bytes ≡ sha256 cart → IsOtherCart cart bytes k g → ⊥
+same_cart cart bytes k g d o = o.differ (o.kept_is ∙ d ∙ sym o.given_is)

@@ -1,0 +1,144 @@
+ghost use Rattle.std.specs.Prelude.{◌≡◌, IfErr, IfOk, IsTrue, ◌↔◌, ◌≤◌, ◌<◌, length};
+ghost use Rattle.save_state.specs.Layout.{mark_part, part_of};
+ghost use Rattle.save_state.specs.Versions as versions;
+ghost use Rattle.save_state.specs.Versions.{HasVersion, IsUnversioned, from_first, place_in_first};
+
+use crate::layout::{LENGTH, MARK, TEXT};
+use md_word::NoMemory;
+use std::alloc::Global;
+
+/// The forms of a saved state.
+#[derive(Clone, Copy)]
+pub enum Version {
+    /// Of NTSC alone.
+    First,
+    /// With the region; it is the one that is written.
+    Second,
+}
+
+/// The text with which a state of the first version begins.
+const FIRST_TEXT: [u8; 8] = *b"MDSTATE1";
+
+/// How many bytes it has.
+const FIRST_LENGTH: usize = 378_240;
+
+/// Where its 68000 stands, where the drawing half of its VDP does, and where what is behind it.
+const FIRST_MAIN: usize = 48;
+
+const FIRST_DRAWING: usize = 139_831;
+
+const FIRST_FM_PORT: usize = 354_881;
+
+/// Where the height of the display stands, where the drawing half ends but for the rows behind the
+/// picture of NTSC, and where what is behind those.
+const TALL: u64 = 139_832;
+
+const FIRST_ROWS_END: u64 = 354_883;
+
+const ROWS_END: u64 = 370_243;
+
+/// Its region, NTSC, and the height of its display, 224 lines.
+const NTSC: [u8; 1] = [0];
+
+const LOW: [u8; 1] = [0];
+
+/// The rows that a picture for PAL has more.
+const MORE_ROWS: [u8; 15_360] = [0; 15_360];
+
+/// The version of the bytes, or the place at which they are refused: their number where they are too few
+/// for a mark, 0 where they begin with none, and else the lesser of their number and that of the version.
+pub fn version_of(bytes: &[u8]) -> Result<Version, u64>
+    ensures version { IfOk result (λ version. HasVersion version bytes.now) }
+    ensures none { IfErr result (λ place. IsUnversioned bytes.now place) }
+{
+    if bytes.len() < MARK.size {
+        return Err(bytes.len() as u64);
+    }
+    if begins_with(bytes, &TEXT) {
+        if bytes.len() != LENGTH {
+            return Err(bytes.len().min(LENGTH) as u64);
+        }
+        return Ok(Version::Second);
+    }
+    if begins_with(bytes, &FIRST_TEXT) {
+        if bytes.len() != FIRST_LENGTH {
+            return Err(bytes.len().min(FIRST_LENGTH) as u64);
+        }
+        return Ok(Version::First);
+    }
+    Err(0)
+}
+
+/// Whether the bytes begin with a mark.
+fn begins_with(bytes: &[u8], mark: &[u8; 8]) -> bool
+    requires { 8 ≤ length bytes.now }
+    ensures { IsTrue result ↔ (part_of mark_part bytes.now ≡ mark.now) }
+{
+    MARK.of(bytes) == mark.as_slice()
+}
+
+/// The bytes of the form that is written, made of those of a version.
+#[tactic(auto, unfolding(crate::specs::Versions::migrated))]
+pub fn migrated(alloc: Global, version: Version, bytes: &[u8]) -> Result<Vec<u8>, NoMemory>
+    requires { HasVersion version bytes.now }
+    ensures { IfOk result (λ newest. newest.items ≡ versions.migrated version bytes.now) }
+{
+    match version {
+        Version::First => from_first(alloc, bytes),
+        Version::Second => copied(alloc, bytes),
+    }
+}
+
+/// The bytes as they are.
+fn copied(alloc: Global, bytes: &[u8]) -> Result<Vec<u8>, NoMemory>
+    ensures { IfOk result (λ copy. copy.items ≡ bytes.now) }
+{
+    let mut copy = Vec::with_capacity(alloc, bytes.len())?;
+    copy.extend_from_slice(bytes)?;
+    Ok(copy)
+}
+
+/// The bytes of the form that is written, made of those of the first version.
+fn from_first(alloc: Global, bytes: &[u8]) -> Result<Vec<u8>, NoMemory>
+    requires { length bytes.now ≡ 378240 }
+    ensures { IfOk result (λ newer. newer.items ≡ from_first bytes.now) }
+{
+    let mut newer = Vec::with_capacity(alloc, LENGTH)?;
+    newer.extend_from_slice(&TEXT)?;
+    newer.extend_from_slice(&bytes[MARK.size..FIRST_MAIN])?;
+    newer.extend_from_slice(&NTSC)?;
+    newer.extend_from_slice(&bytes[FIRST_MAIN..FIRST_DRAWING])?;
+    newer.extend_from_slice(&LOW)?;
+    newer.extend_from_slice(&bytes[FIRST_DRAWING..FIRST_FM_PORT])?;
+    newer.extend_from_slice(&MORE_ROWS)?;
+    newer.extend_from_slice(&bytes[FIRST_FM_PORT..FIRST_LENGTH])?;
+    Ok(newer)
+}
+
+/// Where a place of the form that is written stands in the bytes of a version of which it was made.
+#[tactic(auto, unfolding(crate::specs::Versions::place_back))]
+pub fn place_back(version: Version, place: u64) -> u64
+    ensures { result ≡ versions.place_back version place }
+{
+    match version {
+        Version::First => place_in_first(place),
+        Version::Second => place,
+    }
+}
+
+/// The same of the first version.
+fn place_in_first(place: u64) -> u64
+    ensures { result ≡ place_in_first place }
+{
+    if place <= FIRST_MAIN as u64 {
+        place
+    } else if place <= TALL {
+        place - 1
+    } else if place < FIRST_ROWS_END {
+        place - 2
+    } else if place < ROWS_END {
+        FIRST_FM_PORT as u64
+    } else {
+        place - 15_362
+    }
+}
