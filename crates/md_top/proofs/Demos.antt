@@ -15,7 +15,7 @@ use Rattle.md_top.specs.Endings.{demo_ending, right_ending, status_of}
 use Rattle.md_top.specs.Inputs.{Verdict}
 use Rattle.md_word.specs.Clock.{last_cycle}
 use Rattle.md_top.specs.Limits.{IsEnd}
-use Rattle.md_top.specs.Loads.{StateVerdict}
+use Rattle.state_laws.specs.Verdicts.{StateVerdict}
 use Rattle.md_top.specs.Runs.{RunLaws, entries_from, media_from}
 use Rattle.md_top.specs.declared.digests.Digests.{Digests}
 use Rattle.md_top.specs.declared.ending.Ending.{Ending}

@@ -10,7 +10,8 @@ use Rattle.md_pads.specs.Recording.{Frame, GoesWrongAt, Spells}
 use Rattle.md_top.specs.Endings.{accepted_ending, asked_ending, cart_ending, file_ending, kept_ending, loaded_ending, recorded_ending, recording_ending, run_ending, state_ending, status_of, verdict_ending}
 use Rattle.md_top.specs.Inputs.{AreInputs, CartCause, IsAccepted, IsJudged, IsVerdict, Recorded, RecordingCause, Records, Verdict, WrongAt, cart_limit, cart_of, recording_limit}
 use Rattle.md_word.specs.Clock.{last_cycle}
-use Rattle.md_top.specs.Loads.{Begins, BeginsWith, IsFoundIn, IsLoadJudged, IsStateJudged, IsStateVerdict, Keeps, LoadCause, OfOther, StateCause, StateVerdict, StateWrongAt, inputs_by, recording_by, state_limit}
+use Rattle.md_top.specs.Loads.{Begins, BeginsWith, IsFound, IsFoundIn, IsLoadJudged, IsStateJudged, LoadCause, StateCause, inputs_by, recording_by, state_limit}
+use Rattle.state_laws.specs.Verdicts.{Keeps, OfOther, StateVerdict, StateWrongAt}
 use Rattle.md_top.specs.Runs.{entries_from, halted_from, media_from, powered_on}
 use Rattle.md_machine.specs.Starts.{Start}
 use Rattle.md_args.specs.Words.{Run}
@@ -18,6 +19,7 @@ use Rattle.md_top.specs.declared.ending.Ending.{Ending}
 use Rattle.md_top.specs.declared.ending.Ending.TheVariants.{Done, TooFar, ReadFault, TooLong, Short, NoMark, RecordingFault, RecordingTooLong, RecordingWrong, LoadFault, StateTooLong, StateWrong, OtherCart, Behind, Memory}
 use Rattle.md_top.specs.declared.inputs.Inputs.{Inputs}
 use Rattle.md_pads.proofs.Whole.{one_recording}
+use Rattle.state_laws.proofs.Whole.{one_verdict}
 
 pub not_below : (limit n : ℕ) → n ≤ limit → nat_lt limit n ≡ false
 not_below limit n within = grind (arith, nat_tests)
@@ -138,11 +140,11 @@ run_status : (start : Start) (end : ℕ) → status_of (run_ending start end) �
 run_status start end = ended_by (nat_le end start.at) start end
 
 file_kept : (file : Option (List ℕ)) (inputs : Inputs) (verdict state : StateVerdict) (end : ℕ) → IsFoundIn file inputs verdict
-    → IsStateVerdict inputs (unwrap_or file []) state → state_ending file state end ≡ kept_ending verdict end
+    → IsFound inputs (unwrap_or file []) state → state_ending file state end ≡ kept_ending verdict end
 file_kept None inputs verdict state end found judged = absurd found
 file_kept (Some bytes) inputs verdict state end (within, found) judged =
     ap (λ (long : Bool). cond long StateTooLong (kept_ending state end)) (not_below state_limit (length bytes) within)
-    ∙ ap (λ (s : StateVerdict). kept_ending s end) (found.one state judged)
+    ∙ ap (λ (s : StateVerdict). kept_ending s end) (one_verdict inputs.cart inputs.recording bytes state verdict judged found)
 
 file_state_long : (file : Option (List ℕ)) (state : StateVerdict) (end : ℕ) → IsSomeAnd file (λ bytes. state_limit < length bytes) → state_ending file state end ≡ StateTooLong
 file_state_long None state end long = absurd long
@@ -256,18 +258,114 @@ pub recording_judged : (name : Option (List ℕ)) (files : Files) (recording : L
 recording_judged None files recording is = tt
 recording_judged (Some name) files recording is = file_judged (files name) recording is
 
--- and so has the saved state with which a run begins
-file_state : (file : Option (List ℕ)) (inputs : Inputs) (start : Start) → IsFoundIn file inputs (Keeps start) → IsStateVerdict inputs (unwrap_or file []) (Keeps start)
-file_state None inputs start found = absurd found
-file_state (Some bytes) inputs start found = found.1.is
+-- and so has the saved state that is found to be so
+file_state : (file : Option (List ℕ)) (inputs : Inputs) (verdict : StateVerdict) → IsFoundIn file inputs verdict → IsFound inputs (unwrap_or file []) verdict
+file_state None inputs verdict found = absurd found
+file_state (Some bytes) inputs verdict found = found.1
 
 load_judged : (load : Option (List ℕ)) (files : Files) (inputs : Inputs) (start : Start) → BeginsWith load files inputs start → IsLoadJudged load inputs files (Keeps start)
 load_judged None files inputs start begins = tt
-load_judged (Some name) files inputs start begins = file_state (files name) inputs start begins
+load_judged (Some name) files inputs start begins = file_state (files name) inputs (Keeps start) begins
 
-pub state_judged : (run : Run) (files : Files) (inputs : Inputs) (start : Start) → AreInputs run files inputs → BeginsWith run.load files inputs start
-    → IsStateJudged (Some run) files (Recorded inputs.recording) (Keeps start)
-state_judged run files inputs start are begins =
-    subst (λ (given : Inputs). IsLoadJudged run.load given files (Keeps start))
-    (inputs_same run files (Recorded inputs.recording) inputs are (recording_judged run.recording files inputs.recording are.recording))
-    (load_judged run.load files inputs start begins)
+pub state_judged : (run : Run) (files : Files) (verdict : Verdict) (inputs : Inputs) (start : Start) → AreInputs run files inputs → IsJudged run.recording files verdict
+    → BeginsWith run.load files inputs start → IsStateJudged (Some run) files verdict (Keeps start)
+state_judged run files verdict inputs start are is begins =
+    subst (λ (given : Inputs). IsLoadJudged run.load given files (Keeps start)) (inputs_same run files verdict inputs are is) (load_judged run.load files inputs start begins)
+
+-- THE SAVED STATE'S PART IN THE ENDING
+
+-- what a run comes to hangs on a verdict on its saved state, or on none
+abbrev pub IsRunRight : Run → Files → Verdict → ℕ → Type 0
+IsRunRight run files verdict status =
+    (state : StateVerdict)
+    × (IsStateJudged (Some run) files verdict state ⊎ ((other : StateVerdict) → asked_ending run files verdict other ≡ asked_ending run files verdict state))
+    × (status ≡ status_of (asked_ending run files verdict state))
+
+-- on none
+pub right_without : (run : Run) (files : Files) (verdict : Verdict) (right ending : Ending) → ((state : StateVerdict) → asked_ending run files verdict state ≡ right)
+    → status_of ending ≡ status_of right → IsRunRight run files verdict (status_of ending)
+right_without run files verdict right ending always is =
+    (StateWrongAt 0, inr (λ other. always other ∙ sym (always (StateWrongAt 0))), is ∙ sym (ap status_of (always (StateWrongAt 0))))
+
+-- on this one
+pub right_with : (run : Run) (files : Files) (verdict : Verdict) (state : StateVerdict) (status : ℕ) → IsStateJudged (Some run) files verdict state
+    → (status ≡ status_of (asked_ending run files verdict state)) ⊎ (status ≡ 10) → IsRunRight run files verdict status ⊎ (status ≡ 10)
+right_with run files verdict state status judged (inl is) = inl (state, inl judged, is)
+right_with run files verdict state status judged (inr memory) = inr memory
+
+-- a cartridge that is refused is so whatever stands behind it
+pub cart_always : (told : Type 0) (rom : List ℕ) (old new : DepotState) (ending : Ending) → CartCause told rom old new ending → ¬ Rose old.read_faults new.read_faults → told
+    → ((right : Ending) × ((rest : Ending) → file_ending (old.files rom) rest ≡ right) × (status_of ending ≡ status_of right)) ⊎ (status_of ending ≡ 10)
+cart_always told rom old new ReadFault (inl rose) clean t = absurd (clean rose)
+cart_always told rom old new ReadFault (inr missing) clean t = inl (ReadFault, (λ rest. right_missing (old.files rom) rest missing.1), refl)
+cart_always told rom old new TooLong cause clean t = inl (TooLong, (λ rest. right_long (old.files rom) rest (cause t)), refl)
+cart_always told rom old new Short cause clean t = inl (Short, (λ rest. right_refused (old.files rom) rest fault.Short (cause t)), refl)
+cart_always told rom old new NoMark cause clean t = inl (NoMark, (λ rest. right_refused (old.files rom) rest fault.NoMark (cause t)), refl)
+cart_always told rom old new Memory cause clean t = inr refl
+cart_always told rom old new _ cause clean t = absurd cause
+
+wrong_always : (file : Option (List ℕ)) (verdict : Verdict) (place : ℕ)
+    → IsSomeAnd file (λ bytes. (length bytes ≤ recording_limit) × GoesWrongAt bytes place) → IsVerdict (unwrap_or file []) verdict
+    → (right : Ending) × ((ready : List Frame → Ending) → recording_ending file verdict ready ≡ right) × (6 ≡ status_of right)
+wrong_always None verdict place is judged = absurd is
+wrong_always (Some bytes) (Recorded recording) place (within, wrong) judged = absurd (wrong.none (recording, judged))
+wrong_always (Some bytes) (WrongAt other) place (within, wrong) judged =
+    (RecordingWrong other, (λ ready. ap (λ (long : Bool). cond long RecordingTooLong (RecordingWrong other)) (not_below recording_limit (length bytes) within)), refl)
+
+-- and so is a recording
+pub recording_always : (told : Type 0) (name : Option (List ℕ)) (old new : DepotState) (verdict : Verdict) (ending : Ending)
+    → RecordingCause told name old new ending → IsJudged name old.files verdict → ¬ Rose old.read_faults new.read_faults → told
+    → ((right : Ending) × ((ready : List Frame → Ending) → recorded_ending name old.files verdict ready ≡ right) × (status_of ending ≡ status_of right)) ⊎ (status_of ending ≡ 10)
+recording_always told None old new verdict ending cause judged clean t = absurd cause
+recording_always told (Some name) old new verdict RecordingFault (inl rose) judged clean t = absurd (clean rose)
+recording_always told (Some name) old new verdict RecordingFault (inr missing) judged clean t =
+    inl (RecordingFault, (λ ready. ap (λ (file : Option (List ℕ)). recording_ending file verdict ready) missing.1), refl)
+recording_always told (Some name) old new verdict RecordingTooLong cause judged clean t =
+    inl (RecordingTooLong, (λ ready. file_long (old.files name) verdict ready (cause t)), refl)
+recording_always told (Some name) old new verdict (RecordingWrong place) cause judged clean t = inl (wrong_always (old.files name) verdict place (cause t) judged)
+recording_always told (Some name) old new verdict Memory cause judged clean t = inr refl
+recording_always told (Some name) old new verdict _ cause judged clean t = absurd cause
+
+-- and a saved state that is not read
+load_always : (told : Type 0) (load : Option (List ℕ)) (inputs : Inputs) (old new : DepotState) (end : ℕ)
+    → IsSomeAnd load (λ name. Rose old.read_faults new.read_faults ⊎ (told × (old.files name ≡ None))) → ¬ Rose old.read_faults new.read_faults
+    → (state : StateVerdict) → loaded_ending load old.files state inputs end ≡ LoadFault
+load_always told None inputs old new end cause clean state = absurd cause
+load_always told (Some name) inputs old new end (inl rose) clean state = absurd (clean rose)
+load_always told (Some name) inputs old new end (inr missing) clean state = ap (λ (file : Option (List ℕ)). state_ending file state end) missing.1
+
+long_always : (told : Type 0) (load : Option (List ℕ)) (inputs : Inputs) (old : DepotState) (end : ℕ)
+    → IsSomeAnd load (λ name. told → IsSomeAnd (old.files name) (λ bytes. state_limit < length bytes)) → told
+    → (state : StateVerdict) → loaded_ending load old.files state inputs end ≡ StateTooLong
+long_always told None inputs old end cause t state = absurd cause
+long_always told (Some name) inputs old end cause t state = file_state_long (old.files name) state end (cause t)
+
+found_judged : (told : Type 0) (load : Option (List ℕ)) (inputs : Inputs) (files : Files) (verdict : StateVerdict)
+    → IsSomeAnd load (λ name. told → IsFoundIn (files name) inputs verdict) → told → IsLoadJudged load inputs files verdict
+found_judged told None inputs files verdict cause t = tt
+found_judged told (Some name) inputs files verdict cause t = file_state (files name) inputs verdict (cause t)
+
+-- why a run has no machine, with the verdict on its saved state that this hangs on
+pub load_right_with : (told : Type 0) (run : Run) (old new : DepotState) (verdict : Verdict) (ending : Ending) → run.cycles ≤ last_cycle
+    → LoadCause told run old new ending → IsJudged run.recording old.files verdict → ¬ Rose old.read_faults new.read_faults → told
+    → IsRunRight run old.files verdict (status_of ending) ⊎ (status_of ending ≡ 10)
+load_right_with told run old new verdict LoadFault near (inputs, are, cause) is clean t =
+    inl (right_without run old.files verdict LoadFault LoadFault
+    (λ state. right_inputs run old.files verdict state inputs near (are t) is ∙ load_always told run.load inputs old new run.cycles cause clean state) refl)
+load_right_with told run old new verdict StateTooLong near (inputs, are, cause) is clean t =
+    inl (right_without run old.files verdict StateTooLong StateTooLong
+    (λ state. right_inputs run old.files verdict state inputs near (are t) is ∙ long_always told run.load inputs old run.cycles cause t state) refl)
+load_right_with told run old new verdict (StateWrong place) near (inputs, are, cause) is clean t =
+    let judged = found_judged told run.load inputs old.files (StateWrongAt place) cause t in
+    let given : IsStateJudged (Some run) old.files verdict (StateWrongAt place) =
+    subst (λ (given : Inputs). IsLoadJudged run.load given old.files (StateWrongAt place)) (inputs_same run old.files verdict inputs (are t) is) judged in
+    right_with run old.files verdict (StateWrongAt place) 7 given
+    (right_load told run old new verdict (StateWrongAt place) (StateWrong place) near (inputs, are, cause) is given clean t)
+load_right_with told run old new verdict (OtherCart kept other) near (inputs, are, cause) is clean t =
+    let judged = found_judged told run.load inputs old.files (OfOther kept other) cause t in
+    let given : IsStateJudged (Some run) old.files verdict (OfOther kept other) =
+    subst (λ (given : Inputs). IsLoadJudged run.load given old.files (OfOther kept other)) (inputs_same run old.files verdict inputs (are t) is) judged in
+    right_with run old.files verdict (OfOther kept other) 8 given
+    (right_load told run old new verdict (OfOther kept other) (OtherCart kept other) near (inputs, are, cause) is given clean t)
+load_right_with told run old new verdict Memory near cause is clean t = inr refl
+load_right_with told run old new verdict _ near (inputs, are, cause) is clean t = absurd cause

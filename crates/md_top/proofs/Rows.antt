@@ -5,10 +5,11 @@ use Rattle.std.specs.Str.{bytes_eq}
 use Rattle.std.proofs.lemmas.Slice.Eq.{bytes_eq-Decides}
 use Rattle.rom_header.specs.Header.{header_lines}
 use Rattle.md_outer.specs.Outside.{DepotState, Files, Rose, SinkState, with_file}
-use Rattle.md_top.specs.Answers.{Answers, Causes, PutsAll, PutsPart, Reports}
+use Rattle.md_top.specs.Answers.{Answers, Causes, IsRight, IsStateRight, PutsAll, PutsPart, Reports}
 use Rattle.md_top.specs.Inputs.{IsAccepted, IsJudged, Recorded, RecordingCause, Verdict, cart_of}
 use Rattle.md_word.specs.Clock.{last_cycle}
-use Rattle.md_top.specs.Loads.{IsStateJudged, Keeps, StateVerdict, StateWrongAt}
+use Rattle.md_top.specs.Loads.{IsStateJudged}
+use Rattle.state_laws.specs.Verdicts.{Keeps, StateVerdict, StateWrongAt}
 use Rattle.md_top.specs.Runs.{pieces_of, pieces_until}
 use Rattle.md_top.specs.Endings.{HasCause, InfoEnds, LeavesFiles, RunEnds, RunFiles, accepted_ending, asked_ending, file_ending, loaded_ending, right_ending, status_of}
 use Rattle.md_top.specs.Outputs.{LeavesParts, Parts, Pieces, all_of, nothing, with_part, written}
@@ -21,7 +22,7 @@ use Rattle.md_top.specs.declared.ending.Ending.TheVariants.{Shown, Done, Usage, 
 use Rattle.md_top.proofs.Assemblies.{asm_behind, asm_done, asm_far, asm_other, asm_read_fault, asm_refused_input, asm_refused_source, asm_right, asm_state, asm_usage, asm_write_fault, asm_wrong, assembled_other, convert_source, info_source, run_source}
 use Rattle.md_top.proofs.Conversions.{convert_behind, convert_done, convert_far, convert_other, convert_read_fault, convert_refused, convert_right, convert_state, convert_usage, convert_write_fault, convert_wrong, converted_other, info_refused, made_outcome, run_refused}
 use Rattle.md_top.proofs.Demos.{demo_behind, demo_far, demo_far_only, demo_never, demo_refused, demo_right, demo_source, right_demo_done}
-use Rattle.md_top.proofs.Right.{cart_right, recording_judged, recording_right, right_accepted, right_behind, right_behind_cart, right_done, right_far, right_load, right_near, state_judged}
+use Rattle.md_top.proofs.Right.{IsRunRight, cart_always, cart_right, load_right_with, recording_always, recording_judged, recording_right, right_accepted, right_behind, right_behind_cart, right_done, right_far, right_load, right_near, right_with, right_without, state_judged}
 use Rattle.md_top.proofs.Statuses.{reported, of_ending, info_usage, run_usage, info_far, run_far, info_read_fault, run_read_fault, info_wrong, run_wrong, info_state, run_state, info_other, run_other, info_behind, run_behind, info_write_fault, run_write_fault, far_only}
 
 -- WITHOUT A FAULT
@@ -79,11 +80,71 @@ run_right told run old new verdict state Memory cause is judged reads writes t =
 run_right told run old new verdict state other cause is judged reads writes t =
     run_near run old.files verdict state other cause.0 (cart_right told run.rom old new (accepted_ending run old.files verdict state) other cause.1 reads t)
 
+-- the same, with the verdict on its saved state that it hangs on
+run_recorded_with : (told : Type 0) (run : Run) (old new : DepotState) (verdict : Verdict) (ending : Ending) → run.cycles ≤ last_cycle → IsAccepted (old.files run.rom)
+    → RecordingCause told run.recording old new ending → IsJudged run.recording old.files verdict → ¬ Rose old.read_faults new.read_faults → told
+    → IsRunRight run old.files verdict (status_of ending) ⊎ (status_of ending ≡ 10)
+run_recorded_with told run old new verdict ending near accepted cause is clean t = elim (recording_always told run.recording old new verdict ending cause is clean t) [
+  | inl always ↦ inl (
+      right_without run old.files verdict always.0 ending
+      (λ state. right_behind_cart run old.files verdict state near accepted
+      ∙ always.1 (λ recording. loaded_ending run.load old.files state (record { cart = cart_of run.rom old.files; recording = recording; pal = run.pal }) run.cycles)) always.2)
+  | inr memory ↦ inr memory
+]
+
+run_right_with : (told : Type 0) (run : Run) (old new : DepotState) (verdict : Verdict) (ending : Ending) → RunEnds told run old new ending
+    → IsJudged run.recording old.files verdict → ¬ Rose old.read_faults new.read_faults → ¬ Rose old.write_faults new.write_faults → told
+    → IsRunRight run old.files verdict (status_of ending) ⊎ (status_of ending ≡ 10)
+run_right_with told run old new verdict (Done from frames accesses halted) (end, may, cause) is reads writes t =
+    let begins = (cause t).1 in
+    let judged = state_judged run old.files verdict begins.inputs (cause t).0 begins.are is begins.with in
+    right_with run old.files verdict (Keeps (cause t).0) 0 judged
+    (run_right told run old new verdict (Keeps (cause t).0) (Done from frames accesses halted) (end, may, cause) is judged reads writes t)
+run_right_with told run old new verdict TooFar cause is reads writes t =
+    inl (right_without run old.files verdict TooFar TooFar (λ state. right_far run old.files verdict state cause) refl)
+run_right_with told run old new verdict (Behind from) (near, behind, may, cause) is reads writes t =
+    let begins = (cause t).1 in
+    let judged = state_judged run old.files verdict begins.inputs (cause t).0 begins.are is begins.with in
+    right_with run old.files verdict (Keeps (cause t).0) 9 judged
+    (run_right told run old new verdict (Keeps (cause t).0) (Behind from) (near, behind, may, cause) is judged reads writes t)
+run_right_with told run old new verdict FramesFault cause is reads writes t = absurd (writes cause.2.1)
+run_right_with told run old new verdict SoundFault cause is reads writes t = absurd (writes cause.2.1)
+run_right_with told run old new verdict JournalFault cause is reads writes t = absurd (writes cause.2.1)
+run_right_with told run old new verdict SaveFault cause is reads writes t = absurd (writes cause.2.1)
+run_right_with told run old new verdict Unsaved cause is reads writes t = inr refl
+run_right_with told run old new verdict RecordingFault (near, (accepted, cause)) is reads writes t = run_recorded_with told run old new verdict RecordingFault near (accepted t) cause is reads t
+run_right_with told run old new verdict RecordingTooLong (near, (accepted, cause)) is reads writes t = run_recorded_with told run old new verdict RecordingTooLong near (accepted t) cause is reads t
+run_right_with told run old new verdict (RecordingWrong place) (near, (accepted, cause)) is reads writes t =
+    run_recorded_with told run old new verdict (RecordingWrong place) near (accepted t) cause is reads t
+run_right_with told run old new verdict LoadFault (near, cause) is reads writes t = load_right_with told run old new verdict LoadFault near cause is reads t
+run_right_with told run old new verdict StateTooLong (near, cause) is reads writes t = load_right_with told run old new verdict StateTooLong near cause is reads t
+run_right_with told run old new verdict (StateWrong place) (near, cause) is reads writes t = load_right_with told run old new verdict (StateWrong place) near cause is reads t
+run_right_with told run old new verdict (OtherCart kept given) (near, cause) is reads writes t = load_right_with told run old new verdict (OtherCart kept given) near cause is reads t
+run_right_with told run old new verdict Memory cause is reads writes t = inr refl
+run_right_with told run old new verdict other cause is reads writes t = elim (cart_always told run.rom old new other cause.1 reads t) [
+  | inl always ↦ inl (
+      right_without run old.files verdict always.0 other
+      (λ state. right_near run old.files verdict state cause.0 ∙ always.1 (accepted_ending run old.files verdict state)) always.2)
+  | inr memory ↦ inr memory
+]
+
 -- the status without a fault
 exact_is : (status of right : ℕ) {P : Type 0} → (status ≡ of) ⊎ ((status ≡ 13) × P) → ¬ P → (of ≡ right) ⊎ (of ≡ 10) → (status ≡ right) ⊎ (status ≡ 10)
 exact_is status of right (inl same) clean (inl is) = inl (same ∙ is)
 exact_is status of right (inl same) clean (inr memory) = inr (same ∙ memory)
 exact_is status of right (inr (out, rose)) clean is = absurd (clean rose)
+
+exact_run : (run : Run) (files : Files) (verdict : Verdict) (outcome : Outcome) (status of : ℕ) {P : Type 0} → (status ≡ of) ⊎ ((status ≡ 13) × P) → ¬ P
+    → IsRunRight run files verdict of ⊎ (of ≡ 10) → IsRight (Some (RunCart run)) files verdict outcome status ⊎ (status ≡ 10)
+exact_run run files verdict outcome status of (inl same) clean (inl right) = inl (right.0, right.1, same ∙ right.2)
+exact_run run files verdict outcome status of (inl same) clean (inr memory) = inr (same ∙ memory)
+exact_run run files verdict outcome status of (inr (out, rose)) clean is = absurd (clean rose)
+
+-- a command that asks for no run hangs on no saved state
+exact_other : (command : Option Command) (files : Files) (verdict : Verdict) (outcome : Outcome) (status : ℕ) → IsStateRight command files verdict outcome (StateWrongAt 0)
+    → (status ≡ status_of (right_ending command files verdict (StateWrongAt 0) outcome)) ⊎ (status ≡ 10) → IsRight command files verdict outcome status ⊎ (status ≡ 10)
+exact_other command files verdict outcome status is (inl right) = inl (StateWrongAt 0, is, right)
+exact_other command files verdict outcome status is (inr memory) = inr memory
 
 -- a command with nothing wrong
 ready_ends : (status right : ℕ) → (status ≡ right) ⊎ (status ≡ 10) → right ≡ 0 → (status ≡ 0) ⊎ (status ≡ 10)
@@ -166,7 +227,7 @@ none_causes told old out out' status (inl two) = record {
   source_refused = λ is. absurd (omega (arith, two, is));
   write_fault = λ is. absurd (omega (arith, two, is));
   out_fault = λ is. absurd (omega (arith, two, is));
-  exact = λ clean t verdict is state judged outcome known. inl two;
+  exact = λ clean t verdict is outcome known. inl (StateWrongAt 0, inl tt, two);
   complete = λ clean t ready. absurd ready;
   others = λ t. tt;
 }
@@ -184,7 +245,7 @@ none_causes told old out out' status (inr ten) = record {
   source_refused = λ is. absurd (omega (arith, ten, is));
   write_fault = λ is. absurd (omega (arith, ten, is));
   out_fault = λ is. absurd (omega (arith, ten, is));
-  exact = λ clean t verdict is state judged outcome known. inr ten;
+  exact = λ clean t verdict is outcome known. inr ten;
   complete = λ clean t ready. absurd ready;
   others = λ t. tt;
 }
@@ -208,9 +269,10 @@ causes_of told sink (Info rom) old new out out' status ending cause leaves repor
       source_refused = λ sixteen. absurd (info_source told rom old new ending cause (of_ending status (status_of ending) 16 by sixteen (λ is. omega (arith, is))));
       write_fault = λ four. info_write_fault told rom old new ending cause (of_ending status (status_of ending) 4 by four (λ is. omega (arith, is)));
       out_fault = λ thirteen. out_fault status (status_of ending) by (not_out ending) thirteen;
-      exact = λ clean t verdict is state judged outcome known.
-          exact_is status (status_of ending) (status_of (right_ending (Some (Info rom)) old.files verdict state outcome)) by clean.puts
-          (info_right told rom old new verdict state outcome ending cause clean.reads t);
+      exact = λ clean t verdict is outcome known.
+          exact_other (Some (Info rom)) old.files verdict outcome status (inl tt)
+          (exact_is status (status_of ending) (status_of (right_ending (Some (Info rom)) old.files verdict (StateWrongAt 0) outcome)) by clean.puts
+          (info_right told rom old new verdict (StateWrongAt 0) outcome ending cause clean.reads t));
       complete = λ clean t ready.
           ready_ends status (status_of (right_ending (Some (Info rom)) old.files (Recorded []) (StateWrongAt 0) (Made [])))
           (exact_is status (status_of ending) (status_of (right_ending (Some (Info rom)) old.files (Recorded []) (StateWrongAt 0) (Made []))) by clean.puts
@@ -234,15 +296,14 @@ causes_of told sink (RunCart run) old new out out' status ending cause leaves re
       source_refused = λ sixteen. absurd (run_source told run old new ending cause (of_ending status (status_of ending) 16 by sixteen (λ is. omega (arith, is))));
       write_fault = λ four. run_write_fault told run old new ending cause (of_ending status (status_of ending) 4 by four (λ is. omega (arith, is)));
       out_fault = λ thirteen. out_fault status (status_of ending) by (not_out ending) thirteen;
-      exact = λ clean t verdict is state judged outcome known.
-          exact_is status (status_of ending) (status_of (asked_ending run old.files verdict state)) by clean.puts
-          (run_right told run old new verdict state ending cause is judged clean.reads clean.writes t);
+      exact = λ clean t verdict is outcome known.
+          exact_run run old.files verdict outcome status (status_of ending) by clean.puts (run_right_with told run old new verdict ending cause is clean.reads clean.writes t);
       complete = λ clean t ready.
           let begins = ready.1.1 in
           let verdict = Recorded begins.inputs.recording in
           let state = Keeps ready.1.0 in
           let is = recording_judged run.recording old.files begins.inputs.recording begins.are.recording in
-          let judged = state_judged run old.files begins.inputs ready.1.0 begins.are begins.with in
+          let judged = state_judged run old.files verdict begins.inputs ready.1.0 begins.are is begins.with in
           ready_ends status (status_of (asked_ending run old.files verdict state))
           (exact_is status (status_of ending) (status_of (asked_ending run old.files verdict state)) by clean.puts
           (run_right told run old new verdict state ending cause is judged clean.reads clean.writes t))
@@ -265,9 +326,10 @@ causes_of told sink (Convert conversion) old new out out' status ending cause le
       source_refused = λ sixteen. absurd (convert_source told conversion old new ending cause (of_ending status (status_of ending) 16 by sixteen (λ is. omega (arith, is))));
       write_fault = λ four. convert_write_fault told conversion old new ending cause (of_ending status (status_of ending) 4 by four (λ is. omega (arith, is)));
       out_fault = λ thirteen. out_fault status (status_of ending) by (not_out ending) thirteen;
-      exact = λ clean t verdict is state judged outcome known.
-          exact_is status (status_of ending) (status_of (convert_ending conversion old.files outcome)) by clean.puts
-          (convert_right told conversion old new outcome ending cause known clean.reads clean.writes t);
+      exact = λ clean t verdict is outcome known.
+          exact_other (Some (Convert conversion)) old.files verdict outcome status (inl tt)
+          (exact_is status (status_of ending) (status_of (convert_ending conversion old.files outcome)) by clean.puts
+          (convert_right told conversion old new outcome ending cause known clean.reads clean.writes t));
       complete = λ clean t ready.
           let known = made_outcome conversion (old.files conversion.input) ready.0 ready.1.0 in
           ready_ends status (status_of (convert_ending conversion old.files (Made ready.0)))
@@ -293,9 +355,10 @@ causes_of told sink (RunDemo demo) old new out out' status ending (same, ends) l
       source_refused = λ sixteen. absurd (demo_source demo ending ends (of_ending status (status_of ending) 16 by sixteen (λ is. omega (arith, is))));
       write_fault = λ four. absurd (never 4 (of_ending status (status_of ending) 4 by four (λ is. omega (arith, is))) (omega arith) (omega arith));
       out_fault = λ thirteen. out_fault status (status_of ending) by (not_out ending) thirteen;
-      exact = λ clean t verdict is state judged outcome known.
-          exact_is status (status_of ending) (status_of (right_ending (Some (RunDemo demo)) old.files verdict state outcome)) by clean.puts
-          (demo_right demo old.files verdict state outcome ending ends);
+      exact = λ clean t verdict is outcome known.
+          exact_other (Some (RunDemo demo)) old.files verdict outcome status (inl tt)
+          (exact_is status (status_of ending) (status_of (right_ending (Some (RunDemo demo)) old.files verdict (StateWrongAt 0) outcome)) by clean.puts
+          (demo_right demo old.files verdict (StateWrongAt 0) outcome ending ends));
       complete = λ clean t ready.
           ready_ends status (status_of (right_ending (Some (RunDemo demo)) old.files (Recorded []) (StateWrongAt 0) (Made [])))
           (exact_is status (status_of ending) (status_of (right_ending (Some (RunDemo demo)) old.files (Recorded []) (StateWrongAt 0) (Made []))) by clean.puts
@@ -319,9 +382,10 @@ causes_of told sink (Assemble words) old new out out' status ending cause leaves
       source_refused = λ sixteen. asm_refused_source told words old new ending cause (of_ending status (status_of ending) 16 by sixteen (λ is. omega (arith, is)));
       write_fault = λ four. asm_write_fault told words old new ending cause (of_ending status (status_of ending) 4 by four (λ is. omega (arith, is)));
       out_fault = λ thirteen. out_fault status (status_of ending) by (not_out ending) thirteen;
-      exact = λ clean t verdict is state judged outcome known.
-          exact_is status (status_of ending) (status_of (asm_ending words old.files)) by clean.puts
-          (asm_right told words old new ending cause clean.reads clean.writes t);
+      exact = λ clean t verdict is outcome known.
+          exact_other (Some (Assemble words)) old.files verdict outcome status (inl tt)
+          (exact_is status (status_of ending) (status_of (asm_ending words old.files)) by clean.puts
+          (asm_right told words old new ending cause clean.reads clean.writes t));
       complete = λ clean t ready.
           ready_ends status (status_of (asm_ending words old.files))
           (exact_is status (status_of ending) (status_of (asm_ending words old.files)) by clean.puts

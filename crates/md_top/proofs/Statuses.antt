@@ -6,7 +6,8 @@ use Rattle.md_pads.specs.Recording.{GoesWrongAt, IsSpelled}
 use Rattle.md_top.specs.Answers.{IsBehind, PutsOutput, Reports}
 use Rattle.md_top.specs.Inputs.{IsMissing, RecordingCause, recording_limit}
 use Rattle.md_word.specs.Clock.{last_cycle}
-use Rattle.md_top.specs.Loads.{IsLoadFound, OfOther, StateWrongAt}
+use Rattle.md_top.specs.Loads.{IsLoadFound}
+use Rattle.state_laws.specs.Verdicts.{OfOther, StateWrongAt}
 use Rattle.md_top.specs.Endings.{InfoEnds, RunEnds, status_of, text_of}
 use Rattle.md_args.specs.Words.{Command, Info, Run, RunCart}
 use Rattle.md_top.specs.declared.ending.Ending.{Ending}

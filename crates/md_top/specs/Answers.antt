@@ -4,7 +4,8 @@ use Rattle.md_outer.specs.Outside.{DepotState, Files, IsPrefix, Rose, SinkState,
 use Rattle.md_pads.specs.Recording.{IsSpelled}
 use Rattle.md_top.specs.Inputs.{IsJudged, IsMissing, Verdict}
 use Rattle.md_word.specs.Clock.{last_cycle}
-use Rattle.md_top.specs.Loads.{Begins, IsLoadFound, IsStateJudged, MayBeginAt, OfOther, StateVerdict, StateWrongAt}
+use Rattle.md_top.specs.Loads.{Begins, IsLoadFound, IsStateJudged, MayBeginAt}
+use Rattle.state_laws.specs.Verdicts.{OfOther, StateVerdict, StateWrongAt}
 use Rattle.md_machine.specs.Starts.{Start}
 use Rattle.md_vgm.specs.Outcomes.{Outcome}
 use Rattle.md_args.specs.Words.{Assemble, Command, Convert, Info, RunCart, RunDemo, assembling_in, conversion_in, end_of, frames_name, journal_name, recording_name, run_in, save_name, sound_name}
@@ -59,6 +60,17 @@ IsBehind told (Assemble words) files = ⊥
 IsBehind told (RunCart run) files =
     (from : ℕ) × MayBeginAt run from × (run.cycles ≤ from) × (told → (start : Start) × Begins run files start × (from ≡ start.at))
 
+-- the verdict is one on the bytes of the saved state, or none on them has a part in the ending
+abbrev pub IsStateRight : Option Command → Files → Verdict → Outcome → StateVerdict → Type 0
+IsStateRight command files verdict outcome state =
+    IsStateJudged (option_and_then run_in command) files verdict state
+    ⊎ ((other : StateVerdict) → right_ending command files verdict other outcome ≡ right_ending command files verdict state outcome)
+
+-- the status is that of the right ending, with such a verdict
+abbrev pub IsRight : Option Command → Files → Verdict → Outcome → ℕ → Type 0
+IsRight command files verdict outcome status =
+    (state : StateVerdict) × IsStateRight command files verdict outcome state × (status ≡ status_of (right_ending command files verdict state outcome))
+
 -- The same, answer by answer.
 pub record Causes (depot_told : Type 0) (command : Option Command) (old new : DepotState) (out out' : SinkState) (status : ℕ) : Type 0 where
   pub usage : status ≡ 2 → command ≡ None
@@ -76,9 +88,8 @@ pub record Causes (depot_told : Type 0) (command : Option Command) (old new : De
   pub out_fault : status ≡ 13 → Rose out.faults out'.faults
   -- each refusal comes exactly where it should, in this order; want of memory may come between
   pub exact : NoFaults old new out out' → depot_told → (verdict : Verdict) → IsJudged (option_and_then recording_name command) old.files verdict
-      → (state : StateVerdict) → IsStateJudged (option_and_then run_in command) old.files verdict state
       → (outcome : Outcome) → IsInputOutcome (option_and_then conversion_in command) old.files outcome
-      → (status ≡ status_of (right_ending command old.files verdict state outcome)) ⊎ (status ≡ 10)
+      → IsRight command old.files verdict outcome status ⊎ (status ≡ 10)
   -- where nothing is wrong the command ends well, or memory is wanting
   pub complete : NoFaults old new out out' → depot_told → IsSomeAnd command (λ asked. IsReady asked old.files) → (status ≡ 0) ⊎ (status ≡ 10)
   -- no file but the outputs changes

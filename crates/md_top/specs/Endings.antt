@@ -13,7 +13,8 @@ use Rattle.md_top.specs.Demos.{DemoEnds, demo_start, summary_from}
 use Rattle.md_top.specs.Inputs.{CartCause, InputCause, IsAccepted, Recorded, Verdict, WrongAt, cart_limit, cart_of, recording_limit, refusal_of}
 use Rattle.md_word.specs.Clock.{last_cycle}
 use Rattle.md_top.specs.Limits.{IsEnd}
-use Rattle.md_top.specs.Loads.{Begins, CanRun, Keeps, LoadCause, MayBeginAt, OfOther, StateVerdict, StateWrongAt, state_limit}
+use Rattle.md_top.specs.Loads.{Begins, CanRun, LoadCause, MayBeginAt, state_limit}
+use Rattle.state_laws.specs.Verdicts.{Keeps, OfOther, StateVerdict, StateWrongAt}
 use Rattle.md_top.specs.Resuming.{RunsWell}
 use Rattle.md_top.specs.Runs.{entries_from, halted_from, media_from, pieces_of, pieces_until, powered_on}
 use Rattle.md_top.specs.Outputs.{Holds, IsUnwritten, LeavesParts, nothing}

@@ -3,7 +3,7 @@ use Rattle.std.specs.Prelude.{◌≡◌, ◌⊎◌, ℕ, ◌<◌, ◌≤◌, Lis
 use Rattle.md_outer.specs.Outside.{DepotState, Files, Rose, bytes_of}
 use Rattle.md_pads.specs.Recording.{Frame}
 use Rattle.md_machine.specs.Starts.{Start}
-use Rattle.save_state.specs.Versions.{IsOtherCart, IsState, IsWrongAt}
+use Rattle.state_laws.specs.Verdicts.{IsStateVerdict, Keeps, OfOther, StateVerdict, StateWrongAt}
 use Rattle.md_args.specs.Words.{Run}
 use Rattle.md_top.specs.Inputs.{AreInputs, Recorded, Verdict, cart_of}
 use Rattle.md_top.specs.Runs.{powered_on}
@@ -15,23 +15,9 @@ use Rattle.md_top.specs.declared.inputs.Inputs.{Inputs}
 abbrev pub state_limit : ℕ
 state_limit = 2097152
 
--- what the bytes of a saved state's file are found to be: a machine at a cycle, a state of another
--- cartridge with both digests, or wrong at a place
-pub data StateVerdict : Type 0 where
-  Keeps : Start → StateVerdict
-  OfOther : List ℕ → List ℕ → StateVerdict
-  StateWrongAt : ℕ → StateVerdict
-
--- with the inputs of a run the bytes are so
-abbrev pub IsStateVerdict : Inputs → List ℕ → StateVerdict → Type 0
-IsStateVerdict inputs bytes (Keeps start) = IsState inputs.cart bytes start × (start.console.shared.recording ≡ inputs.recording)
-IsStateVerdict inputs bytes (OfOther kept given) = IsOtherCart inputs.cart bytes kept given
-IsStateVerdict inputs bytes (StateWrongAt place) = IsWrongAt inputs.cart bytes place
-
--- and are nothing else
-pub record IsFound (inputs : Inputs) (bytes : List ℕ) (verdict : StateVerdict) : Type 0 where
-  pub is : IsStateVerdict inputs bytes verdict
-  pub one : (other : StateVerdict) → IsStateVerdict inputs bytes other → other ≡ verdict
+-- with the inputs of a run the bytes of a saved state's file are so
+abbrev pub IsFound : Inputs → List ℕ → StateVerdict → Type 0
+IsFound inputs bytes verdict = IsStateVerdict inputs.cart inputs.recording bytes verdict
 
 -- a file is held, within its limit and found to be so
 abbrev pub IsFoundIn : Option (List ℕ) → Inputs → StateVerdict → Type 0
@@ -93,7 +79,7 @@ inputs_by run files verdict = record { cart = cart_of run.rom files; recording =
 -- with these inputs the bytes of the saved state of this name are so, if one is named
 abbrev pub IsLoadJudged : Option (List ℕ) → Inputs → Files → StateVerdict → Type 0
 IsLoadJudged None inputs files state = Unit {0}
-IsLoadJudged (Some name) inputs files state = IsStateVerdict inputs (bytes_of files name) state
+IsLoadJudged (Some name) inputs files state = IsFound inputs (bytes_of files name) state
 
 -- the bytes of the saved state of a run are so, if one is named
 abbrev pub IsStateJudged : Option Run → Files → Verdict → StateVerdict → Type 0

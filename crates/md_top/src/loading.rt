@@ -4,7 +4,8 @@ ghost use Rattle.std.specs.Option.{option_copied};
 ghost use Rattle.md_outer.specs.Outside.{GoesOn};
 ghost use Rattle.md_pads.specs.Recording.{IsFrame};
 ghost use Rattle.md_top.specs.Courses.{IsFresh, start_at};
-ghost use Rattle.md_top.specs.Loads.{BeginsWith, IsFound, IsRefused, Keeps, StateCause};
+ghost use Rattle.md_top.specs.Loads.{BeginsWith, IsFound, IsRefused, StateCause};
+ghost use Rattle.state_laws.specs.Verdicts.{Keeps};
 ghost use Rattle.md_top.specs.Runs.{powered_on};
 
 use crate::ending::Ending;

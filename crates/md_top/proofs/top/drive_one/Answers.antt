@@ -1,9 +1,9 @@
-use Rattle.std.proofs.Common.{◌≡◌, Global, None, Option, Some, map, refl, string_bytes, subst}
+use Rattle.std.proofs.Common.{◌≡◌, Global, None, Option, Some, inl, map, refl, string_bytes, subst}
 use Rattle.md_top.specs.Answers.{Answers, Causes}
 use Rattle.md_args.specs.Shown.{shown_command}
 use Rattle.md_args.specs.Words.{Command, command_of}
 use Rattle.md_top.specs.declared.ending.Ending.TheVariants.{Usage}
-use Rattle.md_top.proofs.Rows.{memory_answers, memory_causes}
+use Rattle.md_top.proofs.Rows.{memory_answers, memory_causes, none_causes}
 use Rattle.md_top.proofs.top.drive_one.Goals as goal
 
 pub returns-in-Ok-None-clause-answer : goal.returns-in-Ok-None-clause-answer
@@ -15,6 +15,16 @@ returns-in-Ok-None-clause-answer g c =
     (g.S.Sink.state c.args.out.now) (g.S.Sink.state c.refuse.new.out) c.refuse.result)
     words
     (record { ending = Usage; cause = tt; files = λ t. refl; reports = (c.refuse.ensures.status, c.refuse.ensures.put) })
+
+pub returns-in-Ok-None-clause-causes : goal.returns-in-Ok-None-clause-causes
+returns-in-Ok-None-clause-causes g c =
+    let words : None ≡ command_of (map (string_bytes {Z = Global}) c.args.words.now.items) =
+    rw c.as_slice.ensures.value at (rw c.in-Ok-None.field-0-is at (c.in-Ok-None.ensures {u = tt})) in
+    subst
+    (λ (asked : Option Command). Causes g.D.Depot.told asked (g.D.Depot.state c.args.depot.now) (g.D.Depot.state c.args.depot.now)
+    (g.S.Sink.state c.args.out.now) (g.S.Sink.state c.refuse.new.out) c.refuse.result)
+    words
+    (none_causes g.D.Depot.told (g.D.Depot.state c.args.depot.now) (g.S.Sink.state c.args.out.now) (g.S.Sink.state c.refuse.new.out) c.refuse.result (inl c.refuse.ensures.status))
 
 pub returns-in-Ok-Some-clause-answer : goal.returns-in-Ok-Some-clause-answer
 returns-in-Ok-Some-clause-answer g c =
