@@ -139,9 +139,9 @@ fn faults<R: Threads + Wait + Sync>(
 }
 
 // Three files are read. Four are begun; the sound's head is written, in each of two segments the frames, the
-// sound and the journal, and the state in six pieces of 65,536 bytes at most. The four lines are put in
+// sound and the journal, and the state in seven pieces of 65,536 bytes at most. The four lines are put in
 // fourteen pieces.
-static FAULTS: [(Kind, u64); 3] = [(Kind::Fetches, 3), (Kind::Writes, 17), (Kind::Puts, 14)];
+static FAULTS: [(Kind, u64); 3] = [(Kind::Fetches, 3), (Kind::Writes, 18), (Kind::Puts, 14)];
 
 #[test]
 fn each_call_fails_up_to_the_first_run_that_ends_well(rt: HostRuntime) -> Result<(), Fail> {
