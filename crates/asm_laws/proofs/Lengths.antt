@@ -1,5 +1,5 @@
 -- An instruction of the 68000 has five words at the most.
-use Rattle.std.proofs.Common.{◌≡◌, ℕ, ◌+◌, ◌≤◌, Bool, List, [], ◌∷◌, ◌++◌, length, length-append, refl, sym, append-nil, append_assoc, rules, arith}
+use Rattle.std.proofs.Common.{◌≡◌, ℕ, zero, suc, ◌<◌, ◌≤◌, List, [], ◌∷◌, ◌++◌, length, length-append, refl, arith}
 use Rattle.md_word.specs.declared.mode.Mode.{Mode}
 use Rattle.md_word.specs.declared.mode.Mode.TheVariants as modes
 use Rattle.md_word.specs.declared.size.Size.{Size}
@@ -8,8 +8,9 @@ use Rattle.m68k_decode.specs.declared.op.Op.{Op}
 use Rattle.m68k_decode.specs.declared.op.Op.TheVariants as ops
 use Rattle.m68k_decode.specs.declared.displacement.Displacement.{Displacement}
 use Rattle.m68k_decode.specs.declared.displacement.Displacement.TheVariants as displacements
-use Rattle.m68k_encode.specs.Encoding.{displacement_words, encoded, extension, first_word, mode_words, number_words}
+use Rattle.m68k_encode.specs.Encoding.{displacement_words, encoded, extension, mode_words, number_words}
 use Rattle.m68k_read.specs.Judged.{padded}
+use Rattle.m68k_read.specs.Table.{AreWords}
 
 number_few : (size : Size) (n : ℕ) → length (number_words size n) ≤ 2
 number_few Byte n = omega arith
@@ -97,3 +98,22 @@ filled_up (a ∷ b ∷ c ∷ []) few = (0 ∷ 0 ∷ [], refl)
 filled_up (a ∷ b ∷ c ∷ d ∷ []) few = (0 ∷ [], refl)
 filled_up (a ∷ b ∷ c ∷ d ∷ e ∷ []) few = ([], refl)
 filled_up (a ∷ b ∷ c ∷ d ∷ e ∷ f ∷ more) few = absurd (omega arith)
+
+five : (a b c d e : ℕ) → a < 65536 → b < 65536 → c < 65536 → d < 65536 → e < 65536 → AreWords (a ∷ b ∷ c ∷ d ∷ e ∷ [])
+five a b c d e ha hb hc hd he zero = ha
+five a b c d e ha hb hc hd he (suc zero) = hb
+five a b c d e ha hb hc hd he (suc (suc zero)) = hc
+five a b c d e ha hb hc hd he (suc (suc (suc zero))) = hd
+five a b c d e ha hb hc hd he (suc (suc (suc (suc zero)))) = he
+five a b c d e ha hb hc hd he (suc (suc (suc (suc (suc i))))) = omega arith
+
+none : 0 < 65536
+none = omega arith
+
+pub padded_words : (words : List ℕ) → AreWords words → AreWords (padded words)
+padded_words [] h = five 0 0 0 0 0 none none none none none
+padded_words (a ∷ []) h = five a 0 0 0 0 (h 0) none none none none
+padded_words (a ∷ b ∷ []) h = five a b 0 0 0 (h 0) (h 1) none none none
+padded_words (a ∷ b ∷ c ∷ []) h = five a b c 0 0 (h 0) (h 1) (h 2) none none
+padded_words (a ∷ b ∷ c ∷ d ∷ []) h = five a b c d 0 (h 0) (h 1) (h 2) (h 3) none
+padded_words (a ∷ b ∷ c ∷ d ∷ e ∷ more) h = five a b c d e (h 0) (h 1) (h 2) (h 3) (h 4)

@@ -1,59 +1,76 @@
--- What is assembled of the text of an instruction is that instruction, and what is assembled has the line's text.
-use Rattle.std.proofs.Common.{◌≡◌, ℕ, ◌<◌, Bool, true, false, List, [], ◌∷◌, ◌++◌, Option, Some, None, refl, ap, ◌∙◌, sym, subst, if◌then◌else◌}
-use Rattle.m68k_decode.specs.Instructions as main
+-- What is assembled of the text of an instruction of the 68000 is that instruction, and what is assembled has the
+-- line's text.
+use Rattle.std.proofs.Common.{◌≡◌, ℕ, ◌<◌, ◌≤◌, Bool, true, false, List, [], ◌∷◌, ◌++◌, length, Some, None, refl, ap, ◌∙◌, sym, if◌then◌else◌}
+use Rattle.m68k_decode.specs.Instructions.{decoded}
 use Rattle.m68k_decode.specs.Nested.{nested}
-use Rattle.z80_decode.specs.Instructions as sub
-use Rattle.md_disasm.specs.Texts68 as main_texts
-use Rattle.md_disasm.specs.Texts80 as sub_texts
 use Rattle.m68k_decode.specs.declared.decoded.Decoded.{Decoded}
+use Rattle.md_disasm.specs.Texts68.{text_of}
 use Rattle.md_asm_text.specs.Pieces.{Piece, pieces}
 use Rattle.md_asm_text.proofs.Alike.{all_alike_is}
-use Rattle.m68k_read.specs.Building.{meant}
 use Rattle.m68k_form.specs.Reading.{source}
-use Rattle.m68k_read.specs.Judged as main_read
+use Rattle.m68k_read.specs.Building.{meant}
+use Rattle.m68k_read.specs.Judged.{padded, tried}
 use Rattle.m68k_read.specs.Table.{AreWords, IsInstruction}
-use Rattle.m68k_read.proofs.Judged.{tried_again}
-use Rattle.z80_read.specs.Judged as sub_read
-use Rattle.md_asm_code.specs.Codes.{main_code, say_bytes, say_words, sub_code}
+use Rattle.m68k_read.proofs.Judged.{said_again, tried_again}
+use Rattle.md_asm_code.specs.Codes.{main_code, say_words}
 use Rattle.md_asm_code.proofs.Told.{main_said}
-use Rattle.asm_laws.proofs.Lengths.{encoded_few, filled_up}
+use Rattle.asm_laws.proofs.Directives.{tried_instruction}
+use Rattle.asm_laws.proofs.Lengths.{encoded_few, filled_up, padded_words}
+
+-- ---- the text of an instruction
 
 -- the words that are tried for it decode to it, filled up too
 filled_again : (word : ℕ) (tail : List ℕ) (at : ℕ) → word < 65536 → IsInstruction (nested word) → AreWords (word ∷ tail) → at < 4294967296
-    → main.decoded (main_read.padded (main_read.tried (pieces (main_texts.text_of (main.decoded (word ∷ tail)) at)) at)) ≡ main.decoded (word ∷ tail)
+    → decoded (padded (tried (pieces (text_of (decoded (word ∷ tail)) at)) at)) ≡ decoded (word ∷ tail)
 filled_again word tail at below is all h =
-    let said = pieces (main_texts.text_of (main.decoded (word ∷ tail)) at) in
-    let up = filled_up (main_read.tried said at) (encoded_few (meant (source said) at)) in
-    ap main.decoded up.1 ∙ tried_again word tail up.0 at below is all h
+    let said = pieces (text_of (decoded (word ∷ tail)) at) in
+    let up = filled_up (tried said at) (encoded_few (meant (source said) at)) in
+    ap decoded up.1 ∙ tried_again word tail up.0 at below is all h
 
 pub assembled_again : (word : ℕ) (tail : List ℕ) (at : ℕ) → word < 65536 → IsInstruction (nested word) → AreWords (word ∷ tail) → at < 4294967296
-    → (words : List ℕ) × (main_code (pieces (main_texts.text_of (main.decoded (word ∷ tail)) at)) at ≡ Some words)
-    × ((rest : List ℕ) → main.decoded (words ++ rest) ≡ main.decoded (word ∷ tail))
+    → (words : List ℕ) × (main_code (pieces (text_of (decoded (word ∷ tail)) at)) at ≡ Some words)
+    × ((rest : List ℕ) → decoded (words ++ rest) ≡ decoded (word ∷ tail))
 assembled_again word tail at below is all h =
-    let said = pieces (main_texts.text_of (main.decoded (word ∷ tail)) at) in (
-      main_read.tried said at,
-      main_said (main_read.tried said at) said at refl
-          (ap (λ (op : Decoded). pieces (main_texts.text_of op at)) (filled_again word tail at below is all h)),
+    let said = pieces (text_of (decoded (word ∷ tail)) at) in (
+      tried said at,
+      main_said (tried said at) said at refl
+          (ap (λ (op : Decoded). pieces (text_of op at)) (filled_again word tail at below is all h)),
       λ rest. tried_again word tail rest at below is all h,
     )
 
+-- ---- what is found for pieces
+
 -- what a test lets through
-let_through : {X : Type 0} (b : Bool) (own found : X) → (if b then Some own else None) ≡ Some found → (b ≡ true) × (own ≡ found)
+pub let_through : {X : Type 0} (b : Bool) (own found : X) → (if b then Some own else None) ≡ Some found → (b ≡ true) × (own ≡ found)
 let_through true own found is = (refl, cc)
 let_through false own found is = cc
 
-pub main_says : (said : List Piece) (words : List ℕ) (at : ℕ) → main_code said at ≡ Some words
-    → pieces (main_texts.text_of (main.decoded (main_read.padded words)) at) ≡ said
-unfolding main_code
-main_says said words at is =
-    let through = let_through (say_words (main_read.tried said at) said at) (main_read.tried said at) words is in
-    ap (λ (w : List ℕ). pieces (main_texts.text_of (main.decoded (main_read.padded w)) at)) (sym through.1)
-    ∙ all_alike_is (pieces (main_texts.text_of (main.decoded (main_read.padded (main_read.tried said at))) at)) said through.0
+-- what is found is what is tried, and says the pieces where 0 stands behind it
+record IsFound (said : List Piece) (words : List ℕ) (at : ℕ) : Type 0 where
+  own : words ≡ tried said at
+  text : pieces (text_of (decoded (padded words)) at) ≡ said
 
-pub sub_says : (said : List Piece) (bytes : List ℕ) (at : ℕ) → sub_code said at ≡ Some bytes
-    → pieces (sub_texts.text_of (sub.decoded (sub_read.padded bytes)) at) ≡ said
-unfolding sub_code
-sub_says said bytes at is =
-    let through = let_through (say_bytes (sub_read.tried said at) said at) (sub_read.tried said at) bytes is in
-    ap (λ (w : List ℕ). pieces (sub_texts.text_of (sub.decoded (sub_read.padded w)) at)) (sym through.1)
-    ∙ all_alike_is (pieces (sub_texts.text_of (sub.decoded (sub_read.padded (sub_read.tried said at))) at)) said through.0
+found : (said : List Piece) (words : List ℕ) (at : ℕ) → main_code said at ≡ Some words → IsFound said words at
+unfolding main_code
+found said words at is =
+    let through = let_through (say_words (tried said at) said at) (tried said at) words is in record {
+      own = sym through.1;
+      text = ap (λ (l : List ℕ). pieces (text_of (decoded (padded l)) at)) (sym through.1)
+          ∙ all_alike_is (pieces (text_of (decoded (padded (tried said at))) at)) said through.0;
+    }
+
+pub few : (said : List Piece) (words : List ℕ) (at : ℕ) → main_code said at ≡ Some words → length words ≤ 5
+few said words at is = rw ((found said words at is).own) (encoded_few (meant (source said) at))
+
+-- it has the text whatever follows it
+pub says : (said : List Piece) (words rest : List ℕ) (at : ℕ) → AreWords words → at < 4294967296 → main_code said at ≡ Some words
+    → pieces (text_of (decoded (words ++ rest)) at) ≡ said
+says said [] rest at h a is = let own = (found said [] at is).own in cc
+says said (word ∷ tail) rest at h a is =
+    let own = found said (word ∷ tail) at is in
+    let up = filled_up (word ∷ tail) (few said (word ∷ tail) at is) in
+    let text : pieces (text_of (decoded (word ∷ (tail ++ up.0))) at) ≡ said
+    = ap (λ (l : List ℕ). pieces (text_of (decoded l) at)) (sym up.1) ∙ own.text in
+    let all : AreWords (word ∷ (tail ++ up.0)) = rw up.1 at (padded_words (word ∷ tail) h) in
+    let entered = tried_instruction word (tail ++ up.0) said at (h 0) (word ∷ tail) refl own.own text in
+    ap (λ (d : Decoded). pieces (text_of d at)) (said_again word tail up.0 rest said at (h 0) entered all a own.own text) ∙ text

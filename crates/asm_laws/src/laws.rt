@@ -1,29 +1,41 @@
 //! Laws of the definitions that the contracts cite, each on a call that does nothing else.
 
-ghost use Rattle.std.specs.Prelude.{◌≡◌, ◌<◌, ◌∷◌, ◌++◌, ℕ, List, Some};
+ghost use Rattle.std.specs.Prelude.{◌≡◌, ◌<◌, ◌∷◌, ◌++◌, ℕ, List, None, Some, false};
 ghost use Rattle.m68k_decode.specs.Instructions as main;
 ghost use Rattle.m68k_decode.specs.Nested.{nested};
 ghost use Rattle.z80_decode.specs.Instructions as sub;
 ghost use Rattle.md_disasm.specs.Texts68 as main_texts;
 ghost use Rattle.md_disasm.specs.Texts80 as sub_texts;
 ghost use Rattle.md_asm_text.specs.Pieces.{Piece, pieces};
-ghost use Rattle.m68k_read.specs.Judged as main_read;
 ghost use Rattle.m68k_read.specs.Table.{AreWords, IsInstruction};
-ghost use Rattle.z80_read.specs.Judged as sub_read;
+ghost use Rattle.z80_encode.specs.Coded80.{AreBytes};
+ghost use Rattle.z80_read_laws.specs.Instruction.{is_db};
 ghost use Rattle.md_asm_code.specs.Codes.{main_code, sub_code};
+ghost use Rattle.asm_laws.specs.Chosen.{AreChosen, Says};
 
-/// Whatever words of the 68000 decode to, its text at an address is assembled there to words that decode to it,
+/// Whatever words or bytes decode to, its text at an address is assembled there to words or bytes that decode to it,
 /// whatever follows them.
 pub fn texts_are_assembled()
-    ensures { (word : ℕ) (tail : List ℕ) (at : ℕ) → word < 65536 → IsInstruction (nested word) → AreWords (word ∷ tail) → at < 4294967296
+    ensures main { (word : ℕ) (tail : List ℕ) (at : ℕ) → word < 65536 → IsInstruction (nested word) → AreWords (word ∷ tail) → at < 4294967296
         → (words : List ℕ) × (main_code (pieces (main_texts.text_of (main.decoded (word ∷ tail)) at)) at ≡ Some words)
         × ((rest : List ℕ) → main.decoded (words ++ rest) ≡ main.decoded (word ∷ tail)) }
+    ensures sub { (bytes : List ℕ) (at : ℕ) → AreBytes bytes → at < 65536 → is_db (sub.decoded bytes).op ≡ false
+        → (found : List ℕ) × (sub_code (pieces (sub_texts.text_of (sub.decoded bytes) at)) at ≡ Some found)
+        × ((rest : List ℕ) → AreBytes rest → sub.decoded (found ++ rest) ≡ sub.decoded bytes) }
 {}
 
-/// What pieces are assembled to at an address has a text there with these pieces, for both processors.
+/// What pieces are assembled to at an address has a text there with these pieces, whatever follows it, for both
+/// processors.
 pub fn codes_say_their_line()
-    ensures main { (said : List Piece) (words : List ℕ) (at : ℕ) → main_code said at ≡ Some words
-        → pieces (main_texts.text_of (main.decoded (main_read.padded words)) at) ≡ said }
-    ensures sub { (said : List Piece) (bytes : List ℕ) (at : ℕ) → sub_code said at ≡ Some bytes
-        → pieces (sub_texts.text_of (sub.decoded (sub_read.padded bytes)) at) ≡ said }
+    ensures main { (said : List Piece) (words rest : List ℕ) (at : ℕ) → AreWords words → at < 4294967296 → main_code said at ≡ Some words
+        → pieces (main_texts.text_of (main.decoded (words ++ rest)) at) ≡ said }
+    ensures sub { (said : List Piece) (bytes rest : List ℕ) (at : ℕ) → AreBytes bytes → AreBytes rest → at < 65536 → sub_code said at ≡ Some bytes
+        → pieces (sub_texts.text_of (sub.decoded (bytes ++ rest)) at) ≡ said }
+{}
+
+/// What pieces are assembled to for the Z80 is chosen among all bytes that say them there; where nothing is found, no
+/// bytes do.
+pub fn codes_are_chosen()
+    ensures found { (said : List Piece) (bytes : List ℕ) (at : ℕ) → AreBytes bytes → at < 65536 → sub_code said at ≡ Some bytes → AreChosen bytes said at }
+    ensures none { (said : List Piece) (at : ℕ) → at < 65536 → sub_code said at ≡ None → (bytes : List ℕ) → AreBytes bytes → Says bytes said at → ⊥ }
 {}

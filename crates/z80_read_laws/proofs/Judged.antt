@@ -84,11 +84,11 @@ lone_again at index none = absurd (true_or_not none)
 
 nested_again : (at b0 b1 b2 b3 : ℕ) → at < 65536 → b0 < 256 → b1 < 256 → b2 < 256 → b3 < 256 → IsAgain at (nested b0 b1 b2 b3)
 nested_again at b0 b1 b2 b3 a h k l m = by_page (IsAgain at) b0 b1 b2 b3
-    (bits_again at b1 k)
-    (by_index (IsAgain at) indexes.Ix b1 b2 b3 (ix_bits_again at b2 b3 l m) (ix_again at b1 b2 b3 k l m) (lone_again at indexes.Ix) _ _ refl refl)
-    (extended_again at b1 b2 b3 k l m)
-    (by_index (IsAgain at) indexes.Iy b1 b2 b3 (iy_bits_again at b2 b3 l m) (iy_again at b1 b2 b3 k l m) (lone_again at indexes.Iy) _ _ refl refl)
-    (plain_again at b0 b1 b2 a h k l)
+    (λ cb. bits_again at b1 k)
+    (λ dd. by_index (IsAgain at) indexes.Ix b1 b2 b3 (λ cb. ix_bits_again at b2 b3 l m) (ix_again at b1 b2 b3 k l m) (lone_again at indexes.Ix) _ _ refl refl)
+    (λ ed. extended_again at b1 b2 b3 k l m)
+    (λ fd. by_index (IsAgain at) indexes.Iy b1 b2 b3 (λ cb. iy_bits_again at b2 b3 l m) (iy_again at b1 b2 b3 k l m) (lone_again at indexes.Iy) _ _ refl refl)
+    (λ none. plain_again at b0 b1 b2 a h k l)
     _ _ _ _ refl refl refl refl
 
 decoded_again : (bytes : List ℕ) (at : ℕ) → AreBytes bytes → at < 65536 → IsAgain at (decoded bytes)
@@ -148,7 +148,7 @@ tried_zero d said at is text =
     ap (λ (s : List Piece). tried s at) (sym text ∙ opens.1) ∙ tried_db opens.0 at
 
 -- so what is tried and says the pieces is no directive
-tried_is : (bytes more : List ℕ) (said : List Piece) (at : ℕ) → AreBytes (bytes ++ more) → bytes ≡ tried said at
+pub tried_is : (bytes more : List ℕ) (said : List Piece) (at : ℕ) → AreBytes (bytes ++ more) → bytes ≡ tried said at
     → pieces (text_of (decoded (bytes ++ more)) at) ≡ said → (b : Bool) → is_db (decoded (bytes ++ more)).op ≡ b → b ≡ false
 tried_is bytes more said at h are text false is = refl
 tried_is bytes more said at h are text true is =

@@ -72,11 +72,11 @@ lone_sized index = refl
 
 nested_sized : (b0 b1 b2 b3 : ℕ) → b0 < 256 → b1 < 256 → b3 < 256 → IsSized (nested b0 b1 b2 b3)
 nested_sized b0 b1 b2 b3 h k m = by_page IsSized b0 b1 b2 b3
-    (same_at (λ w. sized (of_bytes 2 (bits w (place_of indexes.Hl (lower w) 0)))) (λ w. true) 256 0 sized_bits b1 (omega arith) (omega arith))
-    (by_index IsSized indexes.Ix b1 b2 b3 (same_at (λ w. sized (of_bytes 4 (bits w (memory_of indexes.Ix b2)))) (λ w. true) 256 0 (sized_ix_bits b2) b3 (omega arith) (omega arith)) (ix_sized b1 b2 b3 k) (lone_sized indexes.Ix) _ _ refl refl)
-    (same_at (λ w. sized (extended w b2 b3)) (λ w. true) 256 0 (sized_extended b2 b3) b1 (omega arith) (omega arith))
-    (by_index IsSized indexes.Iy b1 b2 b3 (same_at (λ w. sized (of_bytes 4 (bits w (memory_of indexes.Iy b2)))) (λ w. true) 256 0 (sized_iy_bits b2) b3 (omega arith) (omega arith)) (iy_sized b1 b2 b3 k) (lone_sized indexes.Iy) _ _ refl refl)
-    (same_at (λ w. sized (by_opcode indexes.Hl w b1 b2)) (λ w. true) 256 0 (sized_plain b1 b2) b0 (omega arith) (omega arith))
+    (λ cb. same_at (λ w. sized (of_bytes 2 (bits w (place_of indexes.Hl (lower w) 0)))) (λ w. true) 256 0 sized_bits b1 (omega arith) (omega arith))
+    (λ dd. by_index IsSized indexes.Ix b1 b2 b3 (λ cb. same_at (λ w. sized (of_bytes 4 (bits w (memory_of indexes.Ix b2)))) (λ w. true) 256 0 (sized_ix_bits b2) b3 (omega arith) (omega arith)) (ix_sized b1 b2 b3 k) (lone_sized indexes.Ix) _ _ refl refl)
+    (λ ed. same_at (λ w. sized (extended w b2 b3)) (λ w. true) 256 0 (sized_extended b2 b3) b1 (omega arith) (omega arith))
+    (λ fd. by_index IsSized indexes.Iy b1 b2 b3 (λ cb. same_at (λ w. sized (of_bytes 4 (bits w (memory_of indexes.Iy b2)))) (λ w. true) 256 0 (sized_iy_bits b2) b3 (omega arith) (omega arith)) (iy_sized b1 b2 b3 k) (lone_sized indexes.Iy) _ _ refl refl)
+    (λ none. same_at (λ w. sized (by_opcode indexes.Hl w b1 b2)) (λ w. true) 256 0 (sized_plain b1 b2) b0 (omega arith) (omega arith))
     _ _ _ _ refl refl refl refl
 
 decoded_sized : (bytes : List ℕ) → AreBytes bytes → IsSized (decoded bytes)

@@ -1,5 +1,6 @@
-use Rattle.asm_laws.proofs.Texts.{main_says, sub_says}
+use Rattle.asm_laws.proofs.SubTexts as sub
+use Rattle.asm_laws.proofs.Texts as main
 use Rattle.asm_laws.proofs.laws.codes_say_their_line.Goals as goal
 
 pub returns : goal.returns
-returns c = record { main = main_says; sub = sub_says }
+returns c = record { main = main.says; sub = sub.says }

@@ -1,5 +1,6 @@
-use Rattle.asm_laws.proofs.Texts.{assembled_again}
+use Rattle.asm_laws.proofs.SubTexts as sub
+use Rattle.asm_laws.proofs.Texts as main
 use Rattle.asm_laws.proofs.laws.texts_are_assembled.Goals as goal
 
 pub returns : goal.returns
-returns c = assembled_again
+returns c = record { main = main.assembled_again; sub = sub.assembled_again }

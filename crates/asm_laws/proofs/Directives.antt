@@ -1,0 +1,99 @@
+-- Words that are tried for pieces and say them are no directive's: for a directive's text NOP is tried.
+use Rattle.std.proofs.Common.{◌≡◌, ℕ, ◌/◌, ◌<◌, Bool, true, false, List, [], ◌∷◌, ◌++◌, Option, Some, None, refl, ap, ◌∙◌, sym, subst, codes, if◌then◌else◌}
+use Rattle.std.specs.Prelude.{◌==◌, slice_index}
+use Rattle.md_word.specs.declared.size.Size.{Size}
+use Rattle.m68k_decode.specs.Fields.{opcode}
+use Rattle.m68k_decode.specs.Instructions.{decoded, made, picked, unmatched}
+use Rattle.m68k_decode.specs.Nested.{controls, group_4, group_48, group_4e, nested, tests, unaries, with_register, with_status}
+use Rattle.m68k_decode.specs.Rows as rows
+use Rattle.m68k_decode.specs.Rows.{Row}
+use Rattle.m68k_decode.specs.declared.decoded.Decoded.{Decoded}
+use Rattle.m68k_decode.specs.declared.op.Op.TheVariants as ops
+use Rattle.m68k_decode.proofs.Table.{decoded_is_picked}
+use Rattle.m68k_encode.specs.Encoding.{encoded, extension, first_word}
+use Rattle.md_disasm.specs.Texts68.{text_of}
+use Rattle.md_asm_text.specs.Pieces as texts
+use Rattle.md_asm_text.specs.Pieces.{Piece, is_worded, opened, pieces, split}
+use Rattle.m68k_form.specs.Reading.{Source, size_of, source, with_operands, with_size}
+use Rattle.m68k_read.specs.Building.{built, meant, stem_in, stem_of}
+use Rattle.m68k_read.specs.Judged.{tried}
+use Rattle.m68k_read.specs.Table.{IsInstruction}
+
+-- ---- what is read of a directive's text
+
+operands_stem : (stem : List ℕ) (size : Option Size) (ps : List Piece) → (with_operands stem size ps).stem ≡ stem
+operands_stem stem size [] = refl
+operands_stem stem size (p ∷ ps) = refl
+
+size_stem : (b : Bool) (stem : List ℕ) (size : Size) (ps qs : List Piece)
+    → (if b then with_operands stem (Some size) ps else with_operands stem None qs).stem ≡ stem
+size_stem true stem size ps qs = operands_stem stem (Some size) ps
+size_stem false stem size ps qs = operands_stem stem None qs
+
+stem_stays : (stem : List ℕ) (ps : List Piece) → (with_size stem ps).stem ≡ stem
+stem_stays stem [] = refl
+stem_stays stem (texts.Word w ∷ ps) = refl
+stem_stays stem (texts.Number n ∷ ps) = refl
+stem_stays stem (texts.Name w ∷ ps) = refl
+stem_stays stem (texts.Mark c ∷ []) = refl
+stem_stays stem (texts.Mark c ∷ texts.Word w ∷ ps) = size_stem (c == 46) stem (size_of w) ps (texts.Mark c ∷ texts.Word w ∷ ps)
+stem_stays stem (texts.Mark c ∷ texts.Number n ∷ ps) = refl
+stem_stays stem (texts.Mark c ∷ texts.Name w ∷ ps) = refl
+stem_stays stem (texts.Mark c ∷ texts.Mark d ∷ ps) = refl
+
+meant_of : (s : Source) (at : ℕ) → s.stem ≡ codes "dc" → meant s at ≡ ops.Nop
+unfolding meant stem_of stem_in built
+meant_of s at is = rw is refl
+
+tried_dc : (more : List Piece) (at : ℕ) → tried (texts.Word (codes "dc") ∷ more) at ≡ 0x4e71 ∷ []
+unfolding source first_word extension
+tried_dc more at = ap encoded (meant_of (source (texts.Word (codes "dc") ∷ more)) at (stem_stays (codes "dc") more))
+
+dc_opens : (rest : List ℕ) → (more : List Piece) × (pieces (codes "dc.w" ++ rest) ≡ texts.Word (codes "dc") ∷ more)
+unfolding opened is_worded
+dc_opens rest = (texts.Mark 46 ∷ split [] (119 ∷ rest), refl)
+
+-- an instruction that is written by `dc.w`
+abbrev IsDirective : Decoded → Type 0
+IsDirective d = (at : ℕ) → (rest : List ℕ) × (text_of d at ≡ codes "dc.w" ++ rest)
+
+tried_nop : (d : Decoded) (said : List Piece) (at : ℕ) → IsDirective d → pieces (text_of d at) ≡ said → tried said at ≡ 0x4e71 ∷ []
+tried_nop d said at is text =
+    let own = is at in
+    let opens = dc_opens own.0 in
+    ap (λ (s : List Piece). tried s at) (sym text ∙ ap pieces own.1 ∙ opens.1) ∙ tried_dc opens.0 at
+
+-- ---- which words are written so
+
+unmatched_by : (a f : Bool) (words : List ℕ) → (opcode words / 4096 == 10) ≡ a → (opcode words / 4096 == 15) ≡ f → IsDirective (unmatched words)
+unfolding unmatched
+unmatched_by true f words ea ef at = rw ea (_, refl)
+unmatched_by false true words ea ef at = rw (ea, ef) (_, refl)
+unmatched_by false false words ea ef at = rw (ea, ef) (_, refl)
+
+illegal_is : (words : List ℕ) → IsDirective (made rows.Illegal words)
+unfolding made
+illegal_is words at = (_, refl)
+
+nop_is : IsInstruction (nested 0x4e71)
+unfolding nested group_4 with_register with_status unaries tests group_48 group_4e controls
+nop_is = tt
+
+entered : (word : ℕ) (found : Option Row) → word ≡ 0x4e71 → nested word ≡ found → IsInstruction found
+entered word found nop is = subst (λ (f : Option Row). IsInstruction f) (ap nested (sym nop) ∙ is) nop_is
+
+-- the row of a first word that is tried and says the pieces
+by_row : (found : Option Row) (word : ℕ) (tail : List ℕ) (said : List Piece) (at : ℕ) → word < 65536 → nested word ≡ found
+    → (front : List ℕ) → (slice_index front 0 ≡ word) → front ≡ tried said at → pieces (text_of (picked found (word ∷ tail)) at) ≡ said → IsInstruction found
+by_row None word tail said at below is front first own text =
+    let nop : word ≡ 0x4e71 = sym first ∙ ap (λ (l : List ℕ). slice_index l 0) (own ∙ tried_nop (unmatched (word ∷ tail)) said at (unmatched_by _ _ (word ∷ tail) refl refl) text) in
+    entered word None nop is
+by_row (Some rows.Illegal) word tail said at below is front first own text =
+    let nop : word ≡ 0x4e71 = sym first ∙ ap (λ (l : List ℕ). slice_index l 0) (own ∙ tried_nop (made rows.Illegal (word ∷ tail)) said at (illegal_is (word ∷ tail)) text) in
+    entered word (Some rows.Illegal) nop is
+by_row (Some _) word tail said at below is front first own text = tt
+
+pub tried_instruction : (word : ℕ) (tail : List ℕ) (said : List Piece) (at : ℕ) → word < 65536 → (front : List ℕ) → slice_index front 0 ≡ word → front ≡ tried said at
+    → pieces (text_of (decoded (word ∷ tail)) at) ≡ said → IsInstruction (nested word)
+tried_instruction word tail said at below front first own text =
+    by_row (nested word) word tail said at below refl front first own (rw (decoded_is_picked (word ∷ tail) below) at text)

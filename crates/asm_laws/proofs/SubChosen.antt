@@ -1,0 +1,80 @@
+-- What is assembled of pieces is chosen among all bytes that say them, and is found where some do.
+use Rattle.std.proofs.Common.{◌≡◌, ◌⊎◌, ℕ, zero, suc, ◌<◌, ◌≤◌, false, List, [], ◌∷◌, ◌++◌, length, Option, Some, None, append-nil, refl, ap, ◌∙◌, sym, subst, arith}
+use Rattle.z80_decode.specs.Instructions.{decoded}
+use Rattle.md_disasm.specs.Texts80.{text_of}
+use Rattle.md_asm_text.specs.Pieces.{Piece, pieces}
+use Rattle.z80_encode.specs.Coded80.{AreBytes}
+use Rattle.z80_encode.specs.Encoding80.{encoded}
+use Rattle.z80_read.specs.Building.{meant}
+use Rattle.z80_read.specs.Judged.{tried}
+use Rattle.z80_read.specs.Reading.{source}
+use Rattle.z80_read_laws.specs.Instruction.{is_db}
+use Rattle.z80_read_laws.proofs.Judged.{meant_again, tried_is}
+use Rattle.z80_read_laws.proofs.Lengths.{decoded_few, encoded_long}
+use Rattle.md_asm_code.specs.Codes.{sub_code}
+use Rattle.asm_laws.specs.Chosen.{AreChosen, IsPassed, Says}
+use Rattle.asm_laws.proofs.SubCodes.{own_or_passed}
+use Rattle.asm_laws.proofs.SubTexts.{assembled_again, found, says}
+
+no_bytes : AreBytes []
+no_bytes i = omega arith
+
+with_rest : (bytes rest : List ℕ) → AreBytes bytes → AreBytes rest → AreBytes (bytes ++ rest)
+with_rest [] rest h k i = k i
+with_rest (b ∷ more) rest h k zero = h 0
+with_rest (b ∷ more) rest h k (suc i) = with_rest more rest (λ j. h (suc j)) k i
+
+-- ---- what is found is the code of what it decodes to
+
+record IsOwnCode (bytes rest : List ℕ) : Type 0 where
+  instruction : is_db (decoded (bytes ++ rest)).op ≡ false
+  code : bytes ≡ encoded (decoded (bytes ++ rest)).op
+  long : (decoded (bytes ++ rest)).length ≡ length bytes
+
+own_code : (said : List Piece) (bytes rest : List ℕ) (at : ℕ) → AreBytes bytes → AreBytes rest → at < 65536 → sub_code said at ≡ Some bytes → IsOwnCode bytes rest
+own_code said bytes rest at h k a is =
+    let text = says said bytes rest at h k a is in
+    let own = (found said bytes at is).own in
+    let all = with_rest bytes rest h k in
+    let none = tried_is bytes rest said at all own text (is_db (decoded (bytes ++ rest)).op) refl in
+    let made : meant (source said) at ≡ (decoded (bytes ++ rest)).op
+    = ap (λ (s : List Piece). meant (source s) at) (sym text) ∙ meant_again (bytes ++ rest) at all a none in
+    let code = own ∙ ap encoded made in record {
+      instruction = none;
+      code = code;
+      long = sym (encoded_long (bytes ++ rest) all) ∙ ap length (sym code);
+    }
+
+-- ---- other bytes that say the pieces
+
+text_alone : (other : List ℕ) (said : List Piece) (at : ℕ) → Says other said at → pieces (text_of (decoded other) at) ≡ said
+text_alone other said at say = ap (λ (l : List ℕ). pieces (text_of (decoded l) at)) (sym (append-nil other)) ∙ say.text [] no_bytes
+
+best_of : (said : List Piece) (bytes other : List ℕ) (at : ℕ) → AreBytes other → at < 65536 → bytes ≡ tried said at → Says other said at → (other ≡ bytes) ⊎ IsPassed other bytes
+best_of said bytes other at k a own say =
+    let text = text_alone other said at say in
+    let whole : (decoded other).length ≡ length other = ap (λ (l : List ℕ). (decoded l).length) (sym (append-nil other)) ∙ say.whole [] no_bytes in
+    let few : length other ≤ 4 = let f = decoded_few other k in omega (arith, whole, f) in
+    let made : meant (source said) at ≡ (decoded other).op
+    = ap (λ (s : List Piece). meant (source s) at) (sym text) ∙ meant_again other at k a say.instruction in
+    let code = own ∙ ap encoded made in
+    subst (λ (l : List ℕ). (other ≡ l) ⊎ IsPassed other l) (sym code) (own_or_passed other k few whole)
+
+pub chosen : (said : List Piece) (bytes : List ℕ) (at : ℕ) → AreBytes bytes → at < 65536 → sub_code said at ≡ Some bytes → AreChosen bytes said at
+chosen said bytes at h a is = record {
+  says = record {
+    instruction = ap (λ (l : List ℕ). is_db (decoded l).op) (sym (append-nil bytes)) ∙ (own_code said bytes [] at h no_bytes a is).instruction;
+    text = λ rest k. says said bytes rest at h k a is;
+    whole = λ rest k. (own_code said bytes rest at h k a is).long;
+  };
+  best = λ other k say. best_of said bytes other at k a (found said bytes at is).own say;
+}
+
+none_by : (code : Option (List ℕ)) (found : List ℕ) → code ≡ None → code ≡ Some found → ⊥
+none_by code found none some = cc
+
+-- where nothing is found, no bytes say the pieces
+pub none : (said : List Piece) (at : ℕ) → at < 65536 → sub_code said at ≡ None → (bytes : List ℕ) → AreBytes bytes → Says bytes said at → ⊥
+none said at a is bytes h say =
+    let again = assembled_again bytes at h a say.instruction in
+    none_by (sub_code said at) again.0 is (ap (λ (s : List Piece). sub_code s at) (sym (text_alone bytes said at say)) ∙ again.1)

@@ -1,0 +1,37 @@
+-- Which bytes are written for an instruction of the Z80: of all that have its text, those of the manual where just
+-- one has it there, else the shortest, and of these the least in the order of bytes.
+-- Zilog UM0080, "Z80 Instruction Description"; for operations that it leaves out, this project's profile.
+use Rattle.std.specs.Prelude.{◌≡◌, ◌⊎◌, ℕ, ◌<◌, ◌/◌, ◌%◌, ◌==◌, Bool, true, false, ◌&&◌, ◌||◌, not, List, [], ◌∷◌, ◌++◌, length}
+use Rattle.z80_decode.specs.Instructions.{decoded}
+use Rattle.md_disasm.specs.Texts80.{text_of}
+use Rattle.md_asm_text.specs.Pieces.{Piece, pieces}
+use Rattle.z80_encode.specs.Coded80.{AreBytes}
+use Rattle.z80_read_laws.specs.Instruction.{is_db}
+
+-- bytes say pieces at an address: whatever follows them, they are an instruction of their length whose text has
+-- these pieces
+pub record Says (bytes : List ℕ) (said : List Piece) (at : ℕ) : Type 0 where
+  pub instruction : is_db (decoded bytes).op ≡ false
+  pub text : (rest : List ℕ) → AreBytes rest → pieces (text_of (decoded (bytes ++ rest)) at) ≡ said
+  pub whole : (rest : List ℕ) → AreBytes rest → (decoded (bytes ++ rest)).length ≡ length bytes
+
+-- behind DD CB d and FD CB d the manual has the codes of (HL) alone, and none of SLL
+abbrev pub is_manual : List ℕ → Bool
+is_manual (p ∷ q ∷ d ∷ code ∷ []) = not ((p == 0xdd || p == 0xfd) && q == 0xcb) || (code % 8 == 6 && not (code / 8 == 6))
+is_manual bytes = true
+
+-- in the order of bytes
+abbrev pub IsBefore : List ℕ → List ℕ → Type 0
+IsBefore (a ∷ more) (b ∷ others) = (a < b) ⊎ ((a ≡ b) × IsBefore more others)
+IsBefore bytes other = ⊥
+
+-- other bytes are passed over: the manual does not have them, and has these, or they are longer, or come later
+abbrev pub IsPassed : List ℕ → List ℕ → Type 0
+IsPassed other bytes =
+    (is_manual other ≡ false)
+    × ((is_manual bytes ≡ true) ⊎ ((length bytes < length other) ⊎ ((length bytes ≡ length other) × IsBefore bytes other)))
+
+-- they say the pieces, and all others that do are passed over
+pub record AreChosen (bytes : List ℕ) (said : List Piece) (at : ℕ) : Type 0 where
+  pub says : Says bytes said at
+  pub best : (other : List ℕ) → AreBytes other → Says other said at → (other ≡ bytes) ⊎ IsPassed other bytes
