@@ -1,3 +1,7 @@
+pub mod Apart
 pub mod Faults
+pub mod Filled
+pub mod Held
+pub mod Memory
 pub mod Places
 pub mod Slots

@@ -1,4 +1,5 @@
 pub mod Assembly
+pub mod Held
 pub mod Kept
 pub mod Places
 pub mod Rounds

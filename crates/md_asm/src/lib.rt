@@ -8,6 +8,7 @@ mod cells;
 mod entry;
 mod fault;
 mod kind;
+pub mod laws;
 mod pass;
 mod patching;
 mod placed;
