@@ -1,6 +1,8 @@
 pub mod Bytes
 pub mod Directives
 pub mod Lengths
+pub mod MainChosen
+pub mod MainCodes
 pub mod SubChosen
 pub mod SubCodes
 pub mod SubTexts

@@ -46,11 +46,11 @@ let_through true own found is = (refl, cc)
 let_through false own found is = cc
 
 -- what is found is what is tried, and says the pieces where 0 stands behind it
-record IsFound (said : List Piece) (words : List ℕ) (at : ℕ) : Type 0 where
-  own : words ≡ tried said at
-  text : pieces (text_of (decoded (padded words)) at) ≡ said
+pub record IsFound (said : List Piece) (words : List ℕ) (at : ℕ) : Type 0 where
+  pub own : words ≡ tried said at
+  pub text : pieces (text_of (decoded (padded words)) at) ≡ said
 
-found : (said : List Piece) (words : List ℕ) (at : ℕ) → main_code said at ≡ Some words → IsFound said words at
+pub found : (said : List Piece) (words : List ℕ) (at : ℕ) → main_code said at ≡ Some words → IsFound said words at
 unfolding main_code
 found said words at is =
     let through = let_through (say_words (tried said at) said at) (tried said at) words is in record {
@@ -62,15 +62,35 @@ found said words at is =
 pub few : (said : List Piece) (words : List ℕ) (at : ℕ) → main_code said at ≡ Some words → length words ≤ 5
 few said words at is = rw ((found said words at is).own) (encoded_few (meant (source said) at))
 
--- it has the text whatever follows it
-pub says : (said : List Piece) (words rest : List ℕ) (at : ℕ) → AreWords words → at < 4294967296 → main_code said at ≡ Some words
-    → pieces (text_of (decoded (words ++ rest)) at) ≡ said
-says said [] rest at h a is = let own = (found said [] at is).own in cc
-says said (word ∷ tail) rest at h a is =
+-- words that are found, filled up with others, decode to an instruction, and to the same whatever follows them
+pub record Stands (said : List Piece) (word : ℕ) (tail : List ℕ) (at : ℕ) : Type 0 where
+  pub more : List ℕ
+  pub all : AreWords (word ∷ (tail ++ more))
+  pub instruction : IsInstruction (nested word)
+  pub own : word ∷ tail ≡ tried said at
+  pub text : pieces (text_of (decoded (word ∷ (tail ++ more))) at) ≡ said
+  pub same : (rest : List ℕ) → decoded (word ∷ (tail ++ rest)) ≡ decoded (word ∷ (tail ++ more))
+
+pub stands : (said : List Piece) (word : ℕ) (tail : List ℕ) (at : ℕ) → AreWords (word ∷ tail) → at < 4294967296 → main_code said at ≡ Some (word ∷ tail) → Stands said word tail at
+stands said word tail at h a is =
     let own = found said (word ∷ tail) at is in
     let up = filled_up (word ∷ tail) (few said (word ∷ tail) at is) in
     let text : pieces (text_of (decoded (word ∷ (tail ++ up.0))) at) ≡ said
     = ap (λ (l : List ℕ). pieces (text_of (decoded l) at)) (sym up.1) ∙ own.text in
     let all : AreWords (word ∷ (tail ++ up.0)) = rw up.1 at (padded_words (word ∷ tail) h) in
-    let entered = tried_instruction word (tail ++ up.0) said at (h 0) (word ∷ tail) refl own.own text in
-    ap (λ (d : Decoded). pieces (text_of d at)) (said_again word tail up.0 rest said at (h 0) entered all a own.own text) ∙ text
+    let entered = tried_instruction word (tail ++ up.0) said at (h 0) (word ∷ tail) refl own.own text in record {
+      more = up.0;
+      all = all;
+      instruction = entered;
+      own = own.own;
+      text = text;
+      same = λ rest. said_again word tail up.0 rest said at (h 0) entered all a own.own text;
+    }
+
+-- it has the text whatever follows it
+pub says : (said : List Piece) (words rest : List ℕ) (at : ℕ) → AreWords words → at < 4294967296 → main_code said at ≡ Some words
+    → pieces (text_of (decoded (words ++ rest)) at) ≡ said
+says said [] rest at h a is = let own = (found said [] at is).own in cc
+says said (word ∷ tail) rest at h a is =
+    let there = stands said word tail at h a is in
+    ap (λ (d : Decoded). pieces (text_of d at)) (there.same rest) ∙ there.text

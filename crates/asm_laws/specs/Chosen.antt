@@ -1,12 +1,17 @@
--- Which bytes are written for an instruction of the Z80: of all that have its text, those of the manual where just
--- one has it there, else the shortest, and of these the least in the order of bytes.
+-- Which words or bytes are written for an instruction: of all that have its text, those of the manual where just one
+-- is the manual's, else the shortest, and of these the least in the order of bytes.
 -- Zilog UM0080, "Z80 Instruction Description"; for operations that it leaves out, this project's profile.
-use Rattle.std.specs.Prelude.{◌≡◌, ◌⊎◌, ℕ, ◌<◌, ◌/◌, ◌%◌, ◌==◌, Bool, true, false, ◌&&◌, ◌||◌, not, List, [], ◌∷◌, ◌++◌, length}
+use Rattle.std.specs.Prelude.{◌≡◌, ◌⊎◌, ℕ, ◌<◌, ◌/◌, ◌%◌, ◌==◌, Bool, true, false, ◌&&◌, ◌||◌, not, List, [], ◌∷◌, ◌++◌, length, slice_index}
+use Rattle.m68k_decode.specs.Nested.{nested}
 use Rattle.z80_decode.specs.Instructions.{decoded}
 use Rattle.md_disasm.specs.Texts80.{text_of}
 use Rattle.md_asm_text.specs.Pieces.{Piece, pieces}
+use Rattle.m68k_read.specs.Said as main
+use Rattle.m68k_read.specs.Table.{AreWords, IsInstruction}
 use Rattle.z80_encode.specs.Coded80.{AreBytes}
 use Rattle.z80_read_laws.specs.Instruction.{is_db}
+
+-- ---- the Z80
 
 -- bytes say pieces at an address: whatever follows them, they are an instruction of their length whose text has
 -- these pieces
@@ -35,3 +40,13 @@ IsPassed other bytes =
 pub record AreChosen (bytes : List ℕ) (said : List Piece) (at : ℕ) : Type 0 where
   pub says : Says bytes said at
   pub best : (other : List ℕ) → AreBytes other → Says other said at → (other ≡ bytes) ⊎ IsPassed other bytes
+
+-- ---- the 68000
+
+-- words of an instruction of the 68000 say the pieces, and all others that do are as long and come later: those of
+-- other bits that the processor does not look at
+pub record AreLeast (words : List ℕ) (said : List Piece) (at : ℕ) : Type 0 where
+  pub instruction : IsInstruction (nested (slice_index words 0))
+  pub says : main.Says words said at
+  pub best : (other : List ℕ) → AreWords other → IsInstruction (nested (slice_index other 0)) → main.Says other said at
+      → (other ≡ words) ⊎ ((length words ≡ length other) × IsBefore words other)

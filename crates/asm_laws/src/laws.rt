@@ -1,17 +1,18 @@
 //! Laws of the definitions that the contracts cite, each on a call that does nothing else.
 
-ghost use Rattle.std.specs.Prelude.{◌≡◌, ◌<◌, ◌∷◌, ◌++◌, ℕ, List, None, Some, false};
+ghost use Rattle.std.specs.Prelude.{◌≡◌, ◌<◌, ◌∷◌, ◌++◌, ℕ, List, None, Some, false, slice_index};
 ghost use Rattle.m68k_decode.specs.Instructions as main;
 ghost use Rattle.m68k_decode.specs.Nested.{nested};
 ghost use Rattle.z80_decode.specs.Instructions as sub;
 ghost use Rattle.md_disasm.specs.Texts68 as main_texts;
 ghost use Rattle.md_disasm.specs.Texts80 as sub_texts;
 ghost use Rattle.md_asm_text.specs.Pieces.{Piece, pieces};
+ghost use Rattle.m68k_read.specs.Said.{Says as MainSays};
 ghost use Rattle.m68k_read.specs.Table.{AreWords, IsInstruction};
 ghost use Rattle.z80_encode.specs.Coded80.{AreBytes};
 ghost use Rattle.z80_read_laws.specs.Instruction.{is_db};
 ghost use Rattle.md_asm_code.specs.Codes.{main_code, sub_code};
-ghost use Rattle.asm_laws.specs.Chosen.{AreChosen, Says};
+ghost use Rattle.asm_laws.specs.Chosen.{AreChosen, AreLeast, Says};
 
 /// Whatever words or bytes decode to, its text at an address is assembled there to words or bytes that decode to it,
 /// whatever follows them.
@@ -33,9 +34,12 @@ pub fn codes_say_their_line()
         → pieces (sub_texts.text_of (sub.decoded (bytes ++ rest)) at) ≡ said }
 {}
 
-/// What pieces are assembled to for the Z80 is chosen among all bytes that say them there; where nothing is found, no
-/// bytes do.
+/// What pieces are assembled to is chosen among all words or bytes that say them there; where nothing is found, none
+/// do.
 pub fn codes_are_chosen()
-    ensures found { (said : List Piece) (bytes : List ℕ) (at : ℕ) → AreBytes bytes → at < 65536 → sub_code said at ≡ Some bytes → AreChosen bytes said at }
-    ensures none { (said : List Piece) (at : ℕ) → at < 65536 → sub_code said at ≡ None → (bytes : List ℕ) → AreBytes bytes → Says bytes said at → ⊥ }
+    ensures main { (said : List Piece) (words : List ℕ) (at : ℕ) → AreWords words → at < 4294967296 → main_code said at ≡ Some words → AreLeast words said at }
+    ensures main_none { (said : List Piece) (at : ℕ) → at < 4294967296 → main_code said at ≡ None
+        → (words : List ℕ) → AreWords words → IsInstruction (nested (slice_index words 0)) → MainSays words said at → ⊥ }
+    ensures sub { (said : List Piece) (bytes : List ℕ) (at : ℕ) → AreBytes bytes → at < 65536 → sub_code said at ≡ Some bytes → AreChosen bytes said at }
+    ensures sub_none { (said : List Piece) (at : ℕ) → at < 65536 → sub_code said at ≡ None → (bytes : List ℕ) → AreBytes bytes → Says bytes said at → ⊥ }
 {}
