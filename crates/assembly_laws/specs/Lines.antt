@@ -1,0 +1,25 @@
+-- What the lines of a source say of its image.
+use Rattle.std.specs.Prelude.{ℕ, ◌≡◌, true, List, [], ◌∷◌}
+use Rattle.md_asm_text.specs.Pieces.{pieces}
+use Rattle.md_asm_line.specs.Texts.{lines as lines_of}
+use Rattle.md_asm_code.specs.Numbers.{Names, resolved}
+use Rattle.md_asm.specs.Assembly.{is_instruction, placed}
+use Rattle.md_asm.specs.Rounds.{Read, Round, Slot, round_one, start}
+use Rattle.md_asm.specs.declared.placed.Placed.{Placed}
+use Rattle.assembly_laws.specs.Places.{text_at}
+
+-- what is decoded at a line's place has at its address the line's text: the same pieces, with the value of each name
+abbrev pub IsSaid : List ℕ → Names → Slot → Type 0
+IsSaid image names slot = pieces (text_at slot.sub image slot.place slot.address) ≡ resolved names (pieces slot.text)
+
+-- so it is for each line that is an instruction
+abbrev pub AreSaid : List ℕ → Names → List Slot → Type 0
+AreSaid image names [] = Unit {0}
+AreSaid image names (slot ∷ more) = (is_instruction slot.body ≡ true → IsSaid image names slot) × AreSaid image names more
+
+-- the lines that round one reads are those that are placed, and the image says them
+pub record SaysLines (source image : List ℕ) (lines : List Placed) : Type 0 where
+  pub round : Round
+  pub read : round_one start 1 (lines_of source) ≡ Read round
+  pub places : lines ≡ placed round.slots
+  pub said : AreSaid image round.names round.slots
