@@ -1,5 +1,5 @@
--- Which words or bytes are written for an instruction: of all that have its text, those of the manual where just one
--- is the manual's, else the shortest, and of these the least in the order of bytes.
+-- Which words or bytes are written for an instruction, where several have its text: one that the manual has comes
+-- before one that it leaves out, a shorter one before a longer one, and then a lower one before a higher one.
 -- Zilog UM0080, "Z80 Instruction Description"; for operations that it leaves out, this project's profile.
 use Rattle.std.specs.Prelude.{◌≡◌, ◌⊎◌, ℕ, ◌<◌, ◌/◌, ◌%◌, ◌==◌, Bool, true, false, ◌&&◌, ◌||◌, not, List, [], ◌∷◌, ◌++◌, length, slice_index}
 use Rattle.m68k_decode.specs.Nested.{nested}

@@ -74,7 +74,7 @@ static IMAGES: [Row; 9] = [
 /// A source, the line that is at fault and its kind.
 type Fault = (&'static str, u32, u8);
 
-static FAULTS: [Fault; 46] = [
+static FAULTS: [Fault; 52] = [
     ("nonsense", 1, 1),
     ("\n\nmove.w d0,a1", 3, 1),
     ("bra $00000200", 1, 1),
@@ -122,6 +122,13 @@ static FAULTS: [Fault; 46] = [
     ("org $3fffff\ndb $0\norg $3fffff\ndb $0,$0", 4, 5),
     ("move.b #abc,xyz.l\norg $100\nabc:", 1, 7),
     ("bra.b xyz\nnonsense", 2, 1),
+    ("org $1\nnonsense", 2, 1),
+    ("org $400000\nnonsense", 2, 1),
+    ("cpu z80 $0\njr big\ncpu 68000\norg $10000\nbig:", 2, 8),
+    // The least line of a round, whatever its kind.
+    ("org $1\nnop\nnonsense", 2, 4),
+    ("bra.b afar\nbra.b xyz\norg $200\nafar:", 1, 9),
+    ("bra.b afar\nabc:\nabc:\norg $200\nafar:", 3, 3),
 ];
 
 /// Why a source of these tables is not assembled.
