@@ -15,3 +15,8 @@ def image_of(source):
         image = pathlib.Path(folder) / "image"
         write(source, image)
         return image.read_bytes()
+
+
+def list_of(source, folder):
+    subprocess.run([PROGRAM, "asm", source, folder / "image", "--list", folder / "list"], check=True, stdout=subprocess.DEVNULL)
+    return (folder / "list").read_text()
