@@ -15,7 +15,7 @@ use Rattle.m68k_read.proofs.Judged.{meant_again}
 use Rattle.md_asm_code.specs.Codes.{main_code}
 use Rattle.asm_laws.specs.Chosen.{AreLeast, IsBefore}
 use Rattle.asm_laws.proofs.MainCodes.{encoded_long, own_or_later}
-use Rattle.asm_laws.proofs.Texts.{assembled_again, found, says, stands}
+use Rattle.asm_laws.proofs.Texts.{assembled_again, found, going_on, keeps_text}
 
 -- ---- other words that say the pieces
 
@@ -53,7 +53,7 @@ best_of said words (w ∷ tail) at k a own entered say =
 whole_of : (said : List Piece) (word : ℕ) (tail rest : List ℕ) (at : ℕ) → AreWords (word ∷ tail) → at < 4294967296 → main_code said at ≡ Some (word ∷ tail)
     → (decoded (word ∷ (tail ++ rest))).length ≡ 2 * length (word ∷ tail)
 whole_of said word tail rest at h a is =
-    let there = stands said word tail at h a is in
+    let there = going_on said word tail at h a is in
     let made : meant (source said) at ≡ (decoded (word ∷ (tail ++ there.more))).op
     = ap (λ (s : List Piece). meant (source s) at) (sym there.text) ∙ meant_again word (tail ++ there.more) at (h 0) there.instruction there.all a in
     let code : word ∷ tail ≡ encoded (decoded (word ∷ (tail ++ there.more))).op = there.own ∙ ap encoded made in
@@ -62,9 +62,9 @@ whole_of said word tail rest at h a is =
 pub least : (said : List Piece) (words : List ℕ) (at : ℕ) → AreWords words → at < 4294967296 → main_code said at ≡ Some words → AreLeast words said at
 least said [] at h a is = let own = (found said [] at is).own in cc
 least said (word ∷ tail) at h a is = record {
-  instruction = (stands said word tail at h a is).instruction;
-  says = record {
-    text = λ rest. says said (word ∷ tail) rest at h a is;
+  instruction = (going_on said word tail at h a is).instruction;
+  text = record {
+    text = λ rest. keeps_text said (word ∷ tail) rest at h a is;
     whole = λ rest. whole_of said word tail rest at h a is;
   };
   best = λ other k entered say. best_of said (word ∷ tail) other at k a (found said (word ∷ tail) at is).own entered say;

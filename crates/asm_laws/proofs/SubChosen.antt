@@ -14,7 +14,7 @@ use Rattle.z80_read_laws.proofs.Lengths.{decoded_few, encoded_long}
 use Rattle.md_asm_code.specs.Codes.{sub_code}
 use Rattle.asm_laws.specs.Chosen.{AreChosen, IsPassed, Says}
 use Rattle.asm_laws.proofs.SubCodes.{own_or_passed}
-use Rattle.asm_laws.proofs.SubTexts.{assembled_again, found, says}
+use Rattle.asm_laws.proofs.SubTexts.{assembled_again, found, keeps_text}
 
 no_bytes : AreBytes []
 no_bytes i = omega arith
@@ -33,7 +33,7 @@ record IsOwnCode (bytes rest : List ℕ) : Type 0 where
 
 own_code : (said : List Piece) (bytes rest : List ℕ) (at : ℕ) → AreBytes bytes → AreBytes rest → at < 65536 → sub_code said at ≡ Some bytes → IsOwnCode bytes rest
 own_code said bytes rest at h k a is =
-    let text = says said bytes rest at h k a is in
+    let text = keeps_text said bytes rest at h k a is in
     let own = (found said bytes at is).own in
     let all = with_rest bytes rest h k in
     let none = tried_is bytes rest said at all own text (is_db (decoded (bytes ++ rest)).op) refl in
@@ -62,9 +62,9 @@ best_of said bytes other at k a own say =
 
 pub chosen : (said : List Piece) (bytes : List ℕ) (at : ℕ) → AreBytes bytes → at < 65536 → sub_code said at ≡ Some bytes → AreChosen bytes said at
 chosen said bytes at h a is = record {
-  says = record {
+  text = record {
     instruction = ap (λ (l : List ℕ). is_db (decoded l).op) (sym (append-nil bytes)) ∙ (own_code said bytes [] at h no_bytes a is).instruction;
-    text = λ rest k. says said bytes rest at h k a is;
+    text = λ rest k. keeps_text said bytes rest at h k a is;
     whole = λ rest k. (own_code said bytes rest at h k a is).long;
   };
   best = λ other k say. best_of said bytes other at k a (found said bytes at is).own say;

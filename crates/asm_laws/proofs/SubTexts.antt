@@ -78,9 +78,9 @@ few_by said bytes at h a is false none =
     omega (arith, same, long, few)
 
 -- it has the text whatever follows it
-pub says : (said : List Piece) (bytes rest : List ℕ) (at : ℕ) → AreBytes bytes → AreBytes rest → at < 65536 → sub_code said at ≡ Some bytes
+pub keeps_text : (said : List Piece) (bytes rest : List ℕ) (at : ℕ) → AreBytes bytes → AreBytes rest → at < 65536 → sub_code said at ≡ Some bytes
     → pieces (text_of (decoded (bytes ++ rest)) at) ≡ said
-says said bytes rest at h k a is =
+keeps_text said bytes rest at h k a is =
     let own = found said bytes at is in
     let filled = filled_up bytes (few_by said bytes at h a own _ refl) in
     let text : pieces (text_of (decoded (bytes ++ filled.more)) at) ≡ said

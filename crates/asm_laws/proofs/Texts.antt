@@ -63,7 +63,7 @@ pub few : (said : List Piece) (words : List ℕ) (at : ℕ) → main_code said a
 few said words at is = rw ((found said words at is).own) (encoded_few (meant (source said) at))
 
 -- words that are found, filled up with others, decode to an instruction, and to the same whatever follows them
-pub record Stands (said : List Piece) (word : ℕ) (tail : List ℕ) (at : ℕ) : Type 0 where
+pub record GoesOn (said : List Piece) (word : ℕ) (tail : List ℕ) (at : ℕ) : Type 0 where
   pub more : List ℕ
   pub all : AreWords (word ∷ (tail ++ more))
   pub instruction : IsInstruction (nested word)
@@ -71,8 +71,8 @@ pub record Stands (said : List Piece) (word : ℕ) (tail : List ℕ) (at : ℕ) 
   pub text : pieces (text_of (decoded (word ∷ (tail ++ more))) at) ≡ said
   pub same : (rest : List ℕ) → decoded (word ∷ (tail ++ rest)) ≡ decoded (word ∷ (tail ++ more))
 
-pub stands : (said : List Piece) (word : ℕ) (tail : List ℕ) (at : ℕ) → AreWords (word ∷ tail) → at < 4294967296 → main_code said at ≡ Some (word ∷ tail) → Stands said word tail at
-stands said word tail at h a is =
+pub going_on : (said : List Piece) (word : ℕ) (tail : List ℕ) (at : ℕ) → AreWords (word ∷ tail) → at < 4294967296 → main_code said at ≡ Some (word ∷ tail) → GoesOn said word tail at
+going_on said word tail at h a is =
     let own = found said (word ∷ tail) at is in
     let up = filled_up (word ∷ tail) (few said (word ∷ tail) at is) in
     let text : pieces (text_of (decoded (word ∷ (tail ++ up.0))) at) ≡ said
@@ -88,9 +88,9 @@ stands said word tail at h a is =
     }
 
 -- it has the text whatever follows it
-pub says : (said : List Piece) (words rest : List ℕ) (at : ℕ) → AreWords words → at < 4294967296 → main_code said at ≡ Some words
+pub keeps_text : (said : List Piece) (words rest : List ℕ) (at : ℕ) → AreWords words → at < 4294967296 → main_code said at ≡ Some words
     → pieces (text_of (decoded (words ++ rest)) at) ≡ said
-says said [] rest at h a is = let own = (found said [] at is).own in cc
-says said (word ∷ tail) rest at h a is =
-    let there = stands said word tail at h a is in
+keeps_text said [] rest at h a is = let own = (found said [] at is).own in cc
+keeps_text said (word ∷ tail) rest at h a is =
+    let there = going_on said word tail at h a is in
     ap (λ (d : Decoded). pieces (text_of d at)) (there.same rest) ∙ there.text

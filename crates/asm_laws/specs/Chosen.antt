@@ -38,7 +38,7 @@ IsPassed other bytes =
 
 -- they say the pieces, and all others that do are passed over
 pub record AreChosen (bytes : List ℕ) (said : List Piece) (at : ℕ) : Type 0 where
-  pub says : Says bytes said at
+  pub text : Says bytes said at
   pub best : (other : List ℕ) → AreBytes other → Says other said at → (other ≡ bytes) ⊎ IsPassed other bytes
 
 -- ---- the 68000
@@ -47,6 +47,6 @@ pub record AreChosen (bytes : List ℕ) (said : List Piece) (at : ℕ) : Type 0 
 -- other bits that the processor does not look at
 pub record AreLeast (words : List ℕ) (said : List Piece) (at : ℕ) : Type 0 where
   pub instruction : IsInstruction (nested (slice_index words 0))
-  pub says : main.Says words said at
+  pub text : main.Says words said at
   pub best : (other : List ℕ) → AreWords other → IsInstruction (nested (slice_index other 0)) → main.Says other said at
       → (other ≡ words) ⊎ ((length words ≡ length other) × IsBefore words other)

@@ -175,14 +175,14 @@ said_by true image place at said bytes all below stands is =
     let rest = rest_bytes bytes begins.rest (subst (λ (l : List ℕ). AreBytes l) begins.whole (read_bytes image place all)) in
     ap (λ (l : List ℕ). pieces (sub_texts.text_of (sub.decoded l) (at % 65536))) begins.whole
     ∙ ap (λ (n : ℕ). pieces (sub_texts.text_of (sub.decoded (bytes ++ begins.rest)) n)) (address_stays at below)
-    ∙ sub_laws.says said bytes begins.rest at own rest below is
+    ∙ sub_laws.keeps_text said bytes begins.rest at own rest below is
 said_by false image place at said bytes all below stands is =
     let found = mapped (main_code said at) bytes is in
     let stood : Stands image place (in_bytes found.0) = subst (λ (l : List ℕ). Stands image place l) found.2 stands in
     let own = words_are found.0 (stand_bytes image place (in_bytes found.0) all stood) in
     let begins = words_begin image place found.0 (main_laws.few said found.0 at found.1) stood in
     ap (λ (l : List ℕ). pieces (main_texts.text_of (main.decoded l) at)) begins.whole
-    ∙ main_laws.says said found.0 begins.rest at own below found.1
+    ∙ main_laws.keeps_text said found.0 begins.rest at own below found.1
 
 slot_said : (image : List ℕ) (names : Names) (slot : Slot) → AreBytes image → IsHeld image names slot → is_instruction slot.body ≡ true → IsSaid image names slot
 slot_said image names slot all is instruction =

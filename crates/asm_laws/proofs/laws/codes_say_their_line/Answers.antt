@@ -3,4 +3,4 @@ use Rattle.asm_laws.proofs.Texts as main
 use Rattle.asm_laws.proofs.laws.codes_say_their_line.Goals as goal
 
 pub returns : goal.returns
-returns c = record { main = main.says; sub = sub.says }
+returns c = record { main = main.keeps_text; sub = sub.keeps_text }
