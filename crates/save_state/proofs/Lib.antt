@@ -6,6 +6,7 @@ pub mod KeptLaws
 pub mod MachineLaws
 pub mod Parts
 pub mod Places
+pub mod PowerOn
 pub mod ReadLaws
 pub mod ReadyLaws
 pub mod Standing

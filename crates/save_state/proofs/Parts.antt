@@ -1,5 +1,5 @@
 -- The parts of a state: how long they are, and what stands in them.
-use Rattle.std.proofs.Common.{◌≡◌, ℕ, ◌+◌, ◌≤◌, Bool, true, false, List, ◌++◌, length, take, drop, Option, Some, None, is_some, refl, sym, ap, ◌∙◌, arith}
+use Rattle.std.proofs.Common.{◌≡◌, ℕ, ◌+◌, ◌≤◌, Bool, true, false, List, ◌++◌, length, take, drop, Option, Some, None, is_some, not, if◌then◌else◌, refl, sym, ap, ◌∙◌, arith}
 use Rattle.std.specs.Int.{Width, byte_len, from_be_bytes}
 use Rattle.std.proofs.lemmas.List.{append-nil, take_at, drop_at, length-append, length-take, length-drop, take-append-le, drop-append-le}
 use Rattle.md_fields.specs.Fields.{spelling, AreSized}
@@ -142,3 +142,9 @@ store_long cart at bytes s p =
     let front = numbers_long cart at bytes s p in
     let parts = ap length (sub_own cart at bytes s p ∙ sub_joined s) in
     omega (arith, whole, front, parts, size_left (is_some s.store), length-append (number_bytes s) (shared.store_bytes s.store))
+
+-- RAM and bank register of whoever has them
+pub owned_long : (ours theirs : Option Store) → is_some theirs ≡ not (is_some ours) → length (shared.store_bytes ours) ≡ shared.store_size (is_some ours) → length (shared.store_bytes theirs) ≡ shared.store_size (is_some theirs) → length (shared.store_bytes (if is_some ours then ours else theirs)) ≡ 8194
+owned_long (Some s) theirs e a b = a
+owned_long None (Some s) e a b = b
+owned_long None None e a b = absurd cc

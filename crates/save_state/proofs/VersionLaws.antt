@@ -16,7 +16,7 @@ use Rattle.save_state.proofs.ReadLaws.{bad, parts_of_state}
 
 -- ---- bytes have one version
 
-marks_differ : (v w : Version) → mark_of v ≡ mark_of w → v ≡ w
+pub marks_differ : (v w : Version) → mark_of v ≡ mark_of w → v ≡ w
 marks_differ First First e = refl
 marks_differ Second Second e = refl
 marks_differ First Second e = (let last : 49 ≡ 50 = ap (λ (l : List ℕ). get_or l 7 0) e in absurd (omega (arith, last)))

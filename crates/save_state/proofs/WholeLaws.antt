@@ -29,7 +29,7 @@ use Rattle.save_state.specs.Items.{at_of, region_of, main_next, sub_next, holder
 use Rattle.save_state.specs.Layout.{part_of, fm_port_part, psg_port_part}
 use Rattle.save_state.specs.States.{holder_of, number_bytes, state_fields, is_holder, are_fm_early, are_psg_early, IsSaved, IsNewest}
 use Rattle.save_state.proofs.Gathered.{zero_one, gathered_sub, gathered_shared}
-use Rattle.save_state.proofs.Parts.{sub_joined, numbers_long, store_long, main_long, vdp_long, drawing_long, fm_port_long, psg_port_long, fm_long, psg_long, lines_long}
+use Rattle.save_state.proofs.Parts.{sub_joined, numbers_long, owned_long, store_long, main_long, vdp_long, drawing_long, fm_port_long, psg_port_long, fm_long, psg_long, lines_long}
 use Rattle.save_state.proofs.Standing.{AreParts, parts_there, main_next_is, sub_numbers_are, resets_are}
 
 -- ---- how long what is spelled is
@@ -48,12 +48,6 @@ batch_fits at near = omega (arith, below at near) where
 flag_most : (flag : Bool) → flag_number flag ≤ 1
 flag_most true = omega arith
 flag_most false = omega arith
-
--- RAM and bank register of whoever has them
-owned_long : (ours theirs : Option Store) → is_some theirs ≡ not (is_some ours) → length (shared.store_bytes ours) ≡ shared.store_size (is_some ours) → length (shared.store_bytes theirs) ≡ shared.store_size (is_some theirs) → length (shared.store_bytes (if is_some ours then ours else theirs)) ≡ 8194
-owned_long (Some s) theirs e a b = a
-owned_long None (Some s) e a b = b
-owned_long None None e a b = absurd cc
 
 fields_within : (cart : List ℕ) (start : Start) → length (sha256 start.console.cart) ≡ 32 → IsSaved cart start → AreWithin (state_fields (sha256 start.console.cart) start.at start.console)
 unfolding AreWithin

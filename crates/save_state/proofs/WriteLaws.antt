@@ -33,7 +33,7 @@ use Rattle.bus_shared.proofs.SavedLaws as lines_laws
 use Rattle.bus_shared.proofs.SpellingLaws as shared_laws
 use Rattle.md_machine.specs.Console.{Console, drawing_in}
 use Rattle.md_machine.specs.Starts.{first_batch}
-use Rattle.save_state.specs.Layout.{part_of}
+use Rattle.save_state.specs.Layout.{at_part, board_part, digest_part, drawing_part, fm_next_part, fm_part, fm_port_part, holder_part, main_part, part_of, psg_part, psg_port_part, region_part, state_size, store_part, sub_part, video_part}
 use Rattle.save_state.specs.States.{mark, holder_of, store_of, number_bytes, state_bytes}
 use Rattle.save_state.proofs.Parts.{sub_joined, size_left}
 
@@ -169,3 +169,41 @@ flag_of false = refl
 
 pub region_byte : (m : Console) (pal : Bool) (byte : ℕ) → pal ≡ m.pal → byte ≡ bool_byte pal → byte ∷ [] ≡ flag_number m.pal ∷ []
 region_byte m pal byte h e = ap (λ (n : ℕ). n ∷ []) (e ∙ flag_of pal ∙ ap flag_number h)
+
+-- four lists behind another one
+append_long : (all before a b c d : List ℕ) → all ≡ before ++ (a ++ (b ++ (c ++ d))) → length all ≡ length before + (length a + (length b + (length c + length d)))
+append_long all before a b c d e =
+    omega (arith, ap length e, length-append before (a ++ (b ++ (c ++ d))), length-append a (b ++ (c ++ d)), length-append b (c ++ d), length-append c d)
+
+-- all that is written has as many bytes as a state
+pub all_long : (digest cycle region main numbers holder store video drawn port batch voice pairs noise lines : List ℕ) (r0 r1 r2 r3 r4 : List ℕ)
+    → length digest ≡ digest_part.size → length cycle ≡ at_part.size → length main ≡ main_part.size → length numbers ≡ sub_part.size → length store ≡ store_part.size → length video ≡ video_part.size
+    → length drawn ≡ drawing_part.size → length port ≡ fm_port_part.size → length batch ≡ fm_next_part.size → length voice ≡ fm_part.size → length pairs ≡ psg_port_part.size → length noise ≡ psg_part.size → length lines ≡ board_part.size
+    → r0 ≡ [] ++ (mark ++ (digest ++ (cycle ++ region))) → r1 ≡ r0 ++ main → r2 ≡ r1 ++ (numbers ++ (holder ++ (store ++ video)))
+    → r3 ≡ r2 ++ (drawn ++ (port ++ (batch ++ voice))) → r4 ≡ r3 ++ (batch ++ (pairs ++ (noise ++ lines)))
+    → length region ≡ region_part.size → length holder ≡ holder_part.size → length r4 ≡ state_size
+all_long digest cycle region main numbers holder store video drawn port batch voice pairs noise lines r0 r1 r2 r3 r4 l1 l2 l3 l4 l5 l6 l7 l8 l9 l10 l11 l12 l13 f0 f1 f2 f3 f4 one two =
+    omega (
+      arith,
+      l1,
+      l2,
+      l3,
+      l4,
+      l5,
+      l6,
+      l7,
+      l8,
+      l9,
+      l10,
+      l11,
+      l12,
+      l13,
+      one,
+      two,
+      append_long r0 [] mark digest cycle region f0,
+      ap length f1,
+      length-append r0 main,
+      append_long r2 r1 numbers holder store video f2,
+      append_long r3 r2 drawn port batch voice f3,
+      append_long r4 r3 batch pairs noise lines f4,
+    )

@@ -1,6 +1,9 @@
-//! A law of saved states, as a call that does nothing and stands for what it ensures.
-ghost use Rattle.std.specs.Prelude.{◌≤◌};
+//! Laws of saved states, as calls that do nothing and stand for what they ensure.
+ghost use Rattle.std.specs.Prelude.{◌≡◌, ℕ, ◌≤◌, Bool, List};
 ghost use Rattle.md_word.specs.Clock.{last_cycle};
+ghost use Rattle.md_pads.specs.Recording.{Frame};
+ghost use Rattle.md_machine.specs.Console.{power_on};
+ghost use Rattle.md_machine.specs.Starts.{Start};
 ghost use Rattle.save_state.specs.Ready.{IsReady};
 ghost use Rattle.save_state.specs.States.{settled_console, state_bytes};
 ghost use Rattle.save_state.specs.Versions.{IsState};
@@ -22,3 +25,10 @@ pub fn kept(machine: &Machine)
     machine.fm().is_read_again();
     machine.psg().is_read_again();
 }
+
+/// The machine of power-on stands at cycle 0, where nothing of it is to be settled, and its bytes are no saved
+/// state of its cartridge.
+pub fn power_on_is_no_state()
+    ensures settled { (cart : List ℕ) (recording : List Frame) (pal : Bool) → settled_console 0 (power_on cart recording pal) ≡ power_on cart recording pal }
+    ensures none { (cart : List ℕ) (recording : List Frame) (pal : Bool) (start : Start) → ¬ IsState cart (state_bytes 0 (power_on cart recording pal)) start }
+{}

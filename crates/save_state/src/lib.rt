@@ -11,5 +11,6 @@ mod version;
 mod writing;
 
 pub use fault::StateFault;
-pub use reading::read;
-pub use writing::write;
+pub use layout::LENGTH;
+pub use reading::{read, read_with};
+pub use writing::{write, write_with};

@@ -57,8 +57,8 @@ pub fn read(
     read_with(alloc, bytes, &digest, cart, recording)
 }
 
-/// The same by the digest of the cartridge's image.
-fn read_with(
+/// The same by the SHA-256 of the cartridge's image, for whoever reads many states of one cartridge.
+pub fn read_with(
     alloc: Global,
     bytes: &[u8],
     digest: &[u8; 32],

@@ -10,6 +10,8 @@ ghost use Rattle.z80_chip.specs.Validity.{IsChip80};
 ghost use Rattle.z80_chip.specs.Spelling as sub;
 ghost use Rattle.m68k_chip.specs.Rules as main_rules;
 ghost use Rattle.z80_chip.specs.Rules as sub_rules;
+ghost use Rattle.md_machine.specs.Owners.{HasOneOwner};
+ghost use Rattle.save_state.specs.Layout.{drawing_part, fm_part, main_part, psg_part, state_size};
 ghost use Rattle.save_state.specs.Ready.{IsReady};
 ghost use Rattle.md_word.specs.Clock.{last_cycle};
 ghost use Rattle.save_state.specs.States.{settled_console, state_bytes};
@@ -54,11 +56,12 @@ const LINES_THERE: Part = Part {
     size: 18,
 };
 
-/// The bytes of the machine at its cycle, 393,602. Where its parts may be kept, they are a saved state of
-/// its cartridge, which is read again.
+/// The bytes of the machine at its cycle, as many as each state has where the Z80's RAM has one owner. Where
+/// its parts may be kept, they are a saved state of its cartridge, which is read again.
 pub fn write(alloc: Global, machine: &Machine) -> Result<Vec<u8>, NoMemory>
     requires { machine.now.at ≤ last_cycle }
     ensures bytes { IfOk result (λ bytes. bytes.items ≡ state_bytes machine.now.at machine.now.console) }
+    ensures long { HasOneOwner machine.now.console → IfOk result (λ bytes. length bytes.items ≡ state_size) }
     ensures kept { IsReady machine.now.at machine.now.console
         → IfOk result (λ bytes. IsState machine.now.console.cart bytes.items (record { at = machine.now.at; console = settled_console machine.now.at machine.now.console })) }
 {
@@ -66,11 +69,12 @@ pub fn write(alloc: Global, machine: &Machine) -> Result<Vec<u8>, NoMemory>
     write_with(alloc, machine, &digest)
 }
 
-/// The same by the digest of the cartridge's image.
-fn write_with(alloc: Global, machine: &Machine, digest: &[u8; 32]) -> Result<Vec<u8>, NoMemory>
+/// The same by the SHA-256 of the cartridge's image, for whoever writes many states of one cartridge.
+pub fn write_with(alloc: Global, machine: &Machine, digest: &[u8; 32]) -> Result<Vec<u8>, NoMemory>
     requires cycle { machine.now.at ≤ last_cycle }
     requires digest { digest.now ≡ sha256 machine.now.console.cart }
     ensures bytes { IfOk result (λ bytes. bytes.items ≡ state_bytes machine.now.at machine.now.console) }
+    ensures long { HasOneOwner machine.now.console → IfOk result (λ bytes. length bytes.items ≡ state_size) }
     ensures kept { IsReady machine.now.at machine.now.console
         → IfOk result (λ bytes. IsState machine.now.console.cart bytes.items (record { at = machine.now.at; console = settled_console machine.now.at machine.now.console })) }
 {
@@ -137,6 +141,7 @@ fn append(
 /// What the 68000 keeps.
 fn main_bytes(alloc: Global, chip: &Chip68, at: u64) -> Result<Vec<u8>, NoMemory>
     ensures bytes { IfOk result (λ bytes. bytes.items ≡ main.chip_bytes chip.now.state) }
+    ensures long { IfOk result (λ bytes. length bytes.items ≡ main_part.size) }
     ensures kept { IfOk result (λ bytes. at ≤ chip.now.state.next → main_rules.HasRules at chip.now.state
         → main.Spells chip.now.cart at (main.chip_bytes chip.now.state) chip.now.state) }
 {
@@ -180,6 +185,7 @@ fn board_bytes(alloc: Global, board: &Shared, at: u64) -> Result<Vec<u8>, NoMemo
 /// What the drawing half of the VDP keeps.
 fn drawing_bytes(alloc: Global, chip: &ChipVdp, at: u64) -> Result<Vec<u8>, NoMemory>
     ensures bytes { IfOk result (λ bytes. bytes.items ≡ drawing.drawing_bytes chip.now) }
+    ensures long { IfOk result (λ bytes. length bytes.items ≡ drawing_part.size) }
     ensures kept { IfOk result (λ bytes. drawing.IsReady at chip.now → drawing.Spells at chip.now.pal (drawing.drawing_bytes chip.now) (drawing.drained chip.now)) }
 {
     let mut bytes = Vec::with_capacity(alloc, DRAWING.size)?;
@@ -190,6 +196,7 @@ fn drawing_bytes(alloc: Global, chip: &ChipVdp, at: u64) -> Result<Vec<u8>, NoMe
 /// What the FM synthesis keeps.
 fn fm_bytes(alloc: Global, synth: &FmSynth, at: u64) -> Result<Vec<u8>, NoMemory>
     ensures bytes { IfOk result (λ bytes. bytes.items ≡ fm.synth_bytes synth.now) }
+    ensures long { IfOk result (λ bytes. length bytes.items ≡ fm_part.size) }
     ensures kept { IfOk result (λ bytes. fm.SpellsSynth (fm.synth_bytes synth.now) synth.now) }
 {
     let mut bytes = Vec::with_capacity(alloc, FM.size)?;
@@ -200,6 +207,7 @@ fn fm_bytes(alloc: Global, synth: &FmSynth, at: u64) -> Result<Vec<u8>, NoMemory
 /// What the PSG's synthesis keeps.
 fn psg_bytes(alloc: Global, synth: &PsgSynth, at: u64) -> Result<Vec<u8>, NoMemory>
     ensures bytes { IfOk result (λ bytes. bytes.items ≡ psg.synth_bytes synth.now) }
+    ensures long { IfOk result (λ bytes. length bytes.items ≡ psg_part.size) }
     ensures kept { IfOk result (λ bytes. psg.SpellsSynth (psg.synth_bytes synth.now) synth.now) }
 {
     let mut bytes = Vec::with_capacity(alloc, PSG.size)?;
