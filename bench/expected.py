@@ -10,13 +10,13 @@ FRAME, LINE_224, BATCH = 896_040, 766_080, 16_128
 LATEST = 549_755_813_888
 PICTURE = b"P6\n320 224\n255\n"
 PICTURE_SIZE = len(PICTURE) + 3 * 320 * 224
-STATE_SIZE = 393_602
-LIMITS = {"rom": 4_194_304, "in": 4_194_316, "load": 2_097_152}
+STATE_SIZE = 393_620
+STATE_SIZES = {b"MDSTATE1": 378_240, b"MDSTATE2": 393_602, b"MDSTATE3": STATE_SIZE}
+LIMITS = {"rom": 4_194_304, "in": 4_194_318, "load": 2_097_152}
 OUTPUTS = ("frames", "sound", "journal", "save")
 OPTIONS = ("cycles", "in", "load", *OUTPUTS[3:], *OUTPUTS[:3], "workers")
 HALTED = re.compile(rb"halted at \d+\n")
 FIELD = re.compile(rb"refused: state at (\d+)\n")
-BUTTONS = 0x00FF
 
 
 @dataclasses.dataclass
@@ -90,20 +90,30 @@ def read_words(words):
 
 def recording_place(data):
     """The first byte at which bytes are no recording, or None where they are one."""
-    mark = b"MDREC001"
-    for place, byte in enumerate(data[:8]):
-        if byte != mark[place]:
+    leads = [b"MDREC001", *(b"MDREC002\0" + bytes((flags,)) for flags in range(4))]
+    places = [version_place(data, lead) for lead in leads]
+    return None if None in places else max(places)
+
+
+def version_place(data, lead):
+    """The first byte at which bytes are no recording with this lead, or None where they are one."""
+    start = len(lead)
+    for place, byte in enumerate(data[:start]):
+        if byte != lead[place]:
             return place
-    for place, byte in enumerate(data[8:12], 8):
-        most = (0x00, 0x10, 0x00, 0x00)[place - 8] if data[8:place] in (b"", b"\0", b"\0\x10", b"\0\x10\0") else 255
+    six = [start == 10 and lead[9] >> pad & 1 for pad in (0, 1)]
+    for place, byte in enumerate(data[start : start + 4], start):
+        before = data[start:place]
+        most = (0x00, 0x10, 0x00, 0x00)[place - start] if before in (b"", b"\0", b"\0\x10", b"\0\x10\0") else 255
         if byte > most:
             return place
-    if len(data) < 12:
+    if len(data) < start + 4:
         return len(data)
-    end = 12 + 4 * int.from_bytes(data[8:12], "big")
-    wrong = next((place for place in range(12, min(end, len(data)), 2) if data[place]), None)
-    if wrong is not None:
-        return wrong
+    first = start + 4
+    end = first + 4 * int.from_bytes(data[start:first], "big")
+    for place in range(first, min(end, len(data)), 2):
+        if data[place] > (15 if six[(place - first) // 2 % 2] else 0):
+            return place
     return None if len(data) == end else min(len(data), end)
 
 
@@ -144,10 +154,11 @@ def file_refused(command, key, files):
 
 def state_refused(state, image):
     """The refusal of a state for its length, its mark or its cartridge, or None."""
-    if len(state) != STATE_SIZE:
-        return refused(7, b"refused: state at %d" % min(len(state), STATE_SIZE))
-    if state[:8] != b"MDSTATE2":
-        return refused(7, b"refused: state at 0")
+    size = STATE_SIZES.get(bytes(state[:8]))
+    if len(state) < 8 or size is None:
+        return refused(7, b"refused: state at %d" % (len(state) if len(state) < 8 else 0))
+    if len(state) != size:
+        return refused(7, b"refused: state at %d" % min(len(state), size))
     given = hashlib.sha256(padded(image)).digest()
     if state[8:40] != given:
         digests = b"%s %s" % (state[8:40].hex().encode(), given.hex().encode())

@@ -92,7 +92,7 @@ def altered(chance, data):
 def altered_state(chance, state):
     """A state with some changes, mostly in the small fields, and of the same length."""
     data = bytearray(state)
-    small = (40, 189), (65_763, 65_826), (74_020, 74_044), (139_788, 139_835), (370_243, 370_274), (382_559, 383_322), (393_558, 393_602)
+    small = (40, 189), (65_763, 65_826), (74_020, 74_044), (139_788, 139_835), (370_243, 370_274), (382_559, 383_322), (393_558, 393_620)
     for _ in range(chance.choice((1, 1, 2, 4))):
         first, last = chance.choice(small) if chance.random() < 0.7 else (0, len(data))
         place = chance.randrange(first, last)
@@ -110,8 +110,11 @@ def altered_state(chance, state):
 def some_recording(chance):
     """A recording of some frames."""
     frames = chance.randrange(0, 6)
-    words = b"".join(bytes((0, chance.randrange(256))) for _ in range(2 * frames))
-    return b"MDREC001" + frames.to_bytes(4, "big") + words
+    flags = chance.choice((None, None, 0, 1, 2, 3))
+    lead = b"MDREC001" if flags is None else b"MDREC002\0" + bytes((flags,))
+    most = [0x1000 if flags and flags >> pad & 1 else 0x100 for pad in (0, 1)]
+    words = b"".join(chance.randrange(most[pad]).to_bytes(2, "big") for _ in range(frames) for pad in (0, 1))
+    return lead + frames.to_bytes(4, "big") + words
 
 
 def some_words(chance, end, load):

@@ -4,8 +4,9 @@
     against_mame.py [--seconds N] [EXAMPLE...]
 
 Of each EXAMPLE, all if none is named, a cartridge is built and played for N seconds, 4 if not given, by
-MAME's `genesis` and by the program that `rt ci` has built; a recording beside it, as that of `pads`, is
-played in both. An EXAMPLE that ends in .bin is the name of a cartridge. Then are compared
+MAME's `genesis` and by the program that `rt ci` has built; a recording beside it is played in both. Its
+pads have three buttons: an EXAMPLE whose recording has pads of six, as `pads`, is left out. One that ends in
+.bin is the name of a cartridge. Then are compared
 
 - the pictures, dot by dot. The levels of a colour are other numbers in MAME, so each colour here has to
   be one colour there in all pictures, and each colour there one here. MAME's frames may stand some frames
@@ -250,8 +251,12 @@ def compare(example, seconds):
     with tempfile.TemporaryDirectory() as name:
         folder = pathlib.Path(name)
         image, lines = cartridge_of(example)
+        recording = record.record(lines)
+        if not recording.startswith(b"MDREC001"):
+            print(f"{example}: left out, its pads have six buttons", flush=True)
+            return True
         (folder / "cart.bin").write_bytes(image)
-        (folder / "cart.rec").write_bytes(record.record(lines))
+        (folder / "cart.rec").write_bytes(recording)
         play_there(folder, seconds)
         play_here(folder, seconds)
         here, there = (memoryview((folder / file).read_bytes()) for file in ("here.ppm", "mame.raw"))

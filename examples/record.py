@@ -4,13 +4,15 @@
     record.py TEXT RECORDING
 
 A line of the text has a number of frames and the buttons that are pressed on pad 1 during them, out
-of Up, Down, Left, Right, B, C, A and Start; behind a slash stand those of pad 2. What follows a
-semicolon is a comment. A second has about 60 frames.
+of Up, Down, Left, Right, B, C, A, Start, Z, Y, X and Mode; behind a slash stand those of pad 2. What
+follows a semicolon is a comment. A second has about 60 frames. A pad has six buttons where a line names
+one of the last four for it; the recording is of version 2 then.
 """
 import struct
 import sys
 
-BUTTONS = ["Up", "Down", "Left", "Right", "B", "C", "A", "Start"]
+BUTTONS = ["Up", "Down", "Left", "Right", "B", "C", "A", "Start", "Z", "Y", "X", "Mode"]
+THREE_BUTTONS = 0x100
 MOST_FRAMES = 1048576
 
 
@@ -30,11 +32,12 @@ def record(lines):
         if not count.isdecimal():
             sys.exit(f"line {number}: {count} is no number of frames")
         first, _, second = pressed.partition("/")
-        frame = struct.pack(">HH", word(number, first.split()), word(number, second.split()))
-        frames.extend([frame] * int(count))
+        frames.extend([(word(number, first.split()), word(number, second.split()))] * int(count))
     if len(frames) > MOST_FRAMES:
         sys.exit(f"{len(frames)} frames are more than {MOST_FRAMES}")
-    return b"MDREC001" + struct.pack(">I", len(frames)) + b"".join(frames)
+    flags = sum(1 << pad for pad in (0, 1) if any(frame[pad] >= THREE_BUTTONS for frame in frames))
+    lead = b"MDREC002" + struct.pack(">H", flags) if flags else b"MDREC001"
+    return lead + struct.pack(">I", len(frames)) + b"".join(struct.pack(">HH", *frame) for frame in frames)
 
 
 if __name__ == "__main__":

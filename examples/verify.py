@@ -28,7 +28,7 @@ import sys
 import tempfile
 
 PROGRAM = pathlib.Path(__file__).resolve().parent.parent / "crates" / "md_prog" / "out" / "md_prog"
-MARKS = b"MDSTATE1", b"MDSTATE2"
+MARKS = b"MDSTATE1", b"MDSTATE2", b"MDSTATE3"
 
 
 class Wrong(Exception):

@@ -238,6 +238,44 @@ fn writes_to_the_registers(rt: HostRuntime) -> Result<(), Fail> {
     Ok(())
 }
 
+/// A frame in which A and X are pressed on pad 2, which has six buttons, and A on pad 1, which has three.
+const SIX: &[u8; 18] = b"MDREC002\0\x02\0\0\0\x01\0\x40\x04\x40";
+
+/// What the data of both ports reads, after a value is written to both of them.
+fn written(shared: &mut Shared, cycle: u32, value: u8) -> [u16; 2] {
+    main(shared, cycle, Request68::Write8(0xa1_0003, value));
+    main(shared, cycle, Request68::Write8(0xa1_0005, value));
+    [
+        main(shared, cycle, Request68::Read8(0xa1_0003)).0,
+        main(shared, cycle, Request68::Read8(0xa1_0005)).0,
+    ]
+}
+
+// The cycle and the value of a write, and what both ports read then, from the pads' line on: after the third
+// fall of TH pad 2 shows X, and 80,000 cycles after it again its other buttons.
+const COUNTED: [(u32, u8, [u16; 2]); 7] = [
+    (800_000, 0x00, [0x23, 0x23]),
+    (800_100, 0x40, [0x7f, 0x7f]),
+    (800_200, 0x00, [0x23, 0x23]),
+    (800_300, 0x40, [0x7f, 0x7f]),
+    (800_400, 0x00, [0x23, 0x20]),
+    (880_399, 0x40, [0x7f, 0x7b]),
+    (880_400, 0x40, [0x7f, 0x7f]),
+];
+
+#[test]
+fn a_pad_of_six_buttons(rt: HostRuntime) -> Result<(), Fail> {
+    let mut shared = board(rt.alloc(), SIX)?;
+    line(&mut shared, 766_080);
+    for address in [0xa1_0003, 0xa1_0005, 0xa1_0009, 0xa1_000b] {
+        main(&mut shared, 766_080, Request68::Write8(address, 0x40));
+    }
+    for (cycle, value, want) in COUNTED {
+        assert_eq!(rt; written(&mut shared, cycle, value), want, "{cycle}");
+    }
+    Ok(())
+}
+
 /// The cycles and the bytes of the writes that a batch of the PSG was handed.
 fn taken(alloc: Global, answer: Answer) -> Result<Vec<(u64, u8)>, Fail> {
     let mut writes = Vec::new(alloc);

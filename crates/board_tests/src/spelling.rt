@@ -1,6 +1,7 @@
 // The bytes of a saved state that keep the board, worked out by hand from the order and the sizes of its
 // parts: the VDP at 0, the FM chip's port at 65,813, the PSG's at 78,129, the bus request, the reset and
-// its count at 88,371, 88,372 and 88,373, the latches at 88,381, the pads at 88,385 and 88,387; where the
+// its count at 88,371, 88,372 and 88,373, the latches at 88,381, the pads at 88,385 and 88,387, their counts of falls and
+// the last falls at 88,389, 88,390, 88,398 and 88,399; where the
 // bus has the Z80's RAM, that and the bank register, at 8,192, stand in front, so that all others come
 // 8,194 later.
 use crate::board::{board, main};
@@ -11,9 +12,9 @@ use std::alloc::Global;
 use std::sync::Arc;
 use std::test::Fail;
 
-const SHORT: usize = 88_389;
+const SHORT: usize = 88_407;
 
-const LONG: usize = 96_583;
+const LONG: usize = 96_601;
 
 /// The cycle of the states.
 const AT: u64 = 1;
@@ -25,7 +26,7 @@ fn recording(alloc: Global) -> Result<Arc<Recording>, Fail> {
 /// So many bytes of 0 but for the reset, which is held at power-on.
 fn bytes(alloc: Global, length: usize) -> Result<Vec<u8>, Fail> {
     let mut bytes = vec![in alloc; 0; length]?;
-    put(&mut bytes, (length.saturating_sub(17), 1));
+    put(&mut bytes, (length.saturating_sub(35), 1));
     Ok(bytes)
 }
 
@@ -83,25 +84,29 @@ fn what_is_read_is_spelled_so(rt: HostRuntime) -> Result<(), Fail> {
 
 // Lengths, and each part broken once, alone and with one behind it: the length, two bytes that are changed,
 // and the place of the refusal.
-const BROKEN: [(usize, [(usize, u8); 2], u64); 18] = [
+const BROKEN: [(usize, [(usize, u8); 2], u64); 22] = [
     (17, [(0, 0), (0, 0)], 17),
-    (SHORT - 1, [(0, 0), (0, 0)], 88_388),
-    (SHORT + 1, [(0, 0), (0, 0)], 88_390),
-    (LONG - 1, [(0, 0), (0, 0)], 96_582),
-    (LONG + 1, [(0, 0), (0, 0)], 96_583),
+    (SHORT - 1, [(0, 0), (0, 0)], 88_406),
+    (SHORT + 1, [(0, 0), (0, 0)], 88_408),
+    (LONG - 1, [(0, 0), (0, 0)], 96_600),
+    (LONG + 1, [(0, 0), (0, 0)], 96_601),
     (SHORT, [(65_769, 64), (65_819, 1)], 65_769),
     (SHORT, [(65_819, 1), (78_129, 8)], 65_819),
     (SHORT, [(78_129, 8), (88_371, 2)], 78_129),
     (SHORT, [(88_371, 2), (88_372, 2)], 88_371),
     (SHORT, [(88_372, 2), (88_380, 2)], 88_372),
-    (SHORT, [(88_380, 2), (88_385, 1)], 88_373),
-    (SHORT, [(88_385, 1), (88_387, 1)], 88_385),
-    (SHORT, [(88_387, 1), (0, 0)], 88_387),
+    (SHORT, [(88_380, 2), (88_385, 16)], 88_373),
+    (SHORT, [(88_385, 16), (88_387, 16)], 88_385),
+    (SHORT, [(88_387, 16), (88_389, 5)], 88_387),
+    (SHORT, [(88_389, 5), (88_397, 1)], 88_389),
+    (SHORT, [(88_397, 1), (88_398, 5)], 88_390),
+    (SHORT, [(88_398, 5), (88_406, 1)], 88_398),
+    (SHORT, [(88_406, 1), (0, 0)], 88_399),
     (LONG, [(8_192, 2), (73_963, 64)], 8_192),
     (LONG, [(73_963, 64), (74_013, 1)], 73_963),
     (LONG, [(74_013, 1), (86_323, 8)], 74_013),
     (LONG, [(86_323, 8), (96_565, 2)], 86_323),
-    (LONG, [(96_574, 2), (96_579, 1)], 96_567),
+    (LONG, [(96_574, 2), (96_579, 16)], 96_567),
 ];
 
 /// The place at which bytes with these changes are refused.

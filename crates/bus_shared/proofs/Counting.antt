@@ -33,15 +33,15 @@ one-if : (b : Bool) (n : ℕ) (one other : Board) → one.resets ≤ n → other
 one-if true n one other first second = first
 one-if false n one other first second = second
 
-register-one : (board : Board) (register : Register) (value : ℕ) → (register_written board register value).resets ≤ board.resets + 1
+register-one : (board : Board) (cycle : ℕ) (register : Register) (value : ℕ) → (register_written board cycle register value).resets ≤ board.resets + 1
 unfolding register_written
-register-one board Version value = stays board.resets
-register-one board Data1 value = stays board.resets
-register-one board Data2 value = stays board.resets
-register-one board DataExpansion value = stays board.resets
-register-one board Control1 value = stays board.resets
-register-one board Control2 value = stays board.resets
-register-one board Unused value = stays board.resets
+register-one board cycle Version value = stays board.resets
+register-one board cycle Data1 value = stays board.resets
+register-one board cycle Data2 value = stays board.resets
+register-one board cycle DataExpansion value = stays board.resets
+register-one board cycle Control1 value = stays board.resets
+register-one board cycle Control2 value = stays board.resets
+register-one board cycle Unused value = stays board.resets
 
 space-one : (store : Option Store) (board : Board) (key : Key) (address value : ℕ) → (space_written store board key address value).resets ≤ board.resets + 1
 space-one None board key address value = stays board.resets
@@ -87,7 +87,7 @@ byte-one : (area : Option Area) (board : Board) (key : Key) (address value : ℕ
 unfolding byte_written_in
 byte-one None board key address value = stays board.resets
 byte-one (Some Z80Space) board key address value = space-one (granted board.request board.store) board key (z80_address address) value
-byte-one (Some InputOutput) board key address value = register-one board (register_at address) (value % 0x100)
+byte-one (Some InputOutput) board key address value = register-one board key.cycle (register_at address) (value % 0x100)
 byte-one (Some BusRequest) board key address value = one-if (address % 2 == 0) (board.resets + 1) (requested board (value % 2)) board (stays board.resets) (stays board.resets)
 byte-one (Some Z80Reset) board key address value = one-if (address % 2 == 0) (board.resets + 1) _ board (reset-one (value % 2 == 0) board key) (stays board.resets)
 byte-one (Some VideoPorts) board key address value = video-byte-one (port_at address) board key address value
@@ -96,7 +96,7 @@ word-one : (area : Option Area) (board : Board) (key : Key) (address value : ℕ
 unfolding word_written_in
 word-one None board key address value = stays board.resets
 word-one (Some Z80Space) board key address value = space-one (granted board.request board.store) board key (z80_address address) (value / 0x100)
-word-one (Some InputOutput) board key address value = register-one board (register_at address) (value % 0x100)
+word-one (Some InputOutput) board key address value = register-one board key.cycle (register_at address) (value % 0x100)
 word-one (Some BusRequest) board key address value = stays board.resets
 word-one (Some Z80Reset) board key address value = reset-one (value / 0x100 % 2 == 0) board key
 word-one (Some VideoPorts) board key address value = video-word-one (port_at address) board key value

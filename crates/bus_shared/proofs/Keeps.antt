@@ -1,5 +1,5 @@
 -- Each access leaves a board.
-use Rattle.std.proofs.Common.{ℕ, ◌/◌, ◌%◌, ◌==◌, ◌<◌, ◌≤◌, Bool, true, false, Option, Some, None, if◌then◌else◌, arith, lit<, lit≤, not}
+use Rattle.std.proofs.Common.{ℕ, ◌+◌, ◌&&◌, ◌/◌, ◌%◌, ◌==◌, ◌<◌, ◌≤◌, Bool, true, false, Option, Some, None, if◌then◌else◌, arith, lit<, lit≤, not}
 use Rattle.std.proofs.lemmas.List.Elements.{All-filter, All-nil}
 use Rattle.fm_port.specs.Port.{Port, first_write, held_with, left_from, reset, reset_write, second_write, taken_below, written}
 use Rattle.fm_port.specs.Stamp.{stamp_of}
@@ -9,7 +9,8 @@ use Rattle.fm_port.specs.declared.timers.Timers.{Timers}
 use Rattle.fm_port.specs.declared.write.FmWrite.{FmWrite}
 use Rattle.sound_writes.proofs.Helds.{All-held_with, length-filter-most, length-held_with}
 use Rattle.sound_writes.specs.Order.{is_below}
-use Rattle.md_pads.specs.Recording.{Frame, pads_of}
+use Rattle.md_pads.specs.Recording.{Frame, Recorded, pads_of}
+use Rattle.md_pads.specs.Pad.{Port as PadPort, control_written, counted, in_force, is_th_high, value_written}
 use Rattle.md_word.specs.Region.{finished_at, frame_cycles}
 use Rattle.md_word.specs.Map.{area_of}
 use Rattle.md_word.specs.declared.area.Area.{Area}
@@ -22,7 +23,7 @@ use Rattle.vdp_ports.specs.Vdp.{Vdp}
 use Rattle.bus_shared.specs.Accesses.{line_board, main_board, pads_board, psg_board, sub_access, taken_back, video_started, yielded}
 use Rattle.bus_shared.specs.Areas.{byte_written_at, byte_written_in, read_at, read_in, word_written_at, word_written_in}
 use Rattle.bus_shared.specs.Laws.{StaysBoard}
-use Rattle.bus_shared.specs.Lines.{counted, requested}
+use Rattle.bus_shared.specs.Lines.{counted as resets_counted, requested}
 use Rattle.bus_shared.specs.Video.{both_halves, port_at, port_written, video_byte_written, video_read, video_word_written}
 use Rattle.bus_shared.specs.Z80Space.{granted, is_psg80, space_read, space_written, store_written, with_psg, z80_address}
 use Rattle.vdp_planes.specs.declared.view.SpriteNote.{SpriteNote}
@@ -31,7 +32,7 @@ use Rattle.z80_parcel.proofs.Writes.{banked_fits, stored_fits}
 use Rattle.z80_parcel.specs.Parcels.{IsStore, Store}
 use Rattle.z80_parcel.specs.Requests.{RequestValue80, ReadByte, WriteByte, HandOver, TakeBack, Fits}
 use Rattle.std.proofs.Common.{◌∙◌, IfSome}
-use Rattle.bus_shared.specs.Board.{AreBytes, Board, IsBoard, IsFewFm, power_on}
+use Rattle.bus_shared.specs.Board.{AreBytes, Board, IsBoard, IsFewFm, IsLatched, power_on}
 use Rattle.bus_shared.specs.Fm.{fm_board, fm_read, is_fm, with_fm, with_fm_reset}
 use Rattle.bus_shared.specs.Registers.{register_at, register_written}
 use Rattle.bus_shared.specs.declared.port.VideoPort.{VideoPort}
@@ -40,25 +41,39 @@ use Rattle.bus_shared.specs.declared.register.Register.{Register}
 use Rattle.bus_shared.specs.declared.register.Register.TheVariants.{Version, Data1, Data2, DataExpansion, Control1, Control2, Unused}
 use Rattle.std.specs.Prelude.{List, length}
 
-pub power_on-ok : (recording : List Frame) (pal : Bool) → IsBoard (power_on recording pal)
+pub power_on-ok : (recording : Recorded) (pal : Bool) → IsBoard (power_on recording pal)
 power_on-ok recording pal = record {
-  port1 = record { value = lit< tt; control = lit< tt };
-  port2 = record { value = lit< tt; control = lit< tt };
+  port1 = record { value = lit< tt; control = lit< tt; count = lit≤ tt };
+  port2 = record { value = lit< tt; control = lit< tt; count = lit≤ tt };
   held = IsPort-nil;
   fm = record { most = lit≤ tt; chips = All-nil (λ (w : FmWrite). w.key.chip < 2) };
   store = tt;
   registers = power_on_bytes pal;
 }
 
-register-ok : (board : Board) (register : Register) (value : ℕ) → value < 0x100 → IsBoard board → IsBoard (register_written board register value)
+-- a port stays one where a fall of TH is counted
+counted-ok : (cycle : ℕ) (high : Bool) (port : PadPort) → IsLatched port → IsLatched (counted cycle high port)
+counted-ok cycle high port ok =
+    elim (high && not (is_th_high port)) as (λ falls. IsLatched (if falls then record port { count = 1 + in_force cycle port % 4; fall = cycle } else port)) [
+      | true ↦ record { value = ok.value; control = ok.control; count = omega arith }
+      | false ↦ ok
+    ]
+
+value-ok : (cycle value : ℕ) (port : PadPort) → value < 0x100 → IsLatched port → IsLatched (value_written cycle value port)
+value-ok cycle value port below ok = counted-ok cycle (is_th_high port) (record port { value = value }) (record { value = below; control = ok.control; count = ok.count })
+
+control-ok : (cycle value : ℕ) (port : PadPort) → value < 0x100 → IsLatched port → IsLatched (control_written cycle value port)
+control-ok cycle value port below ok = counted-ok cycle (is_th_high port) (record port { control = value }) (record { value = ok.value; control = below; count = ok.count })
+
+register-ok : (board : Board) (cycle : ℕ) (register : Register) (value : ℕ) → value < 0x100 → IsBoard board → IsBoard (register_written board cycle register value)
 unfolding register_written
-register-ok board Version value below ok = ok
-register-ok board Data1 value below ok = record { port1 = record { value = below; control = ok.port1.control }; port2 = ok.port2; held = ok.held; fm = ok.fm; store = ok.store; registers = ok.registers }
-register-ok board Data2 value below ok = record { port1 = ok.port1; port2 = record { value = below; control = ok.port2.control }; held = ok.held; fm = ok.fm; store = ok.store; registers = ok.registers }
-register-ok board DataExpansion value below ok = ok
-register-ok board Control1 value below ok = record { port1 = record { value = ok.port1.value; control = below }; port2 = ok.port2; held = ok.held; fm = ok.fm; store = ok.store; registers = ok.registers }
-register-ok board Control2 value below ok = record { port1 = ok.port1; port2 = record { value = ok.port2.value; control = below }; held = ok.held; fm = ok.fm; store = ok.store; registers = ok.registers }
-register-ok board Unused value below ok = ok
+register-ok board cycle Version value below ok = ok
+register-ok board cycle Data1 value below ok = record { port1 = value-ok cycle value board.port1 below ok.port1; port2 = ok.port2; held = ok.held; fm = ok.fm; store = ok.store; registers = ok.registers }
+register-ok board cycle Data2 value below ok = record { port1 = ok.port1; port2 = value-ok cycle value board.port2 below ok.port2; held = ok.held; fm = ok.fm; store = ok.store; registers = ok.registers }
+register-ok board cycle DataExpansion value below ok = ok
+register-ok board cycle Control1 value below ok = record { port1 = control-ok cycle value board.port1 below ok.port1; port2 = ok.port2; held = ok.held; fm = ok.fm; store = ok.store; registers = ok.registers }
+register-ok board cycle Control2 value below ok = record { port1 = ok.port1; port2 = control-ok cycle value board.port2 below ok.port2; held = ok.held; fm = ok.fm; store = ok.store; registers = ok.registers }
+register-ok board cycle Unused value below ok = ok
 
 psg-ok : (board : Board) (key : Key) (value : ℕ) → key.chip < 2 → IsBoard board → IsBoard (with_psg board key value)
 psg-ok board key value low ok = record { port1 = ok.port1; port2 = ok.port2; held = IsPort-held_with board.held key value low ok.held; fm = ok.fm; store = ok.store; registers = ok.registers }
@@ -135,7 +150,7 @@ requested-ok : (board : Board) (bit : ℕ) → IsBoard board → IsBoard (reques
 requested-ok board bit ok = record { port1 = ok.port1; port2 = ok.port2; held = ok.held; fm = ok.fm; store = ok.store; registers = ok.registers }
 
 reset-ok : (b : Bool) (board : Board) (key : Key) → key.chip < 2 → IsBoard board
-    → IsBoard (if b then record (with_fm_reset board key) { reset = true; resets = counted board.resets } else record board { reset = false })
+    → IsBoard (if b then record (with_fm_reset board key) { reset = true; resets = resets_counted board.resets } else record board { reset = false })
 reset-ok true board key low ok = record { port1 = ok.port1; port2 = ok.port2; held = ok.held; fm = few-reset key board.fm low ok.fm; store = ok.store; registers = ok.registers }
 reset-ok false board key low ok = record { port1 = ok.port1; port2 = ok.port2; held = ok.held; fm = ok.fm; store = ok.store; registers = ok.registers }
 
@@ -192,7 +207,7 @@ unfolding byte_written_in
 byte-ok None board key address value low ok = ok
 byte-ok (Some Z80Space) board key address value low ok =
     space-ok (granted board.request board.store) board key (z80_address address) value low ok (granted-ok board.request board.store ok.store)
-byte-ok (Some InputOutput) board key address value low ok = register-ok board (register_at address) (value % 0x100) (low-byte value) ok
+byte-ok (Some InputOutput) board key address value low ok = register-ok board key.cycle (register_at address) (value % 0x100) (low-byte value) ok
 byte-ok (Some BusRequest) board key address value low ok = even-ok (address % 2 == 0) _ board (requested-ok board (value % 2) ok) ok
 byte-ok (Some Z80Reset) board key address value low ok = even-ok (address % 2 == 0) _ board (reset-ok (value % 2 == 0) board key low ok) ok
 byte-ok (Some VideoPorts) board key address value low ok = video-byte-ok (port_at address) board key address value low ok
@@ -202,7 +217,7 @@ unfolding word_written_in
 word-ok None board key address value low ok = ok
 word-ok (Some Z80Space) board key address value low ok =
     space-ok (granted board.request board.store) board key (z80_address address) (value / 0x100) low ok (granted-ok board.request board.store ok.store)
-word-ok (Some InputOutput) board key address value low ok = register-ok board (register_at address) (value % 0x100) (low-byte value) ok
+word-ok (Some InputOutput) board key address value low ok = register-ok board key.cycle (register_at address) (value % 0x100) (low-byte value) ok
 word-ok (Some BusRequest) board key address value low ok = requested-ok board (value / 0x100 % 2) ok
 word-ok (Some Z80Reset) board key address value low ok = reset-ok (value / 0x100 % 2 == 0) board key low ok
 word-ok (Some VideoPorts) board key address value low ok = video-word-ok (port_at address) board key value low ok

@@ -1,4 +1,5 @@
 pub mod Counting
+pub mod Falls
 pub mod Keeping
 pub mod Keeps
 pub mod Touches

@@ -68,15 +68,15 @@ ruled-if : (b : Bool) (at : ℕ) (one other : Board) → HasRules at one.vdp →
 ruled-if true at one other first second = first
 ruled-if false at one other first second = second
 
-register-ruled : (at : ℕ) (board : Board) (register : Register) (value : ℕ) → HasRules at board.vdp → HasRules at (register_written board register value).vdp
+register-ruled : (at : ℕ) (board : Board) (cycle : ℕ) (register : Register) (value : ℕ) → HasRules at board.vdp → HasRules at (register_written board cycle register value).vdp
 unfolding register_written
-register-ruled at board Version value ok = ok
-register-ruled at board Data1 value ok = ok
-register-ruled at board Data2 value ok = ok
-register-ruled at board DataExpansion value ok = ok
-register-ruled at board Control1 value ok = ok
-register-ruled at board Control2 value ok = ok
-register-ruled at board Unused value ok = ok
+register-ruled at board cycle Version value ok = ok
+register-ruled at board cycle Data1 value ok = ok
+register-ruled at board cycle Data2 value ok = ok
+register-ruled at board cycle DataExpansion value ok = ok
+register-ruled at board cycle Control1 value ok = ok
+register-ruled at board cycle Control2 value ok = ok
+register-ruled at board cycle Unused value ok = ok
 
 space-ruled : (at : ℕ) (store : Option Store) (board : Board) (key : Key) (address value : ℕ) → HasRules at board.vdp → HasRules at (space_written store board key address value).vdp
 space-ruled at None board key address value ok = ok
@@ -125,7 +125,7 @@ byte-ruled : (at : ℕ) (area : Option Area) (board : Board) (key : Key) (addres
 unfolding byte_written_in
 byte-ruled at None board key address value below ok = ok
 byte-ruled at (Some Z80Space) board key address value below ok = space-ruled at (granted board.request board.store) board key (z80_address address) value ok
-byte-ruled at (Some InputOutput) board key address value below ok = register-ruled at board (register_at address) (value % 0x100) ok
+byte-ruled at (Some InputOutput) board key address value below ok = register-ruled at board key.cycle (register_at address) (value % 0x100) ok
 byte-ruled at (Some BusRequest) board key address value below ok = ruled-if (address % 2 == 0) at (requested board (value % 2)) board ok ok
 byte-ruled at (Some Z80Reset) board key address value below ok = ruled-if (address % 2 == 0) at _ board (reset-ruled (value % 2 == 0) at board key ok) ok
 byte-ruled at (Some VideoPorts) board key address value below ok = video-byte-ruled at (port_at address) board key address value below ok
@@ -135,7 +135,7 @@ word-ruled : (at : ℕ) (area : Option Area) (board : Board) (key : Key) (addres
 unfolding word_written_in
 word-ruled at None board key address value below ok = ok
 word-ruled at (Some Z80Space) board key address value below ok = space-ruled at (granted board.request board.store) board key (z80_address address) (value / 0x100) ok
-word-ruled at (Some InputOutput) board key address value below ok = register-ruled at board (register_at address) (value % 0x100) ok
+word-ruled at (Some InputOutput) board key address value below ok = register-ruled at board key.cycle (register_at address) (value % 0x100) ok
 word-ruled at (Some BusRequest) board key address value below ok = ok
 word-ruled at (Some Z80Reset) board key address value below ok = reset-ruled (value / 0x100 % 2 == 0) at board key ok
 word-ruled at (Some VideoPorts) board key address value below ok = video-word-ruled at (port_at address) board key value below ok

@@ -1,18 +1,21 @@
 -- Laws of the lines and the pads as they are kept.
-use Rattle.std.proofs.Common.{◌≡◌, ℕ, ◌≤◌, true, List, [], ◌∷◌, ◌++◌, refl, sym, ap, ◌∙◌, append_assoc}
-use Rattle.std.specs.Int.{w64, to_be_bytes}
-use Rattle.std.proofs.lemmas.Bool.{leb-true}
-use Rattle.md_fields.specs.Fields.{AllHold, byte, word, quad, sizes, spelling}
+use Rattle.std.proofs.Common.{◌≡◌, ℕ, ◌^◌, ◌≤◌, true, inl, inr, arith, List, ◌++◌, length, refl, sym, ap, ◌∙◌, append_assoc}
+use Rattle.std.proofs.lemmas.Bool.{cases_eq, eqb-true, leb-true, ltb-true, ne_eqb}
+use Rattle.md_fields.specs.Fields.{AllHold, sizes, spelling}
 use Rattle.md_fields.specs.Items.{IsRight, Keeps}
 use Rattle.md_fields.specs.Places.{Stand}
 use Rattle.md_fields.proofs.Items.{all_hold, not_both, one_place, same}
-use Rattle.bus_shared.specs.Saved.{lines_fields}
-use Rattle.bus_shared.specs.Spelling.{LinesGoWrongAt, lines_bytes}
+use Rattle.bus_shared.specs.Saved.{AreFalls, is_fall, lines_fields}
+use Rattle.bus_shared.specs.Spelling.{LinesGoWrongAt}
 use Rattle.bus_shared.specs.declared.saved_lines.SavedLines.{SavedLines}
 
-pub lines_size : (at : ℕ) (n : SavedLines) → sizes (lines_fields at n) ≡ 18
+pub lines_size : (at : ℕ) (n : SavedLines) → sizes (lines_fields at n) ≡ 36
 unfolding sizes
 lines_size at n = refl
+
+pub lines_length : (at : ℕ) (n : SavedLines) → length (spelling (lines_fields at n)) ≡ 36
+unfolding spelling
+lines_length at n = refl
 
 -- the rules have no part in the bytes
 pub same_bytes : (at other : ℕ) (n : SavedLines) → spelling (lines_fields at n) ≡ spelling (lines_fields other n)
@@ -31,6 +34,10 @@ only_one at bytes s t p0 q0 =
     let p6 = p5.1 in let q6 = q5.1 in
     let p7 = p6.1 in let q7 = q6.1 in
     let p8 = p7.1 in let q8 = q7.1 in
+    let p9 = p8.1 in let q9 = q8.1 in
+    let p10 = p9.1 in let q10 = q9.1 in
+    let p11 = p10.1 in let q11 = q10.1 in
+    let p12 = p11.1 in let q12 = q11.1 in
     λ i. record {
       bus_request = (p0.0 ∙ sym q0.0) i;
       reset = (p1.0 ∙ sym q1.0) i;
@@ -41,6 +48,10 @@ only_one at bytes s t p0 q0 =
       control2 = (p6.0 ∙ sym q6.0) i;
       pads1 = (p7.0 ∙ sym q7.0) i;
       pads2 = (p8.0 ∙ sym q8.0) i;
+      count1 = (p9.0 ∙ sym q9.0) i;
+      fall1 = (p10.0 ∙ sym q10.0) i;
+      count2 = (p11.0 ∙ sym q11.0) i;
+      fall2 = (p12.0 ∙ sym q12.0) i;
     }
 
 -- the flags of right numbers
@@ -55,27 +66,37 @@ flags_of at n right =
     let h1 = h0.1 in
     record { bus_request = leb-true n.bus_request 1 h0.0; reset = leb-true n.reset 1 h1.0 }
 
+fall-few : (at count fall : ℕ) → at ≤ 2 ^ 50 → is_fall at count fall ≡ true → fall ≤ 2 ^ 50
+fall-few at count fall small holds =
+    elim (cases_eq count 0) [
+      | inl none ↦ let last = eqb-true fall 0 (rw none at holds) in omega arith
+      | inr some ↦ let before = ltb-true fall at (rw (ne_eqb count 0 some) at holds) in omega arith
+    ]
+
+-- the falls of right numbers
+pub falls_of : (at : ℕ) (n : SavedLines) → at ≤ 2 ^ 50 → IsRight (lines_fields at) n → AreFalls n
+unfolding AllHold
+falls_of at n small right =
+    let h0 = all_hold 0 (lines_fields at n) right in
+    let h9 = h0.1.1.1.1.1.1.1.1.1 in
+    record {
+      count1 = leb-true n.count1 4 h9.0;
+      fall1 = fall-few at n.count1 n.fall1 small h9.1.0;
+      count2 = leb-true n.count2 4 h9.1.1.0;
+      fall2 = fall-few at n.count2 n.fall2 small h9.1.1.1.0;
+    }
+
 pub one_lines : (at : ℕ) (bytes : List ℕ) (s t : SavedLines) → Keeps (lines_fields at) bytes s → Keeps (lines_fields at) bytes t → s ≡ t
 one_lines at bytes s t p q = same (lines_fields at) bytes (only_one at bytes) s t p q
 
 pub lines_right : (at : ℕ) (bytes : List ℕ) (n : SavedLines) (place : ℕ) → Keeps (lines_fields at) bytes n → IsRight (lines_fields at) n → LinesGoWrongAt at bytes place → ⊥
-lines_right at bytes n place keeps right wrong = not_both (lines_fields at) bytes (only_one at bytes) 18 n place keeps right (lines_size at n) wrong
+lines_right at bytes n place keeps right wrong = not_both (lines_fields at) bytes (only_one at bytes) 36 n place keeps right (lines_size at n) wrong
 
 pub lines_once : (at : ℕ) (bytes : List ℕ) (p q : ℕ) → LinesGoWrongAt at bytes p → LinesGoWrongAt at bytes q → p ≡ q
-lines_once at bytes p q a b = one_place (lines_fields at) bytes (only_one at bytes) 18 (lines_size at) p q a b
-
--- the latches stand between the lines and the pads
-pub lines_are : (n : SavedLines)
-    → spelling (byte n.bus_request true ∷ byte n.reset true ∷ quad n.resets true ∷ [])
-    ++ ((n.value1 ∷ n.control1 ∷ []) ++ ((n.value2 ∷ n.control2 ∷ []) ++ spelling (word n.pads1 true ∷ word n.pads2 true ∷ [])))
-    ≡ lines_bytes n
-unfolding spelling
-lines_are n =
-    ap (λ (l : List ℕ). n.bus_request ∷ n.reset ∷ l)
-    (append_assoc (to_be_bytes w64 n.resets) [] (n.value1 ∷ n.control1 ∷ n.value2 ∷ n.control2 ∷ spelling (word n.pads1 true ∷ word n.pads2 true ∷ [])))
+lines_once at bytes p q a b = one_place (lines_fields at) bytes (only_one at bytes) 36 (lines_size at) p q a b
 
 -- what is appended four times, and five times
-pub four : (a h x y t i j k l : List ℕ) → i ≡ a ++ h → j ≡ i ++ x → k ≡ j ++ y → l ≡ k ++ t → l ≡ a ++ (h ++ (x ++ (y ++ t)))
+four : (a h x y t i j k l : List ℕ) → i ≡ a ++ h → j ≡ i ++ x → k ≡ j ++ y → l ≡ k ++ t → l ≡ a ++ (h ++ (x ++ (y ++ t)))
 four a h x y t i j k l ei ej ek el =
     el ∙ ap (λ (m : List ℕ). m ++ t) (ek ∙ ap (λ (m : List ℕ). m ++ y) (ej ∙ ap (λ (m : List ℕ). m ++ x) ei))
     ∙ append_assoc ((a ++ h) ++ x) y t ∙ append_assoc (a ++ h) x (y ++ t) ∙ append_assoc a h (x ++ (y ++ t))

@@ -15,7 +15,7 @@ use Rattle.md_fields.proofs.Standing.{long_as, long_as_sized, spelled, stand}
 use Rattle.md_word.specs.Coding.{flag_number}
 use Rattle.md_word.specs.declared.unspell.Unspell.{Unspell}
 use Rattle.md_word.specs.declared.unspell.Unspell.TheVariants.{Rule, NoMemory}
-use Rattle.md_pads.specs.Recording.{Frame}
+use Rattle.md_pads.specs.Recording.{Recorded}
 use Rattle.psg_sound.specs.PortSpelling as psg_spelling
 use Rattle.psg_sound.specs.declared.write.PsgWrite.{PsgWrite}
 use Rattle.psg_sound.proofs.PortBytes as psg_laws
@@ -55,7 +55,7 @@ unfolding sizes AreSized
 store_long None ok = long_as_sized (store_fields true None) tt
 store_long (Some store) ok = long_as_sized (store_fields true (Some store)) (ok.ram, (tt, tt))
 
-pub board_long : (has : Bool) → board_size has ≡ store_size has + 88389
+pub board_long : (has : Bool) → board_size has ≡ store_size has + 88407
 board_long true = refl
 board_long false = refl
 
@@ -70,12 +70,12 @@ psg_long : (at : ℕ) (bytes : List ℕ) (ws : List PsgWrite) → psg_spelling.S
 psg_long at bytes ws spells =
     ap length spells.keeps.all ∙ long_as (psg_spelling.port_fields at (psg_spelling.saved_port ws)) spells.keeps.within ∙ psg_laws.port_size at (psg_spelling.saved_port ws)
 
-lines_long : (at : ℕ) (bytes : List ℕ) (n : SavedLines) → Keeps (lines_fields at) bytes n → length bytes ≡ 18
+lines_long : (at : ℕ) (bytes : List ℕ) (n : SavedLines) → Keeps (lines_fields at) bytes n → length bytes ≡ 36
 lines_long at bytes n keeps = ap length keeps.all ∙ long_as (lines_fields at n) keeps.within ∙ lines_laws.lines_size at n
 
 -- ---- bytes are cut into the parts that they are made of
 
-cut_of : (a b c d e : List ℕ) → length b ≡ 65813 → length c ≡ 12316 → length d ≡ 10242 → length e ≡ 18
+cut_of : (a b c d e : List ℕ) → length b ≡ 65813 → length c ≡ 12316 → length d ≡ 10242 → length e ≡ 36
     → cut (a ++ (b ++ (c ++ (d ++ e)))) ≡ record { store = a; vdp = b; fm = c; held = d; lines = e }
 cut_of a b c d e lb lc ld le =
     let rest = b ++ (c ++ (d ++ e)) in
@@ -120,7 +120,7 @@ joined_again bytes =
     ∙ ap (λ (l : List ℕ). take n bytes ++ l) (take-append-drop 65813 behind)
     ∙ take-append-drop n bytes
 
-length_by : (store : Option Store) (n : ℕ) → n ≡ store_size (is_some store) + 88389 → (n ≡ 88389) ⊎ (n ≡ 96583)
+length_by : (store : Option Store) (n : ℕ) → n ≡ store_size (is_some store) + 88407 → (n ≡ 88407) ⊎ (n ≡ 96601)
 length_by None n e = inl e
 length_by (Some store) n e = inr e
 
@@ -233,8 +233,18 @@ spelled_once at pal bytes s t p q recording =
     λ i. record {
       recording = recording i;
       pads = (ap (λ (n : SavedLines). n.pads1) lines i, ap (λ (n : SavedLines). n.pads2) lines i);
-      port1 = record { value = ap (λ (n : SavedLines). n.value1) lines i; control = ap (λ (n : SavedLines). n.control1) lines i };
-      port2 = record { value = ap (λ (n : SavedLines). n.value2) lines i; control = ap (λ (n : SavedLines). n.control2) lines i };
+      port1 = record {
+        value = ap (λ (n : SavedLines). n.value1) lines i;
+        control = ap (λ (n : SavedLines). n.control1) lines i;
+        count = ap (λ (n : SavedLines). n.count1) lines i;
+        fall = ap (λ (n : SavedLines). n.fall1) lines i;
+      };
+      port2 = record {
+        value = ap (λ (n : SavedLines). n.value2) lines i;
+        control = ap (λ (n : SavedLines). n.control2) lines i;
+        count = ap (λ (n : SavedLines). n.count2) lines i;
+        fall = ap (λ (n : SavedLines). n.fall2) lines i;
+      };
       held = held i;
       fm = fm i;
       request = request i;
@@ -254,7 +264,7 @@ psg_near at bytes place wrong = refused_within (psg_spelling.port_fields at) byt
 
 -- ---- what stands in the bytes
 
-pub lines_back : (recording : List Frame) (store : Option Store) (vdp : Vdp) (fm : fm_ports.Port) (held : List PsgWrite) (n : SavedLines) → lines_laws.Flags n
+pub lines_back : (recording : Recorded) (store : Option Store) (vdp : Vdp) (fm : fm_ports.Port) (held : List PsgWrite) (n : SavedLines) → lines_laws.Flags n
     → lines_of (board_from recording store vdp fm held n) ≡ n
 lines_back recording store vdp fm held n flags = λ i. record {
   bus_request = flag_back n.bus_request flags.bus_request i;
@@ -266,6 +276,10 @@ lines_back recording store vdp fm held n flags = λ i. record {
   control2 = n.control2;
   pads1 = n.pads1;
   pads2 = n.pads2;
+  count1 = n.count1;
+  fall1 = n.fall1;
+  count2 = n.count2;
+  fall2 = n.fall2;
 }
 
 -- the parts of bytes that each keep a part of a board
@@ -278,7 +292,7 @@ pub record AreKept (at : ℕ) (pal : Bool) (parts : Parts) (store : Option Store
   pub lines_are : Keeps (lines_fields at) parts.lines n
   pub lines_right : IsRight (lines_fields at) n
 
-pub whole : (at : ℕ) (pal : Bool) (bytes : List ℕ) (recording : List Frame) (store : Option Store) (vdp : Vdp) (fm : fm_ports.Port) (held : List PsgWrite) (n : SavedLines)
+pub whole : (at : ℕ) (pal : Bool) (bytes : List ℕ) (recording : Recorded) (store : Option Store) (vdp : Vdp) (fm : fm_ports.Port) (held : List PsgWrite) (n : SavedLines)
     → AreKept at pal (cut bytes) store vdp fm held n → Spells at pal bytes (board_from recording store vdp fm held n)
 whole at pal bytes recording store vdp fm held n p =
     let vdp_e = vdp_own at pal (cut bytes).vdp vdp p.vdp_is in
@@ -374,10 +388,10 @@ ports_exit at pal bytes p place long none no_vdp wrong e =
     subst (GoesWrongAt at pal bytes) (sym e)
     (inr (long, inr (none, inr (no_vdp, ports_behind at (store_length bytes + 65813) (cut bytes).fm (cut bytes).held (cut bytes).lines p wrong))))
 
-pub ports_near : (at : ℕ) (fm held lines : List ℕ) (place : ℕ) → PortsGoWrongAt at 0 fm held lines place → place ≤ 22576
+pub ports_near : (at : ℕ) (fm held lines : List ℕ) (place : ℕ) → PortsGoWrongAt at 0 fm held lines place → place ≤ 22594
 ports_near at fm held lines place (inl w) = omega (arith, w.2, refused_within (fm_spelling.port_fields at) fm 12316 (fm_laws.port_size at) w.0 w.1)
 ports_near at fm held lines place (inr (no_fm, inl w)) = omega (arith, w.2, psg_near at held w.0 w.1)
-ports_near at fm held lines place (inr (no_fm, inr (no_psg, inl w))) = omega (arith, w.2, refused_within (lines_fields at) lines 18 (lines_laws.lines_size at) w.0 w.1)
+ports_near at fm held lines place (inr (no_fm, inr (no_psg, inl w))) = omega (arith, w.2, refused_within (lines_fields at) lines 36 (lines_laws.lines_size at) w.0 w.1)
 ports_near at fm held lines place (inr (no_fm, inr (no_psg, inr w))) = absurd w.1
 
 -- ---- a refusal that is no want of memory

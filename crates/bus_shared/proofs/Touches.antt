@@ -58,15 +58,15 @@ port_written_region NoPort cycle word vdp = refl
 itself : (board : Board) → Same board board
 itself board = record { recording = refl; pads = refl; region = refl }
 
-register-same : (board : Board) (register : Register) (value : ℕ) → Same board (register_written board register value)
+register-same : (board : Board) (cycle : ℕ) (register : Register) (value : ℕ) → Same board (register_written board cycle register value)
 unfolding register_written
-register-same board Version value = itself board
-register-same board Data1 value = record { recording = refl; pads = refl; region = refl }
-register-same board Data2 value = record { recording = refl; pads = refl; region = refl }
-register-same board DataExpansion value = itself board
-register-same board Control1 value = record { recording = refl; pads = refl; region = refl }
-register-same board Control2 value = record { recording = refl; pads = refl; region = refl }
-register-same board Unused value = itself board
+register-same board cycle Version value = itself board
+register-same board cycle Data1 value = record { recording = refl; pads = refl; region = refl }
+register-same board cycle Data2 value = record { recording = refl; pads = refl; region = refl }
+register-same board cycle DataExpansion value = itself board
+register-same board cycle Control1 value = record { recording = refl; pads = refl; region = refl }
+register-same board cycle Control2 value = record { recording = refl; pads = refl; region = refl }
+register-same board cycle Unused value = itself board
 
 fm_read-same : (b : Bool) (board : Board) (cycle : ℕ) → Same board (if b then fm_read board cycle else board)
 fm_read-same true board cycle = record { recording = refl; pads = refl; region = refl }
@@ -128,7 +128,7 @@ byte-same : (area : Option Area) (board : Board) (key : Key) (address value : �
 unfolding byte_written_in
 byte-same None board key address value = itself board
 byte-same (Some Z80Space) board key address value = space-same (granted board.request board.store) board key (z80_address address) value
-byte-same (Some InputOutput) board key address value = register-same board (register_at address) (value % 0x100)
+byte-same (Some InputOutput) board key address value = register-same board key.cycle (register_at address) (value % 0x100)
 byte-same (Some BusRequest) board key address value = even-same (address % 2 == 0) board _ (record { recording = refl; pads = refl; region = refl })
 byte-same (Some Z80Reset) board key address value = even-same (address % 2 == 0) board _ (reset-same (value % 2 == 0) board key)
 byte-same (Some VideoPorts) board key address value = video-byte-same (port_at address) board key address value
@@ -137,7 +137,7 @@ word-same : (area : Option Area) (board : Board) (key : Key) (address value : �
 unfolding word_written_in
 word-same None board key address value = itself board
 word-same (Some Z80Space) board key address value = space-same (granted board.request board.store) board key (z80_address address) (value / 0x100)
-word-same (Some InputOutput) board key address value = register-same board (register_at address) (value % 0x100)
+word-same (Some InputOutput) board key address value = register-same board key.cycle (register_at address) (value % 0x100)
 word-same (Some BusRequest) board key address value = record { recording = refl; pads = refl; region = refl }
 word-same (Some Z80Reset) board key address value = reset-same (value / 0x100 % 2 == 0) board key
 word-same (Some VideoPorts) board key address value = video-word-same (port_at address) board key value

@@ -1,7 +1,8 @@
 -- What a read of the 68000 gives has the width of the access.
-use Rattle.std.proofs.Common.{ℕ, ◌<◌, ◌≤◌, Bool, true, false, [], ◌∷◌, Option, Some, None, if◌then◌else◌, arith, lit<, IfSome}
-use Rattle.md_pads.specs.Buttons.{up, down, left, right, button_b, button_c, button_a, start}
-use Rattle.md_pads.specs.Pad.{Latches, binary, is_set, is_th_high, lines, pad_value, released}
+use Rattle.std.proofs.Common.{ℕ, ◌<◌, ◌≤◌, ◌==◌, ◌&&◌, Bool, true, false, [], ◌∷◌, Option, Some, None, if◌then◌else◌, arith, lit<, IfSome}
+use Rattle.md_pads.specs.Buttons.{up, down, left, right, button_b, button_c, button_a, start, button_z, button_y, button_x, mode}
+use Rattle.md_pads.specs.Pad.{Port, binary, fourth_lines, in_force, is_set, is_th_high, lines, pad_value, released, third_lines}
+use Rattle.md_pads.specs.Recording.{six}
 use Rattle.md_word.specs.declared.area.Area.{Area}
 use Rattle.md_word.specs.declared.area.Area.TheVariants.{Z80Space, InputOutput, BusRequest, Z80Reset, VideoPorts}
 use Rattle.md_word.specs.Map.{area_of}
@@ -33,26 +34,41 @@ eight : (a b c d e f g h : Bool) → binary (a ∷ b ∷ c ∷ d ∷ e ∷ f ∷
 eight a b c d e f g h = omega (arith, digit a, digit b, digit c, digit d, digit e, digit f, digit g, digit h)
 
 -- eight lines are a byte
-pad-below : (port : Latches) (word : ℕ) → pad_value port word < 0x100
-pad-below port word =
-    elim (is_th_high port) as (λ th. binary (is_set port.value 7 ∷ lines th word) < 0x100) [
-      | true ↦ eight (is_set port.value 7) true (released word button_c) (released word button_b) (released word right) (released word left) (released word down) (released word up)
-      | false ↦ eight (is_set port.value 7) false (released word start) (released word button_a) false false (released word down) (released word up)
-    ]
+usual-below : (bit_7 high : Bool) (word : ℕ) → binary (bit_7 ∷ lines high word) < 0x100
+usual-below bit_7 true word = eight bit_7 true (released word button_c) (released word button_b) (released word right) (released word left) (released word down) (released word up)
+usual-below bit_7 false word = eight bit_7 false (released word start) (released word button_a) false false (released word down) (released word up)
+
+third-below : (bit_7 high : Bool) (word : ℕ) → binary (bit_7 ∷ third_lines high word) < 0x100
+third-below bit_7 true word = eight bit_7 true (released word button_c) (released word button_b) (released word mode) (released word button_x) (released word button_y) (released word button_z)
+third-below bit_7 false word = eight bit_7 false (released word start) (released word button_a) false false false false
+
+fourth-below : (bit_7 high : Bool) (word : ℕ) → binary (bit_7 ∷ fourth_lines high word) < 0x100
+fourth-below bit_7 true word = usual-below bit_7 true word
+fourth-below bit_7 false word = eight bit_7 false (released word start) (released word button_a) true true true true
+
+lines-below : (bit_7 third fourth high : Bool) (word : ℕ)
+    → binary (bit_7 ∷ (if third then third_lines high word else (if fourth then fourth_lines high word else lines high word))) < 0x100
+lines-below bit_7 true fourth high word = third-below bit_7 high word
+lines-below bit_7 false true high word = fourth-below bit_7 high word
+lines-below bit_7 false false high word = usual-below bit_7 high word
+
+pad-below : (cycle : ℕ) (six : Bool) (port : Port) (word : ℕ) → pad_value cycle six port word < 0x100
+pad-below cycle six port word =
+    lines-below (is_set port.value 7) (six && (in_force cycle port == 3)) (six && (in_force cycle port == 4)) (is_th_high port) word
 
 version-below : (pal : Bool) → (if pal then 0xe0 else 0xa0) < 0x100
 version-below true = lit< tt
 version-below false = lit< tt
 
-register-below : (board : Board) (register : Register) → IsBoard board → register_read board register < 0x100
+register-below : (board : Board) (cycle : ℕ) (register : Register) → IsBoard board → register_read board cycle register < 0x100
 unfolding register_read
-register-below board Version ok = version-below board.vdp.pal
-register-below board Data1 ok = pad-below board.port1 board.pads.0
-register-below board Data2 ok = pad-below board.port2 board.pads.1
-register-below board DataExpansion ok = lit< tt
-register-below board Control1 ok = ok.port1.control
-register-below board Control2 ok = ok.port2.control
-register-below board Unused ok = lit< tt
+register-below board cycle Version ok = version-below board.vdp.pal
+register-below board cycle Data1 ok = pad-below cycle (six board.recording.version 1) board.port1 board.pads.0
+register-below board cycle Data2 ok = pad-below cycle (six board.recording.version 2) board.port2 board.pads.1
+register-below board cycle DataExpansion ok = lit< tt
+register-below board cycle Control1 ok = ok.port1.control
+register-below board cycle Control2 ok = ok.port2.control
+register-below board cycle Unused ok = lit< tt
 
 -- a byte of the Z80's space
 space-by : (b : Bool) (n m : ℕ) → m < 0x100 → (if b then n % 0x100 else m) < 0x100
@@ -77,7 +93,7 @@ pub byte-below : (area : Option Area) (board : Board) (key : Key) (address : ℕ
 unfolding byte_in
 byte-below None board key address ok = lit< tt
 byte-below (Some Z80Space) board key address ok = space-below (granted board.request board.store) board key.cycle (z80_address address)
-byte-below (Some InputOutput) board key address ok = register-below board (register_at address) ok
+byte-below (Some InputOutput) board key address ok = register-below board key.cycle (register_at address) ok
 byte-below (Some BusRequest) board key address ok = even-below (address % 2 == 0) (request_bit board) (bit-below (is_some (granted board.request board.store)))
 byte-below (Some Z80Reset) board key address ok = lit< tt
 byte-below (Some VideoPorts) board key address ok =
@@ -88,7 +104,7 @@ pub word-below : (area : Option Area) (board : Board) (key : Key) (address : ℕ
 unfolding word_in
 word-below None board key address ok = lit< tt
 word-below (Some Z80Space) board key address ok = omega (arith, space-below (granted board.request board.store) board key.cycle (z80_address address))
-word-below (Some InputOutput) board key address ok = omega (arith, register-below board (register_at address) ok)
+word-below (Some InputOutput) board key address ok = omega (arith, register-below board key.cycle (register_at address) ok)
 word-below (Some BusRequest) board key address ok = omega (arith, bit-below (is_some (granted board.request board.store)))
 word-below (Some Z80Reset) board key address ok = lit< tt
 word-below (Some VideoPorts) board key address ok = port-below (port_at address) key.cycle board.vdp

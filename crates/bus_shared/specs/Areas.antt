@@ -14,7 +14,7 @@ use Rattle.bus_shared.specs.Z80Space.{granted, space_byte, space_read, space_wri
 -- a byte, area by area
 unfoldable pub byte_in : Area → Board → Key → ℕ → ℕ
 byte_in Z80Space board key address = space_byte (granted board.request board.store) board key.cycle (z80_address address)
-byte_in InputOutput board key address = register_read board (register_at address)
+byte_in InputOutput board key address = register_read board key.cycle (register_at address)
 byte_in BusRequest board key address = if address % 2 == 0 then request_bit board else 0
 byte_in Z80Reset board key address = 0
 byte_in VideoPorts board key address = half_at address (port_word (port_at address) key.cycle board.vdp)
@@ -23,7 +23,7 @@ byte_in VideoPorts board key address = half_at address (port_word (port_at addre
 -- at the even address
 unfoldable pub word_in : Area → Board → Key → ℕ → ℕ
 word_in Z80Space board key address = space_byte (granted board.request board.store) board key.cycle (z80_address address) * 0x101
-word_in InputOutput board key address = register_read board (register_at address) * 0x101
+word_in InputOutput board key address = register_read board key.cycle (register_at address) * 0x101
 word_in BusRequest board key address = request_bit board * 0x100
 word_in Z80Reset board key address = 0
 word_in VideoPorts board key address = port_word (port_at address) key.cycle board.vdp
@@ -38,7 +38,7 @@ read_in area board key address = board
 -- the board after a byte is written, area by area: a register and a port take it, and the lines bit 0
 -- of that of an even address
 unfoldable pub byte_written_in : Area → Board → Key → ℕ → ℕ → Board
-byte_written_in InputOutput board key address value = register_written board (register_at address) (value % 0x100)
+byte_written_in InputOutput board key address value = register_written board key.cycle (register_at address) (value % 0x100)
 byte_written_in VideoPorts board key address value = video_byte_written (port_at address) board key address value
 byte_written_in Z80Space board key address value =
     space_written (granted board.request board.store) board key (z80_address address) value
@@ -48,7 +48,7 @@ byte_written_in Z80Reset board key address value = if address % 2 == 0 then rese
 -- the board after a word is written, area by area: a register takes its low byte, a port the word, the
 -- Z80's space its upper byte at the even address, and the lines bit 8
 unfoldable pub word_written_in : Area → Board → Key → ℕ → ℕ → Board
-word_written_in InputOutput board key address value = register_written board (register_at address) (value % 0x100)
+word_written_in InputOutput board key address value = register_written board key.cycle (register_at address) (value % 0x100)
 word_written_in VideoPorts board key address value = video_word_written (port_at address) board key value
 word_written_in Z80Space board key address value =
     space_written (granted board.request board.store) board key (z80_address address) (value / 0x100)

@@ -2,8 +2,8 @@
 use Rattle.std.specs.Prelude.{◌<◌, ◌≤◌, List, [], length, ℕ, Bool, true, false, Option, None, IfSome, All}
 use Rattle.fm_port.specs.Port as fm_ports
 use Rattle.fm_port.specs.declared.write.FmWrite.{FmWrite}
-use Rattle.md_pads.specs.Pad.{Latches}
-use Rattle.md_pads.specs.Recording.{Frame}
+use Rattle.md_pads.specs.Pad.{Port, cleared}
+use Rattle.md_pads.specs.Recording.{Frame, Recorded}
 use Rattle.psg_sound.specs.Port.{IsPort}
 use Rattle.psg_sound.specs.declared.write.PsgWrite.{PsgWrite}
 use Rattle.vdp_ports.specs.Vdp.{Vdp, at_power_on}
@@ -11,13 +11,13 @@ use Rattle.z80_parcel.specs.Parcels.{IsStore, Store}
 
 -- what the chips share, between two accesses
 pub record Board : Type 0 where
-  -- the frames of the recording
-  pub recording : List Frame
+  -- the recording of the pads
+  pub recording : Recorded
   -- the words of the pads: the buttons that are pressed now
   pub pads : Frame
-  -- the latches of the ports of pad 1 and pad 2
-  pub port1 : Latches
-  pub port2 : Latches
+  -- the ports of pad 1 and pad 2
+  pub port1 : Port
+  pub port2 : Port
   -- the writes that the PSG's port holds
   pub held : List PsgWrite
   -- the FM chip's port: its latches, its timers, and the writes that it holds
@@ -31,10 +31,11 @@ pub record Board : Type 0 where
   -- the VDP, whose fill or copy is settled where an access looks at it
   pub vdp : Vdp
 
--- the latches of a port are bytes
-pub record IsLatched (port : Latches) : Type 0 where
+-- the latches of a port are bytes, and at most four falls are counted
+pub record IsLatched (port : Port) : Type 0 where
   pub value : port.value < 0x100
   pub control : port.control < 0x100
+  pub count : port.count ≤ 4
 
 -- registers are bytes
 abbrev pub AreBytes : List ℕ → Type 0
@@ -54,13 +55,9 @@ pub record IsBoard (board : Board) : Type 0 where
   pub store : IfSome board.store IsStore
   pub registers : AreBytes board.vdp.registers
 
--- latches at power-on
-abbrev pub cleared : Latches
-cleared = record { value = 0; control = 0 }
-
 -- the board at power-on: no button is pressed, nothing was written, the reset is held of a Z80 that
 -- has its RAM, and all of the VDP is 0 but the region
-abbrev pub power_on : List Frame → Bool → Board
+abbrev pub power_on : Recorded → Bool → Board
 power_on recording pal = record {
   recording = recording;
   pads = (0, 0);

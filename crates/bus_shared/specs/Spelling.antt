@@ -1,13 +1,14 @@
 -- The bytes of a saved state that keep the board: the Z80's RAM and its bank register where the bus has
 -- them, the VDP, the FM chip's port, the writes that the PSG's port holds, and the lines and the pads.
 -- The recording has no part in them. This project's profile.
-use Rattle.std.specs.Prelude.{◌≡◌, ◌⊎◌, ℕ, ◌+◌, ◌-◌, ◌<◌, ◌≤◌, min, Bool, true, false, List, ◌++◌, length, map, take, drop, Option, IfSome}
+use Rattle.std.specs.Prelude.{◌≡◌, ◌≢◌, ◌⊎◌, ℕ, ◌+◌, ◌-◌, ◌<◌, ◌≤◌, min, Bool, true, false, List, ◌++◌, length, map, take, drop, Option, IfSome}
 use Rattle.std.specs.Int.{w16}
 use Rattle.fm_port.specs.PortSpelling as fm_spelling
 use Rattle.fm_port.specs.Timed.{AreTimed}
 use Rattle.md_fields.specs.Fields.{spelling}
 use Rattle.md_fields.specs.Items.{IsRefused, IsRight, Keeps}
 use Rattle.md_fields.specs.Places.{number_at}
+use Rattle.md_pads.specs.Pad.{Port}
 use Rattle.md_pads.specs.Recording.{IsFrame}
 use Rattle.md_word.specs.declared.unspell.Unspell.{Unspell}
 use Rattle.md_word.specs.declared.unspell.Unspell.TheVariants.{Rule, NoMemory}
@@ -34,8 +35,8 @@ store_size true = 8194
 
 -- how many bytes keep a board, by whether it has RAM and bank register
 abbrev pub board_size : Bool → ℕ
-board_size false = 88389
-board_size true = 96583
+board_size false = 88407
+board_size true = 96601
 
 -- the bytes that keep RAM and bank register, where the bus has them
 abbrev pub store_bytes : Option Store → List ℕ
@@ -62,8 +63,14 @@ pub record Spells (at : ℕ) (pal : Bool) (bytes : List ℕ) (board : Board) : T
   pub lines : Keeps (lines_fields at) (lines_bytes (lines_of board)) (lines_of board)
   pub right : IsRight (lines_fields at) (lines_of board)
 
+-- the falls of TH that a pad counted were before a cycle, where it counted some
+pub record IsCounted (at : ℕ) (port : Port) : Type 0 where
+  pub none : port.count ≡ 0 → port.fall ≡ 0
+  pub some : port.count ≢ 0 → port.fall < at
+
 -- a board may be kept at a cycle: the VDP, the timers and the writes that the ports of the sound chips hold
--- have their rules, no more resets were written than cycles went by, and a pad has eight buttons
+-- have their rules, no more resets were written than cycles went by, a pad has at most twelve buttons, and
+-- the falls of TH that it counted were before
 pub record IsReady (at : ℕ) (board : Board) : Type 0 where
   pub vdp : HasRules at board.vdp
   pub timers : AreTimed at board.fm.timers
@@ -71,6 +78,8 @@ pub record IsReady (at : ℕ) (board : Board) : Type 0 where
   pub held : are_kept at (map psg_spelling.key_of board.held) ≡ true
   pub resets : board.resets ≤ at
   pub pads : IsFrame board.pads
+  pub falls1 : IsCounted at board.port1
+  pub falls2 : IsCounted at board.port2
 
 -- ---- bytes that keep no board
 
@@ -84,7 +93,7 @@ pub record Parts : Type 0 where
 
 -- how many bytes are too much for the other parts
 abbrev pub store_length : List ℕ → ℕ
-store_length bytes = length bytes - 88389
+store_length bytes = length bytes - 88407
 
 -- bytes as the parts in their order
 abbrev pub cut : List ℕ → Parts
@@ -109,7 +118,7 @@ StoreGoesWrongAt bytes place = (0 < length bytes) × (512 ≤ number_at w16 8192
 
 -- bytes that keep no lines and pads are refused at this place
 abbrev pub LinesGoWrongAt : ℕ → List ℕ → ℕ → Type 0
-LinesGoWrongAt at bytes place = IsRefused 18 (lines_fields at) bytes place
+LinesGoWrongAt at bytes place = IsRefused 36 (lines_fields at) bytes place
 
 -- a part that begins at a place goes wrong, or it goes wrong nowhere and what stands behind it does
 abbrev pub GoesWrongFrom : ℕ → (ℕ → Type 0) → (ℕ → Type 0) → ℕ → Type 0
@@ -132,11 +141,11 @@ PartsGoWrongAt at pal start parts =
 
 -- as many bytes as there can be
 abbrev pub IsLength : List ℕ → Type 0
-IsLength bytes = (length bytes ≡ 88389) ⊎ (length bytes ≡ 96583)
+IsLength bytes = (length bytes ≡ 88407) ⊎ (length bytes ≡ 96601)
 
 -- bytes of a state at a cycle and of a region that keep no board are refused at this place: by their
 -- length, at the lesser one, or by the first part that goes wrong
 abbrev pub GoesWrongAt : ℕ → Bool → List ℕ → ℕ → Type 0
 GoesWrongAt at pal bytes place =
-    ((IsLength bytes → ⊥) × (place ≡ min (length bytes) 96583))
+    ((IsLength bytes → ⊥) × (place ≡ min (length bytes) 96601))
     ⊎ (IsLength bytes × PartsGoWrongAt at pal (store_length bytes) (cut bytes) place)

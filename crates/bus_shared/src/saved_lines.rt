@@ -2,18 +2,16 @@ ghost use Rattle.std.specs.Prelude.{◌≡◌, ℕ, length, map, IfErr, IfOk};
 ghost use Rattle.md_fields.specs.Fields.{AreSized, seen};
 ghost use Rattle.md_fields.specs.Items.{IsRight, Keeps};
 ghost use Rattle.md_fields.specs.Places.{Stand};
-ghost use Rattle.bus_shared.specs.Board.{IsLatched};
-ghost use Rattle.bus_shared.specs.Saved.{lines_fields};
+ghost use Rattle.bus_shared.specs.Saved.{is_fall, lines_fields};
 ghost use Rattle.bus_shared.specs.Spelling.{LinesGoWrongAt};
 
 use md_fields::{Field, first_wrong, u8_at, u16_at, u64_at};
-use md_pads::PadPort;
 
 /// How many bytes of a saved state keep the lines and the pads.
-pub const LINES: usize = 18;
+pub const LINES: usize = 36;
 
-/// One more than the greatest word of a pad with three buttons.
-const WORDS: u16 = 0x100;
+/// One more than the greatest word of a pad, which has at most twelve buttons.
+const WORDS: u16 = 0x1000;
 
 /// The numbers that a saved state keeps of the lines between the chips and of the pads, whatever they
 /// are, in their order.
@@ -33,13 +31,18 @@ pub struct SavedLines {
     /// The words of the pads: which buttons are pressed.
     pub pads1: u16,
     pub pads2: u16,
+    /// How many falls of TH each pad counted, and the master cycle of the last.
+    pub count1: u8,
+    pub fall1: u64,
+    pub count2: u8,
+    pub fall2: u64,
 }
 
 impl SavedLines {
     /// The numbers that stand in the bytes.
     #[tactic(auto, unfolding(md_fields::specs::Places::Stand))]
     fn read(bytes: &[u8]) -> SavedLines
-        requires { length bytes.now ≡ 18 }
+        requires { length bytes.now ≡ 36 }
         ensures { (at : ℕ) → Stand 0 (lines_fields at result) bytes.now }
     {
         SavedLines {
@@ -52,12 +55,16 @@ impl SavedLines {
             control2: u8_at(bytes, 13),
             pads1: u16_at(bytes, 14),
             pads2: u16_at(bytes, 16),
+            count1: u8_at(bytes, 18),
+            fall1: u64_at(bytes, 19),
+            count2: u8_at(bytes, 27),
+            fall2: u64_at(bytes, 28),
         }
     }
 
     /// The fields in their order, and whether their rules hold.
     #[tactic(auto, unfolding(md_fields::specs::Fields::AreSized))]
-    pub fn fields(&self, at: u64) -> [Field<'_>; 9]
+    pub fn fields(&self, at: u64) -> [Field<'_>; 13]
         ensures fields { map seen result ≡ lines_fields at self.now }
         ensures sizes { AreSized (map seen result) }
     {
@@ -71,6 +78,10 @@ impl SavedLines {
             Field::Byte(self.control2, true),
             Field::Word(self.pads1, self.pads1 < WORDS),
             Field::Word(self.pads2, self.pads2 < WORDS),
+            Field::Byte(self.count1, self.count1 <= 4),
+            Field::Quad(self.fall1, is_fall(at, self.count1, self.fall1)),
+            Field::Byte(self.count2, self.count2 <= 4),
+            Field::Quad(self.fall2, is_fall(at, self.count2, self.fall2)),
         ]
     }
 
@@ -90,13 +101,9 @@ impl SavedLines {
     }
 }
 
-/// A port with these latches.
-pub fn port_with(value: u8, control: u8) -> PadPort
-    ensures value { result ≡ record { value = value; control = control } }
-    ensures latched { IsLatched result }
+/// Whether the last fall of so many was before a cycle, or is 0 where there is none.
+fn is_fall(at: u64, count: u8, fall: u64) -> bool
+    ensures { result ≡ is_fall at count fall }
 {
-    let mut port = PadPort::power_on();
-    port.write_value(value);
-    port.write_control(control);
-    port
+    if count == 0 { fall == 0 } else { fall < at }
 }

@@ -130,13 +130,13 @@ impl Shared {
     }
 
     #[tactic(auto, unfolding(crate::specs::Registers::register_read))]
-    fn read_register(&self, register: Register) -> u8
-        ensures { result ≡ registers.register_read self.now register }
+    fn read_register(&self, cycle: u64, register: Register) -> u8
+        ensures { result ≡ registers.register_read self.now cycle register }
     {
         match register {
             Register::Version => { if self.vdp.pal { PAL_VERSION } else { VERSION } }
-            Register::Data1 => self.port1.read(self.pads.0),
-            Register::Data2 => self.port2.read(self.pads.1),
+            Register::Data1 => self.port1.read(cycle, self.recording.six(1), self.pads.0),
+            Register::Data2 => self.port2.read(cycle, self.recording.six(2), self.pads.1),
             Register::DataExpansion => NO_EXPANSION,
             Register::Control1 => self.port1.control(),
             Register::Control2 => self.port2.control(),
@@ -145,14 +145,15 @@ impl Shared {
     }
 
     #[tactic(auto, unfolding(crate::specs::Registers::register_written))]
-    fn write_register(&mut self, register: Register, value: u8)
-        ensures { self.new ≡ registers.register_written self.old register value }
+    fn write_register(&mut self, cycle: u64, register: Register, value: u8)
+        requires { cycle ≤ 2 ^ 50 }
+        ensures { self.new ≡ registers.register_written self.old cycle register value }
     {
         match register {
-            Register::Data1 => self.port1.write_value(value),
-            Register::Data2 => self.port2.write_value(value),
-            Register::Control1 => self.port1.write_control(value),
-            Register::Control2 => self.port2.write_control(value),
+            Register::Data1 => self.port1.write_value(cycle, value),
+            Register::Data2 => self.port2.write_value(cycle, value),
+            Register::Control1 => self.port1.write_control(cycle, value),
+            Register::Control2 => self.port2.write_control(cycle, value),
             Register::Version | Register::DataExpansion | Register::Unused => {}
         }
     }
@@ -214,7 +215,7 @@ impl Shared {
     {
         match Area::of(address) {
             Some(Area::Z80Space) => self.read_space(key.cycle, (address % 0x1_0000) as u16),
-            Some(Area::InputOutput) => self.read_register(Register::at(address)),
+            Some(Area::InputOutput) => self.read_register(key.cycle, Register::at(address)),
             Some(Area::BusRequest) if address % 2 == 0 => self.request_bit(),
             Some(Area::BusRequest | Area::Z80Reset) => 0,
             Some(Area::VideoPorts) => half_at(address, self.read_video(key, address)),
@@ -233,7 +234,7 @@ impl Shared {
                 u16::from(self.read_space(key.cycle, (address % 0x1_0000) as u16)) * 0x101
             }
             Some(Area::InputOutput) => {
-                u16::from(self.read_register(Register::at(address))) * 0x101
+                u16::from(self.read_register(key.cycle, Register::at(address))) * 0x101
             }
             Some(Area::BusRequest) => u16::from(self.request_bit()) * 0x100,
             Some(Area::Z80Reset) => 0,
@@ -353,7 +354,7 @@ impl Shared {
     {
         match Area::of(address) {
             Some(Area::Z80Space) => self.write_space(key, (address % 0x1_0000) as u16, value),
-            Some(Area::InputOutput) => self.write_register(Register::at(address), value),
+            Some(Area::InputOutput) => self.write_register(key.cycle, Register::at(address), value),
             Some(Area::BusRequest) if address % 2 == 0 => self.write_request(value % 2),
             Some(Area::Z80Reset) if address % 2 == 0 => self.write_reset(key, value % 2),
             Some(Area::VideoPorts) => return self.write_video_byte(key, address, value),
@@ -373,7 +374,7 @@ impl Shared {
         let low = (value % 0x100) as u8;
         match Area::of(address) {
             Some(Area::Z80Space) => self.write_space(key, (address % 0x1_0000) as u16, high),
-            Some(Area::InputOutput) => self.write_register(Register::at(address), low),
+            Some(Area::InputOutput) => self.write_register(key.cycle, Register::at(address), low),
             Some(Area::BusRequest) => self.write_request(high % 2),
             Some(Area::Z80Reset) => self.write_reset(key, high % 2),
             Some(Area::VideoPorts) => return self.write_video_word(key, address, value),

@@ -5,15 +5,15 @@ ghost use Rattle.md_fields.specs.Items.{IsRight, Keeps};
 ghost use Rattle.psg_sound.specs.PortSpelling as psg_spelling;
 ghost use Rattle.z80_parcel.specs.Parcels.{IsStore, store_of};
 ghost use Rattle.bus_shared.specs.Board.{AreBytes, Board};
-ghost use Rattle.bus_shared.specs.Saved.{board_from, lines_fields, lines_of};
+ghost use Rattle.bus_shared.specs.Saved.{AreFalls, board_from, lines_fields, lines_of};
 ghost use Rattle.std.specs.Arc.{arc_value};
 ghost use Rattle.bus_shared.specs.Spelling.{GoesWrongAt, IsReady, PortsGoWrongAt, Spells, StoreGoesWrongAt, behind as place_behind, board_bytes, board_size, lines_bytes, settled_board, store_bytes};
 
-use crate::saved_lines::{SavedLines, port_with};
+use crate::saved_lines::SavedLines;
 use crate::shared::Shared;
 use fm_port::FmPort;
-use md_fields::{Field, put, u16_at};
-use md_pads::Recording;
+use md_fields::{put, u16_at};
+use md_pads::{PadPort, Recording};
 use md_word::{NoMemory, Parcel, Unspell};
 use psg_sound::PsgPort;
 use std::alloc::Global;
@@ -23,9 +23,9 @@ use vdp_ports::VdpState;
 use z80_parcel::{BANKS, parcel_of, put_store};
 
 /// How many bytes of a saved state keep a board without the Z80's RAM, and with it.
-const SHORT: usize = 88_389;
+const SHORT: usize = 88_407;
 
-const LONG: usize = 96_583;
+const LONG: usize = 96_601;
 
 /// Where the bank register stands behind the RAM.
 const BANK: usize = 8_192;
@@ -54,7 +54,7 @@ impl Shared {
     }
 
     /// Appends the bytes of a saved state at a cycle that keep this board, as it is once fill, copy and
-    /// timers are settled to the cycle: 88,389, and 8,194 more in front where the board has the Z80's
+    /// timers are settled to the cycle: 88,407, and 8,194 more in front where the board has the Z80's
     /// RAM. There is room for them. They are read again where the rules of the parts hold. The board stays
     /// as it is.
     pub fn spell(&self, at: u64, into: &mut Vec<u8>)
@@ -69,7 +69,7 @@ impl Shared {
         spell(&self.vdp, at, into);
         self.fm.spell(at, into);
         self.psg.spell(at, into);
-        self.put_lines(at, into);
+        put(&self.saved_lines().fields(at), into);
     }
 
     /// Tells that the bytes of this board, settled to a cycle of at most 2^50, are read again where the rules
@@ -84,36 +84,30 @@ impl Shared {
         let _ = &self.parcel;
     }
 
-    /// Appends the bytes that keep the lines and the pads.
-    #[tactic(auto, unfolding(md_fields::specs::Fields::spelling))]
-    fn put_lines(&self, at: u64, into: &mut Vec<u8>)
-        requires { vec_len into.old + 18 ≤ vec_capacity into.old }
-        ensures bytes { into.new.items ≡ into.old.items ++ lines_bytes (lines_of self.now) }
-        ensures length { vec_len into.new ≡ vec_len into.old + 18 }
-        ensures room { vec_capacity into.old ≤ vec_capacity into.new }
+    /// The lines and the pads, as they are kept.
+    fn saved_lines(&self) -> SavedLines
+        ensures { result ≡ lines_of self.now }
     {
-        put(
-            &[
-                Field::Byte(flag_byte(self.request), true),
-                Field::Byte(flag_byte(self.reset), true),
-                Field::Quad(self.resets, true),
-            ],
-            into,
-        );
-        self.port1.spell(at, into);
-        self.port2.spell(at, into);
-        put(
-            &[
-                Field::Word(self.pads.0, true),
-                Field::Word(self.pads.1, true),
-            ],
-            into,
-        );
+        SavedLines {
+            bus_request: flag_byte(self.request),
+            reset: flag_byte(self.reset),
+            resets: self.resets,
+            value1: self.port1.value(),
+            control1: self.port1.control(),
+            value2: self.port2.value(),
+            control2: self.port2.control(),
+            pads1: self.pads.0,
+            pads2: self.pads.1,
+            count1: self.port1.count(),
+            fall1: self.port1.fall(),
+            count2: self.port2.count(),
+            fall2: self.port2.fall(),
+        }
     }
 
     /// The board that the bytes of a saved state at a cycle, of at most 2^50, and of a region keep, over a
     /// recording.
-    /// Bytes that are neither 88,389 nor 96,583 are refused at the lesser of their number and 96,583,
+    /// Bytes that are neither 88,407 nor 96,601 are refused at the lesser of their number and 96,601,
     /// others at the place of the first field whose rule fails. Memories are copied.
     pub fn unspell(
         alloc: Global,
@@ -189,15 +183,16 @@ fn board_of(
     psg: PsgPort,
     lines: SavedLines,
 ) -> Result<Shared, NoMemory>
-    requires { IfSome (option_map store_of parcel) IsStore }
+    requires store { IfSome (option_map store_of parcel) IsStore }
+    requires falls { AreFalls lines }
     ensures { IfOk result (λ shared. shared ≡ board_from (arc_value recording) (option_map store_of parcel) vdp fm psg lines) }
 {
     are_bytes(&vdp.registers);
     Ok(Shared {
         recording,
         pads: (lines.pads1, lines.pads2),
-        port1: port_with(lines.value1, lines.control1),
-        port2: port_with(lines.value2, lines.control2),
+        port1: PadPort::with(lines.value1, lines.control1, lines.count1, lines.fall1),
+        port2: PadPort::with(lines.value2, lines.control2, lines.count2, lines.fall2),
         psg: Box::new(alloc, psg)?,
         fm: Box::new(alloc, fm)?,
         request: lines.bus_request == 1,
@@ -260,10 +255,10 @@ fn held_in(alloc: Global, store: &[u8]) -> Result<Parcel, Unspell>
     Ok(parcel_of(alloc, ram, bank)?)
 }
 
-/// The ports, and the lines and the pads, that 22,576 bytes keep.
+/// The ports, and the lines and the pads, that 22,594 bytes keep.
 fn ports_in(alloc: Global, bytes: &[u8], at: u64) -> Result<Ports, Unspell>
     requires cycle { at ≤ 2 ^ 50 }
-    requires length { length bytes.now ≡ 22576 }
+    requires length { length bytes.now ≡ 22594 }
     ensures fm { IfOk result (λ ports. fm_spelling.SpellsPort at (take 12316 bytes.now) ports.fm) }
     ensures psg { IfOk result (λ ports. psg_spelling.SpellsPort at (take 10242 (drop 12316 bytes.now)) ports.psg) }
     ensures lines { IfOk result (λ ports. Keeps (lines_fields at) (drop 10242 (drop 12316 bytes.now)) ports.lines × IsRight (lines_fields at) ports.lines) }

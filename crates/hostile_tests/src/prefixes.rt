@@ -10,9 +10,12 @@ use std::thread::Threads;
 /// A recording of two frames: Start on pad 1, then Up and A on pad 1 and B on pad 2.
 const RECORDING: &[u8; 20] = b"MDREC001\0\0\0\x02\0\x80\0\0\0\x41\0\x10";
 
+/// The same of six-button pads, X and Mode on pad 2 in its second frame too.
+const SIX_BUTTONS: &[u8; 22] = b"MDREC002\0\x03\0\0\0\x02\0\x80\0\0\0\x41\x0c\x10";
+
 /// The lengths of prefixes of a state: at the ends of the mark, of the digest and cycle, of the region, and of
 /// the whole.
-const LENGTHS: [usize; 8] = [0, 1, 7, 8, 47, 48, 49, 393_601];
+const LENGTHS: [usize; 8] = [0, 1, 7, 8, 47, 48, 49, 393_619];
 
 /// A cartridge as `Z`, and the front part of so many bytes as `P`.
 fn cut(alloc: Global, image: &[u8], bytes: &[u8], length: usize) -> Result<Files, AllocError> {
@@ -46,15 +49,17 @@ fn first_other<R: Threads + Wait + Sync>(
 
 #[test]
 fn every_prefix_of_a_recording_is_refused_at_its_length(rt: HostRuntime) -> Result<(), Fail> {
-    let mut lengths = Vec::new(rt.alloc());
-    for length in 0..RECORDING.len() {
-        lengths.push(length)?;
-    }
     let row = ("run Z --cycles 5 --in P --sound W", 6, "recording");
-    assert_eq!(rt;
-        first_other(&rt, rt.alloc(), RECORDING, &lengths, row)?,
-        None
-    );
+    for recording in [RECORDING.as_slice(), SIX_BUTTONS] {
+        let mut lengths = Vec::new(rt.alloc());
+        for length in 0..recording.len() {
+            lengths.push(length)?;
+        }
+        assert_eq!(rt;
+            first_other(&rt, rt.alloc(), recording, &lengths, row)?,
+            None
+        );
+    }
     Ok(())
 }
 

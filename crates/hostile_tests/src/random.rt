@@ -44,7 +44,7 @@ fn runs<R: Threads + Wait + Sync>(
             && outside.file("F").len() == 215_055
             && outside.file("W").len() == 3_564
             && outside.file("J").len() >= 16 * 372
-            && outside.file("S").len() == 393_602,
+            && outside.file("S").len() == 393_620,
     )
 }
 

@@ -81,7 +81,7 @@ fn is_rest(whole: &Outside, parts: &Outside) -> bool {
         && is_joined(whole, parts, ("F", "A", "G"), 0)
         && is_joined(whole, parts, ("W", "B", "X"), 44)
         && is_joined(whole, parts, ("J", "C", "K"), 0)
-        && whole.file("S").len() == 393_602
+        && whole.file("S").len() == 393_620
         && whole.file("S") == parts.file("T")
 }
 

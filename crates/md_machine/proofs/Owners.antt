@@ -1,7 +1,7 @@
 -- The Z80's RAM and bank register have one owner at every moment of a run.
 use Rattle.std.proofs.Common.{◌≡◌, ℕ, zero, suc, ◌/◌, ◌%◌, ◌==◌, ◌<◌, cond, Bool, true, false, not, if◌then◌else◌, List, Option, Some, None, Result, Ok, Err, refl, sym, ap, ◌∙◌, subst, arith, lit<}
 use Rattle.std.specs.Prelude.{is_some, option_map}
-use Rattle.md_pads.specs.Recording.{Frame}
+use Rattle.md_pads.specs.Recording.{Recorded}
 use Rattle.md_word.specs.Region.{finished_at, frame_cycles}
 use Rattle.md_word.specs.Map.{area_of}
 use Rattle.md_word.specs.declared.area.Area.{Area}
@@ -60,15 +60,15 @@ has-same : (b : Bool) (one other : Board) (x : Bool) → is_some one.store ≡ x
 has-same true one other x first second = first
 has-same false one other x first second = second
 
-register-has : (board : Board) (register : Register) (value : ℕ) → is_some (register_written board register value).store ≡ is_some board.store
+register-has : (board : Board) (cycle : ℕ) (register : Register) (value : ℕ) → is_some (register_written board cycle register value).store ≡ is_some board.store
 unfolding register_written
-register-has board Version value = refl
-register-has board Data1 value = refl
-register-has board Data2 value = refl
-register-has board DataExpansion value = refl
-register-has board Control1 value = refl
-register-has board Control2 value = refl
-register-has board Unused value = refl
+register-has board cycle Version value = refl
+register-has board cycle Data1 value = refl
+register-has board cycle Data2 value = refl
+register-has board cycle DataExpansion value = refl
+register-has board cycle Control1 value = refl
+register-has board cycle Control2 value = refl
+register-has board cycle Unused value = refl
 
 written-has : (b c : Bool) (board : Board) (key : Key) (at value : ℕ) (store : Store) → true ≡ is_some board.store
     → is_some (if b then with_psg board key value else (if c then with_fm board key at value else record board { store = Some store })).store ≡ is_some board.store
@@ -120,7 +120,7 @@ byte-has : (area : Option Area) (board : Board) (key : Key) (address value : ℕ
 unfolding byte_written_in
 byte-has None board key address value = refl
 byte-has (Some Z80Space) board key address value = space-has board.request board.store board key (z80_address address) value refl
-byte-has (Some InputOutput) board key address value = register-has board (register_at address) (value % 0x100)
+byte-has (Some InputOutput) board key address value = register-has board key.cycle (register_at address) (value % 0x100)
 byte-has (Some BusRequest) board key address value = has-same (address % 2 == 0) _ board (is_some board.store) refl refl
 byte-has (Some Z80Reset) board key address value = has-same (address % 2 == 0) _ board (is_some board.store) (reset-has (value % 2 == 0) board key) refl
 byte-has (Some VideoPorts) board key address value = video-byte-has (port_at address) board key address value
@@ -129,7 +129,7 @@ word-has : (area : Option Area) (board : Board) (key : Key) (address value : ℕ
 unfolding word_written_in
 word-has None board key address value = refl
 word-has (Some Z80Space) board key address value = space-has board.request board.store board key (z80_address address) (value / 0x100) refl
-word-has (Some InputOutput) board key address value = register-has board (register_at address) (value % 0x100)
+word-has (Some InputOutput) board key address value = register-has board key.cycle (register_at address) (value % 0x100)
 word-has (Some BusRequest) board key address value = refl
 word-has (Some Z80Reset) board key address value = reset-has (value / 0x100 % 2 == 0) board key
 word-has (Some VideoPorts) board key address value = video-word-has (port_at address) board key value
@@ -376,7 +376,7 @@ owns-ran m (suc n) valid movers first =
     move-owns (ran (console m) n) ok (owns-ran m n valid' movers first) (mover (ran (console m) n)) (mover-lt (ran (console m) n))
 
 -- at power-on the Z80 has them
-pub one-owner : (m : Machine Chip Board) (cart : List ℕ) (recording : List Frame) (pal : Bool) (n : ℕ) → console m ≡ power_on cart recording pal → ValidTo m n → Movers
+pub one-owner : (m : Machine Chip Board) (cart : List ℕ) (recording : Recorded) (pal : Bool) (n : ℕ) → console m ≡ power_on cart recording pal → ValidTo m n → Movers
     → HasOneOwner (ran (power_on cart recording pal) n)
 unfolding states80.power_on
 one-owner m cart recording pal n is valid movers =

@@ -3,7 +3,7 @@ use Rattle.std.proofs.Common.{◌≡◌, ℕ, zero, suc, ◌+◌, ◌-◌, ◌*�
 use Rattle.std.specs.Prelude.{nat_le}
 use Rattle.std.proofs.lemmas.Bool.{cases_lt}
 use Rattle.std.proofs.lemmas.Bool.Decides.{nat_tests}
-use Rattle.md_pads.specs.Recording.{Frame, pads_of}
+use Rattle.md_pads.specs.Recording.{Frame, pads_of, Recorded}
 use Rattle.md_word.specs.Clock.{line}
 use Rattle.md_word.specs.Region.{finished_at, frame_cycles, lines, rows}
 use Rattle.md_word.proofs.Regions.{at_pads, beside_pads, finished-rows}
@@ -28,7 +28,7 @@ record Leaves (old new : Console) : Type 0 where
   pads_are : new.shared.pads ≡ old.shared.pads
   region_is : new.shared.vdp.pal ≡ old.shared.vdp.pal
 
-left : (pal : Bool) (recording : List Frame) (old new : Console) → Leaves old new → ShowsPads pal recording old → ShowsPads pal recording new
+left : (pal : Bool) (recording : Recorded) (old new : Console) → Leaves old new → ShowsPads pal recording old → ShowsPads pal recording new
 left pal recording old new same shows = record {
   region = same.region_is ∙ shows.region;
   recording_is = same.recording_is ∙ shows.recording_is;
@@ -78,10 +78,10 @@ low n limit h = grind (arith, nat_tests)
 high : (n limit : ℕ) → limit < n → nat_le n limit ≡ false
 high n limit h = grind (arith, nat_tests)
 
-shown_low : (pal : Bool) (recording : List Frame) (n : ℕ) → n ≤ rows pal → pads_shown pal recording n ≡ (0, 0)
+shown_low : (pal : Bool) (recording : Recorded) (n : ℕ) → n ≤ rows pal → pads_shown pal recording n ≡ (0, 0)
 shown_low pal recording n h = rw (low n (rows pal) h) refl
 
-shown_high : (pal : Bool) (recording : List Frame) (n f : ℕ) → rows pal < n → (n - (rows pal + 1)) / lines pal ≡ f → pads_shown pal recording n ≡ pads_of recording f
+shown_high : (pal : Bool) (recording : Recorded) (n f : ℕ) → rows pal < n → (n - (rows pal + 1)) / lines pal ≡ f → pads_shown pal recording n ≡ pads_of recording f
 shown_high pal recording n f h e = rw (high n (rows pal) h) (ap (pads_of recording) e)
 
 -- the line behind the picture is as many lines on as the picture has rows
@@ -92,7 +92,7 @@ some-behind : (pal : Bool) (k : ℕ) → line * k % frame_cycles pal ≡ finishe
 some-behind true k e = omega (arith, e)
 some-behind false k e = omega (arith, e)
 
-at_its_pads : (pal : Bool) (recording : List Frame) (k : ℕ) → line * k % frame_cycles pal ≡ finished_at pal → pads_of recording (line * k / frame_cycles pal) ≡ pads_shown pal recording (k + 1)
+at_its_pads : (pal : Bool) (recording : Recorded) (k : ℕ) → line * k % frame_cycles pal ≡ finished_at pal → pads_of recording (line * k / frame_cycles pal) ≡ pads_shown pal recording (k + 1)
 at_its_pads pal recording k e =
     sym (shown_high pal recording (k + 1) (line * k / frame_cycles pal) (some-behind pal k e) (sym (at_pads pal k (behind-rows pal k e))))
 
@@ -104,7 +104,7 @@ past-rows : (pal : Bool) (k : ℕ) → rows pal ≤ k → ¬ (line * k % frame_c
 past-rows true k late e = omega (arith, late, e)
 past-rows false k late e = omega (arith, late, e)
 
-beside_its_pads : (pal : Bool) (recording : List Frame) (k : ℕ) → ¬ (line * k % frame_cycles pal ≡ finished_at pal) → pads_shown pal recording k ≡ pads_shown pal recording (k + 1)
+beside_its_pads : (pal : Bool) (recording : Recorded) (k : ℕ) → ¬ (line * k % frame_cycles pal ≡ finished_at pal) → pads_shown pal recording k ≡ pads_shown pal recording (k + 1)
 beside_its_pads pal recording k e = elim (early_or_late pal k) [
   | inl early ↦ shown_low pal recording k (omega (arith, early)) ∙ sym (shown_low pal recording (k + 1) early)
   | inr late ↦ (let past : rows pal + 1 ≤ k = past-rows pal k late e in
@@ -112,7 +112,7 @@ beside_its_pads pal recording k e = elim (early_or_late pal k) [
       ∙ sym (shown_high pal recording (k + 1) ((k - (rows pal + 1)) / lines pal) (omega (arith, past)) (sym (beside_pads pal k past (λ f. e (f ∙ sym (finished-rows pal)))))))
 ]
 
-step_by : (b pal : Bool) (recording : List Frame) (k : ℕ) → (line * k % frame_cycles pal == finished_at pal) ≡ b
+step_by : (b pal : Bool) (recording : Recorded) (k : ℕ) → (line * k % frame_cycles pal == finished_at pal) ≡ b
     → (if b then pads_of recording (line * k / frame_cycles pal) else pads_shown pal recording k) ≡ pads_shown pal recording (k + 1)
 step_by true pal recording k e = at_its_pads pal recording k (is_true _ _ e)
 step_by false pal recording k e = beside_its_pads pal recording k (is_false _ _ e)
@@ -130,7 +130,7 @@ recording-of true board pads = refl
 recording-of false board pads = refl
 
 -- the line's own move
-line_shows : (pal : Bool) (recording : List Frame) (z : Console) → ShowsPads pal recording z → ShowsPads pal recording (line_moved z)
+line_shows : (pal : Bool) (recording : Recorded) (z : Console) → ShowsPads pal recording z → ShowsPads pal recording (line_moved z)
 unfolding line_moved line_board pads_board
 line_shows pal recording z shows =
     let k : ℕ = lines_begun z in
@@ -145,7 +145,7 @@ line_shows pal recording z shows =
       lines = omega (arith, shows.lines);
       pads =
           pads-of test started words
-          ∙ ap (λ (r : List Frame). if test then pads_of r (z.line / frame_cycles started.vdp.pal) else z.shared.pads) shows.recording_is
+          ∙ ap (λ (r : Recorded). if test then pads_of r (z.line / frame_cycles started.vdp.pal) else z.shared.pads) shows.recording_is
           ∙ ap (λ (p : Frame). if test then pads_of recording (z.line / frame_cycles started.vdp.pal) else p) shows.pads
           ∙ ap (λ (q : Bool). if z.line % frame_cycles q == finished_at q then pads_of recording (z.line / frame_cycles q) else pads_shown pal recording k) region
           ∙ ap (λ (n : ℕ). if n % frame_cycles pal == finished_at pal then pads_of recording (n / frame_cycles pal) else pads_shown pal recording k) shows.lines
@@ -153,7 +153,7 @@ line_shows pal recording z shows =
           ∙ ap (pads_shown pal recording) (sym next);
     }
 
-moved_shows : (pal : Bool) (recording : List Frame) (z : Console) → ShowsPads pal recording z → (i : ℕ) → i < 5 → ShowsPads pal recording (moved z i)
+moved_shows : (pal : Bool) (recording : Recorded) (z : Console) → ShowsPads pal recording z → (i : ℕ) → i < 5 → ShowsPads pal recording (moved z i)
 unfolding moved
 moved_shows pal recording z shows =
     five-each (λ i. ShowsPads pal recording (moved z i))
@@ -163,7 +163,7 @@ moved_shows pal recording z shows =
     (left pal recording z (fm_moved z) (fm_leaves_pads z) shows)
     (left pal recording z (psg_moved z) (psg_leaves_pads z) shows)
 
-pub pads-recorded : (cart : List ℕ) (recording : List Frame) (pal : Bool) (n : ℕ) → ShowsPads pal recording (ran (power_on cart recording pal) n)
+pub pads-recorded : (cart : List ℕ) (recording : Recorded) (pal : Bool) (n : ℕ) → ShowsPads pal recording (ran (power_on cart recording pal) n)
 unfolding ran
 pads-recorded cart recording pal zero = record { region = refl; recording_is = refl; lines = refl; pads = sym (shown_low pal recording 0 (omega arith)) }
 pads-recorded cart recording pal (suc n) =

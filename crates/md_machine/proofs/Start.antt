@@ -19,7 +19,7 @@ use Rattle.md_machine.specs.Machines.{IsMachine, core_in, machine_at}
 use Rattle.bus_shared.specs.Board.{Board, IsBoard}
 use Rattle.bus_shared.proofs.Keeps as keeps
 use Rattle.bus_shared.specs.Board as boards
-use Rattle.md_pads.specs.Recording.{Frame}
+use Rattle.md_pads.specs.Recording.{Recorded}
 use Rattle.psg_sound.specs.SynthLaws.{IsSynth-at_power_on}
 use Rattle.md_machine.specs.Refinement.{console}
 use Rattle.md_machine.specs.Regions.{IsOneRegion, most_entries}
@@ -29,7 +29,7 @@ use Rattle.md_machine.specs.declared.chips.Chip.{Chip}
 use Rattle.chip_core.specs.Machines as machines
 use Rattle.md_machine.proofs.Moves.{five-each}
 
-pub first-core : (cart : List ℕ) (recording : List Frame) (pal : Bool) (room : ℕ) → IsImage cart → IsCore five IsChip IsBoard (core_in (boards.power_on recording pal) (first_chips cart pal) first_bounds [] room)
+pub first-core : (cart : List ℕ) (recording : Recorded) (pal : Bool) (room : ℕ) → IsImage cart → IsCore five IsChip IsBoard (core_in (boards.power_on recording pal) (first_chips cart pal) first_bounds [] room)
 unfolding next_of states.power_on sub_next_of states80.power_on
 first-core cart recording pal room image = record {
   shape = record {
@@ -46,16 +46,16 @@ first-core cart recording pal room image = record {
       (record { synth = IsSynth-at_power_on; taken = lit≤ tt; samples = lit≤ tt });
 }
 
-pub first-console : (cart : List ℕ) (recording : List Frame) (pal : Bool) (room : ℕ) → console (machine_of five (core_in (boards.power_on recording pal) (first_chips cart pal) first_bounds [] room)) ≡ power_on cart recording pal
+pub first-console : (cart : List ℕ) (recording : Recorded) (pal : Bool) (room : ℕ) → console (machine_of five (core_in (boards.power_on recording pal) (first_chips cart pal) first_bounds [] room)) ≡ power_on cart recording pal
 unfolding console
 first-console cart recording pal room = refl
 
 -- no event of the first core stands below cycle 0
-pub first-quiet : (cart : List ℕ) (recording : List Frame) (pal : Bool) (room : ℕ) → machines.IsQuiet five (machine_of five (core_in (boards.power_on recording pal) (first_chips cart pal) first_bounds [] room)) 0
+pub first-quiet : (cart : List ℕ) (recording : Recorded) (pal : Bool) (room : ℕ) → machines.IsQuiet five (machine_of five (core_in (boards.power_on recording pal) (first_chips cart pal) first_bounds [] room)) 0
 first-quiet cart recording pal room i below = omega arith
 
 -- the machine of these parts
-pub first-machine : (cart : List ℕ) (recording : List Frame) (pal : Bool) (board : Board) (chips : List Chip) (bounds : List Key) (entries : List Entry) (room : ℕ)
+pub first-machine : (cart : List ℕ) (recording : Recorded) (pal : Bool) (board : Board) (chips : List Chip) (bounds : List Key) (entries : List Entry) (room : ℕ)
     → board ≡ boards.power_on recording pal → chips ≡ first_chips cart pal → bounds ≡ first_bounds → entries ≡ [] → most_entries pal ≤ room → IsImage cart
     → IsMachine 0 (Some (core_in board chips bounds entries room))
 first-machine cart recording pal board chips bounds entries room b c k e ample image =
@@ -71,7 +71,7 @@ first-machine cart recording pal board chips bounds entries room b c k e ample i
       quiet = first-quiet cart recording pal room;
     }))))
 
-pub first-value : (cart : List ℕ) (recording : List Frame) (pal : Bool) (board : Board) (chips : List Chip) (bounds : List Key) (entries : List Entry) (room : ℕ)
+pub first-value : (cart : List ℕ) (recording : Recorded) (pal : Bool) (board : Board) (chips : List Chip) (bounds : List Key) (entries : List Entry) (room : ℕ)
     → board ≡ boards.power_on recording pal → chips ≡ first_chips cart pal → bounds ≡ first_bounds → entries ≡ []
     → machine_at 0 (core_in board chips bounds entries room) ≡ record { at = 0; console = power_on cart recording pal; entries = []; media = no_media }
 first-value cart recording pal board chips bounds entries room b c k e =

@@ -5,7 +5,7 @@ use Rattle.chip_core.specs.Machines as machines
 use Rattle.m68k_chip.proofs.Laws as laws68
 use Rattle.m68k_chip.specs.Validity.{IsChip68}
 use Rattle.m68k_chip.specs.States.{next_of}
-use Rattle.md_pads.specs.Recording.{Frame}
+use Rattle.md_pads.specs.Recording.{Recorded}
 use Rattle.psg_sound.specs.Synth.{IsSynth}
 use Rattle.psg_sound.specs.SynthLaws.{IsSynth-at_power_on}
 use Rattle.rom_header.specs.Cartridge.{IsImage}
@@ -91,7 +91,7 @@ parts_in m valid =
 
 -- ---- at power-on, and over a run
 
-pub parts_begun : (cart : List ℕ) (recording : List Frame) (pal : Bool) → IsImage cart → HasValidParts (consoles.power_on cart recording pal)
+pub parts_begun : (cart : List ℕ) (recording : Recorded) (pal : Bool) → IsImage cart → HasValidParts (consoles.power_on cart recording pal)
 parts_begun cart recording pal image = record {
   main = laws68.power_on-ok cart image;
   sub = laws80.power_on-ok cart image;

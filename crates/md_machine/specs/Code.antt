@@ -23,8 +23,10 @@ use Rattle.psg_sound.specs.declared.tone.Tone.{Tone}
 use Rattle.psg_sound.specs.declared.write.PsgWrite.{PsgWrite}
 use Rattle.chip_core.specs.Codes.{key_way}
 use Rattle.bus_shared.specs.Board.{Board}
-use Rattle.md_pads.specs.Pad.{Latches}
-use Rattle.md_pads.specs.Recording.{Frame}
+use Rattle.md_pads.specs.Pad.{Port as PadPort}
+use Rattle.md_pads.specs.Recording.{Frame, Recorded}
+use Rattle.md_pads.specs.declared.version.Version.{Version}
+use Rattle.md_pads.specs.declared.version.Version.TheVariants.{First, Second}
 use Rattle.md_machine.specs.FmCode.{fm_way, port_way}
 use Rattle.md_machine.specs.VdpCode.{draw_way, vdp_way}
 use Rattle.md_machine.specs.Parts.{DrawValue, FmValue, PsgValue, SubValue}
@@ -316,14 +318,37 @@ chip_way = by_way (either main_way (either sub_way (either draw_way (either fm_w
 abbrev pub frame_way : Way Frame
 frame_way = both number number
 
--- the way of the latches of a pad's port
-abbrev pub latches_way : Way Latches
-latches_way = by_way (both number number) (λ l. (l.value, l.control)) (λ p. record { value = p.0; control = p.1 }) (λ l. refl)
+-- a recording's version by the flags of its pads, which the first has none of
+abbrev pub flags_of : Version → Option (Bool × Bool)
+flags_of First = None
+flags_of (Second pad1 pad2) = Some (pad1, pad2)
+
+-- the version of these flags
+abbrev pub version_of : Option (Bool × Bool) → Version
+version_of None = First
+version_of (Some flags) = Second flags.0 flags.1
+
+-- a version's flags give the version
+pub version_same : (v : Version) → version_of (flags_of v) ≡ v
+version_same First = refl
+version_same (Second pad1 pad2) = refl
+
+-- the way of a recording
+abbrev pub recording_way : Way Recorded
+recording_way =
+    by_way (both (by_way (maybe (both flag flag)) flags_of version_of version_same) (many frame_way)) (λ r. (r.version, r.frames))
+    (λ p. record { version = p.0; frames = p.1 }) (λ r. refl)
+
+-- the way of a pad's port
+abbrev pub pad_way : Way PadPort
+pad_way =
+    by_way (both (both number number) (both number number)) (λ l. ((l.value, l.control), (l.count, l.fall)))
+    (λ p. record { value = p.0.0; control = p.0.1; count = p.1.0; fall = p.1.1 }) (λ l. refl)
 
 -- the way of the board
 abbrev pub board_way : Way Board
 board_way =
-    by_way (both (both (both (many frame_way) frame_way) (both latches_way latches_way)) (both (both (both (many write_way) port_way) flag) (both (both flag number) (both (maybe store_way) vdp_way))))
+    by_way (both (both (both recording_way frame_way) (both pad_way pad_way)) (both (both (both (many write_way) port_way) flag) (both (both flag number) (both (maybe store_way) vdp_way))))
     (λ b. (((b.recording, b.pads), (b.port1, b.port2)), (((b.held, b.fm), b.request), ((b.reset, b.resets), (b.store, b.vdp)))))
     (λ p. record {
       recording = p.0.0.0;

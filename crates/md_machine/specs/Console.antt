@@ -25,7 +25,7 @@ use Rattle.bus_shared.specs.Accesses.{SubAccess, level_of, line_board, main_answ
 use Rattle.bus_shared.specs.Board.{Board}
 use Rattle.bus_shared.specs.Board as boards
 use Rattle.bus_shared.specs.Entries.{batch_entry, line_entry}
-use Rattle.md_pads.specs.Recording.{Frame}
+use Rattle.md_pads.specs.Recording.{Recorded}
 use Rattle.vdp_planes.specs.View.{view_of}
 use Rattle.vdp_planes.specs.declared.view.SpriteNote.{SpriteNote}
 use Rattle.vdp_chip.specs.Drawing.{Drawing}
@@ -56,7 +56,7 @@ pub record Console : Type 0 where
 
 -- at power-on the 68000, the Z80 and the lines have their first event at 0, and the batches at
 -- 16128
-abbrev pub power_on : List ℕ → List Frame → Bool → Console
+abbrev pub power_on : List ℕ → Recorded → Bool → Console
 power_on cart recording pal = record {
   cart = cart;
   main = states.power_on cart;

@@ -6,6 +6,7 @@ use Rattle.chip_core.specs.Cores.{CoreValue, IsCore, machine_of}
 use Rattle.chip_core.specs.Machines as machines
 use Rattle.chip_core.specs.Machines.{Machine}
 use Rattle.md_machine.specs.Console.{Console}
+use Rattle.md_pads.specs.Recording.{no_frames}
 use Rattle.bus_shared.specs.Board.{Board, IsBoard, power_on}
 use Rattle.md_machine.specs.Refinement.{console, draw_of, fm_of, psg_of}
 use Rattle.md_machine.specs.Regions.{IsOneRegion, most_entries}
@@ -28,7 +29,7 @@ core_in board chips bounds entries room = record { shared = board; chips = chips
 
 -- the core that a machine has; an empty one stands for it while it runs
 abbrev pub core_held : Option (CoreValue Chip Board) → CoreValue Chip Board
-core_held core = unwrap_or core (core_in (power_on [] false) [] [] [] 0)
+core_held core = unwrap_or core (core_in (power_on no_frames false) [] [] [] 0)
 
 -- the frames and samples that a machine of five chips keeps
 abbrev pub kept_in : Machine Chip Board → Media

@@ -3,7 +3,7 @@
 ghost use Rattle.std.specs.Prelude.{◌≡◌, ℕ, Bool, ◌+◌, ◌-◌, ◌*◌, ◌/◌, ◌^◌, ◌<◌, ◌≤◌, ◌++◌, [], List, length};
 ghost use Rattle.md_word.specs.declared.event.Entry.{Entry};
 ghost use Rattle.chip_core.specs.Limits.{events_within};
-ghost use Rattle.md_pads.specs.Recording.{Frame};
+ghost use Rattle.md_pads.specs.Recording.{Recorded};
 ghost use Rattle.md_machine.specs.Console.{AllBelow, Console, IsQuiet, IsRunTo, journal, key_in, media, mover, power_on, ran};
 ghost use Rattle.md_machine.specs.Lists.{ListsEndAsRun};
 ghost use Rattle.md_machine.specs.Owners.{HasOneOwner};
@@ -57,7 +57,7 @@ pub fn one_run()
 
 /// Power-on is a start, at cycle 0.
 pub fn power_on_is_start()
-    ensures { (cart : List ℕ) (recording : List Frame) (pal : Bool) → IsStart (record { at = 0; console = power_on cart recording pal }) }
+    ensures { (cart : List ℕ) (recording : Recorded) (pal : Bool) → IsStart (record { at = 0; console = power_on cart recording pal }) }
 {}
 
 /// Where a run from a start ends, another may start.
@@ -110,13 +110,13 @@ pub fn few_in_list()
 /// of the first frame has begun, line 224 or on PAL 240, and from then on the recording's words of the
 /// frame of which that line began last.
 pub fn pads_are_recorded()
-    ensures { (cart : List ℕ) (recording : List Frame) (pal : Bool) (moves : ℕ) → ShowsPads pal recording (ran (power_on cart recording pal) moves) }
+    ensures { (cart : List ℕ) (recording : Recorded) (pal : Bool) (moves : ℕ) → ShowsPads pal recording (ran (power_on cart recording pal) moves) }
 {}
 
 /// From power-on, after events below a cycle of at most 2^50, the Z80's RAM and bank register have one
 /// owner: the Z80 or the bus.
 pub fn one_owner(cart: &Cart)
-    ensures { (recording : List Frame) (pal : Bool) (end n : ℕ) → end ≤ 2 ^ 50 → AllBelow (power_on cart.now recording pal) end n
+    ensures { (recording : Recorded) (pal : Bool) (end n : ℕ) → end ≤ 2 ^ 50 → AllBelow (power_on cart.now recording pal) end n
         → HasOneOwner (ran (power_on cart.now recording pal) n) }
 {
     cart.bytes();
@@ -132,7 +132,7 @@ pub fn parts_are_valid(machine: &Machine)
 
 /// At power-on with a cartridge they are.
 pub fn parts_start_valid(cart: &Cart)
-    ensures { (recording : List Frame) (pal : Bool) → HasValidParts (power_on cart.now recording pal) }
+    ensures { (recording : Recorded) (pal : Bool) → HasValidParts (power_on cart.now recording pal) }
 {
     cart.bytes();
 }

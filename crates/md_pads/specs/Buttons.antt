@@ -38,8 +38,25 @@ button_a = 6
 abbrev pub start : ℕ
 start = 7
 
+-- the place of Z, which a six-button pad has, as the three below
+abbrev pub button_z : ℕ
+button_z = 8
+
+-- the place of Y
+abbrev pub button_y : ℕ
+button_y = 9
+
+-- the place of X
+abbrev pub button_x : ℕ
+button_x = 10
+
+-- the place of Mode
+abbrev pub mode : ℕ
+mode = 11
+
 -- the name and the bit of each button
 abbrev pub button_table : List (List ℕ × ℕ)
 button_table =
     (codes "UP", 2 ^ up) ∷ (codes "DOWN", 2 ^ down) ∷ (codes "LEFT", 2 ^ left) ∷ (codes "RIGHT", 2 ^ right)
-    ∷ (codes "B", 2 ^ button_b) ∷ (codes "C", 2 ^ button_c) ∷ (codes "A", 2 ^ button_a) ∷ (codes "START", 2 ^ start) ∷ []
+    ∷ (codes "B", 2 ^ button_b) ∷ (codes "C", 2 ^ button_c) ∷ (codes "A", 2 ^ button_a) ∷ (codes "START", 2 ^ start)
+    ∷ (codes "Z", 2 ^ button_z) ∷ (codes "Y", 2 ^ button_y) ∷ (codes "X", 2 ^ button_x) ∷ (codes "MODE", 2 ^ mode) ∷ []

@@ -3,8 +3,9 @@ ghost use Rattle.md_pads.specs.Buttons.{button_table, word_of};
 
 use bitflags::{Flag, Flags};
 
-/// A set of buttons of a three-button pad, kept as the word of a recording: one bit a button, set
-/// while it is pressed. Bits 15 to 8 name no button. Source: this project's profile.
+/// A set of buttons of a pad, kept as the word of a recording: one bit a button, set while it is pressed.
+/// Z, Y, X and Mode are on a six-button pad alone. Bits 15 to 12 name no button. Source: this project's
+/// profile.
 #[derive(Clone, Copy)]
 pub struct Buttons(u16);
 
@@ -24,6 +25,14 @@ impl Buttons {
     pub const A: Buttons = Buttons(0x40);
 
     pub const START: Buttons = Buttons(0x80);
+
+    pub const Z: Buttons = Buttons(0x100);
+
+    pub const Y: Buttons = Buttons(0x200);
+
+    pub const X: Buttons = Buttons(0x400);
+
+    pub const MODE: Buttons = Buttons(0x800);
 
     pub const FLAGS: &'static [Flag<Buttons>] = &[
         Flag {
@@ -57,6 +66,22 @@ impl Buttons {
         Flag {
             name: "START",
             value: Buttons::START,
+        },
+        Flag {
+            name: "Z",
+            value: Buttons::Z,
+        },
+        Flag {
+            name: "Y",
+            value: Buttons::Y,
+        },
+        Flag {
+            name: "X",
+            value: Buttons::X,
+        },
+        Flag {
+            name: "MODE",
+            value: Buttons::MODE,
         },
     ];
 }

@@ -3,12 +3,15 @@
 
 mod buttons;
 mod fault;
+pub mod laws;
 mod port;
 mod reading;
 mod recording;
+mod version;
 mod writing;
 
 pub use buttons::Buttons;
 pub use fault::RecFault;
 pub use port::PadPort;
-pub use recording::{MARK, MOST_FRAMES, Recording};
+pub use recording::{MOST_FRAMES, Recording};
+pub use version::Version;

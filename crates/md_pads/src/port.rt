@@ -1,13 +1,9 @@
-ghost use Rattle.std.specs.Prelude.{◌≡◌, ◌≢◌, ◌+◌, ◌≤◌, true, false, ◌∷◌, ◌++◌, length, map, min, vec_len, vec_capacity, IfOk, Ok, IsErrOf};
-ghost use Rattle.md_pads.specs.Buttons.{word_of};
-ghost use Rattle.md_fields.specs.Fields.{seen};
-ghost use Rattle.md_pads.specs.Pad.{pad_value, latch_bytes, latch_fields, is_th_high, lines, binary};
+ghost use Rattle.std.specs.Prelude.{◌≡◌, ◌≤◌, ◌^◌, Bool, true, false, [], ◌∷◌, length};
+ghost use Rattle.md_pads.specs.Buttons.{button_a, start, word_of};
+ghost use Rattle.md_pads.specs.Pad.{binary, cleared, control_written, counted, fourth_lines, in_force, is_th_high, lines, lines_by, pad_value, released, third_lines, value_written};
 
 use crate::buttons::Buttons;
 use bitflags::Flags;
-use md_fields::{Field, put, u8_at};
-use md_word::Unspell;
-use std::alloc::Global;
 use std::marker::Model;
 
 /// The bit of TH, the line that selects which buttons are read.
@@ -15,69 +11,99 @@ const TH: u8 = 0x40;
 
 const BIT_7: u8 = 0x80;
 
-/// How many bytes of a saved state keep a port.
-const LATCHES: usize = 2;
+/// For how many master cycles a six-button pad remembers a fall of TH.
+const MEMORY: u64 = 80_000;
 
-/// The port of a three-button pad, by its two latches: the last byte written to its data and the last
-/// byte written to its control. Source: Genesis Technical Overview, the control pads.
+/// The port of a pad of three buttons or of six: the last byte written to its data, the last written to its
+/// control, how many falls of TH its pad counted, up to four, and the master cycle of the last of them.
+/// Source: Genesis Technical Overview, the control pads; of the count this project's profile.
 #[derive(Clone, Copy)]
 pub struct PadPort {
     value: u8,
     control: u8,
+    count: u8,
+    fall: u64,
 }
 
 impl Model for PadPort {
-    ghost use Rattle.md_pads.specs.Pad.{Latches};
+    ghost use Rattle.std.specs.Prelude.{◌≤◌, ◌^◌};
+    ghost use Rattle.md_pads.specs.Pad.{Port};
 
-    ghost Value = { Latches };
+    ghost Value = { Port };
 
-    ghost view = { λ port. record { value = port.value; control = port.control } };
+    ghost view = { λ port. record { value = port.value; control = port.control; count = port.count; fall = port.fall } };
 
-    ghost inverse = { λ latches. record { value = latches.value; control = latches.control } };
+    ghost inverse = { λ port. record { value = port.value; control = port.control; count = port.count; fall = port.fall } };
+
+    ghost invariant = { λ port. (port.count ≤ 4) × (port.fall ≤ 2 ^ 50) };
 }
 
 impl PadPort {
-    ghost use Rattle.md_pads.specs.Pad.{Latches};
-
-    /// The port at power-on, whose latches are 0.
+    /// The port at power-on, whose latches are 0 and whose pad counted no fall.
     pub fn power_on() -> PadPort
-        ensures value { result.value ≡ 0 }
-        ensures control { result.control ≡ 0 }
+        ensures { result ≡ cleared }
     {
         PadPort {
             value: 0,
             control: 0,
+            count: 0,
+            fall: 0,
         }
     }
 
-    /// What the port reads while the buttons of the word are pressed. A button's line reads 0 while it is
-    /// pressed. TH is bit 6 of the value latch where bit 6 of the control latch is 1, else 1. With TH at 1
-    /// bits 6 to 0 are 1, C, B, Right, Left, Down and Up; with TH at 0 they are 0, Start, A, 0, 0, Down and
-    /// Up. Bit 7 is that of the value latch. The word's bits 15 to 8 are not looked at.
-    pub fn read(&self, buttons: u16) -> u8
-        ensures { result ≡ pad_value self.now buttons }
+    /// The port with these latches, count of falls and cycle of the last.
+    pub fn with(value: u8, control: u8, count: u8, fall: u64) -> PadPort
+        requires count { count ≤ 4 }
+        requires fall { fall ≤ 2 ^ 50 }
+        ensures { result ≡ record { value = value; control = control; count = count; fall = fall } }
+    {
+        PadPort {
+            value,
+            control,
+            count,
+            fall,
+        }
+    }
+
+    /// What the port reads at a master cycle while the buttons of the word are pressed. A button's line reads
+    /// 0 while it is pressed. TH is bit 6 of the value latch where bit 6 of the control latch is 1, else 1.
+    /// With TH at 1 bits 6 to 0 are 1, C, B, Right, Left, Down and Up; with TH at 0 they are 0, Start, A, 0,
+    /// 0, Down and Up. A six-button pad that counted three falls reads 1, C, B, Mode, X, Y and Z with TH at 1,
+    /// and 0, Start, A, 0, 0, 0, 0 with TH at 0; one that counted four reads 0, Start, A, 1, 1, 1, 1 with TH
+    /// at 0. 80,000 cycles after the last fall the count is forgotten. Bit 7 is that of the value latch.
+    pub fn read(&self, cycle: u64, six: bool, buttons: u16) -> u8
+        ensures { result ≡ pad_value cycle six self.now buttons }
     {
         let bit_7 = self.value & BIT_7 != 0;
-        let held = Buttons::from_bits_retain(buttons);
-        if self.is_th_high() {
-            byte_of(&high_levels(bit_7, held))
-        } else {
-            byte_of(&low_levels(bit_7, held))
-        }
+        let pressed = Buttons::from_bits_retain(buttons);
+        byte_of(&levels(bit_7, six, self.in_force(cycle), self.is_th_high(), pressed))
     }
 
-    /// Writes the value latch.
-    pub fn write_value(&mut self, value: u8)
-        ensures { self.new ≡ record self.old { value = value } }
+    /// Writes the value latch at a master cycle. A fall of TH is counted.
+    pub fn write_value(&mut self, cycle: u64, value: u8)
+        requires { cycle ≤ 2 ^ 50 }
+        ensures { self.new ≡ value_written cycle value self.old }
     {
+        let was_high = self.is_th_high();
         self.value = value;
+        self.count_fall(cycle, was_high);
     }
 
-    /// Writes the control latch.
-    pub fn write_control(&mut self, value: u8)
-        ensures { self.new ≡ record self.old { control = value } }
+    /// Writes the control latch at a master cycle. A fall of TH is counted.
+    pub fn write_control(&mut self, cycle: u64, value: u8)
+        requires { cycle ≤ 2 ^ 50 }
+        ensures { self.new ≡ control_written cycle value self.old }
     {
+        let was_high = self.is_th_high();
         self.control = value;
+        self.count_fall(cycle, was_high);
+    }
+
+    /// The value latch, as it was last written.
+    pub fn value(&self) -> u8
+        ensures { result ≡ self.now.value }
+    {
+        self.value
     }
 
     /// The control latch, as it was last written.
@@ -87,44 +113,19 @@ impl PadPort {
         self.control
     }
 
-    /// Appends the two bytes of a saved state that keep this port: the value latch, then the control latch.
-    /// There is room for them.
-    #[tactic(auto, unfolding(md_fields::specs::Fields::spelling))]
-    pub fn spell(&self, _at: u64, into: &mut Vec<u8>)
-        requires { vec_len into.old + 2 ≤ vec_capacity into.old }
-        ensures bytes { into.new.items ≡ into.old.items ++ latch_bytes self.now }
-        ensures length { vec_len into.new ≡ vec_len into.old + 2 }
-        ensures room { vec_capacity into.old ≤ vec_capacity into.new }
+    /// How many falls of TH were counted, 0 to 4; they may be forgotten since.
+    pub fn count(&self) -> u8
+        ensures value { result ≡ self.now.count }
+        ensures few { result ≤ 4 }
     {
-        put(&self.fields(), into);
+        self.count
     }
 
-    /// The port that two bytes of a saved state keep. Another number of bytes is refused, at the lesser of
-    /// the two lengths. No memory is taken.
-    #[tactic(auto, unfolding(md_fields::specs::Fields::spelling))]
-    pub fn unspell(_alloc: Global, bytes: &[u8], _at: u64) -> Result<PadPort, Unspell>
-        ensures found { IfOk result (λ port. bytes.now ≡ latch_bytes port) }
-        ensures only { (latches : Latches) → bytes.now ≡ latch_bytes latches → result ≡ Ok latches }
-        ensures refused { length bytes.now ≢ 2 → IsErrOf result (Unspell.Rule (min (length bytes.now) 2)) }
+    /// The master cycle of the last fall that was counted, or 0.
+    pub fn fall(&self) -> u64
+        ensures { result ≡ self.now.fall }
     {
-        if bytes.len() != LATCHES {
-            return Err(Unspell::Rule {
-                place: bytes.len().min(LATCHES) as u64,
-            });
-        }
-        Ok(PadPort {
-            value: u8_at(bytes, 0),
-            control: u8_at(bytes, 1),
-        })
-    }
-
-    fn fields(&self) -> [Field<'_>; 2]
-        ensures { map seen result ≡ latch_fields self.now }
-    {
-        [
-            Field::Byte(self.value, true),
-            Field::Byte(self.control, true),
-        ]
+        self.fall
     }
 
     fn is_th_high(&self) -> bool
@@ -132,37 +133,130 @@ impl PadPort {
     {
         self.control & TH == 0 || self.value & TH != 0
     }
+
+    fn in_force(&self, cycle: u64) -> u8
+        ensures value { result ≡ in_force cycle self.now }
+        ensures few { result ≤ 4 }
+    {
+        if cycle < self.fall + MEMORY {
+            self.count
+        } else {
+            0
+        }
+    }
+
+    /// Counts a fall of TH behind a write at a cycle, by whether TH was 1 before it.
+    fn count_fall(&mut self, cycle: u64, was_high: bool)
+        requires { cycle ≤ 2 ^ 50 }
+        ensures { self.new ≡ counted cycle was_high self.old }
+    {
+        if was_high && !self.is_th_high() {
+            self.count = 1 + self.in_force(cycle) % 4;
+            self.fall = cycle;
+        }
+    }
 }
 
-/// Bits 7 to 0 with TH at 1.
-fn high_levels(bit_7: bool, held: Buttons) -> [bool; 8]
-    ensures { result ≡ bit_7 ∷ lines true (word_of held) }
+/// Bits 7 to 0 by the kind of pad, the count in force and the level of TH.
+fn levels(bit_7: bool, six: bool, count: u8, high: bool, pressed: Buttons) -> [bool; 8]
+    ensures { result ≡ bit_7 ∷ lines_by six count high (word_of pressed) }
+{
+    if six && count == 3 {
+        third_levels(bit_7, high, pressed)
+    } else if six && count == 4 {
+        fourth_levels(bit_7, high, pressed)
+    } else {
+        usual_levels(bit_7, high, pressed)
+    }
+}
+
+/// Those of any pad, but for the third and the fourth fall of a six-button pad.
+fn usual_levels(bit_7: bool, high: bool, pressed: Buttons) -> [bool; 8]
+    ensures { result ≡ bit_7 ∷ lines high (word_of pressed) }
+{
+    if high {
+        high_levels(bit_7, pressed)
+    } else {
+        low_levels(bit_7, pressed)
+    }
+}
+
+/// Those behind the third fall.
+fn third_levels(bit_7: bool, high: bool, pressed: Buttons) -> [bool; 8]
+    ensures { result ≡ bit_7 ∷ third_lines high (word_of pressed) }
+{
+    if high {
+        [
+            bit_7,
+            true,
+            !pressed.contains(Buttons::C),
+            !pressed.contains(Buttons::B),
+            !pressed.contains(Buttons::MODE),
+            !pressed.contains(Buttons::X),
+            !pressed.contains(Buttons::Y),
+            !pressed.contains(Buttons::Z),
+        ]
+    } else {
+        start_and_a(bit_7, false, pressed)
+    }
+}
+
+/// Those behind the fourth fall.
+fn fourth_levels(bit_7: bool, high: bool, pressed: Buttons) -> [bool; 8]
+    ensures { result ≡ bit_7 ∷ fourth_lines high (word_of pressed) }
+{
+    if high {
+        high_levels(bit_7, pressed)
+    } else {
+        start_and_a(bit_7, true, pressed)
+    }
+}
+
+/// Bits 7 to 0 with TH at 0, the four lowest at one level.
+fn start_and_a(bit_7: bool, low: bool, pressed: Buttons) -> [bool; 8]
+    ensures { result ≡ bit_7 ∷ false ∷ released (word_of pressed) start ∷ released (word_of pressed) button_a ∷ low ∷ low ∷ low ∷ low ∷ [] }
+{
+    [
+        bit_7,
+        false,
+        !pressed.contains(Buttons::START),
+        !pressed.contains(Buttons::A),
+        low,
+        low,
+        low,
+        low,
+    ]
+}
+
+/// The usual ones with TH at 1.
+fn high_levels(bit_7: bool, pressed: Buttons) -> [bool; 8]
+    ensures { result ≡ bit_7 ∷ lines true (word_of pressed) }
 {
     [
         bit_7,
         true,
-        !held.contains(Buttons::C),
-        !held.contains(Buttons::B),
-        !held.contains(Buttons::RIGHT),
-        !held.contains(Buttons::LEFT),
-        !held.contains(Buttons::DOWN),
-        !held.contains(Buttons::UP),
+        !pressed.contains(Buttons::C),
+        !pressed.contains(Buttons::B),
+        !pressed.contains(Buttons::RIGHT),
+        !pressed.contains(Buttons::LEFT),
+        !pressed.contains(Buttons::DOWN),
+        !pressed.contains(Buttons::UP),
     ]
 }
 
-/// Bits 7 to 0 with TH at 0.
-fn low_levels(bit_7: bool, held: Buttons) -> [bool; 8]
-    ensures { result ≡ bit_7 ∷ lines false (word_of held) }
+/// The usual ones with TH at 0.
+fn low_levels(bit_7: bool, pressed: Buttons) -> [bool; 8]
+    ensures { result ≡ bit_7 ∷ lines false (word_of pressed) }
 {
     [
         bit_7,
         false,
-        !held.contains(Buttons::START),
-        !held.contains(Buttons::A),
+        !pressed.contains(Buttons::START),
+        !pressed.contains(Buttons::A),
         false,
         false,
-        !held.contains(Buttons::DOWN),
-        !held.contains(Buttons::UP),
+        !pressed.contains(Buttons::DOWN),
+        !pressed.contains(Buttons::UP),
     ]
 }
 

@@ -1,7 +1,8 @@
-ghost use Rattle.std.specs.Prelude.{◌≡◌, ◌≢◌, ℕ, ◌↔◌, List, [], IfOk, IsErrOf, Ok, Err};
-ghost use Rattle.md_pads.specs.Recording.{Frame, IsFrame, IsRecording, Spells, IsSpelled, GoesWrongAt, pads_of, spelling};
+ghost use Rattle.std.specs.Prelude.{◌≡◌, ◌≢◌, ℕ, ◌↔◌, Bool, IfOk, IsErrOf, Ok, Err};
+ghost use Rattle.md_pads.specs.Recording.{GoesWrongAt, IsFrame, IsSpelled, Recorded, Spells, no_frames, pads_of, six};
 
 use crate::fault::RecFault;
+use crate::version::Version;
 use crate::{reading, writing};
 use md_word::NoMemory;
 use std::alloc::Global;
@@ -10,71 +11,72 @@ use std::marker::Model;
 /// The greatest number of frames of a recording.
 pub const MOST_FRAMES: u32 = 1_048_576;
 
-/// What the file of a recording begins with.
-pub const MARK: [u8; 8] = *b"MDREC001";
-
-/// The length of the mark and of the count behind it, in bytes.
-pub(crate) const HEAD: usize = 12;
+/// The length of the count behind a recording's lead, in bytes.
+pub(crate) const COUNT: usize = 4;
 
 /// What was pressed on two control pads, frame by frame, for at most 1,048,576 frames. Contracts see
-/// the list of its frames: the words of pad 1 and pad 2, in which bits 0 to 7 are Up, Down, Left, Right,
-/// B, C, A and Start, and the others 0.
+/// its version and the list of its frames: the words of pad 1 and pad 2, in which bits 0 to 7 are Up, Down,
+/// Left, Right, B, C, A and Start, bits 8 to 11 of a six-button pad Z, Y, X and Mode, and the others 0.
 /// Source: this project's profile.
 #[derive(Drop)]
 pub struct Recording {
+    version: Version,
     frames: Vec<(u16, u16)>,
 }
 
 impl Model for Recording {
-    ghost use Rattle.std.specs.Prelude.{ℕ, List};
-    ghost use Rattle.md_pads.specs.Recording.{IsRecording};
+    ghost use Rattle.md_pads.specs.Recording.{IsRecording, Recorded};
 
-    ghost Value = { List (ℕ × ℕ) };
+    ghost Value = { Recorded };
 
-    ghost view = { λ recording. recording.frames.items };
+    ghost view = { λ recording. record { version = recording.version; frames = recording.frames.items } };
 
-    ghost invariant = { λ recording. IsRecording recording.frames.items };
+    ghost invariant = { λ recording. IsRecording (record { version = recording.version; frames = recording.frames.items }) };
 }
 
 impl Recording {
-    /// A recording of no frames. It takes no memory.
+    /// A recording of version 1 and of no frames. It takes no memory.
     pub fn empty(alloc: Global) -> Recording
-        ensures { result ≡ [] }
+        ensures { result ≡ no_frames }
     {
         Recording {
+            version: Version::First,
             frames: Vec::new(alloc),
         }
     }
 
-    /// Reads the bytes of a recording: `MDREC001`, a big-endian count of frames in four bytes, and for
-    /// each frame the words of pad 1 and pad 2, big-endian. Memory is asked for once, and only where the
+    /// Reads the bytes of a recording: `MDREC001`, or `MDREC002` and a big-endian word in which bits 0 and
+    /// 1 tell whether pad 1 and pad 2 have six buttons; then a big-endian count of frames in four bytes, and
+    /// for each frame the words of pad 1 and pad 2, big-endian. Memory is asked for once, and only where the
     /// bytes spell a recording.
     pub fn read(alloc: Global, bytes: &[u8]) -> Result<Recording, RecFault>
         // What is read is spelled so.
         ensures found { IfOk result (λ recording. Spells bytes.now recording) }
         // What is spelled so is read, unless memory runs out.
-        ensures only { (frames : List Frame) → Spells bytes.now frames → result ≢ Err RecFault.NoMemory → result ≡ Ok frames }
+        ensures only { (recorded : Recorded) → Spells bytes.now recorded → result ≢ Err RecFault.NoMemory → result ≡ Ok recorded }
         // Bytes are refused exactly where they spell no recording, at the end of what one begins with.
         ensures form { (place : ℕ) → IsErrOf result (RecFault.Form place) ↔ GoesWrongAt bytes.now place }
         ensures memory { IsErrOf result RecFault.NoMemory → IsSpelled bytes.now }
     {
-        let place = reading::longest_prefix(bytes);
-        if !reading::is_spelled(bytes, place) {
-            return Err(RecFault::Form {
-                place: place as u64,
-            });
-        }
-        let (_, body) = bytes.split_at(HEAD);
+        let version = match reading::version_of(bytes) {
+            Ok(version) => version,
+            Err(place) => {
+                return Err(RecFault::Form {
+                    place: place as u64,
+                });
+            }
+        };
+        let (_, body) = bytes.split_at(reading::start(version) + COUNT);
         let frames = reading::frames_in(alloc, body)?;
-        Ok(Recording { frames })
+        Ok(Recording { version, frames })
     }
 
     /// The one spelling of the recording, which `read` reads as this recording and no other.
     pub fn write(&self, alloc: Global) -> Result<Vec<u8>, NoMemory>
         ensures ok { IfOk result (λ bytes. Spells bytes.items self.now) }
-        ensures only { IfOk result (λ bytes. (frames : List Frame) → Spells bytes.items frames → frames ≡ self.now) }
+        ensures only { IfOk result (λ bytes. (recorded : Recorded) → Spells bytes.items recorded → recorded ≡ self.now) }
     {
-        writing::write(alloc, &self.frames)
+        writing::write(alloc, self.version, &self.frames)
     }
 
     /// The words of pad 1 and pad 2 in a frame. Past the end of the recording no button is pressed.
@@ -83,5 +85,12 @@ impl Recording {
         ensures buttons { IsFrame result }
     {
         self.frames.get(frame as usize).copied().unwrap_or((0, 0))
+    }
+
+    /// Whether a pad, 1 or 2, has six buttons.
+    pub fn six(&self, pad: u8) -> bool
+        ensures { result ≡ six self.now.version pad }
+    {
+        self.version.six(pad)
     }
 }

@@ -1,7 +1,8 @@
 ghost use Rattle.std.specs.Prelude.{◌≡◌, ◌<◌, ◌^◌, length, IfOk};
 ghost use Rattle.md_pads.specs.Recording.{frame_bytes, spelling};
 
-use crate::recording::{HEAD, MARK};
+use crate::recording::COUNT;
+use crate::version::Version;
 use byteorder::{BigEndian, ByteOrder};
 use md_word::NoMemory;
 use std::alloc::Global;
@@ -15,14 +16,19 @@ fn frame_bytes(frame: (u16, u16)) -> [u8; 4]
     bytes
 }
 
-/// The spelling of the recording of these frames.
+/// The spelling of the recording of a version and of these frames.
 #[tactic(auto, unfolding(crate::specs::Recording::spelling))]
-pub(crate) fn write(alloc: Global, frames: &[(u16, u16)]) -> Result<Vec<u8>, NoMemory>
+pub(crate) fn write(
+    alloc: Global,
+    version: Version,
+    frames: &[(u16, u16)],
+) -> Result<Vec<u8>, NoMemory>
     requires { length frames.now < 2 ^ 32 }
-    ensures { IfOk result (λ bytes. bytes.items ≡ spelling frames.now) }
+    ensures { IfOk result (λ bytes. bytes.items ≡ spelling (record { version = version; frames = frames.now })) }
 {
-    let mut bytes = Vec::with_capacity(alloc, HEAD + 4 * frames.len())?;
-    bytes.extend_from_slice(&MARK)?;
+    let lead = version.lead();
+    let mut bytes = Vec::with_capacity(alloc, lead.len() + COUNT + 4 * frames.len())?;
+    bytes.extend_from_slice(lead)?;
     let mut count = [0; 4];
     BigEndian::write_u32(&mut count, frames.len() as u32);
     bytes.extend_from_slice(&count)?;

@@ -2,19 +2,19 @@
 use Rattle.std.proofs.Common.{◌≡◌, ℕ, ◌≤◌, List, length, Option, Some, Result, Ok, Err, refl, sym, subst, ◌↔◌}
 use Rattle.std.specs.Prelude.{IfOk, IsErrOf, IsSomeAnd}
 use Rattle.md_outer.specs.Outside.{DepotState}
-use Rattle.md_pads.specs.Recording.{Frame, GoesWrongAt, IsSpelled, Spells}
+use Rattle.md_pads.specs.Recording.{GoesWrongAt, IsSpelled, Recorded, Spells}
 use Rattle.md_pads.specs.declared.fault.RecFault.{RecFault}
 use Rattle.md_pads.specs.declared.fault.RecFault.TheVariants.{Form}
 use Rattle.md_pads.specs.declared.fault.RecFault.TheVariants as fault
-use Rattle.md_top.specs.Inputs.{IsVerdict, Recorded, RecordingCause, Verdict, WrongAt, recording_limit}
+use Rattle.md_top.specs.Inputs.{IsVerdict, Spelled, RecordingCause, Verdict, WrongAt, recording_limit}
 use Rattle.md_top.specs.declared.ending.Ending.TheVariants.{RecordingWrong}
 
 -- there is a verdict on all bytes
-pub verdict_of : (bytes : List ℕ) (read : Result (List Frame) RecFault) → IfOk read (λ recording. Spells bytes recording)
+pub verdict_of : (bytes : List ℕ) (read : Result Recorded RecFault) → IfOk read (λ recording. Spells bytes recording)
     → ((place : ℕ) → IsErrOf read (Form place) ↔ GoesWrongAt bytes place) → (IsErrOf read fault.NoMemory → IsSpelled bytes) → (verdict : Verdict) × IsVerdict bytes verdict
-verdict_of bytes (Ok recording) found form memory = (Recorded recording, found)
+verdict_of bytes (Ok recording) found form memory = (Spelled recording, found)
 verdict_of bytes (Err (Form place)) found form memory = (WrongAt place, (form place).0 refl)
-verdict_of bytes (Err fault.NoMemory) found form memory = (Recorded (memory refl).0, (memory refl).1)
+verdict_of bytes (Err fault.NoMemory) found form memory = (Spelled (memory refl).0, (memory refl).1)
 
 pub held : (P : List ℕ → Type 0) (file : Option (List ℕ)) (bytes : List ℕ) → file ≡ Some bytes → P bytes → IsSomeAnd file P
 held P file bytes is p = subst (λ (found : Option (List ℕ)). IsSomeAnd found P) (sym is) p

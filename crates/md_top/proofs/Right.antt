@@ -6,9 +6,9 @@ use Rattle.rom_header.specs.Cartridge.{fault_of, has_mark}
 use Rattle.rom_header.specs.declared.cart.CartFault.{CartFault}
 use Rattle.rom_header.specs.declared.cart.CartFault.TheVariants as fault
 use Rattle.md_outer.specs.Outside.{DepotState, Files, Rose}
-use Rattle.md_pads.specs.Recording.{Frame, GoesWrongAt, Spells}
+use Rattle.md_pads.specs.Recording.{GoesWrongAt, Recorded, Spells}
 use Rattle.md_top.specs.Endings.{accepted_ending, asked_ending, cart_ending, file_ending, kept_ending, loaded_ending, recorded_ending, recording_ending, run_ending, state_ending, status_of, verdict_ending}
-use Rattle.md_top.specs.Inputs.{AreInputs, CartCause, IsAccepted, IsJudged, IsVerdict, Recorded, RecordingCause, Records, Verdict, WrongAt, cart_limit, cart_of, recording_limit}
+use Rattle.md_top.specs.Inputs.{AreInputs, CartCause, IsAccepted, IsJudged, IsVerdict, Spelled, RecordingCause, Records, Verdict, WrongAt, cart_limit, cart_of, recording_limit}
 use Rattle.md_word.specs.Clock.{last_cycle}
 use Rattle.md_top.specs.Loads.{Begins, BeginsWith, IsFound, IsFoundIn, IsLoadJudged, IsStateJudged, LoadCause, StateCause, inputs_by, recording_by, state_limit}
 use Rattle.state_laws.specs.Verdicts.{Keeps, OfOther, StateVerdict, StateWrongAt}
@@ -74,48 +74,48 @@ cart_right told rom old new rest _ cause clean t = absurd cause
 -- BEHIND THE RECORDING'S FILE
 
 -- the recording is the one that the verdict tells
-file_recording : (file : Option (List ℕ)) (verdict : Verdict) (recording : List Frame) (name : List ℕ)
+file_recording : (file : Option (List ℕ)) (verdict : Verdict) (recording : Recorded) (name : List ℕ)
     → IsSomeAnd file (λ bytes. (length bytes ≤ recording_limit) × Spells bytes recording) → IsVerdict (unwrap_or file []) verdict
     → recording ≡ recording_by (Some name) verdict
 file_recording None verdict recording name is judged = absurd is
-file_recording (Some bytes) (Recorded found) recording name (within, spells) judged = one_recording bytes recording found spells judged
+file_recording (Some bytes) (Spelled found) recording name (within, spells) judged = one_recording bytes recording found spells judged
 file_recording (Some bytes) (WrongAt place) recording name (within, spells) judged = absurd (judged.none (recording, spells))
 
-recording_same : (name : Option (List ℕ)) (files : Files) (verdict : Verdict) (recording : List Frame) → Records name files recording → IsJudged name files verdict
+recording_same : (name : Option (List ℕ)) (files : Files) (verdict : Verdict) (recording : Recorded) → Records name files recording → IsJudged name files verdict
     → recording ≡ recording_by name verdict
 recording_same None files verdict recording is judged = is
 recording_same (Some name) files verdict recording is judged = file_recording (files name) verdict recording name is judged
 
-file_recorded : (file : Option (List ℕ)) (verdict : Verdict) (recording : List Frame) (ready : List Frame → Ending)
+file_recorded : (file : Option (List ℕ)) (verdict : Verdict) (recording : Recorded) (ready : Recorded → Ending)
     → IsSomeAnd file (λ bytes. (length bytes ≤ recording_limit) × Spells bytes recording) → IsVerdict (unwrap_or file []) verdict
     → recording_ending file verdict ready ≡ ready recording
 file_recorded None verdict recording ready is judged = absurd is
-file_recorded (Some bytes) (Recorded found) recording ready (within, spells) judged =
+file_recorded (Some bytes) (Spelled found) recording ready (within, spells) judged =
     ap (λ (long : Bool). cond long RecordingTooLong (ready found)) (not_below recording_limit (length bytes) within)
     ∙ ap ready (one_recording bytes found recording judged spells)
 file_recorded (Some bytes) (WrongAt place) recording ready (within, spells) judged = absurd (judged.none (recording, spells))
 
-right_recorded : (name : Option (List ℕ)) (files : Files) (verdict : Verdict) (recording : List Frame) (ready : List Frame → Ending)
+right_recorded : (name : Option (List ℕ)) (files : Files) (verdict : Verdict) (recording : Recorded) (ready : Recorded → Ending)
     → Records name files recording → IsJudged name files verdict → recorded_ending name files verdict ready ≡ ready recording
 right_recorded None files verdict recording ready is judged = ap ready (sym is)
 right_recorded (Some name) files verdict recording ready is judged = file_recorded (files name) verdict recording ready is judged
 
-file_long : (file : Option (List ℕ)) (verdict : Verdict) (ready : List Frame → Ending) → IsSomeAnd file (λ bytes. recording_limit < length bytes)
+file_long : (file : Option (List ℕ)) (verdict : Verdict) (ready : Recorded → Ending) → IsSomeAnd file (λ bytes. recording_limit < length bytes)
     → recording_ending file verdict ready ≡ RecordingTooLong
 file_long None verdict ready long = absurd long
 file_long (Some bytes) verdict ready long =
     ap (λ (too_long : Bool). cond too_long RecordingTooLong (verdict_ending verdict ready)) (is_below recording_limit (length bytes) long)
 
 -- whatever the verdict, there is a place at which the bytes go wrong
-file_wrong : (file : Option (List ℕ)) (verdict : Verdict) (place : ℕ) (ready : List Frame → Ending)
+file_wrong : (file : Option (List ℕ)) (verdict : Verdict) (place : ℕ) (ready : Recorded → Ending)
     → IsSomeAnd file (λ bytes. (length bytes ≤ recording_limit) × GoesWrongAt bytes place) → IsVerdict (unwrap_or file []) verdict
     → status_of (recording_ending file verdict ready) ≡ 6
 file_wrong None verdict place ready is judged = absurd is
-file_wrong (Some bytes) (Recorded recording) place ready (within, wrong) judged = absurd (wrong.none (recording, judged))
+file_wrong (Some bytes) (Spelled recording) place ready (within, wrong) judged = absurd (wrong.none (recording, judged))
 file_wrong (Some bytes) (WrongAt other) place ready (within, wrong) judged =
     ap (λ (long : Bool). status_of (cond long RecordingTooLong (RecordingWrong other))) (not_below recording_limit (length bytes) within)
 
-pub recording_right : (told : Type 0) (name : Option (List ℕ)) (old new : DepotState) (verdict : Verdict) (ready : List Frame → Ending) (ending : Ending)
+pub recording_right : (told : Type 0) (name : Option (List ℕ)) (old new : DepotState) (verdict : Verdict) (ready : Recorded → Ending) (ending : Ending)
     → RecordingCause told name old new ending → IsJudged name old.files verdict → ¬ Rose old.read_faults new.read_faults → told
     → (status_of ending ≡ status_of (recorded_ending name old.files verdict ready)) ⊎ (status_of ending ≡ 10)
 recording_right told None old new verdict ready ending cause judged clean t = absurd cause
@@ -249,12 +249,12 @@ right_load told run old new verdict state ending near (inputs, are, cause) is ju
     same (inr memory) = inr memory
 
 -- the inputs that there are have a verdict
-file_judged : (file : Option (List ℕ)) (recording : List Frame) → IsSomeAnd file (λ bytes. (length bytes ≤ recording_limit) × Spells bytes recording)
-    → IsVerdict (unwrap_or file []) (Recorded recording)
+file_judged : (file : Option (List ℕ)) (recording : Recorded) → IsSomeAnd file (λ bytes. (length bytes ≤ recording_limit) × Spells bytes recording)
+    → IsVerdict (unwrap_or file []) (Spelled recording)
 file_judged None recording is = absurd is
 file_judged (Some bytes) recording is = is.1
 
-pub recording_judged : (name : Option (List ℕ)) (files : Files) (recording : List Frame) → Records name files recording → IsJudged name files (Recorded recording)
+pub recording_judged : (name : Option (List ℕ)) (files : Files) (recording : Recorded) → Records name files recording → IsJudged name files (Spelled recording)
 recording_judged None files recording is = tt
 recording_judged (Some name) files recording is = file_judged (files name) recording is
 
@@ -306,16 +306,16 @@ cart_always told rom old new _ cause clean t = absurd cause
 
 wrong_always : (file : Option (List ℕ)) (verdict : Verdict) (place : ℕ)
     → IsSomeAnd file (λ bytes. (length bytes ≤ recording_limit) × GoesWrongAt bytes place) → IsVerdict (unwrap_or file []) verdict
-    → (right : Ending) × ((ready : List Frame → Ending) → recording_ending file verdict ready ≡ right) × (6 ≡ status_of right)
+    → (right : Ending) × ((ready : Recorded → Ending) → recording_ending file verdict ready ≡ right) × (6 ≡ status_of right)
 wrong_always None verdict place is judged = absurd is
-wrong_always (Some bytes) (Recorded recording) place (within, wrong) judged = absurd (wrong.none (recording, judged))
+wrong_always (Some bytes) (Spelled recording) place (within, wrong) judged = absurd (wrong.none (recording, judged))
 wrong_always (Some bytes) (WrongAt other) place (within, wrong) judged =
     (RecordingWrong other, (λ ready. ap (λ (long : Bool). cond long RecordingTooLong (RecordingWrong other)) (not_below recording_limit (length bytes) within)), refl)
 
 -- and so is a recording
 pub recording_always : (told : Type 0) (name : Option (List ℕ)) (old new : DepotState) (verdict : Verdict) (ending : Ending)
     → RecordingCause told name old new ending → IsJudged name old.files verdict → ¬ Rose old.read_faults new.read_faults → told
-    → ((right : Ending) × ((ready : List Frame → Ending) → recorded_ending name old.files verdict ready ≡ right) × (status_of ending ≡ status_of right)) ⊎ (status_of ending ≡ 10)
+    → ((right : Ending) × ((ready : Recorded → Ending) → recorded_ending name old.files verdict ready ≡ right) × (status_of ending ≡ status_of right)) ⊎ (status_of ending ≡ 10)
 recording_always told None old new verdict ending cause judged clean t = absurd cause
 recording_always told (Some name) old new verdict RecordingFault (inl rose) judged clean t = absurd (clean rose)
 recording_always told (Some name) old new verdict RecordingFault (inr missing) judged clean t =

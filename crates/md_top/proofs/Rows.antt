@@ -4,9 +4,10 @@ use Rattle.std.specs.Prelude.{codes}
 use Rattle.std.specs.Str.{bytes_eq}
 use Rattle.std.proofs.lemmas.Slice.Eq.{bytes_eq-Decides}
 use Rattle.rom_header.specs.Header.{header_lines}
+use Rattle.md_pads.specs.Recording.{no_frames}
 use Rattle.md_outer.specs.Outside.{DepotState, Files, Rose, SinkState, with_file}
 use Rattle.md_top.specs.Answers.{Answers, Causes, IsRight, IsStateRight, PutsAll, PutsPart, Reports}
-use Rattle.md_top.specs.Inputs.{IsAccepted, IsJudged, Recorded, RecordingCause, Verdict, cart_of}
+use Rattle.md_top.specs.Inputs.{IsAccepted, IsJudged, Spelled, RecordingCause, Verdict, cart_of}
 use Rattle.md_word.specs.Clock.{last_cycle}
 use Rattle.md_top.specs.Loads.{IsStateJudged}
 use Rattle.state_laws.specs.Verdicts.{Keeps, StateVerdict, StateWrongAt}
@@ -178,33 +179,33 @@ part_other files (Some output) (Some bytes) name differ = with_other files outpu
 
 written_other : (run : Run) (old : Files) (parts : Parts) (name : List ℕ) → run.frames ≢ Some name → run.sound ≢ Some name → run.journal ≢ Some name → run.save ≢ Some name
     → written run old parts name ≡ old name
-written_other run old parts name no_frames no_sound no_journal no_save =
+written_other run old parts name not_frames no_sound no_journal no_save =
     part_other (with_part (with_part (with_part old run.frames parts.frames) run.sound parts.sound) run.journal parts.journal) run.save parts.state name no_save
     ∙ part_other (with_part (with_part old run.frames parts.frames) run.sound parts.sound) run.journal parts.journal name no_journal
     ∙ part_other (with_part old run.frames parts.frames) run.sound parts.sound name no_sound
-    ∙ part_other old run.frames parts.frames name no_frames
+    ∙ part_other old run.frames parts.frames name not_frames
 
 parts_other : (run : Run) (old new : Files) (whole : Pieces) → LeavesParts run old new whole
     → (name : List ℕ) → run.frames ≢ Some name → run.sound ≢ Some name → run.journal ≢ Some name → run.save ≢ Some name → new name ≡ old name
-parts_other run old new whole leaves name no_frames no_sound no_journal no_save =
-    ap (λ (files : Files). files name) leaves.files ∙ written_other run old leaves.parts name no_frames no_sound no_journal no_save
+parts_other run old new whole leaves name not_frames no_sound no_journal no_save =
+    ap (λ (files : Files). files name) leaves.files ∙ written_other run old leaves.parts name not_frames no_sound no_journal no_save
 
 leaves_other : (run : Run) (old new : Files) (ending : Ending) → RunFiles run old new ending
     → (name : List ℕ) → run.frames ≢ Some name → run.sound ≢ Some name → run.journal ≢ Some name → run.save ≢ Some name → new name ≡ old name
-leaves_other run old new (Done from frames accesses halted) (start, begins, leaves) name no_frames no_sound no_journal no_save =
-    ap (λ (files : Files). files name) leaves ∙ written_other run old (all_of (pieces_of start run.cycles)) name no_frames no_sound no_journal no_save
-leaves_other run old new FramesFault (start, begins, leaves) name no_frames no_sound no_journal no_save =
-    parts_other run old new (pieces_of start run.cycles) leaves name no_frames no_sound no_journal no_save
-leaves_other run old new SoundFault (start, begins, leaves) name no_frames no_sound no_journal no_save =
-    parts_other run old new (pieces_of start run.cycles) leaves name no_frames no_sound no_journal no_save
-leaves_other run old new JournalFault (start, begins, leaves) name no_frames no_sound no_journal no_save =
-    parts_other run old new (pieces_of start run.cycles) leaves name no_frames no_sound no_journal no_save
-leaves_other run old new SaveFault (start, begins, leaves) name no_frames no_sound no_journal no_save =
-    parts_other run old new (pieces_of start run.cycles) leaves name no_frames no_sound no_journal no_save
-leaves_other run old new Unsaved (start, begins, leaves) name no_frames no_sound no_journal no_save =
-    ap (λ (files : Files). files name) leaves ∙ written_other run old (all_of (pieces_until start run.cycles run.cycles)) name no_frames no_sound no_journal no_save
-leaves_other run old new Memory leaves name no_frames no_sound no_journal no_save = parts_other run old new nothing leaves name no_frames no_sound no_journal no_save
-leaves_other run old new _ leaves name no_frames no_sound no_journal no_save = ap (λ (files : Files). files name) leaves
+leaves_other run old new (Done from frames accesses halted) (start, begins, leaves) name not_frames no_sound no_journal no_save =
+    ap (λ (files : Files). files name) leaves ∙ written_other run old (all_of (pieces_of start run.cycles)) name not_frames no_sound no_journal no_save
+leaves_other run old new FramesFault (start, begins, leaves) name not_frames no_sound no_journal no_save =
+    parts_other run old new (pieces_of start run.cycles) leaves name not_frames no_sound no_journal no_save
+leaves_other run old new SoundFault (start, begins, leaves) name not_frames no_sound no_journal no_save =
+    parts_other run old new (pieces_of start run.cycles) leaves name not_frames no_sound no_journal no_save
+leaves_other run old new JournalFault (start, begins, leaves) name not_frames no_sound no_journal no_save =
+    parts_other run old new (pieces_of start run.cycles) leaves name not_frames no_sound no_journal no_save
+leaves_other run old new SaveFault (start, begins, leaves) name not_frames no_sound no_journal no_save =
+    parts_other run old new (pieces_of start run.cycles) leaves name not_frames no_sound no_journal no_save
+leaves_other run old new Unsaved (start, begins, leaves) name not_frames no_sound no_journal no_save =
+    ap (λ (files : Files). files name) leaves ∙ written_other run old (all_of (pieces_until start run.cycles run.cycles)) name not_frames no_sound no_journal no_save
+leaves_other run old new Memory leaves name not_frames no_sound no_journal no_save = parts_other run old new nothing leaves name not_frames no_sound no_journal no_save
+leaves_other run old new _ leaves name not_frames no_sound no_journal no_save = ap (λ (files : Files). files name) leaves
 
 -- ALL OF THEM
 
@@ -274,11 +275,11 @@ causes_of told sink (Info rom) old new out out' status ending cause leaves repor
           (exact_is status (status_of ending) (status_of (right_ending (Some (Info rom)) old.files verdict (StateWrongAt 0) outcome)) by clean.puts
           (info_right told rom old new verdict (StateWrongAt 0) outcome ending cause clean.reads t));
       complete = λ clean t ready.
-          ready_ends status (status_of (right_ending (Some (Info rom)) old.files (Recorded []) (StateWrongAt 0) (Made [])))
-          (exact_is status (status_of ending) (status_of (right_ending (Some (Info rom)) old.files (Recorded []) (StateWrongAt 0) (Made []))) by clean.puts
-          (info_right told rom old new (Recorded []) (StateWrongAt 0) (Made []) ending cause clean.reads t))
+          ready_ends status (status_of (right_ending (Some (Info rom)) old.files (Spelled no_frames) (StateWrongAt 0) (Made [])))
+          (exact_is status (status_of ending) (status_of (right_ending (Some (Info rom)) old.files (Spelled no_frames) (StateWrongAt 0) (Made []))) by clean.puts
+          (info_right told rom old new (Spelled no_frames) (StateWrongAt 0) (Made []) ending cause clean.reads t))
           (ap status_of (right_accepted (old.files rom) (Shown (header_lines (cart_of rom old.files))) ready));
-      others = λ t name no_frames no_sound no_journal no_save no_output no_image. ap (λ (files : Files). files name) (leaves t);
+      others = λ t name not_frames no_sound no_journal no_save no_output no_image. ap (λ (files : Files). files name) (leaves t);
     }
 causes_of told sink (RunCart run) old new out out' status ending cause leaves reports =
     let by = reported sink (Some (RunCart run)) ending out out' status reports in
@@ -300,7 +301,7 @@ causes_of told sink (RunCart run) old new out out' status ending cause leaves re
           exact_run run old.files verdict outcome status (status_of ending) by clean.puts (run_right_with told run old new verdict ending cause is clean.reads clean.writes t);
       complete = λ clean t ready.
           let begins = ready.1.1 in
-          let verdict = Recorded begins.inputs.recording in
+          let verdict = Spelled begins.inputs.recording in
           let state = Keeps ready.1.0 in
           let is = recording_judged run.recording old.files begins.inputs.recording begins.are.recording in
           let judged = state_judged run old.files verdict begins.inputs ready.1.0 begins.are is begins.with in
@@ -308,7 +309,7 @@ causes_of told sink (RunCart run) old new out out' status ending cause leaves re
           (exact_is status (status_of ending) (status_of (asked_ending run old.files verdict state)) by clean.puts
           (run_right told run old new verdict state ending cause is judged clean.reads clean.writes t))
           (right_done run old.files verdict state ready.1.0 ready.0.1 ready.1.2 begins is judged);
-      others = λ t name no_frames no_sound no_journal no_save no_output no_image. leaves_other run old.files new.files ending (leaves t) name no_frames no_sound no_journal no_save;
+      others = λ t name not_frames no_sound no_journal no_save no_output no_image. leaves_other run old.files new.files ending (leaves t) name not_frames no_sound no_journal no_save;
     }
 causes_of told sink (Convert conversion) old new out out' status ending cause leaves reports =
     let by = reported sink (Some (Convert conversion)) ending out out' status reports in
@@ -336,7 +337,7 @@ causes_of told sink (Convert conversion) old new out out' status ending cause le
           (exact_is status (status_of ending) (status_of (convert_ending conversion old.files (Made ready.0))) by clean.puts
           (convert_right told conversion old new (Made ready.0) ending cause known clean.reads clean.writes t))
           (convert_done conversion (old.files conversion.input) ready.0 ready.1.0);
-      others = λ t name no_frames no_sound no_journal no_save no_output no_image. converted_other conversion old.files new.files ending (leaves t) name no_output;
+      others = λ t name not_frames no_sound no_journal no_save no_output no_image. converted_other conversion old.files new.files ending (leaves t) name no_output;
     }
 causes_of told sink (RunDemo demo) old new out out' status ending (same, ends) leaves reports =
     let by = reported sink (Some (RunDemo demo)) ending out out' status reports in
@@ -360,11 +361,11 @@ causes_of told sink (RunDemo demo) old new out out' status ending (same, ends) l
           (exact_is status (status_of ending) (status_of (right_ending (Some (RunDemo demo)) old.files verdict (StateWrongAt 0) outcome)) by clean.puts
           (demo_right demo old.files verdict (StateWrongAt 0) outcome ending ends));
       complete = λ clean t ready.
-          ready_ends status (status_of (right_ending (Some (RunDemo demo)) old.files (Recorded []) (StateWrongAt 0) (Made [])))
-          (exact_is status (status_of ending) (status_of (right_ending (Some (RunDemo demo)) old.files (Recorded []) (StateWrongAt 0) (Made []))) by clean.puts
-          (demo_right demo old.files (Recorded []) (StateWrongAt 0) (Made []) ending ends))
-          (right_demo_done demo old.files (Recorded []) (StateWrongAt 0) (Made []) ready);
-      others = λ t name no_frames no_sound no_journal no_save no_output no_image. ap (λ (files : Files). files name) (leaves t);
+          ready_ends status (status_of (right_ending (Some (RunDemo demo)) old.files (Spelled no_frames) (StateWrongAt 0) (Made [])))
+          (exact_is status (status_of ending) (status_of (right_ending (Some (RunDemo demo)) old.files (Spelled no_frames) (StateWrongAt 0) (Made []))) by clean.puts
+          (demo_right demo old.files (Spelled no_frames) (StateWrongAt 0) (Made []) ending ends))
+          (right_demo_done demo old.files (Spelled no_frames) (StateWrongAt 0) (Made []) ready);
+      others = λ t name not_frames no_sound no_journal no_save no_output no_image. ap (λ (files : Files). files name) (leaves t);
     }
 causes_of told sink (Assemble words) old new out out' status ending cause leaves reports =
     let by = reported sink (Some (Assemble words)) ending out out' status reports in
@@ -391,7 +392,7 @@ causes_of told sink (Assemble words) old new out out' status ending cause leaves
           (exact_is status (status_of ending) (status_of (asm_ending words old.files)) by clean.puts
           (asm_right told words old new ending cause clean.reads clean.writes t))
           (asm_done (old.files words.source) ready.0 ready.1 ready.2);
-      others = λ t name no_frames no_sound no_journal no_save no_output no_image. assembled_other words old.files new.files ending (leaves t) name no_image.0 no_image.1;
+      others = λ t name not_frames no_sound no_journal no_save no_output no_image. assembled_other words old.files new.files ending (leaves t) name no_image.0 no_image.1;
     }
 
 -- where memory was wanting for the words

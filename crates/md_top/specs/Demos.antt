@@ -2,6 +2,7 @@
 use Rattle.std.specs.Prelude.{◌≡◌, ℕ, ◌<◌, [], length}
 use Rattle.sha2.specs.Hashers.{Holds256}
 use Rattle.sha2.specs.Sha256.{sha256}
+use Rattle.md_pads.specs.Recording.{no_frames}
 use Rattle.md_demo.specs.Demo.{demo_cart}
 use Rattle.md_machine.specs.Outputs.{frames_bytes, journal_bytes, sound_bytes}
 use Rattle.md_machine.specs.Starts.{Start}
@@ -18,7 +19,7 @@ use Rattle.md_top.specs.declared.summary.Summary.{Summary}
 
 -- it begins at power-on, with its cartridge and nothing pressed on the pads
 abbrev pub demo_start : Demo → Start
-demo_start demo = powered_on (record { cart = demo_cart demo.number; recording = []; pal = demo.pal })
+demo_start demo = powered_on (record { cart = demo_cart demo.number; recording = no_frames; pal = demo.pal })
 
 -- the digests of a run from a start to a cycle: of its frames, each with its head, of its pairs of
 -- samples, and of the records of its journal

@@ -6,11 +6,11 @@ use Rattle.rom_header.specs.Header.{header_lines}
 use Rattle.rom_header.specs.declared.cart.CartFault.{CartFault}
 use Rattle.hex.specs.Hex.{encode_lower}
 use Rattle.md_outer.specs.Outside.{DepotState, Files}
-use Rattle.md_pads.specs.Recording.{Frame}
+use Rattle.md_pads.specs.Recording.{Recorded, no_frames}
 use Rattle.md_machine.specs.Starts.{Start}
 use Rattle.md_top.specs.Counts.{pairs_between}
 use Rattle.md_top.specs.Demos.{DemoEnds, demo_start, summary_from}
-use Rattle.md_top.specs.Inputs.{CartCause, InputCause, IsAccepted, Recorded, Verdict, WrongAt, cart_limit, cart_of, recording_limit, refusal_of}
+use Rattle.md_top.specs.Inputs.{CartCause, InputCause, IsAccepted, Spelled, Verdict, WrongAt, cart_limit, cart_of, recording_limit, refusal_of}
 use Rattle.md_word.specs.Clock.{last_cycle}
 use Rattle.md_top.specs.Limits.{IsEnd}
 use Rattle.md_top.specs.Loads.{Begins, CanRun, LoadCause, MayBeginAt, state_limit}
@@ -234,18 +234,18 @@ file_ending None accepted = ReadFault
 file_ending (Some bytes) accepted = if nat_lt cart_limit (length bytes) then TooLong else cart_ending (fault_of bytes) accepted
 
 -- behind the bytes of the recording's file; `ready` is the ending behind what they spell
-abbrev pub verdict_ending : Verdict → (List Frame → Ending) → Ending
+abbrev pub verdict_ending : Verdict → (Recorded → Ending) → Ending
 verdict_ending (WrongAt place) ready = RecordingWrong place
-verdict_ending (Recorded recording) ready = ready recording
+verdict_ending (Spelled recording) ready = ready recording
 
 -- behind the recording's file
-abbrev pub recording_ending : Option (List ℕ) → Verdict → (List Frame → Ending) → Ending
+abbrev pub recording_ending : Option (List ℕ) → Verdict → (Recorded → Ending) → Ending
 recording_ending None verdict ready = RecordingFault
 recording_ending (Some bytes) verdict ready = if nat_lt recording_limit (length bytes) then RecordingTooLong else verdict_ending verdict ready
 
 -- behind an accepted cartridge, with the recording of this name, if one is named
-abbrev pub recorded_ending : Option (List ℕ) → Files → Verdict → (List Frame → Ending) → Ending
-recorded_ending None files verdict ready = ready []
+abbrev pub recorded_ending : Option (List ℕ) → Files → Verdict → (Recorded → Ending) → Ending
+recorded_ending None files verdict ready = ready no_frames
 recorded_ending (Some name) files verdict ready = recording_ending (files name) verdict ready
 
 -- where a run begins

@@ -4,7 +4,7 @@ use Rattle.rom_header.specs.Cartridge.{fault_of, image}
 use Rattle.rom_header.specs.declared.cart.CartFault.{CartFault}
 use Rattle.rom_header.specs.declared.cart.CartFault.TheVariants as fault
 use Rattle.md_outer.specs.Outside.{DepotState, Files, Rose, bytes_of}
-use Rattle.md_pads.specs.Recording.{Frame, GoesWrongAt, Spells}
+use Rattle.md_pads.specs.Recording.{GoesWrongAt, Recorded, Spells, no_frames}
 use Rattle.md_args.specs.Words.{Command, Run, load_name, recording_name, rom_of}
 use Rattle.md_top.specs.declared.ending.Ending.{Ending}
 use Rattle.md_top.specs.declared.ending.Ending.TheVariants.{ReadFault, TooLong, Short, NoMark, RecordingFault, RecordingTooLong, RecordingWrong, Memory}
@@ -47,11 +47,11 @@ CartCause told rom old new ending = ⊥
 
 -- the greatest length of a recording's file
 abbrev pub recording_limit : ℕ
-recording_limit = 4194316
+recording_limit = 4194318
 
 -- the recording of a run: it has no frames where none is named, and else those that its file spells
-abbrev pub Records : Option (List ℕ) → Files → List Frame → Type 0
-Records None files recording = recording ≡ []
+abbrev pub Records : Option (List ℕ) → Files → Recorded → Type 0
+Records None files recording = recording ≡ no_frames
 Records (Some name) files recording = IsSomeAnd (files name) (λ bytes. (length bytes ≤ recording_limit) × Spells bytes recording)
 
 -- why the recording of this name is not there
@@ -62,15 +62,15 @@ RecordingCause told (Some name) old new (RecordingWrong place) = told → IsSome
 RecordingCause told (Some name) old new Memory = Unit {0}
 RecordingCause told name old new ending = ⊥
 
--- what the bytes of a recording's file are found to be: the spelling of these frames, or wrong from a
+-- what the bytes of a recording's file are found to be: the spelling of this recording, or wrong from a
 -- place on
 pub data Verdict : Type 0 where
-  Recorded : List Frame → Verdict
+  Spelled : Recorded → Verdict
   WrongAt : ℕ → Verdict
 
 -- the bytes are so
 abbrev pub IsVerdict : List ℕ → Verdict → Type 0
-IsVerdict bytes (Recorded recording) = Spells bytes recording
+IsVerdict bytes (Spelled recording) = Spells bytes recording
 IsVerdict bytes (WrongAt place) = GoesWrongAt bytes place
 
 -- the bytes of the recording of this name are so, if one is named

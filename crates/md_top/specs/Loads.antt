@@ -1,11 +1,11 @@
 -- Where a run begins: at power-on, or where a saved state was kept, and why that is not read.
 use Rattle.std.specs.Prelude.{◌≡◌, ◌⊎◌, ℕ, ◌<◌, ◌≤◌, List, [], length, Option, Some, None, IsSomeAnd}
 use Rattle.md_outer.specs.Outside.{DepotState, Files, Rose, bytes_of}
-use Rattle.md_pads.specs.Recording.{Frame}
+use Rattle.md_pads.specs.Recording.{Recorded, no_frames}
 use Rattle.md_machine.specs.Starts.{Start}
 use Rattle.state_laws.specs.Verdicts.{IsStateVerdict, Keeps, OfOther, StateVerdict, StateWrongAt}
 use Rattle.md_args.specs.Words.{Run}
-use Rattle.md_top.specs.Inputs.{AreInputs, Recorded, Verdict, cart_of}
+use Rattle.md_top.specs.Inputs.{AreInputs, Spelled, Verdict, cart_of}
 use Rattle.md_top.specs.Runs.{powered_on}
 use Rattle.md_top.specs.declared.ending.Ending.{Ending}
 use Rattle.md_top.specs.declared.ending.Ending.TheVariants.{LoadFault, StateTooLong, StateWrong, OtherCart, Memory}
@@ -68,9 +68,9 @@ IsLoadFound told run files verdict =
     (inputs : Inputs) × (told → AreInputs run files inputs) × IsSomeAnd run.load (λ name. told → IsFoundIn (files name) inputs verdict)
 
 -- the frames of a recording by a verdict on it: none, if none is named or it goes wrong
-abbrev pub recording_by : Option (List ℕ) → Verdict → List Frame
-recording_by (Some name) (Recorded recording) = recording
-recording_by name verdict = []
+abbrev pub recording_by : Option (List ℕ) → Verdict → Recorded
+recording_by (Some name) (Spelled recording) = recording
+recording_by name verdict = no_frames
 
 -- the inputs of a run by a verdict on its recording
 abbrev pub inputs_by : Run → Files → Verdict → Inputs

@@ -31,7 +31,7 @@ pub(crate) fn first_machine<D: Depot>(
     inputs: Inputs,
     depot: &mut D,
 ) -> Result<Machine, Ending>
-    requires { All IsFrame inputs.recording }
+    requires { All IsFrame inputs.recording.frames }
     ensures begins { IfOk result (λ machine. D.told → BeginsWith (option_copied load.entry) (D.state depot.old).files inputs (start_at machine)) }
     ensures at { IfOk result (λ machine. option_copied load.entry ≡ None → machine.at ≡ 0) }
     ensures fresh { IfOk result IsFresh }
@@ -55,7 +55,7 @@ fn load_machine<D: Depot>(
     inputs: Inputs,
     depot: &mut D,
 ) -> Result<Machine, Ending>
-    requires { All IsFrame inputs.recording }
+    requires { All IsFrame inputs.recording.frames }
     ensures begins { IfOk result (λ machine. D.told → BeginsWith (Some name.now) (D.state depot.old).files inputs (start_at machine)) }
     ensures fresh { IfOk result IsFresh }
     ensures err { IfErr result (StateCause D.told (Some name.now) inputs (D.state depot.old) (D.state depot.new)) }
@@ -72,7 +72,7 @@ fn load_machine<D: Depot>(
 
 /// The machine that the bytes of a saved state keep.
 fn kept_machine(alloc: Global, bytes: &[u8], inputs: Inputs) -> Result<Machine, Ending>
-    requires { All IsFrame inputs.recording }
+    requires { All IsFrame inputs.recording.frames }
     ensures found { IfOk result (λ machine. IsFound inputs bytes.now (Keeps (start_at machine))) }
     ensures fresh { IfOk result IsFresh }
     ensures err { IfErr result (IsRefused inputs bytes.now) }
@@ -94,7 +94,7 @@ fn kept_machine(alloc: Global, bytes: &[u8], inputs: Inputs) -> Result<Machine, 
 
 /// The machine of these inputs at power-on.
 pub(crate) fn power_on(alloc: Global, inputs: Inputs) -> Result<Machine, NoMemory>
-    requires { All IsFrame inputs.recording }
+    requires { All IsFrame inputs.recording.frames }
     ensures start { IfOk result (λ machine. start_at machine ≡ powered_on inputs) }
     ensures fresh { IfOk result IsFresh }
 {

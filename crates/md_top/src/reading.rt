@@ -13,8 +13,8 @@ use md_pads::{RecFault, Recording};
 use rom_header::{Cart, CartFault, GREATEST};
 use std::alloc::Global;
 
-/// The greatest length of a recording's file: its head of 12 bytes, and 1,048,576 frames.
-const LONGEST_RECORDING: u64 = 4_194_316;
+/// The greatest length of a recording's file: its head of 14 bytes, and 1,048,576 frames.
+const LONGEST_RECORDING: u64 = 4_194_318;
 
 /// Reads the cartridge of a run, and then its recording.
 pub(crate) fn read_inputs<D: Depot>(
@@ -22,7 +22,7 @@ pub(crate) fn read_inputs<D: Depot>(
     run: &RunWords<'_>,
     depot: &mut D,
 ) -> Result<Inputs, Ending>
-    ensures buttons { IfOk result (λ inputs. All IsFrame inputs.recording) }
+    ensures buttons { IfOk result (λ inputs. All IsFrame inputs.recording.frames) }
     ensures inputs { IfOk result (λ inputs. D.told → AreInputs (shown_run run.now) (D.state depot.old).files inputs) }
     ensures err { IfErr result (InputCause D.told (shown_run run.now) (D.state depot.old) (D.state depot.new)) }
     ensures files { D.told → (D.state depot.new).files ≡ (D.state depot.old).files }
@@ -79,7 +79,7 @@ fn read_recording<D: Depot>(
     name: Option<&str>,
     depot: &mut D,
 ) -> Result<Recording, Ending>
-    ensures buttons { IfOk result (λ recording. All IsFrame recording) }
+    ensures buttons { IfOk result (λ recording. All IsFrame recording.frames) }
     ensures recording { IfOk result (λ recording. D.told → Records (option_copied name.entry) (D.state depot.old).files recording) }
     ensures err { IfErr result (RecordingCause D.told (option_copied name.entry) (D.state depot.old) (D.state depot.new)) }
     ensures files { D.told → (D.state depot.new).files ≡ (D.state depot.old).files }
@@ -93,7 +93,7 @@ fn read_recording<D: Depot>(
 
 /// Fetches the recording of this name and reads it.
 fn fetch_recording<D: Depot>(alloc: Global, name: &str, depot: &mut D) -> Result<Recording, Ending>
-    ensures buttons { IfOk result (λ recording. All IsFrame recording) }
+    ensures buttons { IfOk result (λ recording. All IsFrame recording.frames) }
     ensures recording { IfOk result (λ recording. D.told → Records (Some name.now) (D.state depot.old).files recording) }
     ensures err { IfErr result (RecordingCause D.told (Some name.now) (D.state depot.old) (D.state depot.new)) }
     ensures files { D.told → (D.state depot.new).files ≡ (D.state depot.old).files }

@@ -6,7 +6,7 @@ use std::test::Fail;
 
 /// The bytes of recordings, and the lines of a run to cycle 5 with them, in which line 0 begins. A place
 /// is that of the first byte that no recording has there behind the bytes before it.
-static RECORDINGS: [(&[u8], u8, &str); 10] = [
+static RECORDINGS: [(&[u8], u8, &str); 13] = [
     (b"MDREC001\0\0\0\0", 0, LINES),
     (b"MDREC001\0\0\0\x01\0\xff\0\xff", 0, LINES),
     (
@@ -27,7 +27,14 @@ static RECORDINGS: [(&[u8], u8, &str); 10] = [
     ),
     (b"MDREC001\0\0\0\0\0", 6, "refused: recording at 12\n"),
     (b"MDREC001\0\x10\0\x01\0", 6, "refused: recording at 11\n"),
-    (b"MDREC002\0\0\0\0", 6, "refused: recording at 7\n"),
+    (b"MDREC003\0\0\0\0", 6, "refused: recording at 7\n"),
+    (b"MDREC002\0\x03\0\0\0\x01\x0f\xff\x0f\xff", 0, LINES),
+    (b"MDREC002\0\x04\0\0\0\0", 6, "refused: recording at 9\n"),
+    (
+        b"MDREC002\0\x01\0\0\0\x01\x04\0\x04\0",
+        6,
+        "refused: recording at 16\n",
+    ),
     (b"", 6, "refused: recording at 0\n"),
 ];
 
@@ -63,9 +70,9 @@ fn recordings_are_read_or_refused_at_their_place(rt: HostRuntime) -> Result<(), 
 /// The length of the longest recording where it is not read, and of one with a byte more where that is not
 /// refused.
 fn first_wrong_length(alloc: Global) -> Result<Option<usize>, AllocError> {
-    let mut longer = vec![in alloc; 0u8; 4_194_317]?;
-    write_at(&mut longer, 0, b"MDREC001\0\x10\0\0");
-    let longest = longer.get(..4_194_316).unwrap_or(&[]);
+    let mut longer = vec![in alloc; 0u8; 4_194_319]?;
+    write_at(&mut longer, 0, b"MDREC002\0\0\0\x10\0\0");
+    let longest = longer.get(..4_194_318).unwrap_or(&[]);
     if !is_told(alloc, longest, 0, LINES)? {
         return Ok(Some(longest.len()));
     }
@@ -84,7 +91,7 @@ fn a_recording_has_a_greatest_length(rt: HostRuntime) -> Result<(), Fail> {
 static INPUTS: [(&str, &[u8]); 3] = [
     ("S", b"SEGA"),
     ("G", b"MDREC001\0\0\0\0"),
-    ("P", b"MDREC002\0\0\0\0"),
+    ("P", b"MDREC003\0\0\0\0"),
 ];
 
 /// A depot with a cartridge `Z`, one `S` that is short, a recording `G`, one `P` that goes wrong at its
@@ -94,7 +101,7 @@ fn inputs(alloc: Global) -> Result<MemDepot, AllocError> {
     for (name, bytes) in &INPUTS {
         put_file(&mut files, alloc, name, bytes, &[])?;
     }
-    let long = vec![in alloc; 0u8; 4_194_317]?;
+    let long = vec![in alloc; 0u8; 4_194_319]?;
     put_file(&mut files, alloc, "Z", &IDLE.image(alloc)?, &[])?;
     put_file(&mut files, alloc, "Q", &long, &[])?;
     depot_of(alloc, files)
@@ -157,7 +164,7 @@ fn refusals_stand_in_their_order(rt: HostRuntime) -> Result<(), Fail> {
     Ok(())
 }
 
-/// examples/pads, whose branches are relative: a tone while B is held on pad 1.
+/// A cartridge that plays a tone while B is held on pad 1. Its branches are relative.
 const PADS: Cart = Cart {
     length: 512,
     patches: &[

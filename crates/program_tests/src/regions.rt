@@ -29,7 +29,7 @@ fn a_frame_of_pal(rt: HostRuntime) -> Result<(), Fail> {
     );
     assert!(rt; whole.length("J") == Some(16 * 445));
     assert!(rt;
-        whole.length("S") == Some(393_602) && whole.file("S").get(48..49) == Some([1].as_slice())
+        whole.length("S") == Some(393_620) && whole.file("S").get(48..49) == Some([1].as_slice())
     );
     Ok(())
 }

@@ -72,7 +72,7 @@ fn writes_the_rest(
     rest: &Further,
 ) -> Result<bool, AllocError> {
     let mut cut = answer(alloc, first, &BEEP, b"", Fails::Nothing)?;
-    let kept = cut.is_left(0, lines) && cut.length("S") == Some(393_602);
+    let kept = cut.is_left(0, lines) && cut.length("S") == Some(393_620);
     let resumed = comes_to(alloc, &mut cut.depot, rest)?;
     Ok(kept && resumed && is_cut(&whole(alloc)?, &cut.depot))
 }
@@ -103,7 +103,7 @@ fn put_cartridges(files: &mut Files, alloc: Global) -> Result<(), AllocError> {
 /// Adds a state, one with another mark, and one that is longer than any file of a state may be.
 fn put_states(files: &mut Files, alloc: Global, state: &[u8]) -> Result<(), AllocError> {
     let mut marked = state.to_vec(alloc)?;
-    write_at(&mut marked, 7, b"3");
+    write_at(&mut marked, 7, b"4");
     let long = vec![in alloc; 0u8; 2_097_153]?;
     put_file(files, alloc, "S", state, &[])?;
     put_file(files, alloc, "C", &marked, &[])?;
@@ -134,8 +134,8 @@ static REFUSALS: [Further; 8] = [
     ("run Z --cycles 0 --in N --load M", 3, "fault: reading N\n"),
     ("run Z --cycles 0 --load N", 3, "fault: reading N\n"),
     ("run Z --cycles 0 --load Q", 14, "refused: Q is too long\n"),
-    ("run Z --cycles 0 --load A", 7, "refused: state at 393601\n"),
-    ("run Z --cycles 0 --load B", 7, "refused: state at 393602\n"),
+    ("run Z --cycles 0 --load A", 7, "refused: state at 393619\n"),
+    ("run Z --cycles 0 --load B", 7, "refused: state at 393620\n"),
     ("run Z --cycles 0 --load C", 7, "refused: state at 0\n"),
     (
         "run Z --cycles 16129 --load S",

@@ -12,7 +12,7 @@ use Rattle.z80_chip.specs.States.{State80}
 use Rattle.save_state.specs.declared.layout.Part.{Part}
 use Rattle.md_fields.specs.Places.{number_at}
 use Rattle.md_machine.specs.Starts.{first_batch}
-use Rattle.md_pads.specs.Recording.{Frame}
+use Rattle.md_pads.specs.Recording.{Recorded}
 use Rattle.bus_shared.specs.Board.{Board}
 use Rattle.bus_shared.specs.Spelling as shared
 use Rattle.vdp_chip.specs.Drawing.{Drawing}
@@ -91,13 +91,13 @@ sub_read cart bytes at parts part has holds answer chip read r s h b e g f found
 
 -- ---- the board
 
-abbrev SharedKept : List Frame → Bool → ℕ → List ℕ → Board → Type 0
+abbrev SharedKept : Recorded → Bool → ℕ → List ℕ → Board → Type 0
 SharedKept recording pal at bytes board = shared.Spells at pal bytes board × (board.recording ≡ recording)
 
 not_below : (a b : ℕ) → ¬ (b < a) → a ≤ b
 not_below a b h = grind (arith, h)
 
-shared_read_in : (recording : List Frame) (bytes : List ℕ) (at : ℕ) (parts : List Part) (part : List ℕ) (has : Bool) (seen resets : ℕ) (answer board read : Result Board Unspell) → board ≡ placed parts answer → read ≡ with_rule board (leb seen resets) resets_place → has ≡ (holder_in bytes == 1) → seen ≡ seen_resets bytes → resets ≡ resets_of bytes → at ≡ at_of bytes → parts ≡ shared_parts has → part ≡ gathered parts bytes → IfOk answer (SharedKept recording (region_of bytes) at part) → ((b : Board) → shared.Spells at (region_of bytes) part b → b.recording ≡ recording → answer ≢ failed NoMemory → answer ≡ Ok b) → ((p : ℕ) → answer ≡ failed (Rule p) → shared.GoesWrongAt at (region_of bytes) part p) → ((p : ℕ) → shared.GoesWrongAt at (region_of bytes) part p → answer ≢ failed NoMemory → answer ≡ failed (Rule p)) → Reads (IsShared recording bytes) (SharedFails bytes) read
+shared_read_in : (recording : Recorded) (bytes : List ℕ) (at : ℕ) (parts : List Part) (part : List ℕ) (has : Bool) (seen resets : ℕ) (answer board read : Result Board Unspell) → board ≡ placed parts answer → read ≡ with_rule board (leb seen resets) resets_place → has ≡ (holder_in bytes == 1) → seen ≡ seen_resets bytes → resets ≡ resets_of bytes → at ≡ at_of bytes → parts ≡ shared_parts has → part ≡ gathered parts bytes → IfOk answer (SharedKept recording (region_of bytes) at part) → ((b : Board) → shared.Spells at (region_of bytes) part b → b.recording ≡ recording → answer ≢ failed NoMemory → answer ≡ Ok b) → ((p : ℕ) → answer ≡ failed (Rule p) → shared.GoesWrongAt at (region_of bytes) part p) → ((p : ℕ) → shared.GoesWrongAt at (region_of bytes) part p → answer ≢ failed NoMemory → answer ≡ failed (Rule p)) → Reads (IsShared recording bytes) (SharedFails bytes) read
 shared_read_in recording bytes at parts part has seen resets answer board read r s h a b e g f found only rule wrong =
     subst (Reads (IsShared recording bytes) (SharedFails bytes)) (sym (s ∙ ap (λ (x : Result Board Unspell). with_rule x (leb seen resets) resets_place) r)) (
     said (Ruled (SharedKept recording (region_of bytes) (at_of bytes) (shared_bytes bytes)) Broken) (IsShared recording bytes)
@@ -117,13 +117,13 @@ shared_read_in recording bytes at parts part has seen resets answer board read r
       whole = g ∙ ap shared_parts h
 
 -- what a reader of the board says, by its region
-record SharedSays (recording : List Frame) (at : ℕ) (part : List ℕ) (answer : Result Board Unspell) (pal : Bool) : Type 0 where
+record SharedSays (recording : Recorded) (at : ℕ) (part : List ℕ) (answer : Result Board Unspell) (pal : Bool) : Type 0 where
   found : IfOk answer (SharedKept recording pal at part)
   only : (b : Board) → shared.Spells at pal part b → b.recording ≡ recording → answer ≢ failed NoMemory → answer ≡ Ok b
   rule : (p : ℕ) → answer ≡ failed (Rule p) → shared.GoesWrongAt at pal part p
   wrong : (p : ℕ) → shared.GoesWrongAt at pal part p → answer ≢ failed NoMemory → answer ≡ failed (Rule p)
 
-pub shared_read : (recording : List Frame) (bytes : List ℕ) (pal : Bool) (at : ℕ) (parts : List Part) (part : List ℕ) (has : Bool) (seen resets : ℕ) (answer board read : Result Board Unspell) → board ≡ placed parts answer → read ≡ with_rule board (leb seen resets) resets_place → has ≡ (holder_in bytes == 1) → seen ≡ seen_resets bytes → resets ≡ resets_of bytes → at ≡ at_of bytes → pal ≡ region_of bytes → parts ≡ shared_parts has → part ≡ gathered parts bytes → IfOk answer (SharedKept recording pal at part) → ((b : Board) → shared.Spells at pal part b → b.recording ≡ recording → answer ≢ failed NoMemory → answer ≡ Ok b) → ((p : ℕ) → answer ≡ failed (Rule p) → shared.GoesWrongAt at pal part p) → ((p : ℕ) → shared.GoesWrongAt at pal part p → answer ≢ failed NoMemory → answer ≡ failed (Rule p)) → Reads (IsShared recording bytes) (SharedFails bytes) read
+pub shared_read : (recording : Recorded) (bytes : List ℕ) (pal : Bool) (at : ℕ) (parts : List Part) (part : List ℕ) (has : Bool) (seen resets : ℕ) (answer board read : Result Board Unspell) → board ≡ placed parts answer → read ≡ with_rule board (leb seen resets) resets_place → has ≡ (holder_in bytes == 1) → seen ≡ seen_resets bytes → resets ≡ resets_of bytes → at ≡ at_of bytes → pal ≡ region_of bytes → parts ≡ shared_parts has → part ≡ gathered parts bytes → IfOk answer (SharedKept recording pal at part) → ((b : Board) → shared.Spells at pal part b → b.recording ≡ recording → answer ≢ failed NoMemory → answer ≡ Ok b) → ((p : ℕ) → answer ≡ failed (Rule p) → shared.GoesWrongAt at pal part p) → ((p : ℕ) → shared.GoesWrongAt at pal part p → answer ≢ failed NoMemory → answer ≡ failed (Rule p)) → Reads (IsShared recording bytes) (SharedFails bytes) read
 shared_read recording bytes pal at parts part has seen resets answer board read r s h a b e region g f found only rule wrong =
     let says : SharedSays recording at part answer (region_of bytes) =
     subst (SharedSays recording at part answer) region (record { found = found; only = only; rule = rule; wrong = wrong }) in

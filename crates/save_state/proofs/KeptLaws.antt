@@ -6,7 +6,7 @@ use Rattle.std.specs.Prelude.{slice_index}
 use Rattle.md_word.specs.Coding.{flag_number}
 use Rattle.md_fields.proofs.Flags.{flag_back}
 use Rattle.md_fields.specs.Places.{IsBytes}
-use Rattle.md_pads.specs.Recording.{Frame}
+use Rattle.md_pads.specs.Recording.{Recorded}
 use Rattle.m68k_chip.specs.Spelling as main
 use Rattle.z80_chip.specs.Spelling as sub
 use Rattle.z80_parcel.specs.Parcels.{Store}
@@ -61,14 +61,14 @@ record Owners (bytes : List ℕ) (m : Console) : Type 0 where
   numbers : part_of sub_part bytes ≡ number_bytes m.sub.state
   store : part_of store_part bytes ≡ shared.store_bytes (store_of m)
 
-shared_cut : (cart : List ℕ) (recording : List Frame) (bytes : List ℕ) (m : MachineValue) → length bytes ≡ 393602 → IsMachineOf cart recording bytes m → (length (shared.store_bytes m.console.shared.store) ≡ shared.store_size (holder_in bytes == 1)) × ((holder_in bytes == 1) ≡ true → part_of store_part bytes ≡ shared.store_bytes m.console.shared.store) × AreBehind bytes (vdp_bytes m.console.shared.vdp) (fm_port.port_bytes m.console.shared.fm) (psg_port.port_bytes m.console.shared.held) (shared.lines_bytes (lines_of m.console.shared))
+shared_cut : (cart : List ℕ) (recording : Recorded) (bytes : List ℕ) (m : MachineValue) → length bytes ≡ 393620 → IsMachineOf cart recording bytes m → (length (shared.store_bytes m.console.shared.store) ≡ shared.store_size (holder_in bytes == 1)) × ((holder_in bytes == 1) ≡ true → part_of store_part bytes ≡ shared.store_bytes m.console.shared.store) × AreBehind bytes (vdp_bytes m.console.shared.vdp) (fm_port.port_bytes m.console.shared.fm) (psg_port.port_bytes m.console.shared.held) (shared.lines_bytes (lines_of m.console.shared))
 shared_cut cart recording bytes m long is =
     let b = m.console.shared in
     let s = is.shared.spells in
     cut_shared bytes (shared.store_bytes b.store) (vdp_bytes b.vdp) (fm_port.port_bytes b.fm) (psg_port.port_bytes b.held) (shared.lines_bytes (lines_of b)) (holder_in bytes == 1) long
     (vdp_long (at_of bytes) (region_of bytes) (vdp_bytes b.vdp) b.vdp s.vdp) (fm_port_long (at_of bytes) (fm_port.port_bytes b.fm) b.fm s.fm) (psg_port_long (at_of bytes) (psg_port.port_bytes b.held) b.held s.held) (lines_long (at_of bytes) (region_of bytes) (shared_bytes bytes) b s) s.all
 
-owners : (cart : List ℕ) (recording : List Frame) (bytes : List ℕ) (m : MachineValue) → length bytes ≡ 393602 → IsMachineOf cart recording bytes m → Owners bytes m.console
+owners : (cart : List ℕ) (recording : Recorded) (bytes : List ℕ) (m : MachineValue) → length bytes ≡ 393620 → IsMachineOf cart recording bytes m → Owners bytes m.console
 owners cart recording bytes m long is =
     let h = holder_in bytes in
     let s = m.console.sub.state in
@@ -86,7 +86,7 @@ owners cart recording bytes m long is =
       store = owned bytes h b.store s.store few shared_has rest.1 numbers.1;
     }
 
-pub machine_parts : (cart : List ℕ) (recording : List Frame) (bytes digest : List ℕ) (m : MachineValue) → HasForm bytes → part_of digest_part bytes ≡ digest → IsMachineOf cart recording bytes m → AreParts digest m.at m.console bytes
+pub machine_parts : (cart : List ℕ) (recording : Recorded) (bytes digest : List ℕ) (m : MachineValue) → HasForm bytes → part_of digest_part bytes ≡ digest → IsMachineOf cart recording bytes m → AreParts digest m.at m.console bytes
 machine_parts cart recording bytes digest m form d is =
     let o = owners cart recording bytes m form.long is in
     let rest = (shared_cut cart recording bytes m form.long is).2 in
@@ -111,7 +111,7 @@ machine_parts cart recording bytes digest m form d is =
       lines = rest.lines;
     }
 
-pub saved_there : (cart : List ℕ) (recording : List Frame) (bytes digest : List ℕ) (m : MachineValue) → HasForm bytes → part_of digest_part bytes ≡ digest → IsMachineOf cart recording bytes m → IsSaved cart (record { at = m.at; console = m.console })
+pub saved_there : (cart : List ℕ) (recording : Recorded) (bytes digest : List ℕ) (m : MachineValue) → HasForm bytes → part_of digest_part bytes ≡ digest → IsMachineOf cart recording bytes m → IsSaved cart (record { at = m.at; console = m.console })
 saved_there cart recording bytes digest m form d is =
     let c = m.console in
     let p = machine_parts cart recording bytes digest m form d is in
@@ -153,7 +153,7 @@ saved_there cart recording bytes digest m form d is =
       }));
     }
 
-pub state_there : (cart : List ℕ) (recording : List Frame) (bytes : List ℕ) (m : MachineValue) → IsBytes bytes → HasForm bytes → part_of digest_part bytes ≡ sha256 cart → IsMachineOf cart recording bytes m → IsNewest cart bytes (record { at = m.at; console = m.console })
+pub state_there : (cart : List ℕ) (recording : Recorded) (bytes : List ℕ) (m : MachineValue) → IsBytes bytes → HasForm bytes → part_of digest_part bytes ≡ sha256 cart → IsMachineOf cart recording bytes m → IsNewest cart bytes (record { at = m.at; console = m.console })
 state_there cart recording bytes m fits form d is = record {
   saved = saved_there cart recording bytes (sha256 cart) m form d is;
   all = parts_spelled (sha256 m.console.cart) m.at m.console bytes fits (machine_parts cart recording bytes (sha256 m.console.cart) m form (d ∙ ap sha256 (sym is.main.image)) is);

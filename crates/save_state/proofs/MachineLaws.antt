@@ -7,7 +7,7 @@ use Rattle.md_word.specs.declared.unspell.Unspell.{Unspell}
 use Rattle.md_word.specs.declared.unspell.Unspell.TheVariants.{Rule, NoMemory}
 use Rattle.md_fields.specs.Fields.{AllHold}
 use Rattle.md_fields.proofs.Items.{all_hold}
-use Rattle.md_pads.specs.Recording.{Frame}
+use Rattle.md_pads.specs.Recording.{Recorded}
 use Rattle.m68k_chip.specs.Numbers.{numbers_of}
 use Rattle.m68k_chip.specs.Saved as saved68
 use Rattle.m68k_chip.specs.Validity.{Chip68Value}
@@ -42,7 +42,7 @@ use Rattle.save_state.proofs.Places.{both_hold, from_first}
 
 -- ---- the items together
 
-pub pieces_read : (cart : List ℕ) (recording : List Frame) (bytes : List ℕ) (m : Result Chip68Value Unspell) (s : Result Chip80Value Unspell) (b : Result Board Unspell) (d : Result Drawing Unspell) (f : Result fm_synths.Synth Unspell) (p : Result psg_synths.Synth Unspell) (processors : Result (Chip68Value × Chip80Value) Unspell) (board : Result (Board × Drawing) Unspell) (sound : Result (fm_synths.Synth × psg_synths.Synth) Unspell) (rest : Result ((Board × Drawing) × (fm_synths.Synth × psg_synths.Synth)) Unspell) (all : Result Pieces Unspell) → processors ≡ both m s → board ≡ both b d → sound ≡ both f p → rest ≡ both board sound → all ≡ both processors rest → Reads (IsMain cart bytes) (MainFails cart bytes) m → Reads (IsSub cart bytes) (SubFails cart bytes) s → Reads (IsShared recording bytes) (SharedFails bytes) b → Reads (IsPicture bytes) (DrawingFails bytes) d → Reads (IsFm bytes) (FmFails bytes) f → Reads (IsPsg bytes) (PsgFails bytes) p → Reads (Kept cart recording bytes) (Fails cart bytes) all
+pub pieces_read : (cart : List ℕ) (recording : Recorded) (bytes : List ℕ) (m : Result Chip68Value Unspell) (s : Result Chip80Value Unspell) (b : Result Board Unspell) (d : Result Drawing Unspell) (f : Result fm_synths.Synth Unspell) (p : Result psg_synths.Synth Unspell) (processors : Result (Chip68Value × Chip80Value) Unspell) (board : Result (Board × Drawing) Unspell) (sound : Result (fm_synths.Synth × psg_synths.Synth) Unspell) (rest : Result ((Board × Drawing) × (fm_synths.Synth × psg_synths.Synth)) Unspell) (all : Result Pieces Unspell) → processors ≡ both m s → board ≡ both b d → sound ≡ both f p → rest ≡ both board sound → all ≡ both processors rest → Reads (IsMain cart bytes) (MainFails cart bytes) m → Reads (IsSub cart bytes) (SubFails cart bytes) s → Reads (IsShared recording bytes) (SharedFails bytes) b → Reads (IsPicture bytes) (DrawingFails bytes) d → Reads (IsFm bytes) (FmFails bytes) f → Reads (IsPsg bytes) (PsgFails bytes) p → Reads (Kept cart recording bytes) (Fails cart bytes) all
 pieces_read cart recording bytes m s b d f p processors board sound rest all ep eb es er ea rm rs rb rd rf rp =
     subst (Reads (Kept cart recording bytes) (Fails cart bytes)) (sym ea) (
     joined (KeepsBoth (IsMain cart bytes) (IsSub cart bytes)) (KeepsBoth (KeepsBoth (IsShared recording bytes) (IsPicture bytes)) (KeepsBoth (IsFm bytes) (IsPsg bytes))) (Either (MainFails cart bytes) (SubFails cart bytes)) (Either (Either (SharedFails bytes) (DrawingFails bytes)) (Either (FmFails bytes) (PsgFails bytes))) processors rest
@@ -79,7 +79,7 @@ from_fails cart bytes p right (psg_fails h) = inr (inr (inr h))
 pieces_of : MachineValue → Pieces
 pieces_of m = ((record { cart = m.console.cart; state = m.console.main }, m.console.sub), ((m.console.shared, drawing_in m.console), (m.console.fm, m.console.psg)))
 
-kept_of : (cart : List ℕ) (recording : List Frame) (bytes : List ℕ) (m : MachineValue) → IsMachineOf cart recording bytes m → Kept cart recording bytes (pieces_of m)
+kept_of : (cart : List ℕ) (recording : Recorded) (bytes : List ℕ) (m : MachineValue) → IsMachineOf cart recording bytes m → Kept cart recording bytes (pieces_of m)
 unfolding pieces_of
 kept_of cart recording bytes m is = ((is.main, is.sub), ((is.shared, is.drawing), (is.fm, is.psg)))
 
@@ -87,7 +87,7 @@ kept_of cart recording bytes m is = ((is.main, is.sub), ((is.shared, is.drawing)
 again : (at : ℕ) (t : Pieces) → drawing.IsDrained t.1.0.1 → t.1.0.1 ≡ drawing_in (built at t).console
 again at t is = λ i. record { next = t.1.0.1.next; note = t.1.0.1.note; has_view = is.view i; picture = t.1.0.1.picture; frame = is.frame i; pal = t.1.0.1.pal }
 
-machine_is : (cart : List ℕ) (recording : List Frame) (bytes : List ℕ) (at : ℕ) (t : Pieces) → at ≡ at_of bytes → IsAtRight bytes → Kept cart recording bytes t → IsMachineOf cart recording bytes (built at t)
+machine_is : (cart : List ℕ) (recording : Recorded) (bytes : List ℕ) (at : ℕ) (t : Pieces) → at ≡ at_of bytes → IsAtRight bytes → Kept cart recording bytes t → IsMachineOf cart recording bytes (built at t)
 machine_is cart recording bytes at t e right k = record {
   at = e;
   begun = omega (arith, e, right.0.0);
@@ -105,7 +105,7 @@ machine_is cart recording bytes at t e right k = record {
   media = refl;
 }
 
-one_machine : (cart : List ℕ) (recording : List Frame) (bytes : List ℕ) (at : ℕ) (t : Pieces) (m : MachineValue) → at ≡ at_of bytes → IsMachineOf cart recording bytes m → t ≡ pieces_of m → built at t ≡ m
+one_machine : (cart : List ℕ) (recording : Recorded) (bytes : List ℕ) (at : ℕ) (t : Pieces) (m : MachineValue) → at ≡ at_of bytes → IsMachineOf cart recording bytes m → t ≡ pieces_of m → built at t ≡ m
 unfolding pieces_of
 one_machine cart recording bytes at t m e is same =
     let when : at ≡ m.at = e ∙ sym is.at in
@@ -133,7 +133,7 @@ one_machine cart recording bytes at t m e is same =
 
 -- ---- what is answered
 
-pub machine_refused : (cart : List ℕ) (recording : List Frame) (bytes : List ℕ) (all : Result Pieces Unspell) (fault : Unspell) → IsAtRight bytes → all ≡ failed fault → Reads (Kept cart recording bytes) (Fails cart bytes) all → Reads (IsMachineOf cart recording bytes) (FailsAt cart bytes) (failed fault)
+pub machine_refused : (cart : List ℕ) (recording : Recorded) (bytes : List ℕ) (all : Result Pieces Unspell) (fault : Unspell) → IsAtRight bytes → all ≡ failed fault → Reads (Kept cart recording bytes) (Fails cart bytes) all → Reads (IsMachineOf cart recording bytes) (FailsAt cart bytes) (failed fault)
 machine_refused cart recording bytes all fault right e r = record {
   found = tt;
   only = λ m is n. (
@@ -155,7 +155,7 @@ machine_refused cart recording bytes all fault right e r = record {
       let g : fault ≡ Rule p = cc in
       ap (λ (x : Unspell). failed {T = Pieces} x) g
 
-pub machine_read : (cart : List ℕ) (recording : List Frame) (bytes : List ℕ) (at : ℕ) (t : Pieces) (m : MachineValue) (all : Result Pieces Unspell) → at ≡ at_of bytes → IsAtRight bytes → all ≡ fine t → m ≡ built at t → Reads (Kept cart recording bytes) (Fails cart bytes) all → Reads {T = MachineValue} (IsMachineOf cart recording bytes) (FailsAt cart bytes) (fine m)
+pub machine_read : (cart : List ℕ) (recording : Recorded) (bytes : List ℕ) (at : ℕ) (t : Pieces) (m : MachineValue) (all : Result Pieces Unspell) → at ≡ at_of bytes → IsAtRight bytes → all ≡ fine t → m ≡ built at t → Reads (Kept cart recording bytes) (Fails cart bytes) all → Reads {T = MachineValue} (IsMachineOf cart recording bytes) (FailsAt cart bytes) (fine m)
 machine_read cart recording bytes at t m all ea right e made r0 =
     let r : Reads {T = Pieces} (Kept cart recording bytes) (Fails cart bytes) (fine t) = subst (Reads (Kept cart recording bytes) (Fails cart bytes)) e r0 in
     record {
@@ -215,7 +215,7 @@ quiet at m a b c d e (suc (suc (suc zero))) lt = d
 quiet at m a b c d e (suc (suc (suc (suc zero)))) lt = e
 quiet at m a b c d e (suc (suc (suc (suc (suc i))))) lt = absurd (omega (arith, lt))
 
-pub is_start : (cart : List ℕ) (recording : List Frame) (bytes : List ℕ) (m : MachineValue) → IsMachineOf cart recording bytes m → IsStart (record { at = m.at; console = m.console })
+pub is_start : (cart : List ℕ) (recording : Recorded) (bytes : List ℕ) (m : MachineValue) → IsMachineOf cart recording bytes m → IsStart (record { at = m.at; console = m.console })
 is_start cart recording bytes m is =
     let main_at = main_soon cart (at_of bytes) _ m.console.main is.main.spells in
     let sub_at = sub_soon cart (at_of bytes) _ m.console.sub.state is.sub.spells in
@@ -292,7 +292,7 @@ from_40 cart bytes p (psg_fails h) = omega (arith, in_psg bytes p h)
 abbrev pub IsCycle : List ℕ → Type 0
 IsCycle bytes = (1 ≤ at_of bytes) × (at_of bytes ≤ last_cycle)
 
-pub at_refused : (cart : List ℕ) (recording : List Frame) (bytes : List ℕ) → ¬ IsCycle bytes → Reads {T = MachineValue} (IsMachineOf cart recording bytes) (FailsAt cart bytes) (failed (Rule 40))
+pub at_refused : (cart : List ℕ) (recording : Recorded) (bytes : List ℕ) → ¬ IsCycle bytes → Reads {T = MachineValue} (IsMachineOf cart recording bytes) (FailsAt cart bytes) (failed (Rule 40))
 at_refused cart recording bytes wrong = record {
   found = tt;
   only = λ m is n. absurd (wrong (omega (arith, is.at, is.begun), omega (arith, is.at, is.near)));
@@ -305,7 +305,7 @@ at_refused cart recording bytes wrong = record {
   here p e = cc
 
 -- a wrong region is refused before all else but the cycle
-pub region_refused : (cart : List ℕ) (recording : List Frame) (bytes : List ℕ) → IsCycle bytes → ¬ (slice_index bytes 48 ≤ 1)
+pub region_refused : (cart : List ℕ) (recording : Recorded) (bytes : List ℕ) → IsCycle bytes → ¬ (slice_index bytes 48 ≤ 1)
     → Reads {T = MachineValue} (IsMachineOf cart recording bytes) (FailsAt cart bytes) (failed (Rule 48))
 region_refused cart recording bytes right wrong = record {
   found = tt;
@@ -332,5 +332,5 @@ pub right_at : (bytes : List ℕ) (at region : ℕ) → at ≡ at_of bytes → 1
 right_at bytes at region e low high f few = (right_cycle bytes at e low high, omega (arith, f, few))
 
 -- the two halves of the VDP are of the state's region
-pub one_region : (cart : List ℕ) (recording : List Frame) (bytes : List ℕ) (t : Pieces) → Kept cart recording bytes t → t.1.0.1.pal ≡ t.1.0.0.vdp.pal
+pub one_region : (cart : List ℕ) (recording : Recorded) (bytes : List ℕ) (t : Pieces) → Kept cart recording bytes t → t.1.0.1.pal ≡ t.1.0.0.vdp.pal
 one_region cart recording bytes t k = k.1.0.1.region ∙ sym k.1.0.0.spells.vdp.region

@@ -86,7 +86,7 @@ fm_long bytes s p = ap length p.keeps.all ∙ long_as (fm.synth_fields (fm.saved
 pub psg_long : (bytes : List ℕ) (s : psg_synths.Synth) → psg.SpellsSynth bytes s → length bytes ≡ 26
 psg_long bytes s p = ap length p.keeps.all ∙ long_as (psg.synth_fields (psg.saved_synth s)) p.keeps.within ∙ psg_laws.synth_size (psg.saved_synth s)
 
-pub lines_long : (at : ℕ) (pal : Bool) (bytes : List ℕ) (b : Board) → shared.Spells at pal bytes b → length (shared.lines_bytes (lines_of b)) ≡ 18
+pub lines_long : (at : ℕ) (pal : Bool) (bytes : List ℕ) (b : Board) → shared.Spells at pal bytes b → length (shared.lines_bytes (lines_of b)) ≡ 36
 lines_long at pal bytes b p = ap length p.lines.all ∙ long_as (lines_fields at (lines_of b)) p.lines.within ∙ lines_laws.lines_size at (lines_of b)
 
 -- ---- their bytes do not depend on the rules

@@ -14,13 +14,13 @@ both_hold true b e = (refl, e)
 both_hold false b e = absurd cc
 
 -- where parts stand behind a place, and how the first and the others do
-pub at_most : (from : ℕ) (ps : List Part) → are_ordered from ps ≡ true → from ≤ 393602
-at_most from [] e = leb-true from 393602 e
+pub at_most : (from : ℕ) (ps : List Part) → are_ordered from ps ≡ true → from ≤ 393620
+at_most from [] e = leb-true from 393620 e
 at_most from (p ∷ ps) e =
     let h = both_hold (leb from p.place) (are_ordered (p.place + p.size) ps) e in
     omega (arith, leb-true from p.place h.0, at_most (p.place + p.size) ps h.1)
 
-pub first_inside : (from : ℕ) (ps : List Part) (d : Part) → 1 ≤ length ps → are_ordered from ps ≡ true → (get_or ps 0 d).place + (get_or ps 0 d).size ≤ 393602
+pub first_inside : (from : ℕ) (ps : List Part) (d : Part) → 1 ≤ length ps → are_ordered from ps ≡ true → (get_or ps 0 d).place + (get_or ps 0 d).size ≤ 393620
 first_inside from [] d some e = absurd (omega (arith, some))
 first_inside from (p ∷ ps) d some e = at_most (p.place + p.size) ps (both_hold _ (are_ordered (p.place + p.size) ps) e).1
 
@@ -58,7 +58,7 @@ in_order (p ∷ (q ∷ ps)) from m n e le =
     ]
 
 -- and it is within the state
-pub place_inside : (ps : List Part) (from n : ℕ) → are_ordered from ps ≡ true → place_of ps n ≤ 393602
+pub place_inside : (ps : List Part) (from n : ℕ) → are_ordered from ps ≡ true → place_of ps n ≤ 393620
 place_inside [] from n e = omega arith
 place_inside (p ∷ []) from n e = omega (arith, at_most (p.place + p.size) [] (both_hold _ _ e).1)
 place_inside (p ∷ (q ∷ ps)) from n e =

@@ -7,7 +7,7 @@ use Rattle.std.proofs.lemmas.List.{append_cancel_left, take_at}
 use Rattle.std.proofs.lemmas.Nat.{from_be_bytes-to_be_bytes_8}
 use Rattle.sha2.specs.Sha256.{sha256}
 use Rattle.md_fields.specs.Fields.{spelling}
-use Rattle.md_pads.specs.Recording.{Frame}
+use Rattle.md_pads.specs.Recording.{Recorded}
 use Rattle.fm_port.specs.Timers.{both_settled, settled as timer_settled, settled_by}
 use Rattle.fm_port.specs.declared.timers.Timers.{Timers}
 use Rattle.vdp_dma.proofs.Settled.{settled_none}
@@ -21,7 +21,7 @@ use Rattle.save_state.specs.Layout.{mark_part, part_of}
 use Rattle.save_state.specs.States.{IsNewest, kept_bytes, mark, settled_console, state_bytes, state_fields}
 use Rattle.save_state.specs.Versions.{IsState, migrated}
 use Rattle.save_state.specs.declared.version.Version.{Version}
-use Rattle.save_state.specs.declared.version.Version.TheVariants.{Second}
+use Rattle.save_state.specs.declared.version.Version.TheVariants.{Third}
 use Rattle.save_state.proofs.VersionLaws.{marks_differ}
 
 -- ---- nothing is to be settled
@@ -45,7 +45,7 @@ first_board b none = ap₂ (λ (v : Vdp) (t : Timers). record b { vdp = v; fm = 
 first_console : (m : Console) → m.shared.vdp.left ≡ 0 → settled_console 0 m ≡ m
 first_console m none = ap (λ (b : Board). record m { shared = b }) (first_board m.shared none)
 
-pub first_settled : (cart : List ℕ) (recording : List Frame) (pal : Bool) → settled_console 0 (power_on cart recording pal) ≡ power_on cart recording pal
+pub first_settled : (cart : List ℕ) (recording : Recorded) (pal : Bool) → settled_console 0 (power_on cart recording pal) ≡ power_on cart recording pal
 first_settled cart recording pal = first_console (power_on cart recording pal) refl
 
 -- ---- bytes keep machines of one cycle
@@ -74,16 +74,16 @@ marked : (at : ℕ) (m : Console) → part_of mark_part (kept_bytes at m) ≡ ma
 unfolding spelling rest_of
 marked at m = take_at mark (sha256 m.cart ++ (to_be_bytes w64 at ++ rest_of at m)) 8 refl
 
-newest_of : (cart bytes : List ℕ) (start : Start) → IsNewest cart (migrated Second bytes) start → IsNewest cart bytes start
+newest_of : (cart bytes : List ℕ) (start : Start) → IsNewest cart (migrated Third bytes) start → IsNewest cart bytes start
 unfolding migrated
 newest_of cart bytes start newest = newest
 
 -- ---- the bytes of power-on
 
-pub first_is_none : (cart : List ℕ) (recording : List Frame) (pal : Bool) (start : Start) → IsState cart (state_bytes 0 (power_on cart recording pal)) start → ⊥
+pub first_is_none : (cart : List ℕ) (recording : Recorded) (pal : Bool) (start : Start) → IsState cart (state_bytes 0 (power_on cart recording pal)) start → ⊥
 first_is_none cart recording pal start is =
     let first : Console = settled_console 0 (power_on cart recording pal) in
-    let version : is.version ≡ Second = marks_differ is.version Second (sym is.has.mark_is ∙ marked 0 first) in
+    let version : is.version ≡ Third = marks_differ is.version Third (sym is.has.mark_is ∙ marked 0 first) in
     let newest : IsNewest cart (state_bytes 0 (power_on cart recording pal)) start =
     newest_of cart _ start (subst (λ (v : Version). IsNewest cart (migrated v (state_bytes 0 (power_on cart recording pal))) start) version is.newest) in
     let cycle : start.at ≡ 0 =

@@ -32,7 +32,7 @@ use Rattle.save_state.proofs.Parts.{number_front, sub_joined, numbers_long}
 
 -- each part of the bytes is the one of this machine
 pub record AreParts (digest : List ℕ) (at : ℕ) (m : Console) (bytes : List ℕ) : Type 0 where
-  pub long : length bytes ≡ 393602
+  pub long : length bytes ≡ 393620
   pub head : part_of mark_part bytes ≡ mark
   pub digest_is : part_of digest_part bytes ≡ digest
   pub at_is : at_of bytes ≡ at
@@ -150,4 +150,4 @@ first_lines at pal b bytes p = (stand (lines_fields at (lines_of b)) (shared.lin
 -- the count of resets
 pub resets_are : (digest bytes : List ℕ) (at : ℕ) (pal : Bool) (m : Console) (whole : List ℕ) → AreParts digest at m bytes → shared.Spells at pal whole m.shared → m.shared.resets ≡ resets_of bytes
 resets_are digest bytes at pal m whole p s =
-    first_lines at pal m.shared whole s ∙ ap (number_at w64 2) (sym p.lines) ∙ number_inside w64 2 393584 18 bytes (omega arith)
+    first_lines at pal m.shared whole s ∙ ap (number_at w64 2) (sym p.lines) ∙ number_inside w64 2 393584 36 bytes (omega arith)

@@ -1,4 +1,4 @@
--- What bytes of either version are, from what their migration is.
+-- What bytes of any version are, from what their migration is.
 use Rattle.std.proofs.Common.{◌≡◌, ◌≢◌, ◌∙◌, ℕ, ◌≤◌, min, List, [], ◌∷◌, ◌++◌, length, take, drop, get_or, refl, sym, ap, subst, arith, inl, inr}
 use Rattle.std.specs.Prelude.{replicate}
 use Rattle.std.proofs.lemmas.List.{drop_at, length-append, length-drop, length-replicate, length-take, take-append-le, take-take, take_at}
@@ -8,10 +8,11 @@ use Rattle.save_state.specs.Faults.{HasForm}
 use Rattle.save_state.specs.Refusals.{FieldFailsBack}
 use Rattle.save_state.specs.Layout.{digest_part, mark_part, part_of}
 use Rattle.save_state.specs.States.{IsNewest, mark}
-use Rattle.save_state.specs.Versions.{HasVersion, IsOtherCart, IsState, IsUnversioned, IsWrongAt, from_first, mark_of, migrated, other_size, size_of, strange, unmarked}
+use Rattle.save_state.specs.OldPads.{HasPads}
+use Rattle.save_state.specs.Versions.{HasVersion, IsOtherCart, IsState, IsUnversioned, IsWrongAt, from_first, from_second, mark_of, migrated, other_size, size_of, strange, unmarked}
 use Rattle.save_state.specs.declared.fault.StateFault.TheVariants.{OtherCart}
 use Rattle.save_state.specs.declared.version.Version.{Version}
-use Rattle.save_state.specs.declared.version.Version.TheVariants.{First, Second}
+use Rattle.save_state.specs.declared.version.Version.TheVariants.{First, Second, Third}
 use Rattle.save_state.proofs.ReadLaws.{bad, parts_of_state}
 
 -- ---- bytes have one version
@@ -19,16 +20,23 @@ use Rattle.save_state.proofs.ReadLaws.{bad, parts_of_state}
 pub marks_differ : (v w : Version) → mark_of v ≡ mark_of w → v ≡ w
 marks_differ First First e = refl
 marks_differ Second Second e = refl
+marks_differ Third Third e = refl
 marks_differ First Second e = (let last : 49 ≡ 50 = ap (λ (l : List ℕ). get_or l 7 0) e in absurd (omega (arith, last)))
+marks_differ First Third e = (let last : 49 ≡ 51 = ap (λ (l : List ℕ). get_or l 7 0) e in absurd (omega (arith, last)))
 marks_differ Second First e = (let last : 50 ≡ 49 = ap (λ (l : List ℕ). get_or l 7 0) e in absurd (omega (arith, last)))
+marks_differ Second Third e = (let last : 50 ≡ 51 = ap (λ (l : List ℕ). get_or l 7 0) e in absurd (omega (arith, last)))
+marks_differ Third First e = (let last : 51 ≡ 49 = ap (λ (l : List ℕ). get_or l 7 0) e in absurd (omega (arith, last)))
+marks_differ Third Second e = (let last : 51 ≡ 50 = ap (λ (l : List ℕ). get_or l 7 0) e in absurd (omega (arith, last)))
 
 some-size : (v : Version) → 8 ≤ size_of v
 some-size First = omega arith
 some-size Second = omega arith
+some-size Third = omega arith
 
 mark-long : (v : Version) → length (mark_of v) ≡ 8
 mark-long First = refl
 mark-long Second = refl
+mark-long Third = refl
 
 -- bytes with a mark are long enough for it
 marked-long : (v : Version) (bytes : List ℕ) → part_of mark_part bytes ≡ mark_of v → 8 ≤ length bytes
@@ -55,50 +63,81 @@ one_place bytes p q (other_size v m ne e) (other_size w n nf f) =
 -- ---- their migration
 
 abbrev first-rest : List ℕ → List ℕ
-first-rest bytes = (0 ∷ []) ++ (take 139783 (drop 48 bytes) ++ ((0 ∷ []) ++ (take 215050 (drop 139831 bytes) ++ (replicate 15360 0 ++ drop 354881 bytes))))
+first-rest bytes = (0 ∷ []) ++ (take 139783 (drop 48 bytes) ++ ((0 ∷ []) ++ (take 215050 (drop 139831 bytes) ++ (replicate 15360 0 ++ (drop 354881 bytes ++ replicate 18 0)))))
 
 migrated-first : (bytes : List ℕ) → migrated First bytes ≡ mark ++ (take 40 (drop 8 bytes) ++ first-rest bytes)
 unfolding migrated from_first
 migrated-first bytes = refl
 
-migrated-long : (bytes : List ℕ) → length bytes ≡ 378240 → length (migrated First bytes) ≡ 393602
-unfolding migrated from_first
+-- what stands behind the picture's rows of the first version
+behind-long : (bytes : List ℕ) → length bytes ≡ 378240 → length (replicate 15360 0 ++ (drop 354881 bytes ++ replicate 18 0)) ≡ 38737
+behind-long bytes long =
+    let rows = length-append (replicate 15360 0) (drop 354881 bytes ++ replicate 18 0) in
+    let rest = length-append (drop 354881 bytes) (replicate 18 0) in
+    let cut = length-drop 354881 bytes in
+    omega (arith, long, rows, rest, cut, length-replicate {A = ℕ} 15360 0, length-replicate {A = ℕ} 18 0)
+
+-- from the drawing on
+drawing-long : (bytes : List ℕ) → length bytes ≡ 378240 → length (take 215050 (drop 139831 bytes) ++ (replicate 15360 0 ++ (drop 354881 bytes ++ replicate 18 0))) ≡ 253787
+drawing-long bytes long =
+    let all = length-append (take 215050 (drop 139831 bytes)) (replicate 15360 0 ++ (drop 354881 bytes ++ replicate 18 0)) in
+    omega (arith, long, all, behind-long bytes long, length-take 215050 (drop 139831 bytes), length-drop 139831 bytes)
+
+-- and from the region on
+rest-long : (bytes : List ℕ) → length bytes ≡ 378240 → length (first-rest bytes) ≡ 393572
+rest-long bytes long =
+    let drawing = take 215050 (drop 139831 bytes) ++ (replicate 15360 0 ++ (drop 354881 bytes ++ replicate 18 0)) in
+    let all = length-append (take 139783 (drop 48 bytes)) ((0 ∷ []) ++ drawing) in
+    omega (arith, long, all, drawing-long bytes long, length-take 139783 (drop 48 bytes), length-drop 48 bytes)
+
+migrated-long : (bytes : List ℕ) → length bytes ≡ 378240 → length (migrated First bytes) ≡ 393620
 migrated-long bytes long =
-    let rows = replicate 15360 0 ++ drop 354881 bytes in
-    let drawing = take 215050 (drop 139831 bytes) ++ rows in
-    let middle = take 139783 (drop 48 bytes) ++ ((0 ∷ []) ++ drawing) in
+    let front = take 40 (drop 8 bytes) in
     omega (
       arith,
       long,
-      length-append mark (take 40 (drop 8 bytes) ++ ((0 ∷ []) ++ middle)),
-      length-append (take 40 (drop 8 bytes)) ((0 ∷ []) ++ middle),
+      ap length (migrated-first bytes),
+      length-append mark (front ++ first-rest bytes),
+      length-append front (first-rest bytes),
+      rest-long bytes long,
       length-take 40 (drop 8 bytes),
       length-drop 8 bytes,
-      length-append (take 139783 (drop 48 bytes)) ((0 ∷ []) ++ drawing),
-      length-take 139783 (drop 48 bytes),
-      length-drop 48 bytes,
-      length-append (take 215050 (drop 139831 bytes)) rows,
-      length-take 215050 (drop 139831 bytes),
-      length-drop 139831 bytes,
-      length-append (replicate 15360 0) (drop 354881 bytes),
-      length-replicate {A = ℕ} 15360 0,
-      length-drop 354881 bytes,
     )
 
-second-form : (bytes : List ℕ) → HasVersion Second bytes → HasForm (migrated Second bytes)
+migrated-second : (bytes : List ℕ) → migrated Second bytes ≡ mark ++ (drop 8 bytes ++ replicate 18 0)
+unfolding migrated from_second
+migrated-second bytes = refl
+
+second-long : (bytes : List ℕ) → length bytes ≡ 393602 → length (migrated Second bytes) ≡ 393620
+second-long bytes long =
+    omega (
+      arith,
+      long,
+      ap length (migrated-second bytes),
+      length-append mark (drop 8 bytes ++ replicate 18 0),
+      length-append (drop 8 bytes) (replicate 18 0),
+      length-drop 8 bytes,
+      length-replicate {A = ℕ} 18 0,
+    )
+
+third-form : (bytes : List ℕ) → HasVersion Third bytes → HasForm (migrated Third bytes)
 unfolding migrated
-second-form bytes has = record { long = has.long; mark = has.mark_is }
+third-form bytes has = record { long = has.long; mark = has.mark_is }
 
 pub form_of : (v : Version) (bytes : List ℕ) → HasVersion v bytes → HasForm (migrated v bytes)
 form_of First bytes has = record {
   long = migrated-long bytes has.long;
   mark = ap (take 8) (migrated-first bytes) ∙ take_at mark (take 40 (drop 8 bytes) ++ first-rest bytes) 8 refl;
 }
-form_of Second bytes has = second-form bytes has
+form_of Second bytes has = record {
+  long = second-long bytes has.long;
+  mark = ap (take 8) (migrated-second bytes) ∙ take_at mark (drop 8 bytes ++ replicate 18 0) 8 refl;
+}
+form_of Third bytes has = third-form bytes has
 
-second-digest : (bytes : List ℕ) → part_of digest_part (migrated Second bytes) ≡ part_of digest_part bytes
+third-digest : (bytes : List ℕ) → part_of digest_part (migrated Third bytes) ≡ part_of digest_part bytes
 unfolding migrated
-second-digest bytes = refl
+third-digest bytes = refl
 
 pub same_digest : (v : Version) (bytes : List ℕ) → HasVersion v bytes → part_of digest_part (migrated v bytes) ≡ part_of digest_part bytes
 same_digest First bytes has =
@@ -108,26 +147,31 @@ same_digest First bytes has =
     ∙ ap (take 32) (drop_at mark (front ++ first-rest bytes) 8 refl)
     ∙ take-append-le 32 front (first-rest bytes) long
     ∙ take-take 32 40 (drop 8 bytes) (omega arith)
-same_digest Second bytes has = second-digest bytes
+same_digest Second bytes has =
+    let long : 32 ≤ length (drop 8 bytes) = omega (arith, has.long, length-drop 8 bytes) in
+    ap (λ (l : List ℕ). take 32 (drop 8 l)) (migrated-second bytes)
+    ∙ ap (take 32) (drop_at mark (drop 8 bytes ++ replicate 18 0) 8 refl)
+    ∙ take-append-le 32 (drop 8 bytes) (replicate 18 0) long
+same_digest Third bytes has = third-digest bytes
 
 -- ---- what the bytes are
 
-pub found_of : (v : Version) (cart bytes : List ℕ) (start : Start) → HasVersion v bytes → IsNewest cart (migrated v bytes) start → IsState cart bytes start
-found_of v cart bytes start has newest = record { version = v; has = has; newest = newest }
+pub found_of : (v : Version) (cart bytes : List ℕ) (start : Start) → HasVersion v bytes → HasPads v (migrated v bytes) → IsNewest cart (migrated v bytes) start → IsState cart bytes start
+found_of v cart bytes start has pads newest = record { version = v; has = has; pads = pads; newest = newest }
 
-pub only_of : (v : Version) (cart bytes : List ℕ) (start : Start) → HasVersion v bytes → IsState cart bytes start → IsNewest cart (migrated v bytes) start
+pub only_of : (v : Version) (cart bytes : List ℕ) (start : Start) → HasVersion v bytes → IsState cart bytes start → HasPads v (migrated v bytes) × IsNewest cart (migrated v bytes) start
 only_of v cart bytes start has is =
-    subst (λ (w : Version). IsNewest cart (migrated w bytes) start) (marks_differ is.version v (sym is.has.mark_is ∙ has.mark_is)) is.newest
+    subst (λ (w : Version). HasPads w (migrated w bytes) × IsNewest cart (migrated w bytes) start) (marks_differ is.version v (sym is.has.mark_is ∙ has.mark_is)) (is.pads, is.newest)
 
 -- what a machine is kept in
-second-state : (cart bytes : List ℕ) (start : Start) → HasVersion Second bytes → IsNewest cart bytes start → IsState cart bytes start
+third-state : (cart bytes : List ℕ) (start : Start) → HasVersion Third bytes → IsNewest cart bytes start → IsState cart bytes start
 unfolding migrated
-second-state cart bytes start has newest = record { version = Second; has = has; newest = newest }
+third-state cart bytes start has newest = record { version = Third; has = has; pads = (λ e. absurd cc, λ e. absurd cc); newest = newest }
 
 pub newest_state : (cart bytes : List ℕ) (start : Start) → IsNewest cart bytes start → IsState cart bytes start
 newest_state cart bytes start newest =
     let parts = parts_of_state cart bytes start newest in
-    second-state cart bytes start (record { mark_is = parts.head; long = parts.long }) newest
+    third-state cart bytes start (record { mark_is = parts.head; long = parts.long }) newest
 
 pub state_own : (cart bytes : List ℕ) (start : Start) → IsState cart bytes start → part_of digest_part bytes ≡ sha256 cart
 state_own cart bytes start is =
@@ -135,16 +179,16 @@ state_own cart bytes start is =
 
 pub form_wrong : (v : Version) (cart bytes : List ℕ) (place : ℕ) → HasVersion v bytes → FieldFailsBack v cart (migrated v bytes) place → IsWrongAt cart bytes place
 form_wrong v cart bytes place has w =
-    inr (record { version = v; has = has; own = sym (same_digest v bytes has) ∙ w.fails.0; field = w.field; first = w.fails.1; place_is = w.place_is })
+    inr (record { version = v; has = has; own = sym (same_digest v bytes has) ∙ w.own; field = w.field; first = w.first; place_is = w.place_is })
 
 pub wrong_of : (v : Version) (cart bytes : List ℕ) (place : ℕ) → HasVersion v bytes → IsWrongAt cart bytes place → FieldFailsBack v cart (migrated v bytes) place
 wrong_of v cart bytes place has (inl none) = absurd (unversioned v bytes place none has)
 wrong_of v cart bytes place has (inr w) =
     subst (λ (u : Version). FieldFailsBack u cart (migrated u bytes) place) (marks_differ w.version v (sym w.has.mark_is ∙ has.mark_is))
-    (record { field = w.field; fails = (same_digest w.version bytes w.has ∙ w.own, w.first); place_is = w.place_is })
+    (record { field = w.field; own = same_digest w.version bytes w.has ∙ w.own; first = w.first; place_is = w.place_is })
 
 pub wrong_own : (v : Version) (cart bytes : List ℕ) (place : ℕ) → HasVersion v bytes → IsWrongAt cart bytes place → part_of digest_part bytes ≡ sha256 cart
-wrong_own v cart bytes place has w = sym (same_digest v bytes has) ∙ (wrong_of v cart bytes place has w).fails.0
+wrong_own v cart bytes place has w = sym (same_digest v bytes has) ∙ (wrong_of v cart bytes place has w).own
 
 pub wrong_unversioned : (cart bytes : List ℕ) (p q : ℕ) → IsUnversioned bytes p → IsWrongAt cart bytes q → p ≡ q
 wrong_unversioned cart bytes p q none (inl other) = one_place bytes p q none other

@@ -6,7 +6,7 @@ use Rattle.md_fields.specs.Fields.{AreWithin}
 use Rattle.md_fields.proofs.Flags.{flag_again}
 use Rattle.md_word.specs.Coding.{flag_number}
 use Rattle.vdp_ports.proofs.RuleLaws.{flag_byte}
-use Rattle.md_pads.specs.Recording.{Frame}
+use Rattle.md_pads.specs.Recording.{Recorded}
 use Rattle.m68k_chip.specs.Spelling as main
 use Rattle.z80_chip.specs.Spelling as sub
 use Rattle.z80_parcel.specs.Parcels.{Store}
@@ -146,7 +146,7 @@ not_late_psg cart digest bytes start s p late =
     let f : true ≡ false = sym s.psg_writes ∙ sym e ∙ late.late in
     absurd cc
 
-pub machine_there : (cart digest bytes : List ℕ) (recording : List Frame) (start : Start) → IsSaved cart start → AreParts digest start.at start.console bytes → start.console.shared.recording ≡ recording → IsMachineOf cart recording bytes (record { at = start.at; console = start.console; entries = []; media = no_media })
+pub machine_there : (cart digest bytes : List ℕ) (recording : Recorded) (start : Start) → IsSaved cart start → AreParts digest start.at start.console bytes → start.console.shared.recording ≡ recording → IsMachineOf cart recording bytes (record { at = start.at; console = start.console; entries = []; media = no_media })
 machine_there cart digest bytes recording start s p pads =
     let m = start.console in
     let numbers = sub_numbers_are cart digest bytes start.at m p s.sub in

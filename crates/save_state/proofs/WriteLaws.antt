@@ -55,9 +55,9 @@ psg_port_full ws few =
     long_as_sized (psg_port.port_fields 0 (psg_port.saved_port ws)) (tt, (filled 10240 (entries_bytes psg_port.write_fields ws) (omega (arith, few, psg_port_laws.entries_size ws)), tt))
     ∙ psg_port_laws.port_size 0 (psg_port.saved_port ws)
 
-lines_full : (n : SavedLines) → length (shared.lines_bytes n) ≡ 18
+lines_full : (n : SavedLines) → length (shared.lines_bytes n) ≡ 36
 unfolding AreSized
-lines_full n = long_as_sized (lines_fields 0 n) (tt, (tt, (tt, (tt, (tt, (tt, (tt, (tt, (tt, tt))))))))) ∙ lines_laws.lines_size 0 n
+lines_full n = long_as_sized (lines_fields 0 n) (tt, (tt, (tt, (tt, (tt, (tt, (tt, (tt, (tt, (tt, (tt, (tt, (tt, tt))))))))))))) ∙ lines_laws.lines_size 0 n
 
 -- ---- what is cut off
 
@@ -75,17 +75,17 @@ pub record IsBehind (at : ℕ) (b : Board) (rest : List ℕ) : Type 0 where
   pub video : part_of (record { place = 0; size = 65813 }) rest ≡ vdp_bytes (shared.settled_board at b).vdp
   pub fm_port : part_of (record { place = 65813; size = 12316 }) rest ≡ fm_port.port_bytes (shared.settled_board at b).fm
   pub psg_port : part_of (record { place = 78129; size = 10242 }) rest ≡ psg_port.port_bytes b.held
-  pub lines : part_of (record { place = 88371; size = 18 }) rest ≡ shared.lines_bytes (lines_of b)
+  pub lines : part_of (record { place = 88371; size = 36 }) rest ≡ shared.lines_bytes (lines_of b)
 
-four_cut : (v f p l : List ℕ) → length v ≡ 65813 → length f ≡ 12316 → length p ≡ 10242 → length l ≡ 18 → (take 65813 (drop 0 (v ++ (f ++ (p ++ l)))) ≡ v) × (take 12316 (drop 65813 (v ++ (f ++ (p ++ l)))) ≡ f) × (take 10242 (drop 78129 (v ++ (f ++ (p ++ l)))) ≡ p) × (take 18 (drop 88371 (v ++ (f ++ (p ++ l)))) ≡ l)
+four_cut : (v f p l : List ℕ) → length v ≡ 65813 → length f ≡ 12316 → length p ≡ 10242 → length l ≡ 36 → (take 65813 (drop 0 (v ++ (f ++ (p ++ l)))) ≡ v) × (take 12316 (drop 65813 (v ++ (f ++ (p ++ l)))) ≡ f) × (take 10242 (drop 78129 (v ++ (f ++ (p ++ l)))) ≡ p) × (take 36 (drop 88371 (v ++ (f ++ (p ++ l)))) ≡ l)
 four_cut v f p l a b c d = (
   take_at v (f ++ (p ++ l)) 65813 a,
   ap (take 12316) (drop_at v (f ++ (p ++ l)) 65813 a) ∙ take_at f (p ++ l) 12316 b,
   ap (take 10242) (ap (drop 78129) (sym (append_assoc v f (p ++ l))) ∙ drop_at (v ++ f) (p ++ l) 78129 (omega (arith, a, b, length-append v f))) ∙ take_at p l 10242 c,
-  ap (take 18) (ap (drop 88371) (ap (λ (x : List ℕ). v ++ x) (sym (append_assoc f p l)) ∙ sym (append_assoc v (f ++ p) l)) ∙ drop_at (v ++ (f ++ p)) l 88371 (omega (arith, a, b, c, length-append v (f ++ p), length-append f p))) ∙ ap (take 18) (sym (append-nil l)) ∙ take_at l [] 18 d,
+  ap (take 36) (ap (drop 88371) (ap (λ (x : List ℕ). v ++ x) (sym (append_assoc f p l)) ∙ sym (append_assoc v (f ++ p) l)) ∙ drop_at (v ++ (f ++ p)) l 88371 (omega (arith, a, b, c, length-append v (f ++ p), length-append f p))) ∙ ap (take 36) (sym (append-nil l)) ∙ take_at l [] 36 d,
 )
 
-size_split : (has : Bool) → shared.board_size has ≡ shared.store_size has + 88389
+size_split : (has : Bool) → shared.board_size has ≡ shared.store_size has + 88407
 size_split true = refl
 size_split false = refl
 
@@ -107,16 +107,16 @@ behind_cut at b ok long =
       video = ap (λ (x : List ℕ). take 65813 (drop 0 x)) rest ∙ c.0;
       fm_port = ap (λ (x : List ℕ). take 12316 (drop 65813 x)) rest ∙ c.1;
       psg_port = ap (λ (x : List ℕ). take 10242 (drop 78129 x)) rest ∙ c.2;
-      lines = ap (λ (x : List ℕ). take 18 (drop 88371 x)) rest ∙ c.3;
+      lines = ap (λ (x : List ℕ). take 36 (drop 88371 x)) rest ∙ c.3;
     } where
-      left : (s v f p l : List ℕ) (n : ℕ) → length s ≡ n → length f ≡ 12316 → length p ≡ 10242 → length l ≡ 18 → length (s ++ (v ++ (f ++ (p ++ l)))) ≡ n + 88389 → length v ≡ 65813
+      left : (s v f p l : List ℕ) (n : ℕ) → length s ≡ n → length f ≡ 12316 → length p ≡ 10242 → length l ≡ 36 → length (s ++ (v ++ (f ++ (p ++ l)))) ≡ n + 88407 → length v ≡ 65813
       left s v f p l n a b c d e = omega (arith, a, b, c, d, e, length-append s (v ++ (f ++ (p ++ l))), length-append v (f ++ (p ++ l)), length-append f (p ++ l), length-append p l)
 
 pub board_cut : (at : ℕ) (b : Board) (bytes rest : List ℕ) (has : Bool) → IsBoard b → has ≡ is_some b.store → bytes ≡ shared.board_bytes (shared.settled_board at b) → length bytes ≡ shared.board_size (is_some b.store) → rest ≡ drop (shared.store_size has) bytes → IsBehind at b rest
 board_cut at b bytes rest has ok h e long r =
     subst (IsBehind at b) (sym (r ∙ (λ i. drop (shared.store_size (h i)) (e i)))) (behind_cut at b ok (sym (ap length e) ∙ long))
 
-pub rest_long : (bytes rest : List ℕ) (has some : Bool) → has ≡ some → length bytes ≡ shared.board_size some → rest ≡ drop (shared.store_size has) bytes → length rest ≡ 88389
+pub rest_long : (bytes rest : List ℕ) (has some : Bool) → has ≡ some → length bytes ≡ shared.board_size some → rest ≡ drop (shared.store_size has) bytes → length rest ≡ 88407
 rest_long bytes rest true some h long r = omega (arith, long, ap shared.board_size h, ap length r, length-drop 8194 bytes)
 rest_long bytes rest false some h long r = omega (arith, long, ap shared.board_size h, ap length r, length-drop 0 bytes)
 

@@ -1,14 +1,12 @@
 -- Where bytes of the form that is written, which are no saved state of a cartridge, go wrong. This
 -- project's profile.
 use Rattle.std.specs.Prelude.{◌≡◌, ℕ, ◌≤◌, List, [], length, slice_index}
-use Rattle.sha2.specs.Sha256.{sha256}
-use Rattle.md_pads.specs.Recording.{Frame}
+use Rattle.md_pads.specs.Recording.{Recorded}
 use Rattle.md_machine.specs.Console.{drawing_in}
 use Rattle.md_machine.specs.Machines.{MachineValue}
 use Rattle.md_machine.specs.Media.{no_media}
 use Rattle.md_machine.specs.Starts.{first_batch}
-use Rattle.save_state.specs.Joining.{IsLeast}
-use Rattle.save_state.specs.Layout.{part_of, at_part, digest_part, mark_part, region_part, state_size}
+use Rattle.save_state.specs.Layout.{part_of, at_part, mark_part, region_part, state_size}
 use Rattle.save_state.specs.Items.{at_of, IsMain, MainFails, IsSub, SubFails, IsShared, SharedFails, IsPicture, DrawingFails, IsFm, FmFails, IsPsg, PsgFails}
 use Rattle.md_word.specs.Clock.{last_cycle}
 use Rattle.save_state.specs.States.{mark}
@@ -24,21 +22,13 @@ pub data FailsAt (cart bytes : List ℕ) (place : ℕ) : Type 0 where
   fm_fails : FmFails bytes place → FailsAt cart bytes place
   psg_fails : PsgFails bytes place → FailsAt cart bytes place
 
--- the first place at which a field breaks its rule
-abbrev pub IsFirstFault : List ℕ → List ℕ → ℕ → Type 0
-IsFirstFault cart bytes place = IsLeast (FailsAt cart bytes) place
-
 -- as many bytes as a state has, with its mark before them
 pub record HasForm (bytes : List ℕ) : Type 0 where
   pub long : length bytes ≡ state_size
   pub mark : part_of mark_part bytes ≡ mark
 
--- bytes of that form and of this cartridge are refused at this place, by a field
-abbrev pub FieldFailsAt : List ℕ → List ℕ → ℕ → Type 0
-FieldFailsAt cart bytes place = (part_of digest_part bytes ≡ sha256 cart) × IsFirstFault cart bytes place
-
 -- the parts behind the digest keep this machine, with nothing made that waits to be drained
-pub record IsMachineOf (cart : List ℕ) (recording : List Frame) (bytes : List ℕ) (m : MachineValue) : Type 0 where
+pub record IsMachineOf (cart : List ℕ) (recording : Recorded) (bytes : List ℕ) (m : MachineValue) : Type 0 where
   pub at : m.at ≡ at_of bytes
   pub begun : 1 ≤ m.at
   pub near : m.at ≤ last_cycle

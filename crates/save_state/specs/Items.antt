@@ -3,7 +3,7 @@
 use Rattle.std.specs.Prelude.{◌≡◌, ◌≢◌, ℕ, ◌+◌, ◌<◌, ◌≤◌, ◌==◌, Bool, true, false, List, [], ◌∷◌, slice_index}
 use Rattle.std.specs.Int.{w64}
 use Rattle.md_fields.specs.Places.{number_at}
-use Rattle.md_pads.specs.Recording.{Frame}
+use Rattle.md_pads.specs.Recording.{Recorded}
 use Rattle.m68k_chip.specs.Validity.{Chip68Value}
 use Rattle.m68k_chip.specs.Spelling as main
 use Rattle.z80_chip.specs.Validity.{Chip80Value}
@@ -106,7 +106,7 @@ abbrev pub shared_bytes : List ℕ → List ℕ
 shared_bytes bytes = gathered (shared_parts (holder_in bytes == 1)) bytes
 
 -- they keep this board, of this recording, and the Z80 has seen no more resets than were written
-pub record IsShared (recording : List Frame) (bytes : List ℕ) (board : Board) : Type 0 where
+pub record IsShared (recording : Recorded) (bytes : List ℕ) (board : Board) : Type 0 where
   pub pads : board.recording ≡ recording
   pub spells : shared.Spells (at_of bytes) (region_of bytes) (shared_bytes bytes) board
   pub resets : seen_resets bytes ≤ resets_of bytes

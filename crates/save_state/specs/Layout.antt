@@ -18,7 +18,7 @@ layout =
     -- the PSG: its next batch, its port, and its synthesis
     8 ∷ 10242 ∷ 26 ∷
     -- the board's lines and pads
-    18 ∷ []
+    36 ∷ []
 
 -- how many bytes a saved state has
 abbrev pub state_size : ℕ

@@ -2,6 +2,7 @@ pub mod Faults
 pub mod Items
 pub mod Joining
 pub mod Layout
+pub mod OldPads
 pub mod Pieces
 pub mod Ready
 pub mod Refusals

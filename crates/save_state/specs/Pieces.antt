@@ -1,6 +1,6 @@
 -- The items of a state together, and the machine that they make.
 use Rattle.std.specs.Prelude.{ℕ, List, []}
-use Rattle.md_pads.specs.Recording.{Frame}
+use Rattle.md_pads.specs.Recording.{Recorded}
 use Rattle.m68k_chip.specs.Validity.{Chip68Value}
 use Rattle.z80_chip.specs.Validity.{Chip80Value}
 use Rattle.vdp_chip.specs.Drawing.{Drawing}
@@ -18,7 +18,7 @@ abbrev pub Pieces : Type 0
 Pieces = (Chip68Value × Chip80Value) × ((Board × Drawing) × (fm_synths.Synth × psg_synths.Synth))
 
 -- the bytes keep these pieces, of this cartridge and this recording
-abbrev pub Kept : List ℕ → List Frame → List ℕ → Pieces → Type 0
+abbrev pub Kept : List ℕ → Recorded → List ℕ → Pieces → Type 0
 Kept cart recording bytes =
     KeepsBoth (KeepsBoth (IsMain cart bytes) (IsSub cart bytes)) (KeepsBoth (KeepsBoth (IsShared recording bytes) (IsPicture bytes)) (KeepsBoth (IsFm bytes) (IsPsg bytes)))
 

@@ -2,7 +2,9 @@
 use Rattle.std.specs.Prelude.{◌≡◌, ℕ, List}
 use Rattle.md_word.specs.declared.unspell.Unspell.{Unspell}
 use Rattle.md_word.specs.declared.unspell.Unspell.TheVariants as fields
-use Rattle.save_state.specs.Faults.{FieldFailsAt}
+use Rattle.sha2.specs.Sha256.{sha256}
+use Rattle.save_state.specs.Layout.{digest_part, part_of}
+use Rattle.save_state.specs.OldPads.{IsFirstFault}
 use Rattle.save_state.specs.Versions.{place_back}
 use Rattle.save_state.specs.declared.fault.StateFault.{StateFault}
 use Rattle.save_state.specs.declared.fault.StateFault.TheVariants.{Form, NoMemory}
@@ -17,5 +19,6 @@ refusal_of version fields.NoMemory = NoMemory
 -- place in the bytes of the version
 pub record FieldFailsBack (version : Version) (cart newest : List ℕ) (place : ℕ) : Type 0 where
   pub field : ℕ
-  pub fails : FieldFailsAt cart newest field
+  pub own : part_of digest_part newest ≡ sha256 cart
+  pub first : IsFirstFault version cart newest field
   pub place_is : place ≡ place_back version field

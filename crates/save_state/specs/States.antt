@@ -28,7 +28,7 @@ use Rattle.md_machine.specs.Starts.{Start, first_batch}
 
 -- what a state begins with
 abbrev pub mark : List ℕ
-mark = codes "MDSTATE2"
+mark = codes "MDSTATE3"
 
 -- who has the Z80's RAM and bank register: 0 the Z80, 1 the bus
 abbrev pub holder_of : Console → ℕ
@@ -61,7 +61,7 @@ state_fields digest at m =
     ∷ quad (first_batch at) true
     ∷ block 10242 (psg_port.port_bytes m.shared.held) true
     ∷ block 26 (psg.synth_bytes m.psg) true
-    ∷ block 18 (shared.lines_bytes (lines_of m.shared)) true
+    ∷ block 36 (shared.lines_bytes (lines_of m.shared)) true
     ∷ []
 
 -- the bytes that keep a machine as it stands, with the SHA-256 of its cartridge's image

@@ -1,23 +1,26 @@
--- A saved state of either version: the first, of NTSC alone, and the one that is written, which keeps the
--- region. Bytes of the first are read as those of their migration. This project's profile.
+-- A saved state of any version: the first, of NTSC alone; the second, with the region, whose pads have eight
+-- buttons; and the one that is written, which keeps the falls of TH that pads count. Bytes of the older ones
+-- are read as those of their migration. This project's profile.
 use Rattle.std.specs.Prelude.{◌≡◌, ◌≢◌, ℕ, ◌-◌, ◌<◌, ◌≤◌, nat_le, nat_lt, min, ◌⊎◌, if◌then◌else◌, codes, List, [], ◌∷◌, ◌++◌, length, replicate, take, drop}
 use Rattle.sha2.specs.Sha256.{sha256}
 use Rattle.md_machine.specs.Starts.{Start}
-use Rattle.save_state.specs.Faults.{IsFirstFault}
 use Rattle.save_state.specs.Layout.{digest_part, mark_part, part_of, state_size}
+use Rattle.save_state.specs.OldPads.{HasPads, IsFirstFault}
 use Rattle.save_state.specs.States.{IsNewest, mark}
 use Rattle.save_state.specs.declared.version.Version.{Version}
-use Rattle.save_state.specs.declared.version.Version.TheVariants.{First, Second}
+use Rattle.save_state.specs.declared.version.Version.TheVariants.{First, Second, Third}
 
 -- what a state of a version begins with
 abbrev pub mark_of : Version → List ℕ
 mark_of First = codes "MDSTATE1"
-mark_of Second = mark
+mark_of Second = codes "MDSTATE2"
+mark_of Third = mark
 
 -- how many bytes it has
 abbrev pub size_of : Version → ℕ
 size_of First = 378240
-size_of Second = state_size
+size_of Second = 393602
+size_of Third = state_size
 
 -- bytes of a version: its mark, and as many as it has
 pub record HasVersion (version : Version) (bytes : List ℕ) : Type 0 where
@@ -25,17 +28,22 @@ pub record HasVersion (version : Version) (bytes : List ℕ) : Type 0 where
   pub long : length bytes ≡ size_of version
 
 -- those of the form that is written, made of the first version's: the region and the height of the display
--- come to them, both 0, and sixteen rows behind the picture
+-- come to them, both 0, sixteen rows behind the picture, and that no pad counted a fall
 unfoldable pub from_first : List ℕ → List ℕ
 from_first bytes =
     mark ++ (take 40 (drop 8 bytes) ++ ((0 ∷ [])
     ++ (take 139783 (drop 48 bytes) ++ ((0 ∷ [])
-    ++ (take 215050 (drop 139831 bytes) ++ (replicate 15360 0 ++ drop 354881 bytes))))))
+    ++ (take 215050 (drop 139831 bytes) ++ (replicate 15360 0 ++ (drop 354881 bytes ++ replicate 18 0)))))))
+
+-- and of the second's: no pad counted a fall
+unfoldable pub from_second : List ℕ → List ℕ
+from_second bytes = mark ++ (drop 8 bytes ++ replicate 18 0)
 
 -- those made of a version's
 unfoldable pub migrated : Version → List ℕ → List ℕ
 migrated First bytes = from_first bytes
-migrated Second bytes = bytes
+migrated Second bytes = from_second bytes
+migrated Third bytes = bytes
 
 -- where a place of those stands in the bytes of the first version; what was made stands where the next byte
 -- does that was there
@@ -44,17 +52,19 @@ place_in_first place =
     if nat_le place 48 then place
     else (if nat_le place 139832 then place - 1
     else (if nat_lt place 354883 then place - 2
-    else (if nat_lt place 370243 then 354881 else place - 15362)))
+    else (if nat_lt place 370243 then 354881 else min (place - 15362) 378240)))
 
 -- where it stands in the bytes of a version
 unfoldable pub place_back : Version → ℕ → ℕ
 place_back First place = place_in_first place
-place_back Second place = place
+place_back Second place = min place 393602
+place_back Third place = place
 
 -- the bytes are a saved state of this cartridge and keep this machine
 pub record IsState (cart bytes : List ℕ) (start : Start) : Type 0 where
   pub version : Version
   pub has : HasVersion version bytes
+  pub pads : HasPads version (migrated version bytes)
   pub newest : IsNewest cart (migrated version bytes) start
 
 -- bytes of no version are refused at this place: they are too short for a mark, or begin with none, or are
@@ -71,7 +81,7 @@ pub record BreaksRuleAt (cart bytes : List ℕ) (place : ℕ) : Type 0 where
   pub has : HasVersion version bytes
   pub own : part_of digest_part bytes ≡ sha256 cart
   pub field : ℕ
-  pub first : IsFirstFault cart (migrated version bytes) field
+  pub first : IsFirstFault version cart (migrated version bytes) field
   pub place_is : place ≡ place_back version field
 
 -- the bytes are refused at this place

@@ -1,7 +1,7 @@
 //! Laws of saved states, as calls that do nothing and stand for what they ensure.
 ghost use Rattle.std.specs.Prelude.{◌≡◌, ℕ, ◌≤◌, Bool, List};
 ghost use Rattle.md_word.specs.Clock.{last_cycle};
-ghost use Rattle.md_pads.specs.Recording.{Frame};
+ghost use Rattle.md_pads.specs.Recording.{Recorded};
 ghost use Rattle.md_machine.specs.Console.{power_on};
 ghost use Rattle.md_machine.specs.Starts.{Start};
 ghost use Rattle.save_state.specs.Ready.{IsReady};
@@ -29,6 +29,6 @@ pub fn kept(machine: &Machine)
 /// The machine of power-on stands at cycle 0, where nothing of it is to be settled, and its bytes are no saved
 /// state of its cartridge.
 pub fn power_on_is_no_state()
-    ensures settled { (cart : List ℕ) (recording : List Frame) (pal : Bool) → settled_console 0 (power_on cart recording pal) ≡ power_on cart recording pal }
-    ensures none { (cart : List ℕ) (recording : List Frame) (pal : Bool) (start : Start) → ¬ IsState cart (state_bytes 0 (power_on cart recording pal)) start }
+    ensures settled { (cart : List ℕ) (recording : Recorded) (pal : Bool) → settled_console 0 (power_on cart recording pal) ≡ power_on cart recording pal }
+    ensures none { (cart : List ℕ) (recording : Recorded) (pal : Bool) (start : Start) → ¬ IsState cart (state_bytes 0 (power_on cart recording pal)) start }
 {}

@@ -13,7 +13,7 @@ pub struct Part {
 }
 
 /// The text with which a state begins.
-pub const TEXT: [u8; 8] = *b"MDSTATE2";
+pub const TEXT: [u8; 8] = *b"MDSTATE3";
 
 /// Where it stands.
 pub const MARK: Part = Part { place: 0, size: 8 };
@@ -102,11 +102,16 @@ pub const PSG: Part = Part {
 /// The board's lines and pads.
 pub const BOARD: Part = Part {
     place: 393_584,
-    size: 18,
+    size: 36,
 };
 
+/// The words of pad 1 and of pad 2 in it.
+pub const PADS1: usize = 393_598;
+
+pub const PADS2: usize = 393_600;
+
 /// How many bytes a saved state has.
-pub const LENGTH: usize = 393_602;
+pub const LENGTH: usize = 393_620;
 
 static SUB_WITH_STORE: [Part; 2] = [SUB, STORE];
 

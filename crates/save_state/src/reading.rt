@@ -4,6 +4,7 @@ ghost use Rattle.sha2.specs.Sha256.{sha256};
 ghost use Rattle.md_machine.specs.Media.{no_media};
 ghost use Rattle.md_machine.specs.Starts.{Start, IsStart};
 ghost use Rattle.save_state.specs.Faults.{FailsAt, HasForm, IsMachineOf};
+ghost use Rattle.save_state.specs.OldPads.{FailsUnder, HasPads, IsMachineUnder, has_buttons};
 ghost use Rattle.save_state.specs.Refusals.{FieldFailsBack, refusal_of};
 ghost use Rattle.save_state.specs.Versions.{IsOtherCart, IsState, IsWrongAt};
 ghost use Rattle.save_state.specs.Items.{at_of, region_of, IsMain, MainFails, IsSub, SubFails, IsShared, SharedFails, IsPicture, DrawingFails, IsFm, FmFails, IsPsg, PsgFails};
@@ -17,13 +18,13 @@ ghost use Rattle.save_state.specs.States.{IsNewest};
 
 use crate::fault::StateFault;
 use crate::items::{read_drawing, read_fm, read_main, read_psg, read_shared, read_sub};
-use crate::joining::both;
-use crate::layout::{AT, DIGEST, REGION};
+use crate::joining::{both, with_rule};
+use crate::layout::{AT, DIGEST, PADS1, PADS2, REGION};
 use crate::version::{Version, migrated, place_back, version_of};
 use bus_shared::Shared;
 use fm_chip::FmSynth;
 use m68k_chip::Chip68;
-use md_fields::{u8_at, u64_at};
+use md_fields::{u8_at, u16_at, u64_at};
 use md_machine::Machine;
 use md_pads::Recording;
 use md_word::clock::LAST_CYCLE;
@@ -103,15 +104,16 @@ fn read_newest(
     requires form { HasForm bytes.now }
     requires own { part_of digest_part bytes.now ≡ sha256 (arc_value cart) }
     ensures found { IfOk result (λ m. IsNewest (arc_value cart) bytes.now (record { at = m.at; console = m.console }) × (m.console.shared.recording ≡ arc_value recording)) }
+    ensures pads { IfOk result (λ m. HasPads version bytes.now) }
     ensures start { IfOk result (λ m. IsStart (record { at = m.at; console = m.console })) }
     ensures empty { IfOk result (λ m. (m.entries ≡ []) × (m.media ≡ no_media)) }
-    ensures only { (start : Start) → IsNewest (arc_value cart) bytes.now start → start.console.shared.recording ≡ arc_value recording → result ≢ Err StateFault.NoMemory
+    ensures only { (start : Start) → HasPads version bytes.now → IsNewest (arc_value cart) bytes.now start → start.console.shared.recording ≡ arc_value recording → result ≢ Err StateFault.NoMemory
         → result ≡ Ok (record { at = start.at; console = start.console; entries = []; media = no_media }) }
     ensures form { (place : ℕ) → IsErrOf result (StateFault.Form place) → FieldFailsBack version (arc_value cart) bytes.now place }
     ensures wrong { (place : ℕ) → FieldFailsBack version (arc_value cart) bytes.now place → result ≢ Err StateFault.NoMemory → IsErrOf result (StateFault.Form place) }
     ensures own { (kept given : List ℕ) → result ≢ Err (StateFault.OtherCart kept given) }
 {
-    match read_machine(alloc, bytes, cart, recording) {
+    match read_under(alloc, version, bytes, cart, recording) {
         Ok(machine) => Ok(machine),
         Err(fault) => Err(refusal_of(version, fault)),
     }
@@ -126,6 +128,33 @@ fn refusal_of(version: Version, fault: Unspell) -> StateFault
             place: place_back(version, place),
         },
         Unspell::NoMemory => StateFault::NoMemory,
+    }
+}
+
+/// The machine of the parts behind the digest, or the least place at which a field breaks its rule or that
+/// of the version.
+fn read_under(
+    alloc: Global,
+    version: Version,
+    bytes: &[u8],
+    cart: Arc<Cart>,
+    recording: Arc<Recording>,
+) -> Result<Machine, Unspell>
+    requires { length bytes.now ≡ state_size }
+    ensures { Reads (IsMachineUnder version (arc_value cart) (arc_value recording) bytes.now) (FailsUnder version (arc_value cart) bytes.now) result }
+{
+    let machine = read_machine(alloc, bytes, cart, recording);
+    let first = with_rule(machine, has_buttons(version, u16_at(bytes, PADS1)), PADS1);
+    with_rule(first, has_buttons(version, u16_at(bytes, PADS2)), PADS2)
+}
+
+/// Whether a word has buttons of a version's pad alone; what the newest asks is a rule of the board.
+fn has_buttons(version: Version, word: u16) -> bool
+    ensures { result ≡ has_buttons version word }
+{
+    match version {
+        Version::First | Version::Second => word < 0x100,
+        Version::Third => true,
     }
 }
 

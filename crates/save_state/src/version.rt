@@ -1,7 +1,7 @@
 ghost use Rattle.std.specs.Prelude.{◌≡◌, IfErr, IfOk, IsTrue, ◌↔◌, ◌≤◌, ◌<◌, length};
 ghost use Rattle.save_state.specs.Layout.{mark_part, part_of};
 ghost use Rattle.save_state.specs.Versions as versions;
-ghost use Rattle.save_state.specs.Versions.{HasVersion, IsUnversioned, from_first, place_in_first};
+ghost use Rattle.save_state.specs.Versions.{HasVersion, IsUnversioned, from_first, from_second, place_in_first};
 
 use crate::layout::{LENGTH, MARK, TEXT};
 use md_word::NoMemory;
@@ -12,8 +12,10 @@ use std::alloc::Global;
 pub enum Version {
     /// Of NTSC alone.
     First,
-    /// With the region; it is the one that is written.
+    /// With the region, and pads of eight buttons.
     Second,
+    /// With the falls of TH that pads count; it is the one that is written.
+    Third,
 }
 
 /// The text with which a state of the first version begins.
@@ -37,6 +39,11 @@ const FIRST_ROWS_END: u64 = 354_883;
 
 const ROWS_END: u64 = 370_243;
 
+/// The text with which a state of the second version begins, and how many bytes it has.
+const SECOND_TEXT: [u8; 8] = *b"MDSTATE2";
+
+const SECOND_LENGTH: usize = 393_602;
+
 /// Its region, NTSC, and the height of its display, 224 lines.
 const NTSC: [u8; 1] = [0];
 
@@ -44,6 +51,9 @@ const LOW: [u8; 1] = [0];
 
 /// The rows that a picture for PAL has more.
 const MORE_ROWS: [u8; 15_360] = [0; 15_360];
+
+/// That neither pad counted a fall of TH.
+const NO_FALLS: [u8; 18] = [0; 18];
 
 /// The version of the bytes, or the place at which they are refused: their number where they are too few
 /// for a mark, 0 where they begin with none, and else the lesser of their number and that of the version.
@@ -57,6 +67,12 @@ pub fn version_of(bytes: &[u8]) -> Result<Version, u64>
     if begins_with(bytes, &TEXT) {
         if bytes.len() != LENGTH {
             return Err(bytes.len().min(LENGTH) as u64);
+        }
+        return Ok(Version::Third);
+    }
+    if begins_with(bytes, &SECOND_TEXT) {
+        if bytes.len() != SECOND_LENGTH {
+            return Err(bytes.len().min(SECOND_LENGTH) as u64);
         }
         return Ok(Version::Second);
     }
@@ -85,7 +101,8 @@ pub fn migrated(alloc: Global, version: Version, bytes: &[u8]) -> Result<Vec<u8>
 {
     match version {
         Version::First => from_first(alloc, bytes),
-        Version::Second => copied(alloc, bytes),
+        Version::Second => from_second(alloc, bytes),
+        Version::Third => copied(alloc, bytes),
     }
 }
 
@@ -112,6 +129,19 @@ fn from_first(alloc: Global, bytes: &[u8]) -> Result<Vec<u8>, NoMemory>
     newer.extend_from_slice(&bytes[FIRST_DRAWING..FIRST_FM_PORT])?;
     newer.extend_from_slice(&MORE_ROWS)?;
     newer.extend_from_slice(&bytes[FIRST_FM_PORT..FIRST_LENGTH])?;
+    newer.extend_from_slice(&NO_FALLS)?;
+    Ok(newer)
+}
+
+/// The same made of those of the second version.
+fn from_second(alloc: Global, bytes: &[u8]) -> Result<Vec<u8>, NoMemory>
+    requires { length bytes.now ≡ 393602 }
+    ensures { IfOk result (λ newer. newer.items ≡ from_second bytes.now) }
+{
+    let mut newer = Vec::with_capacity(alloc, LENGTH)?;
+    newer.extend_from_slice(&TEXT)?;
+    newer.extend_from_slice(&bytes[MARK.size..SECOND_LENGTH])?;
+    newer.extend_from_slice(&NO_FALLS)?;
     Ok(newer)
 }
 
@@ -122,7 +152,8 @@ pub fn place_back(version: Version, place: u64) -> u64
 {
     match version {
         Version::First => place_in_first(place),
-        Version::Second => place,
+        Version::Second => place.min(SECOND_LENGTH as u64),
+        Version::Third => place,
     }
 }
 
@@ -139,6 +170,6 @@ fn place_in_first(place: u64) -> u64
     } else if place < ROWS_END {
         FIRST_FM_PORT as u64
     } else {
-        place - 15_362
+        (place - 15_362).min(FIRST_LENGTH as u64)
     }
 }

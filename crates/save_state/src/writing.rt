@@ -53,7 +53,7 @@ const PSG_PORT_THERE: Part = Part {
 
 const LINES_THERE: Part = Part {
     place: 88_371,
-    size: 18,
+    size: 36,
 };
 
 /// The bytes of the machine at its cycle, as many as each state has where the Z80's RAM has one owner. Where

@@ -7,7 +7,7 @@ use Rattle.md_fields.specs.Fields.{first_wrong}
 use Rattle.md_fields.specs.Items.{IsRight, Keeps}
 use Rattle.md_fields.specs.Places.{IsBytes, number_at}
 use Rattle.md_fields.proofs.Standing.{IsBytes-drop, IsBytes-take}
-use Rattle.md_pads.specs.Recording.{Frame}
+use Rattle.md_pads.specs.Recording.{Recorded}
 use Rattle.m68k_chip.specs.Resuming.{asks_more as main_asks_more}
 use Rattle.m68k_chip.specs.Numbers.{state_from as main_from}
 use Rattle.m68k_chip.specs.Saved as saved68
@@ -130,7 +130,7 @@ psg_verdict bytes fits =
 
 lines_verdict : (at : ℕ) (bytes : List ℕ) → IsBytes bytes → Verdict (λ n. Keeps (lines_fields at) bytes n × IsRight (lines_fields at) n) (shared.LinesGoWrongAt at bytes)
 lines_verdict at bytes fits =
-    sized 18 (lines_fields at) (λ n. Keeps (lines_fields at) bytes n × IsRight (lines_fields at) n) bytes fits
+    sized 36 (lines_fields at) (λ n. Keeps (lines_fields at) bytes n × IsRight (lines_fields at) n) bytes fits
     (λ long. (let s = lines_there bytes long in (s.0, s.1 at)))
     (λ long n keeps right. (n, (keeps, right)))
 
@@ -210,10 +210,10 @@ cut_bytes bytes fits =
     }
 
 -- a board over a recording
-abbrev pub BoardKept : List Frame → ℕ → Bool → List ℕ → Board → Type 0
+abbrev pub BoardKept : Recorded → ℕ → Bool → List ℕ → Board → Type 0
 BoardKept recording at pal bytes board = shared.Spells at pal bytes board × (board.recording ≡ recording)
 
-board_of : (recording : List Frame) (at : ℕ) (pal : Bool) (bytes : List ℕ) → PartsKept at pal (shared.cut bytes) → (board : Board) × BoardKept recording at pal bytes board
+board_of : (recording : Recorded) (at : ℕ) (pal : Bool) (bytes : List ℕ) → PartsKept at pal (shared.cut bytes) → (board : Board) × BoardKept recording at pal bytes board
 board_of recording at pal bytes (store, (vdp, (port, (held, (lines, nothing))))) = (
   board_from recording store.0 vdp.0 port.0 held.0 lines.0,
   (
@@ -230,13 +230,13 @@ board_of recording at pal bytes (store, (vdp, (port, (held, (lines, nothing)))))
   ),
 )
 
-board_read : (recording : List Frame) (at : ℕ) (pal : Bool) (bytes : List ℕ) → IsBytes bytes → shared.IsLength bytes → Verdict (BoardKept recording at pal bytes) (shared.GoesWrongAt at pal bytes)
+board_read : (recording : Recorded) (at : ℕ) (pal : Bool) (bytes : List ℕ) → IsBytes bytes → shared.IsLength bytes → Verdict (BoardKept recording at pal bytes) (shared.GoesWrongAt at pal bytes)
 board_read recording at pal bytes fits long = elim (parts_verdict at pal (shared.store_length bytes) (shared.cut bytes) (cut_bytes bytes fits) (store_long bytes long)) [
   | inl kept ↦ inl (board_of recording at pal bytes kept)
   | inr wrong ↦ inr (wrong.0, inr (long, wrong.1))
 ]
 
-pub board_verdict : (recording : List Frame) (at : ℕ) (pal : Bool) (bytes : List ℕ) → IsBytes bytes → Verdict (BoardKept recording at pal bytes) (shared.GoesWrongAt at pal bytes)
+pub board_verdict : (recording : Recorded) (at : ℕ) (pal : Bool) (bytes : List ℕ) → IsBytes bytes → Verdict (BoardKept recording at pal bytes) (shared.GoesWrongAt at pal bytes)
 board_verdict recording at pal bytes fits = elim (cases_eq (length bytes) (shared.board_size false)) [
   | inl short ↦ board_read recording at pal bytes fits (inl short)
   | inr not_short ↦ (elim (cases_eq (length bytes) (shared.board_size true)) [

@@ -5,7 +5,7 @@ use Rattle.md_fields.specs.Places.{number_at}
 use Rattle.md_fields.proofs.Refusals.{failed}
 use Rattle.md_word.specs.declared.unspell.Unspell.{Unspell}
 use Rattle.md_word.specs.declared.unspell.Unspell.TheVariants.{NoMemory, Rule}
-use Rattle.md_pads.specs.Recording.{Frame}
+use Rattle.md_pads.specs.Recording.{Recorded}
 use Rattle.m68k_chip.specs.Spelling as main
 use Rattle.m68k_chip.specs.Validity.{Chip68Value}
 use Rattle.m68k_chip.proofs.SpellingLaws as main_laws
@@ -119,14 +119,14 @@ sub_answered cart bytes v =
 
 -- ---- the board and the drawing half of the VDP
 
-shared_decided : (recording : List Frame) (at : ℕ) (pal : Bool) (bytes : List ℕ) → Verdict (BoardKept recording at pal bytes) (shared.GoesWrongAt at pal bytes) → Decided (BoardKept recording at pal bytes) (shared.GoesWrongAt at pal bytes)
+shared_decided : (recording : Recorded) (at : ℕ) (pal : Bool) (bytes : List ℕ) → Verdict (BoardKept recording at pal bytes) (shared.GoesWrongAt at pal bytes) → Decided (BoardKept recording at pal bytes) (shared.GoesWrongAt at pal bytes)
 shared_decided recording at pal bytes v =
     decided (BoardKept recording at pal bytes) (shared.GoesWrongAt at pal bytes)
     (λ x y k l. shared_laws.spelled_once at pal bytes x y k.0 l.0 (k.1 ∙ sym l.1))
     (λ x k place wrong. shared_laws.right_nowhere at pal bytes x k.0 place wrong)
     (shared_laws.wrong_once at pal bytes) v
 
-pub shared_answered : (recording : List Frame) (bytes : List ℕ) → Verdict (BoardKept recording (at_of bytes) (region_of bytes) (shared_bytes bytes)) (shared.GoesWrongAt (at_of bytes) (region_of bytes) (shared_bytes bytes)) → Answered (IsShared recording bytes) (SharedFails bytes)
+pub shared_answered : (recording : Recorded) (bytes : List ℕ) → Verdict (BoardKept recording (at_of bytes) (region_of bytes) (shared_bytes bytes)) (shared.GoesWrongAt (at_of bytes) (region_of bytes) (shared_bytes bytes)) → Answered (IsShared recording bytes) (SharedFails bytes)
 shared_answered recording bytes v =
     let d = shared_decided recording (at_of bytes) (region_of bytes) (shared_bytes bytes) v in
     let parts : List Part = shared_parts (holder_in bytes == 1) in

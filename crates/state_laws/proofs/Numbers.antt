@@ -87,9 +87,9 @@ psg_there bytes long = (
 )
 
 -- the board's lines and pads
-pub lines_there : (bytes : List ℕ) → length bytes ≡ 18 → (n : SavedLines) × ((at : ℕ) → Stand 0 (lines_fields at n) bytes)
+pub lines_there : (bytes : List ℕ) → length bytes ≡ 36 → (n : SavedLines) × ((at : ℕ) → Stand 0 (lines_fields at n) bytes)
 unfolding Stand
 lines_there bytes long = (
-  record { bus_request = _; reset = _; resets = _; value1 = _; control1 = _; value2 = _; control2 = _; pads1 = _; pads2 = _ },
-  λ at. (refl, (refl, (refl, (refl, (refl, (refl, (refl, (refl, (refl, long))))))))),
+  record { bus_request = _; reset = _; resets = _; value1 = _; control1 = _; value2 = _; control2 = _; pads1 = _; pads2 = _; count1 = _; fall1 = _; count2 = _; fall2 = _ },
+  λ at. (refl, (refl, (refl, (refl, (refl, (refl, (refl, (refl, (refl, (refl, (refl, (refl, (refl, long))))))))))))),
 )

@@ -1,5 +1,5 @@
 -- Any bytes have one verdict as a saved state, and no two.
-use Rattle.std.proofs.Common.{◌≡◌, ◌≢◌, ◌⊎◌, inl, inr, ℕ, zero, suc, ◌-◌, ◌==◌, true, List, [], ◌∷◌, ◌++◌, length, take, drop, replicate, min, Result, Ok, Err, refl, sym, ap, subst, ◌∙◌, arith}
+use Rattle.std.proofs.Common.{◌≡◌, ◌≢◌, ◌⊎◌, inl, inr, ℕ, zero, suc, ◌-◌, ◌==◌, Bool, true, false, List, [], ◌∷◌, ◌++◌, length, take, drop, replicate, min, Result, Ok, Err, refl, sym, ap, subst, ◌∙◌, arith}
 use Rattle.std.specs.Prelude.{nat_lt, slice_index}
 use Rattle.std.specs.List.{list_all}
 use Rattle.std.specs.Str.{bytes_eq}
@@ -14,7 +14,7 @@ use Rattle.md_fields.proofs.Standing.{IsBytes-drop, IsBytes-take}
 use Rattle.md_word.specs.Clock.{last_cycle}
 use Rattle.md_word.specs.declared.unspell.Unspell.{Unspell}
 use Rattle.md_word.specs.declared.unspell.Unspell.TheVariants.{NoMemory, Rule}
-use Rattle.md_pads.specs.Recording.{Frame}
+use Rattle.md_pads.specs.Recording.{Recorded}
 use Rattle.m68k_chip.specs.Spelling as main
 use Rattle.z80_chip.specs.Spelling as sub
 use Rattle.vdp_chip.specs.Spelling as drawing
@@ -29,17 +29,20 @@ use Rattle.md_machine.specs.Starts.{Start}
 use Rattle.save_state.specs.declared.fault.StateFault.{StateFault}
 use Rattle.save_state.specs.declared.layout.Part.{Part}
 use Rattle.save_state.specs.declared.version.Version.{Version}
-use Rattle.save_state.specs.declared.version.Version.TheVariants.{First, Second}
+use Rattle.save_state.specs.declared.version.Version.TheVariants.{First, Second, Third}
 use Rattle.save_state.specs.Faults.{FailsAt, IsMachineOf}
 use Rattle.save_state.specs.Items.{at_of, region_of, main_next, sub_next, holder_in, main_bytes, sub_bytes, shared_bytes, drawing_bytes, HasLateFm, HasLatePsg, IsMain, MainFails, IsSub, SubFails, IsShared, SharedFails, IsPicture, DrawingFails, IsFm, FmFails, IsPsg, PsgFails}
-use Rattle.save_state.specs.Joining.{Either, KeepsBoth, Reads}
+use Rattle.save_state.specs.Joining.{Either, KeepsBoth, Reads, with_rule}
+use Rattle.save_state.specs.OldPads.{FailsUnder, HasOthers, HasPads, IsMachineUnder, has_buttons, pads1_place, pads2_place}
+use Rattle.std.specs.Int.{w16}
+use Rattle.md_fields.specs.Places.{number_at}
 use Rattle.save_state.specs.Layout.{digest_part, drawing_part, fm_part, fm_port_part, gathered, main_part, mark_part, part_of, psg_part, psg_port_part, region_part, shared_parts, sub_parts}
 use Rattle.save_state.specs.Pieces.{Fails, Kept, Pieces, built}
 use Rattle.save_state.specs.States.{IsNewest, are_fm_early, are_psg_early, mark}
-use Rattle.save_state.specs.Versions.{HasVersion, IsOtherCart, IsState, IsWrongAt, from_first, mark_of, migrated, other_size, place_back, size_of, strange, unmarked}
-use Rattle.save_state.proofs.Joins.{fine}
+use Rattle.save_state.specs.Versions.{HasVersion, IsOtherCart, IsState, IsWrongAt, from_first, from_second, mark_of, migrated, other_size, place_back, size_of, strange, unmarked}
+use Rattle.save_state.proofs.Joins.{fine, ruled}
 use Rattle.save_state.proofs.MachineLaws.{IsAtRight, IsCycle, at_refused, machine_read, machine_refused, region_refused}
-use Rattle.save_state.proofs.ReadLaws.{from_start, parts_of_state, read_found, read_only, read_wrong}
+use Rattle.save_state.proofs.ReadLaws.{from_start, parts_of_state, read_found, read_only, read_pads, read_wrong}
 use Rattle.save_state.proofs.VersionLaws.{form_of, form_wrong, found_of, only_of, same_cart, same_digest, state_own, wrong_of, wrong_own, wrong_unversioned}
 use Rattle.save_state.proofs.WholeLaws.{machine_there}
 use Rattle.state_laws.specs.Verdicts.{IsStateVerdict, Keeps, OfOther, StateVerdict, StateWrongAt}
@@ -49,7 +52,7 @@ use Rattle.state_laws.proofs.Items.{Answered, drawing_answered, fm_answered, mai
 
 -- ---- what the bytes of each chip are found to be
 
-record Judged (cart : List ℕ) (recording : List Frame) (bytes : List ℕ) : Type 0 where
+record Judged (cart : List ℕ) (recording : Recorded) (bytes : List ℕ) : Type 0 where
   main : Verdict (main.Spells cart (at_of bytes) (main_bytes bytes)) (main.GoesWrongAt cart (at_of bytes) (main_bytes bytes))
   sub : Verdict (sub.Spells cart (at_of bytes) (sub_bytes bytes)) (sub.GoesWrongAt cart (at_of bytes) (sub_bytes bytes))
   shared : Verdict (BoardKept recording (at_of bytes) (region_of bytes) (shared_bytes bytes)) (shared.GoesWrongAt (at_of bytes) (region_of bytes) (shared_bytes bytes))
@@ -98,7 +101,7 @@ psg_late bytes fits = elim (psg_port_verdict (at_of bytes) (part_of psg_port_par
 ]
 
 -- of any bytes
-judged_bytes : (cart : List ℕ) (recording : List Frame) (bytes : List ℕ) → IsBytes bytes → Judged cart recording bytes
+judged_bytes : (cart : List ℕ) (recording : Recorded) (bytes : List ℕ) → IsBytes bytes → Judged cart recording bytes
 judged_bytes cart recording bytes fits = record {
   main = main_verdict cart (at_of bytes) (main_bytes bytes) (part_bytes main_part bytes fits);
   sub = sub_verdict cart (at_of bytes) (sub_bytes bytes) (gathered_bytes (sub_parts (holder_in bytes == 0)) bytes fits);
@@ -111,7 +114,7 @@ judged_bytes cart recording bytes fits = record {
 }
 
 -- of any numbers that keep a machine
-judged_machine : (cart : List ℕ) (recording : List Frame) (bytes : List ℕ) (m : MachineValue) → IsMachineOf cart recording bytes m → Judged cart recording bytes
+judged_machine : (cart : List ℕ) (recording : Recorded) (bytes : List ℕ) (m : MachineValue) → IsMachineOf cart recording bytes m → Judged cart recording bytes
 judged_machine cart recording bytes m is = record {
   main = inl (m.console.main, is.main.spells);
   sub = inl (m.console.sub.state, is.sub.spells);
@@ -125,7 +128,7 @@ judged_machine cart recording bytes m is = record {
 
 -- ---- the machine
 
-pieces_answered : (cart : List ℕ) (recording : List Frame) (bytes : List ℕ) → Judged cart recording bytes → Answered (Kept cart recording bytes) (Fails cart bytes)
+pieces_answered : (cart : List ℕ) (recording : Recorded) (bytes : List ℕ) → Judged cart recording bytes → Answered (Kept cart recording bytes) (Fails cart bytes)
 pieces_answered cart recording bytes j =
     let processors = two (IsMain cart bytes) (IsSub cart bytes) (MainFails cart bytes) (SubFails cart bytes) (main_answered cart bytes j.main) (sub_answered cart bytes j.sub) in
     let board = two (IsShared recording bytes) (IsPicture bytes) (SharedFails bytes) (DrawingFails bytes) (shared_answered recording bytes j.shared) (drawing_answered bytes j.drawing) in
@@ -137,7 +140,7 @@ pieces_answered cart recording bytes j =
 same_fault : {T U : Type 0} (fault : Unspell) → failed {T = T} fault ≡ failed NoMemory → failed {T = U} fault ≡ failed NoMemory
 same_fault {T} {U} fault e = let f : fault ≡ NoMemory = cc in ap (λ (x : Unspell). failed {T = U} x) f
 
-from_pieces : (cart : List ℕ) (recording : List Frame) (bytes : List ℕ) → IsAtRight bytes → (p : Answered (Kept cart recording bytes) (Fails cart bytes)) (all : Result Pieces Unspell) → p.answer ≡ all
+from_pieces : (cart : List ℕ) (recording : Recorded) (bytes : List ℕ) → IsAtRight bytes → (p : Answered (Kept cart recording bytes) (Fails cart bytes)) (all : Result Pieces Unspell) → p.answer ≡ all
     → Answered (IsMachineOf cart recording bytes) (FailsAt cart bytes)
 from_pieces cart recording bytes right p (Ok t) e = record {
   answer = Ok (built (at_of bytes) t);
@@ -159,7 +162,7 @@ cycle_cases bytes = elim (cases_lt (at_of bytes) 1) [
   ])
 ]
 
-machine_answered : (cart : List ℕ) (recording : List Frame) (bytes : List ℕ) → Judged cart recording bytes → Answered (IsMachineOf cart recording bytes) (FailsAt cart bytes)
+machine_answered : (cart : List ℕ) (recording : Recorded) (bytes : List ℕ) → Judged cart recording bytes → Answered (IsMachineOf cart recording bytes) (FailsAt cart bytes)
 machine_answered cart recording bytes j = elim (cycle_cases bytes) [
   | inr wrong ↦ record { answer = failed (Rule 40); reads = at_refused cart recording bytes wrong; memory = λ w. cc }
   | inl cycle ↦ (elim (cases_lt 1 (slice_index bytes region_part.place)) [
@@ -168,18 +171,36 @@ machine_answered cart recording bytes j = elim (cycle_cases bytes) [
   ])
 ]
 
+-- by the rules of a version
+ruled_memory : (answer : Result MachineValue Unspell) (holds : Bool) (place : ℕ) → answer ≢ failed NoMemory → with_rule answer holds place ≢ failed NoMemory
+ruled_memory answer true place memory = memory
+ruled_memory (Ok m) false place memory = λ w. cc
+ruled_memory (Err (Rule p)) false place memory = λ w. cc
+ruled_memory (Err NoMemory) false place memory = λ w. memory refl
+
+answered_under : (v : Version) (cart : List ℕ) (recording : Recorded) (bytes : List ℕ) → Judged cart recording bytes → Answered (IsMachineUnder v cart recording bytes) (FailsUnder v cart bytes)
+answered_under v cart recording bytes j =
+    let a = machine_answered cart recording bytes j in
+    let first = has_buttons v (number_at w16 pads1_place bytes) in
+    let second = has_buttons v (number_at w16 pads2_place bytes) in
+    record {
+      answer = with_rule (with_rule a.answer first pads1_place) second pads2_place;
+      reads = ruled _ _ _ second pads2_place (HasOthers v pads2_place bytes) (λ e. e) (λ e. e) (ruled _ _ _ first pads1_place (HasOthers v pads1_place bytes) (λ e. e) (λ e. e) a.reads);
+      memory = ruled_memory (with_rule a.answer first pads1_place) second pads2_place (ruled_memory a.answer first pads1_place a.memory);
+    }
+
 -- ---- there is a verdict
 
 -- on bytes of a version and of this cartridge, from what their migration is read as
-verdict_by : (v : Version) (cart : List ℕ) (recording : List Frame) (bytes : List ℕ) → IsBytes (migrated v bytes) → HasVersion v bytes → part_of digest_part (migrated v bytes) ≡ sha256 cart
-    → (answer : Result MachineValue Unspell) → Reads (IsMachineOf cart recording (migrated v bytes)) (FailsAt cart (migrated v bytes)) answer → answer ≢ failed NoMemory
+verdict_by : (v : Version) (cart : List ℕ) (recording : Recorded) (bytes : List ℕ) → IsBytes (migrated v bytes) → HasVersion v bytes → part_of digest_part (migrated v bytes) ≡ sha256 cart
+    → (answer : Result MachineValue Unspell) → Reads (IsMachineUnder v cart recording (migrated v bytes)) (FailsUnder v cart (migrated v bytes)) answer → answer ≢ failed NoMemory
     → (verdict : StateVerdict) × IsStateVerdict cart recording bytes verdict
 verdict_by v cart recording bytes fits has d (Ok m) reads memory =
-    let found = read_found cart recording (migrated v bytes) m fits (form_of v bytes has) d reads in
+    let found = read_found v cart recording (migrated v bytes) m fits (form_of v bytes has) d reads in
     let start : Start = record { at = m.at; console = m.console } in
-    (Keeps start, (found_of v cart bytes start has found.0, found.1))
+    (Keeps start, (found_of v cart bytes start has (read_pads v cart recording (migrated v bytes) m reads) found.0, found.1))
 verdict_by v cart recording bytes fits has d (Err (Rule place)) reads memory =
-    (StateWrongAt (place_back v place), form_wrong v cart bytes (place_back v place) has (record { field = place; fails = (d, reads.least place refl); place_is = refl }))
+    (StateWrongAt (place_back v place), form_wrong v cart bytes (place_back v place) has (record { field = place; own = d; first = reads.least place refl; place_is = refl }))
 verdict_by v cart recording bytes fits has d (Err NoMemory) reads memory = absurd (memory refl)
 
 same_or_not : (xs ys : List ℕ) → (xs ≡ ys) ⊎ (xs ≢ ys)
@@ -208,68 +229,79 @@ first_fit bytes fits =
     (both_bytes (take 139783 (drop 48 bytes)) _ (IsBytes-take 139783 _ (IsBytes-drop 48 bytes fits))
     (both_bytes (0 ∷ []) _ (zeros_fit 1)
     (both_bytes (take 215050 (drop 139831 bytes)) _ (IsBytes-take 215050 _ (IsBytes-drop 139831 bytes fits))
-    (both_bytes (replicate 15360 0) _ (zeros_fit 15360) (IsBytes-drop 354881 bytes fits)))))))
+    (both_bytes (replicate 15360 0) _ (zeros_fit 15360)
+    (both_bytes (drop 354881 bytes) (replicate 18 0) (IsBytes-drop 354881 bytes fits) (zeros_fit 18))))))))
+
+second_fit : (bytes : List ℕ) → IsBytes bytes → IsBytes (from_second bytes)
+unfolding from_second
+second_fit bytes fits =
+    both_bytes mark _ (small_fit mark refl) (both_bytes (drop 8 bytes) (replicate 18 0) (IsBytes-drop 8 bytes fits) (zeros_fit 18))
 
 migrated_fit : (v : Version) (bytes : List ℕ) → IsBytes bytes → IsBytes (migrated v bytes)
 unfolding migrated
 migrated_fit First bytes fits = first_fit bytes fits
-migrated_fit Second bytes fits = fits
+migrated_fit Second bytes fits = second_fit bytes fits
+migrated_fit Third bytes fits = fits
 
-versioned : (v : Version) (cart : List ℕ) (recording : List Frame) (bytes : List ℕ) → IsBytes bytes → HasVersion v bytes → (verdict : StateVerdict) × IsStateVerdict cart recording bytes verdict
+versioned : (v : Version) (cart : List ℕ) (recording : Recorded) (bytes : List ℕ) → IsBytes bytes → HasVersion v bytes → (verdict : StateVerdict) × IsStateVerdict cart recording bytes verdict
 versioned v cart recording bytes fits has = elim (same_or_not (part_of digest_part bytes) (sha256 cart)) [
   | inr differ ↦ (OfOther (part_of digest_part bytes) (sha256 cart), record { version = v; has = has; kept_is = refl; given_is = refl; differ = differ })
   | inl d ↦ (
       let newest_fits = migrated_fit v bytes fits in
-      let a = machine_answered cart recording (migrated v bytes) (judged_bytes cart recording (migrated v bytes) newest_fits) in
+      let a = answered_under v cart recording (migrated v bytes) (judged_bytes cart recording (migrated v bytes) newest_fits) in
       verdict_by v cart recording bytes newest_fits has (same_digest v bytes has ∙ d) a.answer a.reads a.memory)
 ]
 
-marked : (v : Version) (cart : List ℕ) (recording : List Frame) (bytes : List ℕ) → IsBytes bytes → part_of mark_part bytes ≡ mark_of v → (verdict : StateVerdict) × IsStateVerdict cart recording bytes verdict
+marked : (v : Version) (cart : List ℕ) (recording : Recorded) (bytes : List ℕ) → IsBytes bytes → part_of mark_part bytes ≡ mark_of v → (verdict : StateVerdict) × IsStateVerdict cart recording bytes verdict
 marked v cart recording bytes fits m = elim (cases_eq (length bytes) (size_of v)) [
   | inl long ↦ versioned v cart recording bytes fits (record { mark_is = m; long = long })
   | inr other ↦ (StateWrongAt (min (length bytes) (size_of v)), inl (other_size v m other refl))
 ]
 
-no_mark : (bytes : List ℕ) → part_of mark_part bytes ≢ mark_of First → part_of mark_part bytes ≢ mark_of Second → (v : Version) → part_of mark_part bytes ≢ mark_of v
-no_mark bytes first second First = first
-no_mark bytes first second Second = second
+no_mark : (bytes : List ℕ) → part_of mark_part bytes ≢ mark_of First → part_of mark_part bytes ≢ mark_of Second → part_of mark_part bytes ≢ mark_of Third → (v : Version) → part_of mark_part bytes ≢ mark_of v
+no_mark bytes first second third First = first
+no_mark bytes first second third Second = second
+no_mark bytes first second third Third = third
 
-pub some_verdict : (cart : List ℕ) (recording : List Frame) (bytes : List ℕ) → IsBytes bytes → (verdict : StateVerdict) × IsStateVerdict cart recording bytes verdict
+pub some_verdict : (cart : List ℕ) (recording : Recorded) (bytes : List ℕ) → IsBytes bytes → (verdict : StateVerdict) × IsStateVerdict cart recording bytes verdict
 some_verdict cart recording bytes fits = elim (cases_lt (length bytes) 8) [
   | inl few ↦ (StateWrongAt (length bytes), inl (unmarked few refl))
   | inr long ↦ (elim (same_or_not (part_of mark_part bytes) (mark_of Second)) [
     | inl m ↦ marked Second cart recording bytes fits m
     | inr second ↦ (elim (same_or_not (part_of mark_part bytes) (mark_of First)) [
       | inl m ↦ marked First cart recording bytes fits m
-      | inr first ↦ (StateWrongAt 0, inl (strange long (no_mark bytes first second) refl))
+      | inr first ↦ (elim (same_or_not (part_of mark_part bytes) (mark_of Third)) [
+        | inl m ↦ marked Third cart recording bytes fits m
+        | inr third ↦ (StateWrongAt 0, inl (strange long (no_mark bytes first second third) refl))
+      ])
     ])
   ])
 ]
 
 -- ---- and no other
 
-reads_of : (cart : List ℕ) (recording : List Frame) (bytes : List ℕ) (start : Start) → IsNewest cart bytes start → start.console.shared.recording ≡ recording
-    → Reads (IsMachineOf cart recording bytes) (FailsAt cart bytes) (fine (from_start start))
-reads_of cart recording bytes start s pads =
+reads_of : (v : Version) (cart : List ℕ) (recording : Recorded) (bytes : List ℕ) (start : Start) → HasPads v bytes → IsNewest cart bytes start → start.console.shared.recording ≡ recording
+    → Reads (IsMachineUnder v cart recording bytes) (FailsUnder v cart bytes) (fine (from_start start))
+reads_of v cart recording bytes start old s pads =
     let is = machine_there cart (sha256 cart) bytes recording start s.saved (parts_of_state cart bytes start s) pads in
-    let a = machine_answered cart recording bytes (judged_machine cart recording bytes (from_start start) is) in
-    subst (Reads (IsMachineOf cart recording bytes) (FailsAt cart bytes)) (a.reads.only (from_start start) is a.memory) a.reads
+    let a = answered_under v cart recording bytes (judged_machine cart recording bytes (from_start start) is) in
+    subst (Reads (IsMachineUnder v cart recording bytes) (FailsUnder v cart bytes)) (a.reads.only (from_start start) ((is, old.0), old.1) a.memory) a.reads
 
 start_of : Start → Result MachineValue StateFault → Start
 start_of start (Ok m) = record { at = m.at; console = m.console }
 start_of start (Err fault) = start
 
-pub one_machine : (cart : List ℕ) (recording : List Frame) (bytes : List ℕ) (a b : Start) → IsState cart bytes a → a.console.shared.recording ≡ recording → IsState cart bytes b → b.console.shared.recording ≡ recording → a ≡ b
+pub one_machine : (cart : List ℕ) (recording : Recorded) (bytes : List ℕ) (a b : Start) → IsState cart bytes a → a.console.shared.recording ≡ recording → IsState cart bytes b → b.console.shared.recording ≡ recording → a ≡ b
 unfolding start_of
 one_machine cart recording bytes a b s pads t other =
     let newest = migrated s.version bytes in
-    ap (start_of a) (read_only cart recording newest (from_start a) b (reads_of cart recording newest a s.newest pads) (only_of s.version cart bytes b s.has t) other)
+    let second = only_of s.version cart bytes b s.has t in
+    ap (start_of a) (read_only s.version cart recording newest (from_start a) b (reads_of s.version cart recording newest a s.pads s.newest pads) second.0 second.1 other)
 
-not_wrong : (cart : List ℕ) (recording : List Frame) (bytes : List ℕ) (start : Start) (place : ℕ) → IsState cart bytes start → start.console.shared.recording ≡ recording → IsWrongAt cart bytes place → ⊥
+not_wrong : (cart : List ℕ) (recording : Recorded) (bytes : List ℕ) (start : Start) (place : ℕ) → IsState cart bytes start → start.console.shared.recording ≡ recording → IsWrongAt cart bytes place → ⊥
 not_wrong cart recording bytes start place s pads wrong =
     let newest = migrated s.version bytes in
-    let w = wrong_of s.version cart bytes place s.has wrong in
-    read_wrong cart recording newest (from_start start) w.field (reads_of cart recording newest start s.newest pads) w.fails
+    read_wrong s.version cart recording newest (from_start start) place (reads_of s.version cart recording newest start s.pads s.newest pads) (wrong_of s.version cart bytes place s.has wrong)
 
 not_both : (cart bytes kept given : List ℕ) (place : ℕ) → IsOtherCart cart bytes kept given → IsWrongAt cart bytes place → ⊥
 not_both cart bytes kept given place o wrong = o.differ (o.kept_is ∙ wrong_own o.version cart bytes place o.has wrong ∙ sym o.given_is)
@@ -279,10 +311,10 @@ one_place cart bytes p q (inl a) wrong = wrong_unversioned cart bytes p q a wron
 one_place cart bytes p q (inr a) (inl b) = sym (wrong_unversioned cart bytes q p b (inr a))
 one_place cart bytes p q (inr a) (inr b) =
     let w = wrong_of a.version cart bytes q a.has (inr b) in
-    let same : a.field ≡ w.field = omega (arith, a.first.least w.field w.fails.1.fails, w.fails.1.least a.field a.first.fails) in
+    let same : a.field ≡ w.field = omega (arith, a.first.least w.field w.first.fails, w.first.least a.field a.first.fails) in
     a.place_is ∙ ap (place_back a.version) same ∙ sym w.place_is
 
-pub one_verdict : (cart : List ℕ) (recording : List Frame) (bytes : List ℕ) (a b : StateVerdict) → IsStateVerdict cart recording bytes a → IsStateVerdict cart recording bytes b → a ≡ b
+pub one_verdict : (cart : List ℕ) (recording : Recorded) (bytes : List ℕ) (a b : StateVerdict) → IsStateVerdict cart recording bytes a → IsStateVerdict cart recording bytes b → a ≡ b
 one_verdict cart recording bytes (Keeps a) (Keeps b) p q = ap Keeps (one_machine cart recording bytes a b p.0 p.1 q.0 q.1)
 one_verdict cart recording bytes (Keeps a) (OfOther kept given) p q = absurd (same_cart cart bytes kept given (state_own cart bytes a p.0) q)
 one_verdict cart recording bytes (Keeps a) (StateWrongAt place) p q = absurd (not_wrong cart recording bytes a place p.0 p.1 q)

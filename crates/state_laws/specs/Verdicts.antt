@@ -1,6 +1,6 @@
 -- What bytes are found to be as a saved state. This project's profile.
 use Rattle.std.specs.Prelude.{◌≡◌, ℕ, List}
-use Rattle.md_pads.specs.Recording.{Frame}
+use Rattle.md_pads.specs.Recording.{Recorded}
 use Rattle.md_machine.specs.Starts.{Start}
 use Rattle.save_state.specs.Versions.{IsOtherCart, IsState, IsWrongAt}
 
@@ -11,7 +11,7 @@ pub data StateVerdict : Type 0 where
   StateWrongAt : ℕ → StateVerdict
 
 -- with this cartridge and this recording of the pads the bytes are so
-abbrev pub IsStateVerdict : List ℕ → List Frame → List ℕ → StateVerdict → Type 0
+abbrev pub IsStateVerdict : List ℕ → Recorded → List ℕ → StateVerdict → Type 0
 IsStateVerdict cart recording bytes (Keeps start) = IsState cart bytes start × (start.console.shared.recording ≡ recording)
 IsStateVerdict cart recording bytes (OfOther kept given) = IsOtherCart cart bytes kept given
 IsStateVerdict cart recording bytes (StateWrongAt place) = IsWrongAt cart bytes place

@@ -5,19 +5,19 @@
 ghost use Rattle.std.specs.Prelude.{◌≡◌, ℕ, List};
 ghost use Rattle.md_fields.specs.Places.{IsBytes};
 ghost use Rattle.md_machine.specs.Starts.{Start};
-ghost use Rattle.md_pads.specs.Recording.{Frame};
+ghost use Rattle.md_pads.specs.Recording.{Recorded};
 ghost use Rattle.save_state.specs.Versions.{IsState};
 ghost use Rattle.state_laws.specs.Verdicts.{IsStateVerdict, StateVerdict};
 
 /// Any list of bytes, with any cartridge and any recording of the pads, keeps a machine, or is a state of another
 /// cartridge, or is wrong at a least place.
 pub fn bytes_have_a_verdict()
-    ensures { (cart : List ℕ) (recording : List Frame) (bytes : List ℕ) → IsBytes bytes → (verdict : StateVerdict) × IsStateVerdict cart recording bytes verdict }
+    ensures { (cart : List ℕ) (recording : Recorded) (bytes : List ℕ) → IsBytes bytes → (verdict : StateVerdict) × IsStateVerdict cart recording bytes verdict }
 {}
 
 /// It is one of these alone: no other machine, no other digests, and no other place.
 pub fn verdicts_are_one()
-    ensures { (cart : List ℕ) (recording : List Frame) (bytes : List ℕ) (a b : StateVerdict) → IsStateVerdict cart recording bytes a
+    ensures { (cart : List ℕ) (recording : Recorded) (bytes : List ℕ) (a b : StateVerdict) → IsStateVerdict cart recording bytes a
         → IsStateVerdict cart recording bytes b → a ≡ b }
 {}
 

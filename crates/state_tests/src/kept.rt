@@ -10,7 +10,7 @@ use std::alloc::Global;
 use std::sync::Arc;
 use std::test::Fail;
 
-const LENGTH: usize = 393_602;
+const LENGTH: usize = 393_620;
 
 /// The bytes of the machine at the end of its first frame, and its journal's records up to there.
 fn gone_on(alloc: Global, machine: &mut Machine) -> Result<(Vec<u8>, Vec<u8>), Fail>

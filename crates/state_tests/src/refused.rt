@@ -24,12 +24,13 @@ const PSG: usize = 393_558;
 /// Bytes at their places, and the place of the refusal.
 type Row = (&'static [(usize, u8)], Option<u64>);
 
-const ROWS: [Row; 67] = [
+const ROWS: [Row; 75] = [
     // nothing is changed
     (&[], None),
-    // the mark, that of version 1 with the other length, and the cycle: 0, and above 2^39
-    (&[(7, 0x33)], Some(0)),
+    // the mark, those of versions 1 and 2 with other lengths, and the cycle: 0, and above 2^39
+    (&[(7, 0x34)], Some(0)),
     (&[(7, 0x31)], Some(378_240)),
+    (&[(7, 0x32)], Some(393_602)),
     (&[(47, 0)], Some(40)),
     (&[(42, 1)], Some(40)),
     // the region; on PAL the display may be 240 lines high, and so may the picture
@@ -96,14 +97,21 @@ const ROWS: [Row; 67] = [
     (&[(PSG + 7, 16)], Some(393_565)),
     (&[(PSG + 12, 4)], Some(393_570)),
     (&[(PSG + 20, 2)], Some(393_578)),
-    // the board: request, reset, resets, pads
+    // the board: request, reset, resets, pads, and the falls that they counted, which were before cycle 1
     (&[(393_584, 2)], Some(393_584)),
     (&[(393_585, 2)], Some(393_585)),
     (&[(393_593, 2)], Some(393_586)),
-    (&[(393_598, 1)], Some(393_598)),
+    (&[(393_598, 16)], Some(393_598)),
+    (&[(393_598, 15)], None),
+    (&[(393_600, 16)], Some(393_600)),
+    (&[(393_602, 5)], Some(393_602)),
+    (&[(393_602, 4)], None),
+    (&[(393_610, 1)], Some(393_603)),
+    (&[(393_602, 1), (393_610, 1)], Some(393_603)),
+    (&[(393_611, 5)], Some(393_611)),
     // the Z80 has seen a reset that was not, also where the board fails behind it
     (&[(SUB + 55, 1)], Some(393_586)),
-    (&[(SUB + 55, 1), (393_598, 1)], Some(393_586)),
+    (&[(SUB + 55, 1), (393_598, 16)], Some(393_586)),
 ];
 
 // A write of the 68000 at cycle 0, and its next event at 20: they stand less than 28 cycles apart. With
@@ -117,7 +125,7 @@ const JOINED: [Row; 5] = [
     ),
     (&[(383_317, 1), (56, 20), (65, 20)], Some(383_316)),
     (
-        &[(370_270, 1), (56, 20), (65, 20), (393_598, 1)],
+        &[(370_270, 1), (56, 20), (65, 20), (393_598, 16)],
         Some(370_269),
     ),
 ];
@@ -162,14 +170,14 @@ fn a_wrong_length_is_refused_at_the_lesser(rt: HostRuntime) -> Result<(), Fail> 
     let alloc = rt.alloc();
     let cart = cartridge(alloc, 0)?;
     let mut bytes = state_at_1(alloc, cart.clone()?)?;
-    let short = bytes.get(..393_601).unwrap_or(&[]);
-    assert_eq!(rt; place_of(alloc, short, cart.clone()?)?, Some(393_601));
+    let short = bytes.get(..393_619).unwrap_or(&[]);
+    assert_eq!(rt; place_of(alloc, short, cart.clone()?)?, Some(393_619));
     let few = bytes.get(..7).unwrap_or(&[]);
     assert_eq!(rt; place_of(alloc, few, cart.clone()?)?, Some(7));
     let behind = bytes.get(1..).unwrap_or(&[]);
     assert_eq!(rt; place_of(alloc, behind, cart.clone()?)?, Some(0));
     bytes.push(0)?;
-    assert_eq!(rt; place_of(alloc, &bytes, cart)?, Some(393_602));
+    assert_eq!(rt; place_of(alloc, &bytes, cart)?, Some(393_620));
     Ok(())
 }
 

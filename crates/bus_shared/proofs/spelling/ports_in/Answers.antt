@@ -35,7 +35,7 @@ returns-in-Err-unspell-clause-rule c = λ place e.
 
 pub overflow_add-result-in-Err-checked : goal.overflow_add-result-in-Err-checked
 overflow_add-result-in-Err-checked c =
-    omega (arith, refused_within (lines_fields c.args.at) _ 18 (lines_size c.args.at) c.in-Err-checked.place c.in-Err-checked.ensures.refused)
+    omega (arith, refused_within (lines_fields c.args.at) _ 36 (lines_size c.args.at) c.in-Err-checked.place c.in-Err-checked.ensures.refused)
 
 pub returns-in-Ok-checked-clause-lines : goal.returns-in-Ok-checked-clause-lines
 returns-in-Ok-checked-clause-lines c =

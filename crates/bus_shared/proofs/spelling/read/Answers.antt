@@ -12,6 +12,7 @@ use Rattle.z80_parcel.specs.Parcels.{store_of}
 use Rattle.bus_shared.specs.Board.{Board}
 use Rattle.bus_shared.specs.Saved.{lines_fields}
 use Rattle.bus_shared.specs.Spelling.{IsLength, Spells, StoreGoesWrongAt, cut, store_length}
+use Rattle.bus_shared.proofs.SavedLaws.{falls_of}
 use Rattle.bus_shared.proofs.SpellingLaws.{PortsIn, behind_rule, ok_not, ports_exit, ports_near, same_fault, vdp_exit, vdp_near, whole}
 use Rattle.bus_shared.proofs.spelling.read.Goals as goal
 use Rattle.bus_shared.proofs.spelling.read.Goals.{else-bytes-ne-SHORT-via-then-bytes-ne-SHORT+else-bytes-ne-LONG, else-bytes-ne-SHORT-via-else-bytes-ne-SHORT}
@@ -63,6 +64,9 @@ returns-in-Err-ports_in-clause-rule c = λ place e.
     (λ q wrong. ok_not _ (Rule q) ((c.in-Ok-unspell.ensures.rule q).1 (subst (λ (l : List ℕ). vdp_spelling.GoesWrongAt c.args.at c.args.pal l q) (sym front) wrong)))
     (subst (λ (l : List ℕ). PortsIn c.args.at l w.0) back (c.in-Err-ports_in.ensures.rule w.0 (ap Err w.1)))
     (w.2 ∙ ap (λ (n : ℕ). n + 65813 + w.0) c.split_at.ensures.front_len)
+
+pub board_of-requires-clause-falls : goal.board_of-requires-clause-falls
+board_of-requires-clause-falls c = falls_of c.args.at c.in-Ok-ports_in.ports.lines c.requires c.in-Ok-ports_in.ensures.lines.1
 
 pub returns-in_err-board_of-clause-rule : goal.returns-in_err-board_of-clause-rule
 returns-in_err-board_of-clause-rule c =

@@ -1,5 +1,6 @@
 use Rattle.std.proofs.Common.{◌≡◌, ℕ, Bool, List, [], sym, subst}
 use Rattle.std.specs.Arc.{arc_value}
+use Rattle.md_pads.specs.Recording.{no_frames}
 use Rattle.md_word.specs.declared.key.Key.{Key}
 use Rattle.rom_header.specs.Cartridge.{IsImage}
 use Rattle.chip_core.specs.Cores.{IsShaped}
@@ -11,7 +12,7 @@ use Rattle.md_machine.proofs.first.first_core.Goals as goal
 
 shaped : (cart : List ℕ) (pal : Bool) (chips : List Chip) (bounds : List Key) → chips ≡ first_chips cart pal → bounds ≡ first_bounds → IsImage cart → IsShaped five chips bounds
 shaped cart pal chips bounds c k image =
-    subst (λ z. IsShaped five z bounds) (sym c) (subst (λ z. IsShaped five (first_chips cart pal) z) (sym k) (first-core cart [] pal 0 image).shape)
+    subst (λ z. IsShaped five z bounds) (sym c) (subst (λ z. IsShaped five (first_chips cart pal) z) (sym k) (first-core cart no_frames pal 0 image).shape)
 
 pub make-requires-after_bounds : goal.make-requires-after_bounds
 make-requires-after_bounds c κs =

@@ -6,10 +6,10 @@ use Rattle.md_pads.proofs.port.high_levels.Goals as goal
 pub returns : goal.returns
 returns c =
     rw (
-      c.contains.ensures tt ∙ has_mask (word_of c.args.held) button_c,
-      c.contains-2.ensures tt ∙ has_mask (word_of c.args.held) button_b,
-      c.contains-3.ensures tt ∙ has_mask (word_of c.args.held) right,
-      c.contains-4.ensures tt ∙ has_mask (word_of c.args.held) left,
-      c.contains-5.ensures tt ∙ has_mask (word_of c.args.held) down,
-      c.contains-6.ensures tt ∙ has_mask (word_of c.args.held) up,
+      c.contains.ensures tt ∙ has_mask (word_of c.args.pressed) button_c,
+      c.contains-2.ensures tt ∙ has_mask (word_of c.args.pressed) button_b,
+      c.contains-3.ensures tt ∙ has_mask (word_of c.args.pressed) right,
+      c.contains-4.ensures tt ∙ has_mask (word_of c.args.pressed) left,
+      c.contains-5.ensures tt ∙ has_mask (word_of c.args.pressed) down,
+      c.contains-6.ensures tt ∙ has_mask (word_of c.args.pressed) up,
     ) refl

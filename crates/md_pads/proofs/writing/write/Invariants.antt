@@ -1,8 +1,8 @@
 use Rattle.std.proofs.Common.{◌≡◌, ◌++◌, length, take}
 use Rattle.std.specs.List.{flat_map}
 use Rattle.std.specs.Int.{w32, to_be_bytes}
-use Rattle.md_pads.specs.Recording.{frame_bytes, mark}
+use Rattle.md_pads.specs.Recording.{frame_bytes, lead}
 use Rattle.md_pads.proofs.writing.write.Given as goal
 
 abbrev pub invariant-loop-frame : goal.invariant-loop-frame
-invariant-loop-frame l = l.bytes.items ≡ mark ++ to_be_bytes w32 (length l.frames) ++ flat_map frame_bytes (take l.frame-index l.frames)
+invariant-loop-frame l = l.bytes.items ≡ lead l.fn.version ++ to_be_bytes w32 (length l.frames) ++ flat_map frame_bytes (take l.frame-index l.frames)

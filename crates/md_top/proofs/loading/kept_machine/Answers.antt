@@ -1,7 +1,7 @@
 use Rattle.std.proofs.Common.{ap, refl, subst, sym, ◌∙◌}
 use Rattle.std.specs.Prelude.{All}
 use Rattle.std.specs.Arc.{arc_value}
-use Rattle.md_pads.specs.Recording.{IsFrame}
+use Rattle.md_pads.specs.Recording.{IsFrame, Recorded}
 use Rattle.md_top.specs.Courses.{start_at}
 use Rattle.md_top.specs.Loads.{IsFound}
 use Rattle.state_laws.specs.Verdicts.{Keeps, OfOther, StateWrongAt}
@@ -18,7 +18,7 @@ returns-in-Ok-read-clause-fresh c = record {
   entries = c.in-Ok-read.ensures.empty.0;
   media = c.in-Ok-read.ensures.empty.1;
   reached = c.states_are_reached.ensures (arc_value c.in-Ok.both.0) c.args.bytes.now c.in-Ok-read.ensures.found.0 c.in-Ok-read.ensures.start
-      (subst (All IsFrame) (sym (c.in-Ok-read.ensures.found.1 ∙ ap (λ (inputs : Inputs). inputs.recording) c.in-Ok.ensures)) c.requires);
+      (subst (λ (r : Recorded). All IsFrame r.frames) (sym (c.in-Ok-read.ensures.found.1 ∙ ap (λ (inputs : Inputs). inputs.recording) c.in-Ok.ensures)) c.requires);
 }
 
 pub returns-in-Err-Form-clause-err : goal.returns-in-Err-Form-clause-err

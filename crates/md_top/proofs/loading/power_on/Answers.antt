@@ -1,7 +1,7 @@
 use Rattle.std.proofs.Common.{◌≡◌, [], List, ℕ, Bool, refl, subst, sym}
 use Rattle.std.specs.Arc.{arc_value}
 use Rattle.std.proofs.lemmas.Result.{IfOk-weaker}
-use Rattle.md_pads.specs.Recording.{Frame}
+use Rattle.md_pads.specs.Recording.{Recorded}
 use Rattle.md_machine.specs.Console.{power_on}
 use Rattle.md_machine.specs.Machines.{MachineValue}
 use Rattle.md_machine.specs.Media.{no_media}
@@ -12,7 +12,7 @@ use Rattle.md_top.specs.declared.inputs.Inputs.{Inputs}
 use Rattle.md_top.proofs.loading.power_on.Goals as goal
 
 -- the machine at power-on is one with which a run may begin
-fresh : (cart : List ℕ) (recording : List Frame) (pal : Bool) (m : MachineValue) → IsStart (record { at = 0; console = power_on cart recording pal })
+fresh : (cart : List ℕ) (recording : Recorded) (pal : Bool) (m : MachineValue) → IsStart (record { at = 0; console = power_on cart recording pal })
     → IsReached 0 (power_on cart recording pal) → m ≡ record { at = 0; console = power_on cart recording pal; entries = []; media = no_media } → IsFresh m
 fresh cart recording pal m start reached is = subst IsFresh (sym is) (record { from = start; entries = refl; media = refl; reached = reached })
 

@@ -1,6 +1,7 @@
 use Rattle.std.proofs.Common.{◌≡◌, ◌∙◌, ℕ, List, ap, sym, subst, inl, true}
 use Rattle.std.specs.Arc.{arc_value}
 use Rattle.save_state.specs.Faults.{HasForm}
+use Rattle.save_state.specs.OldPads.{HasPads}
 use Rattle.save_state.specs.Layout.{digest_part, part_of}
 use Rattle.save_state.specs.Refusals.{FieldFailsBack}
 use Rattle.save_state.specs.States.{IsNewest}
@@ -35,8 +36,9 @@ pub returns-in-Ok-migrated-clause-only : goal.returns-in-Ok-migrated-clause-only
 returns-in-Ok-migrated-clause-only c = λ start s pads n.
     let cart = arc_value c.args.cart in
     let same : c.as_slice.result.now ≡ migrated c.in-Ok.version c.args.bytes.now = c.as_slice.ensures.value ∙ c.in-Ok-migrated.ensures in
+    let newest = only_of c.in-Ok.version cart c.args.bytes.now start c.in-Ok.ensures.version s in
     c.read_newest.ensures.only start
-    (subst (λ (l : List ℕ). IsNewest cart l start) (sym same) (only_of c.in-Ok.version cart c.args.bytes.now start c.in-Ok.ensures.version s)) pads n
+    (subst (HasPads c.in-Ok.version) (sym same) newest.0) (subst (λ (l : List ℕ). IsNewest cart l start) (sym same) newest.1) pads n
 
 pub returns-in-Ok-migrated-clause-form : goal.returns-in-Ok-migrated-clause-form
 returns-in-Ok-migrated-clause-form c = λ place e.

@@ -6,15 +6,16 @@ use Rattle.save_state.specs.States.{mark}
 use Rattle.save_state.specs.Versions.{from_first}
 use Rattle.save_state.proofs.version.from_first.Goals as goal
 
--- eight lists, one behind the other
-in_order : (a b c d e f g h : List ℕ) → (((((((([] ++ a) ++ b) ++ c) ++ d) ++ e) ++ f) ++ g) ++ h) ≡ a ++ (b ++ (c ++ (d ++ (e ++ (f ++ (g ++ h))))))
-in_order a b c d e f g h =
-    append_assoc ((((((a ++ b) ++ c) ++ d) ++ e) ++ f)) g h
-    ∙ append_assoc (((((a ++ b) ++ c) ++ d) ++ e)) f (g ++ h)
-    ∙ append_assoc ((((a ++ b) ++ c) ++ d)) e (f ++ (g ++ h))
-    ∙ append_assoc (((a ++ b) ++ c)) d (e ++ (f ++ (g ++ h)))
-    ∙ append_assoc ((a ++ b)) c (d ++ (e ++ (f ++ (g ++ h))))
-    ∙ append_assoc a b (c ++ (d ++ (e ++ (f ++ (g ++ h)))))
+-- nine lists, one behind the other
+in_order : (a b c d e f g h k : List ℕ) → ((((((((([] ++ a) ++ b) ++ c) ++ d) ++ e) ++ f) ++ g) ++ h) ++ k) ≡ a ++ (b ++ (c ++ (d ++ (e ++ (f ++ (g ++ (h ++ k)))))))
+in_order a b c d e f g h k =
+    append_assoc (((((((a ++ b) ++ c) ++ d) ++ e) ++ f) ++ g)) h k
+    ∙ append_assoc ((((((a ++ b) ++ c) ++ d) ++ e) ++ f)) g (h ++ k)
+    ∙ append_assoc (((((a ++ b) ++ c) ++ d) ++ e)) f (g ++ (h ++ k))
+    ∙ append_assoc ((((a ++ b) ++ c) ++ d)) e (f ++ (g ++ (h ++ k)))
+    ∙ append_assoc (((a ++ b) ++ c)) d (e ++ (f ++ (g ++ (h ++ k))))
+    ∙ append_assoc ((a ++ b)) c (d ++ (e ++ (f ++ (g ++ (h ++ k)))))
+    ∙ append_assoc a b (c ++ (d ++ (e ++ (f ++ (g ++ (h ++ k))))))
 
 pub returns : goal.returns
 unfolding from_first
@@ -28,8 +29,9 @@ returns c =
     let six : c.extend_from_slice-6.new.self.items ≡ c.extend_from_slice-5.new.self.items ++ take 215050 (drop 139831 bytes) = c.in_ok-extend_from_slice-6.ensures.items in
     let seven : c.extend_from_slice-7.new.self.items ≡ c.extend_from_slice-6.new.self.items ++ replicate 15360 0 = c.in_ok-extend_from_slice-7.ensures.items in
     let eight : c.extend_from_slice-8.new.self.items ≡ c.extend_from_slice-7.new.self.items ++ take 23359 (drop 354881 bytes) = c.in_ok-extend_from_slice-8.ensures.items in
+    let nine : c.extend_from_slice-9.new.self.items ≡ c.extend_from_slice-8.new.self.items ++ replicate 18 0 = c.in_ok-extend_from_slice-9.ensures.items in
     let rest : List ℕ = drop 354881 bytes in
     let all : take 23359 rest ≡ rest = subst (λ (n : ℕ). take n rest ≡ rest) (length-drop 354881 bytes ∙ ap (λ (n : ℕ). n - 354881) c.requires) (take-length rest) in
-    eight ∙ ap (λ (l : List ℕ). c.extend_from_slice-7.new.self.items ++ l) all
-    ∙ ap (λ (l : List ℕ). l ++ drop 354881 bytes) (seven ∙ ap (λ (l : List ℕ). l ++ replicate 15360 0) (six ∙ ap (λ (l : List ℕ). l ++ take 215050 (drop 139831 bytes)) (five ∙ ap (λ (l : List ℕ). l ++ (0 ∷ [])) (four ∙ ap (λ (l : List ℕ). l ++ take 139783 (drop 48 bytes)) (three ∙ ap (λ (l : List ℕ). l ++ (0 ∷ [])) (two ∙ ap (λ (l : List ℕ). l ++ take 40 (drop 8 bytes)) (one ∙ ap (λ (l : List ℕ). l ++ mark) c.in_ok-newer.ensures.items)))))))
-    ∙ in_order mark (take 40 (drop 8 bytes)) (0 ∷ []) (take 139783 (drop 48 bytes)) (0 ∷ []) (take 215050 (drop 139831 bytes)) (replicate 15360 0) (drop 354881 bytes)
+    nine ∙ ap (λ (l : List ℕ). l ++ replicate 18 0) (eight ∙ ap (λ (l : List ℕ). c.extend_from_slice-7.new.self.items ++ l) all
+    ∙ ap (λ (l : List ℕ). l ++ drop 354881 bytes) (seven ∙ ap (λ (l : List ℕ). l ++ replicate 15360 0) (six ∙ ap (λ (l : List ℕ). l ++ take 215050 (drop 139831 bytes)) (five ∙ ap (λ (l : List ℕ). l ++ (0 ∷ [])) (four ∙ ap (λ (l : List ℕ). l ++ take 139783 (drop 48 bytes)) (three ∙ ap (λ (l : List ℕ). l ++ (0 ∷ [])) (two ∙ ap (λ (l : List ℕ). l ++ take 40 (drop 8 bytes)) (one ∙ ap (λ (l : List ℕ). l ++ mark) c.in_ok-newer.ensures.items))))))))
+    ∙ in_order mark (take 40 (drop 8 bytes)) (0 ∷ []) (take 139783 (drop 48 bytes)) (0 ∷ []) (take 215050 (drop 139831 bytes)) (replicate 15360 0) (drop 354881 bytes) (replicate 18 0)

@@ -21,7 +21,7 @@ use Rattle.save_state.proofs.Parts.{owned_long, part_long}
 use Rattle.save_state.proofs.WriteLaws.{rest_long, numbers_cut, board_cut, store_cut, written, all_long, holder_byte, region_byte}
 use Rattle.save_state.proofs.writing.write_with.Goals as goal
 
-long_rest : (board rest items : List ℕ) (has : Bool) (b b2 m : Board) → has ≡ is_some b.store → b ≡ m → b2 ≡ m → board ≡ items → length items ≡ shared.board_size (is_some b2.store) → rest ≡ drop (shared.store_size has) board → length rest ≡ 88389
+long_rest : (board rest items : List ℕ) (has : Bool) (b b2 m : Board) → has ≡ is_some b.store → b ≡ m → b2 ≡ m → board ≡ items → length items ≡ shared.board_size (is_some b2.store) → rest ≡ drop (shared.store_size has) board → length rest ≡ 88407
 long_rest board rest items has b b2 m h e f g long r = rest_long board rest has (is_some b2.store) (h ∙ ap (λ (x : Board). is_some x.store) (e ∙ sym f)) (ap length g ∙ long) r
 
 least_sub : (has : Bool) → 62 ≤ sub.spelled_size has
@@ -101,7 +101,7 @@ returns-clause-long c = λ one.
     let board_ok : IsBoard m.shared = subst IsBoard c.shared-2.ensures c.board_bytes.ensures.valid in
     let board_is : c.as_slice.result.now ≡ shared.board_bytes (shared.settled_board at m.shared) = c.as_slice.ensures.value ∙ c.in_ok-board.ensures.bytes ∙ (λ i. shared.board_bytes (shared.settled_board (c.at-at.ensures i) (c.shared-2.ensures i))) in
     let same_board : c.as_slice-5.result.now ≡ c.as_slice.result.now = c.as_slice-5.ensures.value ∙ sym c.as_slice.ensures.value in
-    let rest : length c.behind_store-rest.result.now ≡ 88389 = long_rest c.as_slice.result.now c.behind_store-rest.result.now c.in_ok-board.board.items c.has_store-has.result c.shared.result.now c.shared-2.result.now m.shared c.has_store-has.ensures c.shared.ensures c.shared-2.ensures c.as_slice.ensures.value c.in_ok-board.ensures.long c.behind_store-rest.ensures in
+    let rest : length c.behind_store-rest.result.now ≡ 88407 = long_rest c.as_slice.result.now c.behind_store-rest.result.now c.in_ok-board.board.items c.has_store-has.result c.shared.result.now c.shared-2.result.now m.shared c.has_store-has.ensures c.shared.ensures c.shared-2.ensures c.as_slice.ensures.value c.in_ok-board.ensures.long c.behind_store-rest.ensures in
     all_long c.args.digest.now (c.to_be_bytes.result) (c.from.result ∷ []) c.as_slice-2.result.now c.of.result.now (c.from-2.result ∷ []) c.store_in.result.now c.of-2.result.now c.as_slice-6.result.now c.of-3.result.now c.to_be_bytes-batch.result c.as_slice-7.result.now c.of-4.result.now c.as_slice-8.result.now c.of-5.result.now
     c.append.new.into.items c.extend_from_slice.new.self.items c.append-2.new.into.items c.append-3.new.into.items c.append-4.new.into.items
     (ap length c.requires.digest ∙ length-sha256 m.cart)
@@ -117,7 +117,7 @@ returns-clause-long c = λ one.
     (ap length c.as_slice-7.ensures.value ∙ c.in_ok-fm.ensures.long)
     (ap length c.of-4.ensures ∙ part_long (record { place = 78129; size = 10242 }) c.behind_store-rest.result.now (omega (arith, rest)))
     (ap length c.as_slice-8.ensures.value ∙ c.in_ok-psg.ensures.long)
-    (ap length c.of-5.ensures ∙ part_long (record { place = 88371; size = 18 }) c.behind_store-rest.result.now (omega (arith, rest)))
+    (ap length c.of-5.ensures ∙ part_long (record { place = 88371; size = 36 }) c.behind_store-rest.result.now (omega (arith, rest)))
     (c.in_ok-append.ensures ∙ ap (λ (l : List ℕ). l ++ (mark ++ (c.args.digest.now ++ (c.to_be_bytes.result ++ (c.from.result ∷ []))))) c.in_ok-bytes.ensures.items)
     c.in_ok-extend_from_slice.ensures.items c.in_ok-append-2.ensures c.in_ok-append-3.ensures c.in_ok-append-4.ensures refl refl
 

@@ -1,10 +1,11 @@
-use Rattle.std.proofs.Common.{◌∙◌, is_some, ap, refl, arith}
+use Rattle.std.proofs.Common.{◌∙◌, ◌++◌, ℕ, List, length, is_some, ap, refl, arith}
+use Rattle.md_fields.specs.Fields.{Field, spelling}
 use Rattle.std.specs.Prelude.{option_map}
 use Rattle.z80_parcel.specs.Parcels.{store_of}
 use Rattle.bus_shared.specs.Board.{Board}
-use Rattle.bus_shared.specs.Spelling.{board_size}
+use Rattle.bus_shared.specs.Spelling.{board_size, lines_bytes}
 use Rattle.bus_shared.proofs.Keeping.{board_spelled}
-use Rattle.bus_shared.proofs.SavedLaws.{five}
+use Rattle.bus_shared.proofs.SavedLaws.{five, lines_length, same_bytes}
 use Rattle.bus_shared.proofs.SpellingLaws.{board_long, store_long}
 use Rattle.bus_shared.proofs.shared.Shared.spell.Goals as goal
 
@@ -58,8 +59,9 @@ spell-requires-3 c =
       c.spell-2.ensures.room,
     )
 
-pub put_lines-requires : goal.put_lines-requires
-put_lines-requires c =
+-- the fields of the lines and the pads have 36 bytes, and are those of the board
+pub put-requires : goal.put-requires
+put-requires c =
     let store = option_map store_of c.self.inside.parcel in
     omega (
       arith,
@@ -75,11 +77,12 @@ put_lines-requires c =
       c.spell-2.ensures.room,
       c.spell-3.ensures.length,
       c.spell-3.ensures.room,
+      ap (λ (fields : List Field). length (spelling fields)) c.fields.ensures.fields ∙ lines_length c.args.at c.saved_lines.result,
     )
 
 pub returns-clause-bytes : goal.returns-clause-bytes
 returns-clause-bytes c =
-    five c.args.into.now.items _ _ _ _ _ _ _ _ _ _ c.put_store.ensures.bytes c.spell.ensures.bytes c.spell-2.ensures.bytes c.spell-3.ensures.bytes c.put_lines.ensures.bytes
+    five c.args.into.now.items _ _ _ _ _ _ _ _ _ _ c.put_store.ensures.bytes c.spell.ensures.bytes c.spell-2.ensures.bytes c.spell-3.ensures.bytes (c.put.ensures.bytes ∙ ap (λ (l : List ℕ). c.spell-3.new.into.items ++ l) (ap spelling c.fields.ensures.fields ∙ same_bytes c.args.at 0 c.saved_lines.result ∙ ap lines_bytes c.saved_lines.ensures))
     ∙ rw (c.deref.ensures, c.deref-2.ensures, c.deref-3.ensures, ← c.self.view_is) refl
 
 pub returns-clause-length : goal.returns-clause-length
@@ -94,7 +97,8 @@ returns-clause-length c =
       c.spell.ensures.length,
       c.spell-2.ensures.length,
       c.spell-3.ensures.length,
-      c.put_lines.ensures.length,
+      c.put.ensures.length,
+      ap (λ (fields : List Field). length (spelling fields)) c.fields.ensures.fields ∙ lines_length c.args.at c.saved_lines.result,
     )
 
 pub returns-clause-kept : goal.returns-clause-kept

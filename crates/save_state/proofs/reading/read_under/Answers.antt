@@ -1,0 +1,16 @@
+use Rattle.std.proofs.Common.{◌≡◌, ◌∙◌, ℕ, false, sym, subst, ap, Result}
+use Rattle.std.specs.Arc.{arc_value}
+use Rattle.std.specs.Int.{w16}
+use Rattle.md_fields.specs.Places.{number_at}
+use Rattle.md_machine.specs.Machines.{MachineValue}
+use Rattle.save_state.specs.Faults.{FailsAt, IsMachineOf}
+use Rattle.save_state.specs.OldPads.{HasOthers, has_buttons, pads1_place, pads2_place}
+use Rattle.save_state.proofs.Joins.{ruled}
+use Rattle.save_state.proofs.reading.read_under.Goals as goal
+
+pub returns : goal.returns
+returns c =
+    let v = c.args.version in
+    let bytes = c.args.bytes.now in
+    rw (c.with_rule.ensures, c.with_rule-first.ensures, c.has_buttons.ensures, c.has_buttons-2.ensures, c.u16_at.ensures, c.u16_at-2.ensures)
+    (ruled _ _ _ _ pads2_place (HasOthers v pads2_place bytes) (λ e. e) (λ e. e) (ruled _ _ _ _ pads1_place (HasOthers v pads1_place bytes) (λ e. e) (λ e. e) c.read_machine-machine.ensures))
