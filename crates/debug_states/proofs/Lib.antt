@@ -1,0 +1,5 @@
+pub mod Alike
+pub mod Machines
+pub mod Opening
+pub mod Outcomes
+pub mod Scripts

@@ -1,0 +1,51 @@
+-- The machines of a session have images.
+use Rattle.std.proofs.Common.{◌≡◌, ℕ, ◌≤◌, List, [], ◌∷◌, Result, Ok, Err, refl, sym, ap, subst, ◌∙◌}
+use Rattle.std.specs.Prelude.{IfOk}
+use Rattle.debug_kept.specs.Kept.{padded}
+use Rattle.debug_script.specs.Lines.{lines_of}
+use Rattle.debug_script.specs.Scripts.{ObeysAll}
+use Rattle.debug_script.specs.declared.script.Ending.TheVariants.{OutOfMemory}
+use Rattle.debug_states.specs.Opened.{PlaysScript, images_with, opened}
+use Rattle.md_debug.specs.Sessions.{SessionValue}
+use Rattle.md_word.specs.Clock.{last_cycle}
+use Rattle.md_word.specs.declared.event.Entry.{Entry}
+use Rattle.md_machine.specs.Console.{Console, IsRunTo}
+use Rattle.md_machine.specs.Machines.{MachineValue}
+use Rattle.md_machine.specs.Media.{Media}
+use Rattle.md_debug.specs.Keeping.{KeepsMachines}
+use Rattle.state_images.specs.Images.{HasImage, ImagesValue, Keeps, drained, first_of, image_of, settled_of, size_of}
+
+pub keeps_machines : (images : ImagesValue)
+    → ((images : ImagesValue) (m : MachineValue) (z : Console) (end : ℕ) (entries : List Entry) (output : Media) → HasImage images m → m.at ≤ end → end ≤ last_cycle
+    → IsRunTo m.console end z entries output → HasImage images (drained end z))
+    → KeepsMachines (HasImage images) (settled_of images)
+keeps_machines images runs = record {
+  start = λ m has. has.reached.start;
+  near = λ m has. has.near;
+  entries = λ m has. has.entries;
+  media = λ m has. has.media;
+  cycle = λ m has. refl;
+  runs = λ m end z entries output has later near run. runs images m z end entries output has later near run;
+}
+
+-- the session at power-on
+pub opened_is : {E : Type 0} (r : Result (SessionValue ImagesValue) E) (images : ImagesValue) (machine : MachineValue) → machine ≡ first_of images
+    → IfOk r (λ s. s.images ≡ images) → IfOk r (λ s. s.machine ≡ machine) → IfOk r (λ s. s.states ≡ padded (image_of images machine) ∷ []) → IfOk r (λ s. s.cycles ≡ machine.at ∷ [])
+    → IfOk r (λ s. s.begun ≡ []) → IfOk r (λ s. s ≡ opened images)
+opened_is (Ok session) images machine first same there states cycles begun =
+    let machine_is : session.machine ≡ first_of images = there ∙ first in
+    let states_are : session.states ≡ padded (image_of images (first_of images)) ∷ [] = states ∙ ap (λ (m : MachineValue). padded (image_of images m) ∷ []) first in
+    let cycles_are : session.cycles ≡ 0 ∷ [] = cycles ∙ ap (λ (m : MachineValue). m.at ∷ []) first in
+    λ i. record { images = same i; machine = machine_is i; states = states_are i; cycles = cycles_are i; begun = begun i }
+opened_is (Err fault) images machine first same there states cycles begun = tt
+
+-- no line is obeyed
+none_obeyed : (session : SessionValue ImagesValue) → ObeysAll size_of image_of Keeps [] session session []
+unfolding ObeysAll
+none_obeyed session = (refl, refl)
+
+pub plays_none : (cart script replies : List ℕ) → replies ≡ [] → PlaysScript cart script replies OutOfMemory
+plays_none cart script replies none =
+    let session : SessionValue ImagesValue = opened (images_with cart) in
+    subst (λ (l : List ℕ). PlaysScript cart script l OutOfMemory) (sym none)
+    (record { after = session; plays = ([], lines_of script, session, record { parts = refl; obeyed = none_obeyed session }) })

@@ -1,0 +1,28 @@
+-- A session of the debugger at power-on, and what a script comes to in it. This project's profile.
+use Rattle.std.specs.Prelude.{ℕ, false, List, [], ◌∷◌}
+use Rattle.debug_kept.specs.Kept.{padded}
+use Rattle.debug_script.specs.Lines.{lines_of}
+use Rattle.debug_script.specs.Scripts.{Plays}
+use Rattle.debug_script.specs.declared.script.Ending.{Ending}
+use Rattle.md_pads.specs.Recording.{no_frames}
+use Rattle.md_debug.specs.Sessions.{SessionValue}
+use Rattle.state_images.specs.Images.{ImagesValue, Keeps, first_of, image_of, size_of}
+
+-- the images of the machines of a cartridge on NTSC, of which no button is pressed
+abbrev pub images_with : List ℕ → ImagesValue
+images_with cart = record { cart = cart; recording = no_frames; pal = false }
+
+-- the session at power-on: the machine is kept, and no instruction was begun
+abbrev pub opened : ImagesValue → SessionValue ImagesValue
+opened images = record {
+  images = images;
+  machine = first_of images;
+  states = padded (image_of images (first_of images)) ∷ [];
+  cycles = 0 ∷ [];
+  begun = [];
+}
+
+-- the lines of a script come to these replies and this ending, in the session at power-on of a cartridge
+pub record PlaysScript (cart script : List ℕ) (replies : List ℕ) (ending : Ending) : Type 0 where
+  pub after : SessionValue ImagesValue
+  pub plays : Plays size_of image_of Keeps (lines_of script) (opened (images_with cart)) after replies ending
