@@ -2,6 +2,7 @@ pub mod Alike
 pub mod Apart
 pub mod Assemblings
 pub mod Commands
+pub mod Debuggings
 pub mod Demos
 pub mod Digits
 pub mod Gives

@@ -6,7 +6,7 @@ use Rattle.clap.specs.Matches.{found_of}
 use Rattle.clap.specs.Simple.{App}
 use Rattle.clap.specs.Walk.{Row, Text, rows_of}
 use Rattle.clap.specs.declared.parser.matches.ArgMatches.{ArgMatches}
-use Rattle.md_args.specs.Parse.{asm_app, conversion_app, demo_app, info_app, parse_of, run_app}
+use Rattle.md_args.specs.Parse.{asm_app, conversion_app, debug_app, demo_app, info_app, parse_of, run_app}
 
 pub info_is_simple : is_simple_and_free info_app ≡ true
 unfolding info_app
@@ -27,6 +27,10 @@ conversion_is_simple name = refl
 pub asm_is_simple : is_simple_and_free asm_app ≡ true
 unfolding asm_app
 asm_is_simple = refl
+
+pub debug_is_simple : is_simple_and_free debug_app ≡ true
+unfolding debug_app
+debug_is_simple = refl
 
 abbrev pub rows_in : Option ArgMatches → Option (List Row)
 rows_in = option_map (λ m. rows_of (found_of m))

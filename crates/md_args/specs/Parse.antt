@@ -5,7 +5,7 @@ use Rattle.clap.specs.Walk.{Row, Rule, Text, first_of, is_empty}
 use Rattle.clap.specs.Simple.{App, matches_of, new_app, new_rule, with_rule}
 use Rattle.clap.specs.Faults.{fault_of}
 use Rattle.clap.specs.declared.builder.action.ArgAction.TheVariants.{Set}
-use Rattle.md_args.specs.Words.{Assembling, Conversion, Demo, Run, assembling_by, conversion_by, demo_by, info_by, run_by}
+use Rattle.md_args.specs.Words.{Assembling, Conversion, Debugging, Demo, Run, assembling_by, conversion_by, debugging_by, demo_by, info_by, run_by}
 use Rattle.md_args.specs.declared.convert_words.Product.{Product}
 
 -- what a simple command makes of the words: the rows that it finds, or none where it refuses them
@@ -66,6 +66,10 @@ unfoldable pub asm_app : App
 asm_app =
     fold with_rule (bare (codes "asm")) (required (positional (codes "source")) ∷ required (positional (codes "output")) ∷ option (codes "list") ∷ [])
 
+-- `debug ROM SCRIPT`
+unfoldable pub debug_app : App
+debug_app = fold with_rule (bare (codes "debug")) (required (positional (codes "rom")) ∷ required (positional (codes "script")) ∷ [])
+
 -- the value that was found for an argument
 abbrev pub found_by : List Row → Text → Option Text
 found_by rows name = first_of name rows
@@ -89,3 +93,7 @@ conversion_parsed name product words = option_and_then (λ rows. conversion_by p
 -- the assembly that the words behind `asm` give
 abbrev pub assembling_parsed : List Text → Option Assembling
 assembling_parsed words = option_and_then (λ rows. assembling_by (found_by rows)) (parse_of asm_app words)
+
+-- the session that the words behind `debug` give
+abbrev pub debugging_parsed : List Text → Option Debugging
+debugging_parsed words = option_and_then (λ rows. debugging_by (found_by rows)) (parse_of debug_app words)

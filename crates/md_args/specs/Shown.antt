@@ -1,11 +1,12 @@
 -- What the reader of the words found, as the definition's command.
 use Rattle.std.specs.Option.{option_copied}
 use Rattle.md_args.specs.Words as words
-use Rattle.md_args.specs.Words.{Assemble, Assembling, Command, Conversion, Convert, Demo, Run, RunCart, RunDemo, Values}
+use Rattle.md_args.specs.Words.{Assemble, Assembling, Command, Conversion, Convert, Debug, Debugging, Demo, Run, RunCart, RunDemo, Values}
 use Rattle.md_args.specs.declared.asm_words.AsmWords.{AsmWords}
 use Rattle.md_args.specs.declared.command_words.CommandWords.{CommandWords}
 use Rattle.md_args.specs.declared.command_words.CommandWords.TheVariants as read
 use Rattle.md_args.specs.declared.convert_words.ConvertWords.{ConvertWords}
+use Rattle.md_args.specs.declared.debug_words.DebugWords.{DebugWords}
 use Rattle.md_args.specs.declared.demo_words.DemoWords.{DemoWords}
 use Rattle.md_args.specs.declared.run_values.RunValues.{RunValues}
 use Rattle.md_args.specs.declared.run_words.RunWords.{RunWords}
@@ -34,6 +35,10 @@ shown_conversion words = record { product = words.product; input = words.input.n
 abbrev pub shown_assembling : AsmWords → Assembling
 shown_assembling words = record { source = words.source.now; output = words.output.now; list = option_copied words.list }
 
+-- the session of the debugger that words were read as
+abbrev pub shown_debugging : DebugWords → Debugging
+shown_debugging words = record { rom = words.rom.now; script = words.script.now }
+
 -- what is given for the arguments
 abbrev pub shown_values : RunValues → Values
 shown_values values =
@@ -61,3 +66,4 @@ shown_command (read.Run run) = RunCart (shown_run run)
 shown_command (read.Demo demo) = RunDemo (shown_demo demo)
 shown_command (read.Convert words) = Convert (shown_conversion words)
 shown_command (read.Assemble words) = Assemble (shown_assembling words)
+shown_command (read.Debug words) = Debug (shown_debugging words)

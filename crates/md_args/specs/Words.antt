@@ -48,14 +48,20 @@ pub record Assembling : Type 0 where
   pub output : List ℕ
   pub list : Option (List ℕ)
 
+-- a session of the debugger: the names of the cartridge and of the script
+pub record Debugging : Type 0 where
+  pub rom : List ℕ
+  pub script : List ℕ
+
 -- what a command line asks for: the lines of a cartridge's header, by the cartridge's name, a run, a run of
--- a demonstration cartridge, a conversion, or that a source is assembled
+-- a demonstration cartridge, a conversion, that a source is assembled, or a session of the debugger
 pub data Command : Type 0 where
   Info : List ℕ → Command
   RunCart : Run → Command
   RunDemo : Demo → Command
   Convert : Conversion → Command
   Assemble : Assembling → Command
+  Debug : Debugging → Command
 
 -- the name of the first file that is read: the cartridge, the input of a conversion, or a source; a demonstration
 -- cartridge has none
@@ -65,6 +71,7 @@ rom_of (RunCart run) = run.rom
 rom_of (RunDemo demo) = []
 rom_of (Convert conversion) = conversion.input
 rom_of (Assemble assembling) = assembling.source
+rom_of (Debug debugging) = debugging.rom
 
 -- the name of the file that a conversion or an assembly makes; none where none is asked for
 abbrev pub output_of : Command → List ℕ
@@ -73,6 +80,7 @@ output_of (RunCart run) = []
 output_of (RunDemo demo) = []
 output_of (Convert conversion) = conversion.output
 output_of (Assemble assembling) = assembling.output
+output_of (Debug debugging) = []
 
 -- the conversion, if one is asked for
 abbrev pub conversion_in : Command → Option Conversion
@@ -81,6 +89,7 @@ conversion_in (RunCart run) = None
 conversion_in (RunDemo demo) = None
 conversion_in (Convert conversion) = Some conversion
 conversion_in (Assemble assembling) = None
+conversion_in (Debug debugging) = None
 
 -- the source that is assembled, if one is
 abbrev pub assembling_in : Command → Option Assembling
@@ -89,6 +98,7 @@ assembling_in (RunCart run) = None
 assembling_in (RunDemo demo) = None
 assembling_in (Convert conversion) = None
 assembling_in (Assemble assembling) = Some assembling
+assembling_in (Debug debugging) = None
 
 -- the name of the list of an assembly, if it is asked for
 abbrev pub list_name : Command → Option (List ℕ)
@@ -97,6 +107,25 @@ list_name (RunCart run) = None
 list_name (RunDemo demo) = None
 list_name (Convert conversion) = None
 list_name (Assemble assembling) = assembling.list
+list_name (Debug debugging) = None
+
+-- the session of the debugger, if one is asked for
+abbrev pub debugging_in : Command → Option Debugging
+debugging_in (Info rom) = None
+debugging_in (RunCart run) = None
+debugging_in (RunDemo demo) = None
+debugging_in (Convert conversion) = None
+debugging_in (Assemble assembling) = None
+debugging_in (Debug debugging) = Some debugging
+
+-- the name of the debugger's script, if one is asked for
+abbrev pub script_name : Command → Option (List ℕ)
+script_name (Info rom) = None
+script_name (RunCart run) = None
+script_name (RunDemo demo) = None
+script_name (Convert conversion) = None
+script_name (Assemble assembling) = None
+script_name (Debug debugging) = Some debugging.script
 
 -- the run of a cartridge that is named, if one is asked for
 abbrev pub run_in : Command → Option Run
@@ -105,6 +134,7 @@ run_in (RunCart run) = Some run
 run_in (RunDemo demo) = None
 run_in (Convert conversion) = None
 run_in (Assemble assembling) = None
+run_in (Debug debugging) = None
 
 -- the cycle of the run's end; 0 where none is asked for
 abbrev pub end_of : Command → ℕ
@@ -113,6 +143,7 @@ end_of (RunCart run) = run.cycles
 end_of (RunDemo demo) = demo.cycles
 end_of (Convert conversion) = 0
 end_of (Assemble assembling) = 0
+end_of (Debug debugging) = 0
 
 -- the name of the recording, if one is given
 abbrev pub recording_name : Command → Option (List ℕ)
@@ -121,6 +152,7 @@ recording_name (RunCart run) = run.recording
 recording_name (RunDemo demo) = None
 recording_name (Convert conversion) = None
 recording_name (Assemble assembling) = None
+recording_name (Debug debugging) = None
 
 -- the name of the saved state to go on from, if one is given
 abbrev pub load_name : Command → Option (List ℕ)
@@ -129,6 +161,7 @@ load_name (RunCart run) = run.load
 load_name (RunDemo demo) = None
 load_name (Convert conversion) = None
 load_name (Assemble assembling) = None
+load_name (Debug debugging) = None
 
 -- the name of the state to save, if it is asked for
 abbrev pub save_name : Command → Option (List ℕ)
@@ -137,6 +170,7 @@ save_name (RunCart run) = run.save
 save_name (RunDemo demo) = None
 save_name (Convert conversion) = None
 save_name (Assemble assembling) = None
+save_name (Debug debugging) = None
 
 -- the name of the frames file, if one is asked for
 abbrev pub frames_name : Command → Option (List ℕ)
@@ -145,6 +179,7 @@ frames_name (RunCart run) = run.frames
 frames_name (RunDemo demo) = None
 frames_name (Convert conversion) = None
 frames_name (Assemble assembling) = None
+frames_name (Debug debugging) = None
 
 -- the name of the sound file, if one is asked for
 abbrev pub sound_name : Command → Option (List ℕ)
@@ -153,6 +188,7 @@ sound_name (RunCart run) = run.sound
 sound_name (RunDemo demo) = None
 sound_name (Convert conversion) = None
 sound_name (Assemble assembling) = None
+sound_name (Debug debugging) = None
 
 -- the name of the journal, if one is asked for
 abbrev pub journal_name : Command → Option (List ℕ)
@@ -161,6 +197,7 @@ journal_name (RunCart run) = run.journal
 journal_name (RunDemo demo) = None
 journal_name (Convert conversion) = None
 journal_name (Assemble assembling) = None
+journal_name (Debug debugging) = None
 
 -- how many workers make it; 1 where none is asked for
 abbrev pub workers_in : Command → ℕ
@@ -169,6 +206,7 @@ workers_in (RunCart run) = run.workers
 workers_in (RunDemo demo) = demo.workers
 workers_in (Convert conversion) = 1
 workers_in (Assemble assembling) = 1
+workers_in (Debug debugging) = 1
 
 -- a word that can be a name: it is not empty and does not begin with a hyphen
 abbrev pub is_name : List ℕ → Bool
@@ -331,6 +369,20 @@ abbrev pub assembling_of : List Text → Option Assembling
 assembling_of words =
     option_and_then (meant_by assembling_by) (given (codes "source" ∷ codes "output" ∷ []) (codes "list" ∷ []) [] between words)
 
+-- the session of these names, which are different
+abbrev pub debugging_given : Option Text → Option Text → Option Debugging
+debugging_given (Some rom) (Some script) =
+    if are_names (Some rom ∷ Some script ∷ []) then Some (record { rom = rom; script = script }) else None
+debugging_given rom script = None
+
+-- `debug` has the names of a cartridge and of a script
+abbrev pub debugging_by : (Text → Option Text) → Option Debugging
+debugging_by value = debugging_given (value (codes "rom")) (value (codes "script"))
+
+-- the session that the words behind `debug` give
+abbrev pub debugging_of : List Text → Option Debugging
+debugging_of words = option_and_then (meant_by debugging_by) (given (codes "rom" ∷ codes "script" ∷ []) [] [] between words)
+
 -- the value of a number that has to be there
 abbrev pub wanted_number : Option Text → Option ℕ
 wanted_number word = option_and_then number_of word
@@ -367,6 +419,7 @@ command_of (command ∷ words) =
     else if bytes_eq command (codes "vgm") then option_map Convert (conversion_of Vgm words)
     else if bytes_eq command (codes "play") then option_map Convert (conversion_of Sound words)
     else if bytes_eq command (codes "asm") then option_map Assemble (assembling_of words)
+    else if bytes_eq command (codes "debug") then option_map Debug (debugging_of words)
     else None
 
 -- the run but for the number of its workers

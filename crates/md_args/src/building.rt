@@ -67,6 +67,15 @@ pub(crate) fn asm_command<'a>(alloc: Global) -> Result<Command<'a>, AllocError>
     Ok(list)
 }
 
+/// The command `debug ROM SCRIPT`, behind its word.
+pub(crate) fn debug_command<'a>(alloc: Global) -> Result<Command<'a>, AllocError>
+    ensures { IfOk result (λ command. app_of command ≡ meaning.debug_app) }
+{
+    let rom = with_wanted_word(bare(alloc, "debug"), alloc, "rom")?;
+    let script = with_wanted_word(rom, alloc, "script")?;
+    Ok(script)
+}
+
 /// A command with no argument yet, which reads no program's name and has no help.
 fn bare<'a>(alloc: Global, name: &'a str) -> Command<'a>
     ensures { app_of result ≡ meaning.bare name.entry.now }

@@ -1,10 +1,11 @@
 ghost use Rattle.std.specs.Prelude.{◌≡◌, ◌≤◌};
 ghost use Rattle.std.specs.Option.{option_copied};
 ghost use Rattle.md_args.specs.Shown.{shown_command};
-ghost use Rattle.md_args.specs.Words.{end_of, frames_name, journal_name, list_name, load_name, output_of, recording_name, rom_of, save_name, sound_name, workers_in};
+ghost use Rattle.md_args.specs.Words.{end_of, frames_name, journal_name, list_name, load_name, output_of, recording_name, rom_of, save_name, script_name, sound_name, workers_in};
 
 use crate::asm_words::AsmWords;
 use crate::convert_words::ConvertWords;
+use crate::debug_words::DebugWords;
 use crate::demo_words::DemoWords;
 use crate::run_words::RunWords;
 
@@ -21,6 +22,8 @@ pub enum CommandWords<'a> {
     Convert(ConvertWords<'a>),
     /// A source that is assembled.
     Assemble(AsmWords<'a>),
+    /// A session of the debugger.
+    Debug(DebugWords<'a>),
 }
 
 impl<'a> CommandWords<'a> {
@@ -35,6 +38,7 @@ impl<'a> CommandWords<'a> {
             CommandWords::Demo(_) => "",
             CommandWords::Convert(words) => words.input,
             CommandWords::Assemble(words) => words.source,
+            CommandWords::Debug(words) => words.rom,
         }
     }
 
@@ -43,7 +47,10 @@ impl<'a> CommandWords<'a> {
         ensures { result.now ≡ output_of (shown_command self.now) }
     {
         match self {
-            CommandWords::Info(_) | CommandWords::Run(_) | CommandWords::Demo(_) => "",
+            CommandWords::Info(_)
+            | CommandWords::Run(_)
+            | CommandWords::Demo(_)
+            | CommandWords::Debug(_) => "",
             CommandWords::Convert(words) => words.output,
             CommandWords::Assemble(words) => words.output,
         }
@@ -54,7 +61,10 @@ impl<'a> CommandWords<'a> {
         ensures { result ≡ end_of (shown_command self.now) }
     {
         match self {
-            CommandWords::Info(_) | CommandWords::Convert(_) | CommandWords::Assemble(_) => 0,
+            CommandWords::Info(_)
+            | CommandWords::Convert(_)
+            | CommandWords::Assemble(_)
+            | CommandWords::Debug(_) => 0,
             CommandWords::Run(run) => run.cycles,
             CommandWords::Demo(demo) => demo.cycles,
         }
@@ -68,7 +78,8 @@ impl<'a> CommandWords<'a> {
             CommandWords::Info(_)
             | CommandWords::Demo(_)
             | CommandWords::Convert(_)
-            | CommandWords::Assemble(_) => None,
+            | CommandWords::Assemble(_)
+            | CommandWords::Debug(_) => None,
             CommandWords::Run(run) => run.recording,
         }
     }
@@ -81,7 +92,8 @@ impl<'a> CommandWords<'a> {
             CommandWords::Info(_)
             | CommandWords::Demo(_)
             | CommandWords::Convert(_)
-            | CommandWords::Assemble(_) => None,
+            | CommandWords::Assemble(_)
+            | CommandWords::Debug(_) => None,
             CommandWords::Run(run) => run.load,
         }
     }
@@ -94,7 +106,8 @@ impl<'a> CommandWords<'a> {
             CommandWords::Info(_)
             | CommandWords::Demo(_)
             | CommandWords::Convert(_)
-            | CommandWords::Assemble(_) => None,
+            | CommandWords::Assemble(_)
+            | CommandWords::Debug(_) => None,
             CommandWords::Run(run) => run.save,
         }
     }
@@ -107,7 +120,8 @@ impl<'a> CommandWords<'a> {
             CommandWords::Info(_)
             | CommandWords::Demo(_)
             | CommandWords::Convert(_)
-            | CommandWords::Assemble(_) => None,
+            | CommandWords::Assemble(_)
+            | CommandWords::Debug(_) => None,
             CommandWords::Run(run) => run.frames,
         }
     }
@@ -120,7 +134,8 @@ impl<'a> CommandWords<'a> {
             CommandWords::Info(_)
             | CommandWords::Demo(_)
             | CommandWords::Convert(_)
-            | CommandWords::Assemble(_) => None,
+            | CommandWords::Assemble(_)
+            | CommandWords::Debug(_) => None,
             CommandWords::Run(run) => run.sound,
         }
     }
@@ -133,7 +148,8 @@ impl<'a> CommandWords<'a> {
             CommandWords::Info(_)
             | CommandWords::Demo(_)
             | CommandWords::Convert(_)
-            | CommandWords::Assemble(_) => None,
+            | CommandWords::Assemble(_)
+            | CommandWords::Debug(_) => None,
             CommandWords::Run(run) => run.journal,
         }
     }
@@ -146,8 +162,23 @@ impl<'a> CommandWords<'a> {
             CommandWords::Info(_)
             | CommandWords::Run(_)
             | CommandWords::Demo(_)
-            | CommandWords::Convert(_) => None,
+            | CommandWords::Convert(_)
+            | CommandWords::Debug(_) => None,
             CommandWords::Assemble(words) => words.list,
+        }
+    }
+
+    /// The name of the debugger's script, if one is asked for.
+    pub fn script(&self) -> Option<&'a str>
+        ensures { option_copied result ≡ script_name (shown_command self.now) }
+    {
+        match self {
+            CommandWords::Info(_)
+            | CommandWords::Run(_)
+            | CommandWords::Demo(_)
+            | CommandWords::Convert(_)
+            | CommandWords::Assemble(_) => None,
+            CommandWords::Debug(words) => Some(words.script),
         }
     }
 
@@ -158,7 +189,10 @@ impl<'a> CommandWords<'a> {
         ensures few { result ≤ 5 }
     {
         match self {
-            CommandWords::Info(_) | CommandWords::Convert(_) | CommandWords::Assemble(_) => 1,
+            CommandWords::Info(_)
+            | CommandWords::Convert(_)
+            | CommandWords::Assemble(_)
+            | CommandWords::Debug(_) => 1,
             CommandWords::Run(run) => run.workers,
             CommandWords::Demo(demo) => demo.workers,
         }

@@ -11,6 +11,7 @@ use crate::building::{info_command, run_command};
 use crate::command_words::CommandWords;
 use crate::convert_reading::read_conversion;
 use crate::convert_words::Product;
+use crate::debug_reading::read_debug;
 use crate::demo_reading::read_demo;
 use crate::names::{have_names, is_name};
 use crate::numbers::{read_number, read_workers};
@@ -24,8 +25,9 @@ use std::alloc::{AllocError, Global};
 /// that there is.
 ///
 /// They are `info ROM`, `run ROM --cycles N` with `--in P`, `--load S`, `--save S`, `--frames F`,
-/// `--sound W`, `--journal J`, `--workers K` and, where no `--load` is, `--pal` where they are wanted, or
-/// `demo NUMBER --cycles N --workers W`, with `--pal` where it is wanted. Options stand in any order among
+/// `--sound W`, `--journal J`, `--workers K` and, where no `--load` is, `--pal` where they are wanted,
+/// `demo NUMBER --cycles N --workers W`, with `--pal` where it is wanted, `vgm JOURNAL OUT` or `play VGM OUT`,
+/// with it too, `asm SOURCE OUT`, with `--list L`, or `debug ROM SCRIPT`. Options stand in any order among
 /// the other words, each at most once, as two words or as `--name=value`; `--` ends the options. Names are
 /// not empty, do not begin with a hyphen, and are pairwise different. Numbers are 1 to 20 decimal digits
 /// with a value below 2^64; K and W are 1 to 5.
@@ -77,6 +79,13 @@ pub fn read_words<'a>(
     if command.as_str() == "asm" {
         return match read_asm(alloc, rest) {
             Ok(Some(words)) => Ok(Some(CommandWords::Assemble(words))),
+            Ok(None) => Ok(None),
+            Err(error) => Err(error),
+        };
+    }
+    if command.as_str() == "debug" {
+        return match read_debug(alloc, rest) {
+            Ok(Some(words)) => Ok(Some(CommandWords::Debug(words))),
             Ok(None) => Ok(None),
             Err(error) => Err(error),
         };

@@ -1,5 +1,5 @@
 -- What a status tells of an assembly, and the ending without a fault.
-use Rattle.std.proofs.Common.{◌≡◌, ◌≢◌, ◌⊎◌, inl, inr, ℕ, Bool, true, false, cond, List, [], length, Option, Some, None, refl, ap, ◌∙◌, arith}
+use Rattle.std.proofs.Common.{◌≡◌, ◌≢◌, ◌⊎◌, inl, inr, ℕ, Bool, true, false, cond, List, length, Option, Some, None, refl, ap, ◌∙◌, arith}
 use Rattle.std.specs.Str.{bytes_eq}
 use Rattle.std.proofs.lemmas.Slice.Eq.{bytes_eq-Decides}
 use Rattle.md_outer.specs.Outside.{DepotState, Files, Rose, with_file}
@@ -16,7 +16,7 @@ use Rattle.md_top.specs.Conversions.{ConvertEnds}
 use Rattle.md_top.specs.Endings.{InfoEnds, RunEnds, status_of}
 use Rattle.md_top.specs.Inputs.{IsMissing}
 use Rattle.md_top.specs.declared.ending.Ending.{Ending}
-use Rattle.md_top.specs.declared.ending.Ending.TheVariants.{Converted, InputRefused, OutputFault, SourceRefused, ListFault, Usage, TooFar, ReadFault, TooLong, RecordingFault, RecordingWrong, LoadFault, StateWrong, OtherCart, Behind, FramesFault, SoundFault, JournalFault, SaveFault, Memory}
+use Rattle.md_top.specs.declared.ending.Ending.TheVariants.{Converted, InputRefused, OutputFault, SourceRefused, ListFault, Usage, TooFar, ReadFault, TooLong, RecordingFault, RecordingWrong, LoadFault, ScriptFault, StateWrong, OtherCart, Behind, FramesFault, SoundFault, JournalFault, SaveFault, Memory}
 use Rattle.md_top.proofs.Right.{not_below}
 use Rattle.md_top.proofs.Statuses.{missing_cart}
 
@@ -50,6 +50,7 @@ module _ (told : Type 0) (words : Assembling) (old new : DepotState) where
   asm_read_fault ReadFault cause is = missing_cart told (Assemble words) old.files inl cause
   asm_read_fault RecordingFault cause is = absurd cause
   asm_read_fault LoadFault cause is = absurd cause
+  asm_read_fault ScriptFault cause is = absurd cause
   asm_read_fault _ cause is = absurd (omega (arith, is))
 
   pub asm_wrong : (ending : Ending) → Ends ending → status_of ending ≡ 6 → ⊥

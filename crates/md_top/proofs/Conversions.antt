@@ -15,7 +15,7 @@ use Rattle.md_top.specs.Conversions.{ConvertEnds, ConvertFiles, IsRefusedInput, 
 use Rattle.md_top.specs.Endings.{InfoEnds, RunEnds, status_of}
 use Rattle.md_top.specs.Inputs.{IsMissing}
 use Rattle.md_top.specs.declared.ending.Ending.{Ending}
-use Rattle.md_top.specs.declared.ending.Ending.TheVariants.{Converted, InputRefused, OutputFault, ListFault, Usage, TooFar, ReadFault, TooLong, RecordingFault, RecordingWrong, LoadFault, StateWrong, OtherCart, Behind, FramesFault, SoundFault, JournalFault, SaveFault, Memory}
+use Rattle.md_top.specs.declared.ending.Ending.TheVariants.{Converted, InputRefused, OutputFault, ListFault, Usage, TooFar, ReadFault, TooLong, RecordingFault, RecordingWrong, LoadFault, ScriptFault, StateWrong, OtherCart, Behind, FramesFault, SoundFault, JournalFault, SaveFault, Memory}
 use Rattle.md_top.proofs.Right.{not_below}
 use Rattle.md_top.proofs.Statuses.{missing_cart}
 
@@ -45,6 +45,7 @@ module _ (told : Type 0) (conversion : Conversion) (old new : DepotState) where
   convert_read_fault ReadFault cause is = missing_cart told (Convert conversion) old.files inl cause
   convert_read_fault RecordingFault cause is = absurd cause
   convert_read_fault LoadFault cause is = absurd cause
+  convert_read_fault ScriptFault cause is = absurd cause
   convert_read_fault _ cause is = absurd (omega (arith, is))
 
   pub convert_wrong : (ending : Ending) → Ends ending → status_of ending ≡ 6 → ⊥

@@ -11,11 +11,10 @@ use Rattle.md_vgm.specs.Outcomes.{Outcome}
 use Rattle.md_args.specs.Words.{Demo, RunDemo}
 use Rattle.md_top.specs.Answers.{Reports}
 use Rattle.md_top.specs.Demos.{DemoEnds, HaveUntil, demo_start, digests_from, summary_from}
-use Rattle.md_top.specs.Endings.{demo_ending, right_ending, status_of}
+use Rattle.md_top.specs.Endings.{Findings, demo_ending, right_ending, status_of}
 use Rattle.md_top.specs.Inputs.{Verdict}
 use Rattle.md_word.specs.Clock.{last_cycle}
 use Rattle.md_top.specs.Limits.{IsEnd}
-use Rattle.state_laws.specs.Verdicts.{StateVerdict}
 use Rattle.md_top.specs.Runs.{RunLaws, entries_from, media_from}
 use Rattle.md_top.specs.declared.digests.Digests.{Digests}
 use Rattle.md_top.specs.declared.ending.Ending.{Ending}
@@ -101,13 +100,13 @@ demo_far_only sink demo out out' status _ ends reports far = absurd ends
 
 -- WITHOUT A FAULT
 
-right_demo_far : (demo : Demo) (files : Files) (verdict : Verdict) (state : StateVerdict) (outcome : Outcome) → last_cycle < demo.cycles
-    → right_ending (Some (RunDemo demo)) files verdict state outcome ≡ TooFar
-right_demo_far demo files verdict state outcome far = ap (λ (b : Bool). cond b TooFar (demo_ending demo)) (is_below last_cycle demo.cycles far)
+right_demo_far : (demo : Demo) (files : Files) (verdict : Verdict) (found : Findings) (outcome : Outcome) → last_cycle < demo.cycles
+    → right_ending (Some (RunDemo demo)) files verdict found outcome ≡ TooFar
+right_demo_far demo files verdict found outcome far = ap (λ (b : Bool). cond b TooFar (demo_ending demo)) (is_below last_cycle demo.cycles far)
 
-right_demo_near : (demo : Demo) (files : Files) (verdict : Verdict) (state : StateVerdict) (outcome : Outcome) → demo.cycles ≤ last_cycle
-    → right_ending (Some (RunDemo demo)) files verdict state outcome ≡ demo_ending demo
-right_demo_near demo files verdict state outcome near = ap (λ (b : Bool). cond b TooFar (demo_ending demo)) (not_below last_cycle demo.cycles near)
+right_demo_near : (demo : Demo) (files : Files) (verdict : Verdict) (found : Findings) (outcome : Outcome) → demo.cycles ≤ last_cycle
+    → right_ending (Some (RunDemo demo)) files verdict found outcome ≡ demo_ending demo
+right_demo_near demo files verdict found outcome near = ap (λ (b : Bool). cond b TooFar (demo_ending demo)) (not_below last_cycle demo.cycles near)
 
 demo_ending_behind : (demo : Demo) → demo.cycles ≤ 0 → demo_ending demo ≡ Behind 0
 demo_ending_behind demo none =
@@ -118,17 +117,17 @@ demo_ending_done demo some =
     ap (λ (b : Bool). cond b (Behind 0) (DemoDone (summary_from (demo_start demo) demo.cycles))) (is_ahead demo.cycles 0 some)
 
 -- a run with an end within the limits ends well
-pub right_demo_done : (demo : Demo) (files : Files) (verdict : Verdict) (state : StateVerdict) (outcome : Outcome) → IsEnd demo.cycles
-    → status_of (right_ending (Some (RunDemo demo)) files verdict state outcome) ≡ 0
-right_demo_done demo files verdict state outcome end =
-    ap status_of (right_demo_near demo files verdict state outcome end.1 ∙ demo_ending_done demo (omega (arith, end.0)))
+pub right_demo_done : (demo : Demo) (files : Files) (verdict : Verdict) (found : Findings) (outcome : Outcome) → IsEnd demo.cycles
+    → status_of (right_ending (Some (RunDemo demo)) files verdict found outcome) ≡ 0
+right_demo_done demo files verdict found outcome end =
+    ap status_of (right_demo_near demo files verdict found outcome end.1 ∙ demo_ending_done demo (omega (arith, end.0)))
 
 -- the ending is the right one, or memory is wanting
-pub demo_right : (demo : Demo) (files : Files) (verdict : Verdict) (state : StateVerdict) (outcome : Outcome) (ending : Ending) → DemoEnds demo ending
-    → (status_of ending ≡ status_of (right_ending (Some (RunDemo demo)) files verdict state outcome)) ⊎ (status_of ending ≡ 10)
-demo_right demo files verdict state outcome TooFar ends = inl (sym (ap status_of (right_demo_far demo files verdict state outcome ends)))
-demo_right demo files verdict state outcome Memory ends = inr refl
-demo_right demo files verdict state outcome (Behind from) ends =
-    inl (sym (ap status_of (right_demo_near demo files verdict state outcome (omega (arith, ends.0)) ∙ demo_ending_behind demo (omega (arith, ends.0)))))
-demo_right demo files verdict state outcome (DemoDone summary) ends = inl (sym (right_demo_done demo files verdict state outcome ends.0))
-demo_right demo files verdict state outcome _ ends = absurd ends
+pub demo_right : (demo : Demo) (files : Files) (verdict : Verdict) (found : Findings) (outcome : Outcome) (ending : Ending) → DemoEnds demo ending
+    → (status_of ending ≡ status_of (right_ending (Some (RunDemo demo)) files verdict found outcome)) ⊎ (status_of ending ≡ 10)
+demo_right demo files verdict found outcome TooFar ends = inl (sym (ap status_of (right_demo_far demo files verdict found outcome ends)))
+demo_right demo files verdict found outcome Memory ends = inr refl
+demo_right demo files verdict found outcome (Behind from) ends =
+    inl (sym (ap status_of (right_demo_near demo files verdict found outcome (omega (arith, ends.0)) ∙ demo_ending_behind demo (omega (arith, ends.0)))))
+demo_right demo files verdict found outcome (DemoDone summary) ends = inl (sym (right_demo_done demo files verdict found outcome ends.0))
+demo_right demo files verdict found outcome _ ends = absurd ends

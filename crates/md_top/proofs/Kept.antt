@@ -32,7 +32,7 @@ some-map : (o : Option (List ℕ)) {P Q : List ℕ → Type 0} → ((name : List
 some-map None f p = absurd p
 some-map (Some name) f p = f name p
 
-unread_before : (told : Type 0) (name : List ℕ) (old mid new : DepotState) → (told → mid.files ≡ old.files) → GoesOn old mid
+pub unread_before : (told : Type 0) (name : List ℕ) (old mid new : DepotState) → (told → mid.files ≡ old.files) → GoesOn old mid
     → Rose mid.read_faults new.read_faults ⊎ (told × (mid.files name ≡ None)) → Rose old.read_faults new.read_faults ⊎ (told × (old.files name ≡ None))
 unread_before told name old mid new same on (inl rose) = inl (rose_later old.read_faults mid.read_faults new.read_faults on.reads rose)
 unread_before told name old mid new same on (inr missing) = inr (missing.0, sym (ap (λ (files : Files). files name) (same missing.0)) ∙ missing.1)

@@ -3,6 +3,7 @@ pub mod Assemblies
 pub mod Carts
 pub mod Conversions
 pub mod Counts
+pub mod Debuggings
 pub mod Demos
 pub mod Ends
 pub mod Fetched

@@ -6,22 +6,25 @@ use Rattle.std.proofs.lemmas.Slice.Eq.{bytes_eq-Decides}
 use Rattle.rom_header.specs.Header.{header_lines}
 use Rattle.md_pads.specs.Recording.{no_frames}
 use Rattle.md_outer.specs.Outside.{DepotState, Files, Rose, SinkState, with_file}
-use Rattle.md_top.specs.Answers.{Answers, Causes, IsRight, IsStateRight, PutsAll, PutsPart, Reports}
+use Rattle.md_top.specs.Answers.{Answers, AreFindingsRight, Causes, IsRight, PutsAll, PutsPart, Reports}
 use Rattle.md_top.specs.Inputs.{IsAccepted, IsJudged, Spelled, RecordingCause, Verdict, cart_of}
 use Rattle.md_word.specs.Clock.{last_cycle}
 use Rattle.md_top.specs.Loads.{IsStateJudged}
 use Rattle.state_laws.specs.Verdicts.{Keeps, StateVerdict, StateWrongAt}
 use Rattle.md_top.specs.Runs.{pieces_of, pieces_until}
-use Rattle.md_top.specs.Endings.{HasCause, InfoEnds, LeavesFiles, RunEnds, RunFiles, accepted_ending, asked_ending, file_ending, loaded_ending, right_ending, status_of}
+use Rattle.md_top.specs.Endings.{Findings, HasCause, InfoEnds, LeavesFiles, RunEnds, RunFiles, accepted_ending, asked_ending, file_ending, loaded_ending, right_ending, status_of}
 use Rattle.md_top.specs.Outputs.{LeavesParts, Parts, Pieces, all_of, nothing, with_part, written}
 use Rattle.md_vgm.specs.Outcomes.{Made, Outcome}
-use Rattle.md_args.specs.Words.{Assemble, Command, Convert, Info, Run, RunCart, RunDemo}
+use Rattle.md_args.specs.Words.{Assemble, Command, Convert, Debug, Debugging, Info, Run, RunCart, RunDemo}
 use Rattle.md_top.specs.Assemblies.{asm_ending}
 use Rattle.md_top.specs.Conversions.{convert_ending}
+use Rattle.md_top.specs.Debuggings.{Scripted}
+use Rattle.debug_script.specs.declared.script.Ending.TheVariants.{Obeyed}
 use Rattle.md_top.specs.declared.ending.Ending.{Ending}
 use Rattle.md_top.specs.declared.ending.Ending.TheVariants.{Shown, Done, Usage, TooFar, RecordingFault, RecordingTooLong, RecordingWrong, LoadFault, StateTooLong, StateWrong, OtherCart, Behind, FramesFault, SoundFault, JournalFault, SaveFault, Unsaved, Memory}
 use Rattle.md_top.proofs.Assemblies.{asm_behind, asm_done, asm_far, asm_other, asm_read_fault, asm_refused_input, asm_refused_source, asm_right, asm_state, asm_usage, asm_write_fault, asm_wrong, assembled_other, convert_source, info_source, run_source}
 use Rattle.md_top.proofs.Conversions.{convert_behind, convert_done, convert_far, convert_other, convert_read_fault, convert_refused, convert_right, convert_state, convert_usage, convert_write_fault, convert_wrong, converted_other, info_refused, made_outcome, run_refused}
+use Rattle.md_top.proofs.Debuggings.{IsDebugRight, asm_script, convert_script, debug_behind, debug_done, debug_far, debug_input, debug_other, debug_read_fault, debug_refused, debug_right, debug_source, debug_state, debug_usage, debug_write_fault, debug_wrong, demo_script, info_script, run_script}
 use Rattle.md_top.proofs.Demos.{demo_behind, demo_far, demo_far_only, demo_never, demo_refused, demo_right, demo_source, right_demo_done}
 use Rattle.md_top.proofs.Right.{IsRunRight, cart_always, cart_right, load_right_with, recording_always, recording_judged, recording_right, right_accepted, right_behind, right_behind_cart, right_done, right_far, right_load, right_near, right_with, right_without, state_judged}
 use Rattle.md_top.proofs.Statuses.{reported, of_ending, info_usage, run_usage, info_far, run_far, info_read_fault, run_read_fault, info_wrong, run_wrong, info_state, run_state, info_other, run_other, info_behind, run_behind, info_write_fault, run_write_fault, far_only}
@@ -29,11 +32,11 @@ use Rattle.md_top.proofs.Statuses.{reported, of_ending, info_usage, run_usage, i
 -- WITHOUT A FAULT
 
 -- the ending is the right one, or memory is wanting
-info_right : (told : Type 0) (rom : List ℕ) (old new : DepotState) (verdict : Verdict) (state : StateVerdict) (outcome : Outcome) (ending : Ending) → InfoEnds told rom old new ending
-    → ¬ Rose old.read_faults new.read_faults → told → (status_of ending ≡ status_of (right_ending (Some (Info rom)) old.files verdict state outcome)) ⊎ (status_of ending ≡ 10)
-info_right told rom old new verdict state outcome (Shown lines) cause clean t =
+info_right : (told : Type 0) (rom : List ℕ) (old new : DepotState) (verdict : Verdict) (found : Findings) (outcome : Outcome) (ending : Ending) → InfoEnds told rom old new ending
+    → ¬ Rose old.read_faults new.read_faults → told → (status_of ending ≡ status_of (right_ending (Some (Info rom)) old.files verdict found outcome)) ⊎ (status_of ending ≡ 10)
+info_right told rom old new verdict found outcome (Shown lines) cause clean t =
     inl (sym (ap status_of (right_accepted (old.files rom) (Shown (header_lines (cart_of rom old.files))) (cause t).0)))
-info_right told rom old new verdict state outcome other cause clean t = cart_right told rom old new (Shown (header_lines (cart_of rom old.files))) other cause clean t
+info_right told rom old new verdict found outcome other cause clean t = cart_right told rom old new (Shown (header_lines (cart_of rom old.files))) other cause clean t
 
 -- behind the cartridge's file
 run_near : (run : Run) (files : Files) (verdict : Verdict) (state : StateVerdict) (ending : Ending) → run.cycles ≤ last_cycle
@@ -135,16 +138,35 @@ exact_is status of right (inl same) clean (inl is) = inl (same ∙ is)
 exact_is status of right (inl same) clean (inr memory) = inr (same ∙ memory)
 exact_is status of right (inr (out, rose)) clean is = absurd (clean rose)
 
+-- what is found where nothing is looked at
+no_script : Scripted
+no_script = record { replies = []; ending = Obeyed }
+
+none_found : Findings
+none_found = record { state = StateWrongAt 0; script = no_script }
+
 exact_run : (run : Run) (files : Files) (verdict : Verdict) (outcome : Outcome) (status of : ℕ) {P : Type 0} → (status ≡ of) ⊎ ((status ≡ 13) × P) → ¬ P
     → IsRunRight run files verdict of ⊎ (of ≡ 10) → IsRight (Some (RunCart run)) files verdict outcome status ⊎ (status ≡ 10)
-exact_run run files verdict outcome status of (inl same) clean (inl right) = inl (right.0, right.1, same ∙ right.2)
+exact_run run files verdict outcome status of (inl same) clean (inl (state, inl judged, is)) =
+    inl (record { state = state; script = no_script }, inl (judged, tt), same ∙ is)
+exact_run run files verdict outcome status of (inl same) clean (inl (state, inr none, is)) =
+    inl (record { state = state; script = no_script }, inr (λ other. none other.state), same ∙ is)
 exact_run run files verdict outcome status of (inl same) clean (inr memory) = inr (same ∙ memory)
 exact_run run files verdict outcome status of (inr (out, rose)) clean is = absurd (clean rose)
 
--- a command that asks for no run hangs on no saved state
-exact_other : (command : Option Command) (files : Files) (verdict : Verdict) (outcome : Outcome) (status : ℕ) → IsStateRight command files verdict outcome (StateWrongAt 0)
-    → (status ≡ status_of (right_ending command files verdict (StateWrongAt 0) outcome)) ⊎ (status ≡ 10) → IsRight command files verdict outcome status ⊎ (status ≡ 10)
-exact_other command files verdict outcome status is (inl right) = inl (StateWrongAt 0, is, right)
+exact_debug : (words : Debugging) (files : Files) (verdict : Verdict) (outcome : Outcome) (status of : ℕ) {P : Type 0} → (status ≡ of) ⊎ ((status ≡ 13) × P) → ¬ P
+    → IsDebugRight words files of ⊎ (of ≡ 10) → IsRight (Some (Debug words)) files verdict outcome status ⊎ (status ≡ 10)
+exact_debug words files verdict outcome status of (inl same) clean (inl (script, inl scripted, is)) =
+    inl (record { state = StateWrongAt 0; script = script }, inl (tt, scripted), same ∙ is)
+exact_debug words files verdict outcome status of (inl same) clean (inl (script, inr none, is)) =
+    inl (record { state = StateWrongAt 0; script = script }, inr (λ other. none other.script), same ∙ is)
+exact_debug words files verdict outcome status of (inl same) clean (inr memory) = inr (same ∙ memory)
+exact_debug words files verdict outcome status of (inr (out, rose)) clean is = absurd (clean rose)
+
+-- a command that asks for no run and no session hangs on no saved state and no script
+exact_other : (command : Option Command) (files : Files) (verdict : Verdict) (outcome : Outcome) (status : ℕ) → AreFindingsRight command files verdict outcome none_found
+    → (status ≡ status_of (right_ending command files verdict none_found outcome)) ⊎ (status ≡ 10) → IsRight command files verdict outcome status ⊎ (status ≡ 10)
+exact_other command files verdict outcome status is (inl right) = inl (none_found, is, right)
 exact_other command files verdict outcome status is (inr memory) = inr memory
 
 -- a command with nothing wrong
@@ -226,9 +248,10 @@ none_causes told old out out' status (inl two) = record {
   behind = λ is. absurd (omega (arith, two, is));
   input_refused = λ is. absurd (omega (arith, two, is));
   source_refused = λ is. absurd (omega (arith, two, is));
+  script_refused = λ is. absurd (omega (arith, two, is));
   write_fault = λ is. absurd (omega (arith, two, is));
   out_fault = λ is. absurd (omega (arith, two, is));
-  exact = λ clean t verdict is outcome known. inl (StateWrongAt 0, inl tt, two);
+  exact = λ clean t verdict is outcome known. inl (none_found, inl (tt, tt), two);
   complete = λ clean t ready. absurd ready;
   others = λ t. tt;
 }
@@ -244,6 +267,7 @@ none_causes told old out out' status (inr ten) = record {
   behind = λ is. absurd (omega (arith, ten, is));
   input_refused = λ is. absurd (omega (arith, ten, is));
   source_refused = λ is. absurd (omega (arith, ten, is));
+  script_refused = λ is. absurd (omega (arith, ten, is));
   write_fault = λ is. absurd (omega (arith, ten, is));
   out_fault = λ is. absurd (omega (arith, ten, is));
   exact = λ clean t verdict is outcome known. inr ten;
@@ -268,16 +292,17 @@ causes_of told sink (Info rom) old new out out' status ending cause leaves repor
       behind = λ nine. info_behind told rom old new ending cause (of_ending status (status_of ending) 9 by nine (λ is. omega (arith, is)));
       input_refused = λ seventeen. absurd (info_refused told rom old new ending cause (of_ending status (status_of ending) 17 by seventeen (λ is. omega (arith, is))));
       source_refused = λ sixteen. absurd (info_source told rom old new ending cause (of_ending status (status_of ending) 16 by sixteen (λ is. omega (arith, is))));
+      script_refused = λ fifteen. absurd (info_script told rom old new ending cause (of_ending status (status_of ending) 15 by fifteen (λ is. omega (arith, is))));
       write_fault = λ four. info_write_fault told rom old new ending cause (of_ending status (status_of ending) 4 by four (λ is. omega (arith, is)));
       out_fault = λ thirteen. out_fault status (status_of ending) by (not_out ending) thirteen;
       exact = λ clean t verdict is outcome known.
-          exact_other (Some (Info rom)) old.files verdict outcome status (inl tt)
-          (exact_is status (status_of ending) (status_of (right_ending (Some (Info rom)) old.files verdict (StateWrongAt 0) outcome)) by clean.puts
-          (info_right told rom old new verdict (StateWrongAt 0) outcome ending cause clean.reads t));
+          exact_other (Some (Info rom)) old.files verdict outcome status (inl (tt, tt))
+          (exact_is status (status_of ending) (status_of (right_ending (Some (Info rom)) old.files verdict none_found outcome)) by clean.puts
+          (info_right told rom old new verdict none_found outcome ending cause clean.reads t));
       complete = λ clean t ready.
-          ready_ends status (status_of (right_ending (Some (Info rom)) old.files (Spelled no_frames) (StateWrongAt 0) (Made [])))
-          (exact_is status (status_of ending) (status_of (right_ending (Some (Info rom)) old.files (Spelled no_frames) (StateWrongAt 0) (Made []))) by clean.puts
-          (info_right told rom old new (Spelled no_frames) (StateWrongAt 0) (Made []) ending cause clean.reads t))
+          ready_ends status (status_of (right_ending (Some (Info rom)) old.files (Spelled no_frames) none_found (Made [])))
+          (exact_is status (status_of ending) (status_of (right_ending (Some (Info rom)) old.files (Spelled no_frames) none_found (Made []))) by clean.puts
+          (info_right told rom old new (Spelled no_frames) none_found (Made []) ending cause clean.reads t))
           (ap status_of (right_accepted (old.files rom) (Shown (header_lines (cart_of rom old.files))) ready));
       others = λ t name not_frames no_sound no_journal no_save no_output no_image. ap (λ (files : Files). files name) (leaves t);
     }
@@ -295,6 +320,7 @@ causes_of told sink (RunCart run) old new out out' status ending cause leaves re
       behind = λ nine. run_behind told run old new ending cause (of_ending status (status_of ending) 9 by nine (λ is. omega (arith, is)));
       input_refused = λ seventeen. absurd (run_refused told run old new ending cause (of_ending status (status_of ending) 17 by seventeen (λ is. omega (arith, is))));
       source_refused = λ sixteen. absurd (run_source told run old new ending cause (of_ending status (status_of ending) 16 by sixteen (λ is. omega (arith, is))));
+      script_refused = λ fifteen. absurd (run_script told run old new ending cause (of_ending status (status_of ending) 15 by fifteen (λ is. omega (arith, is))));
       write_fault = λ four. run_write_fault told run old new ending cause (of_ending status (status_of ending) 4 by four (λ is. omega (arith, is)));
       out_fault = λ thirteen. out_fault status (status_of ending) by (not_out ending) thirteen;
       exact = λ clean t verdict is outcome known.
@@ -325,10 +351,11 @@ causes_of told sink (Convert conversion) old new out out' status ending cause le
       behind = λ nine. absurd (convert_behind told conversion old new ending cause (of_ending status (status_of ending) 9 by nine (λ is. omega (arith, is))));
       input_refused = λ seventeen. convert_refused told conversion old new ending cause (of_ending status (status_of ending) 17 by seventeen (λ is. omega (arith, is)));
       source_refused = λ sixteen. absurd (convert_source told conversion old new ending cause (of_ending status (status_of ending) 16 by sixteen (λ is. omega (arith, is))));
+      script_refused = λ fifteen. absurd (convert_script told conversion old new ending cause (of_ending status (status_of ending) 15 by fifteen (λ is. omega (arith, is))));
       write_fault = λ four. convert_write_fault told conversion old new ending cause (of_ending status (status_of ending) 4 by four (λ is. omega (arith, is)));
       out_fault = λ thirteen. out_fault status (status_of ending) by (not_out ending) thirteen;
       exact = λ clean t verdict is outcome known.
-          exact_other (Some (Convert conversion)) old.files verdict outcome status (inl tt)
+          exact_other (Some (Convert conversion)) old.files verdict outcome status (inl (tt, tt))
           (exact_is status (status_of ending) (status_of (convert_ending conversion old.files outcome)) by clean.puts
           (convert_right told conversion old new outcome ending cause known clean.reads clean.writes t));
       complete = λ clean t ready.
@@ -354,17 +381,18 @@ causes_of told sink (RunDemo demo) old new out out' status ending (same, ends) l
       behind = λ nine. demo_behind demo ending ends (of_ending status (status_of ending) 9 by nine (λ is. omega (arith, is)));
       input_refused = λ seventeen. absurd (demo_refused demo ending ends (of_ending status (status_of ending) 17 by seventeen (λ is. omega (arith, is))));
       source_refused = λ sixteen. absurd (demo_source demo ending ends (of_ending status (status_of ending) 16 by sixteen (λ is. omega (arith, is))));
+      script_refused = λ fifteen. absurd (demo_script demo ending ends (of_ending status (status_of ending) 15 by fifteen (λ is. omega (arith, is))));
       write_fault = λ four. absurd (never 4 (of_ending status (status_of ending) 4 by four (λ is. omega (arith, is))) (omega arith) (omega arith));
       out_fault = λ thirteen. out_fault status (status_of ending) by (not_out ending) thirteen;
       exact = λ clean t verdict is outcome known.
-          exact_other (Some (RunDemo demo)) old.files verdict outcome status (inl tt)
-          (exact_is status (status_of ending) (status_of (right_ending (Some (RunDemo demo)) old.files verdict (StateWrongAt 0) outcome)) by clean.puts
-          (demo_right demo old.files verdict (StateWrongAt 0) outcome ending ends));
+          exact_other (Some (RunDemo demo)) old.files verdict outcome status (inl (tt, tt))
+          (exact_is status (status_of ending) (status_of (right_ending (Some (RunDemo demo)) old.files verdict none_found outcome)) by clean.puts
+          (demo_right demo old.files verdict none_found outcome ending ends));
       complete = λ clean t ready.
-          ready_ends status (status_of (right_ending (Some (RunDemo demo)) old.files (Spelled no_frames) (StateWrongAt 0) (Made [])))
-          (exact_is status (status_of ending) (status_of (right_ending (Some (RunDemo demo)) old.files (Spelled no_frames) (StateWrongAt 0) (Made []))) by clean.puts
-          (demo_right demo old.files (Spelled no_frames) (StateWrongAt 0) (Made []) ending ends))
-          (right_demo_done demo old.files (Spelled no_frames) (StateWrongAt 0) (Made []) ready);
+          ready_ends status (status_of (right_ending (Some (RunDemo demo)) old.files (Spelled no_frames) none_found (Made [])))
+          (exact_is status (status_of ending) (status_of (right_ending (Some (RunDemo demo)) old.files (Spelled no_frames) none_found (Made []))) by clean.puts
+          (demo_right demo old.files (Spelled no_frames) none_found (Made []) ending ends))
+          (right_demo_done demo old.files (Spelled no_frames) none_found (Made []) ready);
       others = λ t name not_frames no_sound no_journal no_save no_output no_image. ap (λ (files : Files). files name) (leaves t);
     }
 causes_of told sink (Assemble words) old new out out' status ending cause leaves reports =
@@ -381,10 +409,11 @@ causes_of told sink (Assemble words) old new out out' status ending cause leaves
       behind = λ nine. absurd (asm_behind told words old new ending cause (of_ending status (status_of ending) 9 by nine (λ is. omega (arith, is))));
       input_refused = λ seventeen. absurd (asm_refused_input told words old new ending cause (of_ending status (status_of ending) 17 by seventeen (λ is. omega (arith, is))));
       source_refused = λ sixteen. asm_refused_source told words old new ending cause (of_ending status (status_of ending) 16 by sixteen (λ is. omega (arith, is)));
+      script_refused = λ fifteen. absurd (asm_script told words old new ending cause (of_ending status (status_of ending) 15 by fifteen (λ is. omega (arith, is))));
       write_fault = λ four. asm_write_fault told words old new ending cause (of_ending status (status_of ending) 4 by four (λ is. omega (arith, is)));
       out_fault = λ thirteen. out_fault status (status_of ending) by (not_out ending) thirteen;
       exact = λ clean t verdict is outcome known.
-          exact_other (Some (Assemble words)) old.files verdict outcome status (inl tt)
+          exact_other (Some (Assemble words)) old.files verdict outcome status (inl (tt, tt))
           (exact_is status (status_of ending) (status_of (asm_ending words old.files)) by clean.puts
           (asm_right told words old new ending cause clean.reads clean.writes t));
       complete = λ clean t ready.
@@ -393,6 +422,29 @@ causes_of told sink (Assemble words) old new out out' status ending cause leaves
           (asm_right told words old new ending cause clean.reads clean.writes t))
           (asm_done (old.files words.source) ready.0 ready.1 ready.2);
       others = λ t name not_frames no_sound no_journal no_save no_output no_image. assembled_other words old.files new.files ending (leaves t) name no_image.0 no_image.1;
+    }
+causes_of told sink (Debug words) old new out out' status ending cause leaves reports =
+    let by = reported sink (Some (Debug words)) ending out out' status reports in
+    record {
+      usage = λ two. absurd (debug_usage told words old new ending cause (of_ending status (status_of ending) 2 by two (λ is. omega (arith, is))));
+      refused = λ none. absurd (is_asked (Debug words) none);
+      too_far = λ eleven. absurd (debug_far told words old new ending cause (of_ending status (status_of ending) 11 by eleven (λ is. omega (arith, is))));
+      far_refused = λ far. absurd (omega (arith, far));
+      read_fault = λ three. debug_read_fault told words old new ending cause (of_ending status (status_of ending) 3 by three (λ is. omega (arith, is)));
+      wrong = λ six. absurd (debug_wrong told words old new ending cause (of_ending status (status_of ending) 6 by six (λ is. omega (arith, is))));
+      state_wrong = λ seven. absurd (debug_state told words old new ending cause (of_ending status (status_of ending) 7 by seven (λ is. omega (arith, is))));
+      other_cart = λ eight. absurd (debug_other told words old new ending cause (of_ending status (status_of ending) 8 by eight (λ is. omega (arith, is))));
+      behind = λ nine. absurd (debug_behind told words old new ending cause (of_ending status (status_of ending) 9 by nine (λ is. omega (arith, is))));
+      input_refused = λ seventeen. absurd (debug_input told words old new ending cause (of_ending status (status_of ending) 17 by seventeen (λ is. omega (arith, is))));
+      source_refused = λ sixteen. absurd (debug_source told words old new ending cause (of_ending status (status_of ending) 16 by sixteen (λ is. omega (arith, is))));
+      script_refused = λ fifteen. debug_refused told words old new ending cause (of_ending status (status_of ending) 15 by fifteen (λ is. omega (arith, is)));
+      write_fault = λ four. debug_write_fault told words old new ending cause (of_ending status (status_of ending) 4 by four (λ is. omega (arith, is)));
+      out_fault = λ thirteen. out_fault status (status_of ending) by (not_out ending) thirteen;
+      exact = λ clean t verdict is outcome known.
+          exact_debug words old.files verdict outcome status (status_of ending) by clean.puts (debug_right told words old new ending cause clean.reads t);
+      complete = λ clean t ready.
+          ready_ends status 0 (exact_is status (status_of ending) 0 by clean.puts (debug_done told words old new ending ready cause clean.reads t)) refl;
+      others = λ t name not_frames no_sound no_journal no_save no_output no_image. ap (λ (files : Files). files name) (leaves t);
     }
 
 -- where memory was wanting for the words
@@ -403,6 +455,7 @@ memory_cause told (Some (RunCart run)) old = tt
 memory_cause told (Some (RunDemo demo)) old = (refl, tt)
 memory_cause told (Some (Convert conversion)) old = tt
 memory_cause told (Some (Assemble words)) old = tt
+memory_cause told (Some (Debug words)) old = tt
 
 memory_leaves : (command : Option Command) (files : Files) → LeavesFiles command files files Memory
 memory_leaves None files = refl
@@ -410,6 +463,7 @@ memory_leaves (Some (Info rom)) files = refl
 memory_leaves (Some (RunDemo demo)) files = refl
 memory_leaves (Some (Convert conversion)) files = refl
 memory_leaves (Some (Assemble words)) files = inl refl
+memory_leaves (Some (Debug words)) files = refl
 memory_leaves (Some (RunCart run)) files = record {
   parts = record { frames = None; sound = None; journal = None; state = None };
   frames = tt;

@@ -11,7 +11,7 @@ use Rattle.state_laws.specs.Verdicts.{OfOther, StateWrongAt}
 use Rattle.md_top.specs.Endings.{InfoEnds, RunEnds, status_of, text_of}
 use Rattle.md_args.specs.Words.{Command, Info, Run, RunCart}
 use Rattle.md_top.specs.declared.ending.Ending.{Ending}
-use Rattle.md_top.specs.declared.ending.Ending.TheVariants.{Shown, Done, DemoDone, Converted, OutputFault, ListFault, Usage, TooFar, ReadFault, RecordingFault, RecordingWrong, LoadFault, StateWrong, OtherCart, Behind, FramesFault, SoundFault, JournalFault, SaveFault, Unsaved, Memory}
+use Rattle.md_top.specs.declared.ending.Ending.TheVariants.{Shown, Done, DemoDone, Converted, OutputFault, ListFault, Usage, TooFar, ReadFault, RecordingFault, RecordingWrong, LoadFault, ScriptFault, StateWrong, OtherCart, Behind, FramesFault, SoundFault, JournalFault, SaveFault, Unsaved, Memory}
 
 -- the status is the ending's, but where the sink failed within an output
 pub put_output : (told : Type 0) (text : List ℕ) (out out' : SinkState) (status : ℕ) → PutsOutput told text out out' status
@@ -70,6 +70,7 @@ pub info_read_fault : (told : Type 0) (rom : List ℕ) (old new : DepotState) (e
 info_read_fault told rom old new ReadFault cause is = missing_cart told (Info rom) old.files inl cause
 info_read_fault told rom old new RecordingFault cause is = absurd cause
 info_read_fault told rom old new LoadFault cause is = absurd cause
+info_read_fault told rom old new ScriptFault cause is = absurd cause
 info_read_fault told rom old new _ cause is = absurd (omega (arith, is))
 
 pub run_read_fault : (told : Type 0) (run : Run) (old new : DepotState) (ending : Ending) → RunEnds told run old new ending → status_of ending ≡ 3
@@ -78,7 +79,8 @@ run_read_fault told run old new ReadFault cause is = missing_cart told (RunCart 
 run_read_fault told run old new RecordingFault cause is =
     missing_cart told (RunCart run) old.files (λ none. inr (inl none)) (missing_recording told run.recording old new cause.1.1)
 run_read_fault told run old new LoadFault cause is =
-    missing_cart told (RunCart run) old.files (λ none. inr (inr none)) (missing_state told run.load old new cause.1.2)
+    missing_cart told (RunCart run) old.files (λ none. inr (inr (inl none))) (missing_state told run.load old new cause.1.2)
+run_read_fault told run old new ScriptFault cause is = absurd cause.1
 run_read_fault told run old new _ cause is = absurd (omega (arith, is))
 
 pub info_wrong : (told : Type 0) (rom : List ℕ) (old new : DepotState) (ending : Ending) → InfoEnds told rom old new ending → status_of ending ≡ 6 → ⊥

@@ -5,13 +5,14 @@ use Rattle.md_pads.specs.Recording.{IsSpelled}
 use Rattle.md_top.specs.Inputs.{IsJudged, IsMissing, Verdict}
 use Rattle.md_word.specs.Clock.{last_cycle}
 use Rattle.md_top.specs.Loads.{Begins, IsLoadFound, IsStateJudged, MayBeginAt}
-use Rattle.state_laws.specs.Verdicts.{OfOther, StateVerdict, StateWrongAt}
+use Rattle.state_laws.specs.Verdicts.{OfOther, StateWrongAt}
 use Rattle.md_machine.specs.Starts.{Start}
 use Rattle.md_vgm.specs.Outcomes.{Outcome}
-use Rattle.md_args.specs.Words.{Assemble, Command, Convert, Info, RunCart, RunDemo, assembling_in, conversion_in, end_of, frames_name, journal_name, recording_name, run_in, save_name, sound_name}
+use Rattle.md_args.specs.Words.{Assemble, Command, Convert, Debug, Info, RunCart, RunDemo, assembling_in, conversion_in, debugging_in, end_of, frames_name, journal_name, recording_name, run_in, save_name, sound_name}
 use Rattle.md_top.specs.Assemblies.{IsRefusedSource}
 use Rattle.md_top.specs.Conversions.{IsInputOutcome, IsRefusedInput}
-use Rattle.md_top.specs.Endings.{HasCause, IsReady, LeavesFiles, right_ending, status_of, text_of}
+use Rattle.md_top.specs.Debuggings.{IsRefusedScript, IsScripted}
+use Rattle.md_top.specs.Endings.{Findings, HasCause, IsReady, LeavesFiles, right_ending, status_of, text_of}
 use Rattle.md_top.specs.declared.ending.Ending.{Ending}
 use Rattle.md_top.specs.declared.ending.Ending.TheVariants.{Converted, DemoDone, Done, Shown}
 
@@ -57,19 +58,25 @@ IsBehind told (Info rom) files = ⊥
 IsBehind told (RunDemo demo) files = demo.cycles ≡ 0
 IsBehind told (Convert conversion) files = ⊥
 IsBehind told (Assemble words) files = ⊥
+IsBehind told (Debug words) files = ⊥
 IsBehind told (RunCart run) files =
     (from : ℕ) × MayBeginAt run from × (run.cycles ≤ from) × (told → (start : Start) × Begins run files start × (from ≡ start.at))
 
--- the verdict is one on the bytes of the saved state, or none on them has a part in the ending
-abbrev pub IsStateRight : Option Command → Files → Verdict → Outcome → StateVerdict → Type 0
-IsStateRight command files verdict outcome state =
-    IsStateJudged (option_and_then run_in command) files verdict state
-    ⊎ ((other : StateVerdict) → right_ending command files verdict other outcome ≡ right_ending command files verdict state outcome)
+-- so the saved state of a run is found, and so the script of a session
+abbrev pub AreFindings : Option Command → Files → Verdict → Findings → Type 0
+AreFindings command files verdict found =
+    IsStateJudged (option_and_then run_in command) files verdict found.state × IsScripted (option_and_then debugging_in command) files found.script
 
--- the status is that of the right ending, with such a verdict
+-- they are found so, or what is found has no part in the ending
+abbrev pub AreFindingsRight : Option Command → Files → Verdict → Outcome → Findings → Type 0
+AreFindingsRight command files verdict outcome found =
+    AreFindings command files verdict found
+    ⊎ ((other : Findings) → right_ending command files verdict other outcome ≡ right_ending command files verdict found outcome)
+
+-- the status is that of the right ending, with such findings
 abbrev pub IsRight : Option Command → Files → Verdict → Outcome → ℕ → Type 0
 IsRight command files verdict outcome status =
-    (state : StateVerdict) × IsStateRight command files verdict outcome state × (status ≡ status_of (right_ending command files verdict state outcome))
+    (found : Findings) × AreFindingsRight command files verdict outcome found × (status ≡ status_of (right_ending command files verdict found outcome))
 
 -- The same, answer by answer.
 pub record Causes (depot_told : Type 0) (command : Option Command) (old new : DepotState) (out out' : SinkState) (status : ℕ) : Type 0 where
@@ -84,6 +91,7 @@ pub record Causes (depot_told : Type 0) (command : Option Command) (old new : De
   pub behind : status ≡ 9 → IsSomeAnd command (λ asked. IsBehind depot_told asked old.files)
   pub input_refused : status ≡ 17 → IsSomeAnd (option_and_then conversion_in command) (λ conversion. IsRefusedInput depot_told conversion old.files)
   pub source_refused : status ≡ 16 → IsSomeAnd (option_and_then assembling_in command) (λ words. IsRefusedSource depot_told words old.files)
+  pub script_refused : status ≡ 15 → IsSomeAnd (option_and_then debugging_in command) (λ words. IsRefusedScript depot_told words old.files)
   pub write_fault : status ≡ 4 → Rose old.write_faults new.write_faults
   pub out_fault : status ≡ 13 → Rose out.faults out'.faults
   -- each refusal comes exactly where it should, in this order; want of memory may come between

@@ -19,13 +19,14 @@ use Rattle.md_top.specs.Resuming.{RunsWell}
 use Rattle.md_top.specs.Runs.{entries_from, halted_from, media_from, pieces_of, pieces_until, powered_on}
 use Rattle.md_top.specs.Outputs.{Holds, IsUnwritten, LeavesParts, nothing}
 use Rattle.md_vgm.specs.Outcomes.{Outcome}
-use Rattle.md_args.specs.Words.{Assemble, Command, Convert, Demo, Info, Run, RunCart, RunDemo, end_of, frames_name, journal_name, list_name, load_name, output_of, recording_name, rom_of, save_name, sound_name}
+use Rattle.md_args.specs.Words.{Assemble, Command, Convert, Debug, Debugging, Demo, Info, Run, RunCart, RunDemo, end_of, frames_name, journal_name, list_name, load_name, output_of, recording_name, rom_of, save_name, script_name, sound_name}
 use Rattle.md_top.specs.Assemblies.{AsmEnds, AsmFiles, CanAssemble, asm_ending, source_line}
+use Rattle.md_top.specs.Debuggings.{CanDebug, DebugEnds, Scripted, played_ending, script_limit, script_line}
 use Rattle.md_top.specs.Conversions.{CanConvert, ConvertEnds, ConvertFiles, convert_ending, fault_line}
 use Rattle.md_top.specs.declared.digests.Digests.{Digests}
 use Rattle.md_top.specs.declared.ending.Ending.{Ending}
 use Rattle.md_top.specs.declared.inputs.Inputs.{Inputs}
-use Rattle.md_top.specs.declared.ending.Ending.TheVariants.{Shown, Done, DemoDone, Converted, InputRefused, OutputFault, SourceRefused, ListFault, Usage, TooFar, ReadFault, TooLong, Short, NoMark, RecordingFault, RecordingTooLong, RecordingWrong, LoadFault, StateTooLong, StateWrong, OtherCart, Behind, FramesFault, SoundFault, JournalFault, SaveFault, Unsaved, Memory}
+use Rattle.md_top.specs.declared.ending.Ending.TheVariants.{Shown, Done, DemoDone, Converted, InputRefused, OutputFault, SourceRefused, ListFault, ScriptFault, ScriptTooLong, ScriptRefused, ScriptMemory, Usage, TooFar, ReadFault, TooLong, Short, NoMark, RecordingFault, RecordingTooLong, RecordingWrong, LoadFault, StateTooLong, StateWrong, OtherCart, Behind, FramesFault, SoundFault, JournalFault, SaveFault, Unsaved, Memory}
 
 -- the status that the program ends with
 abbrev pub status_of : Ending → ℕ
@@ -37,6 +38,10 @@ status_of (InputRefused fault) = 17
 status_of OutputFault = 4
 status_of (SourceRefused line kind) = 16
 status_of ListFault = 4
+status_of ScriptFault = 3
+status_of ScriptTooLong = 14
+status_of (ScriptRefused replies line fault) = 15
+status_of (ScriptMemory replies) = 10
 status_of Usage = 2
 status_of ReadFault = 3
 status_of RecordingFault = 3
@@ -97,7 +102,7 @@ digest_lines digests =
     (digest_line (codes "frames sha256 ") digests.frames ++ digest_line (codes "samples sha256 ") digests.samples)
     ++ digest_line (codes "journal sha256 ") digests.journal
 
--- what is put: the output, or the one line of a refusal
+-- what is put: the output, or the one line of a refusal, in a session behind the replies to the lines before it
 abbrev pub text_of : Option Command → Ending → List ℕ
 text_of (Some command) (Shown lines) = lines
 text_of (Some command) (Done from frames accesses halted) = lines_of from (end_of command) frames accesses halted
@@ -107,6 +112,10 @@ text_of (Some command) (InputRefused fault) = fault_line fault
 text_of (Some command) OutputFault = codes "fault: writing " ++ output_of command ++ codes "\n"
 text_of (Some command) (SourceRefused line kind) = source_line line kind
 text_of (Some command) ListFault = codes "fault: writing " ++ unwrap_or (list_name command) [] ++ codes "\n"
+text_of (Some command) ScriptFault = codes "fault: reading " ++ unwrap_or (script_name command) [] ++ codes "\n"
+text_of (Some command) ScriptTooLong = codes "refused: " ++ unwrap_or (script_name command) [] ++ codes " is too long\n"
+text_of (Some command) (ScriptRefused replies line fault) = replies ++ script_line line fault
+text_of (Some command) (ScriptMemory replies) = replies ++ codes "refused: memory\n"
 text_of (Some command) TooFar = codes "refused: cycle " ++ decimal (end_of command) ++ codes " is too far\n"
 text_of (Some command) ReadFault = codes "fault: reading " ++ rom_of command ++ codes "\n"
 text_of (Some command) TooLong = codes "refused: " ++ rom_of command ++ codes " is too long\n"
@@ -135,6 +144,7 @@ IsReady (RunCart run) files = IsEnd run.cycles × CanRun run files
 IsReady (RunDemo demo) files = IsEnd demo.cycles
 IsReady (Convert conversion) files = CanConvert conversion files
 IsReady (Assemble words) files = CanAssemble words files
+IsReady (Debug words) files = CanDebug words files
 
 -- why a run from a start ends, once it has begun
 abbrev pub RunCause : Start → Run → DepotState → DepotState → Ending → Type 0
@@ -181,6 +191,7 @@ HasCause told (Some (RunCart run)) old new ending = RunEnds told run old new end
 HasCause told (Some (RunDemo demo)) old new ending = (new ≡ old) × DemoEnds demo ending
 HasCause told (Some (Convert conversion)) old new ending = ConvertEnds told conversion old new ending
 HasCause told (Some (Assemble words)) old new ending = AsmEnds told words old new ending
+HasCause told (Some (Debug words)) old new ending = DebugEnds told words old new ending
 
 -- the outputs hold what the run from a start made below a cycle
 abbrev pub HoldsUntil : Start → Run → Files → Files → ℕ → Type 0
@@ -220,6 +231,7 @@ LeavesFiles (Some (RunCart run)) old new ending = RunFiles run old new ending
 LeavesFiles (Some (RunDemo demo)) old new ending = new ≡ old
 LeavesFiles (Some (Convert conversion)) old new ending = ConvertFiles conversion old new ending
 LeavesFiles (Some (Assemble words)) old new ending = AsmFiles words old new ending
+LeavesFiles (Some (Debug words)) old new ending = new ≡ old
 
 -- The ending where neither a fault nor want of memory comes between: the refusals in their order.
 
@@ -284,12 +296,27 @@ abbrev pub asked_ending : Run → Files → Verdict → StateVerdict → Ending
 asked_ending run files verdict state =
     if nat_lt last_cycle run.cycles then TooFar else file_ending (files run.rom) (accepted_ending run files verdict state)
 
--- what a command line comes to, with these files, these verdicts on the recording and on the saved state that it
--- names, and this outcome of the input of the conversion that it asks for
-abbrev pub right_ending : Option Command → Files → Verdict → StateVerdict → Outcome → Ending
-right_ending None files verdict state outcome = Usage
-right_ending (Some (Info rom)) files verdict state outcome = file_ending (files rom) (Shown (header_lines (cart_of rom files)))
-right_ending (Some (RunCart run)) files verdict state outcome = asked_ending run files verdict state
-right_ending (Some (RunDemo demo)) files verdict state outcome = if nat_lt last_cycle demo.cycles then TooFar else demo_ending demo
-right_ending (Some (Convert conversion)) files verdict state outcome = convert_ending conversion files outcome
-right_ending (Some (Assemble words)) files verdict state outcome = asm_ending words files
+-- behind the script's file
+abbrev pub script_ending : Option (List ℕ) → Scripted → Ending
+script_ending None script = ScriptFault
+script_ending (Some bytes) script = if nat_lt script_limit (length bytes) then ScriptTooLong else played_ending script.replies script.ending
+
+-- what a session of the debugger comes to, with these files and this outcome of the lines of its script
+abbrev pub debug_ending : Debugging → Files → Scripted → Ending
+debug_ending words files script = file_ending (files words.rom) (script_ending (files words.script) script)
+
+-- what is found of a command's inputs: a verdict on its saved state, and what the lines of its script come to
+pub record Findings : Type 0 where
+  pub state : StateVerdict
+  pub script : Scripted
+
+-- what a command line comes to, with these files, this verdict on the recording that it names, what is found of its
+-- saved state or its script, and this outcome of the input of the conversion that it asks for
+abbrev pub right_ending : Option Command → Files → Verdict → Findings → Outcome → Ending
+right_ending None files verdict found outcome = Usage
+right_ending (Some (Info rom)) files verdict found outcome = file_ending (files rom) (Shown (header_lines (cart_of rom files)))
+right_ending (Some (RunCart run)) files verdict found outcome = asked_ending run files verdict found.state
+right_ending (Some (RunDemo demo)) files verdict found outcome = if nat_lt last_cycle demo.cycles then TooFar else demo_ending demo
+right_ending (Some (Convert conversion)) files verdict found outcome = convert_ending conversion files outcome
+right_ending (Some (Assemble words)) files verdict found outcome = asm_ending words files
+right_ending (Some (Debug words)) files verdict found outcome = debug_ending words files found.script

@@ -5,7 +5,7 @@ use Rattle.rom_header.specs.declared.cart.CartFault.{CartFault}
 use Rattle.rom_header.specs.declared.cart.CartFault.TheVariants as fault
 use Rattle.md_outer.specs.Outside.{DepotState, Files, Rose, bytes_of}
 use Rattle.md_pads.specs.Recording.{GoesWrongAt, Recorded, Spells, no_frames}
-use Rattle.md_args.specs.Words.{Command, Run, load_name, recording_name, rom_of}
+use Rattle.md_args.specs.Words.{Command, Run, load_name, recording_name, rom_of, script_name}
 use Rattle.md_top.specs.declared.ending.Ending.{Ending}
 use Rattle.md_top.specs.declared.ending.Ending.TheVariants.{ReadFault, TooLong, Short, NoMark, RecordingFault, RecordingTooLong, RecordingWrong, Memory}
 use Rattle.md_top.specs.declared.inputs.Inputs.{Inputs}
@@ -98,4 +98,5 @@ InputCause told run old new ending = CartCause told run.rom old new ending
 abbrev pub IsMissing : Command → Files → Type 0
 IsMissing command files =
     (files (rom_of command) ≡ None)
-    ⊎ (IsSomeAnd (recording_name command) (λ name. files name ≡ None) ⊎ IsSomeAnd (load_name command) (λ name. files name ≡ None))
+    ⊎ (IsSomeAnd (recording_name command) (λ name. files name ≡ None)
+    ⊎ (IsSomeAnd (load_name command) (λ name. files name ≡ None) ⊎ IsSomeAnd (script_name command) (λ name. files name ≡ None)))

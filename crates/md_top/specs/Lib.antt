@@ -3,6 +3,7 @@ pub mod Assemblies
 pub mod Conversions
 pub mod Counts
 pub mod Courses
+pub mod Debuggings
 pub mod Demos
 pub mod Endings
 pub mod Heard

@@ -1,11 +1,12 @@
 use crate::summary::Summary;
 use crate::text::Text;
+use md_debug::DebugFault;
 use md_vgm::VgmFault;
 
 /// What a command line comes to.
 #[derive(Drop)]
 pub(crate) enum Ending {
-    /// The lines of a cartridge's header.
+    /// The lines of a cartridge's header, or the replies to a script of which each line was obeyed.
     Shown(Text),
     /// The run ended well.
     Done {
@@ -30,6 +31,19 @@ pub(crate) enum Ending {
     SourceRefused(u32, u8),
     /// The list of an assembly could not be written.
     ListFault,
+    /// The script of a session could not be read.
+    ScriptFault,
+    /// The script is longer than its limit.
+    ScriptTooLong,
+    /// A line of the script is refused, behind the replies to those before it.
+    ScriptRefused {
+        replies: Text,
+        /// Its number, from 1 on.
+        line: u64,
+        fault: DebugFault,
+    },
+    /// Memory was wanting for a line of the script, behind the replies to those before it.
+    ScriptMemory(Text),
     /// The words ask for nothing that there is.
     Usage,
     /// The run's end lies behind the last cycle.

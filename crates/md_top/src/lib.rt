@@ -4,6 +4,7 @@
 mod assembling;
 mod converting;
 mod course;
+mod debugging;
 mod demo;
 mod digests;
 mod ending;

@@ -5,6 +5,7 @@ ghost use Rattle.md_args.specs.Shown.{shown_command, shown_run};
 
 use crate::assembling::assemble_source;
 use crate::converting::convert_file;
+use crate::debugging::debug_cart;
 use crate::demo::run_demo;
 use crate::ending::Ending;
 use crate::loading::first_machine;
@@ -37,6 +38,7 @@ pub(crate) fn perform<F: Fn(&mut Machine, u64), D: Depot>(
         CommandWords::Demo(demo) => run_demo(alloc, go_on, demo),
         CommandWords::Convert(words) => convert_file(alloc, words, depot),
         CommandWords::Assemble(words) => assemble_source(alloc, words, depot),
+        CommandWords::Debug(words) => debug_cart(alloc, words, depot),
     }
 }
 

@@ -9,6 +9,7 @@ ghost use Rattle.md_args.specs.Shown.{shown_command};
 
 use crate::assembling::refuse_source;
 use crate::converting::refuse_input;
+use crate::debugging::{refuse_rest, refuse_script};
 use crate::ending::Ending;
 use crate::put::{put_three, put_two};
 use crate::report_demo::put_summary;
@@ -62,6 +63,16 @@ pub(crate) fn report<S: Sink>(command: &CommandWords<'_>, ending: Ending, out: &
         Ending::OutputFault => refuse(out, 4, "fault: writing ", command.output(), "\n"),
         Ending::SourceRefused(line, kind) => refuse_source(out, line, kind),
         Ending::ListFault => refuse_file(out, 4, "fault: writing ", command.list(), "\n"),
+        Ending::ScriptFault => refuse_file(out, 3, "fault: reading ", command.script(), "\n"),
+        Ending::ScriptTooLong => {
+            refuse_file(out, 14, "refused: ", command.script(), " is too long\n")
+        }
+        Ending::ScriptRefused {
+            replies,
+            line,
+            fault,
+        } => refuse_script(out, replies.bytes(), line, fault),
+        Ending::ScriptMemory(replies) => refuse_rest(out, replies.bytes()),
         Ending::Unsaved | Ending::Memory => refuse(out, 10, "refused: memory\n", "", ""),
     }
 }
@@ -257,7 +268,7 @@ fn put_numbers<S: Sink>(
 }
 
 /// Puts a line of a word and a number.
-fn put_number<S: Sink>(out: &mut S, word: &str, number: u64) -> Result<(), Failed>
+pub(crate) fn put_number<S: Sink>(out: &mut S, word: &str, number: u64) -> Result<(), Failed>
     ensures { PutsText S.told (number_line word.now number) (S.state out.old) (S.state out.new) result }
 {
     let mut digits = Buffer::new();

@@ -25,7 +25,8 @@ use std::thread::Threads;
 /// written to it, a segment of at most 896,040 cycles after the other; the lines are put into `out`.
 /// `vgm JOURNAL OUT` writes the VGM file of a journal's sound writes, and `play VGM OUT` the sound file of a VGM
 /// file; with `--pal` by the master clock of PAL. `asm SOURCE OUT` assembles a source, with `--list L` for the list
-/// of its instructions.
+/// of its instructions. `debug ROM SCRIPT` puts the replies to the lines of a script of the debugger, at power-on
+/// of the cartridge.
 /// It waits for nobody: whatever `--workers` asks for, one worker makes the run.
 pub fn drive_one<D: Depot, S: Sink>(
     alloc: Global,

@@ -6,6 +6,8 @@ mod assemblies;
 #[cfg(test)]
 mod conversions;
 #[cfg(test)]
+mod debugging;
+#[cfg(test)]
 mod demos;
 #[cfg(test)]
 mod depots;

@@ -15,7 +15,8 @@ fn region_of(pal: bool) -> &'static str {
 /// What was read, as a text: the cartridge, and of a run its count and the names of the recording, of
 /// the frames file, of the sound file and of the journal, and how many workers make it; of a
 /// demonstration cartridge its number, the count and the workers, each with PAL where it is asked for; of a
-/// conversion both names and whether PAL is asked for; of an assembly the names of the source, the image and the list.
+/// conversion both names and whether PAL is asked for; of an assembly the names of the source, the image and the list;
+/// of a session of the debugger those of the cartridge and the script.
 fn told(alloc: Global, read: Option<CommandWords<'_>>) -> Result<String, AllocError> {
     match read {
         None => String::from_str(alloc, "refused"),
@@ -48,13 +49,14 @@ fn told(alloc: Global, read: Option<CommandWords<'_>>) -> Result<String, AllocEr
             words.output,
             name_of(words.list)
         ),
+        Some(CommandWords::Debug(words)) => format!(in alloc; "{} {}", words.rom, words.script),
     }
 }
 
 // Worked out by the rules: options in any order among the other words, each at most once, as two
 // words or with `=`; behind `--` no options; names that are not empty, begin with no hyphen and are
 // pairwise different; numbers of 1 to 20 digits below 2^64.
-static READ: [(&str, &str); 39] = [
+static READ: [(&str, &str); 41] = [
     ("run --pal Z --cycles 5", "Z 5 - - - - 1 PAL"),
     ("run Z --cycles 5 --save S --pal", "Z 5 - - - - 1 PAL"),
     ("demo 7 --pal --cycles 5 --workers 2", "7 5 2 PAL"),
@@ -112,9 +114,11 @@ static READ: [(&str, &str); 39] = [
     ("vgm J --pal -- V", "J V true"),
     ("play vgm play --pal", "vgm play true"),
     ("vgm -- J V", "J V false"),
+    ("debug Z S", "Z S"),
+    ("debug debug -- S", "debug S"),
 ];
 
-static REFUSED: [&str; 102] = [
+static REFUSED: [&str; 107] = [
     "run Z --cycles 5 --pal --load S",
     "run Z --load S --cycles 5 --pal",
     "run Z --cycles 5 --pal --pal",
@@ -217,6 +221,11 @@ static REFUSED: [&str; 102] = [
     "demo seven --cycles 5 --workers 2",
     "demo 18446744073709551616 --cycles 5 --workers 2",
     "demo 7 --cycles 5 --workers 2 --sound W",
+    "debug",
+    "debug Z S T",
+    "debug Z -S",
+    "debug Z ",
+    "debug Z --script S",
 ];
 
 /// What a text reads as.

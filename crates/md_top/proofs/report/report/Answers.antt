@@ -43,3 +43,17 @@ returns-in-SourceRefused g c = rw c.in-SourceRefused.is (c.refuse_source.ensures
 pub returns-in-ListFault : goal.returns-in-ListFault
 returns-in-ListFault g c =
     rw c.in-ListFault.is (c.refuse_file-in-ListFault.ensures.status, rw c.list.ensures at c.refuse_file-in-ListFault.ensures.put)
+
+pub returns-in-ScriptFault : goal.returns-in-ScriptFault
+returns-in-ScriptFault g c =
+    rw c.in-ScriptFault.is (c.refuse_file-in-ScriptFault.ensures.status, rw c.script.ensures at c.refuse_file-in-ScriptFault.ensures.put)
+
+pub returns-in-ScriptTooLong : goal.returns-in-ScriptTooLong
+returns-in-ScriptTooLong g c =
+    rw c.in-ScriptTooLong.is (c.refuse_file-in-ScriptTooLong.ensures.status, rw c.script-in-ScriptTooLong.ensures at c.refuse_file-in-ScriptTooLong.ensures.put)
+
+pub returns-in-ScriptRefused : goal.returns-in-ScriptRefused
+returns-in-ScriptRefused g c = rw c.in-ScriptRefused.is (c.refuse_script.ensures.status, rw c.bytes-in-ScriptRefused.ensures at c.refuse_script.ensures.put)
+
+pub returns-in-ScriptMemory : goal.returns-in-ScriptMemory
+returns-in-ScriptMemory g c = rw c.in-ScriptMemory.is (c.refuse_rest.ensures.status, rw c.bytes-in-ScriptMemory.ensures at c.refuse_rest.ensures.put)

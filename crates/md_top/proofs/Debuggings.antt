@@ -1,0 +1,247 @@
+-- A session of the debugger: what a status tells of its ending.
+use Rattle.std.proofs.Common.{◌≡◌, ◌≢◌, ◌⊎◌, inl, inr, ℕ, ◌<◌, ◌≤◌, Bool, cond, List, [], length, Option, Some, None, refl, sym, ap, subst, ◌∙◌, arith}
+use Rattle.std.specs.Prelude.{IsSomeAnd, unwrap_or}
+use Rattle.md_outer.specs.Outside.{DepotState, Files, GoesOn, Rose}
+use Rattle.md_args.specs.Words.{Assembling, Conversion, Debug, Debugging, Demo, Run}
+use Rattle.debug_script.specs.declared.script.Ending.{Ending as ScriptEnding}
+use Rattle.debug_script.specs.declared.script.Ending.TheVariants.{Obeyed, OutOfMemory, Refused}
+use Rattle.debug_states.specs.Opened.{PlaysScript}
+use Rattle.debug_states.proofs.Scripts.{one_script}
+use Rattle.md_top.specs.Assemblies.{AsmEnds}
+use Rattle.md_top.specs.Conversions.{ConvertEnds}
+use Rattle.md_top.specs.Debuggings.{CanDebug, DebugEnds, IsPlayed, IsRefusedScript, IsScripted, Scripted, played_ending, script_limit}
+use Rattle.md_top.specs.Demos.{DemoEnds}
+use Rattle.md_top.specs.Endings.{InfoEnds, RunEnds, debug_ending, script_ending, status_of}
+use Rattle.md_top.specs.Inputs.{CartCause, IsAccepted, IsMissing, cart_of}
+use Rattle.md_top.specs.declared.ending.Ending.{Ending}
+use Rattle.md_top.specs.declared.ending.Ending.TheVariants.{Behind, DemoDone, FramesFault, InputRefused, JournalFault, ListFault, LoadFault, Memory, OtherCart, OutputFault, ReadFault, RecordingFault, RecordingWrong, SaveFault, ScriptFault, ScriptMemory, ScriptRefused, ScriptTooLong, Shown, SoundFault, SourceRefused, StateWrong, TooFar, Usage}
+use Rattle.md_top.proofs.Kept.{unread_before}
+use Rattle.md_top.proofs.Right.{cart_always, is_below, not_below, right_accepted}
+use Rattle.md_top.proofs.Statuses.{missing_cart}
+
+-- no other command refuses a script
+pub info_script : (told : Type 0) (rom : List ℕ) (old new : DepotState) (ending : Ending) → InfoEnds told rom old new ending → status_of ending ≡ 15 → ⊥
+info_script told rom old new (ScriptRefused replies line fault) cause is = absurd cause
+info_script told rom old new _ cause is = absurd (omega (arith, is))
+
+pub run_script : (told : Type 0) (run : Run) (old new : DepotState) (ending : Ending) → RunEnds told run old new ending → status_of ending ≡ 15 → ⊥
+run_script told run old new (ScriptRefused replies line fault) cause is = absurd cause.1
+run_script told run old new _ cause is = absurd (omega (arith, is))
+
+pub convert_script : (told : Type 0) (conversion : Conversion) (old new : DepotState) (ending : Ending) → ConvertEnds told conversion old new ending → status_of ending ≡ 15 → ⊥
+convert_script told conversion old new (ScriptRefused replies line fault) cause is = absurd cause
+convert_script told conversion old new _ cause is = absurd (omega (arith, is))
+
+pub asm_script : (told : Type 0) (words : Assembling) (old new : DepotState) (ending : Ending) → AsmEnds told words old new ending → status_of ending ≡ 15 → ⊥
+asm_script told words old new (ScriptRefused replies line fault) cause is = absurd cause
+asm_script told words old new _ cause is = absurd (omega (arith, is))
+
+pub demo_script : (demo : Demo) (ending : Ending) → DemoEnds demo ending → status_of ending ≡ 15 → ⊥
+demo_script demo (DemoDone summary) ends is = omega (arith, is)
+demo_script demo (Behind from) ends is = omega (arith, is)
+demo_script demo Memory ends is = omega (arith, is)
+demo_script demo TooFar ends is = omega (arith, is)
+demo_script demo _ ends is = absurd ends
+
+module _ (told : Type 0) (words : Debugging) (old new : DepotState) where
+  abbrev Ends : Ending → Type 0
+  Ends ending = DebugEnds told words old new ending
+
+  -- why a session may end with each status
+  pub debug_usage : (ending : Ending) → Ends ending → status_of ending ≡ 2 → ⊥
+  debug_usage Usage cause is = absurd cause
+  debug_usage _ cause is = absurd (omega (arith, is))
+
+  pub debug_far : (ending : Ending) → Ends ending → status_of ending ≡ 11 → ⊥
+  debug_far TooFar cause is = absurd cause
+  debug_far _ cause is = absurd (omega (arith, is))
+
+  pub debug_read_fault : (ending : Ending) → Ends ending → status_of ending ≡ 3 → Rose old.read_faults new.read_faults ⊎ (told × IsMissing (Debug words) old.files)
+  debug_read_fault ReadFault cause is = missing_cart told (Debug words) old.files inl cause
+  debug_read_fault ScriptFault cause is = missing_cart told (Debug words) old.files (λ none. inr (inr (inr none))) cause.1
+  debug_read_fault RecordingFault cause is = absurd cause
+  debug_read_fault LoadFault cause is = absurd cause
+  debug_read_fault _ cause is = absurd (omega (arith, is))
+
+  pub debug_wrong : (ending : Ending) → Ends ending → status_of ending ≡ 6 → ⊥
+  debug_wrong (RecordingWrong place) cause is = absurd cause
+  debug_wrong _ cause is = absurd (omega (arith, is))
+
+  pub debug_state : (ending : Ending) → Ends ending → status_of ending ≡ 7 → ⊥
+  debug_state (StateWrong place) cause is = absurd cause
+  debug_state _ cause is = absurd (omega (arith, is))
+
+  pub debug_other : (ending : Ending) → Ends ending → status_of ending ≡ 8 → ⊥
+  debug_other (OtherCart kept given) cause is = absurd cause
+  debug_other _ cause is = absurd (omega (arith, is))
+
+  pub debug_behind : (ending : Ending) → Ends ending → status_of ending ≡ 9 → ⊥
+  debug_behind (Behind from) cause is = absurd cause
+  debug_behind _ cause is = absurd (omega (arith, is))
+
+  pub debug_input : (ending : Ending) → Ends ending → status_of ending ≡ 17 → ⊥
+  debug_input (InputRefused fault) cause is = absurd cause
+  debug_input _ cause is = absurd (omega (arith, is))
+
+  pub debug_source : (ending : Ending) → Ends ending → status_of ending ≡ 16 → ⊥
+  debug_source (SourceRefused line kind) cause is = absurd cause
+  debug_source _ cause is = absurd (omega (arith, is))
+
+  pub debug_refused : (ending : Ending) → Ends ending → status_of ending ≡ 15 → IsRefusedScript told words old.files
+  debug_refused (ScriptRefused replies line fault) cause is = (replies, line, fault, cause)
+  debug_refused _ cause is = absurd (omega (arith, is))
+
+  pub debug_write_fault : (ending : Ending) → Ends ending → status_of ending ≡ 4 → Rose old.write_faults new.write_faults
+  debug_write_fault OutputFault cause is = absurd cause
+  debug_write_fault ListFault cause is = absurd cause
+  debug_write_fault FramesFault cause is = absurd cause
+  debug_write_fault SoundFault cause is = absurd cause
+  debug_write_fault JournalFault cause is = absurd cause
+  debug_write_fault SaveFault cause is = absurd cause
+  debug_write_fault _ cause is = absurd (omega (arith, is))
+
+-- ---- without a fault
+
+-- what a session comes to hangs on what its script comes to, or not
+abbrev pub IsDebugRight : Debugging → Files → ℕ → Type 0
+IsDebugRight words files status =
+    (script : Scripted)
+    × (IsScripted (Some words) files script ⊎ ((other : Scripted) → debug_ending words files other ≡ debug_ending words files script))
+    × (status ≡ status_of (debug_ending words files script))
+
+nothing : Scripted
+nothing = record { replies = []; ending = Obeyed }
+
+-- it does not
+debug_without : (words : Debugging) (files : Files) (right ending : Ending) → ((script : Scripted) → debug_ending words files script ≡ right) → status_of ending ≡ status_of right
+    → IsDebugRight words files (status_of ending)
+debug_without words files right ending always is =
+    (nothing, inr (λ other. always other ∙ sym (always nothing)), is ∙ sym (ap status_of (always nothing)))
+
+script_missing : (file : Option (List ℕ)) (script : Scripted) → file ≡ None → script_ending file script ≡ ScriptFault
+script_missing file script none = ap (λ (f : Option (List ℕ)). script_ending f script) none
+
+script_long : (file : Option (List ℕ)) (script : Scripted) → IsSomeAnd file (λ bytes. script_limit < length bytes) → script_ending file script ≡ ScriptTooLong
+script_long None script long = absurd long
+script_long (Some bytes) script long =
+    ap (λ (b : Bool). cond b ScriptTooLong (played_ending script.replies script.ending)) (is_below script_limit (length bytes) long)
+
+-- the script that is played
+script_played : (file : Option (List ℕ)) (cart replies : List ℕ) (ending : ScriptEnding) → IsSomeAnd file (λ script. (length script ≤ script_limit) × PlaysScript cart script replies ending)
+    → (script_ending file (record { replies = replies; ending = ending }) ≡ played_ending replies ending) × PlaysScript cart (unwrap_or file []) replies ending
+script_played None cart replies ending played = absurd played
+script_played (Some bytes) cart replies ending (within, plays) =
+    (ap (λ (b : Bool). cond b ScriptTooLong (played_ending replies ending)) (not_below script_limit (length bytes) within), plays)
+
+debug_played : (words : Debugging) (files : Files) (replies : List ℕ) (ending : ScriptEnding) → IsPlayed words files replies ending
+    → debug_ending words files (record { replies = replies; ending = ending }) ≡ played_ending replies ending
+debug_played words files replies ending (accepted, played) =
+    right_accepted (files words.rom) _ accepted ∙ (script_played (files words.script) (cart_of words.rom files) replies ending played).0
+
+debug_with : (words : Debugging) (files : Files) (replies : List ℕ) (ending : ScriptEnding) → IsPlayed words files replies ending → ending ≢ OutOfMemory
+    → IsDebugRight words files (status_of (played_ending replies ending))
+debug_with words files replies ending played memory = (
+  record { replies = replies; ending = ending },
+  inl ((script_played (files words.script) (cart_of words.rom files) replies ending played.1).1, memory),
+  sym (ap status_of (debug_played words files replies ending played)),
+)
+
+not_obeyed : ◌≡◌ {A = ScriptEnding} Obeyed OutOfMemory → ⊥
+not_obeyed same = cc
+
+not_refused : (line : ℕ) (fault : _) → ◌≡◌ {A = ScriptEnding} (Refused line fault) OutOfMemory → ⊥
+not_refused line fault same = cc
+
+debug_cart : (told : Type 0) (words : Debugging) (old new : DepotState) (ending : Ending) → CartCause told words.rom old new ending
+    → ¬ Rose old.read_faults new.read_faults → told → IsDebugRight words old.files (status_of ending) ⊎ (status_of ending ≡ 10)
+debug_cart told words old new ending cause clean t = elim (cart_always told words.rom old new ending cause clean t) [
+  | inl always ↦ inl (debug_without words old.files always.0 ending (λ script. always.1 (script_ending (old.files words.script) script)) always.2)
+  | inr memory ↦ inr memory
+]
+
+pub debug_right : (told : Type 0) (words : Debugging) (old new : DepotState) (ending : Ending) → DebugEnds told words old new ending
+    → ¬ Rose old.read_faults new.read_faults → told → IsDebugRight words old.files (status_of ending) ⊎ (status_of ending ≡ 10)
+debug_right told words old new (Shown replies) cause clean t = inl (debug_with words old.files replies Obeyed (cause t) not_obeyed)
+debug_right told words old new (ScriptRefused replies line fault) cause clean t =
+    inl (debug_with words old.files replies (Refused line fault) (cause t) (not_refused line fault))
+debug_right told words old new (ScriptMemory replies) cause clean t = inr refl
+debug_right told words old new ScriptFault (accepted, inl rose) clean t = absurd (clean rose)
+debug_right told words old new ScriptFault (accepted, inr missing) clean t =
+    inl (debug_without words old.files ScriptFault ScriptFault
+    (λ script. right_accepted (old.files words.rom) _ (accepted t) ∙ script_missing (old.files words.script) script missing.1) refl)
+debug_right told words old new ScriptTooLong (accepted, long) clean t =
+    inl (debug_without words old.files ScriptTooLong ScriptTooLong
+    (λ script. right_accepted (old.files words.rom) _ (accepted t) ∙ script_long (old.files words.script) script (long t)) refl)
+debug_right told words old new other cause clean t = debug_cart told words old new other cause clean t
+
+-- ---- each line is obeyed
+
+script_obeyed : (file : Option (List ℕ)) (cart replies others : List ℕ) (line : ℕ) (fault : _)
+    → IsSomeAnd file (λ script. (length script ≤ script_limit) × PlaysScript cart script replies Obeyed)
+    → IsSomeAnd file (λ script. (length script ≤ script_limit) × PlaysScript cart script others (Refused line fault)) → ⊥
+script_obeyed None cart replies others line fault all refused = all
+script_obeyed (Some bytes) cart replies others line fault all refused =
+    let same = (one_script cart bytes replies others Obeyed (Refused line fault) all.1 refused.1 not_obeyed (not_refused line fault)).1 in
+    cc
+
+script_there : (file : Option (List ℕ)) (P : List ℕ → Type 0) → IsSomeAnd file P → file ≡ None → ⊥
+script_there None P held none = held
+script_there (Some bytes) P held none = cc
+
+script_within : (file : Option (List ℕ)) (P : List ℕ → Type 0) → IsSomeAnd file (λ script. (length script ≤ script_limit) × P script) → IsSomeAnd file (λ script. script_limit < length script) → ⊥
+script_within None P held long = held
+script_within (Some bytes) P held long = omega (arith, held.0, long)
+
+cart_there : (told : Type 0) (words : Debugging) (old new : DepotState) (ending : Ending) → IsAccepted (old.files words.rom) → CartCause told words.rom old new ending
+    → ¬ Rose old.read_faults new.read_faults → told → (status_of ending ≡ 0) ⊎ (status_of ending ≡ 10)
+cart_there told words old new ending accepted cause clean t = elim (cart_always told words.rom old new ending cause clean t) [
+  | inl always ↦
+      inl (always.2 ∙ sym (ap status_of (always.1 (Shown []))) ∙ ap status_of (right_accepted (old.files words.rom) (Shown []) accepted))
+  | inr memory ↦ inr memory
+]
+
+pub debug_done : (told : Type 0) (words : Debugging) (old new : DepotState) (ending : Ending) → CanDebug words old.files → DebugEnds told words old new ending
+    → ¬ Rose old.read_faults new.read_faults → told → (status_of ending ≡ 0) ⊎ (status_of ending ≡ 10)
+debug_done told words old new (Shown replies) ready cause clean t = inl refl
+debug_done told words old new (ScriptRefused replies line fault) ready cause clean t =
+    absurd (script_obeyed (old.files words.script) (cart_of words.rom old.files) ready.0 replies line fault ready.1.1 (cause t).1)
+debug_done told words old new (ScriptMemory replies) ready cause clean t = inr refl
+debug_done told words old new ScriptFault ready (accepted, inl rose) clean t = absurd (clean rose)
+debug_done told words old new ScriptFault ready (accepted, inr missing) clean t = absurd (script_there (old.files words.script) _ ready.1.1 missing.1)
+debug_done told words old new ScriptTooLong ready (accepted, long) clean t = absurd (script_within (old.files words.script) _ ready.1.1 (long t))
+debug_done told words old new other ready cause clean t = cart_there told words old new other ready.1.0 cause clean t
+
+-- ---- what was fetched
+
+-- why a session ends behind its cartridge
+pub played_cause : (told : Type 0) (words : Debugging) (old new : DepotState) (cart script replies : List ℕ) (ending : ScriptEnding)
+    → (told → IsAccepted (old.files words.rom) × (cart ≡ cart_of words.rom old.files)) → (told → old.files words.script ≡ Some script) → length script ≤ script_limit
+    → PlaysScript cart script replies ending → DebugEnds told words old new (played_ending replies ending)
+played_cause told words old new cart script replies ending found is within plays = by ending (λ t. (
+  (found t).0,
+  subst (λ (f : Option (List ℕ)). IsSomeAnd f (λ s. (length s ≤ script_limit) × PlaysScript (cart_of words.rom old.files) s replies ending)) (sym (is t))
+      (within, subst (λ (c : List ℕ). PlaysScript c script replies ending) (found t).1 plays),
+))
+  where
+    by : (e : ScriptEnding) → (told → IsPlayed words old.files replies e) → DebugEnds told words old new (played_ending replies e)
+    by Obeyed played = played
+    by (Refused line fault) played = played
+    by OutOfMemory played = played
+
+pub unread_cause : (told : Type 0) (words : Debugging) (old mid new : DepotState) → (told → IsAccepted (old.files words.rom)) → (told → mid.files ≡ old.files) → GoesOn old mid
+    → Rose mid.read_faults new.read_faults ⊎ (told × (mid.files words.script ≡ None)) → DebugEnds told words old new ScriptFault
+unread_cause told words old mid new accepted same on cause = (accepted, unread_before told words.script old mid new same on cause)
+
+pub long_cause : (told : Type 0) (words : Debugging) (old mid new : DepotState) → (told → IsAccepted (old.files words.rom)) → (told → mid.files ≡ old.files)
+    → (told → IsSomeAnd (mid.files words.script) (λ script. script_limit < length script)) → DebugEnds told words old new ScriptTooLong
+long_cause told words old mid new accepted same long =
+    (accepted, λ t. subst (λ (files : Files). IsSomeAnd (files words.script) (λ script. script_limit < length script)) (same t) (long t))
+
+-- why a session has no cartridge
+pub cart_ends : (told : Type 0) (words : Debugging) (old new : DepotState) (ending : Ending) → CartCause told words.rom old new ending → DebugEnds told words old new ending
+cart_ends told words old new (Shown lines) cause = absurd cause
+cart_ends told words old new (ScriptRefused replies line fault) cause = absurd cause
+cart_ends told words old new (ScriptMemory replies) cause = absurd cause
+cart_ends told words old new ScriptFault cause = absurd cause
+cart_ends told words old new ScriptTooLong cause = absurd cause
+cart_ends told words old new _ cause = cause

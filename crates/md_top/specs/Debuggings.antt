@@ -1,0 +1,68 @@
+-- How a session of the debugger ends: its causes and what is put.
+use Rattle.std.specs.Prelude.{◌≡◌, ◌≢◌, ◌⊎◌, ℕ, ◌<◌, ◌≤◌, List, ◌++◌, length, codes, decimal, Option, Some, None, IsSomeAnd}
+use Rattle.md_outer.specs.Outside.{DepotState, Files, Rose, bytes_of}
+use Rattle.md_args.specs.Words.{Debugging}
+use Rattle.md_debug.specs.declared.fault.DebugFault.{DebugFault}
+use Rattle.md_debug.specs.declared.fault.DebugFault.TheVariants.{BadNumber, NoMemory, NotKept, UnknownWord}
+use Rattle.debug_script.specs.declared.script.Ending.{Ending as ScriptEnding}
+use Rattle.debug_script.specs.declared.script.Ending.TheVariants.{Obeyed, OutOfMemory, Refused}
+use Rattle.debug_states.specs.Opened.{PlaysScript}
+use Rattle.md_top.specs.Inputs.{CartCause, IsAccepted, cart_of}
+use Rattle.md_top.specs.declared.ending.Ending.{Ending}
+use Rattle.md_top.specs.declared.ending.Ending.TheVariants.{ScriptFault, ScriptMemory, ScriptRefused, ScriptTooLong, Shown}
+
+-- the greatest length of a script
+abbrev pub script_limit : ℕ
+script_limit = 65536
+
+-- the end of the line of a script that is refused
+abbrev pub fault_text : DebugFault → List ℕ
+fault_text UnknownWord = codes ": unknown word\n"
+fault_text BadNumber = codes ": bad number\n"
+fault_text (NotKept oldest) = codes ": not kept, oldest " ++ decimal oldest ++ codes "\n"
+fault_text NoMemory = codes ": memory\n"
+
+-- the line of a script that is refused
+abbrev pub script_line : ℕ → DebugFault → List ℕ
+script_line line fault = (codes "refused: script line " ++ decimal line) ++ fault_text fault
+
+-- what a script comes to, as an ending
+abbrev pub played_ending : List ℕ → ScriptEnding → Ending
+played_ending replies Obeyed = Shown replies
+played_ending replies (Refused line fault) = ScriptRefused replies line fault
+played_ending replies OutOfMemory = ScriptMemory replies
+
+-- the cartridge is accepted and the script held, within its limit; its lines come to these replies and this ending
+abbrev pub IsPlayed : Debugging → Files → List ℕ → ScriptEnding → Type 0
+IsPlayed words held replies ending =
+    IsAccepted (held words.rom) × IsSomeAnd (held words.script) (λ script. (length script ≤ script_limit) × PlaysScript (cart_of words.rom held) script replies ending)
+
+-- Why a session ends. Each cause says that the earlier ones do not stand.
+abbrev pub DebugEnds : Type 0 → Debugging → DepotState → DepotState → Ending → Type 0
+DebugEnds told words old new (Shown replies) = told → IsPlayed words old.files replies Obeyed
+DebugEnds told words old new (ScriptRefused replies line fault) = told → IsPlayed words old.files replies (Refused line fault)
+DebugEnds told words old new (ScriptMemory replies) = told → IsPlayed words old.files replies OutOfMemory
+DebugEnds told words old new ScriptFault =
+    (told → IsAccepted (old.files words.rom)) × (Rose old.read_faults new.read_faults ⊎ (told × (old.files words.script ≡ None)))
+DebugEnds told words old new ScriptTooLong =
+    (told → IsAccepted (old.files words.rom)) × (told → IsSomeAnd (old.files words.script) (λ script. script_limit < length script))
+DebugEnds told words old new ending = CartCause told words.rom old new ending
+
+-- the cartridge is accepted, the script is held, and each of its lines is obeyed
+abbrev pub CanDebug : Debugging → Files → Type 0
+CanDebug words held = (replies : List ℕ) × IsPlayed words held replies Obeyed
+
+-- a line of the script is the first that is refused
+abbrev pub IsRefusedScript : Type 0 → Debugging → Files → Type 0
+IsRefusedScript told words held = (replies : List ℕ) × (line : ℕ) × (fault : DebugFault) × (told → IsPlayed words held replies (Refused line fault))
+
+-- what the lines of a script come to: the replies and the ending
+pub record Scripted : Type 0 where
+  pub replies : List ℕ
+  pub ending : ScriptEnding
+
+-- the lines of the script of a session come to this, if one is asked for, with memory for all of them
+abbrev pub IsScripted : Option Debugging → Files → Scripted → Type 0
+IsScripted None held script = Unit {0}
+IsScripted (Some words) held script =
+    PlaysScript (cart_of words.rom held) (bytes_of held words.script) script.replies script.ending × (script.ending ≢ OutOfMemory)
