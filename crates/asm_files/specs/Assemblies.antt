@@ -4,6 +4,7 @@ use Rattle.md_outer.specs.Outside.{DepotState, Files, IsPrefix, Rose, with_file}
 use Rattle.md_asm.specs.Assembly as assembly
 use Rattle.md_asm.specs.Assembly.{Assembly}
 use Rattle.md_asm.specs.declared.placed.Placed.{Placed}
+use Rattle.assembly_laws.specs.Lines.{SaysLines}
 use Rattle.md_args.specs.Words.{Assembling}
 use Rattle.asm_files.specs.Lists.{list_of}
 use Rattle.asm_files.specs.declared.comes.Comes.{Comes}
@@ -53,12 +54,16 @@ LeavesParts words old new =
     (new ≡ old)
     ⊎ ((image : List ℕ) × (lines : List Placed) × IsFound (old words.source) (assembly.Done image lines) × HoldsParts words old new image (list_of image lines))
 
--- What the files hold then: the outputs the image and its list, where they were written; parts of them, or what
+-- an image says the lines of a source that is held
+abbrev pub SaysSource : Option (List ℕ) → List ℕ → List Placed → Type 0
+SaysSource source image lines = IsSomeAnd source (λ bytes. SaysLines bytes image lines)
+
+-- What the files hold then: the outputs the image, which says the lines of its source, and its list, where they were written; parts of them, or what
 -- they held, where a write failed or memory was wanting; and all others what they held
 abbrev pub LeavesFiles : Assembling → Files → Files → Comes → Type 0
 LeavesFiles words old new (Made size) =
     (image : List ℕ) × (lines : List Placed) × IsFound (old words.source) (assembly.Done image lines) × (size ≡ length image)
-    × (new ≡ with_both words old image (list_of image lines))
+    × (new ≡ with_both words old image (list_of image lines)) × SaysSource (old words.source) image lines
 LeavesFiles words old new Unwritten = LeavesParts words old new
 LeavesFiles words old new Unlisted = LeavesParts words old new
 LeavesFiles words old new NoMemory = LeavesParts words old new

@@ -5,6 +5,7 @@ ghost use Rattle.asm_files.specs.Assemblies.{HasCause, LeavesFiles};
 use crate::comes::Comes;
 use crate::listing::list_of;
 use crate::writing::write_both;
+use assembly_laws::laws::image_says_its_lines;
 use md_args::AsmWords;
 use md_asm::{AsmFault, assemble};
 use md_outer::{Depot, Fetch};
@@ -31,8 +32,10 @@ pub fn assemble_file<D: Depot>(alloc: Global, words: &AsmWords<'_>, depot: &mut 
         Err(AsmFault::Line { line, kind }) => return Comes::Refused(line, kind),
         Err(AsmFault::NoMemory) => return Comes::NoMemory,
     };
-    match list_of(alloc, assembled.image(), assembled.lines()) {
-        Ok(list) => write_both(alloc, words, assembled.image(), list.as_bytes(), depot),
+    let image = assembled.image();
+    image_says_its_lines(image);
+    match list_of(alloc, image, assembled.lines()) {
+        Ok(list) => write_both(alloc, words, image, list.as_bytes(), depot),
         Err(_) => Comes::NoMemory,
     }
 }

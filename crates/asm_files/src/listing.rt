@@ -1,6 +1,7 @@
 ghost use Rattle.std.specs.Prelude.{◌≡◌, ◌++◌, ◌<◌, IfOk, IsTrue, codes, string_bytes, true};
 ghost use Rattle.md_disasm.specs.Appends.{Appends};
 ghost use Rattle.asm_files.specs.Lists as lists;
+ghost use Rattle.assembly_laws.specs.Places as places;
 
 use crate::reading::{bytes_from, words_from};
 use m68k_decode::decode as decode68;
@@ -12,7 +13,7 @@ use z80_decode::decode as decode80;
 
 /// The text of the instruction at a place of an image, at its address.
 fn text_at(alloc: Global, image: &[u8], placed: &Placed) -> Result<String, NoMemory>
-    ensures { IfOk result (λ text. string_bytes text ≡ lists.text_at placed.now.z80 image.now placed.now.place placed.now.address) }
+    ensures { IfOk result (λ text. string_bytes text ≡ places.text_at placed.now.z80 image.now placed.now.place placed.now.address) }
 {
     if placed.z80 {
         let decoded = decode80(&bytes_from(image, placed.place));

@@ -1,5 +1,5 @@
 ghost use Rattle.std.specs.Prelude.{◌≡◌, ◌<◌, ◌+◌, ◌^◌, slice_index};
-ghost use Rattle.asm_files.specs.Lists as lists;
+ghost use Rattle.assembly_laws.specs.Places as places;
 
 /// The byte of an image at a place; behind its end it is 0.
 fn byte_at(image: &[u8], place: usize) -> u8
@@ -11,14 +11,14 @@ fn byte_at(image: &[u8], place: usize) -> u8
 /// The word of an image at a place.
 fn word_at(image: &[u8], place: usize) -> u16
     requires { place < 2 ^ 40 }
-    ensures { result ≡ lists.word_at image.now place }
+    ensures { result ≡ places.word_at image.now place }
 {
     u16::from(byte_at(image, place)) * 256 + u16::from(byte_at(image, place + 1))
 }
 
 /// The five words of an instruction of the 68000 at a place.
 pub(crate) fn words_from(image: &[u8], place: u32) -> [u16; 5]
-    ensures { result ≡ lists.words_from image.now place }
+    ensures { result ≡ places.words_from image.now place }
 {
     let first = place as usize;
     [
@@ -32,7 +32,7 @@ pub(crate) fn words_from(image: &[u8], place: u32) -> [u16; 5]
 
 /// The four bytes of an instruction of the Z80 at a place.
 pub(crate) fn bytes_from(image: &[u8], place: u32) -> [u8; 4]
-    ensures { result ≡ lists.bytes_from image.now place }
+    ensures { result ≡ places.bytes_from image.now place }
 {
     let first = place as usize;
     [

@@ -20,9 +20,11 @@ use Rattle.md_asm.specs.Held.{AreHeld, IsAddress, IsHeld, Stands}
 use Rattle.md_asm.specs.Rounds.{Slot}
 use Rattle.md_asm.specs.declared.placed.Placed.{Placed}
 use Rattle.md_asm.proofs.Held.{holds_lines}
+use Rattle.asm_laws.proofs.MainChosen as main_chosen
+use Rattle.asm_laws.proofs.SubChosen as sub_chosen
 use Rattle.asm_laws.proofs.SubTexts as sub_laws
 use Rattle.asm_laws.proofs.Texts as main_laws
-use Rattle.assembly_laws.specs.Lines.{AreSaid, IsSaid, SaysLines}
+use Rattle.assembly_laws.specs.Lines.{AreSaid, IsSaid, IsWritten, SaysLines}
 use Rattle.assembly_laws.specs.Places.{bytes_from, text_at, word_at, words_from}
 
 -- ---- what an instruction comes to is what is found for it
@@ -184,10 +186,22 @@ said_by false image place at said bytes all below stands is =
     ap (λ (l : List ℕ). pieces (main_texts.text_of (main.decoded l) at)) begins.whole
     ∙ main_laws.keeps_text said found.0 begins.rest at own below found.1
 
+written_by : (z80 : Bool) (image : List ℕ) (place at : ℕ) (said : List Piece) (bytes : List ℕ) → AreBytes image → IsAddress z80 at → Stands image place bytes
+    → code z80 said at ≡ Some bytes → IsWritten z80 bytes said at
+written_by true image place at said bytes all below stands is = sub_chosen.chosen said bytes at (stand_bytes image place bytes all stands) below is
+written_by false image place at said bytes all below stands is =
+    let found = mapped (main_code said at) bytes is in
+    let stood : Stands image place (in_bytes found.0) = subst (λ (l : List ℕ). Stands image place l) found.2 stands in
+    (found.0, found.2, main_chosen.least said found.0 at (words_are found.0 (stand_bytes image place (in_bytes found.0) all stood)) below found.1)
+
 slot_said : (image : List ℕ) (names : Names) (slot : Slot) → AreBytes image → IsHeld image names slot → is_instruction slot.body ≡ true → IsSaid image names slot
 slot_said image names slot all is instruction =
-    said_by slot.sub image slot.place slot.address (resolved names (pieces slot.text)) is.bytes all is.addressed is.stands
-    (code_of slot.sub slot.body slot.long (resolved names (pieces slot.text)) slot.address is.bytes instruction is.settled)
+    let own = code_of slot.sub slot.body slot.long (resolved names (pieces slot.text)) slot.address is.bytes instruction is.settled in record {
+      text = said_by slot.sub image slot.place slot.address (resolved names (pieces slot.text)) is.bytes all is.addressed is.stands own;
+      bytes = is.bytes;
+      stands = is.stands;
+      chosen = written_by slot.sub image slot.place slot.address (resolved names (pieces slot.text)) is.bytes all is.addressed is.stands own;
+    }
 
 slots_said : (image : List ℕ) (names : Names) (slots : List Slot) → AreBytes image → AreHeld image names slots → AreSaid image names slots
 slots_said image names [] all held = tt

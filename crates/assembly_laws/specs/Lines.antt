@@ -1,16 +1,28 @@
 -- What the lines of a source say of its image.
-use Rattle.std.specs.Prelude.{ℕ, ◌≡◌, true, List, [], ◌∷◌}
-use Rattle.md_asm_text.specs.Pieces.{pieces}
+use Rattle.std.specs.Prelude.{ℕ, ◌≡◌, Bool, true, false, List, [], ◌∷◌}
+use Rattle.md_asm_text.specs.Pieces.{Piece, pieces}
 use Rattle.md_asm_line.specs.Texts.{lines as lines_of}
+use Rattle.md_asm_code.specs.Codes.{in_bytes}
 use Rattle.md_asm_code.specs.Numbers.{Names, resolved}
+use Rattle.asm_laws.specs.Chosen.{AreChosen, AreLeast}
 use Rattle.md_asm.specs.Assembly.{is_instruction, placed}
+use Rattle.md_asm.specs.Held.{Stands}
 use Rattle.md_asm.specs.Rounds.{Read, Round, Slot, round_one, start}
 use Rattle.md_asm.specs.declared.placed.Placed.{Placed}
 use Rattle.assembly_laws.specs.Places.{text_at}
 
--- what is decoded at a line's place has at its address the line's text: the same pieces, with the value of each name
-abbrev pub IsSaid : List ℕ → Names → Slot → Type 0
-IsSaid image names slot = pieces (text_at slot.sub image slot.place slot.address) ≡ resolved names (pieces slot.text)
+-- bytes are those of an instruction that is written at an address: of all that have its text they are chosen
+abbrev pub IsWritten : Bool → List ℕ → List Piece → ℕ → Type 0
+IsWritten true bytes said at = AreChosen bytes said at
+IsWritten false bytes said at = (words : List ℕ) × (bytes ≡ in_bytes words) × AreLeast words said at
+
+-- what is decoded at a line's place has at its address the line's text: the same pieces, with the value of each name;
+-- and of all bytes that have it, those that are chosen stand there
+pub record IsSaid (image : List ℕ) (names : Names) (slot : Slot) : Type 0 where
+  pub text : pieces (text_at slot.sub image slot.place slot.address) ≡ resolved names (pieces slot.text)
+  pub bytes : List ℕ
+  pub stands : Stands image slot.place bytes
+  pub chosen : IsWritten slot.sub bytes (resolved names (pieces slot.text)) slot.address
 
 -- so it is for each line that is an instruction
 abbrev pub AreSaid : List ℕ → Names → List Slot → Type 0

@@ -14,7 +14,8 @@ fn known_bytes(image: &[u8])
 }
 
 /// In the image of a source each line that is an instruction stands at its place: what is decoded there has, at its
-/// address, the text of the line, each name replaced by its number.
+/// address, the text of the line, each name replaced by its number; and of all bytes that have it the chosen ones stand
+/// there.
 pub fn image_says_its_lines(image: &[u8])
     ensures { (source : List ℕ) (lines : List Placed) → assembly source ≡ Done image.now lines → SaysLines source image.now lines }
 {

@@ -144,7 +144,7 @@ parts_other words old new (inr (image, lines, found, holds)) name differ apart =
 
 pub assembled_other : (words : Assembling) (old new : Files) (ending : Ending) → AsmFiles words old new ending
     → (name : List ℕ) → words.output ≢ name → words.list ≢ Some name → new name ≡ old name
-assembled_other words old new (Converted size) (image, lines, found, long, leaves) name differ apart =
+assembled_other words old new (Converted size) (image, lines, found, long, leaves, said) name differ apart =
     ap (λ (held : Files). held name) leaves ∙ both_other words old image _ name differ apart
 assembled_other words old new OutputFault leaves name differ apart = parts_other words old new leaves name differ apart
 assembled_other words old new ListFault leaves name differ apart = parts_other words old new leaves name differ apart
