@@ -1,0 +1,3 @@
+pub mod RecordedBoard
+pub mod RecordedMoves
+pub mod RecordedRuns
