@@ -1,0 +1,130 @@
+-- What an advance needs and leaves.
+use Rattle.std.proofs.Common.{◌≡◌, ◌≢◌, ◌∙◌, refl, sym, ap, subst, false, ℕ, ◌+◌, ◌-◌, ◌<◌, ◌≤◌, List, [], ◌∷◌, ◌++◌, length, get_or, map, take, drop, arith}
+use Rattle.std.specs.Global.{Vec}
+use Rattle.std.proofs.lemmas.List.{take_all}
+use Rattle.std.specs.Prelude.{reverse}
+use Rattle.md_pads.specs.Recording.{Frame, IsRecording, no_frames}
+use Rattle.md_machine.specs.Console.{Console, journal, media, power_on, ran}
+use Rattle.md_machine.specs.Machines.{MachineValue}
+use Rattle.md_machine.specs.Media.{no_media}
+use Rattle.md_reached.specs.Reached.{IsReached}
+use Rattle.rollback_inputs.specs.Inputs.{AreInputs, InputsValue, IsFixed, expected_frames, frame_at, most_frames, recording_of}
+use Rattle.md_rollback.specs.Played.{AreImagesOf, IsImageOf, IsMachineOf, IsPlayed, KeepsReached}
+use Rattle.md_rollback.specs.Sessions.{IsSession}
+use Rattle.rollback_inputs.proofs.Expected.{frames-long, frames-small}
+use Rattle.rollback_inputs.proofs.FixedFrames.{back-within, fixed-next}
+use Rattle.md_rollback.proofs.Kept.{image-with, images-next}
+
+pub may-be-recorded : (inputs : InputsValue) (n : ℕ) (expected : List Frame) → AreInputs inputs → n ≤ 36000 → expected ≡ expected_frames inputs.local inputs.remote n → IsRecording (recording_of expected)
+may-be-recorded inputs n expected known few all =
+    subst (λ (x : List Frame). IsRecording (recording_of x)) (sym all) (record {
+      few = omega (arith, few, frames-long inputs.local inputs.remote n);
+      words = frames-small inputs.local inputs.remote known.local_buttons known.remote_buttons n;
+    })
+
+-- what is known where the first frame that was played otherwise was found
+pub record Found (inputs : InputsValue) (played expected : List Frame) (right : ℕ) : Type 0 where
+  pub all : expected ≡ expected_frames inputs.local inputs.remote (length played + 1)
+  pub within : right ≤ length played
+  pub same : (f : ℕ) → f < right → frame_at played f ≡ frame_at expected f
+  pub differs : right < length played → frame_at played right ≢ frame_at expected right
+
+module _ (cart : List ℕ) (spelling : ℕ → Console → List ℕ) (is_ready is_own : ℕ → Console → Type 0) (window : ℕ) (inputs : InputsValue) (played expected : List Frame)
+    (kept : List (List ℕ)) (machine : MachineValue) (right : ℕ)
+    (session : IsSession cart spelling is_ready is_own window inputs played kept machine) (found : Found inputs played expected right) where
+  pub expected-long : length expected ≡ length played + 1
+  expected-long = ap length found.all ∙ frames-long inputs.local inputs.remote (length played + 1)
+
+  pub back-near : length played ≤ right + window
+  back-near =
+      back-within inputs.local inputs.remote played window right session.some session.fixed
+      (λ less. subst (λ (x : List Frame). frame_at played right ≢ frame_at x right) found.all (found.differs less))
+
+  pub back-few : length played - right < length kept
+  back-few = omega (arith, back-near, found.within, session.images.count)
+
+  pub image-here : IsImageOf cart spelling is_own expected right (get_or kept (length played - right) [])
+  image-here =
+      let place : length played - (length played - right) ≡ right = omega (arith, found.within) in
+      image-with cart spelling is_own played expected right (get_or kept (length played - right) []) found.same
+      (subst (λ (n : ℕ). IsImageOf cart spelling is_own played n (get_or kept (length played - right) [])) place
+      (session.images.each (length played - right) back-few))
+
+  pub session-next : (new : MachineValue) (newer : List (List ℕ)) → AreInputs inputs → length played < most_frames → length played < inputs.confirmed + window
+      → IsPlayed cart expected (length expected) new → right + length newer ≡ length expected → AreImagesOf cart spelling is_own expected (right + 1) newer
+      → IsSession cart spelling is_ready is_own window inputs expected (take (window + 1) (reverse newer ++ drop (length played - right) kept)) new
+  session-next new newer known room order made count fresh = record {
+    some = session.some;
+    most = session.most;
+    few = omega (arith, expected-long, room);
+    keeps = session.keeps;
+    played_is = made;
+    images = images-next cart spelling is_own window right played expected kept newer expected-long found.within back-near found.same session.images (count ∙ expected-long) fresh;
+    fixed = λ f late.
+        subst (λ (x : List Frame). IsFixed inputs.local inputs.remote x f) (sym found.all)
+        (fixed-next inputs.local inputs.remote (length played) window inputs.confirmed known.confirmed_is order f (omega (arith, late, expected-long)));
+  }
+
+-- ---- the images
+
+pub replaced-is : (a b f g : ℕ) (xs ys : List (Vec ℕ)) (k l : List (List ℕ)) → a ≡ b → f ≡ g → xs ≡ ys → k ≡ l
+    → take a (reverse (map (λ (v : Vec ℕ). v.items) xs) ++ drop f k) ≡ take b (reverse (map (λ (v : Vec ℕ). v.items) ys) ++ drop g l)
+replaced-is a b f g xs ys k l one two three four = λ i. take (one i) (reverse (map (λ (v : Vec ℕ). v.items) (three i)) ++ drop (two i) (four i))
+
+pub one-pushed : (most window : ℕ) (bytes image : List ℕ) (old : List (List ℕ)) → most ≡ window + 1 → bytes ≡ image → old ≡ [] → take most (bytes ∷ old) ≡ image ∷ []
+one-pushed most window bytes image old one two three = (λ i. take (one i) (two i ∷ three i)) ∙ take_all (window + 1) (image ∷ []) (omega arith)
+
+-- ---- the session at power-on
+
+pub first-machine : (cart : List ℕ) → IsMachineOf cart [] 0 (record { at = 0; console = power_on cart no_frames false; entries = []; media = no_media })
+unfolding ran journal media
+first-machine cart = record {
+  at = refl;
+  run = record {
+    last = power_on cart no_frames false;
+    entries = [];
+    output = no_media;
+    run = record { moves = 0; below = λ k less. absurd (omega arith); quiet = λ i below. omega arith; console = refl; entered = refl; rendered_to = refl };
+    same = refl;
+  };
+}
+
+pub first-played : (cart : List ℕ) (m : MachineValue) → m ≡ record { at = 0; console = power_on cart no_frames false; entries = []; media = no_media } → IsReached 0 (power_on cart no_frames false) → IsPlayed cart [] 0 m
+first-played cart m is reached =
+    subst (IsPlayed cart [] 0) (sym is) (record {
+      machine_is = first-machine cart;
+      cart_is = refl;
+      reached = reached;
+      entries = refl;
+      media = refl;
+    })
+
+pub first-session : (cart : List ℕ) (spelling : ℕ → Console → List ℕ) (is_ready is_own : ℕ → Console → Type 0) (window : ℕ) (inputs : InputsValue) (kept : List (List ℕ)) (bytes : List ℕ) (m : MachineValue)
+    → 1 ≤ window → window ≤ 16 → KeepsReached cart is_ready → IsPlayed cart [] 0 m → IsImageOf cart spelling is_own [] 0 bytes → kept ≡ bytes ∷ []
+    → IsSession cart spelling is_ready is_own window inputs [] kept m
+first-session cart spelling is_ready is_own window inputs kept bytes m some most keeps played image only =
+    subst (λ (x : List (List ℕ)). IsSession cart spelling is_ready is_own window inputs [] x m) (sym only) (record {
+      some = some;
+      most = most;
+      few = omega arith;
+      keeps = keeps;
+      played_is = played;
+      images = record { count = omega arith; each = λ j less. one-image j less };
+      fixed = λ f late. absurd (omega (arith, late));
+    }) where
+      one-image : (j : ℕ) → j < length (bytes ∷ []) → IsImageOf cart spelling is_own [] (length {A = Frame} [] - j) (get_or (bytes ∷ []) j [])
+      one-image j less =
+          let first : j ≡ 0 = omega (arith, less) in
+          subst (λ (n : ℕ). IsImageOf cart spelling is_own [] (length {A = Frame} [] - n) (get_or (bytes ∷ []) n [])) (sym first) image
+
+pub found-by : (inputs : InputsValue) (played expected a b : List Frame) (frames right : ℕ) → frames ≡ length played → expected ≡ expected_frames inputs.local inputs.remote (frames + 1)
+    → a ≡ played → b ≡ expected → right ≤ length a → ((f : ℕ) → f < right → frame_at a f ≡ frame_at b f) → (right < length a → frame_at a right ≢ frame_at b right)
+    → Found inputs played expected right
+found-by inputs played expected a b frames right many all one two within same differs = record {
+  all = all ∙ ap (λ (n : ℕ). expected_frames inputs.local inputs.remote (n + 1)) many;
+  within = subst (λ (x : List Frame). right ≤ length x) one within;
+  same = λ f less. ap (λ (x : List Frame). frame_at x f) (sym one) ∙ same f less ∙ ap (λ (x : List Frame). frame_at x f) two;
+  differs = λ less is.
+      differs (subst (λ (x : List Frame). right < length x) (sym one) less)
+      (ap (λ (x : List Frame). frame_at x right) one ∙ is ∙ ap (λ (x : List Frame). frame_at x right) (sym two));
+}

@@ -1,0 +1,197 @@
+-- What a frame leaves of a run from power-on.
+use Rattle.std.proofs.Common.{◌≡◌, ◌∙◌, refl, sym, ap, subst, false, ℕ, ◌+◌, ◌*◌, ◌^◌, ◌<◌, ◌≤◌, List, [], ◌∷◌, ◌++◌, ◌⊎◌, inl, inr, length, map, Result, Ok, Err, arith}
+use Rattle.std.specs.Prelude.{All, IfOk, OnOk}
+use Rattle.std.proofs.lemmas.List.{get_or_append_left, get_or_push, length-map, length_push, map_push}
+use Rattle.std.specs.declared.alloc.AllocError.{AllocError}
+use Rattle.std.specs.Global.{Vec}
+use Rattle.md_pads.specs.Recording.{Frame, IsFrame, Recorded}
+use Rattle.md_pads.specs.declared.version.Version.{Version}
+use Rattle.md_pads.specs.declared.version.Version.TheVariants.{First}
+use Rattle.md_word.specs.Clock.{frame}
+use Rattle.md_word.specs.declared.event.Entry.{Entry}
+use Rattle.md_machine.specs.Console.{Console, IsQuiet, IsRunTo, power_on}
+use Rattle.md_machine.specs.Machines.{MachineValue}
+use Rattle.md_machine.specs.Media.{Media, joined, no_media}
+use Rattle.md_machine.specs.ValidParts.{HasValidParts}
+use Rattle.md_machine.proofs.Kept.{cart-stays}
+use Rattle.md_machine.proofs.Pads.{pads-recorded}
+use Rattle.md_machine.proofs.Regions.{ran_stays}
+use Rattle.md_reached.proofs.SettledMoves.{console-again}
+use Rattle.md_reached.specs.Processors.{IsValid}
+use Rattle.md_reached.specs.Reached.{IsReached}
+use Rattle.md_reached.specs.Settling.{GoesOn}
+use Rattle.replays.specs.declared.fault.ReplayFault.{ReplayFault}
+use Rattle.recording_laws.specs.Recorded.{AreAlikeBelow, recorded, with_frames}
+use Rattle.rollback_inputs.specs.Inputs.{recording_of}
+use Rattle.save_state.specs.States.{settled_console}
+use Rattle.md_rollback.specs.Played.{AreImagesOf, IsImageOf, IsPlayed, IsRunAt, KeepsReached}
+
+-- the recording of a run is that with which it began
+pub recording-is : (cart : List ℕ) (recording : List Frame) (at : ℕ) (m : Console) → IsRunAt cart recording at m → m.shared.recording ≡ recording_of recording
+recording-is cart recording at m is =
+    ap (λ (x : Console). x.shared.recording) is.same
+    ∙ ap (λ (x : Console). x.shared.recording) is.run.console
+    ∙ (pads-recorded cart (recording_of recording) false is.run.moves).recording_is
+
+pub frames-are : (cart : List ℕ) (recording : List Frame) (at : ℕ) (m : Console) → IsRunAt cart recording at m → m.shared.recording.frames ≡ recording
+frames-are cart recording at m is = ap (λ (r : Recorded). r.frames) (recording-is cart recording at m is)
+
+-- its region is that of power-on
+pub region-is : (cart : List ℕ) (recording : List Frame) (at : ℕ) (m : Console) → IsRunAt cart recording at m → m.pal ≡ false
+region-is cart recording at m is =
+    ap (λ (x : Console). x.pal) is.same
+    ∙ ap (λ (x : Console). x.pal) is.run.console
+    ∙ (ran_stays (power_on cart (recording_of recording) false) is.run.moves).pal
+
+-- the laws of runs
+abbrev pub GoesLaw : Type 0
+GoesLaw = (m w z : Console) (at end : ℕ) (entries : List Entry) (output : Media) → HasValidParts m → IsQuiet at m → at ≤ end → end ≤ 2 ^ 50
+    → settled_console at m ≡ settled_console at w → IsRunTo m end z entries output → GoesOn end w z entries output
+
+abbrev pub JoinLaw : Type 0
+JoinLaw = (m w z : Console) (s t : ℕ) (entries later_entries : List Entry) (output later_output : Media) → s ≤ t
+    → IsRunTo m s w entries output → IsRunTo w t z later_entries later_output
+    → IsRunTo m t z (entries ++ later_entries) (joined output later_output)
+
+abbrev pub ReachLaw : Type 0
+ReachLaw = (m z : Console) (at end : ℕ) (entries : List Entry) (output : Media) → IsReached at m → at ≤ end → end ≤ 2 ^ 50
+    → IsRunTo m end z entries output → IsReached end z
+
+-- a frame more
+pub played-next : (cart : List ℕ) (recording : List Frame) (frames end : ℕ) (old went new : MachineValue) → GoesLaw → JoinLaw → ReachLaw
+    → frames < 36000 → end ≡ frame * (frames + 1) → HasValidParts old.console → went.at ≡ end
+    → IsRunTo old.console end went.console went.entries went.media → new ≡ record went { entries = []; media = no_media }
+    → IsPlayed cart recording frames old → IsPlayed cart recording (frames + 1) new
+played-next cart recording frames end old went new goes join reach within is parts at run drained played =
+    let until : ℕ = frame * (frames + 1) in
+    let from : ℕ = frame * frames in
+    let whole : IsRunTo old.console until went.console went.entries went.media = subst (λ (n : ℕ). IsRunTo old.console n went.console went.entries went.media) is run in
+    let order : frame * frames ≤ frame * (frames + 1) = omega arith in
+    let small : frame * (frames + 1) ≤ 2 ^ 50 = omega (arith, within) in
+    let start : IsRunAt cart recording (frame * frames) old.console = played.machine_is.run in
+    let on : GoesOn until start.last went.console went.entries went.media =
+    goes old.console start.last went.console from until went.entries went.media parts played.reached.start.quiet order small start.same whole in
+    subst (IsPlayed cart recording (frames + 1)) (sym drained)
+    (record {
+      machine_is = record {
+        at = at ∙ is;
+        run = record {
+          last = on.after;
+          entries = start.entries ++ went.entries;
+          output = joined start.output went.media;
+          run = join (power_on cart (recording_of recording) false) start.last on.after from until start.entries went.entries start.output went.media order start.run on.run;
+          same = sym on.same;
+        };
+      };
+      cart_is = ap (λ (x : Console). x.cart) whole.console ∙ cart-stays old.console whole.moves ∙ played.cart_is;
+      reached = reach old.console went.console from until went.entries went.media played.reached order small whole;
+      entries = refl;
+      media = refl;
+    })
+
+-- the image of a machine that was played
+pub image-made : (cart : List ℕ) (spelling : ℕ → Console → List ℕ) (is_own : ℕ → Console → Type 0) (recording : List Frame) (frames : ℕ) (m : MachineValue) (r : Result (Vec ℕ) AllocError)
+    → IsPlayed cart recording frames m → OnOk r (is_own m.at (settled_console m.at m.console))
+    → IfOk r (λ bytes. bytes.items ≡ spelling m.at (settled_console m.at m.console))
+    → IfOk r (λ bytes. IsImageOf cart spelling is_own recording frames bytes.items)
+image-made cart spelling is_own recording frames m (Ok bytes) played own all =
+    let at : m.at ≡ frame * frames = played.machine_is.at in
+    record {
+      kept = m.console;
+      made_with = recording;
+      alike = λ f early. refl;
+      run = played.machine_is.run;
+      cart_is = played.cart_is;
+      reached = played.reached;
+      own = subst (λ (n : ℕ). is_own n (settled_console n m.console)) at own;
+      all = all ∙ ap (λ (n : ℕ). spelling n (settled_console n m.console)) at;
+    }
+image-made cart spelling is_own recording frames m (Err e) played own all = tt
+
+-- the last machine of a run from power-on has a recording of the first version
+last-first : (cart : List ℕ) (recording : List Frame) (at : ℕ) (last : Console) (entries : List Entry) (output : Media)
+    → IsRunTo (power_on cart (recording_of recording) false) at last entries output → last.shared.recording.version ≡ First
+last-first cart recording at last entries output run =
+    ap (λ (x : Console). x.shared.recording.version) run.console
+    ∙ ap (λ (r : Recorded). r.version) (pads-recorded cart (recording_of recording) false run.moves).recording_is
+
+frames-with : (frames : List Frame) (z : Console) → z.shared.recording.version ≡ First → with_frames frames z ≡ recorded (recording_of frames) z
+frames-with frames z first = ap (λ (v : Version). recorded (record { version = v; frames = frames }) z) first
+
+-- the machine that an image keeps, with another recording
+pub resumed : (cart : List ℕ) (spelling : ℕ → Console → List ℕ) (is_own : ℕ → Console → Type 0) (recording : List Frame) (frames : ℕ) (bytes : List ℕ)
+    → (is : IsImageOf cart spelling is_own recording frames bytes)
+    → ((z : Console) (entries : List Entry) (output : Media) → IsRunTo (power_on cart (recording_of is.made_with) false) (frame * frames) z entries output → IsRunTo (power_on cart (recording_of recording) false) (frame * frames) (with_frames recording z) entries output)
+    → IsReached (frame * frames) (recorded (recording_of recording) (settled_console (frame * frames) is.kept))
+    → IsPlayed cart recording frames (record { at = frame * frames; console = recorded (recording_of recording) (settled_console (frame * frames) is.kept); entries = []; media = no_media })
+resumed cart spelling is_own recording frames bytes is later reached = record {
+  machine_is = record {
+    at = refl;
+    run = record {
+      last = recorded (recording_of recording) is.run.last;
+      entries = is.run.entries;
+      output = is.run.output;
+      run = subst (λ (x : Console). IsRunTo (power_on cart (recording_of recording) false) (frame * frames) x is.run.entries is.run.output)
+          (frames-with recording is.run.last (last-first cart is.made_with (frame * frames) is.run.last is.run.entries is.run.output is.run.run))
+          (later is.run.last is.run.entries is.run.output is.run.run);
+      same = ap (recorded (recording_of recording)) (console-again (frame * frames) is.kept ∙ is.run.same);
+    };
+  };
+  cart_is = is.cart_is;
+  reached = reached;
+  entries = refl;
+  media = refl;
+}
+
+abbrev pub LaterLaw : Type 0
+LaterLaw = (m z : Console) (one other : List Frame) (end : ℕ) (entries : List Entry) (output : Media) → AreAlikeBelow m.shared.vdp.pal end one other
+    → IsRunTo (with_frames one m) end z entries output → IsRunTo (with_frames other m) end (with_frames other z) entries output
+
+abbrev pub SettledLaw : Type 0
+SettledLaw = (at : ℕ) (m : Console) (recording : Recorded) → IsReached at m → All IsFrame recording.frames
+    → HasValidParts (recorded recording (settled_console at m)) → IsValid (recorded recording (settled_console at m)) → IsReached at (recorded recording (settled_console at m))
+
+pub resumed-machine : (cart : List ℕ) (spelling : ℕ → Console → List ℕ) (is_own : ℕ → Console → Type 0) (recording : List Frame) (frames : ℕ) (bytes : List ℕ) (m : MachineValue)
+    → (is : IsImageOf cart spelling is_own recording frames bytes)
+    → m ≡ record { at = frame * frames; console = recorded (recording_of recording) (settled_console (frame * frames) is.kept); entries = []; media = no_media }
+    → All IsFrame recording → HasValidParts m.console → IsValid m.console → LaterLaw → SettledLaw → IsPlayed cart recording frames m
+resumed-machine cart spelling is_own recording frames bytes m is same buttons parts sound later settled =
+    subst (IsPlayed cart recording frames) (sym same)
+    (resumed cart spelling is_own recording frames bytes is
+    (λ z entries output run. later (power_on cart (recording_of is.made_with) false) z is.made_with recording (frame * frames) entries output is.alike run)
+    (settled (frame * frames) is.kept (recording_of recording) is.reached buttons
+    (subst (λ (x : MachineValue). HasValidParts x.console) same parts)
+    (subst (λ (x : MachineValue). IsValid x.console) same sound)))
+
+pub ok-no-err : (m : MachineValue) (e : ReplayFault) → Ok m ≡ Err e → ⊥
+ok-no-err m e same = cc
+
+pub same-ok : (m w : MachineValue) → ◌≡◌ {A = Result MachineValue ReplayFault} (Ok m) (Ok w) → m ≡ w
+same-ok m w same = cc
+
+-- a machine that was played may be kept
+pub may-be-kept : (cart : List ℕ) (is_ready : ℕ → Console → Type 0) (recording : List Frame) (frames : ℕ) (m : MachineValue) → frames < 36000
+    → KeepsReached cart is_ready → IsPlayed cart recording (frames + 1) m → is_ready m.at m.console
+may-be-kept cart is_ready recording frames m within keeps played =
+    let at : m.at ≡ frame * (frames + 1) = played.machine_is.at in
+    subst (λ (n : ℕ). is_ready n m.console) (sym at)
+    (keeps.later (frame * (frames + 1)) m.console (omega arith) (omega (arith, within)) played.cart_is played.reached)
+
+-- one image more
+last-or-before : (j n : ℕ) → j < n + 1 → (j < n) ⊎ (j ≡ n)
+last-or-before j n less = grind arith
+
+pub images-push : (cart : List ℕ) (spelling : ℕ → Console → List ℕ) (is_own : ℕ → Console → Type 0) (recording : List Frame) (from at : ℕ) (old : Vec (Vec ℕ)) (image : Vec ℕ) (new : Vec (Vec ℕ))
+    → new.items ≡ old.items ++ image ∷ [] → from + length old.items ≡ at → IsImageOf cart spelling is_own recording (at + 1) image.items
+    → AreImagesOf cart spelling is_own recording (from + 1) (map (λ (v : Vec ℕ). v.items) old.items)
+    → AreImagesOf cart spelling is_own recording (from + 1) (map (λ (v : Vec ℕ). v.items) new.items)
+images-push cart spelling is_own recording from at old image new pushed count last before =
+    let all : map (λ (v : Vec ℕ). v.items) new.items ≡ map (λ (v : Vec ℕ). v.items) old.items ++ image.items ∷ [] =
+    ap (map (λ (v : Vec ℕ). v.items)) pushed ∙ map_push (λ (v : Vec ℕ). v.items) old.items image in
+    let long : length (map (λ (v : Vec ℕ). v.items) old.items) ≡ length old.items = length-map old.items (λ (v : Vec ℕ). v.items) in
+    subst (AreImagesOf cart spelling is_own recording (from + 1)) (sym all)
+    (λ j less. elim (last-or-before j (length (map (λ (v : Vec ℕ). v.items) old.items)) (omega (arith, less, length_push (map (λ (v : Vec ℕ). v.items) old.items) image.items))) [
+      | inl early ↦ subst (IsImageOf cart spelling is_own recording ((from + 1) + j)) (sym (get_or_append_left (map (λ (v : Vec ℕ). v.items) old.items) (image.items ∷ []) [] j early)) (before j early)
+      | inr here ↦ subst (IsImageOf cart spelling is_own recording ((from + 1) + j)) (sym (get_or_push (map (λ (v : Vec ℕ). v.items) old.items) image.items [] j (sym here)))
+          (subst (λ (n : ℕ). IsImageOf cart spelling is_own recording n image.items) (omega (arith, here, long, count)) last)
+    ])

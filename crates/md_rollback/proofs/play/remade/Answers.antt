@@ -1,0 +1,46 @@
+use Rattle.std.proofs.Common.{◌≡◌, ◌∙◌, ◌+◌, ap, sym, subst, List, ℕ, length, map}
+use Rattle.std.specs.Prelude.{All}
+use Rattle.std.specs.Arc.{arc_value}
+use Rattle.std.specs.Global.{Vec}
+use Rattle.md_pads.specs.Recording.{Frame, IsFrame, Recorded}
+use Rattle.md_pads.proofs.Frames.{frames_are}
+use Rattle.rollback_inputs.specs.Inputs.{recording_of}
+use Rattle.md_rollback.specs.Played.{AreImagesOf, IsImageOf, IsPlayed}
+use Rattle.md_rollback.proofs.Steps.{frames-are}
+use Rattle.md_rollback.proofs.play.remade.Goals as goal
+
+pub resume-requires-clause-first : goal.resume-requires-clause-first
+resume-requires-clause-first g c = ap (λ (r : Recorded). r.version) c.in_ok-recording.ensures
+
+pub resume-requires-clause-buttons : goal.resume-requires-clause-buttons
+resume-requires-clause-buttons g c =
+    subst (λ (r : Recorded). All IsFrame r.frames) (sym c.in_ok-recording.ensures) (frames_are (recording_of c.args.expected.now) c.requires.recording)
+
+pub resume-requires-clause-image : goal.resume-requires-clause-image
+resume-requires-clause-image g c =
+    subst (λ (r : Recorded). IsImageOf (g.R.Replays.cart c.args.replays.now) (g.R.Replays.spelling c.args.replays.now) (g.R.Replays.is_own c.args.replays.now) r.frames c.args.right c.args.image.now)
+    (sym c.in_ok-recording.ensures) c.requires.image
+
+pub play-requires-clause-played : goal.play-requires-clause-played
+play-requires-clause-played g c =
+    let cart = g.R.Replays.cart c.args.replays.now in
+    let m = c.in_ok-machine.machine in
+    subst (λ (r : List Frame). IsPlayed cart r c.args.right m)
+    (sym (frames-are cart (arc_value c.in_ok-recording.recording).frames _ m.console c.in_ok-machine.ensures.machine_is.run)) c.in_ok-machine.ensures
+
+pub returns-clause-machine : goal.returns-clause-machine
+returns-clause-machine g c =
+    let cart = g.R.Replays.cart c.args.replays.now in
+    let m = c.in_ok-machine.machine in
+    let same : m.console.shared.recording.frames ≡ c.args.expected.now =
+    frames-are cart (arc_value c.in_ok-recording.recording).frames _ m.console c.in_ok-machine.ensures.machine_is.run ∙ ap (λ (r : Recorded). r.frames) c.in_ok-recording.ensures in
+    subst (λ (r : List Frame). IsPlayed cart r (length c.args.expected.now) c.play.new.machine) same c.in_ok-images.ensures.played
+
+pub returns-clause-images : goal.returns-clause-images
+returns-clause-images g c =
+    let cart = g.R.Replays.cart c.args.replays.now in
+    let m = c.in_ok-machine.machine in
+    let same : m.console.shared.recording.frames ≡ c.args.expected.now =
+    frames-are cart (arc_value c.in_ok-recording.recording).frames _ m.console c.in_ok-machine.ensures.machine_is.run ∙ ap (λ (r : Recorded). r.frames) c.in_ok-recording.ensures in
+    subst (λ (r : List Frame). AreImagesOf cart (g.R.Replays.spelling c.args.replays.now) (g.R.Replays.is_own c.args.replays.now) r (c.args.right + 1) (map (λ (v : Vec ℕ). v.items) c.in_ok-images.images.items))
+    same c.in_ok-images.ensures.images

@@ -1,0 +1,29 @@
+use Rattle.std.proofs.Common.{◌≡◌, ◌∙◌, ap, sym}
+use Rattle.rollback_inputs.specs.Inputs.{Words, given}
+use Rattle.md_rollback.specs.Sessions.{SessionValue}
+use Rattle.rollback_inputs.proofs.FixedFrames.{fixed-local}
+use Rattle.md_rollback.proofs.session.Session.local.Goals as goal
+
+pub invariant_of-self : goal.invariant_of-self
+invariant_of-self g c =
+    let was = c.self.invariant.0 in (
+      record {
+        some = was.some;
+        most = was.most;
+        few = was.few;
+        keeps = was.keeps;
+        played_is = was.played_is;
+        images = was.images;
+        fixed = λ f late. fixed-local c.local.result c.self.inside.inputs c.local.new.self c.args.frame c.args.buttons f c.self.inside.played.items c.local.ensures.ok c.local.ensures.free c.local.ensures.err (was.fixed f late);
+      },
+      c.self.invariant.1,
+      c.self.invariant.2,
+      c.self.invariant.3,
+    )
+
+pub returns-clause-given : goal.returns-clause-given
+returns-clause-given g c = λ kept.
+    let same : c.self.inside.inputs.local ≡ c.args.self.now.local = ap (λ (x : SessionValue). x.local) c.self.view_is in (
+      λ is. sym (ap (λ (w : Words). given w c.args.frame) same) ∙ (c.local.ensures.given kept).0 is,
+      λ is. (c.local.ensures.given kept).1 (ap (λ (w : Words). given w c.args.frame) same ∙ is),
+    )

@@ -1,0 +1,56 @@
+-- The machine of a run from power-on at the start of a frame of NTSC, and its image.
+use Rattle.std.specs.Prelude.{◌≡◌, ℕ, false, ◌+◌, ◌*◌, ◌<◌, ◌≤◌, List, [], length, slice_index_or}
+use Rattle.md_pads.specs.Recording.{Frame, Recorded}
+use Rattle.md_word.specs.Clock.{frame, last_cycle}
+use Rattle.md_word.specs.declared.event.Entry.{Entry}
+use Rattle.md_machine.specs.Console.{Console, IsRunTo, power_on}
+use Rattle.md_machine.specs.Machines.{MachineValue}
+use Rattle.md_machine.specs.Media.{Media, no_media}
+use Rattle.md_reached.specs.Reached.{IsReached}
+use Rattle.recording_laws.specs.Recorded.{AreAlikeBelow}
+use Rattle.rollback_inputs.specs.Inputs.{recording_of}
+use Rattle.save_state.specs.States.{settled_console}
+
+-- the machine that a run of NTSC from power-on with this cartridge and recording is at a cycle, seen with what stands
+-- below the cycle settled
+pub record IsRunAt (cart : List ℕ) (recording : List Frame) (at : ℕ) (m : Console) : Type 0 where
+  pub last : Console
+  pub entries : List Entry
+  pub output : Media
+  pub run : IsRunTo (power_on cart (recording_of recording) false) at last entries output
+  pub same : settled_console at m ≡ settled_console at last
+
+-- the machine that comes after so many frames
+pub record IsMachineOf (cart : List ℕ) (recording : List Frame) (frames : ℕ) (machine : MachineValue) : Type 0 where
+  pub at : machine.at ≡ frame * frames
+  pub run : IsRunAt cart recording (frame * frames) machine.console
+
+-- such a machine, drained, with what holds of each machine that a run reaches
+pub record IsPlayed (cart : List ℕ) (recording : List Frame) (frames : ℕ) (machine : MachineValue) : Type 0 where
+  pub machine_is : IsMachineOf cart recording frames machine
+  pub cart_is : machine.console.cart ≡ cart
+  pub reached : IsReached (frame * frames) machine.console
+  pub entries : machine.entries ≡ []
+  pub media : machine.media ≡ no_media
+
+-- the bytes are the image of the machine after so many frames of a recording, of which the later ones have
+-- no part in it
+pub record IsImageOf (cart : List ℕ) (spelling : ℕ → Console → List ℕ) (is_own : ℕ → Console → Type 0) (recording : List Frame) (frames : ℕ) (bytes : List ℕ) : Type 0 where
+  pub kept : Console
+  pub made_with : List Frame
+  pub alike : AreAlikeBelow false (frame * frames) made_with recording
+  pub run : IsRunAt cart made_with (frame * frames) kept
+  pub cart_is : kept.cart ≡ cart
+  pub reached : IsReached (frame * frames) kept
+  pub own : is_own (frame * frames) (settled_console (frame * frames) kept)
+  pub all : bytes ≡ spelling (frame * frames) (settled_console (frame * frames) kept)
+
+-- the images are those after so many frames, and after each one more
+abbrev pub AreImagesOf : List ℕ → (ℕ → Console → List ℕ) → (ℕ → Console → Type 0) → List Frame → ℕ → List (List ℕ) → Type 0
+AreImagesOf cart spelling is_own recording first images =
+    (j : ℕ) → j < length images → IsImageOf cart spelling is_own recording (first + j) (slice_index_or images j [])
+
+-- images may be kept of the machines of power-on with this cartridge, and of those that a run reaches
+pub record KeepsReached (cart : List ℕ) (is_ready : ℕ → Console → Type 0) : Type 0 where
+  pub first : (recording : Recorded) → is_ready 0 (power_on cart recording false)
+  pub later : (at : ℕ) (m : Console) → 1 ≤ at → at ≤ last_cycle → m.cart ≡ cart → IsReached at m → is_ready at m

@@ -1,0 +1,178 @@
+ghost use Rattle.std.specs.Prelude.{◌≡◌, ◌≢◌, ◌≤◌, ◌<◌, ◌+◌, ◌*◌, ◌^◌, ◌↔◌, ℕ, false, [], Some, None, slice_set, IfOk, OnOk, OnErr, IsErrOf, Err};
+ghost use Rattle.md_pads.specs.Recording.{no_frames};
+ghost use Rattle.md_word.specs.Clock.{frame as frame_length, last_cycle};
+ghost use Rattle.md_machine.specs.Console.{power_on};
+ghost use Rattle.md_machine.specs.Media.{no_media};
+ghost use Rattle.rollback_inputs.specs.Inputs.{IsConfirmed, expected_frames, given, most_frames, no_words};
+ghost use Rattle.rollback_images.specs.Images.{image_room};
+ghost use Rattle.md_rollback.specs.Played.{IsMachineOf, KeepsReached};
+
+use crate::fault::AdvanceFault;
+use crate::play::{ROOM, remade};
+use md_machine::Machine;
+use md_reached::saved;
+use md_word::NoMemory;
+use replays::Replays;
+use rollback_images::KeptImages;
+use rollback_inputs::{InputFault, Inputs, MOST_FRAMES, same_frames};
+use std::alloc::Global;
+use std::marker::Model;
+
+/// A session of two players, frame by frame, for at most 36,000 frames. A player's buttons in a frame may be
+/// given later than the frame is made: it is made with the buttons that are expected, those that were given
+/// last before it, and made anew where they turn out to be others.
+#[derive(Drop)]
+pub struct Session<R: Replays> {
+    alloc: Global,
+    replays: R,
+    inputs: Inputs,
+    /// The words with which the frames were made.
+    played: Vec<(u16, u16)>,
+    images: KeptImages,
+    machine: Machine,
+    scratch: Vec<u8>,
+    window: usize,
+}
+
+impl<R: Replays> Model for Session<R> {
+    ghost use Rattle.std.specs.Prelude.{◌≡◌, ◌+◌, ◌≤◌, length, vec_capacity};
+    ghost use Rattle.md_rollback.specs.Sessions.{IsSession, SessionValue};
+
+    ghost Value = { SessionValue };
+
+    ghost view = { λ s. record { window = s.window; local = s.inputs.local; remote = s.inputs.remote; confirmed = s.inputs.confirmed; frames = length s.played.items; machine = s.machine } };
+
+    ghost invariant = { λ s. IsSession (R.cart s.replays) (R.spelling s.replays) (R.is_ready s.replays) (R.is_own s.replays) s.window s.inputs s.played.items s.images.images s.machine
+        × (s.images.most ≡ s.window + 1) × (s.images.size ≡ R.size s.replays) × (840000 ≤ vec_capacity s.scratch) };
+}
+
+impl<R: Replays> Session<R> {
+    /// The session at power-on. The machine is that of power-on of NTSC with the cartridge of `replays` and a
+    /// recording of no frames. The window is 1 to 16: so many frames it goes on beyond those of which both players'
+    /// buttons are known. The memory of all inputs and images is taken here.
+    pub fn make(
+        alloc: Global,
+        machine: Machine,
+        replays: R,
+        window: u32,
+    ) -> Result<Session<R>, NoMemory>
+        requires some { 1 ≤ window }
+        requires most { window ≤ 16 }
+        requires first { machine ≡ record { at = 0; console = power_on (R.cart replays) no_frames false; entries = []; media = no_media } }
+        requires keeps { KeepsReached (R.cart replays) (R.is_ready replays) }
+        requires fits { R.size replays ≤ image_room }
+        ensures { IfOk result (λ session. session ≡ record { window = window; local = no_words; remote = no_words; confirmed = 0; frames = 0; machine = machine }) }
+    {
+        saved::power_on_is_reached(machine.cart());
+        let inputs = Inputs::make(alloc)?;
+        let mut images = KeptImages::make(alloc, window + 1, replays.image_size())?;
+        let scratch = Vec::with_capacity(alloc, ROOM)?;
+        let image = replays.image(alloc, &machine)?;
+        images.push(image.as_slice());
+        Ok(Session {
+            alloc,
+            replays,
+            inputs,
+            played: Vec::new(alloc),
+            images,
+            machine,
+            scratch,
+            window: window as usize,
+        })
+    }
+
+    /// Gives the buttons of player 1 in a frame.
+    pub fn local(&mut self, frame: u64, buttons: u16) -> Result<(), InputFault>
+        ensures ok { OnOk result (self.new ≡ record self.old { local = slice_set self.old.local frame (Some buttons); confirmed = self.new.confirmed }) }
+        ensures err { OnErr result (self.new ≡ self.old) }
+        ensures far { (last : ℕ) → IsErrOf result (InputFault.Far last) ↔ ((most_frames ≤ frame) × (last ≡ 35999)) }
+        ensures given { (kept : ℕ) → IsErrOf result (InputFault.Given kept) ↔ (given self.old.local frame ≡ Some kept) }
+        ensures buttons { (result ≡ Err InputFault.Buttons) ↔ ((frame < most_frames) × (given self.old.local frame ≡ None) × (2 ^ 8 ≤ buttons)) }
+    {
+        self.inputs.local(frame, buttons)
+    }
+
+    /// Gives the buttons of player 2 in a frame.
+    pub fn remote(&mut self, frame: u64, buttons: u16) -> Result<(), InputFault>
+        ensures ok { OnOk result (self.new ≡ record self.old { remote = slice_set self.old.remote frame (Some buttons); confirmed = self.new.confirmed }) }
+        ensures err { OnErr result (self.new ≡ self.old) }
+        ensures far { (last : ℕ) → IsErrOf result (InputFault.Far last) ↔ ((most_frames ≤ frame) × (last ≡ 35999)) }
+        ensures given { (kept : ℕ) → IsErrOf result (InputFault.Given kept) ↔ (given self.old.remote frame ≡ Some kept) }
+        ensures buttons { (result ≡ Err InputFault.Buttons) ↔ ((frame < most_frames) × (given self.old.remote frame ≡ None) × (2 ^ 8 ≤ buttons)) }
+    {
+        self.inputs.remote(frame, buttons)
+    }
+
+    /// Makes the next frame, with the frames before it as they are expected now. It waits for nobody. Where it is
+    /// refused, the session is as it was.
+    pub fn advance(&mut self) -> Result<(), AdvanceFault>
+        ensures frames { OnOk result (self.new.frames ≡ self.old.frames + 1) }
+        // The machine is that of the frames so far with the expected buttons.
+        ensures machine { OnOk result (IsMachineOf self.new.machine.console.cart (expected_frames self.old.local self.old.remote self.new.frames) self.new.frames self.new.machine) }
+        ensures cart { self.new.machine.console.cart ≡ self.old.machine.console.cart }
+        ensures stays { self.new ≡ record self.old { frames = self.new.frames; machine = self.new.machine } }
+        ensures err { OnErr result (self.new ≡ self.old) }
+        ensures ended { (result ≡ Err AdvanceFault.Ended) ↔ (self.old.frames ≡ most_frames) }
+        ensures waiting { (confirmed frames : ℕ) → IsErrOf result (AdvanceFault.Waiting confirmed frames)
+            ↔ ((self.old.frames ≢ most_frames) × (self.old.confirmed + self.old.window ≤ self.old.frames) × (confirmed ≡ self.old.confirmed) × (frames ≡ self.old.frames)) }
+    {
+        let frames = self.played.len();
+        let confirmed = self.inputs.confirmed();
+        if frames == MOST_FRAMES {
+            return Err(AdvanceFault::Ended);
+        }
+        if frames >= confirmed + self.window {
+            return Err(AdvanceFault::Waiting {
+                confirmed: confirmed as u64,
+                frames: frames as u64,
+            });
+        }
+        self.inputs.known();
+        let expected = self.inputs.expected(self.alloc, frames + 1)?;
+        let right = same_frames(self.played.as_slice(), expected.as_slice());
+        self.images.fetch(frames - right);
+        let made = remade(
+            self.alloc,
+            &self.replays,
+            self.images.fetched(),
+            expected.as_slice(),
+            right,
+            &mut self.scratch,
+        );
+        match made {
+            Ok(made) => {
+                self.images.replace(frames - right, made.1.as_slice());
+                self.machine = made.0;
+                self.played = expected;
+                Ok(())
+            }
+            Err(NoMemory) => Err(AdvanceFault::NoMemory),
+        }
+    }
+
+    /// How many frames the machine made: at most 36,000.
+    pub fn frames(&self) -> u64
+        ensures frames { result ≡ self.now.frames }
+        ensures few { result ≤ most_frames }
+    {
+        self.played.len() as u64
+    }
+
+    /// The greatest number of frames of which both players' buttons were all given.
+    pub fn confirmed(&self) -> u64
+        ensures confirmed { result ≡ self.now.confirmed }
+        ensures greatest { IsConfirmed self.now.local self.now.remote result }
+    {
+        self.inputs.known();
+        self.inputs.confirmed() as u64
+    }
+
+    /// The machine, at the start of the frame behind those that it made.
+    pub fn machine(&self) -> &Machine
+        ensures machine { result.now ≡ self.now.machine }
+        ensures at { result.now.at ≡ frame_length * self.now.frames }
+        ensures near { result.now.at ≤ last_cycle }
+    {
+        &self.machine
+    }
+}
