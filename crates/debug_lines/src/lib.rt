@@ -6,4 +6,5 @@ mod line;
 mod number;
 
 pub use command::{Command, Misread};
-pub use line::read_command;
+pub use line::{behind, is_ascii, read_command, word_in};
+pub use number::read_decimal;

@@ -35,14 +35,15 @@ pub fn read_command(line: &str) -> Result<Command, Misread>
     }
 }
 
-fn is_ascii(line: &str) -> bool
+/// Whether all of its bytes are ASCII.
+pub fn is_ascii(line: &str) -> bool
     ensures { result ≡ list_all meaning.is_seven_bit line.now }
 {
     line.as_bytes().iter().all(|byte| *byte < 128)
 }
 
 /// The first word of a text, up to its first blank.
-fn word_in(text: &str) -> &str
+pub fn word_in(text: &str) -> &str
     ensures { result.now ≡ meaning.word_in text.now }
 {
     match text.split_once(' ') {
@@ -52,7 +53,7 @@ fn word_in(text: &str) -> &str
 }
 
 /// What stands behind the first blank of a text, if there is one.
-fn behind(text: &str) -> Option<&str>
+pub fn behind(text: &str) -> Option<&str>
     ensures { option_copied result ≡ meaning.behind text.now }
 {
     match text.split_once(' ') {

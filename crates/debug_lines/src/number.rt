@@ -5,7 +5,7 @@ ghost use Rattle.std.specs.List.{list_all};
 ghost use Rattle.debug_lines.specs.Numbers.{address_of, decimal_of, is_address, is_decimal, is_hex_digit};
 
 /// A number of 1 to 20 decimal digits with a value below 2^64.
-pub(crate) fn read_decimal(word: &str) -> Option<u64>
+pub fn read_decimal(word: &str) -> Option<u64>
     ensures { result ≡ decimal_of word.now }
 {
     if is_decimal(word) {

@@ -6,6 +6,7 @@ use Rattle.std.proofs.lemmas.Bool.{true≢false}
 use Rattle.std.proofs.lemmas.List.{get_or_past}
 use Rattle.std.proofs.lemmas.List.Folds.{list_all_at}
 use Rattle.std.proofs.lemmas.Str.{IsUtf8-from_ascii}
+use Rattle.text_lines.proofs.Ascii.{ascii_of}
 use borrow.Author.Tests.{ltb-true}
 use Rattle.debug_lines.specs.Commands.{behind, command_of, is_seven_bit, read_by, word_in, word_of}
 use Rattle.debug_lines.specs.declared.command.Command.{Command}
@@ -18,22 +19,6 @@ use Rattle.md_debug.specs.declared.fault.DebugFault.TheVariants.{BadNumber, NoMe
 use Rattle.debug_script.specs.Scripts.{IsRefused, ObeysAll, ObeysFirst, Plays}
 use Rattle.debug_script.specs.declared.script.Ending.{Ending}
 use Rattle.debug_script.specs.declared.script.Ending.TheVariants.{OutOfMemory, Refused}
-
-small_at : (line : List ℕ) (i : ℕ) → list_all is_seven_bit line ≡ true → i < length line → (b : Bool) → nat_lt (get_or line i 0) 128 ≡ b → get_or line i 0 < 128
-small_at line i all within true is = ltb-true (get_or line i 0) 128 is
-small_at line i all within false is =
-    let some : list_all is_seven_bit line ≡ false = list_all_at is_seven_bit line i 0 within is in
-    absurd (true≢false (sym all ∙ some))
-
-within_or : (i n : ℕ) → (i < n) ⊎ (n ≤ i)
-within_or i n = grind arith
-
-ascii_at : (line : List ℕ) (i : ℕ) → list_all is_seven_bit line ≡ true → (i < length line) ⊎ (length line ≤ i) → get_or line i 0 < 128
-ascii_at line i all (inl within) = small_at line i all within (nat_lt (get_or line i 0) 128) refl
-ascii_at line i all (inr past) = omega (arith, get_or_past line i 0 past)
-
-ascii_of : (line : List ℕ) → list_all is_seven_bit line ≡ true → IsAscii line
-ascii_of line all = λ i. ascii_at line i all (within_or i (length line))
 
 -- why a session refuses a line
 pub refused_by : {X Images : Type 0} (session : SessionValue Images) (line : List ℕ) (r : Result X DebugFault) (fault : DebugFault) → r ≡ Err fault

@@ -2,7 +2,6 @@
 //! that is refused.
 #![tactic(auto)]
 
-mod lines;
 mod script;
 
 pub use script::{Ending, Played, play};

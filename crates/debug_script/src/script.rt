@@ -2,15 +2,15 @@ ghost use Rattle.std.specs.Prelude.{◌≡◌, ◌≢◌, ◌++◌, ℕ, OnOk, O
 ghost use Rattle.debug_lines.specs.Commands.{command_of};
 ghost use Rattle.debug_lines.specs.declared.command.Command.{Command};
 ghost use Rattle.md_debug.specs.Sessions.{Obeys, reply_to};
-ghost use Rattle.debug_script.specs.Lines.{lines_of};
+ghost use Rattle.text_lines.specs.Lines.{lines_of};
 ghost use Rattle.debug_script.specs.Scripts.{IsRefused, Plays};
 
-use crate::lines::first_line;
 use md_debug::{DebugFault, Session};
 use md_machine::Machine;
 use page_ring::Images;
 use std::alloc::Global;
 use std::str::from_utf8;
+use text_lines::first_line;
 
 /// How a script ends.
 #[derive(Clone, Copy)]

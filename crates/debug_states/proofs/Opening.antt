@@ -2,7 +2,7 @@
 use Rattle.std.proofs.Common.{◌≡◌, ℕ, ◌≤◌, List, [], ◌∷◌, Result, Ok, Err, refl, sym, ap, subst, ◌∙◌}
 use Rattle.std.specs.Prelude.{IfOk}
 use Rattle.debug_kept.specs.Kept.{padded}
-use Rattle.debug_script.specs.Lines.{lines_of}
+use Rattle.text_lines.specs.Lines.{lines_of}
 use Rattle.debug_script.specs.Scripts.{ObeysAll}
 use Rattle.debug_script.specs.declared.script.Ending.TheVariants.{OutOfMemory}
 use Rattle.debug_states.specs.Opened.{PlaysScript, images_with, opened}

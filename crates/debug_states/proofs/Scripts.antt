@@ -1,6 +1,6 @@
 -- A script comes to one outcome alone, where memory is not wanting.
 use Rattle.std.proofs.Common.{◌≡◌, ◌≢◌, List, ℕ, ap}
-use Rattle.debug_script.specs.Lines.{lines_of}
+use Rattle.text_lines.specs.Lines.{lines_of}
 use Rattle.debug_script.specs.declared.script.Ending.{Ending}
 use Rattle.debug_script.specs.declared.script.Ending.TheVariants.{OutOfMemory}
 use Rattle.debug_states.specs.Opened.{PlaysScript, images_with, opened}

@@ -1,7 +1,7 @@
 -- A session of the debugger at power-on, and what a script comes to in it. This project's profile.
 use Rattle.std.specs.Prelude.{ℕ, false, List, [], ◌∷◌}
 use Rattle.debug_kept.specs.Kept.{padded}
-use Rattle.debug_script.specs.Lines.{lines_of}
+use Rattle.text_lines.specs.Lines.{lines_of}
 use Rattle.debug_script.specs.Scripts.{Plays}
 use Rattle.debug_script.specs.declared.script.Ending.{Ending}
 use Rattle.md_pads.specs.Recording.{no_frames}

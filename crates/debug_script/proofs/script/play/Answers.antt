@@ -1,7 +1,7 @@
 use Rattle.std.proofs.Common.{◌≡◌, ℕ, ◌+◌, ◌++◌, ◌∷◌, [], List, length, refl, sym, subst, length-append, rules, arith}
-use Rattle.debug_script.specs.Lines.{lines_of}
+use Rattle.text_lines.specs.Lines.{lines_of}
 use Rattle.debug_script.specs.Scripts.{ObeysFirst}
-use Rattle.debug_script.proofs.FirstLine.{no_lines}
+use Rattle.text_lines.proofs.FirstLine.{no_lines}
 use Rattle.debug_script.proofs.Scripts.{first_more, obeys_none, plays_done, plays_stopped}
 use Rattle.debug_script.proofs.script.play.Goals as goal
 

@@ -1,5 +1,5 @@
 use Rattle.std.proofs.Common.{◌≡◌, ◌+◌, ◌≤◌, List, ℕ, length}
-use Rattle.debug_script.specs.Lines.{lines_of}
+use Rattle.text_lines.specs.Lines.{lines_of}
 use Rattle.debug_script.specs.Scripts.{ObeysFirst}
 use Rattle.debug_script.proofs.script.play.Given as goal
 

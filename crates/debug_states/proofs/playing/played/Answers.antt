@@ -1,5 +1,5 @@
 use Rattle.std.proofs.Common.{subst}
-use Rattle.debug_script.specs.Lines.{lines_of}
+use Rattle.text_lines.specs.Lines.{lines_of}
 use Rattle.debug_script.specs.Scripts.{Plays}
 use Rattle.md_debug.specs.Sessions.{SessionValue}
 use Rattle.state_images.specs.Images.{ImagesValue, Keeps, image_of, size_of}

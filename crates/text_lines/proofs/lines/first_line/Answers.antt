@@ -1,8 +1,8 @@
 use Rattle.std.proofs.Common.{◌≡◌, ℕ, ◌+◌, ◌-◌, List, [], ◌∷◌, length, take, drop, sym, ap, ◌∙◌, arith}
 use Rattle.std.proofs.lemmas.List.{length-drop, take_all}
-use Rattle.debug_script.specs.Lines.{lines_of}
-use Rattle.debug_script.proofs.FirstLine.{last_line, line_cut, no_line}
-use Rattle.debug_script.proofs.lines.first_line.Goals as goal
+use Rattle.text_lines.specs.Lines.{lines_of}
+use Rattle.text_lines.proofs.FirstLine.{last_line, line_cut, no_line}
+use Rattle.text_lines.proofs.lines.first_line.Goals as goal
 
 pub returns-then-end-text-clause-lines : goal.returns-then-end-text-clause-lines
 returns-then-end-text-clause-lines c =

@@ -1,7 +1,7 @@
 -- The first line of a text.
 use Rattle.std.proofs.Common.{◌≡◌, ◌≢◌, ℕ, zero, suc, ◌+◌, ◌<◌, ◌==◌, Bool, true, false, if◌then◌else◌, List, [], ◌∷◌, length, take, drop, get_or, refl, sym, ap, ◌∙◌, arith}
 use Rattle.std.proofs.lemmas.Bool.Decides.{nat_tests}
-use Rattle.debug_script.specs.Lines.{lines_of, with_first}
+use Rattle.text_lines.specs.Lines.{lines_of, with_first}
 
 is_feed : (n : ℕ) → n ≡ 10 → (n == 10) ≡ true
 is_feed n is = ap (λ (k : ℕ). k == 10) is

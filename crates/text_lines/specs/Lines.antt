@@ -1,4 +1,4 @@
--- The lines of a script. This project's profile.
+-- The lines of a text. This project's profile.
 use Rattle.std.specs.Prelude.{ℕ, ◌==◌, if◌then◌else◌, List, [], ◌∷◌}
 
 -- lines whose first one has a byte more before it
