@@ -20,6 +20,8 @@ The tables, all if none is named:
     memory      a run from a saved state within more and more memory, page by page: status 10 and no changed
                 file, or the whole run
     space       the same within more and more address space, of which the stack takes its part
+    session     a session of the debugger within more and more memory: a front part of its replies and
+                status 10, or all of them and 15 at its last line; the cartridge and the script stay
 
 Each prints how many cases it tried and what was wrong. The status is 0 where nothing was, else 1.
 """
@@ -413,6 +415,34 @@ def space(folder, step):
     return within(folder, resource.RLIMIT_AS)
 
 
+SCRIPT = b"step 1\nregs\nback 5\n"
+
+
+def session_wrong(found, whole):
+    """What is wrong with a session within too little memory, or nothing."""
+    status, text = found
+    end = "refused: memory\n"
+    is_front = status == 10 and text.endswith(end) and whole[1].startswith(text.removesuffix(end))
+    return "" if found == whole or is_front else f"status {status} with {text!r}"
+
+
+def session(folder, step):
+    """A session of the debugger; the stack is not bounded."""
+    build("show", folder / "game.bin")
+    (folder / "script").write_bytes(SCRIPT)
+    words, kind = ("debug", "game.bin", "script"), resource.RLIMIT_DATA
+    inputs = {path.name: path.read_bytes() for path in folder.iterdir()}
+    whole = run(folder, *words)
+    is_whole = whole[0] == 15 and whole[1].endswith("refused: script line 3: not kept, oldest 0\n")
+    yield "no limit", "" if is_whole else f"status {whole[0]} with {whole[1]!r}"
+    low = least_limit(folder, kind, 2, 0, "run")
+    high = least_limit(folder, kind, 15, low, *words) + 16 * PAGE
+    for limit in range(low, high, PAGE):
+        fault = session_wrong(bounded(folder, kind, limit, *words), whole)
+        kept = {path.name: path.read_bytes() for path in folder.iterdir()} == inputs
+        yield f"{limit} bytes", fault or ("" if kept else "other files")
+
+
 TABLES = {
     "cartridges": cartridges,
     "prefixes": prefixes,
@@ -422,6 +452,7 @@ TABLES = {
     "stores": stores,
     "memory": memory,
     "space": space,
+    "session": session,
 }
 
 
