@@ -10,6 +10,7 @@ pub mod Lookups
 pub mod Looks
 pub mod Orders
 pub mod Parsed
+pub mod Rollings
 pub mod Rows
 pub mod Simple
 pub mod Spellings

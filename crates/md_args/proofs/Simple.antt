@@ -6,7 +6,7 @@ use Rattle.clap.specs.Matches.{found_of}
 use Rattle.clap.specs.Simple.{App}
 use Rattle.clap.specs.Walk.{Row, Text, rows_of}
 use Rattle.clap.specs.declared.parser.matches.ArgMatches.{ArgMatches}
-use Rattle.md_args.specs.Parse.{asm_app, conversion_app, debug_app, demo_app, info_app, parse_of, run_app}
+use Rattle.md_args.specs.Parse.{asm_app, conversion_app, debug_app, demo_app, info_app, parse_of, rollback_app, run_app}
 
 pub info_is_simple : is_simple_and_free info_app ≡ true
 unfolding info_app
@@ -31,6 +31,10 @@ asm_is_simple = refl
 pub debug_is_simple : is_simple_and_free debug_app ≡ true
 unfolding debug_app
 debug_is_simple = refl
+
+pub rollback_is_simple : is_simple_and_free rollback_app ≡ true
+unfolding rollback_app
+rollback_is_simple = refl
 
 abbrev pub rows_in : Option ArgMatches → Option (List Row)
 rows_in = option_map (λ m. rows_of (found_of m))

@@ -5,7 +5,7 @@ use Rattle.clap.specs.Walk.{Row, Rule, Text, first_of, is_empty}
 use Rattle.clap.specs.Simple.{App, matches_of, new_app, new_rule, with_rule}
 use Rattle.clap.specs.Faults.{fault_of}
 use Rattle.clap.specs.declared.builder.action.ArgAction.TheVariants.{Set}
-use Rattle.md_args.specs.Words.{Assembling, Conversion, Debugging, Demo, Run, assembling_by, conversion_by, debugging_by, demo_by, info_by, run_by}
+use Rattle.md_args.specs.Words.{Assembling, Conversion, Debugging, Demo, Rolling, Run, assembling_by, conversion_by, debugging_by, demo_by, info_by, rolling_by, run_by}
 use Rattle.md_args.specs.declared.convert_words.Product.{Product}
 
 -- what a simple command makes of the words: the rows that it finds, or none where it refuses them
@@ -70,6 +70,11 @@ asm_app =
 unfoldable pub debug_app : App
 debug_app = fold with_rule (bare (codes "debug")) (required (positional (codes "rom")) ∷ required (positional (codes "script")) ∷ [])
 
+-- `rollback ROM INPUTS --window W`
+unfoldable pub rollback_app : App
+rollback_app =
+    fold with_rule (bare (codes "rollback")) (required (positional (codes "rom")) ∷ required (positional (codes "inputs")) ∷ required (option (codes "window")) ∷ [])
+
 -- the value that was found for an argument
 abbrev pub found_by : List Row → Text → Option Text
 found_by rows name = first_of name rows
@@ -97,3 +102,7 @@ assembling_parsed words = option_and_then (λ rows. assembling_by (found_by rows
 -- the session that the words behind `debug` give
 abbrev pub debugging_parsed : List Text → Option Debugging
 debugging_parsed words = option_and_then (λ rows. debugging_by (found_by rows)) (parse_of debug_app words)
+
+-- the session that the words behind `rollback` give
+abbrev pub rolling_parsed : List Text → Option Rolling
+rolling_parsed words = option_and_then (λ rows. rolling_by (found_by rows)) (parse_of rollback_app words)

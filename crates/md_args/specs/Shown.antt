@@ -1,13 +1,14 @@
 -- What the reader of the words found, as the definition's command.
 use Rattle.std.specs.Option.{option_copied}
 use Rattle.md_args.specs.Words as words
-use Rattle.md_args.specs.Words.{Assemble, Assembling, Command, Conversion, Convert, Debug, Debugging, Demo, Run, RunCart, RunDemo, Values}
+use Rattle.md_args.specs.Words.{Assemble, Assembling, Command, Conversion, Convert, Debug, Debugging, Demo, Rollback, Rolling, Run, RunCart, RunDemo, Values}
 use Rattle.md_args.specs.declared.asm_words.AsmWords.{AsmWords}
 use Rattle.md_args.specs.declared.command_words.CommandWords.{CommandWords}
 use Rattle.md_args.specs.declared.command_words.CommandWords.TheVariants as read
 use Rattle.md_args.specs.declared.convert_words.ConvertWords.{ConvertWords}
 use Rattle.md_args.specs.declared.debug_words.DebugWords.{DebugWords}
 use Rattle.md_args.specs.declared.demo_words.DemoWords.{DemoWords}
+use Rattle.md_args.specs.declared.rollback_words.RollbackWords.{RollbackWords}
 use Rattle.md_args.specs.declared.run_values.RunValues.{RunValues}
 use Rattle.md_args.specs.declared.run_words.RunWords.{RunWords}
 
@@ -39,6 +40,10 @@ shown_assembling words = record { source = words.source.now; output = words.outp
 abbrev pub shown_debugging : DebugWords → Debugging
 shown_debugging words = record { rom = words.rom.now; script = words.script.now }
 
+-- the session of two players that words were read as
+abbrev pub shown_rolling : RollbackWords → Rolling
+shown_rolling words = record { rom = words.rom.now; inputs = words.inputs.now; window = words.window }
+
 -- what is given for the arguments
 abbrev pub shown_values : RunValues → Values
 shown_values values =
@@ -67,3 +72,4 @@ shown_command (read.Demo demo) = RunDemo (shown_demo demo)
 shown_command (read.Convert words) = Convert (shown_conversion words)
 shown_command (read.Assemble words) = Assemble (shown_assembling words)
 shown_command (read.Debug words) = Debug (shown_debugging words)
+shown_command (read.Rollback words) = Rollback (shown_rolling words)

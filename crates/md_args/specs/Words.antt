@@ -53,8 +53,15 @@ pub record Debugging : Type 0 where
   pub rom : List ℕ
   pub script : List ℕ
 
+-- a session of two players: the names of the cartridge and of what they press, and how many frames it goes on without
+-- the buttons of a player
+pub record Rolling : Type 0 where
+  pub rom : List ℕ
+  pub inputs : List ℕ
+  pub window : ℕ
+
 -- what a command line asks for: the lines of a cartridge's header, by the cartridge's name, a run, a run of
--- a demonstration cartridge, a conversion, that a source is assembled, or a session of the debugger
+-- a demonstration cartridge, a conversion, that a source is assembled, a session of the debugger, or one of two players
 pub data Command : Type 0 where
   Info : List ℕ → Command
   RunCart : Run → Command
@@ -62,6 +69,7 @@ pub data Command : Type 0 where
   Convert : Conversion → Command
   Assemble : Assembling → Command
   Debug : Debugging → Command
+  Rollback : Rolling → Command
 
 -- the name of the first file that is read: the cartridge, the input of a conversion, or a source; a demonstration
 -- cartridge has none
@@ -72,6 +80,7 @@ rom_of (RunDemo demo) = []
 rom_of (Convert conversion) = conversion.input
 rom_of (Assemble assembling) = assembling.source
 rom_of (Debug debugging) = debugging.rom
+rom_of (Rollback rolling) = rolling.rom
 
 -- the name of the file that a conversion or an assembly makes; none where none is asked for
 abbrev pub output_of : Command → List ℕ
@@ -81,6 +90,7 @@ output_of (RunDemo demo) = []
 output_of (Convert conversion) = conversion.output
 output_of (Assemble assembling) = assembling.output
 output_of (Debug debugging) = []
+output_of (Rollback rolling) = []
 
 -- the conversion, if one is asked for
 abbrev pub conversion_in : Command → Option Conversion
@@ -90,6 +100,7 @@ conversion_in (RunDemo demo) = None
 conversion_in (Convert conversion) = Some conversion
 conversion_in (Assemble assembling) = None
 conversion_in (Debug debugging) = None
+conversion_in (Rollback rolling) = None
 
 -- the source that is assembled, if one is
 abbrev pub assembling_in : Command → Option Assembling
@@ -99,6 +110,7 @@ assembling_in (RunDemo demo) = None
 assembling_in (Convert conversion) = None
 assembling_in (Assemble assembling) = Some assembling
 assembling_in (Debug debugging) = None
+assembling_in (Rollback rolling) = None
 
 -- the name of the list of an assembly, if it is asked for
 abbrev pub list_name : Command → Option (List ℕ)
@@ -108,6 +120,7 @@ list_name (RunDemo demo) = None
 list_name (Convert conversion) = None
 list_name (Assemble assembling) = assembling.list
 list_name (Debug debugging) = None
+list_name (Rollback rolling) = None
 
 -- the session of the debugger, if one is asked for
 abbrev pub debugging_in : Command → Option Debugging
@@ -117,8 +130,19 @@ debugging_in (RunDemo demo) = None
 debugging_in (Convert conversion) = None
 debugging_in (Assemble assembling) = None
 debugging_in (Debug debugging) = Some debugging
+debugging_in (Rollback rolling) = None
 
--- the name of the debugger's script, if one is asked for
+-- the session of two players, if one is asked for
+abbrev pub rolling_in : Command → Option Rolling
+rolling_in (Info rom) = None
+rolling_in (RunCart run) = None
+rolling_in (RunDemo demo) = None
+rolling_in (Convert conversion) = None
+rolling_in (Assemble assembling) = None
+rolling_in (Debug debugging) = None
+rolling_in (Rollback rolling) = Some rolling
+
+-- the name of the debugger's script, or of what two players press, if one is asked for
 abbrev pub script_name : Command → Option (List ℕ)
 script_name (Info rom) = None
 script_name (RunCart run) = None
@@ -126,6 +150,7 @@ script_name (RunDemo demo) = None
 script_name (Convert conversion) = None
 script_name (Assemble assembling) = None
 script_name (Debug debugging) = Some debugging.script
+script_name (Rollback rolling) = Some rolling.inputs
 
 -- the run of a cartridge that is named, if one is asked for
 abbrev pub run_in : Command → Option Run
@@ -135,6 +160,7 @@ run_in (RunDemo demo) = None
 run_in (Convert conversion) = None
 run_in (Assemble assembling) = None
 run_in (Debug debugging) = None
+run_in (Rollback rolling) = None
 
 -- the cycle of the run's end; 0 where none is asked for
 abbrev pub end_of : Command → ℕ
@@ -144,6 +170,7 @@ end_of (RunDemo demo) = demo.cycles
 end_of (Convert conversion) = 0
 end_of (Assemble assembling) = 0
 end_of (Debug debugging) = 0
+end_of (Rollback rolling) = 0
 
 -- the name of the recording, if one is given
 abbrev pub recording_name : Command → Option (List ℕ)
@@ -153,6 +180,7 @@ recording_name (RunDemo demo) = None
 recording_name (Convert conversion) = None
 recording_name (Assemble assembling) = None
 recording_name (Debug debugging) = None
+recording_name (Rollback rolling) = None
 
 -- the name of the saved state to go on from, if one is given
 abbrev pub load_name : Command → Option (List ℕ)
@@ -162,6 +190,7 @@ load_name (RunDemo demo) = None
 load_name (Convert conversion) = None
 load_name (Assemble assembling) = None
 load_name (Debug debugging) = None
+load_name (Rollback rolling) = None
 
 -- the name of the state to save, if it is asked for
 abbrev pub save_name : Command → Option (List ℕ)
@@ -171,6 +200,7 @@ save_name (RunDemo demo) = None
 save_name (Convert conversion) = None
 save_name (Assemble assembling) = None
 save_name (Debug debugging) = None
+save_name (Rollback rolling) = None
 
 -- the name of the frames file, if one is asked for
 abbrev pub frames_name : Command → Option (List ℕ)
@@ -180,6 +210,7 @@ frames_name (RunDemo demo) = None
 frames_name (Convert conversion) = None
 frames_name (Assemble assembling) = None
 frames_name (Debug debugging) = None
+frames_name (Rollback rolling) = None
 
 -- the name of the sound file, if one is asked for
 abbrev pub sound_name : Command → Option (List ℕ)
@@ -189,6 +220,7 @@ sound_name (RunDemo demo) = None
 sound_name (Convert conversion) = None
 sound_name (Assemble assembling) = None
 sound_name (Debug debugging) = None
+sound_name (Rollback rolling) = None
 
 -- the name of the journal, if one is asked for
 abbrev pub journal_name : Command → Option (List ℕ)
@@ -198,6 +230,7 @@ journal_name (RunDemo demo) = None
 journal_name (Convert conversion) = None
 journal_name (Assemble assembling) = None
 journal_name (Debug debugging) = None
+journal_name (Rollback rolling) = None
 
 -- how many workers make it; 1 where none is asked for
 abbrev pub workers_in : Command → ℕ
@@ -207,6 +240,7 @@ workers_in (RunDemo demo) = demo.workers
 workers_in (Convert conversion) = 1
 workers_in (Assemble assembling) = 1
 workers_in (Debug debugging) = 1
+workers_in (Rollback rolling) = 1
 
 -- a word that can be a name: it is not empty and does not begin with a hyphen
 abbrev pub is_name : List ℕ → Bool
@@ -409,6 +443,32 @@ demo_by value = demo_given (value (codes "number")) (value (codes "cycles")) (va
 abbrev pub demo_of : List Text → Option Demo
 demo_of words = option_and_then (meant_by demo_by) (given (codes "number" ∷ []) (codes "cycles" ∷ codes "workers" ∷ []) (codes "pal" ∷ []) between words)
 
+-- a window: 1 to 16 frames
+abbrev pub some_window : ℕ → Option ℕ
+some_window n = if nat_le 1 n && nat_le n 16 then Some n else None
+
+-- a window that has to be there
+abbrev pub wanted_window : Option Text → Option ℕ
+wanted_window word = option_and_then some_window (wanted_number word)
+
+-- the session of these names, which are different, with this window
+abbrev pub rolling_from : Option Text → Option Text → Option ℕ → Option Rolling
+rolling_from (Some rom) (Some inputs) (Some window) =
+    if are_names (Some rom ∷ Some inputs ∷ []) then Some (record { rom = rom; inputs = inputs; window = window }) else None
+rolling_from rom inputs window = None
+
+abbrev pub rolling_given : Option Text → Option Text → Option Text → Option Rolling
+rolling_given rom inputs window = rolling_from rom inputs (wanted_window window)
+
+-- `rollback` has the names of a cartridge and of what two players press, and `--window W`
+abbrev pub rolling_by : (Text → Option Text) → Option Rolling
+rolling_by value = rolling_given (value (codes "rom")) (value (codes "inputs")) (value (codes "window"))
+
+-- the session that the words behind `rollback` give
+abbrev pub rolling_of : List Text → Option Rolling
+rolling_of words =
+    option_and_then (meant_by rolling_by) (given (codes "rom" ∷ codes "inputs" ∷ []) (codes "window" ∷ []) [] between words)
+
 -- the first word chooses the command
 unfoldable pub command_of : List Text → Option Command
 command_of [] = None
@@ -420,6 +480,7 @@ command_of (command ∷ words) =
     else if bytes_eq command (codes "play") then option_map Convert (conversion_of Sound words)
     else if bytes_eq command (codes "asm") then option_map Assemble (assembling_of words)
     else if bytes_eq command (codes "debug") then option_map Debug (debugging_of words)
+    else if bytes_eq command (codes "rollback") then option_map Rollback (rolling_of words)
     else None
 
 -- the run but for the number of its workers

@@ -76,6 +76,16 @@ pub(crate) fn debug_command<'a>(alloc: Global) -> Result<Command<'a>, AllocError
     Ok(script)
 }
 
+/// The command `rollback ROM INPUTS --window W`, behind its word.
+pub(crate) fn rollback_command<'a>(alloc: Global) -> Result<Command<'a>, AllocError>
+    ensures { IfOk result (λ command. app_of command ≡ meaning.rollback_app) }
+{
+    let rom = with_wanted_word(bare(alloc, "rollback"), alloc, "rom")?;
+    let inputs = with_wanted_word(rom, alloc, "inputs")?;
+    let window = with_wanted_option(inputs, alloc, "window")?;
+    Ok(window)
+}
+
 /// A command with no argument yet, which reads no program's name and has no help.
 fn bare<'a>(alloc: Global, name: &'a str) -> Command<'a>
     ensures { app_of result ≡ meaning.bare name.entry.now }

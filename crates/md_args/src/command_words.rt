@@ -7,6 +7,7 @@ use crate::asm_words::AsmWords;
 use crate::convert_words::ConvertWords;
 use crate::debug_words::DebugWords;
 use crate::demo_words::DemoWords;
+use crate::rollback_words::RollbackWords;
 use crate::run_words::RunWords;
 
 /// What the words of the command line ask for.
@@ -24,6 +25,8 @@ pub enum CommandWords<'a> {
     Assemble(AsmWords<'a>),
     /// A session of the debugger.
     Debug(DebugWords<'a>),
+    /// A session of two players.
+    Rollback(RollbackWords<'a>),
 }
 
 impl<'a> CommandWords<'a> {
@@ -39,6 +42,7 @@ impl<'a> CommandWords<'a> {
             CommandWords::Convert(words) => words.input,
             CommandWords::Assemble(words) => words.source,
             CommandWords::Debug(words) => words.rom,
+            CommandWords::Rollback(words) => words.rom,
         }
     }
 
@@ -50,7 +54,8 @@ impl<'a> CommandWords<'a> {
             CommandWords::Info(_)
             | CommandWords::Run(_)
             | CommandWords::Demo(_)
-            | CommandWords::Debug(_) => "",
+            | CommandWords::Debug(_)
+            | CommandWords::Rollback(_) => "",
             CommandWords::Convert(words) => words.output,
             CommandWords::Assemble(words) => words.output,
         }
@@ -64,7 +69,8 @@ impl<'a> CommandWords<'a> {
             CommandWords::Info(_)
             | CommandWords::Convert(_)
             | CommandWords::Assemble(_)
-            | CommandWords::Debug(_) => 0,
+            | CommandWords::Debug(_)
+            | CommandWords::Rollback(_) => 0,
             CommandWords::Run(run) => run.cycles,
             CommandWords::Demo(demo) => demo.cycles,
         }
@@ -79,7 +85,8 @@ impl<'a> CommandWords<'a> {
             | CommandWords::Demo(_)
             | CommandWords::Convert(_)
             | CommandWords::Assemble(_)
-            | CommandWords::Debug(_) => None,
+            | CommandWords::Debug(_)
+            | CommandWords::Rollback(_) => None,
             CommandWords::Run(run) => run.recording,
         }
     }
@@ -93,7 +100,8 @@ impl<'a> CommandWords<'a> {
             | CommandWords::Demo(_)
             | CommandWords::Convert(_)
             | CommandWords::Assemble(_)
-            | CommandWords::Debug(_) => None,
+            | CommandWords::Debug(_)
+            | CommandWords::Rollback(_) => None,
             CommandWords::Run(run) => run.load,
         }
     }
@@ -107,7 +115,8 @@ impl<'a> CommandWords<'a> {
             | CommandWords::Demo(_)
             | CommandWords::Convert(_)
             | CommandWords::Assemble(_)
-            | CommandWords::Debug(_) => None,
+            | CommandWords::Debug(_)
+            | CommandWords::Rollback(_) => None,
             CommandWords::Run(run) => run.save,
         }
     }
@@ -121,7 +130,8 @@ impl<'a> CommandWords<'a> {
             | CommandWords::Demo(_)
             | CommandWords::Convert(_)
             | CommandWords::Assemble(_)
-            | CommandWords::Debug(_) => None,
+            | CommandWords::Debug(_)
+            | CommandWords::Rollback(_) => None,
             CommandWords::Run(run) => run.frames,
         }
     }
@@ -135,7 +145,8 @@ impl<'a> CommandWords<'a> {
             | CommandWords::Demo(_)
             | CommandWords::Convert(_)
             | CommandWords::Assemble(_)
-            | CommandWords::Debug(_) => None,
+            | CommandWords::Debug(_)
+            | CommandWords::Rollback(_) => None,
             CommandWords::Run(run) => run.sound,
         }
     }
@@ -149,7 +160,8 @@ impl<'a> CommandWords<'a> {
             | CommandWords::Demo(_)
             | CommandWords::Convert(_)
             | CommandWords::Assemble(_)
-            | CommandWords::Debug(_) => None,
+            | CommandWords::Debug(_)
+            | CommandWords::Rollback(_) => None,
             CommandWords::Run(run) => run.journal,
         }
     }
@@ -163,12 +175,13 @@ impl<'a> CommandWords<'a> {
             | CommandWords::Run(_)
             | CommandWords::Demo(_)
             | CommandWords::Convert(_)
-            | CommandWords::Debug(_) => None,
+            | CommandWords::Debug(_)
+            | CommandWords::Rollback(_) => None,
             CommandWords::Assemble(words) => words.list,
         }
     }
 
-    /// The name of the debugger's script, if one is asked for.
+    /// The name of the debugger's script, or of what two players press, if one is asked for.
     pub fn script(&self) -> Option<&'a str>
         ensures { option_copied result ≡ script_name (shown_command self.now) }
     {
@@ -179,6 +192,7 @@ impl<'a> CommandWords<'a> {
             | CommandWords::Convert(_)
             | CommandWords::Assemble(_) => None,
             CommandWords::Debug(words) => Some(words.script),
+            CommandWords::Rollback(words) => Some(words.inputs),
         }
     }
 
@@ -192,7 +206,8 @@ impl<'a> CommandWords<'a> {
             CommandWords::Info(_)
             | CommandWords::Convert(_)
             | CommandWords::Assemble(_)
-            | CommandWords::Debug(_) => 1,
+            | CommandWords::Debug(_)
+            | CommandWords::Rollback(_) => 1,
             CommandWords::Run(run) => run.workers,
             CommandWords::Demo(demo) => demo.workers,
         }

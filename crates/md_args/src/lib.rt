@@ -16,6 +16,8 @@ mod names;
 mod numbers;
 mod parse;
 mod reading;
+mod rollback_reading;
+mod rollback_words;
 mod run_values;
 mod run_words;
 
@@ -25,4 +27,5 @@ pub use convert_words::{ConvertWords, Product};
 pub use debug_words::DebugWords;
 pub use demo_words::DemoWords;
 pub use reading::read_words;
+pub use rollback_words::RollbackWords;
 pub use run_words::RunWords;

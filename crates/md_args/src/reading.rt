@@ -16,6 +16,7 @@ use crate::demo_reading::read_demo;
 use crate::names::{have_names, is_name};
 use crate::numbers::{read_number, read_workers};
 use crate::parse::parse;
+use crate::rollback_reading::read_rollback;
 use crate::run_values::RunValues;
 use crate::run_words::RunWords;
 use clap::ArgMatches;
@@ -27,10 +28,11 @@ use std::alloc::{AllocError, Global};
 /// They are `info ROM`, `run ROM --cycles N` with `--in P`, `--load S`, `--save S`, `--frames F`,
 /// `--sound W`, `--journal J`, `--workers K` and, where no `--load` is, `--pal` where they are wanted,
 /// `demo NUMBER --cycles N --workers W`, with `--pal` where it is wanted, `vgm JOURNAL OUT` or `play VGM OUT`,
-/// with it too, `asm SOURCE OUT`, with `--list L`, or `debug ROM SCRIPT`. Options stand in any order among
-/// the other words, each at most once, as two words or as `--name=value`; `--` ends the options. Names are
-/// not empty, do not begin with a hyphen, and are pairwise different. Numbers are 1 to 20 decimal digits
-/// with a value below 2^64; K and W are 1 to 5.
+/// with it too, `asm SOURCE OUT`, with `--list L`, `debug ROM SCRIPT`, or `rollback ROM INPUTS --window W`.
+/// Options stand in any order among the other words, each at most once, as two words or as `--name=value`;
+/// `--` ends the options. Names are not empty, do not begin with a hyphen, and are pairwise different. Numbers
+/// are 1 to 20 decimal digits with a value below 2^64; K and the W of `demo` are 1 to 5, and that of `rollback`
+/// is 1 to 16.
 #[tactic(auto, unfolding(crate::specs::Words::command_of))]
 pub fn read_words<'a>(
     alloc: Global,
@@ -86,6 +88,13 @@ pub fn read_words<'a>(
     if command.as_str() == "debug" {
         return match read_debug(alloc, rest) {
             Ok(Some(words)) => Ok(Some(CommandWords::Debug(words))),
+            Ok(None) => Ok(None),
+            Err(error) => Err(error),
+        };
+    }
+    if command.as_str() == "rollback" {
+        return match read_rollback(alloc, rest) {
+            Ok(Some(words)) => Ok(Some(CommandWords::Rollback(words))),
             Ok(None) => Ok(None),
             Err(error) => Err(error),
         };

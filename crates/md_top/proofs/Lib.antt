@@ -15,6 +15,7 @@ pub mod Named
 pub mod Puts
 pub mod Rests
 pub mod Right
+pub mod Rollings
 pub mod Rows
 pub mod Segments
 pub mod Statuses

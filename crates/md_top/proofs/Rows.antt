@@ -15,11 +15,12 @@ use Rattle.md_top.specs.Runs.{pieces_of, pieces_until}
 use Rattle.md_top.specs.Endings.{Findings, HasCause, InfoEnds, LeavesFiles, RunEnds, RunFiles, accepted_ending, asked_ending, file_ending, loaded_ending, right_ending, status_of}
 use Rattle.md_top.specs.Outputs.{LeavesParts, Parts, Pieces, all_of, nothing, with_part, written}
 use Rattle.md_vgm.specs.Outcomes.{Made, Outcome}
-use Rattle.md_args.specs.Words.{Assemble, Command, Convert, Debug, Debugging, Info, Run, RunCart, RunDemo}
+use Rattle.md_args.specs.Words.{Assemble, Command, Convert, Debug, Debugging, Info, Rollback, Rolling, Run, RunCart, RunDemo}
 use Rattle.md_top.specs.Assemblies.{asm_ending}
 use Rattle.md_top.specs.Conversions.{convert_ending}
 use Rattle.md_top.specs.Debuggings.{Scripted}
 use Rattle.debug_script.specs.declared.script.Ending.TheVariants.{Obeyed}
+use Rattle.rollback_states.specs.declared.rolled.Comes.TheVariants as comes
 use Rattle.md_top.specs.declared.ending.Ending.{Ending}
 use Rattle.md_top.specs.declared.ending.Ending.TheVariants.{Shown, Done, Usage, TooFar, RecordingFault, RecordingTooLong, RecordingWrong, LoadFault, StateTooLong, StateWrong, OtherCart, Behind, FramesFault, SoundFault, JournalFault, SaveFault, Unsaved, Memory}
 use Rattle.md_top.proofs.Assemblies.{asm_behind, asm_done, asm_far, asm_other, asm_read_fault, asm_refused_input, asm_refused_source, asm_right, asm_state, asm_usage, asm_write_fault, asm_wrong, assembled_other, convert_source, info_source, run_source}
@@ -27,6 +28,7 @@ use Rattle.md_top.proofs.Conversions.{convert_behind, convert_done, convert_far,
 use Rattle.md_top.proofs.Debuggings.{IsDebugRight, asm_script, convert_script, debug_behind, debug_done, debug_far, debug_input, debug_other, debug_read_fault, debug_refused, debug_right, debug_source, debug_state, debug_usage, debug_write_fault, debug_wrong, demo_script, info_script, run_script}
 use Rattle.md_top.proofs.Demos.{demo_behind, demo_far, demo_far_only, demo_never, demo_refused, demo_right, demo_source, right_demo_done}
 use Rattle.md_top.proofs.Right.{IsRunRight, cart_always, cart_right, load_right_with, recording_always, recording_judged, recording_right, right_accepted, right_behind, right_behind_cart, right_done, right_far, right_load, right_near, right_with, right_without, state_judged}
+use Rattle.md_top.proofs.Rollings.{IsRollRight, asm_line, convert_line, debug_line, demo_line, info_line, roll_behind, roll_done, roll_far, roll_input, roll_other, roll_read_fault, roll_refused, roll_right, roll_script, roll_source, roll_state, roll_usage, roll_write_fault, roll_wrong, run_line}
 use Rattle.md_top.proofs.Statuses.{reported, of_ending, info_usage, run_usage, info_far, run_far, info_read_fault, run_read_fault, info_wrong, run_wrong, info_state, run_state, info_other, run_other, info_behind, run_behind, info_write_fault, run_write_fault, far_only}
 
 -- WITHOUT A FAULT
@@ -143,25 +145,34 @@ no_script : Scripted
 no_script = record { replies = []; ending = Obeyed }
 
 none_found : Findings
-none_found = record { state = StateWrongAt 0; script = no_script }
+none_found = record { state = StateWrongAt 0; script = no_script; comes = comes.NoMemory }
 
 exact_run : (run : Run) (files : Files) (verdict : Verdict) (outcome : Outcome) (status of : ℕ) {P : Type 0} → (status ≡ of) ⊎ ((status ≡ 13) × P) → ¬ P
     → IsRunRight run files verdict of ⊎ (of ≡ 10) → IsRight (Some (RunCart run)) files verdict outcome status ⊎ (status ≡ 10)
 exact_run run files verdict outcome status of (inl same) clean (inl (state, inl judged, is)) =
-    inl (record { state = state; script = no_script }, inl (judged, tt), same ∙ is)
+    inl (record { state = state; script = no_script; comes = comes.NoMemory }, inl (judged, tt, tt), same ∙ is)
 exact_run run files verdict outcome status of (inl same) clean (inl (state, inr none, is)) =
-    inl (record { state = state; script = no_script }, inr (λ other. none other.state), same ∙ is)
+    inl (record { state = state; script = no_script; comes = comes.NoMemory }, inr (λ other. none other.state), same ∙ is)
 exact_run run files verdict outcome status of (inl same) clean (inr memory) = inr (same ∙ memory)
 exact_run run files verdict outcome status of (inr (out, rose)) clean is = absurd (clean rose)
 
 exact_debug : (words : Debugging) (files : Files) (verdict : Verdict) (outcome : Outcome) (status of : ℕ) {P : Type 0} → (status ≡ of) ⊎ ((status ≡ 13) × P) → ¬ P
     → IsDebugRight words files of ⊎ (of ≡ 10) → IsRight (Some (Debug words)) files verdict outcome status ⊎ (status ≡ 10)
 exact_debug words files verdict outcome status of (inl same) clean (inl (script, inl scripted, is)) =
-    inl (record { state = StateWrongAt 0; script = script }, inl (tt, scripted), same ∙ is)
+    inl (record { state = StateWrongAt 0; script = script; comes = comes.NoMemory }, inl (tt, scripted, tt), same ∙ is)
 exact_debug words files verdict outcome status of (inl same) clean (inl (script, inr none, is)) =
-    inl (record { state = StateWrongAt 0; script = script }, inr (λ other. none other.script), same ∙ is)
+    inl (record { state = StateWrongAt 0; script = script; comes = comes.NoMemory }, inr (λ other. none other.script), same ∙ is)
 exact_debug words files verdict outcome status of (inl same) clean (inr memory) = inr (same ∙ memory)
 exact_debug words files verdict outcome status of (inr (out, rose)) clean is = absurd (clean rose)
+
+exact_roll : (words : Rolling) (files : Files) (verdict : Verdict) (outcome : Outcome) (status of : ℕ) {P : Type 0} → (status ≡ of) ⊎ ((status ≡ 13) × P) → ¬ P
+    → IsRollRight words files of ⊎ (of ≡ 10) → IsRight (Some (Rollback words)) files verdict outcome status ⊎ (status ≡ 10)
+exact_roll words files verdict outcome status of (inl same) clean (inl (to, inl found, is)) =
+    inl (record { state = StateWrongAt 0; script = no_script; comes = to }, inl (tt, tt, found), same ∙ is)
+exact_roll words files verdict outcome status of (inl same) clean (inl (to, inr none, is)) =
+    inl (record { state = StateWrongAt 0; script = no_script; comes = to }, inr (λ other. none other.comes), same ∙ is)
+exact_roll words files verdict outcome status of (inl same) clean (inr memory) = inr (same ∙ memory)
+exact_roll words files verdict outcome status of (inr (out, rose)) clean is = absurd (clean rose)
 
 -- a command that asks for no run and no session hangs on no saved state and no script
 exact_other : (command : Option Command) (files : Files) (verdict : Verdict) (outcome : Outcome) (status : ℕ) → AreFindingsRight command files verdict outcome none_found
@@ -249,9 +260,10 @@ none_causes told old out out' status (inl two) = record {
   input_refused = λ is. absurd (omega (arith, two, is));
   source_refused = λ is. absurd (omega (arith, two, is));
   script_refused = λ is. absurd (omega (arith, two, is));
+  line_refused = λ is. absurd (omega (arith, two, is));
   write_fault = λ is. absurd (omega (arith, two, is));
   out_fault = λ is. absurd (omega (arith, two, is));
-  exact = λ clean t verdict is outcome known. inl (none_found, inl (tt, tt), two);
+  exact = λ clean t verdict is outcome known. inl (none_found, inl (tt, tt, tt), two);
   complete = λ clean t ready. absurd ready;
   others = λ t. tt;
 }
@@ -268,6 +280,7 @@ none_causes told old out out' status (inr ten) = record {
   input_refused = λ is. absurd (omega (arith, ten, is));
   source_refused = λ is. absurd (omega (arith, ten, is));
   script_refused = λ is. absurd (omega (arith, ten, is));
+  line_refused = λ is. absurd (omega (arith, ten, is));
   write_fault = λ is. absurd (omega (arith, ten, is));
   out_fault = λ is. absurd (omega (arith, ten, is));
   exact = λ clean t verdict is outcome known. inr ten;
@@ -293,10 +306,11 @@ causes_of told sink (Info rom) old new out out' status ending cause leaves repor
       input_refused = λ seventeen. absurd (info_refused told rom old new ending cause (of_ending status (status_of ending) 17 by seventeen (λ is. omega (arith, is))));
       source_refused = λ sixteen. absurd (info_source told rom old new ending cause (of_ending status (status_of ending) 16 by sixteen (λ is. omega (arith, is))));
       script_refused = λ fifteen. absurd (info_script told rom old new ending cause (of_ending status (status_of ending) 15 by fifteen (λ is. omega (arith, is))));
+      line_refused = λ eighteen. absurd (info_line told rom old new ending cause (of_ending status (status_of ending) 18 by eighteen (λ is. omega (arith, is))));
       write_fault = λ four. info_write_fault told rom old new ending cause (of_ending status (status_of ending) 4 by four (λ is. omega (arith, is)));
       out_fault = λ thirteen. out_fault status (status_of ending) by (not_out ending) thirteen;
       exact = λ clean t verdict is outcome known.
-          exact_other (Some (Info rom)) old.files verdict outcome status (inl (tt, tt))
+          exact_other (Some (Info rom)) old.files verdict outcome status (inl (tt, tt, tt))
           (exact_is status (status_of ending) (status_of (right_ending (Some (Info rom)) old.files verdict none_found outcome)) by clean.puts
           (info_right told rom old new verdict none_found outcome ending cause clean.reads t));
       complete = λ clean t ready.
@@ -321,6 +335,7 @@ causes_of told sink (RunCart run) old new out out' status ending cause leaves re
       input_refused = λ seventeen. absurd (run_refused told run old new ending cause (of_ending status (status_of ending) 17 by seventeen (λ is. omega (arith, is))));
       source_refused = λ sixteen. absurd (run_source told run old new ending cause (of_ending status (status_of ending) 16 by sixteen (λ is. omega (arith, is))));
       script_refused = λ fifteen. absurd (run_script told run old new ending cause (of_ending status (status_of ending) 15 by fifteen (λ is. omega (arith, is))));
+      line_refused = λ eighteen. absurd (run_line told run old new ending cause (of_ending status (status_of ending) 18 by eighteen (λ is. omega (arith, is))));
       write_fault = λ four. run_write_fault told run old new ending cause (of_ending status (status_of ending) 4 by four (λ is. omega (arith, is)));
       out_fault = λ thirteen. out_fault status (status_of ending) by (not_out ending) thirteen;
       exact = λ clean t verdict is outcome known.
@@ -352,10 +367,11 @@ causes_of told sink (Convert conversion) old new out out' status ending cause le
       input_refused = λ seventeen. convert_refused told conversion old new ending cause (of_ending status (status_of ending) 17 by seventeen (λ is. omega (arith, is)));
       source_refused = λ sixteen. absurd (convert_source told conversion old new ending cause (of_ending status (status_of ending) 16 by sixteen (λ is. omega (arith, is))));
       script_refused = λ fifteen. absurd (convert_script told conversion old new ending cause (of_ending status (status_of ending) 15 by fifteen (λ is. omega (arith, is))));
+      line_refused = λ eighteen. absurd (convert_line told conversion old new ending cause (of_ending status (status_of ending) 18 by eighteen (λ is. omega (arith, is))));
       write_fault = λ four. convert_write_fault told conversion old new ending cause (of_ending status (status_of ending) 4 by four (λ is. omega (arith, is)));
       out_fault = λ thirteen. out_fault status (status_of ending) by (not_out ending) thirteen;
       exact = λ clean t verdict is outcome known.
-          exact_other (Some (Convert conversion)) old.files verdict outcome status (inl (tt, tt))
+          exact_other (Some (Convert conversion)) old.files verdict outcome status (inl (tt, tt, tt))
           (exact_is status (status_of ending) (status_of (convert_ending conversion old.files outcome)) by clean.puts
           (convert_right told conversion old new outcome ending cause known clean.reads clean.writes t));
       complete = λ clean t ready.
@@ -382,10 +398,11 @@ causes_of told sink (RunDemo demo) old new out out' status ending (same, ends) l
       input_refused = λ seventeen. absurd (demo_refused demo ending ends (of_ending status (status_of ending) 17 by seventeen (λ is. omega (arith, is))));
       source_refused = λ sixteen. absurd (demo_source demo ending ends (of_ending status (status_of ending) 16 by sixteen (λ is. omega (arith, is))));
       script_refused = λ fifteen. absurd (demo_script demo ending ends (of_ending status (status_of ending) 15 by fifteen (λ is. omega (arith, is))));
+      line_refused = λ eighteen. absurd (demo_line demo ending ends (of_ending status (status_of ending) 18 by eighteen (λ is. omega (arith, is))));
       write_fault = λ four. absurd (never 4 (of_ending status (status_of ending) 4 by four (λ is. omega (arith, is))) (omega arith) (omega arith));
       out_fault = λ thirteen. out_fault status (status_of ending) by (not_out ending) thirteen;
       exact = λ clean t verdict is outcome known.
-          exact_other (Some (RunDemo demo)) old.files verdict outcome status (inl (tt, tt))
+          exact_other (Some (RunDemo demo)) old.files verdict outcome status (inl (tt, tt, tt))
           (exact_is status (status_of ending) (status_of (right_ending (Some (RunDemo demo)) old.files verdict none_found outcome)) by clean.puts
           (demo_right demo old.files verdict none_found outcome ending ends));
       complete = λ clean t ready.
@@ -410,10 +427,11 @@ causes_of told sink (Assemble words) old new out out' status ending cause leaves
       input_refused = λ seventeen. absurd (asm_refused_input told words old new ending cause (of_ending status (status_of ending) 17 by seventeen (λ is. omega (arith, is))));
       source_refused = λ sixteen. asm_refused_source told words old new ending cause (of_ending status (status_of ending) 16 by sixteen (λ is. omega (arith, is)));
       script_refused = λ fifteen. absurd (asm_script told words old new ending cause (of_ending status (status_of ending) 15 by fifteen (λ is. omega (arith, is))));
+      line_refused = λ eighteen. absurd (asm_line told words old new ending cause (of_ending status (status_of ending) 18 by eighteen (λ is. omega (arith, is))));
       write_fault = λ four. asm_write_fault told words old new ending cause (of_ending status (status_of ending) 4 by four (λ is. omega (arith, is)));
       out_fault = λ thirteen. out_fault status (status_of ending) by (not_out ending) thirteen;
       exact = λ clean t verdict is outcome known.
-          exact_other (Some (Assemble words)) old.files verdict outcome status (inl (tt, tt))
+          exact_other (Some (Assemble words)) old.files verdict outcome status (inl (tt, tt, tt))
           (exact_is status (status_of ending) (status_of (asm_ending words old.files)) by clean.puts
           (asm_right told words old new ending cause clean.reads clean.writes t));
       complete = λ clean t ready.
@@ -438,12 +456,37 @@ causes_of told sink (Debug words) old new out out' status ending cause leaves re
       input_refused = λ seventeen. absurd (debug_input told words old new ending cause (of_ending status (status_of ending) 17 by seventeen (λ is. omega (arith, is))));
       source_refused = λ sixteen. absurd (debug_source told words old new ending cause (of_ending status (status_of ending) 16 by sixteen (λ is. omega (arith, is))));
       script_refused = λ fifteen. debug_refused told words old new ending cause (of_ending status (status_of ending) 15 by fifteen (λ is. omega (arith, is)));
+      line_refused = λ eighteen. absurd (debug_line told words old new ending cause (of_ending status (status_of ending) 18 by eighteen (λ is. omega (arith, is))));
       write_fault = λ four. debug_write_fault told words old new ending cause (of_ending status (status_of ending) 4 by four (λ is. omega (arith, is)));
       out_fault = λ thirteen. out_fault status (status_of ending) by (not_out ending) thirteen;
       exact = λ clean t verdict is outcome known.
           exact_debug words old.files verdict outcome status (status_of ending) by clean.puts (debug_right told words old new ending cause clean.reads t);
       complete = λ clean t ready.
           ready_ends status 0 (exact_is status (status_of ending) 0 by clean.puts (debug_done told words old new ending ready cause clean.reads t)) refl;
+      others = λ t name not_frames no_sound no_journal no_save no_output no_image. ap (λ (files : Files). files name) (leaves t);
+    }
+causes_of told sink (Rollback words) old new out out' status ending cause leaves reports =
+    let by = reported sink (Some (Rollback words)) ending out out' status reports in
+    record {
+      usage = λ two. absurd (roll_usage told words old new ending cause (of_ending status (status_of ending) 2 by two (λ is. omega (arith, is))));
+      refused = λ none. absurd (is_asked (Rollback words) none);
+      too_far = λ eleven. absurd (roll_far told words old new ending cause (of_ending status (status_of ending) 11 by eleven (λ is. omega (arith, is))));
+      far_refused = λ far. absurd (omega (arith, far));
+      read_fault = λ three. roll_read_fault told words old new ending cause (of_ending status (status_of ending) 3 by three (λ is. omega (arith, is)));
+      wrong = λ six. absurd (roll_wrong told words old new ending cause (of_ending status (status_of ending) 6 by six (λ is. omega (arith, is))));
+      state_wrong = λ seven. absurd (roll_state told words old new ending cause (of_ending status (status_of ending) 7 by seven (λ is. omega (arith, is))));
+      other_cart = λ eight. absurd (roll_other told words old new ending cause (of_ending status (status_of ending) 8 by eight (λ is. omega (arith, is))));
+      behind = λ nine. absurd (roll_behind told words old new ending cause (of_ending status (status_of ending) 9 by nine (λ is. omega (arith, is))));
+      input_refused = λ seventeen. absurd (roll_input told words old new ending cause (of_ending status (status_of ending) 17 by seventeen (λ is. omega (arith, is))));
+      source_refused = λ sixteen. absurd (roll_source told words old new ending cause (of_ending status (status_of ending) 16 by sixteen (λ is. omega (arith, is))));
+      script_refused = λ fifteen. absurd (roll_script told words old new ending cause (of_ending status (status_of ending) 15 by fifteen (λ is. omega (arith, is))));
+      line_refused = λ eighteen. roll_refused told words old new ending cause (of_ending status (status_of ending) 18 by eighteen (λ is. omega (arith, is)));
+      write_fault = λ four. roll_write_fault told words old new ending cause (of_ending status (status_of ending) 4 by four (λ is. omega (arith, is)));
+      out_fault = λ thirteen. out_fault status (status_of ending) by (not_out ending) thirteen;
+      exact = λ clean t verdict is outcome known.
+          exact_roll words old.files verdict outcome status (status_of ending) by clean.puts (roll_right told words old new ending cause clean.reads t);
+      complete = λ clean t ready.
+          ready_ends status 0 (exact_is status (status_of ending) 0 by clean.puts (roll_done told words old new ending ready cause clean.reads t)) refl;
       others = λ t name not_frames no_sound no_journal no_save no_output no_image. ap (λ (files : Files). files name) (leaves t);
     }
 
@@ -456,6 +499,7 @@ memory_cause told (Some (RunDemo demo)) old = (refl, tt)
 memory_cause told (Some (Convert conversion)) old = tt
 memory_cause told (Some (Assemble words)) old = tt
 memory_cause told (Some (Debug words)) old = tt
+memory_cause told (Some (Rollback words)) old = tt
 
 memory_leaves : (command : Option Command) (files : Files) → LeavesFiles command files files Memory
 memory_leaves None files = refl
@@ -464,6 +508,7 @@ memory_leaves (Some (RunDemo demo)) files = refl
 memory_leaves (Some (Convert conversion)) files = refl
 memory_leaves (Some (Assemble words)) files = inl refl
 memory_leaves (Some (Debug words)) files = refl
+memory_leaves (Some (Rollback words)) files = refl
 memory_leaves (Some (RunCart run)) files = record {
   parts = record { frames = None; sound = None; journal = None; state = None };
   frames = tt;

@@ -11,7 +11,7 @@ use Rattle.state_laws.specs.Verdicts.{OfOther, StateWrongAt}
 use Rattle.md_top.specs.Endings.{InfoEnds, RunEnds, status_of, text_of}
 use Rattle.md_args.specs.Words.{Command, Info, Run, RunCart}
 use Rattle.md_top.specs.declared.ending.Ending.{Ending}
-use Rattle.md_top.specs.declared.ending.Ending.TheVariants.{Shown, Done, DemoDone, Converted, OutputFault, ListFault, Usage, TooFar, ReadFault, RecordingFault, RecordingWrong, LoadFault, ScriptFault, StateWrong, OtherCart, Behind, FramesFault, SoundFault, JournalFault, SaveFault, Unsaved, Memory}
+use Rattle.md_top.specs.declared.ending.Ending.TheVariants.{Shown, Done, DemoDone, Converted, RolledBack, OutputFault, ListFault, Usage, TooFar, ReadFault, RecordingFault, RecordingWrong, LoadFault, ScriptFault, StateWrong, OtherCart, Behind, FramesFault, SoundFault, JournalFault, SaveFault, Unsaved, Memory}
 
 -- the status is the ending's, but where the sink failed within an output
 pub put_output : (told : Type 0) (text : List ℕ) (out out' : SinkState) (status : ℕ) → PutsOutput told text out out' status
@@ -25,6 +25,7 @@ reported sink command (Shown lines) out out' status reports = put_output sink (t
 reported sink command (Done from frames accesses halted) out out' status reports = put_output sink (text_of command (Done from frames accesses halted)) out out' status reports
 reported sink command (DemoDone summary) out out' status reports = put_output sink (text_of command (DemoDone summary)) out out' status reports
 reported sink command (Converted size) out out' status reports = put_output sink (text_of command (Converted size)) out out' status reports
+reported sink command (RolledBack rolled) out out' status reports = put_output sink (text_of command (RolledBack rolled)) out out' status reports
 reported sink command _ out out' status reports = inl reports.0
 
 -- a status other than 13 is the ending's

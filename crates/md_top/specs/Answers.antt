@@ -8,13 +8,14 @@ use Rattle.md_top.specs.Loads.{Begins, IsLoadFound, IsStateJudged, MayBeginAt}
 use Rattle.state_laws.specs.Verdicts.{OfOther, StateWrongAt}
 use Rattle.md_machine.specs.Starts.{Start}
 use Rattle.md_vgm.specs.Outcomes.{Outcome}
-use Rattle.md_args.specs.Words.{Assemble, Command, Convert, Debug, Info, RunCart, RunDemo, assembling_in, conversion_in, debugging_in, end_of, frames_name, journal_name, recording_name, run_in, save_name, sound_name}
+use Rattle.md_args.specs.Words.{Assemble, Command, Convert, Debug, Info, Rollback, RunCart, RunDemo, assembling_in, conversion_in, debugging_in, end_of, frames_name, journal_name, recording_name, rolling_in, run_in, save_name, sound_name}
 use Rattle.md_top.specs.Assemblies.{IsRefusedSource}
 use Rattle.md_top.specs.Conversions.{IsInputOutcome, IsRefusedInput}
 use Rattle.md_top.specs.Debuggings.{IsRefusedScript, IsScripted}
+use Rattle.md_top.specs.Rollings.{IsRefusedLine, IsRollFound}
 use Rattle.md_top.specs.Endings.{Findings, HasCause, IsReady, LeavesFiles, right_ending, status_of, text_of}
 use Rattle.md_top.specs.declared.ending.Ending.{Ending}
-use Rattle.md_top.specs.declared.ending.Ending.TheVariants.{Converted, DemoDone, Done, Shown}
+use Rattle.md_top.specs.declared.ending.Ending.TheVariants.{Converted, DemoDone, Done, RolledBack, Shown}
 
 -- the text was put, where the sink tells it
 pub record PutsAll (told : Type 0) (text : List ℕ) (old new : SinkState) : Type 0 where
@@ -36,6 +37,7 @@ Reports told command (Shown lines) old new status = PutsOutput told (text_of com
 Reports told command (Done from frames accesses halted) old new status = PutsOutput told (text_of command (Done from frames accesses halted)) old new status
 Reports told command (DemoDone summary) old new status = PutsOutput told (text_of command (DemoDone summary)) old new status
 Reports told command (Converted size) old new status = PutsOutput told (text_of command (Converted size)) old new status
+Reports told command (RolledBack rolled) old new status = PutsOutput told (text_of command (RolledBack rolled)) old new status
 Reports told command ending old new status =
     (status ≡ status_of ending) × (PutsAll told (text_of command ending) old new ⊎ PutsPart told (text_of command ending) old new)
 
@@ -59,13 +61,15 @@ IsBehind told (RunDemo demo) files = demo.cycles ≡ 0
 IsBehind told (Convert conversion) files = ⊥
 IsBehind told (Assemble words) files = ⊥
 IsBehind told (Debug words) files = ⊥
+IsBehind told (Rollback words) files = ⊥
 IsBehind told (RunCart run) files =
     (from : ℕ) × MayBeginAt run from × (run.cycles ≤ from) × (told → (start : Start) × Begins run files start × (from ≡ start.at))
 
--- so the saved state of a run is found, and so the script of a session
+-- so the saved state of a run is found, so the script of a session, and so the lines of two players
 abbrev pub AreFindings : Option Command → Files → Verdict → Findings → Type 0
 AreFindings command files verdict found =
     IsStateJudged (option_and_then run_in command) files verdict found.state × IsScripted (option_and_then debugging_in command) files found.script
+    × IsRollFound (option_and_then rolling_in command) files found.comes
 
 -- they are found so, or what is found has no part in the ending
 abbrev pub AreFindingsRight : Option Command → Files → Verdict → Outcome → Findings → Type 0
@@ -92,6 +96,7 @@ pub record Causes (depot_told : Type 0) (command : Option Command) (old new : De
   pub input_refused : status ≡ 17 → IsSomeAnd (option_and_then conversion_in command) (λ conversion. IsRefusedInput depot_told conversion old.files)
   pub source_refused : status ≡ 16 → IsSomeAnd (option_and_then assembling_in command) (λ words. IsRefusedSource depot_told words old.files)
   pub script_refused : status ≡ 15 → IsSomeAnd (option_and_then debugging_in command) (λ words. IsRefusedScript depot_told words old.files)
+  pub line_refused : status ≡ 18 → IsSomeAnd (option_and_then rolling_in command) (λ words. IsRefusedLine depot_told words old.files)
   pub write_fault : status ≡ 4 → Rose old.write_faults new.write_faults
   pub out_fault : status ≡ 13 → Rose out.faults out'.faults
   -- each refusal comes exactly where it should, in this order; want of memory may come between

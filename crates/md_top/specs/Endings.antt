@@ -19,14 +19,16 @@ use Rattle.md_top.specs.Resuming.{RunsWell}
 use Rattle.md_top.specs.Runs.{entries_from, halted_from, media_from, pieces_of, pieces_until, powered_on}
 use Rattle.md_top.specs.Outputs.{Holds, IsUnwritten, LeavesParts, nothing}
 use Rattle.md_vgm.specs.Outcomes.{Outcome}
-use Rattle.md_args.specs.Words.{Assemble, Command, Convert, Debug, Debugging, Demo, Info, Run, RunCart, RunDemo, end_of, frames_name, journal_name, list_name, load_name, output_of, recording_name, rom_of, save_name, script_name, sound_name}
+use Rattle.md_args.specs.Words.{Assemble, Command, Convert, Debug, Debugging, Demo, Info, Rollback, Rolling, Run, RunCart, RunDemo, end_of, frames_name, journal_name, list_name, load_name, output_of, recording_name, rom_of, save_name, script_name, sound_name}
 use Rattle.md_top.specs.Assemblies.{AsmEnds, AsmFiles, CanAssemble, asm_ending, source_line}
 use Rattle.md_top.specs.Debuggings.{CanDebug, DebugEnds, Scripted, played_ending, script_limit, script_line}
+use Rattle.md_top.specs.Rollings.{CanRoll, RollEnds, comes_ending, inputs_limit, inputs_line, rolled_lines}
+use Rattle.rollback_states.specs.declared.rolled.Comes.{Comes}
 use Rattle.md_top.specs.Conversions.{CanConvert, ConvertEnds, ConvertFiles, convert_ending, fault_line}
 use Rattle.md_top.specs.declared.digests.Digests.{Digests}
 use Rattle.md_top.specs.declared.ending.Ending.{Ending}
 use Rattle.md_top.specs.declared.inputs.Inputs.{Inputs}
-use Rattle.md_top.specs.declared.ending.Ending.TheVariants.{Shown, Done, DemoDone, Converted, InputRefused, OutputFault, SourceRefused, ListFault, ScriptFault, ScriptTooLong, ScriptRefused, ScriptMemory, Usage, TooFar, ReadFault, TooLong, Short, NoMark, RecordingFault, RecordingTooLong, RecordingWrong, LoadFault, StateTooLong, StateWrong, OtherCart, Behind, FramesFault, SoundFault, JournalFault, SaveFault, Unsaved, Memory}
+use Rattle.md_top.specs.declared.ending.Ending.TheVariants.{Shown, Done, DemoDone, Converted, InputRefused, OutputFault, SourceRefused, ListFault, ScriptFault, ScriptTooLong, ScriptRefused, ScriptMemory, RolledBack, LineRefused, Usage, TooFar, ReadFault, TooLong, Short, NoMark, RecordingFault, RecordingTooLong, RecordingWrong, LoadFault, StateTooLong, StateWrong, OtherCart, Behind, FramesFault, SoundFault, JournalFault, SaveFault, Unsaved, Memory}
 
 -- the status that the program ends with
 abbrev pub status_of : Ending → ℕ
@@ -42,6 +44,8 @@ status_of ScriptFault = 3
 status_of ScriptTooLong = 14
 status_of (ScriptRefused replies line fault) = 15
 status_of (ScriptMemory replies) = 10
+status_of (RolledBack rolled) = 0
+status_of (LineRefused line fault) = 18
 status_of Usage = 2
 status_of ReadFault = 3
 status_of RecordingFault = 3
@@ -116,6 +120,8 @@ text_of (Some command) ScriptFault = codes "fault: reading " ++ unwrap_or (scrip
 text_of (Some command) ScriptTooLong = codes "refused: " ++ unwrap_or (script_name command) [] ++ codes " is too long\n"
 text_of (Some command) (ScriptRefused replies line fault) = replies ++ script_line line fault
 text_of (Some command) (ScriptMemory replies) = replies ++ codes "refused: memory\n"
+text_of (Some command) (RolledBack rolled) = rolled_lines rolled
+text_of (Some command) (LineRefused line fault) = inputs_line line fault
 text_of (Some command) TooFar = codes "refused: cycle " ++ decimal (end_of command) ++ codes " is too far\n"
 text_of (Some command) ReadFault = codes "fault: reading " ++ rom_of command ++ codes "\n"
 text_of (Some command) TooLong = codes "refused: " ++ rom_of command ++ codes " is too long\n"
@@ -145,6 +151,7 @@ IsReady (RunDemo demo) files = IsEnd demo.cycles
 IsReady (Convert conversion) files = CanConvert conversion files
 IsReady (Assemble words) files = CanAssemble words files
 IsReady (Debug words) files = CanDebug words files
+IsReady (Rollback words) files = CanRoll words files
 
 -- why a run from a start ends, once it has begun
 abbrev pub RunCause : Start → Run → DepotState → DepotState → Ending → Type 0
@@ -192,6 +199,7 @@ HasCause told (Some (RunDemo demo)) old new ending = (new ≡ old) × DemoEnds d
 HasCause told (Some (Convert conversion)) old new ending = ConvertEnds told conversion old new ending
 HasCause told (Some (Assemble words)) old new ending = AsmEnds told words old new ending
 HasCause told (Some (Debug words)) old new ending = DebugEnds told words old new ending
+HasCause told (Some (Rollback words)) old new ending = RollEnds told words old new ending
 
 -- the outputs hold what the run from a start made below a cycle
 abbrev pub HoldsUntil : Start → Run → Files → Files → ℕ → Type 0
@@ -232,6 +240,7 @@ LeavesFiles (Some (RunDemo demo)) old new ending = new ≡ old
 LeavesFiles (Some (Convert conversion)) old new ending = ConvertFiles conversion old new ending
 LeavesFiles (Some (Assemble words)) old new ending = AsmFiles words old new ending
 LeavesFiles (Some (Debug words)) old new ending = new ≡ old
+LeavesFiles (Some (Rollback words)) old new ending = new ≡ old
 
 -- The ending where neither a fault nor want of memory comes between: the refusals in their order.
 
@@ -305,10 +314,20 @@ script_ending (Some bytes) script = if nat_lt script_limit (length bytes) then S
 abbrev pub debug_ending : Debugging → Files → Scripted → Ending
 debug_ending words files script = file_ending (files words.rom) (script_ending (files words.script) script)
 
--- what is found of a command's inputs: a verdict on its saved state, and what the lines of its script come to
+-- behind the file of what two players press
+abbrev pub inputs_ending : Option (List ℕ) → Comes → Ending
+inputs_ending None outcome = ScriptFault
+inputs_ending (Some bytes) outcome = if nat_lt inputs_limit (length bytes) then ScriptTooLong else comes_ending outcome
+
+-- what a session of two players comes to, with these files and this outcome of its lines
+abbrev pub roll_ending : Rolling → Files → Comes → Ending
+roll_ending words files outcome = file_ending (files words.rom) (inputs_ending (files words.inputs) outcome)
+
+-- what is found of a command's inputs: a verdict on its saved state, and what the lines of its script, or of two players, come to
 pub record Findings : Type 0 where
   pub state : StateVerdict
   pub script : Scripted
+  pub comes : Comes
 
 -- what a command line comes to, with these files, this verdict on the recording that it names, what is found of its
 -- saved state or its script, and this outcome of the input of the conversion that it asks for
@@ -320,3 +339,4 @@ right_ending (Some (RunDemo demo)) files verdict found outcome = if nat_lt last_
 right_ending (Some (Convert conversion)) files verdict found outcome = convert_ending conversion files outcome
 right_ending (Some (Assemble words)) files verdict found outcome = asm_ending words files
 right_ending (Some (Debug words)) files verdict found outcome = debug_ending words files found.script
+right_ending (Some (Rollback words)) files verdict found outcome = roll_ending words files found.comes

@@ -13,6 +13,7 @@ pub mod Limits
 pub mod Loads
 pub mod Outputs
 pub mod Resuming
+pub mod Rollings
 pub mod Runs
 pub mod Saves
 pub mod Workers

@@ -1,5 +1,5 @@
 -- Where a run begins: at power-on, or where a saved state was kept, and why that is not read.
-use Rattle.std.specs.Prelude.{◌≡◌, ◌⊎◌, ℕ, ◌<◌, ◌≤◌, List, [], length, Option, Some, None, IsSomeAnd}
+use Rattle.std.specs.Prelude.{◌≡◌, ◌⊎◌, ℕ, ◌<◌, ◌≤◌, List, length, Option, Some, None, IsSomeAnd}
 use Rattle.md_outer.specs.Outside.{DepotState, Files, Rose, bytes_of}
 use Rattle.md_pads.specs.Recording.{Recorded, no_frames}
 use Rattle.md_machine.specs.Starts.{Start}

@@ -2,6 +2,8 @@ use crate::summary::Summary;
 use crate::text::Text;
 use md_debug::DebugFault;
 use md_vgm::VgmFault;
+use rollback_script::LineFault;
+use rollback_states::Rolled;
 
 /// What a command line comes to.
 #[derive(Drop)]
@@ -31,9 +33,9 @@ pub(crate) enum Ending {
     SourceRefused(u32, u8),
     /// The list of an assembly could not be written.
     ListFault,
-    /// The script of a session could not be read.
+    /// The script of a session, or what two players press, could not be read.
     ScriptFault,
-    /// The script is longer than its limit.
+    /// It is longer than its limit.
     ScriptTooLong,
     /// A line of the script is refused, behind the replies to those before it.
     ScriptRefused {
@@ -44,6 +46,14 @@ pub(crate) enum Ending {
     },
     /// Memory was wanting for a line of the script, behind the replies to those before it.
     ScriptMemory(Text),
+    /// Each line of what two players press was obeyed.
+    RolledBack(Rolled),
+    /// A line of what two players press is refused.
+    LineRefused {
+        /// Its number, from 1 on.
+        line: u64,
+        fault: LineFault,
+    },
     /// The words ask for nothing that there is.
     Usage,
     /// The run's end lies behind the last cycle.

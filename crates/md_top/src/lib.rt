@@ -19,6 +19,7 @@ mod put;
 mod reading;
 mod report;
 mod report_demo;
+mod rolling;
 mod run_on;
 mod saving;
 mod segment;

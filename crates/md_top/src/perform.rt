@@ -10,6 +10,7 @@ use crate::demo::run_demo;
 use crate::ending::Ending;
 use crate::loading::first_machine;
 use crate::reading::{read_cart, read_inputs};
+use crate::rolling::roll_cart;
 use crate::run_on::write_all;
 use crate::segment::begin;
 use crate::text::Text;
@@ -39,6 +40,7 @@ pub(crate) fn perform<F: Fn(&mut Machine, u64), D: Depot>(
         CommandWords::Convert(words) => convert_file(alloc, words, depot),
         CommandWords::Assemble(words) => assemble_source(alloc, words, depot),
         CommandWords::Debug(words) => debug_cart(alloc, words, depot),
+        CommandWords::Rollback(words) => roll_cart(alloc, words, depot),
     }
 }
 

@@ -13,6 +13,7 @@ use crate::debugging::{refuse_rest, refuse_script};
 use crate::ending::Ending;
 use crate::put::{put_three, put_two};
 use crate::report_demo::put_summary;
+use crate::rolling::{put_rolled, refuse_line};
 use crate::run_on::pairs_between;
 use hex::encode_to_slice;
 use itoa::Buffer;
@@ -73,6 +74,8 @@ pub(crate) fn report<S: Sink>(command: &CommandWords<'_>, ending: Ending, out: &
             fault,
         } => refuse_script(out, replies.bytes(), line, fault),
         Ending::ScriptMemory(replies) => refuse_rest(out, replies.bytes()),
+        Ending::RolledBack(rolled) => status_of(put_rolled(out, &rolled)),
+        Ending::LineRefused { line, fault } => refuse_line(out, line, fault),
         Ending::Unsaved | Ending::Memory => refuse(out, 10, "refused: memory\n", "", ""),
     }
 }

@@ -49,7 +49,11 @@ fn put_media_digests<S: Sink>(out: &mut S, digests: &Digests) -> Result<(), Fail
 }
 
 /// Puts the line of a digest.
-fn put_digest_line<S: Sink>(out: &mut S, word: &str, digest: &[u8; 32]) -> Result<(), Failed>
+pub(crate) fn put_digest_line<S: Sink>(
+    out: &mut S,
+    word: &str,
+    digest: &[u8; 32],
+) -> Result<(), Failed>
     ensures { PutsText S.told (digest_line word.now digest.now) (S.state out.old) (S.state out.new) result }
 {
     let digits = hexadecimal(digest);

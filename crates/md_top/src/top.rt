@@ -26,7 +26,8 @@ use std::thread::Threads;
 /// `vgm JOURNAL OUT` writes the VGM file of a journal's sound writes, and `play VGM OUT` the sound file of a VGM
 /// file; with `--pal` by the master clock of PAL. `asm SOURCE OUT` assembles a source, with `--list L` for the list
 /// of its instructions. `debug ROM SCRIPT` puts the replies to the lines of a script of the debugger, at power-on
-/// of the cartridge.
+/// of the cartridge. `rollback ROM INPUTS --window W` obeys the lines of what two players press, and puts what their
+/// session comes to.
 /// It waits for nobody: whatever `--workers` asks for, one worker makes the run.
 pub fn drive_one<D: Depot, S: Sink>(
     alloc: Global,

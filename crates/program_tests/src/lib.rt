@@ -24,6 +24,8 @@ mod refusals;
 #[cfg(test)]
 mod regions;
 #[cfg(test)]
+mod rolling;
+#[cfg(test)]
 mod rows;
 #[cfg(test)]
 mod runs;

@@ -16,7 +16,8 @@ fn region_of(pal: bool) -> &'static str {
 /// the frames file, of the sound file and of the journal, and how many workers make it; of a
 /// demonstration cartridge its number, the count and the workers, each with PAL where it is asked for; of a
 /// conversion both names and whether PAL is asked for; of an assembly the names of the source, the image and the list;
-/// of a session of the debugger those of the cartridge and the script.
+/// of a session of the debugger those of the cartridge and the script; of one of two players those of the cartridge and
+/// of what they press, and the window.
 fn told(alloc: Global, read: Option<CommandWords<'_>>) -> Result<String, AllocError> {
     match read {
         None => String::from_str(alloc, "refused"),
@@ -50,13 +51,16 @@ fn told(alloc: Global, read: Option<CommandWords<'_>>) -> Result<String, AllocEr
             name_of(words.list)
         ),
         Some(CommandWords::Debug(words)) => format!(in alloc; "{} {}", words.rom, words.script),
+        Some(CommandWords::Rollback(words)) => {
+            format!(in alloc; "{} {} {}", words.rom, words.inputs, words.window)
+        }
     }
 }
 
 // Worked out by the rules: options in any order among the other words, each at most once, as two
 // words or with `=`; behind `--` no options; names that are not empty, begin with no hyphen and are
 // pairwise different; numbers of 1 to 20 digits below 2^64.
-static READ: [(&str, &str); 41] = [
+static READ: [(&str, &str); 44] = [
     ("run --pal Z --cycles 5", "Z 5 - - - - 1 PAL"),
     ("run Z --cycles 5 --save S --pal", "Z 5 - - - - 1 PAL"),
     ("demo 7 --pal --cycles 5 --workers 2", "7 5 2 PAL"),
@@ -116,9 +120,12 @@ static READ: [(&str, &str); 41] = [
     ("vgm -- J V", "J V false"),
     ("debug Z S", "Z S"),
     ("debug debug -- S", "debug S"),
+    ("rollback Z I --window 8", "Z I 8"),
+    ("rollback --window=16 Z -- I", "Z I 16"),
+    ("rollback Z --window 001 I", "Z I 1"),
 ];
 
-static REFUSED: [&str; 107] = [
+static REFUSED: [&str; 115] = [
     "run Z --cycles 5 --pal --load S",
     "run Z --load S --cycles 5 --pal",
     "run Z --cycles 5 --pal --pal",
@@ -226,6 +233,14 @@ static REFUSED: [&str; 107] = [
     "debug Z -S",
     "debug Z ",
     "debug Z --script S",
+    "rollback Z I",
+    "rollback Z --window 4",
+    "rollback Z Z --window 4",
+    "rollback Z I --window 0",
+    "rollback Z I --window 17",
+    "rollback Z I --window four",
+    "rollback Z I --window 4 --window 4",
+    "rollback Z I J --window 4",
 ];
 
 /// What a text reads as.

@@ -57,3 +57,6 @@ returns-in-ScriptRefused g c = rw c.in-ScriptRefused.is (c.refuse_script.ensures
 
 pub returns-in-ScriptMemory : goal.returns-in-ScriptMemory
 returns-in-ScriptMemory g c = rw c.in-ScriptMemory.is (c.refuse_rest.ensures.status, rw c.bytes-in-ScriptMemory.ensures at c.refuse_rest.ensures.put)
+
+pub returns-in-LineRefused : goal.returns-in-LineRefused
+returns-in-LineRefused g c = rw c.in-LineRefused.is (c.refuse_line.ensures.status, c.refuse_line.ensures.put)

@@ -1,0 +1,95 @@
+#!/usr/bin/env python3
+"""How long a frame of a session of two players takes, with the program that `rt ci` has built.
+
+    bench/rollback.py [--frames FRAMES]
+
+Plays FRAMES frames of examples/show from power-on, 600 if not given: by `run` without an output; in a session where
+all buttons are known before their frame; and in one where player 2 is eight frames late and was expected wrongly each
+time, so that eight frames are played again for each new one. Prints milliseconds a frame, the program's start taken
+off, and what a session's frame takes of a run's: at most 1.3, and 9.5 where eight are played again, is asked for.
+"""
+import argparse
+import pathlib
+import sys
+import tempfile
+import time
+
+import expected
+import hostile
+
+LATE = 8
+
+
+def buttons(frame):
+    """What player 2 presses: another button in each frame."""
+    return 1 << frame % 8
+
+
+def known(frames):
+    """The lines of a session in which nobody is late."""
+    for frame in range(frames):
+        yield f"l {frame} 0"
+        yield f"r {frame} {buttons(frame):x}"
+        yield "a"
+
+
+def late(frames):
+    """The lines of one in which player 2 is late."""
+    for frame in range(frames):
+        yield f"l {frame} 0"
+        if frame >= LATE:
+            yield f"r {frame - LATE} {buttons(frame - LATE):x}"
+        yield "a"
+
+
+def least(call):
+    """The seconds of a call, the least of three."""
+    taken = []
+    for _ in range(3):
+        start = time.perf_counter()
+        call()
+        taken.append(time.perf_counter() - start)
+    return min(taken)
+
+
+def session(folder, lines, frames):
+    """The seconds of a session with these lines."""
+    (folder / "inputs").write_text("".join(f"{line}\n" for line in lines))
+
+    def call():
+        status, text = hostile.run(folder, "rollback", "game.bin", "inputs", "--window", 16, timeout=3_600)
+        if status != 0 or not text.startswith(f"frames {frames}\n"):
+            sys.exit(f"status {status} with {text[-200:]!r}")
+
+    return least(call)
+
+
+def plain(folder, frames):
+    """The seconds of a run of so many frames."""
+
+    def call():
+        status, text = hostile.run(folder, "run", "game.bin", "--cycles", frames * expected.FRAME, timeout=3_600)
+        if status != 0:
+            sys.exit(f"status {status} with {text[-200:]!r}")
+
+    return least(call)
+
+
+def main():
+    parser = argparse.ArgumentParser(description=__doc__, formatter_class=argparse.RawTextHelpFormatter)
+    parser.add_argument("--frames", type=int, default=600)
+    frames = parser.parse_args().frames
+    if not hostile.PROGRAM.exists():
+        sys.exit(f"{hostile.PROGRAM} is missing: run `rt ci` first")
+    with tempfile.TemporaryDirectory() as name:
+        folder = pathlib.Path(name)
+        hostile.build("show", folder / "game.bin")
+        each = (plain(folder, frames) - plain(folder, 1)) / (frames - 1)
+        print(f"run: {1_000 * each:.3f} ms a frame")
+        for title, lines in (("known", known), ("eight again", late)):
+            taken = (session(folder, lines(frames), frames) - session(folder, lines(LATE), LATE)) / (frames - LATE)
+            print(f"{title}: {1_000 * taken:.3f} ms a frame, {taken / each:.2f} of a run's")
+
+
+if __name__ == "__main__":
+    main()

@@ -1,0 +1,112 @@
+ghost use Rattle.std.specs.Prelude.{◌≡◌, ◌≤◌, ◌⊎◌};
+ghost use Rattle.md_args.specs.Shown.{shown_rolling};
+ghost use Rattle.md_outer.specs.Outside.{PutsText};
+ghost use Rattle.rollback_states.specs.Rolls.{ComesTo};
+ghost use Rattle.md_top.specs.Answers.{PutsAll, PutsPart};
+ghost use Rattle.md_top.specs.Rollings.{RollEnds, comes_ending, counts_lines, inputs_line, line_fault_text, rolled_lines};
+
+use crate::ending::Ending;
+use crate::reading::read_cart;
+use crate::report::{put_number, refuse};
+use crate::report_demo::put_digest_line;
+use itoa::Buffer;
+use md_args::RollbackWords;
+use md_outer::{Depot, Failed, Fetch, Sink};
+use rollback_script::LineFault;
+use rollback_states::{Comes, Rolled, run_script};
+use rom_header::Cart;
+use std::alloc::Global;
+use std::sync::Arc;
+
+/// The greatest length of what two players press.
+const LONGEST_INPUTS: u64 = 4_194_304;
+
+/// Obeys the lines of what two players press, which the words name, in a session at power-on of the cartridge.
+pub(crate) fn roll_cart<D: Depot>(alloc: Global, words: &RollbackWords<'_>, depot: &mut D) -> Ending
+    ensures cause { RollEnds D.told (shown_rolling words.now) (D.state depot.old) (D.state depot.new) result }
+    ensures files { D.told → (D.state depot.new).files ≡ (D.state depot.old).files }
+{
+    let cart = match read_cart(alloc, words.rom, depot) {
+        Ok(cart) => cart,
+        Err(ending) => return ending,
+    };
+    match depot.fetch(alloc, words.inputs, LONGEST_INPUTS) {
+        Ok(inputs) => ended(outcome(alloc, cart, words.window, inputs.as_slice())),
+        Err(Fetch::Failed) => Ending::ScriptFault,
+        Err(Fetch::TooLong) => Ending::ScriptTooLong,
+        Err(Fetch::NoMemory) => Ending::Memory,
+    }
+}
+
+/// What the lines come to.
+fn outcome(alloc: Global, cart: Cart, window: u32, inputs: &[u8]) -> Comes
+    requires some { 1 ≤ window }
+    requires most { window ≤ 16 }
+    ensures { ComesTo cart window inputs.now result }
+{
+    match Arc::new(alloc, cart) {
+        Ok(cart) => run_script(alloc, cart, window, inputs),
+        Err(_) => Comes::NoMemory,
+    }
+}
+
+/// The same, as an ending.
+fn ended(comes: Comes) -> Ending
+    ensures { result ≡ comes_ending comes }
+{
+    match comes {
+        Comes::Done(rolled) => Ending::RolledBack(rolled),
+        Comes::Refused(line, fault) => Ending::LineRefused { line, fault },
+        Comes::NoMemory => Ending::Memory,
+    }
+}
+
+/// Puts what a session has come to.
+pub(crate) fn put_rolled<S: Sink>(out: &mut S, rolled: &Rolled) -> Result<(), Failed>
+    ensures { PutsText S.told (rolled_lines rolled.now) (S.state out.old) (S.state out.new) result }
+{
+    match put_rolled_counts(out, rolled) {
+        Ok(()) => put_digest_line(out, "state sha256 ", &rolled.digest),
+        Err(failed) => Err(failed),
+    }
+}
+
+/// Puts how many frames were made, and how many are confirmed.
+fn put_rolled_counts<S: Sink>(out: &mut S, rolled: &Rolled) -> Result<(), Failed>
+    ensures { PutsText S.told (counts_lines rolled.now) (S.state out.old) (S.state out.new) result }
+{
+    match put_number(out, "frames ", rolled.frames) {
+        Ok(()) => put_number(out, "confirmed ", rolled.confirmed),
+        Err(failed) => Err(failed),
+    }
+}
+
+/// Refuses a line of what two players press.
+pub(crate) fn refuse_line<S: Sink>(out: &mut S, line: u64, fault: LineFault) -> u8
+    ensures status { result ≡ 18 }
+    ensures put { PutsAll S.told (inputs_line line fault) (S.state out.old) (S.state out.new)
+        ⊎ PutsPart S.told (inputs_line line fault) (S.state out.old) (S.state out.new) }
+{
+    let mut digits = Buffer::new();
+    refuse(
+        out,
+        18,
+        "refused: inputs line ",
+        digits.format(line),
+        fault_text(fault),
+    )
+}
+
+/// The end of such a line.
+fn fault_text(fault: LineFault) -> &'static str
+    ensures { result.now ≡ line_fault_text fault }
+{
+    match fault {
+        LineFault::Unread => ": unread\n",
+        LineFault::Far => ": far\n",
+        LineFault::Given => ": given\n",
+        LineFault::Buttons => ": buttons\n",
+        LineFault::Waiting => ": waiting\n",
+        LineFault::Ended => ": ended\n",
+    }
+}
