@@ -19,6 +19,10 @@ pub record Recorded : Type 0 where
 abbrev pub no_frames : Recorded
 no_frames = record { version = First; frames = [] }
 
+-- the recording of two pads with three buttons of these frames
+abbrev pub recording_of : List Frame → Recorded
+recording_of frames = record { version = First; frames = frames }
+
 -- whether a pad, 1 or 2, has six buttons
 abbrev pub six : Version → ℕ → Bool
 six First pad = false

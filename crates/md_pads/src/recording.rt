@@ -1,5 +1,5 @@
 ghost use Rattle.std.specs.Prelude.{◌≡◌, ◌≢◌, ℕ, ◌↔◌, Bool, IfOk, IsErrOf, Ok, Err};
-ghost use Rattle.md_pads.specs.Recording.{GoesWrongAt, IsFrame, IsSpelled, Recorded, Spells, no_frames, pads_of, six};
+ghost use Rattle.md_pads.specs.Recording.{GoesWrongAt, IsFrame, IsRecording, IsSpelled, Recorded, Spells, no_frames, pads_of, recording_of, six};
 
 use crate::fault::RecFault;
 use crate::version::Version;
@@ -43,6 +43,17 @@ impl Recording {
             version: Version::First,
             frames: Vec::new(alloc),
         }
+    }
+
+    /// The recording of version 1 of these frames: of two pads with three buttons. The frames are copied.
+    pub fn of(alloc: Global, frames: &[(u16, u16)]) -> Result<Recording, NoMemory>
+        requires { IsRecording (recording_of frames.now) }
+        ensures { IfOk result (λ recording. recording ≡ recording_of frames.now) }
+    {
+        Ok(Recording {
+            version: Version::First,
+            frames: Vec::from_slice(alloc, frames)?,
+        })
     }
 
     /// Reads the bytes of a recording: `MDREC001`, or `MDREC002` and a big-endian word in which bits 0 and

@@ -3,12 +3,12 @@ use Rattle.std.proofs.Common.{◌≡◌, ◌≢◌, ◌∙◌, refl, sym, ap, su
 use Rattle.std.specs.Global.{Vec}
 use Rattle.std.proofs.lemmas.List.{take_all}
 use Rattle.std.specs.Prelude.{reverse}
-use Rattle.md_pads.specs.Recording.{Frame, IsRecording, no_frames}
+use Rattle.md_pads.specs.Recording.{Frame, IsRecording, no_frames, recording_of}
 use Rattle.md_machine.specs.Console.{Console, journal, media, power_on, ran}
 use Rattle.md_machine.specs.Machines.{MachineValue}
 use Rattle.md_machine.specs.Media.{no_media}
 use Rattle.md_reached.specs.Reached.{IsReached}
-use Rattle.rollback_inputs.specs.Inputs.{AreInputs, InputsValue, IsFixed, expected_frames, frame_at, most_frames, recording_of}
+use Rattle.rollback_inputs.specs.Inputs.{AreInputs, InputsValue, IsFixed, expected_frames, frame_at, most_frames}
 use Rattle.md_rollback.specs.Played.{AreImagesOf, IsImageOf, IsMachineOf, IsPlayed, KeepsReached}
 use Rattle.md_rollback.specs.Sessions.{IsSession}
 use Rattle.rollback_inputs.proofs.Expected.{frames-long, frames-small}

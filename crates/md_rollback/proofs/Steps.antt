@@ -4,7 +4,7 @@ use Rattle.std.specs.Prelude.{All, IfOk, OnOk}
 use Rattle.std.proofs.lemmas.List.{get_or_append_left, get_or_push, length-map, length_push, map_push}
 use Rattle.std.specs.declared.alloc.AllocError.{AllocError}
 use Rattle.std.specs.Global.{Vec}
-use Rattle.md_pads.specs.Recording.{Frame, IsFrame, Recorded}
+use Rattle.md_pads.specs.Recording.{Frame, IsFrame, Recorded, recording_of}
 use Rattle.md_pads.specs.declared.version.Version.{Version}
 use Rattle.md_pads.specs.declared.version.Version.TheVariants.{First}
 use Rattle.md_word.specs.Clock.{frame}
@@ -22,7 +22,6 @@ use Rattle.md_reached.specs.Reached.{IsReached}
 use Rattle.md_reached.specs.Settling.{GoesOn}
 use Rattle.replays.specs.declared.fault.ReplayFault.{ReplayFault}
 use Rattle.recording_laws.specs.Recorded.{AreAlikeBelow, recorded, with_frames}
-use Rattle.rollback_inputs.specs.Inputs.{recording_of}
 use Rattle.save_state.specs.States.{settled_console}
 use Rattle.md_rollback.specs.Played.{AreImagesOf, IsImageOf, IsPlayed, IsRunAt, KeepsReached}
 

@@ -1,6 +1,6 @@
 -- The machine of a run from power-on at the start of a frame of NTSC, and its image.
 use Rattle.std.specs.Prelude.{◌≡◌, ℕ, false, ◌+◌, ◌*◌, ◌<◌, ◌≤◌, List, [], length, slice_index_or}
-use Rattle.md_pads.specs.Recording.{Frame, Recorded}
+use Rattle.md_pads.specs.Recording.{Frame, Recorded, recording_of}
 use Rattle.md_word.specs.Clock.{frame, last_cycle}
 use Rattle.md_word.specs.declared.event.Entry.{Entry}
 use Rattle.md_machine.specs.Console.{Console, IsRunTo, power_on}
@@ -8,7 +8,6 @@ use Rattle.md_machine.specs.Machines.{MachineValue}
 use Rattle.md_machine.specs.Media.{Media, no_media}
 use Rattle.md_reached.specs.Reached.{IsReached}
 use Rattle.recording_laws.specs.Recorded.{AreAlikeBelow}
-use Rattle.rollback_inputs.specs.Inputs.{recording_of}
 use Rattle.save_state.specs.States.{settled_console}
 
 -- the machine that a run of NTSC from power-on with this cartridge and recording is at a cycle, seen with what stands

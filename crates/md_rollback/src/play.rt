@@ -1,10 +1,10 @@
 ghost use Rattle.std.specs.Prelude.{◌≡◌, ◌≤◌, ◌<◌, ◌+◌, ◌-◌, ◌*◌, ℕ, false, List, [], All, IfOk, length, map, vec_capacity};
 ghost use Rattle.std.specs.Arc.{arc_value};
-ghost use Rattle.md_pads.specs.Recording.{Frame, IsFrame, IsRecording};
+ghost use Rattle.md_pads.specs.Recording.{Frame, IsFrame, IsRecording, recording_of};
 ghost use Rattle.md_pads.specs.declared.version.Version.TheVariants.{First};
 ghost use Rattle.md_word.specs.Clock.{frame as frame_length};
 ghost use Rattle.md_machine.specs.Media.{no_media};
-ghost use Rattle.rollback_inputs.specs.Inputs.{most_frames, recording_of};
+ghost use Rattle.rollback_inputs.specs.Inputs.{most_frames};
 ghost use Rattle.md_rollback.specs.Played.{AreImagesOf, IsImageOf, IsPlayed, KeepsReached};
 
 use crate::recording::shared_recording;

@@ -113,6 +113,14 @@ fn what_is_read_is_written(rt: HostRuntime) -> Result<(), Fail> {
     Ok(())
 }
 
+#[test]
+fn frames_are_a_recording(rt: HostRuntime) -> Result<(), Fail> {
+    let alloc = rt.alloc();
+    let recording = Recording::of(alloc, &[(0x80, 1), (0x10, 0xff)])?;
+    assert!(rt; recording.write(alloc)?.as_slice() == TWO_FRAMES);
+    Ok(())
+}
+
 /// A recording, a pad, and whether it has six buttons.
 static PADS: [(&[u8], u8, bool); 6] = [
     (TWO_FRAMES, 1, false),

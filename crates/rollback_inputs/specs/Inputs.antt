@@ -1,8 +1,7 @@
 -- What two players pressed, as far as it was given, and what is expected of them. This project's profile.
 use Rattle.std.specs.Prelude.{◌≡◌, ℕ, zero, suc, ◌<◌, ◌≤◌, ◌^◌, List, length, map, replicate, Option, Some, None, IsSome, slice_get, slice_index_or, unwrap_or}
 use Rattle.std.specs.List.{range_with_len}
-use Rattle.md_pads.specs.Recording.{Frame, Recorded}
-use Rattle.md_pads.specs.declared.version.Version.TheVariants.{First}
+use Rattle.md_pads.specs.Recording.{Frame}
 
 -- the frames that a session has at most: ten minutes
 abbrev pub most_frames : ℕ
@@ -19,10 +18,6 @@ no_words = replicate most_frames None
 -- the words of both players in a frame of a list: none is pressed past its end
 abbrev pub frame_at : List Frame → ℕ → Frame
 frame_at frames f = unwrap_or (slice_get frames f) (0, 0)
-
--- the recording of two pads with three buttons of these frames
-abbrev pub recording_of : List Frame → Recorded
-recording_of frames = record { version = First; frames = frames }
 
 -- the word that was given for a frame
 abbrev pub given : Words → ℕ → Option ℕ

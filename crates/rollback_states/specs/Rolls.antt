@@ -3,11 +3,12 @@ use Rattle.std.specs.Prelude.{◌≡◌, ℕ, ◌*◌, false, List}
 use Rattle.sha2.specs.Sha256.{sha256}
 use Rattle.md_word.specs.Clock.{frame}
 use Rattle.md_word.specs.declared.event.Entry.{Entry}
+use Rattle.md_pads.specs.Recording.{recording_of}
 use Rattle.md_machine.specs.Console.{Console, IsRunTo, power_on}
 use Rattle.md_machine.specs.Media.{Media}
 use Rattle.save_state.specs.States.{state_bytes}
 use Rattle.text_lines.specs.Lines.{lines_of}
-use Rattle.rollback_inputs.specs.Inputs.{IsConfirmed, recording_of}
+use Rattle.rollback_inputs.specs.Inputs.{IsConfirmed}
 use Rattle.md_rollback.specs.Sessions.{SessionValue}
 use Rattle.rollback_script.specs.Scripts.{Plays, Script, begun}
 use Rattle.rollback_script.specs.declared.script.Ending.TheVariants as endings

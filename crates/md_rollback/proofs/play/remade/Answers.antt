@@ -2,9 +2,8 @@ use Rattle.std.proofs.Common.{◌≡◌, ◌∙◌, ◌+◌, ap, sym, subst, Lis
 use Rattle.std.specs.Prelude.{All}
 use Rattle.std.specs.Arc.{arc_value}
 use Rattle.std.specs.Global.{Vec}
-use Rattle.md_pads.specs.Recording.{Frame, IsFrame, Recorded}
+use Rattle.md_pads.specs.Recording.{Frame, IsFrame, Recorded, recording_of}
 use Rattle.md_pads.proofs.Frames.{frames_are}
-use Rattle.rollback_inputs.specs.Inputs.{recording_of}
 use Rattle.md_rollback.specs.Played.{AreImagesOf, IsImageOf, IsPlayed}
 use Rattle.md_rollback.proofs.Steps.{frames-are}
 use Rattle.md_rollback.proofs.play.remade.Goals as goal

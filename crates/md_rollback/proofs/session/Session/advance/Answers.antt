@@ -2,9 +2,9 @@ use Rattle.std.proofs.Common.{◌≡◌, ◌∙◌, ◌+◌, ◌-◌, ap, sym, s
 use Rattle.std.specs.Prelude.{All, reverse, slice_index_or}
 use Rattle.std.proofs.lemmas.List.{length-map}
 use Rattle.std.specs.Global.{Vec}
-use Rattle.md_pads.specs.Recording.{Frame, IsRecording}
+use Rattle.md_pads.specs.Recording.{Frame, IsRecording, recording_of}
 use Rattle.rollback_images.specs.Images.{Kept}
-use Rattle.rollback_inputs.specs.Inputs.{expected_frames, recording_of}
+use Rattle.rollback_inputs.specs.Inputs.{expected_frames}
 use Rattle.md_rollback.specs.Played.{AreImagesOf, IsImageOf, IsMachineOf, IsPlayed}
 use Rattle.md_rollback.specs.Sessions.{IsSession, SessionValue}
 use Rattle.md_rollback.proofs.Advances.{back-few, expected-long, found-by, image-here, may-be-recorded, replaced-is, session-next}
