@@ -1,8 +1,9 @@
 -- Two files that are begun and then written.
-use Rattle.std.proofs.Common.{◌≡◌, ◌∙◌, ◌≤◌, List, ℕ, [], ◌++◌, ◌⊎◌, inl, inr, Bool, true, false, cond, not, Option, Some, None, ap, refl, sym, subst, length, append-nil, append_assoc}
+use Rattle.std.proofs.Common.{◌≡◌, ◌∙◌, ◌≤◌, List, ℕ, [], ◌++◌, ◌⊎◌, inl, inr, Bool, true, false, cond, Option, Some, None, ap, refl, sym, subst, length, append-nil, append_assoc}
 use Rattle.std.specs.Prelude.{IsSome}
 use Rattle.std.specs.Str.{bytes_eq}
 use Rattle.std.proofs.lemmas.Slice.Eq.{bytes_eq-Decides}
+use Rattle.std.proofs.lemmas.Bool.{not-true}
 use Rattle.md_outer.specs.Outside.{DepotState, Files, GoesOn, IsPrefix, bytes_of, with_file}
 use Rattle.md_args.specs.Words.{Assembling, differ}
 use Rattle.md_asm.specs.Assembly.{Done, assembly}
@@ -30,10 +31,6 @@ held : (files : Files) (name bytes : List ℕ) → bytes_of (with_file files nam
 held files name bytes = rw (same_name name) refl
 
 -- ---- two files
-
-not_true : (b : Bool) → not b ≡ true → b ≡ false
-not_true true h = cc
-not_true false h = refl
 
 both_not : (a b other : List ℕ) → bytes_eq a b ≡ false → bytes_eq a other ≡ true → bytes_eq b other ≡ true → ⊥
 both_not a b other differ is is' =
@@ -64,7 +61,7 @@ output_more files begun new output None piece differ is more =
     more ∙ ap (λ (f : Files). with_file f output (bytes_of f output ++ piece)) is
     ∙ ap (λ (l : List ℕ). with_file (with_file files output []) output (l ++ piece)) (held files output []) ∙ twice files output [] piece
 output_more files begun new output (Some name) piece differ is more =
-    let apart = not_true (bytes_eq output name) differ in
+    let apart = not-true (bytes_eq output name) differ in
     more ∙ ap (λ (f : Files). with_file f output (bytes_of f output ++ piece)) is
     ∙ ap (λ (l : List ℕ). with_file (with_file (with_file files output []) name []) output (l ++ piece)) (output_kept files output name [] [] apart)
     ∙ ap (λ (f : Files). with_file f output piece) (swapped files output name [] [] apart)

@@ -1,5 +1,6 @@
 -- How a session's machine goes on is one way alone, and so are the states that are kept.
 use Rattle.std.proofs.Common.{◌≡◌, ℕ, zero, suc, ◌<◌, ◌≤◌, ◌⊎◌, inl, inr, List, ◌∷◌, ◌++◌, take, refl, sym, ap, ap₂, subst, ◌∙◌, arith}
+use Rattle.std.proofs.lemmas.Bool.{cases_lt}
 use Rattle.md_machine.specs.Console.{AllBelow, Console, IsQuiet, key_in, mover, ran}
 use Rattle.md_machine.specs.Movers.{mover-lt}
 use Rattle.md_machine.specs.Starts.{Start}
@@ -8,18 +9,15 @@ use Rattle.md_debug.specs.Going.{Goes, RunsTo, Steps, StepsOnce, arrives, begun_
 
 -- ---- moves
 
-less : (a n : ℕ) → (a < n) ⊎ (n ≤ a)
-less a n = grind arith
-
 -- behind the last move no other stands below the cycle
 few : (m z : Console) (end n moves : ℕ) → AllBelow m end n → IsQuiet end z → z ≡ ran m moves → n ≤ moves
-few m z end n moves below quiet is = elim (less moves n) [
+few m z end n moves below quiet is = elim (cases_lt moves n) [
   | inl more ↦ absurd (
       let low : (key_in (ran m moves) (mover (ran m moves))).cycle < end = below moves more in
       let late : end ≤ (key_in (ran m moves) (mover (ran m moves))).cycle =
       subst (λ (x : Console). end ≤ (key_in x (mover x)).cycle) is (quiet (mover z) (mover-lt z)) in
       omega (arith, low, late))
-  | inr less ↦ less
+  | inr cases_lt ↦ cases_lt
 ]
 
 one_goes : (m w z : Console) (s t : ℕ) (first second : List ℕ) → s ≡ t → Goes m s w first → Goes m t z second → (w ≡ z) × (first ≡ second)
@@ -60,7 +58,7 @@ one_run end m a b first second (stays late same none) (stays late' same' none') 
 -- ---- kept states
 
 no_less : (pages per : ℕ) (old : List (List ℕ)) (state : List ℕ) (new other : List (List ℕ)) → (one : IsPushed pages per old state new) → (two : IsPushed pages per old state other) → two.count ≤ one.count
-no_less pages per old state new other one two = elim (less one.count two.count) [
+no_less pages per old state new other one two = elim (cases_lt one.count two.count) [
   | inl more ↦ absurd (
       let much = one.most two.count more two.within in
       let fits : cost per (state ∷ take two.count old) ≤ pages = subst (λ (l : List (List ℕ)). cost per l ≤ pages) two.states two.fits in

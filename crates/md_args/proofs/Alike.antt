@@ -2,14 +2,14 @@
 use Rattle.std.proofs.Common.{◌≡◌, ◌∙◌, refl, sym, ap, ap₂, ℕ, Bool, true, false, cond, not, ◌&&◌, ◌||◌, ◌⊎◌, inl, inr, ⊎_elim, codes, List, [], ◌∷◌, ◌++◌, find, Option, Some, None, IsSome}
 use Rattle.std.specs.List.{list_any}
 use Rattle.std.specs.Option.{option_and_then, option_map}
-use Rattle.std.proofs.lemmas.Bool.{and_parts, or_right, true≢false}
+use Rattle.std.proofs.lemmas.Bool.{and_parts, or_right, true≢false, not-true}
 use Rattle.std.proofs.lemmas.Slice.Eq.{bytes_eq-Decides}
 use Rattle.clap.specs.Walk.{Text}
 use Rattle.md_args.specs.Given.{Argument, Place, are_single, between, ended, given, has_name, is_marked, value_in, value_of, with_value}
 use Rattle.md_args.specs.Spelled.{apart, joined, words_of}
 use Rattle.md_args.specs.Words.{Run, Values, are_names, but_workers, is_one_region, names_of, number_of, run_by, run_flags, run_from, run_given, run_of, run_of_arguments, run_options, values_by, workers_of}
 use Rattle.md_args.proofs.Gives.{given_open, given_option, given_value}
-use Rattle.md_args.proofs.Rows.{not_true, stands}
+use Rattle.md_args.proofs.Rows.{stands}
 use Rattle.md_args.proofs.Spellings.{left_of, readable_among, run_readable}
 use Rattle.md_args.proofs.Tails.{Alike, Stays, alike_meant, alike_stays, behind, meant, refused_here}
 
@@ -74,7 +74,7 @@ value_own name value (first ∷ before) after single = go (has_name name first.0
     go true is later =
         let same : first.0 ≡ name = (bytes_eq-Decides first.0 name).0 is in
         let twice : stands first.0 (before ++ (name, value) ∷ after) ≡ true = rw (same) (stands_own name value before after) in
-        absurd (true≢false (sym twice ∙ not_true _ (and_parts _ _ single).0))
+        absurd (true≢false (sym twice ∙ not-true _ (and_parts _ _ single).0))
     go false is later = later
 
 -- ---- other workers

@@ -2,7 +2,7 @@
 use Rattle.std.proofs.Common.{◌≡◌, ◌∙◌, ◌≤◌, ◌+◌, refl, sym, ap, subst, arith, ℕ, Bool, true, false, cond, ◌&&◌, ◌||◌, List, [], ◌∷◌, find, Option, Some, None, sum_by, IsPermutation}
 use Rattle.std.specs.Option.{option_map}
 use Rattle.std.specs.Str.{bytes_eq}
-use Rattle.std.proofs.lemmas.Bool.{and_from, and_parts, not_from_false, or_parts, true≢false}
+use Rattle.std.proofs.lemmas.Bool.{and_from, and_parts, not_from_false, or_parts, true≢false, not-true}
 use Rattle.std.proofs.lemmas.List.Sums.{sum_by-cons}
 use Rattle.std.proofs.lemmas.List.Sorted.{IsPermutation-sym, sum_by-IsPermutation}
 use Rattle.std.proofs.lemmas.Slice.Eq.{bytes_eq-Decides}
@@ -10,7 +10,7 @@ use Rattle.clap.specs.Walk.{Text}
 use Rattle.md_args.specs.Given.{Argument, are_single, has_name, value_in}
 use Rattle.md_args.specs.Words.{run_by, run_of_arguments}
 use Rattle.md_args.proofs.Lookups.{some_is, some≢none}
-use Rattle.md_args.proofs.Rows.{not_true, stands}
+use Rattle.md_args.proofs.Rows.{stands}
 
 abbrev one_if : Bool → ℕ
 one_if true = 1
@@ -72,7 +72,7 @@ once_from_single (first ∷ arguments) single name = go (has_name name first.0) 
     go true is later =
         let same : first.0 ≡ name = (bytes_eq-Decides first.0 name).0 is in
         let none : named name arguments ≡ 0 =
-        subst (λ n. named n arguments ≡ 0) same (none_named first.0 arguments (not_true (stands first.0 arguments) (and_parts _ _ single).0)) in
+        subst (λ n. named n arguments ≡ 0) same (none_named first.0 arguments (not-true (stands first.0 arguments) (and_parts _ _ single).0)) in
         omega (arith, none)
     go false is later = omega (arith, later)
 

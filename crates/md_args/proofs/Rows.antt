@@ -1,10 +1,10 @@
 -- The rows that `clap` holds are the arguments that were given, each once.
-use Rattle.std.proofs.Common.{◌≡◌, ◌∙◌, refl, sym, ap, Bool, true, false, cond, not, ◌||◌, List, [], ◌∷◌, ◌++◌, map, find, append-nil, append_assoc, Some, None}
+use Rattle.std.proofs.Common.{◌≡◌, ◌∙◌, refl, sym, ap, Bool, true, false, cond, ◌||◌, List, [], ◌∷◌, ◌++◌, map, find, append-nil, append_assoc, Some, None}
 use Rattle.std.specs.Prelude.{slice_get}
 use Rattle.std.specs.List.{list_any}
 use Rattle.std.specs.Option.{is_some, option_and_then, option_map, option_map_or}
 use Rattle.std.specs.Str.{bytes_eq}
-use Rattle.std.proofs.lemmas.Bool.{and_from, and_left, and_parts, and_right, not_from_false, not_from_true, or_from, or_parts, or_right, true≢false}
+use Rattle.std.proofs.lemmas.Bool.{and_from, and_left, and_parts, and_right, not_from_false, not_from_true, or_from, or_parts, or_right, true≢false, not-true}
 use Rattle.std.proofs.lemmas.List.{map-append}
 use Rattle.std.proofs.lemmas.List.Folds.{list_any-append}
 use Rattle.std.proofs.lemmas.Slice.Eq.{bytes_eq-Decides}
@@ -74,10 +74,6 @@ name_swap name other =
     let back = bytes_eq-Decides name other in
     same_from_decides (has_name name other) (has_name other name) (bytes_eq-Decides other name) ((λ is. sym (back.0 is)), (λ is. back.1 (sym is)))
 
-pub not_true : (b : Bool) → not b ≡ true → b ≡ false
-not_true true is = absurd (true≢false (sym is))
-not_true false is = refl
-
 doubled : (before after : List Argument) (argument : Argument) → stands argument.0 before ≡ true → are_single (before ++ argument ∷ after) ≡ false
 doubled [] after argument twice = absurd (true≢false (sym twice))
 doubled (first ∷ before) after argument twice = go (has_name argument.0 first.0) refl twice (doubled before after argument)
@@ -96,7 +92,7 @@ one_more_single (first ∷ before) argument once absent =
     let others = or_parts (has_name argument.0 first.0) (stands argument.0 before) absent in
     let last : stands first.0 (argument ∷ []) ≡ false = rw (name_swap first.0 argument.0, others.0) refl in
     let none : stands first.0 (before ++ argument ∷ []) ≡ false =
-    list_any-append (λ (a : Argument). has_name first.0 a.0) before (argument ∷ []) ∙ or_from _ _ (not_true _ parts.0) last in
+    list_any-append (λ (a : Argument). has_name first.0 a.0) before (argument ∷ []) ∙ or_from _ _ (not-true _ parts.0) last in
     and_from _ _ (not_from_false _ none) (one_more_single before argument parts.1 others.1)
 
 -- arguments are put behind others where no name stands twice

@@ -3,7 +3,7 @@ use Rattle.std.proofs.Common.{◌≡◌, ◌∙◌, refl, sym, ap, subst, arith,
 use Rattle.std.specs.List.{after_first, before_first, list_all, list_any, position_or_len}
 use Rattle.std.specs.Option.{option_and_then}
 use Rattle.std.specs.Str.{bytes_eq}
-use Rattle.std.proofs.lemmas.Bool.{and_left, and_parts, and_right, not_from_true, or_right, true≢false}
+use Rattle.std.proofs.lemmas.Bool.{and_left, and_parts, and_right, not_from_true, or_right, true≢false, not-true}
 use Rattle.std.proofs.lemmas.Slice.Eq.{bytes_eq-Decides}
 use Rattle.clap.specs.Lexer.{has_byte, long_of, name_and_value}
 use Rattle.clap.specs.Walk.{Text}
@@ -12,7 +12,7 @@ use Rattle.md_args.specs.Spelled.{AreWritten, Written, all_words, apart, argumen
 use Rattle.md_args.specs.Words.{run_flags, run_of, run_of_arguments, run_options}
 use Rattle.md_args.proofs.Gives.{given_flag, given_open, given_option, given_stray, given_value, given_word}
 use Rattle.md_args.proofs.Looks.{plain_word}
-use Rattle.md_args.proofs.Rows.{not_true, stands}
+use Rattle.md_args.proofs.Rows.{stands}
 
 -- an option of this name is read as it is written
 pub record IsReadable (name : Text) : Type 0 where
@@ -52,7 +52,7 @@ no_equals name none = rw (all_before name none, never name none) refl
     never [] none = refl
     never (letter ∷ name) none =
         let parts = and_parts (not (is_equals letter)) (has_no_equals name) none in
-        rw (not_true (is_equals letter) parts.0) (never name parts.1)
+        rw (not-true (is_equals letter) parts.0) (never name parts.1)
 
 one_equals : (name value : Text) → has_no_equals name ≡ true → name_and_value (name ++ 61 ∷ value) ≡ (name, Some value)
 one_equals name value none = rw (before name none, has name, after name none) refl

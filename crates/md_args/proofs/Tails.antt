@@ -4,13 +4,13 @@ use Rattle.std.specs.Prelude.{⊤}
 use Rattle.std.specs.List.{list_any}
 use Rattle.std.specs.Option.{option_and_then}
 use Rattle.std.specs.Str.{bytes_eq}
-use Rattle.std.proofs.lemmas.Bool.{and_parts, or_parts, or_right, true≢false}
+use Rattle.std.proofs.lemmas.Bool.{and_parts, or_parts, or_right, true≢false, not-true}
 use Rattle.std.proofs.lemmas.Slice.Eq.{bytes_eq-Decides}
 use Rattle.clap.specs.Lexer.{long_of}
 use Rattle.clap.specs.Walk.{Text}
 use Rattle.md_args.specs.Given.{Argument, Place, are_single, between, ended, given, has_name, is_marked, option_word, value_in, value_of, with_value}
 use Rattle.md_args.specs.Words.{Run, is_name, run_by, run_of_arguments}
-use Rattle.md_args.proofs.Rows.{not_true, stands}
+use Rattle.md_args.proofs.Rows.{stands}
 use Rattle.md_args.proofs.Spellings.{left_of}
 
 -- what holds of what two lists give, and stays so where the same argument is put in front of both
@@ -85,7 +85,7 @@ refused_name (first ∷ arguments) single refused =
         → (name : Text) × ((value_in (first ∷ arguments) (codes "rom") ≡ Some name) × (is_name name ≡ false))
     go true true is fine refused later =
         let same : first.0 ≡ codes "rom" = (bytes_eq-Decides first.0 (codes "rom")).0 is in
-        let none : stands (codes "rom") arguments ≡ false = subst (λ n. stands n arguments ≡ false) same (not_true _ (and_parts _ _ single).0) in
+        let none : stands (codes "rom") arguments ≡ false = subst (λ n. stands n arguments ≡ false) same (not-true _ (and_parts _ _ single).0) in
         absurd (true≢false (sym refused ∙ none_refused arguments none))
     go true false is fine refused later = (first.1, (rw (is) refl, fine))
     go false d is fine refused later =

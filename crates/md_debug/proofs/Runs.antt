@@ -1,5 +1,6 @@
 -- How the debugger's machine goes on.
 use Rattle.std.proofs.Common.{◌≡◌, ℕ, zero, suc, ◌+◌, ◌-◌, ◌<◌, ◌≤◌, List, [], ◌++◌, Option, option_to_list, inl, inr, ◌⊎◌, add-one, refl, sym, ap, subst, ◌∙◌, append-nil, append_assoc, arith}
+use Rattle.std.proofs.lemmas.Bool.{cases_lt}
 use Rattle.md_word.specs.Clock.{last_cycle}
 use Rattle.md_word.specs.declared.event.Entry.{Entry}
 use Rattle.md_machine.specs.Console.{AllBelow, Console, IsQuiet, IsRunTo, begins_in, journal, key_in, media, mover, ran}
@@ -33,12 +34,9 @@ begun-add m a (suc b) =
     ∙ ap (λ (z : Console). (begun_by m a ++ begun_by (ran m a) b) ++ option_to_list (begins_in z)) (ran-add m a b)
     ∙ append_assoc (begun_by m a) (begun_by (ran m a) b) (option_to_list (begins_in (ran (ran m a) b)))
 
-early : (k a : ℕ) → (k < a) ⊎ (a ≤ k)
-early k a = grind arith
-
 -- a move of both is one of the first, or one of the second
 split : (k a b : ℕ) → k < a + b → (k < a) ⊎ ((j : ℕ) × (j < b) × (k ≡ a + j))
-split k a b below = elim (early k a) [
+split k a b below = elim (cases_lt k a) [
   | inl is ↦ inl is
   | inr late ↦ inr (k - a, omega arith, omega arith)
 ]
@@ -51,7 +49,7 @@ goes_joined m w z s t first later within one two =
     record {
       moves = one.moves + two.moves;
       below = λ k below. elim (split k one.moves two.moves below) [
-        | inl early ↦ omega (arith, one.below k early)
+        | inl cases_lt ↦ omega (arith, one.below k cases_lt)
         | inr late ↦ rw late.2 (after late.0 late.1)
       ];
       quiet = two.quiet;

@@ -1,6 +1,6 @@
 -- How many frames a run makes: one for each start of the line behind the picture.
 use Rattle.std.proofs.Common.{◌≡◌, ◌⊎◌, ℕ, zero, suc, ◌+◌, ◌-◌, ◌*◌, ◌/◌, ◌%◌, ◌<◌, ◌≤◌, ◌==◌, cond, Bool, true, false, List, [], length, length-append, Some, None, refl, sym, ap, ◌∙◌, subst, arith, lit<, inl, inr}
-use Rattle.std.proofs.lemmas.Bool.{eq-eqb, eqb-true}
+use Rattle.std.proofs.lemmas.Bool.{eq-eqb, eqb-true, true≢false}
 use Rattle.md_word.specs.declared.event.Entry.{Entry}
 use Rattle.m68k_chip.specs.States.{next_of}
 use Rattle.z80_chip.specs.States.{next_of as sub_next_of}
@@ -16,9 +16,6 @@ use Rattle.md_machine.specs.Movers.{mover-lt}
 use Rattle.md_machine.specs.Starts.{IsStart, Start, first_line, frames_below}
 use Rattle.md_machine.proofs.Moves.{five-each}
 use Rattle.md_machine.proofs.Regions.{ran_stays}
-
-clash : true ≡ false → ⊥
-clash same = cc
 
 -- a move, by whether it is the event of a line
 data LineMove (z : Console) (i : ℕ) : Type 0 where
@@ -51,7 +48,7 @@ one-more true pal n is =
     let same : 3420 * n / 3420 ≡ n = omega arith in
     one-more-by pal n (subst (λ (k : ℕ). k % lines pal ≡ rows pal) same at)
 one-more false pal n is =
-    let other : 3420 * n / 3420 % lines pal ≡ rows pal → ⊥ = λ e. absurd (clash (sym (eq-eqb _ _ e) ∙ is)) in
+    let other : 3420 * n / 3420 % lines pal ≡ rows pal → ⊥ = λ e. absurd (true≢false (sym (eq-eqb _ _ e) ∙ is)) in
     let same : 3420 * n / 3420 ≡ n = omega arith in
     let here : finishes pal n ≡ finishes pal (n + 1) = none-more-by pal n (subst (λ (k : ℕ). k % lines pal ≡ rows pal → ⊥) same other) in
     omega (arith, here)

@@ -1,5 +1,6 @@
 -- Two runs, the one behind the other, are one.
 use Rattle.std.proofs.Common.{◌≡◌, ℕ, zero, suc, ◌+◌, ◌-◌, ◌<◌, ◌≤◌, ◌⊎◌, inl, inr, List, ◌++◌, sym, ap, ◌∙◌, subst, append-nil, append_assoc, arith}
+use Rattle.std.proofs.lemmas.Bool.{cases_lt}
 use Rattle.md_word.specs.declared.event.Entry.{Entry}
 use Rattle.md_machine.specs.Console.{Console, IsRunTo, rendered, journal, key_in, moved, mover, ran, media, told}
 use Rattle.md_machine.specs.Media.{Media, joined, no_media}
@@ -44,12 +45,9 @@ media-add m a (suc b) =
     ∙ ap (λ z. joined (joined (media m a) (media (ran m a) b)) (rendered z (mover z))) (ran-add m a b)
     ∙ joined-assoc (media m a) (media (ran m a) b) (rendered (ran (ran m a) b) (mover (ran (ran m a) b)))
 
-early : (k a : ℕ) → (k < a) ⊎ (a ≤ k)
-early k a = grind arith
-
 -- a move of the whole is one of the first run, or one of the second
 split : (k a b : ℕ) → k < a + b → (k < a) ⊎ ((j : ℕ) × (j < b) × (k ≡ a + j))
-split k a b below = elim (early k a) [
+split k a b below = elim (cases_lt k a) [
   | inl is ↦ inl is
   | inr late ↦ inr (k - a, omega arith, omega arith)
 ]
@@ -63,7 +61,7 @@ run-joined m w z s t entries later_entries sound later_sound within first second
     record {
       moves = first.moves + second.moves;
       below = λ k below. elim (split k first.moves second.moves below) [
-        | inl early ↦ omega (arith, first.below k early)
+        | inl cases_lt ↦ omega (arith, first.below k cases_lt)
         | inr late ↦ rw late.2 (later late.0 late.1)
       ];
       quiet = second.quiet;

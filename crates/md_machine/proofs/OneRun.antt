@@ -1,16 +1,14 @@
 -- Two runs from one machine to one cycle are equal.
 use Rattle.std.proofs.Common.{◌≡◌, ℕ, ◌<◌, ◌≤◌, ◌⊎◌, inl, inr, List, sym, ap, ◌∙◌, subst, arith}
+use Rattle.std.proofs.lemmas.Bool.{cases_lt}
 use Rattle.md_word.specs.declared.event.Entry.{Entry}
 use Rattle.md_machine.specs.Console.{AllBelow, Console, IsRunTo, journal, key_in, media, mover, ran}
 use Rattle.md_machine.specs.Media.{Media}
 use Rattle.md_machine.specs.Movers.{mover-lt}
 
-less : (a n : ℕ) → (a < n) ⊎ (n ≤ a)
-less a n = grind arith
-
 -- behind a run's last move no other stands below its end
 no-more : (m w : Console) (end n : ℕ) (entries : List Entry) (output : Media) → AllBelow m end n → (one : IsRunTo m end w entries output) → n ≤ one.moves
-no-more m w end n entries output below one = elim (less one.moves n) [
+no-more m w end n entries output below one = elim (cases_lt one.moves n) [
   | inl more ↦ absurd (
       let low : (key_in (ran m one.moves) (mover (ran m one.moves))).cycle < end = below one.moves more in
       let late : end ≤ (key_in (ran m one.moves) (mover (ran m one.moves))).cycle =

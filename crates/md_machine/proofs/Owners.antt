@@ -1,6 +1,7 @@
 -- The Z80's RAM and bank register have one owner at every moment of a run.
 use Rattle.std.proofs.Common.{◌≡◌, ℕ, zero, suc, ◌/◌, ◌%◌, ◌==◌, ◌<◌, cond, Bool, true, false, not, if◌then◌else◌, List, Option, Some, None, Result, Ok, Err, refl, sym, ap, ◌∙◌, subst, arith, lit<}
 use Rattle.std.specs.Prelude.{is_some, option_map}
+use Rattle.std.proofs.lemmas.Bool.{true≢false}
 use Rattle.md_pads.specs.Recording.{Recorded}
 use Rattle.md_word.specs.Region.{finished_at, frame_cycles}
 use Rattle.md_word.specs.Map.{area_of}
@@ -51,9 +52,6 @@ use Rattle.md_machine.specs.declared.chips.Chip.{Chip}
 use Rattle.md_machine.specs.declared.chips.Chip.TheVariants.{Sub}
 use Rattle.md_machine.proofs.Lifts.{Movers, ValidTo, ran-same}
 use Rattle.md_machine.proofs.Moves.{five-each, kind1}
-
-clash : true ≡ false → ⊥
-clash same = cc
 
 -- what the bus has stays with it, whatever the 68000 does
 has-same : (b : Bool) (one other : Board) (x : Bool) → is_some one.store ≡ x → is_some other.store ≡ x → is_some (if b then one else other).store ≡ x
@@ -227,9 +225,9 @@ unfolding running_case
 running-takes state pins = running-by pins.reset (is_interrupted state pins) state.halted
 
 bus-takes : (request has : Bool) (running : Case) → takes running ≡ false → takes (bus_case request has running) ≡ true → has ≡ false
-bus-takes true true running none taken = absurd (clash (sym taken))
+bus-takes true true running none taken = absurd (true≢false (sym taken))
 bus-takes true false running none taken = refl
-bus-takes false true running none taken = absurd (clash (sym taken ∙ none))
+bus-takes false true running none taken = absurd (true≢false (sym taken ∙ none))
 bus-takes false false running none taken = refl
 
 case-takes : (state : State80) (pins : Pins80) → takes (case_of state pins) ≡ true → is_some state.store ≡ false
@@ -289,7 +287,7 @@ after_access stage cart state told = answered_at stage cart (record state { stor
 
 access-owns : (stage : Stage) (chip : Chip80Value) (board : Board) (key : Key) → stage ≡ chip.state.stage → is_sample stage ≡ false → IsChip80 chip → Owns chip.state board
     → Owns (after_access stage chip.cart chip.state (sub_access board key (asked_at stage chip.cart chip.state)).answer) (sub_access board key (asked_at stage chip.cart chip.state)).board
-access-owns Sample chip board key is kind ok owns = absurd (clash kind)
+access-owns Sample chip board key is kind ok owns = absurd (true≢false kind)
 access-owns Access chip board key is kind ok owns =
     let at : IsAsking chip.cart chip.state = subst (λ (s : Stage). IsAt s chip.cart chip.state) (sym is) ok.stands in
     let access : IsAccess at.request = bounds80.asks chip.state.cause chip.state.regs _ at.request at.asked in
@@ -297,15 +295,15 @@ access-owns Access chip board key is kind ok owns =
     byte-access at.request board key access (asked_at Access chip.cart chip.state) (ap asked_in at.asked) in
     record {
       one = went-has chip.cart _ chip.state.cause ∙ owns.one ∙ ap not (sym same);
-      taking = λ take. absurd (clash (sym take ∙ went-takes chip.cart _ chip.state.cause));
+      taking = λ take. absurd (true≢false (sym take ∙ went-takes chip.cart _ chip.state.cause));
     }
 access-owns Yield chip board key is kind ok owns = record {
   one = handed-over chip.state.store board key owns.one;
-  taking = λ take. absurd (clash (sym take));
+  taking = λ take. absurd (true≢false (sym take));
 }
 access-owns Take chip board key is kind ok owns = record {
   one = taken-over chip.state.store board key (owns.taking (sym (ap is_take is))) owns.one;
-  taking = λ take. absurd (clash (sym take));
+  taking = λ take. absurd (true≢false (sym take));
 }
 
 -- the moves, chip by chip
@@ -380,7 +378,7 @@ pub one-owner : (m : Machine Chip Board) (cart : List ℕ) (recording : Recorded
     → HasOneOwner (ran (power_on cart recording pal) n)
 unfolding states80.power_on
 one-owner m cart recording pal n is valid movers =
-    let first : Owns (power_on cart recording pal).sub.state (power_on cart recording pal).shared = record { one = refl; taking = λ take. absurd (clash (sym take)) } in
+    let first : Owns (power_on cart recording pal).sub.state (power_on cart recording pal).shared = record { one = refl; taking = λ take. absurd (true≢false (sym take)) } in
     let run_owns : Owns (ran (console m) n).sub.state (ran (console m) n).shared =
     owns-ran m n valid movers (subst (λ (z : Console). Owns z.sub.state z.shared) (sym is) first) in
     ap (λ (z : Console). is_some (ran z n).sub.state.store) (sym is) ∙ run_owns.one ∙ ap (λ (z : Console). not (is_some (ran z n).shared.store)) is

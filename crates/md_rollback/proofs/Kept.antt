@@ -2,6 +2,7 @@
 use Rattle.std.proofs.Common.{◌≡◌, ◌∙◌, sym, ap, subst, ℕ, ◌+◌, ◌-◌, ◌<◌, ◌≤◌, ◌⊎◌, inl, inr, List, [], ◌++◌, length, get_or, take, drop, arith, length-append, length-drop}
 use Rattle.std.specs.Prelude.{reverse}
 use Rattle.std.proofs.lemmas.List.{get_or-append_right, get_or-drop, get_or-reverse, get_or-take, get_or_append_left, length-reverse, length-take}
+use Rattle.std.proofs.lemmas.Bool.{cases_lt}
 use Rattle.md_pads.specs.Recording.{Frame}
 use Rattle.rollback_inputs.specs.Inputs.{frame_at}
 use Rattle.md_machine.specs.Console.{Console}
@@ -22,9 +23,6 @@ image-with cart spelling is_own one other frames bytes same is = record {
   all = is.all;
 }
 
-before-or-not : (p k : ℕ) → (p < k) ⊎ (k ≤ p)
-before-or-not p k = grind arith
-
 module _ (cart : List ℕ) (spelling : ℕ → Console → List ℕ) (is_own : ℕ → Console → Type 0) (window right : ℕ) (played expected : List Frame) (kept newer : List (List ℕ))
     (long : length expected ≡ length played + 1) (within : right ≤ length played) (near : length played ≤ right + window)
     (same : (f : ℕ) → f < right → frame_at played f ≡ frame_at expected f)
@@ -43,7 +41,7 @@ module _ (cart : List ℕ) (spelling : ℕ → Console → List ℕ) (is_own : �
   -- the newer ones come first, and behind them those from the last right one on
   image-at : (j : ℕ) → j < length all → IsImageOf cart spelling is_own expected (length expected - j) (get_or all j [])
   unfolding all back
-  image-at j less = elim (before-or-not j (length newer)) [
+  image-at j less = elim (cases_lt j (length newer)) [
     | inl early ↦ (
         let place : length newer - 1 - j < length newer = omega (arith, early) in
         let is : get_or all j [] ≡ get_or newer (length newer - 1 - j) [] =

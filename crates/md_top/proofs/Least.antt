@@ -1,9 +1,7 @@
 -- The least number that passes a test.
 use Rattle.std.proofs.Common.{◌≡◌, ℕ, zero, suc, ◌<◌, ◌≤◌, ◌⊎◌, inl, inr, Bool, true, false, refl, sym, ap, ◌∙◌, arith}
+use Rattle.std.proofs.lemmas.Bool.{true≢false}
 use Rattle.md_top.specs.Least.{least}
-
-clash : true ≡ false → ⊥
-clash same = cc
 
 -- it is the number below which none does
 pub least-is : (test : ℕ → Bool) (limit n : ℕ) → n ≤ limit → test n ≡ true → ((k : ℕ) → k < n → test k ≡ false) → least test limit ≡ n
@@ -48,7 +46,7 @@ least-le_by test limit n false first others = rw first (others first)
 -- it is at most any number that passes
 pub least-le : (test : ℕ → Bool) (limit n : ℕ) → test n ≡ true → least test limit ≤ n
 least-le test zero n passes = unfold least in omega arith
-least-le test (suc limit) zero passes = least-le_by test limit zero (test 0) refl (λ fails. absurd (clash (sym passes ∙ fails)))
+least-le test (suc limit) zero passes = least-le_by test limit zero (test 0) refl (λ fails. absurd (true≢false (sym passes ∙ fails)))
 least-le test (suc limit) (suc n) passes =
     least-le_by test limit (suc n) (test 0) refl (λ fails. omega (arith, least-le (λ k. test (suc k)) limit n passes))
 

@@ -1,8 +1,9 @@
 -- What the outputs hold behind a begin and an append.
 use Rattle.std.proofs.Common.{◌≡◌, ℕ, Bool, true, false, cond, List, [], ◌++◌, Option, Some, None, refl, sym, ap, subst, ◌∙◌, append-nil, append_assoc}
-use Rattle.std.specs.Prelude.{not, IsSome}
+use Rattle.std.specs.Prelude.{IsSome}
 use Rattle.std.specs.Str.{bytes_eq}
 use Rattle.std.proofs.lemmas.Slice.Eq.{bytes_eq-Decides}
+use Rattle.std.proofs.lemmas.Bool.{true≢false, not-true}
 use mathlib.Core.Path.{fun_ext}
 use Rattle.md_outer.specs.Outside.{Files, IsPrefix, bytes_of, with_file}
 use Rattle.md_top.specs.Outputs.{Holds, IsPartOf, LeavesParts, Pieces, all_of, lengthened, nothing, with_part, written}
@@ -25,9 +26,6 @@ with_file-with_file files name first second = fun_ext (λ other. cond-cond (byte
 pub bytes_of-with_file : (files : Files) (name bytes : List ℕ) → bytes_of (with_file files name bytes) name ≡ bytes
 bytes_of-with_file files name bytes = rw (bytes_eq-self name) refl
 
-clash : true ≡ false → ⊥
-clash same = cc
-
 -- two choices whose tests do not both hold change places
 cond-comm : {A : Type 0} (p q : Bool) (x y z : A) → (p ≡ true → q ≡ true → ⊥) → cond q y (cond p x z) ≡ cond p x (cond q y z)
 cond-comm true true x y z apart = absurd (apart refl refl)
@@ -39,7 +37,7 @@ cond-comm false false x y z apart = refl
 with_file-comm : (files : Files) (a b x y : List ℕ) → bytes_eq a b ≡ false → with_file (with_file files a x) b y ≡ with_file (with_file files b y) a x
 with_file-comm files a b x y differs =
     fun_ext (λ other. cond-comm (bytes_eq a other) (bytes_eq b other) (Some x) (Some y) (files other)
-    (λ first second. clash (sym ((bytes_eq-Decides a b).1 ((bytes_eq-Decides a other).0 first ∙ sym ((bytes_eq-Decides b other).0 second))) ∙ differs)))
+    (λ first second. true≢false (sym ((bytes_eq-Decides a b).1 ((bytes_eq-Decides a other).0 first ∙ sym ((bytes_eq-Decides b other).0 second))) ∙ differs)))
 
 -- a piece behind the bytes of a file
 file-longer : (base files new : Files) (name held piece : List ℕ) → files ≡ with_file base name held → new ≡ with_file files name (bytes_of files name ++ piece)
@@ -52,17 +50,13 @@ file-longer base files new name held piece is appended =
 
 -- OUTPUTS
 
-not_true : (b : Bool) → not b ≡ true → b ≡ false
-not_true true is = absurd (clash (sym is))
-not_true false is = refl
-
 -- outputs of two names change places
 part-comm : (files : Files) (a b x y : Option (List ℕ)) → differ a b ≡ true → with_part (with_part files a x) b y ≡ with_part (with_part files b y) a x
 part-comm files a b None y apart = refl
 part-comm files None b (Some x) y apart = refl
 part-comm files (Some a) b (Some x) None apart = refl
 part-comm files (Some a) None (Some x) (Some y) apart = refl
-part-comm files (Some a) (Some b) (Some x) (Some y) apart = with_file-comm files a b x y (not_true (bytes_eq a b) apart)
+part-comm files (Some a) (Some b) (Some x) (Some y) apart = with_file-comm files a b x y (not-true (bytes_eq a b) apart)
 
 -- an output that is written last is lengthened
 part-longer : (base files new : Files) (output : Option (List ℕ)) (name held piece : List ℕ) → output ≡ Some name
@@ -77,7 +71,7 @@ part-unasked base output x y is =
     ap (λ (o : Option (List ℕ)). with_part base o (Some x)) is ∙ sym (ap (λ (o : Option (List ℕ)). with_part base o (Some y)) is)
 
 pub named : (output : Option (List ℕ)) → IsSome output → (name : List ℕ) × (output ≡ Some name)
-named None some = absurd (clash (sym some))
+named None some = absurd (true≢false (sym some))
 named (Some name) some = (name, refl)
 
 -- the outputs of a run have names that differ

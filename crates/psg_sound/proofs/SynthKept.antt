@@ -1,10 +1,9 @@
 -- The bytes that keep a synthesis are read again.
 use Rattle.std.proofs.Common.{◌≡◌, ℕ, ◌<◌, ◌≤◌, ◌^◌, Bool, true, false, refl, arith}
 use Rattle.std.specs.Prelude.{◌&&◌, nat_le, nat_lt}
-use Rattle.std.proofs.lemmas.Bool.{le-leb, lt-ltb}
+use Rattle.std.proofs.lemmas.Bool.{le-leb, lt-ltb, and_from}
 use Rattle.md_word.specs.Coding.{flag_number}
 use Rattle.md_fields.specs.Fields.{AllHold, AreWithin}
-use Rattle.md_fields.specs.Items.{IsRight}
 use Rattle.md_fields.proofs.Items.{none_wrong}
 use Rattle.psg_sound.specs.Synth.{IsSynth, Synth}
 use Rattle.psg_sound.specs.SynthSpelling.{SpellsSynth, is_counter, saved_synth, synth_bytes, synth_fields}
@@ -17,12 +16,8 @@ flag_byte : (flag : Bool) → flag_number flag < 2 ^ 8
 flag_byte true = omega arith
 flag_byte false = omega arith
 
-both : (a b : Bool) → a ≡ true → b ≡ true → (a && b) ≡ true
-both true b first second = second
-both false b first second = absurd cc
-
 counter : (n : ℕ) → 1 ≤ n → n < 1024 → is_counter n ≡ true
-counter n low high = both (nat_le 1 n) (nat_lt n 1024) (le-leb 1 n low) (lt-ltb n 1024 high)
+counter n low high = and_from (nat_le 1 n) (nat_lt n 1024) (le-leb 1 n low) (lt-ltb n 1024 high)
 
 rules : (s : Synth) → IsSynth s → AllHold (synth_fields (saved_synth s))
 unfolding AllHold

@@ -1,6 +1,7 @@
 -- A session that follows a script, once a line more was obeyed.
 use Rattle.std.proofs.Common.{◌≡◌, ◌≢◌, ◌∙◌, refl, sym, ap, subst, ℕ, ◌+◌, ◌<◌, ◌≤◌, ◌^◌, ◌⊎◌, inl, inr, set, List, Option, Some, None, Result, Ok, Err, arith}
 use Rattle.std.specs.Prelude.{◌↔◌, IfErr, OnOk}
+use Rattle.std.proofs.lemmas.Bool.{cases_lt}
 use Rattle.md_pads.specs.Recording.{Frame}
 use Rattle.md_machine.specs.Machines.{MachineValue}
 use Rattle.rollback_inputs.specs.Inputs.{IsConfirmed, Words, expected_frames, given, most_frames}
@@ -75,9 +76,6 @@ frame-followed cart old new script follows is more same made =
 pub no-fault : {E : Type 0} (e : E) → ◌≡◌ {A = Result (Unit {0}) E} (Ok tt) (Err e) → ⊥
 no-fault e same = cc
 
-below-or-not : (a b : ℕ) → (a < b) ⊎ (b ≤ a)
-below-or-not a b = grind arith
-
 none-given : (o : Option ℕ) → ((kept : ℕ) → o ≡ Some kept → ⊥) → o ≡ None
 none-given None free = refl
 none-given (Some kept) free = absurd (free kept refl)
@@ -129,13 +127,13 @@ err-map (Err e) P Q more holds = more e holds
 pub taken-input : (words : Words) (frame buttons : ℕ) → (most_frames ≤ frame → ⊥) → ((kept : ℕ) → given words frame ≡ Some kept → ⊥)
     → ((frame < most_frames) × (given words frame ≡ None) × (2 ^ 8 ≤ buttons) → ⊥) → (frame < most_frames) × (given words frame ≡ None) × (buttons < 2 ^ 8)
 taken-input words frame buttons near free plain =
-    let within : frame < most_frames = elim (below-or-not frame most_frames) [ inl less ↦ less | inr late ↦ absurd (near late) ] in
+    let within : frame < most_frames = elim (cases_lt frame most_frames) [ inl less ↦ less | inr late ↦ absurd (near late) ] in
     let none : given words frame ≡ None = none-given (given words frame) free in
-    let small : buttons < 2 ^ 8 = elim (below-or-not buttons (2 ^ 8)) [ inl less ↦ less | inr many ↦ absurd (plain (within, none, many)) ] in (within, none, small)
+    let small : buttons < 2 ^ 8 = elim (cases_lt buttons (2 ^ 8)) [ inl less ↦ less | inr many ↦ absurd (plain (within, none, many)) ] in (within, none, small)
 
 -- a session that goes on has a frame left, within its window
 pub goes-on : (frames confirmed window : ℕ) → frames ≤ most_frames → (frames ≡ most_frames → ⊥) → ((frames ≢ most_frames) × (confirmed + window ≤ frames) → ⊥)
     → (frames < most_frames) × (frames < confirmed + window)
 goes-on frames confirmed window few more order =
-    let within : frames < most_frames = elim (below-or-not frames most_frames) [ inl less ↦ less | inr late ↦ absurd (more (omega (arith, few, late))) ] in
-    let near : frames < confirmed + window = elim (below-or-not frames (confirmed + window)) [ inl less ↦ less | inr late ↦ absurd (order (more, late)) ] in (within, near)
+    let within : frames < most_frames = elim (cases_lt frames most_frames) [ inl less ↦ less | inr late ↦ absurd (more (omega (arith, few, late))) ] in
+    let near : frames < confirmed + window = elim (cases_lt frames (confirmed + window)) [ inl less ↦ less | inr late ↦ absurd (order (more, late)) ] in (within, near)

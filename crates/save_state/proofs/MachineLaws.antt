@@ -1,7 +1,7 @@
 -- A machine from the items that are read together.
 use Rattle.std.proofs.Common.{◌≡◌, ℕ, zero, suc, ◌+◌, ◌-◌, ◌*◌, ◌/◌, ◌%◌, ◌<◌, ◌≤◌, leb, ltb, eqb, Bool, true, false, ◌==◌, ◌⊎◌, List, [], ◌∷◌, length, refl, sym, ap, subst, ◌∙◌, arith, inl, inr, Result}
 use Rattle.std.specs.Prelude.{slice_index}
-use Rattle.std.proofs.lemmas.Bool.{leb-true, ltb-true, eqb-true}
+use Rattle.std.proofs.lemmas.Bool.{leb-true, ltb-true, eqb-true, and_parts}
 use Rattle.md_word.specs.Clock.{last_cycle}
 use Rattle.md_word.specs.declared.unspell.Unspell.{Unspell}
 use Rattle.md_word.specs.declared.unspell.Unspell.TheVariants.{Rule, NoMemory}
@@ -38,7 +38,7 @@ use Rattle.save_state.specs.Joining.{Reads, FailsIn, both, KeepsBoth, Either}
 use Rattle.save_state.specs.Pieces.{Pieces, Kept, Fails, built}
 use Rattle.md_fields.proofs.Refusals.{failed}
 use Rattle.save_state.proofs.Joins.{fine, joined}
-use Rattle.save_state.proofs.Places.{both_hold, from_first}
+use Rattle.save_state.proofs.Places.{from_first}
 
 -- ---- the items together
 
@@ -174,13 +174,13 @@ main_soon : (cart : List ℕ) (at : ℕ) (bytes : List ℕ) (state : State68) �
 unfolding AllHold
 main_soon cart at bytes state s =
     let h = all_hold 0 (saved68.chip_fields cart at (numbers_of state)) s.right in
-    leb-true at state.next (both_hold (leb at state.next) _ h.0).0
+    leb-true at state.next (and_parts (leb at state.next) _ h.0).0
 
 sub_soon : (cart : List ℕ) (at : ℕ) (bytes : List ℕ) (state : State80) → sub.Spells cart at bytes state → at ≤ state.next
 unfolding AllHold
 sub_soon cart at bytes state s =
     let h = all_hold 0 (saved80.chip_fields cart at (saved80.kept_of state)) s.right in
-    leb-true at state.next (both_hold (leb at state.next) _ h.0).0
+    leb-true at state.next (and_parts (leb at state.next) _ h.0).0
 
 pub next_68 : (cart : List ℕ) (at : ℕ) (bytes : List ℕ) (state : State68) → main.Spells cart at bytes state → at ≤ (next_of state).key.cycle
 unfolding next_of
@@ -194,8 +194,8 @@ pub is_first : (at : ℕ) (pal : Bool) (bytes : List ℕ) (d : Drawing) → draw
 unfolding AllHold
 is_first at pal bytes d s =
     let h = all_hold 0 (saved_drawing.drawing_fields at pal (saved_drawing.numbers_of d)) s.right in
-    let a = both_hold (eqb (d.next % 3420) 0) _ h.0 in
-    let b = both_hold (leb at d.next) (ltb (d.next - at) 3420) a.1 in
+    let a = and_parts (eqb (d.next % 3420) 0) _ h.0 in
+    let b = and_parts (leb at d.next) (ltb (d.next - at) 3420) a.1 in
     let whole : d.next % 3420 ≡ 0 = eqb-true _ _ a.0 in
     let from : at ≤ d.next = leb-true _ _ b.0 in
     let near : d.next - at < 3420 = ltb-true _ _ b.1 in

@@ -1,6 +1,6 @@
 -- Parts of a state: they lie within it, and what comes first in their bytes comes first in the state.
 use Rattle.std.proofs.Common.{◌≡◌, ℕ, ◌+◌, ◌-◌, ◌<◌, ◌≤◌, leb, cond, Bool, true, false, ◌&&◌, List, [], ◌∷◌, length, get_or, refl, ap, arith, inl, inr}
-use Rattle.std.proofs.lemmas.Bool.{cases_lt, leb-true, lt-ltb, le-ltb}
+use Rattle.std.proofs.lemmas.Bool.{cases_lt, leb-true, lt-ltb, le-ltb, and_parts}
 use Rattle.save_state.specs.declared.layout.Part.{Part}
 use Rattle.save_state.specs.Layout.{are_ordered, place_of}
 
@@ -9,20 +9,16 @@ pub yes : (b : Bool) → ¬ (b ≡ false) → b ≡ true
 yes true h = refl
 yes false h = absurd (h refl)
 
-pub both_hold : (a b : Bool) → (a && b) ≡ true → (a ≡ true) × (b ≡ true)
-both_hold true b e = (refl, e)
-both_hold false b e = absurd cc
-
 -- where parts stand behind a place, and how the first and the others do
 pub at_most : (from : ℕ) (ps : List Part) → are_ordered from ps ≡ true → from ≤ 393620
 at_most from [] e = leb-true from 393620 e
 at_most from (p ∷ ps) e =
-    let h = both_hold (leb from p.place) (are_ordered (p.place + p.size) ps) e in
+    let h = and_parts (leb from p.place) (are_ordered (p.place + p.size) ps) e in
     omega (arith, leb-true from p.place h.0, at_most (p.place + p.size) ps h.1)
 
 pub first_inside : (from : ℕ) (ps : List Part) (d : Part) → 1 ≤ length ps → are_ordered from ps ≡ true → (get_or ps 0 d).place + (get_or ps 0 d).size ≤ 393620
 first_inside from [] d some e = absurd (omega (arith, some))
-first_inside from (p ∷ ps) d some e = at_most (p.place + p.size) ps (both_hold _ (are_ordered (p.place + p.size) ps) e).1
+first_inside from (p ∷ ps) d some e = at_most (p.place + p.size) ps (and_parts _ (are_ordered (p.place + p.size) ps) e).1
 
 -- a place of the first part, and one behind it
 place_in : (p q : Part) (ps : List Part) (n : ℕ) → n < p.size → place_of (p ∷ (q ∷ ps)) n ≡ p.place + n
@@ -33,9 +29,9 @@ place_behind p q ps n le = ap (λ (b : Bool). cond b (p.place + n) (place_of (q 
 
 -- no place stands before the first part
 pub from_first : (p : Part) (ps : List Part) (from n : ℕ) → are_ordered from (p ∷ ps) ≡ true → from ≤ place_of (p ∷ ps) n
-from_first p [] from n e = omega (arith, leb-true from p.place (both_hold _ _ e).0)
+from_first p [] from n e = omega (arith, leb-true from p.place (and_parts _ _ e).0)
 from_first p (q ∷ ps) from n e =
-    let h = both_hold _ (are_ordered (p.place + p.size) (q ∷ ps)) e in
+    let h = and_parts _ (are_ordered (p.place + p.size) (q ∷ ps)) e in
     let low = leb-true from p.place h.0 in
     elim (cases_lt n p.size) [
       | inl lt ↦ omega (arith, low, place_in p q ps n lt)
@@ -47,7 +43,7 @@ pub in_order : (ps : List Part) (from m n : ℕ) → are_ordered from ps ≡ tru
 in_order [] from m n e le = omega arith
 in_order (p ∷ []) from m n e le = omega (arith, le)
 in_order (p ∷ (q ∷ ps)) from m n e le =
-    let h = both_hold _ (are_ordered (p.place + p.size) (q ∷ ps)) e in
+    let h = and_parts _ (are_ordered (p.place + p.size) (q ∷ ps)) e in
     elim (cases_lt m p.size) [
       | inl low ↦ (elim (cases_lt n p.size) [
         | inl lt ↦ omega (arith, le, place_in p q ps m low, place_in p q ps n lt)
@@ -60,9 +56,9 @@ in_order (p ∷ (q ∷ ps)) from m n e le =
 -- and it is within the state
 pub place_inside : (ps : List Part) (from n : ℕ) → are_ordered from ps ≡ true → place_of ps n ≤ 393620
 place_inside [] from n e = omega arith
-place_inside (p ∷ []) from n e = omega (arith, at_most (p.place + p.size) [] (both_hold _ _ e).1)
+place_inside (p ∷ []) from n e = omega (arith, at_most (p.place + p.size) [] (and_parts _ _ e).1)
 place_inside (p ∷ (q ∷ ps)) from n e =
-    let h = both_hold _ (are_ordered (p.place + p.size) (q ∷ ps)) e in
+    let h = and_parts _ (are_ordered (p.place + p.size) (q ∷ ps)) e in
     elim (cases_lt n p.size) [
       | inl lt ↦ omega (arith, lt, place_in p q ps n lt, at_most (p.place + p.size) (q ∷ ps) h.1)
       | inr ge ↦ omega (arith, place_behind p q ps n ge, place_inside (q ∷ ps) (p.place + p.size) (n - p.size) h.1)

@@ -1,7 +1,7 @@
 -- What a Z80 spells is read again, where its rules hold; and what is read has them.
-use Rattle.std.proofs.Common.{◌≡◌, ℕ, zero, suc, ◌+◌, ◌-◌, ◌*◌, ◌^◌, ◌<◌, ◌≤◌, Bool, true, false, not, cond, eqb, leb, ltb, List, length, take, slice_index, Option, Some, None, is_some, IfSome, Result, Err, refl, sym, ap, subst, ◌∙◌, arith, ◌⊎◌, inl, inr}
+use Rattle.std.proofs.Common.{◌≡◌, ℕ, zero, suc, ◌+◌, ◌-◌, ◌*◌, ◌^◌, ◌<◌, ◌≤◌, Bool, true, false, not, cond, eqb, leb, ltb, List, length, slice_index, Option, Some, None, is_some, IfSome, Result, Err, refl, sym, ap, subst, ◌∙◌, arith, ◌⊎◌, inl, inr}
 use Rattle.std.specs.Prelude.{◌&&◌, ◌||◌}
-use Rattle.std.proofs.lemmas.Bool.{and_parts, eq-eqb, eqb-true, le-leb, leb-true, lt-ltb, ltb-true}
+use Rattle.std.proofs.lemmas.Bool.{and_parts, eq-eqb, eqb-true, le-leb, leb-true, lt-ltb, ltb-true, and_from, or_left, or_right, not-true}
 use Rattle.md_fields.specs.Distances.{is_after}
 use Rattle.md_fields.specs.Fields.{AllHold, AreWithin, spelling}
 use Rattle.md_fields.specs.Items.{IsRight}
@@ -28,24 +28,12 @@ use Rattle.z80_chip.specs.declared.stage.Stage.TheVariants.{Sample, Access, Yiel
 use Rattle.z80_chip.proofs.Laws.{few-answers}
 use Rattle.z80_chip.proofs.SavedLaws.{Rules, bank_right, rules_of, state_again, waits_by, whole}
 
-both : (a b : Bool) → a ≡ true → b ≡ true → (a && b) ≡ true
-both true b e f = f
-both false b e f = absurd cc
-
-or_left : (a b : Bool) → a ≡ true → (a || b) ≡ true
-or_left true b e = refl
-or_left false b e = absurd cc
-
-or_right : (a b : Bool) → b ≡ true → (a || b) ≡ true
-or_right true b e = refl
-or_right false b e = e
-
 -- ---- the answers
 
 answered_to : (cart : List ℕ) (state : State80) (n : ℕ) → n ≤ length state.answers → AreFit cart state → are_answered cart state n ≡ true
 unfolding are_answered
 answered_to cart state zero le fit = refl
-answered_to cart state (suc n) le fit = both _ _ (answered_to cart state n (omega (arith, le)) fit) (fit n (omega (arith, le)))
+answered_to cart state (suc n) le fit = and_from _ _ (answered_to cart state n (omega (arith, le)) fit) (fit n (omega (arith, le)))
 
 access_for : (request : Request80) → is_access (need_of (Err request)) ≡ true
 access_for (requests.Read at) = refl
@@ -56,7 +44,7 @@ access_for requests.Take = refl
 waiting_to : (cart : List ℕ) (state : State80) (request : Request80) → carried_out cart state state.cause ≡ Err request → AreFit cart state → is_waiting cart state ≡ true
 unfolding is_waiting
 waiting_to cart state request asked fit =
-    both _ _
+    and_from _ _
     (subst (λ (l : List ℕ). is_access (need_of (carried_out cart (record state { answers = l }) state.cause)) ≡ true) (sym (whole state.answers))
     (subst (λ (r : Result Ended Request80). is_access (need_of r) ≡ true) (sym asked) (access_for request)))
     (answered_to cart state (length state.answers) (omega arith) fit)
@@ -79,7 +67,7 @@ asks_to cart at v ok rules =
 -- ---- what depends on the stage
 
 after_to : (later earlier distance : ℕ) → later ≡ earlier + distance → is_after later earlier distance ≡ true
-after_to later earlier distance e = both _ _ (le-leb earlier later (omega (arith, e))) (eq-eqb (later - earlier) distance (omega (arith, e)))
+after_to later earlier distance e = and_from _ _ (le-leb earlier later (omega (arith, e))) (eq-eqb (later - earlier) distance (omega (arith, e)))
 
 -- the rules on the fields that depend on the stage
 record AtStage (at m : ℕ) (has : Bool) (state : State80) : Type 0 where
@@ -90,7 +78,7 @@ record AtStage (at m : ℕ) (has : Bool) (state : State80) : Type 0 where
   holder : cond (eqb m 1 || eqb m 2) has (cond (eqb m 3) (not has) true) ≡ true
 
 none_caused : (cause : ℕ) (b : Bool) → cause ≡ 0 → (leb cause 1 && (eqb cause 0 || b)) ≡ true
-none_caused cause b e = both _ _ (le-leb cause 1 (omega (arith, e))) (or_left (eqb cause 0) b (eq-eqb cause 0 e))
+none_caused cause b e = and_from _ _ (le-leb cause 1 (omega (arith, e))) (or_left (eqb cause 0) b (eq-eqb cause 0 e))
 
 at_stage : (stage : Stage) (at : ℕ) (cart : List ℕ) (state : State80) → IsAt stage cart state → BeganBelow stage at state.start → IsHolder stage state → state.cause ≤ 1
     → AtStage at (stage_number stage) (is_some state.store) state
@@ -104,7 +92,7 @@ at_stage Sample at cart state is below holds small = record {
 at_stage Access at cart state is below holds small = record {
   known = refl;
   start = lt-ltb state.start at below;
-  cause = both _ _ (le-leb state.cause 1 small) (or_right (eqb state.cause 0) true refl);
+  cause = and_from _ _ (le-leb state.cause 1 small) (or_right (eqb state.cause 0) true refl);
   follows = (let place = is.place in after_to state.next state.start (first_step + step * length state.answers) (omega (arith, place)));
   holder = holds;
 }
@@ -146,7 +134,7 @@ holding at v ok rules late =
     let s = at_stage state.stage at v.cart state ok.stands rules.recent.begun rules.holder rules.cause in
     let soon = rules.recent.soon in
     let few = few-answers v ok in (
-      both _ _ (le-leb at state.next late) (le-leb (state.next - at) 0x10_0000 (omega (arith, soon))),
+      and_from _ _ (le-leb at state.next late) (le-leb (state.next - at) 0x10_0000 (omega (arith, soon))),
       (
         s.known,
         (
@@ -194,7 +182,7 @@ holding at v ok rules late =
                                                   (
                                                     s.cause,
                                                     (
-                                                      both _ _ (le-leb (length state.answers) 3 (omega (arith, few))) (both _ _ s.follows (padded_zeros 4 state.answers)),
+                                                      and_from _ _ (le-leb (length state.answers) 3 (omega (arith, few))) (and_from _ _ s.follows (padded_zeros 4 state.answers)),
                                                       (refl, (s.holder, store_holds state.store ok.store)),
                                                     ),
                                                   ),
@@ -386,16 +374,12 @@ begun_from Access at start next e = ltb-true start at e
 begun_from Yield at start next e = tt
 begun_from Take at start next e = tt
 
-flipped : (b : Bool) → not b ≡ true → b ≡ false
-flipped true e = absurd cc
-flipped false e = refl
-
 holder_from : (stage : Stage) (state : State80) → cond (eqb (stage_number stage) 1 || eqb (stage_number stage) 2) (is_some state.store) (cond (eqb (stage_number stage) 3) (not (is_some state.store)) true) ≡ true
     → IsHolder stage state
 holder_from Sample state e = tt
 holder_from Access state e = e
 holder_from Yield state e = e
-holder_from Take state e = flipped (is_some state.store) e
+holder_from Take state e = not-true (is_some state.store) e
 
 below_or_last : (k n : ℕ) → k < suc n → (k < n) ⊎ (k ≡ n)
 below_or_last k n h = grind arith
