@@ -64,14 +64,14 @@ within at board small ok is = (
 pub board_spelled : (at : ℕ) (board : Board) → at ≤ 2 ^ 50 → IsBoard board → IsReady at board
     → vdp_spelling.Spells at board.vdp.pal (vdp_spelling.vdp_bytes (settled_board at board).vdp) (settled_board at board).vdp
     → fm_spelling.SpellsPort at (fm_spelling.port_bytes (settled_board at board).fm) (settled_board at board).fm
-    → psg_spelling.SpellsPort at (psg_spelling.port_bytes board.held) board.held
+    → psg_spelling.SpellsPort at (psg_spelling.port_bytes board.psg) board.psg
     → Spells at board.vdp.pal (board_bytes (settled_board at board)) (settled_board at board)
-board_spelled at board small ok is vdp fm held = record {
+board_spelled at board small ok is vdp fm psg = record {
   all = refl;
   store = ok.store;
   vdp = vdp;
   fm = fm;
-  held = held;
+  psg = psg;
   lines = record { within = within at board small ok is; all = same_bytes 0 at (lines_of board) };
   right = right_to at board ok is;
 }

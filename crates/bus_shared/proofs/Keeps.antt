@@ -45,7 +45,7 @@ pub power_on-ok : (recording : Recorded) (pal : Bool) → IsBoard (power_on reco
 power_on-ok recording pal = record {
   port1 = record { value = lit< tt; control = lit< tt; count = lit≤ tt };
   port2 = record { value = lit< tt; control = lit< tt; count = lit≤ tt };
-  held = IsPort-nil;
+  psg = IsPort-nil;
   fm = record { most = lit≤ tt; chips = All-nil (λ (w : FmWrite). w.key.chip < 2) };
   store = tt;
   registers = power_on_bytes pal;
@@ -68,15 +68,15 @@ control-ok cycle value port below ok = counted-ok cycle (is_th_high port) (recor
 register-ok : (board : Board) (cycle : ℕ) (register : Register) (value : ℕ) → value < 0x100 → IsBoard board → IsBoard (register_written board cycle register value)
 unfolding register_written
 register-ok board cycle Version value below ok = ok
-register-ok board cycle Data1 value below ok = record { port1 = value-ok cycle value board.port1 below ok.port1; port2 = ok.port2; held = ok.held; fm = ok.fm; store = ok.store; registers = ok.registers }
-register-ok board cycle Data2 value below ok = record { port1 = ok.port1; port2 = value-ok cycle value board.port2 below ok.port2; held = ok.held; fm = ok.fm; store = ok.store; registers = ok.registers }
+register-ok board cycle Data1 value below ok = record { port1 = value-ok cycle value board.port1 below ok.port1; port2 = ok.port2; psg = ok.psg; fm = ok.fm; store = ok.store; registers = ok.registers }
+register-ok board cycle Data2 value below ok = record { port1 = ok.port1; port2 = value-ok cycle value board.port2 below ok.port2; psg = ok.psg; fm = ok.fm; store = ok.store; registers = ok.registers }
 register-ok board cycle DataExpansion value below ok = ok
-register-ok board cycle Control1 value below ok = record { port1 = control-ok cycle value board.port1 below ok.port1; port2 = ok.port2; held = ok.held; fm = ok.fm; store = ok.store; registers = ok.registers }
-register-ok board cycle Control2 value below ok = record { port1 = ok.port1; port2 = control-ok cycle value board.port2 below ok.port2; held = ok.held; fm = ok.fm; store = ok.store; registers = ok.registers }
+register-ok board cycle Control1 value below ok = record { port1 = control-ok cycle value board.port1 below ok.port1; port2 = ok.port2; psg = ok.psg; fm = ok.fm; store = ok.store; registers = ok.registers }
+register-ok board cycle Control2 value below ok = record { port1 = ok.port1; port2 = control-ok cycle value board.port2 below ok.port2; psg = ok.psg; fm = ok.fm; store = ok.store; registers = ok.registers }
 register-ok board cycle Unused value below ok = ok
 
 psg-ok : (board : Board) (key : Key) (value : ℕ) → key.chip < 2 → IsBoard board → IsBoard (with_psg board key value)
-psg-ok board key value low ok = record { port1 = ok.port1; port2 = ok.port2; held = IsPort-held_with board.held key value low ok.held; fm = ok.fm; store = ok.store; registers = ok.registers }
+psg-ok board key value low ok = record { port1 = ok.port1; port2 = ok.port2; psg = IsPort-held_with board.psg key value low ok.psg; fm = ok.fm; store = ok.store; registers = ok.registers }
 
 -- the FM chip's port, where writes come and go
 few-held : (writes : List FmWrite) (w : FmWrite) → w.key.chip < 2 → IsFewFm writes → IsFewFm (held_with writes w)
@@ -117,10 +117,10 @@ fm_taken-few cycle writes few = length-filter-most (is_below stamp_of cycle) 102
 
 fm-ok : (board : Board) (key : Key) (at value : ℕ) → key.chip < 2 → IsBoard board → IsBoard (with_fm board key at value)
 fm-ok board key at value low ok =
-    record { port1 = ok.port1; port2 = ok.port2; held = ok.held; fm = few-written key (at % 4) value board.fm low ok.fm; store = ok.store; registers = ok.registers }
+    record { port1 = ok.port1; port2 = ok.port2; psg = ok.psg; fm = few-written key (at % 4) value board.fm low ok.fm; store = ok.store; registers = ok.registers }
 
 fm_read-if : (b : Bool) (board : Board) (cycle : ℕ) → IsBoard board → IsBoard (if b then fm_read board cycle else board)
-fm_read-if true board cycle ok = record { port1 = ok.port1; port2 = ok.port2; held = ok.held; fm = ok.fm; store = ok.store; registers = ok.registers }
+fm_read-if true board cycle ok = record { port1 = ok.port1; port2 = ok.port2; psg = ok.psg; fm = ok.fm; store = ok.store; registers = ok.registers }
 fm_read-if false board cycle ok = ok
 
 psg-if : (b : Bool) (board : Board) (key : Key) (value : ℕ) → key.chip < 2 → IsBoard board → IsBoard (if b then with_psg board key value else board)
@@ -139,7 +139,7 @@ space-by : (b c : Bool) (board : Board) (key : Key) (at value : ℕ) (store : St
     → IsBoard (if b then with_psg board key value else (if c then with_fm board key at value else record board { store = Some store }))
 space-by true c board key at value store low ok sound = psg-ok board key value low ok
 space-by false true board key at value store low ok sound = fm-ok board key at value low ok
-space-by false false board key at value store low ok sound = record { port1 = ok.port1; port2 = ok.port2; held = ok.held; fm = ok.fm; store = sound; registers = ok.registers }
+space-by false false board key at value store low ok sound = record { port1 = ok.port1; port2 = ok.port2; psg = ok.psg; fm = ok.fm; store = sound; registers = ok.registers }
 
 space-ok : (store : Option Store) (board : Board) (key : Key) (at value : ℕ) → key.chip < 2 → IsBoard board → IfSome store IsStore → IsBoard (space_written store board key at value)
 space-ok None board key at value low ok sound = ok
@@ -147,12 +147,12 @@ space-ok (Some store) board key at value low ok sound = space-by (is_psg80 at) (
 
 -- a write to a line
 requested-ok : (board : Board) (bit : ℕ) → IsBoard board → IsBoard (requested board bit)
-requested-ok board bit ok = record { port1 = ok.port1; port2 = ok.port2; held = ok.held; fm = ok.fm; store = ok.store; registers = ok.registers }
+requested-ok board bit ok = record { port1 = ok.port1; port2 = ok.port2; psg = ok.psg; fm = ok.fm; store = ok.store; registers = ok.registers }
 
 reset-ok : (b : Bool) (board : Board) (key : Key) → key.chip < 2 → IsBoard board
     → IsBoard (if b then record (with_fm_reset board key) { reset = true; resets = resets_counted board.resets } else record board { reset = false })
-reset-ok true board key low ok = record { port1 = ok.port1; port2 = ok.port2; held = ok.held; fm = few-reset key board.fm low ok.fm; store = ok.store; registers = ok.registers }
-reset-ok false board key low ok = record { port1 = ok.port1; port2 = ok.port2; held = ok.held; fm = ok.fm; store = ok.store; registers = ok.registers }
+reset-ok true board key low ok = record { port1 = ok.port1; port2 = ok.port2; psg = ok.psg; fm = few-reset key board.fm low ok.fm; store = ok.store; registers = ok.registers }
+reset-ok false board key low ok = record { port1 = ok.port1; port2 = ok.port2; psg = ok.psg; fm = ok.fm; store = ok.store; registers = ok.registers }
 
 even-ok : (b : Bool) (one other : Board) → IsBoard one → IsBoard other → IsBoard (if b then one else other)
 even-ok true one other first second = first
@@ -160,7 +160,7 @@ even-ok false one other first second = second
 
 -- a board with another VDP whose registers are bytes
 with-vdp : (board : Board) (vdp : Vdp) → AreBytes vdp.registers → IsBoard board → IsBoard (record board { vdp = vdp })
-with-vdp board vdp bytes ok = record { port1 = ok.port1; port2 = ok.port2; held = ok.held; fm = ok.fm; store = ok.store; registers = bytes }
+with-vdp board vdp bytes ok = record { port1 = ok.port1; port2 = ok.port2; psg = ok.psg; fm = ok.fm; store = ok.store; registers = bytes }
 
 -- a read
 video-read-ok : (board : Board) (key : Key) (address : ℕ) → IsBoard board → IsBoard (video_read board key address)
@@ -233,7 +233,7 @@ main-ok board key (Ack level) low ok = with-vdp board _ (acknowledged_bytes leve
 main-ok board key (Word value) low ok = with-vdp board _ (taken_bytes key.cycle value board.vdp ok.registers) ok
 
 pads-ok : (b : Bool) (board : Board) (pads : Frame) → IsBoard board → IsBoard (if b then record board { pads = pads } else board)
-pads-ok true board pads ok = record { port1 = ok.port1; port2 = ok.port2; held = ok.held; fm = ok.fm; store = ok.store; registers = ok.registers }
+pads-ok true board pads ok = record { port1 = ok.port1; port2 = ok.port2; psg = ok.psg; fm = ok.fm; store = ok.store; registers = ok.registers }
 pads-ok false board pads ok = ok
 
 -- the start of a line
@@ -247,12 +247,12 @@ line-ok board cycle note ok =
 -- a batch of the PSG synthesis
 pub psg_board-ok : (board : Board) (cycle : ℕ) → IsBoard board → IsBoard (psg_board board cycle)
 unfolding psg_board
-psg_board-ok board cycle ok = record { port1 = ok.port1; port2 = ok.port2; held = IsPort-left_from cycle board.held ok.held; fm = ok.fm; store = ok.store; registers = ok.registers }
+psg_board-ok board cycle ok = record { port1 = ok.port1; port2 = ok.port2; psg = IsPort-left_from cycle board.psg ok.psg; fm = ok.fm; store = ok.store; registers = ok.registers }
 
 -- a batch of the FM synthesis
 pub fm_board-ok : (board : Board) (cycle : ℕ) → IsBoard board → IsBoard (fm_board board cycle)
 unfolding fm_board
-fm_board-ok board cycle ok = record { port1 = ok.port1; port2 = ok.port2; held = ok.held; fm = few-left cycle board.fm.writes ok.fm; store = ok.store; registers = ok.registers }
+fm_board-ok board cycle ok = record { port1 = ok.port1; port2 = ok.port2; psg = ok.psg; fm = few-left cycle board.fm.writes ok.fm; store = ok.store; registers = ok.registers }
 
 -- what a request hands over
 abbrev pub HandsOver : RequestValue80 → Type 0
@@ -260,13 +260,13 @@ HandsOver (HandOver store) = IsStore store
 HandsOver request = Unit {0}
 
 yielded-ok : (request : Bool) (board : Board) (key : Key) (store : Store) → IsBoard board → IsStore store → IsBoard (yielded request board key store).board
-yielded-ok true board key store ok sound = record { port1 = ok.port1; port2 = ok.port2; held = ok.held; fm = ok.fm; store = sound; registers = ok.registers }
+yielded-ok true board key store ok sound = record { port1 = ok.port1; port2 = ok.port2; psg = ok.psg; fm = ok.fm; store = sound; registers = ok.registers }
 yielded-ok false board key store ok sound = ok
 
 taken-ok : (request : Bool) (store : Option Store) (board : Board) (key : Key) → IsBoard board → IsBoard (taken_back request store board key).board
 taken-ok true store board key ok = ok
 taken-ok false None board key ok = ok
-taken-ok false (Some store) board key ok = record { port1 = ok.port1; port2 = ok.port2; held = ok.held; fm = ok.fm; store = tt; registers = ok.registers }
+taken-ok false (Some store) board key ok = record { port1 = ok.port1; port2 = ok.port2; psg = ok.psg; fm = ok.fm; store = tt; registers = ok.registers }
 
 sub_written-ok : (b c : Bool) (board : Board) (key : Key) (at value : ℕ) → key.chip < 2 → IsBoard board
     → IsBoard (if b then with_psg board key value else (if c then with_fm board key at value else board))

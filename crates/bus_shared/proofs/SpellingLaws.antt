@@ -76,7 +76,7 @@ lines_long at bytes n keeps = ap length keeps.all ∙ long_as (lines_fields at n
 -- ---- bytes are cut into the parts that they are made of
 
 cut_of : (a b c d e : List ℕ) → length b ≡ 65813 → length c ≡ 12316 → length d ≡ 10242 → length e ≡ 36
-    → cut (a ++ (b ++ (c ++ (d ++ e)))) ≡ record { store = a; vdp = b; fm = c; held = d; lines = e }
+    → cut (a ++ (b ++ (c ++ (d ++ e)))) ≡ record { store = a; vdp = b; fm = c; psg = d; lines = e }
 cut_of a b c d e lb lc ld le =
     let rest = b ++ (c ++ (d ++ e)) in
     let bytes = a ++ rest in
@@ -89,7 +89,7 @@ cut_of a b c d e lb lc ld le =
       store = take_at a rest (store_length bytes) n i;
       vdp = (ap (take 65813) behind ∙ take_at b (c ++ (d ++ e)) 65813 lb) i;
       fm = (ap (take 12316) past_vdp ∙ take_at c (d ++ e) 12316 lc) i;
-      held = (ap (take 10242) past_fm ∙ take_at d e 10242 ld) i;
+      psg = (ap (take 10242) past_fm ∙ take_at d e 10242 ld) i;
       lines = (ap (drop 10242) past_fm ∙ drop_at d e 10242 ld) i;
     }
 
@@ -98,18 +98,18 @@ own board = record {
   store = store_bytes board.store;
   vdp = vdp_spelling.vdp_bytes board.vdp;
   fm = fm_spelling.port_bytes board.fm;
-  held = psg_spelling.port_bytes board.held;
+  psg = psg_spelling.port_bytes board.psg;
   lines = lines_bytes (lines_of board);
 }
 
 cut_is : (at : ℕ) (pal : Bool) (bytes : List ℕ) (board : Board) → Spells at pal bytes board → cut bytes ≡ own board
 cut_is at pal bytes board p =
     ap cut p.all
-    ∙ cut_of (store_bytes board.store) (vdp_spelling.vdp_bytes board.vdp) (fm_spelling.port_bytes board.fm) (psg_spelling.port_bytes board.held) (lines_bytes (lines_of board))
-    (vdp_long at pal _ board.vdp p.vdp) (fm_long at _ board.fm p.fm) (psg_long at _ board.held p.held) (lines_long at _ (lines_of board) p.lines)
+    ∙ cut_of (store_bytes board.store) (vdp_spelling.vdp_bytes board.vdp) (fm_spelling.port_bytes board.fm) (psg_spelling.port_bytes board.psg) (lines_bytes (lines_of board))
+    (vdp_long at pal _ board.vdp p.vdp) (fm_long at _ board.fm p.fm) (psg_long at _ board.psg p.psg) (lines_long at _ (lines_of board) p.lines)
 
 -- parts one behind the other are the bytes
-pub joined_again : (bytes : List ℕ) → (cut bytes).store ++ ((cut bytes).vdp ++ ((cut bytes).fm ++ ((cut bytes).held ++ (cut bytes).lines))) ≡ bytes
+pub joined_again : (bytes : List ℕ) → (cut bytes).store ++ ((cut bytes).vdp ++ ((cut bytes).fm ++ ((cut bytes).psg ++ (cut bytes).lines))) ≡ bytes
 joined_again bytes =
     let n = store_length bytes in
     let behind = drop n bytes in
@@ -129,7 +129,7 @@ is_length at pal bytes board p =
     let a = store_bytes board.store in
     let b = vdp_spelling.vdp_bytes board.vdp in
     let c = fm_spelling.port_bytes board.fm in
-    let d = psg_spelling.port_bytes board.held in
+    let d = psg_spelling.port_bytes board.psg in
     let e = lines_bytes (lines_of board) in
     length_by board.store (length bytes)
     (ap length p.all
@@ -142,7 +142,7 @@ is_length at pal bytes board p =
       store_long board.store p.store,
       vdp_long at pal b board.vdp p.vdp,
       fm_long at c board.fm p.fm,
-      psg_long at d board.held p.held,
+      psg_long at d board.psg p.psg,
       lines_long at e (lines_of board) p.lines,
     ))
 
@@ -162,7 +162,7 @@ none_here at pal start bytes board place p (inr (none, inl w)) =
     vdp_laws.right_not_refused at pal (vdp_spelling.vdp_bytes board.vdp) (numbers_of board.vdp) w.0 p.vdp.keeps p.vdp.right w.1
 none_here at pal start bytes board place p (inr (none, inr (no_vdp, inl w))) = fm_laws.right_nowhere at (fm_spelling.port_bytes board.fm) board.fm p.fm w.0 w.1
 none_here at pal start bytes board place p (inr (none, inr (no_vdp, inr (no_fm, inl w)))) =
-    psg_laws.right_nowhere at (psg_spelling.port_bytes board.held) board.held p.held w.0 w.1
+    psg_laws.right_nowhere at (psg_spelling.port_bytes board.psg) board.psg p.psg w.0 w.1
 none_here at pal start bytes board place p (inr (none, inr (no_vdp, inr (no_fm, inr (no_psg, inl w))))) =
     lines_laws.lines_right at (lines_bytes (lines_of board)) (lines_of board) w.0 p.lines p.right w.1
 none_here at pal start bytes board place p (inr (none, inr (no_vdp, inr (no_fm, inr (no_psg, inr w))))) = w.1
@@ -189,7 +189,7 @@ parts_once at pal start parts =
     from_once 0 _ _ (store_once parts.store)
     (from_once start _ _ (vdp_laws.only_place at pal parts.vdp)
     (from_once (start + 65813) _ _ (fm_laws.wrong_once at parts.fm)
-    (from_once (start + 65813 + 12316) _ _ (psg_laws.wrong_once at parts.held)
+    (from_once (start + 65813 + 12316) _ _ (psg_laws.wrong_once at parts.psg)
     (from_once (start + 65813 + 22558) _ _ (lines_laws.lines_once at parts.lines) (λ p q a b. absurd a)))))
 
 pub wrong_once : (at : ℕ) (pal : Bool) (bytes : List ℕ) (p q : ℕ) → GoesWrongAt at pal bytes p → GoesWrongAt at pal bytes q → p ≡ q
@@ -224,7 +224,7 @@ spelled_once at pal bytes s t p q recording =
     let parts : own s ≡ own t = sym (cut_is at pal bytes s p) ∙ cut_is at pal bytes t q in
     let vdp = vdp_once at pal _ s.vdp t.vdp p.vdp (subst (λ (l : List ℕ). vdp_spelling.Spells at pal l t.vdp) (sym (ap (λ (x : Parts). x.vdp) parts)) q.vdp) in
     let fm = fm_laws.spelled_once at _ s.fm t.fm p.fm (subst (λ (l : List ℕ). fm_spelling.SpellsPort at l t.fm) (sym (ap (λ (x : Parts). x.fm) parts)) q.fm) in
-    let held = psg_laws.spelled_once at _ s.held t.held p.held (subst (λ (l : List ℕ). psg_spelling.SpellsPort at l t.held) (sym (ap (λ (x : Parts). x.held) parts)) q.held) in
+    let psg = psg_laws.spelled_once at _ s.psg t.psg p.psg (subst (λ (l : List ℕ). psg_spelling.SpellsPort at l t.psg) (sym (ap (λ (x : Parts). x.psg) parts)) q.psg) in
     let store = store_same s.store t.store p.store q.store (ap (λ (x : Parts). x.store) parts) in
     let lines : lines_of s ≡ lines_of t =
     lines_laws.one_lines at _ (lines_of s) (lines_of t) p.lines (subst (λ (l : List ℕ). Keeps (lines_fields at) l (lines_of t)) (sym (ap (λ (x : Parts). x.lines) parts)) q.lines) in
@@ -245,7 +245,7 @@ spelled_once at pal bytes s t p q recording =
         count = ap (λ (n : SavedLines). n.count2) lines i;
         fall = ap (λ (n : SavedLines). n.fall2) lines i;
       };
-      held = held i;
+      psg = psg i;
       fm = fm i;
       request = request i;
       reset = reset i;
@@ -264,9 +264,9 @@ psg_near at bytes place wrong = refused_within (psg_spelling.port_fields at) byt
 
 -- ---- what stands in the bytes
 
-pub lines_back : (recording : Recorded) (store : Option Store) (vdp : Vdp) (fm : fm_ports.Port) (held : List PsgWrite) (n : SavedLines) → lines_laws.Flags n
-    → lines_of (board_from recording store vdp fm held n) ≡ n
-lines_back recording store vdp fm held n flags = λ i. record {
+pub lines_back : (recording : Recorded) (store : Option Store) (vdp : Vdp) (fm : fm_ports.Port) (psg : List PsgWrite) (n : SavedLines) → lines_laws.Flags n
+    → lines_of (board_from recording store vdp fm psg n) ≡ n
+lines_back recording store vdp fm psg n flags = λ i. record {
   bus_request = flag_back n.bus_request flags.bus_request i;
   reset = flag_back n.reset flags.reset i;
   resets = n.resets;
@@ -283,31 +283,31 @@ lines_back recording store vdp fm held n flags = λ i. record {
 }
 
 -- the parts of bytes that each keep a part of a board
-pub record AreKept (at : ℕ) (pal : Bool) (parts : Parts) (store : Option Store) (vdp : Vdp) (fm : fm_ports.Port) (held : List PsgWrite) (n : SavedLines) : Type 0 where
+pub record AreKept (at : ℕ) (pal : Bool) (parts : Parts) (store : Option Store) (vdp : Vdp) (fm : fm_ports.Port) (psg : List PsgWrite) (n : SavedLines) : Type 0 where
   pub store_is : parts.store ≡ store_bytes store
   pub store_fits : IfSome store IsStore
   pub vdp_is : vdp_spelling.Spells at pal parts.vdp vdp
   pub fm_is : fm_spelling.SpellsPort at parts.fm fm
-  pub held_is : psg_spelling.SpellsPort at parts.held held
+  pub psg_is : psg_spelling.SpellsPort at parts.psg psg
   pub lines_are : Keeps (lines_fields at) parts.lines n
   pub lines_right : IsRight (lines_fields at) n
 
-pub whole : (at : ℕ) (pal : Bool) (bytes : List ℕ) (recording : Recorded) (store : Option Store) (vdp : Vdp) (fm : fm_ports.Port) (held : List PsgWrite) (n : SavedLines)
-    → AreKept at pal (cut bytes) store vdp fm held n → Spells at pal bytes (board_from recording store vdp fm held n)
-whole at pal bytes recording store vdp fm held n p =
+pub whole : (at : ℕ) (pal : Bool) (bytes : List ℕ) (recording : Recorded) (store : Option Store) (vdp : Vdp) (fm : fm_ports.Port) (psg : List PsgWrite) (n : SavedLines)
+    → AreKept at pal (cut bytes) store vdp fm psg n → Spells at pal bytes (board_from recording store vdp fm psg n)
+whole at pal bytes recording store vdp fm psg n p =
     let vdp_e = vdp_own at pal (cut bytes).vdp vdp p.vdp_is in
     let fm_e = fm_own at (cut bytes).fm fm p.fm_is in
-    let held_e = psg_own at (cut bytes).held held p.held_is in
-    let back : n ≡ lines_of (board_from recording store vdp fm held n) = sym (lines_back recording store vdp fm held n (lines_laws.flags_of at n p.lines_right)) in
-    let lines_e : (cut bytes).lines ≡ lines_bytes (lines_of (board_from recording store vdp fm held n)) = lines_own at (cut bytes).lines n p.lines_are ∙ ap lines_bytes back in
-    let keeps : Keeps (lines_fields at) (lines_bytes (lines_of (board_from recording store vdp fm held n))) n = subst (λ (l : List ℕ). Keeps (lines_fields at) l n) lines_e p.lines_are in
+    let psg_e = psg_own at (cut bytes).psg psg p.psg_is in
+    let back : n ≡ lines_of (board_from recording store vdp fm psg n) = sym (lines_back recording store vdp fm psg n (lines_laws.flags_of at n p.lines_right)) in
+    let lines_e : (cut bytes).lines ≡ lines_bytes (lines_of (board_from recording store vdp fm psg n)) = lines_own at (cut bytes).lines n p.lines_are ∙ ap lines_bytes back in
+    let keeps : Keeps (lines_fields at) (lines_bytes (lines_of (board_from recording store vdp fm psg n))) n = subst (λ (l : List ℕ). Keeps (lines_fields at) l n) lines_e p.lines_are in
     record {
-      all = sym (joined_again bytes) ∙ (λ i. p.store_is i ++ (vdp_e i ++ (fm_e i ++ (held_e i ++ lines_e i))));
+      all = sym (joined_again bytes) ∙ (λ i. p.store_is i ++ (vdp_e i ++ (fm_e i ++ (psg_e i ++ lines_e i))));
       store = p.store_fits;
       vdp = subst (λ (l : List ℕ). vdp_spelling.Spells at pal l vdp) vdp_e p.vdp_is;
       fm = subst (λ (l : List ℕ). fm_spelling.SpellsPort at l fm) fm_e p.fm_is;
-      held = subst (λ (l : List ℕ). psg_spelling.SpellsPort at l held) held_e p.held_is;
-      lines = subst (λ (m : SavedLines). Keeps (lines_fields at) (lines_bytes (lines_of (board_from recording store vdp fm held n))) m) back keeps;
+      psg = subst (λ (l : List ℕ). psg_spelling.SpellsPort at l psg) psg_e p.psg_is;
+      lines = subst (λ (m : SavedLines). Keeps (lines_fields at) (lines_bytes (lines_of (board_from recording store vdp fm psg n))) m) back keeps;
       right = subst (λ (m : SavedLines). IsRight (lines_fields at) m) back p.lines_right;
     }
 
@@ -342,13 +342,13 @@ moved_from start far begin e Wrong Behind Later later place (inr x) = inr (x.0, 
 abbrev LinesFrom : ℕ → ℕ → List ℕ → ℕ → Type 0
 LinesFrom at start lines = GoesWrongFrom (start + 22558) (LinesGoWrongAt at lines) (λ place. ⊥)
 
-abbrev HeldFrom : ℕ → ℕ → List ℕ → List ℕ → ℕ → Type 0
-HeldFrom at start held lines = GoesWrongFrom (start + 12316) (psg_spelling.PortGoesWrongAt at held) (LinesFrom at start lines)
+abbrev PsgFrom : ℕ → ℕ → List ℕ → List ℕ → ℕ → Type 0
+PsgFrom at start psg lines = GoesWrongFrom (start + 12316) (psg_spelling.PortGoesWrongAt at psg) (LinesFrom at start lines)
 
-pub ports_behind : (at far : ℕ) (fm held lines : List ℕ) (place : ℕ) → PortsGoWrongAt at 0 fm held lines place → PortsGoWrongAt at far fm held lines (far + place)
-ports_behind at far fm held lines =
-    moved_from 0 far far (omega arith) (fm_spelling.PortGoesWrongAt at fm) (HeldFrom at 0 held lines) (HeldFrom at far held lines)
-    (moved_from (0 + 12316) far (far + 12316) (omega arith) (psg_spelling.PortGoesWrongAt at held) (LinesFrom at 0 lines) (LinesFrom at far lines)
+pub ports_behind : (at far : ℕ) (fm psg lines : List ℕ) (place : ℕ) → PortsGoWrongAt at 0 fm psg lines place → PortsGoWrongAt at far fm psg lines (far + place)
+ports_behind at far fm psg lines =
+    moved_from 0 far far (omega arith) (fm_spelling.PortGoesWrongAt at fm) (PsgFrom at 0 psg lines) (PsgFrom at far psg lines)
+    (moved_from (0 + 12316) far (far + 12316) (omega arith) (psg_spelling.PortGoesWrongAt at psg) (LinesFrom at 0 lines) (LinesFrom at far lines)
     (moved_from (0 + 22558) far (far + 22558) (omega arith) (LinesGoWrongAt at lines) (λ n. ⊥) (λ n. ⊥) (λ place no. no)))
 
 -- RAM and bank register
@@ -386,13 +386,13 @@ pub ports_exit : (at : ℕ) (pal : Bool) (bytes : List ℕ) (p place : ℕ) → 
     → place ≡ store_length bytes + 65813 + p → GoesWrongAt at pal bytes place
 ports_exit at pal bytes p place long none no_vdp wrong e =
     subst (GoesWrongAt at pal bytes) (sym e)
-    (inr (long, inr (none, inr (no_vdp, ports_behind at (store_length bytes + 65813) (cut bytes).fm (cut bytes).held (cut bytes).lines p wrong))))
+    (inr (long, inr (none, inr (no_vdp, ports_behind at (store_length bytes + 65813) (cut bytes).fm (cut bytes).psg (cut bytes).lines p wrong))))
 
-pub ports_near : (at : ℕ) (fm held lines : List ℕ) (place : ℕ) → PortsGoWrongAt at 0 fm held lines place → place ≤ 22594
-ports_near at fm held lines place (inl w) = omega (arith, w.2, refused_within (fm_spelling.port_fields at) fm 12316 (fm_laws.port_size at) w.0 w.1)
-ports_near at fm held lines place (inr (no_fm, inl w)) = omega (arith, w.2, psg_near at held w.0 w.1)
-ports_near at fm held lines place (inr (no_fm, inr (no_psg, inl w))) = omega (arith, w.2, refused_within (lines_fields at) lines 36 (lines_laws.lines_size at) w.0 w.1)
-ports_near at fm held lines place (inr (no_fm, inr (no_psg, inr w))) = absurd w.1
+pub ports_near : (at : ℕ) (fm psg lines : List ℕ) (place : ℕ) → PortsGoWrongAt at 0 fm psg lines place → place ≤ 22594
+ports_near at fm psg lines place (inl w) = omega (arith, w.2, refused_within (fm_spelling.port_fields at) fm 12316 (fm_laws.port_size at) w.0 w.1)
+ports_near at fm psg lines place (inr (no_fm, inl w)) = omega (arith, w.2, psg_near at psg w.0 w.1)
+ports_near at fm psg lines place (inr (no_fm, inr (no_psg, inl w))) = omega (arith, w.2, refused_within (lines_fields at) lines 36 (lines_laws.lines_size at) w.0 w.1)
+ports_near at fm psg lines place (inr (no_fm, inr (no_psg, inr w))) = absurd w.1
 
 -- ---- a refusal that is no want of memory
 

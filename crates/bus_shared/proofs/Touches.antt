@@ -194,7 +194,7 @@ record Beside (old new : Board) : Type 0 where
   recording : new.recording ≡ old.recording
   port1 : new.port1 ≡ old.port1
   port2 : new.port2 ≡ old.port2
-  held : new.held ≡ old.held
+  psg : new.psg ≡ old.psg
   fm : new.fm ≡ old.fm
   request : new.request ≡ old.request
   reset : new.reset ≡ old.reset
@@ -203,8 +203,8 @@ record Beside (old new : Board) : Type 0 where
   vdp : new.vdp ≡ old.vdp
 
 pads-beside : (b : Bool) (board : Board) (pads : Frame) → Beside board (if b then record board { pads = pads } else board)
-pads-beside true board pads = record { recording = refl; port1 = refl; port2 = refl; held = refl; fm = refl; request = refl; reset = refl; resets = refl; store = refl; vdp = refl }
-pads-beside false board pads = record { recording = refl; port1 = refl; port2 = refl; held = refl; fm = refl; request = refl; reset = refl; resets = refl; store = refl; vdp = refl }
+pads-beside true board pads = record { recording = refl; port1 = refl; port2 = refl; psg = refl; fm = refl; request = refl; reset = refl; resets = refl; store = refl; vdp = refl }
+pads-beside false board pads = record { recording = refl; port1 = refl; port2 = refl; psg = refl; fm = refl; request = refl; reset = refl; resets = refl; store = refl; vdp = refl }
 
 pub begun_region : (cycle : ℕ) (note : SpriteNote) (vdp : Vdp) → (line_begun cycle note vdp).pal ≡ vdp.pal
 unfolding line_begun
@@ -219,7 +219,7 @@ line_leaves board cycle note =
       recording = beside.recording;
       port1 = beside.port1;
       port2 = beside.port2;
-      held = beside.held;
+      psg = beside.psg;
       fm = beside.fm;
       request = beside.request;
       reset = beside.reset;

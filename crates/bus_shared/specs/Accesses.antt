@@ -121,7 +121,7 @@ line_board board cycle note = pads_board (video_started board cycle note) cycle
 
 -- a batch of the PSG synthesis takes the writes stamped below it
 unfoldable pub psg_board : Board → ℕ → Board
-psg_board board cycle = record board { held = left_from cycle board.held }
+psg_board board cycle = record board { psg = left_from cycle board.psg }
 
 -- an answer, without where its list lies in memory
 pub data AnswerValue : Type 0 where
@@ -182,8 +182,8 @@ carried board key (requests.Fm list) = record {
   board = fm_board board key.cycle;
 }
 carried board key (requests.Psg list) = record {
-  answer = Psg (taken_below key.cycle board.held);
-  entry = batch_entry 12 key (length (taken_below key.cycle board.held));
+  answer = Psg (taken_below key.cycle board.psg);
+  entry = batch_entry 12 key (length (taken_below key.cycle board.psg));
   board = psg_board board key.cycle;
 }
 

@@ -19,7 +19,7 @@ pub record Board : Type 0 where
   pub port1 : Port
   pub port2 : Port
   -- the writes that the PSG's port holds
-  pub held : List PsgWrite
+  pub psg : List PsgWrite
   -- the FM chip's port: its latches, its timers, and the writes that it holds
   pub fm : fm_ports.Port
   -- whether the Z80's bus is requested, whether its reset is held, and how often that was written
@@ -50,7 +50,7 @@ pub record IsFewFm (writes : List FmWrite) : Type 0 where
 pub record IsBoard (board : Board) : Type 0 where
   pub port1 : IsLatched board.port1
   pub port2 : IsLatched board.port2
-  pub held : IsPort board.held
+  pub psg : IsPort board.psg
   pub fm : IsFewFm board.fm.writes
   pub store : IfSome board.store IsStore
   pub registers : AreBytes board.vdp.registers
@@ -63,7 +63,7 @@ power_on recording pal = record {
   pads = (0, 0);
   port1 = cleared;
   port2 = cleared;
-  held = [];
+  psg = [];
   fm = fm_ports.at_power_on;
   request = false;
   reset = true;

@@ -46,7 +46,7 @@ pub record LineLeaves (board : Board) (cycle : ℕ) (note : SpriteNote) : Type 0
   pub recording : (line_board board cycle note).recording ≡ board.recording
   pub port1 : (line_board board cycle note).port1 ≡ board.port1
   pub port2 : (line_board board cycle note).port2 ≡ board.port2
-  pub held : (line_board board cycle note).held ≡ board.held
+  pub psg : (line_board board cycle note).psg ≡ board.psg
   pub fm : (line_board board cycle note).fm ≡ board.fm
   pub request : (line_board board cycle note).request ≡ board.request
   pub reset : (line_board board cycle note).reset ≡ board.reset

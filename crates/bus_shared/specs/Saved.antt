@@ -31,12 +31,12 @@ lines_of board = record {
 
 -- the board of these parts
 abbrev pub board_from : Recorded → Option Store → Vdp → Port → List PsgWrite → SavedLines → Board
-board_from recording store vdp fm held n = record {
+board_from recording store vdp fm psg n = record {
   recording = recording;
   pads = (n.pads1, n.pads2);
   port1 = record { value = n.value1; control = n.control1; count = n.count1; fall = n.fall1 };
   port2 = record { value = n.value2; control = n.control2; count = n.count2; fall = n.fall2 };
-  held = held;
+  psg = psg;
   fm = fm;
   request = n.bus_request == 1;
   reset = n.reset == 1;

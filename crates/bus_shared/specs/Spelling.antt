@@ -51,7 +51,7 @@ abbrev pub board_bytes : Board → List ℕ
 board_bytes board =
     store_bytes board.store
     ++ (vdp_spelling.vdp_bytes board.vdp
-    ++ (fm_spelling.port_bytes board.fm ++ (psg_spelling.port_bytes board.held ++ lines_bytes (lines_of board))))
+    ++ (fm_spelling.port_bytes board.fm ++ (psg_spelling.port_bytes board.psg ++ lines_bytes (lines_of board))))
 
 -- the bytes of a state at a cycle and of a region keep the board, whose rules hold part by part
 pub record Spells (at : ℕ) (pal : Bool) (bytes : List ℕ) (board : Board) : Type 0 where
@@ -59,7 +59,7 @@ pub record Spells (at : ℕ) (pal : Bool) (bytes : List ℕ) (board : Board) : T
   pub store : IfSome board.store IsStore
   pub vdp : vdp_spelling.Spells at pal (vdp_spelling.vdp_bytes board.vdp) board.vdp
   pub fm : fm_spelling.SpellsPort at (fm_spelling.port_bytes board.fm) board.fm
-  pub held : psg_spelling.SpellsPort at (psg_spelling.port_bytes board.held) board.held
+  pub psg : psg_spelling.SpellsPort at (psg_spelling.port_bytes board.psg) board.psg
   pub lines : Keeps (lines_fields at) (lines_bytes (lines_of board)) (lines_of board)
   pub right : IsRight (lines_fields at) (lines_of board)
 
@@ -75,7 +75,7 @@ pub record IsReady (at : ℕ) (board : Board) : Type 0 where
   pub vdp : HasRules at board.vdp
   pub timers : AreTimed at board.fm.timers
   pub fm : fm_spelling.are_right at (map fm_spelling.saved_write board.fm.writes) ≡ true
-  pub held : are_kept at (map psg_spelling.key_of board.held) ≡ true
+  pub psg : are_kept at (map psg_spelling.key_of board.psg) ≡ true
   pub resets : board.resets ≤ at
   pub pads : IsFrame board.pads
   pub falls1 : IsCounted at board.port1
@@ -88,7 +88,7 @@ pub record Parts : Type 0 where
   pub store : List ℕ
   pub vdp : List ℕ
   pub fm : List ℕ
-  pub held : List ℕ
+  pub psg : List ℕ
   pub lines : List ℕ
 
 -- how many bytes are too much for the other parts
@@ -103,7 +103,7 @@ cut bytes =
       store = take (store_length bytes) bytes;
       vdp = take 65813 behind;
       fm = take 12316 (drop 65813 behind);
-      held = take 10242 (drop 12316 (drop 65813 behind));
+      psg = take 10242 (drop 12316 (drop 65813 behind));
       lines = drop 10242 (drop 12316 (drop 65813 behind));
     }
 
@@ -127,9 +127,9 @@ GoesWrongFrom start Wrong Behind place =
 
 -- the first of the two ports and the lines, which begin at a place, that goes wrong does so there
 abbrev pub PortsGoWrongAt : ℕ → ℕ → List ℕ → List ℕ → List ℕ → ℕ → Type 0
-PortsGoWrongAt at start fm held lines =
+PortsGoWrongAt at start fm psg lines =
     GoesWrongFrom start (fm_spelling.PortGoesWrongAt at fm)
-    (GoesWrongFrom (start + 12316) (psg_spelling.PortGoesWrongAt at held)
+    (GoesWrongFrom (start + 12316) (psg_spelling.PortGoesWrongAt at psg)
     (GoesWrongFrom (start + 22558) (LinesGoWrongAt at lines) (λ place. ⊥)))
 
 -- the same of all parts, where RAM and bank register have so many bytes
@@ -137,7 +137,7 @@ abbrev pub PartsGoWrongAt : ℕ → Bool → ℕ → Parts → ℕ → Type 0
 PartsGoWrongAt at pal start parts =
     GoesWrongFrom 0 (StoreGoesWrongAt parts.store)
     (GoesWrongFrom start (vdp_spelling.GoesWrongAt at pal parts.vdp)
-    (PortsGoWrongAt at (start + 65813) parts.fm parts.held parts.lines))
+    (PortsGoWrongAt at (start + 65813) parts.fm parts.psg parts.lines))
 
 -- as many bytes as there can be
 abbrev pub IsLength : List ℕ → Type 0

@@ -9,7 +9,7 @@ use Rattle.bus_shared.specs.Fm.{chip_byte, chip_read, is_fm, with_fm}
 
 -- a byte that reaches the PSG is held until the synthesis takes it
 abbrev pub with_psg : Board → Key → ℕ → Board
-with_psg board key value = record board { held = held_with board.held key value }
+with_psg board key value = record board { psg = held_with board.psg key value }
 
 -- the bus is granted where it is requested and has the Z80's RAM
 abbrev pub granted : Bool → Option Store → Option Store

@@ -85,7 +85,7 @@ impl Answer {
     }
 
     /// The writes that it hands to the PSG synthesis, if it does.
-    pub fn list(self) -> Option<Box<PsgList>>
+    pub fn psg_list(self) -> Option<Box<PsgList>>
         ensures { (writes : List Write) → answer_value self ≡ accesses.Psg writes → option_map (λ list. list.value.items) result ≡ Some writes }
     {
         match self {

@@ -78,9 +78,9 @@ impl Model for Shared {
 
     ghost Value = { Board };
 
-    ghost view = { λ s. record { recording = arc_value s.recording; pads = s.pads; port1 = s.port1; port2 = s.port2; held = s.psg.value; fm = s.fm.value; request = s.request; reset = s.reset; resets = s.resets; store = option_map store_of s.parcel; vdp = s.vdp.value } };
+    ghost view = { λ s. record { recording = arc_value s.recording; pads = s.pads; port1 = s.port1; port2 = s.port2; psg = s.psg.value; fm = s.fm.value; request = s.request; reset = s.reset; resets = s.resets; store = option_map store_of s.parcel; vdp = s.vdp.value } };
 
-    ghost invariant = { λ s. IsBoard (record { recording = arc_value s.recording; pads = s.pads; port1 = s.port1; port2 = s.port2; held = s.psg.value; fm = s.fm.value; request = s.request; reset = s.reset; resets = s.resets; store = option_map store_of s.parcel; vdp = s.vdp.value }) };
+    ghost invariant = { λ s. IsBoard (record { recording = arc_value s.recording; pads = s.pads; port1 = s.port1; port2 = s.port2; psg = s.psg.value; fm = s.fm.value; request = s.request; reset = s.reset; resets = s.resets; store = option_map store_of s.parcel; vdp = s.vdp.value }) };
 }
 
 impl Shared {
@@ -435,7 +435,7 @@ impl Shared {
     }
 
     /// Takes the Z80's RAM where the bus is still requested, else gives it back.
-    fn hand_over(&mut self, key: Key, parcel: Parcel) -> (Answer80, Entry)
+    fn yield_parcel(&mut self, key: Key, parcel: Parcel) -> (Answer80, Entry)
         ensures answer { answer_value80 result.0 ≡ (accesses.yielded self.old.request self.old key (store_of parcel)).answer }
         ensures entry { result.1 ≡ (accesses.yielded self.old.request self.old key (store_of parcel)).entry }
         ensures board { self.new ≡ (accesses.yielded self.old.request self.old key (store_of parcel)).board }
@@ -450,7 +450,7 @@ impl Shared {
     }
 
     /// Gives the Z80 its RAM back where the bus is no longer requested and has it.
-    fn give_back(&mut self, key: Key) -> (Answer80, Entry)
+    fn take_parcel(&mut self, key: Key) -> (Answer80, Entry)
         ensures answer { answer_value80 result.0 ≡ (accesses.taken_back self.old.request self.old.store self.old key).answer }
         ensures entry { result.1 ≡ (accesses.taken_back self.old.request self.old.store self.old key).entry }
         ensures board { self.new ≡ (accesses.taken_back self.old.request self.old.store self.old key).board }
@@ -495,8 +495,8 @@ impl Shared {
                 self.sub_write(key, at, value);
                 (Answer80::Done, sub_entry(key, 7, at, value))
             }
-            Request80::Yield(parcel) => self.hand_over(key, parcel),
-            Request80::Take => self.give_back(key),
+            Request80::Yield(parcel) => self.yield_parcel(key, parcel),
+            Request80::Take => self.take_parcel(key),
         }
     }
 
@@ -532,8 +532,8 @@ impl Shared {
 
     /// Moves the writes of the PSG that are stamped below a cycle into `into`.
     #[tactic(auto, unfolding(crate::specs::Accesses::psg_board))]
-    fn take(&mut self, cycle: u64, into: &mut PsgList)
-        ensures taken { into.new.items ≡ taken_below cycle self.old.held }
+    fn take_psg(&mut self, cycle: u64, into: &mut PsgList)
+        ensures taken { into.new.items ≡ taken_below cycle self.old.psg }
         ensures board { self.new ≡ accesses.psg_board self.old cycle }
     {
         self.psg.take(cycle, into);
@@ -603,7 +603,7 @@ pub fn carry_out(shared: &mut Shared, key: Key, request: Request) -> (Answer, En
             (Answer::Fm(list), fm_entry(key, taken))
         }
         Request::Psg(mut list) => {
-            shared.take(key.cycle, &mut list);
+            shared.take_psg(key.cycle, &mut list);
             let taken = list.len() as u16;
             (Answer::Psg(list), psg_entry(key, taken))
         }

@@ -1,6 +1,7 @@
 -- What is kept of the registers depends on some of them alone.
 use Rattle.std.proofs.Common.{◌≡◌, ◌≢◌, ◌∙◌, ap, sym, ℕ, ◌+◌, ◌*◌, ◌/◌, ◌%◌, ◌<◌, ◌≤◌, ◌==◌, nat_lt, nat_le, Bool, true, ◌&&◌, not, if◌then◌else◌, List, slice_index, slice_set, get_or-set_other, arith}
-use Rattle.fm_env.specs.Envelopes.{attack, decay, sustain, release}
+use Rattle.fm_env.specs.declared.state.EnvelopeState.{EnvelopeState}
+use Rattle.fm_env.specs.declared.state.EnvelopeState.TheVariants.{Attack, Decay, Sustain, Release}
 use Rattle.fm_voice.specs.Phase.{key_code, step_of}
 use Rattle.fm_chip.specs.declared.shapes.Shapes.{Shapes}
 use Rattle.fm_chip.specs.declared.steps.Steps.{Steps}
@@ -46,14 +47,14 @@ operator-same : (r t : List ℕ) → Agree r t → (c o n : ℕ) → 0x30 ≤ n
     → slice_index r (base c + n + (o % 2 * 8 + o / 2 * 4)) ≡ slice_index t (base c + n + (o % 2 * 8 + o / 2 * 4))
 operator-same r t a c o n h = a.rest (base c + n + (o % 2 * 8 + o / 2 * 4)) (omega (arith, h))
 
-rate_value-same : (r t : List ℕ) → Agree r t → (c n state : ℕ) → rate_value r c n state ≡ rate_value t c n state
+rate_value-same : (r t : List ℕ) → Agree r t → (c n : ℕ) (state : EnvelopeState) → rate_value r c n state ≡ rate_value t c n state
 unfolding rate_value
-rate_value-same r t a c n state = λ i.
-    if state == attack then operator-same r t a c n 0x50 (omega arith) i % 32 else (
-    if state == decay then operator-same r t a c n 0x60 (omega arith) i % 32 else (
-    if state == sustain then operator-same r t a c n 0x70 (omega arith) i % 32 else operator-same r t a c n 0x80 (omega arith) i % 16 * 2 + 1))
+rate_value-same r t a c n Attack = ap (λ x. x % 32) (operator-same r t a c n 0x50 (omega arith))
+rate_value-same r t a c n Decay = ap (λ x. x % 32) (operator-same r t a c n 0x60 (omega arith))
+rate_value-same r t a c n Sustain = ap (λ x. x % 32) (operator-same r t a c n 0x70 (omega arith))
+rate_value-same r t a c n Release = ap (λ x. x % 16 * 2 + 1) (operator-same r t a c n 0x80 (omega arith))
 
-rate-same : (r t : List ℕ) → Agree r t → (c n state : ℕ) → rate r c n state ≡ rate t c n state
+rate-same : (r t : List ℕ) → Agree r t → (c n : ℕ) (state : EnvelopeState) → rate r c n state ≡ rate t c n state
 unfolding rate
 rate-same r t a c n state = λ i.
     rated (rate_value-same r t a c n state i)
@@ -67,10 +68,10 @@ sustain_level-same r t a c n = ap (λ x. if x / 16 == 15 then 992 else 32 * (x /
 shape-same : (r t : List ℕ) → Agree r t → (c n : ℕ) → shape_of r c n ≡ shape_of t c n
 unfolding shape_of
 shape-same r t a c n = λ i. record {
-  attack = rate-same r t a c n attack i;
-  decay = rate-same r t a c n decay i;
-  sustain = rate-same r t a c n sustain i;
-  release = rate-same r t a c n release i;
+  attack = rate-same r t a c n Attack i;
+  decay = rate-same r t a c n Decay i;
+  sustain = rate-same r t a c n Sustain i;
+  release = rate-same r t a c n Release i;
   sustain_level = sustain_level-same r t a c n i;
   total_level = 8 * (operator-same r t a c n 0x40 (omega arith) i % 128);
   has_tremolo = nat_le 128 (operator-same r t a c n 0x60 (omega arith) i);

@@ -1,6 +1,8 @@
 -- What follows of the kept shapes is what follows of the registers.
-use Rattle.std.proofs.Common.{◌≡◌, ap, ℕ, ◌∙◌, List, if◌then◌else◌, arith}
+use Rattle.std.proofs.Common.{◌≡◌, ap, refl, ℕ, ◌∙◌, List, if◌then◌else◌, arith}
 use Rattle.fm_env.specs.Envelopes.{stepping_state, ticked}
+use Rattle.fm_env.specs.declared.state.EnvelopeState.{EnvelopeState}
+use Rattle.fm_env.specs.declared.state.EnvelopeState.TheVariants.{Attack, Decay, Sustain, Release}
 use Rattle.fm_chip.specs.declared.operator.Operator.{Operator}
 use Rattle.fm_chip.specs.declared.channels.Channel.{Channel}
 use Rattle.fm_chip.specs.declared.channels.Moment.{Moment}
@@ -10,9 +12,12 @@ use Rattle.fm_chip.specs.Operators.{attenuation, envelope_of, enveloped, kept}
 use Rattle.fm_chip.specs.Channels.{all_enveloped, attenuations, ready}
 use Rattle.fm_chip.specs.Shapes.{shape_of, shapes_of, rate_in, enveloped_by, attenuation_by, all_enveloped_by, ready_by, attenuations_by}
 
-rate_in-is : (registers : List ℕ) (c n state : ℕ) → rate_in (shape_of registers c n) state ≡ rate registers c n state
-unfolding rate_in shape_of rate rate_value
-rate_in-is registers c n state = grind arith
+rate_in-is : (registers : List ℕ) (c n : ℕ) (state : EnvelopeState) → rate_in (shape_of registers c n) state ≡ rate registers c n state
+unfolding rate_in shape_of
+rate_in-is registers c n Attack = refl
+rate_in-is registers c n Decay = refl
+rate_in-is registers c n Sustain = refl
+rate_in-is registers c n Release = refl
 
 enveloped-is : (registers : List ℕ) (c n counter : ℕ) (o : Operator)
     → enveloped_by (shape_of registers c n) counter o ≡ enveloped registers counter c n o

@@ -1,5 +1,5 @@
 -- Laws of the bytes that keep the synthesis.
-use Rattle.std.proofs.Common.{◌≡◌, ℕ, ◌+◌, ◌-◌, ◌^◌, ◌<◌, ◌≤◌, Bool, true, false, cond, List, [], ◌∷◌, ◌++◌, length, get_or, take, drop, Option, Some, ℤ, pos, negsuc, refl, sym, ap, subst, ◌∙◌, arith}
+use Rattle.std.proofs.Common.{◌≡◌, ℕ, zero, suc, ◌+◌, ◌-◌, ◌^◌, ◌<◌, ◌≤◌, Bool, true, false, cond, List, [], ◌∷◌, ◌++◌, length, get_or, take, drop, Option, Some, ℤ, pos, negsuc, refl, sym, ap, subst, ◌∙◌, arith}
 use Rattle.std.specs.Prelude.{All, ◌&&◌, nat_lt, option_map}
 use Rattle.std.specs.Int.{w16}
 use Rattle.std.proofs.lemmas.Int.{ints}
@@ -15,7 +15,7 @@ use Rattle.fm_voice.specs.Channel.{IsLevel}
 use Rattle.fm_chip.specs.Channels.{IsChannel, channel_at}
 use Rattle.fm_chip.specs.Operators.{IsOperator}
 use Rattle.fm_chip.specs.Synth.{IsSynth, Synth}
-use Rattle.fm_chip.specs.SynthSpelling.{SpellsSynth, SynthGoesWrongAt, channel_from, fields1, fields2, fields3, fields4, fields5, fields6, four_at, four_fields, head_fields, is_output, last_at, last_before, last_fields, last_from, operator_at, operator_before, operator_from, output_of, saved_four, saved_last, saved_synth, synth_at, synth_fields, synth_from, word_of}
+use Rattle.fm_chip.specs.SynthSpelling.{SpellsSynth, SynthGoesWrongAt, channel_from, fields1, fields2, fields3, fields4, fields5, fields6, four_at, four_fields, head_fields, is_output, last_at, last_before, last_fields, last_from, operator_at, operator_before, operator_from, output_of, saved_four, saved_last, saved_synth, state_again, state_number, state_of, synth_at, synth_fields, synth_from, word_of}
 use Rattle.fm_chip.specs.declared.channels.Channel.{Channel}
 use Rattle.fm_chip.specs.declared.saved_operator.SavedFour.{SavedFour}
 use Rattle.fm_chip.specs.declared.saved_operator.SavedOperator.{SavedOperator}
@@ -81,10 +81,6 @@ head_only bytes s rest h = (record { registers = h.0; latches = h.1.0; t = h.1.1
 head_stands : (bytes : List ℕ) (rest : List Field) → Stand 525 rest bytes → Stand 0 (head_fields (synth_at bytes) ++ rest) bytes
 unfolding Stand
 head_stands bytes rest h = (refl, (refl, (refl, (refl, (refl, h)))))
-
-end_only : (bytes : List ℕ) → Stand 741 [] bytes → length bytes ≡ 741
-unfolding Stand
-end_only bytes h = h
 
 end_stands : (bytes : List ℕ) → length bytes ≡ 741 → Stand 741 [] bytes
 unfolding Stand
@@ -163,16 +159,20 @@ synth_size s = refl
 
 -- ---- what the rules say
 
-operator_holds : (s : SavedOperator) (rest : List Field) → AllHold (operator_before s rest) → IsOperator (operator_from s) × (s.on ≤ 1) × AllHold rest
+operator_holds : (s : SavedOperator) (rest : List Field) → AllHold (operator_before s rest) → IsOperator (operator_from s) × (s.state ≤ 3) × (s.on ≤ 1) × AllHold rest
 unfolding AllHold
 operator_holds s rest h =
-    (record { phase = ltb-true s.phase 0x10_0000 h.0; v = leb-true s.v 1023 h.1.0; state = leb-true s.state 3 h.1.1.0 }, leb-true s.on 1 h.1.1.1.0, h.1.1.1.1)
+    (record { phase = ltb-true s.phase 0x10_0000 h.0; v = leb-true s.v 1023 h.1.0 }, leb-true s.state 3 h.1.1.0, leb-true s.on 1 h.1.1.1.0, h.1.1.1.1)
 
 record Four (s : SavedFour) : Type 0 where
   one : IsOperator (operator_from s.one)
   two : IsOperator (operator_from s.two)
   three : IsOperator (operator_from s.three)
   four : IsOperator (operator_from s.four)
+  state1 : s.one.state ≤ 3
+  state2 : s.two.state ≤ 3
+  state3 : s.three.state ≤ 3
+  state4 : s.four.state ≤ 3
   on1 : s.one.on ≤ 1
   on2 : s.two.on ≤ 1
   on3 : s.three.on ≤ 1
@@ -184,10 +184,23 @@ four_holds s rest h =
     let r2 = operator_before s.three r3 in
     let r1 = operator_before s.two r2 in
     let one = operator_holds s.one r1 h in
-    let two = operator_holds s.two r2 one.2 in
-    let three = operator_holds s.three r3 two.2 in
-    let four = operator_holds s.four rest three.2 in
-    (record { one = one.0; two = two.0; three = three.0; four = four.0; on1 = one.1; on2 = two.1; on3 = three.1; on4 = four.1 }, four.2)
+    let two = operator_holds s.two r2 one.3 in
+    let three = operator_holds s.three r3 two.3 in
+    let four = operator_holds s.four rest three.3 in
+    (record {
+      one = one.0;
+      two = two.0;
+      three = three.0;
+      four = four.0;
+      state1 = one.1;
+      state2 = two.1;
+      state3 = three.1;
+      state4 = four.1;
+      on1 = one.2;
+      on2 = two.2;
+      on3 = three.2;
+      on4 = four.2;
+    }, four.3)
 
 last_holds : (s : SavedLast) (rest : List Field) → AllHold (last_before s rest) → ((is_output s.older && is_output s.newer) ≡ true) × AllHold rest
 unfolding AllHold
@@ -265,12 +278,19 @@ shifted a b (f ∷ fs) =
 
 -- ---- from the numbers to the chip and back
 
+state_back : (n : ℕ) → n ≤ 3 → state_number (state_of n) ≡ n
+state_back zero few = refl
+state_back (suc zero) few = refl
+state_back (suc (suc zero)) few = refl
+state_back (suc (suc (suc zero))) few = refl
+state_back (suc (suc (suc (suc n)))) few = absurd (omega (arith, few))
+
 four_back : (s : SavedFour) (l : SavedLast) → Four s → saved_four (channel_from s l) ≡ s
 four_back s l f = λ i. record {
-  one = record { phase = s.one.phase; v = s.one.v; state = s.one.state; on = flag_back s.one.on f.on1 i };
-  two = record { phase = s.two.phase; v = s.two.v; state = s.two.state; on = flag_back s.two.on f.on2 i };
-  three = record { phase = s.three.phase; v = s.three.v; state = s.three.state; on = flag_back s.three.on f.on3 i };
-  four = record { phase = s.four.phase; v = s.four.v; state = s.four.state; on = flag_back s.four.on f.on4 i };
+  one = record { phase = s.one.phase; v = s.one.v; state = state_back s.one.state f.state1 i; on = flag_back s.one.on f.on1 i };
+  two = record { phase = s.two.phase; v = s.two.v; state = state_back s.two.state f.state2 i; on = flag_back s.two.on f.on2 i };
+  three = record { phase = s.three.phase; v = s.three.v; state = state_back s.three.state f.state3 i; on = flag_back s.three.on f.on3 i };
+  four = record { phase = s.four.phase; v = s.four.v; state = state_back s.four.state f.state4 i; on = flag_back s.four.on f.on4 i };
 }
 
 record Last (s : SavedLast) : Type 0 where
@@ -442,10 +462,10 @@ last_again (x ∷ y ∷ z ∷ l) two h = absurd (omega (arith, two))
 
 channel_again : (ch : Channel) → IsChannel ch → channel_from (saved_four ch) (saved_last ch.last) ≡ ch
 channel_again ch h = λ i. record {
-  one = record { phase = ch.one.phase; v = ch.one.v; state = ch.one.state; on = flag_again ch.one.on i };
-  two = record { phase = ch.two.phase; v = ch.two.v; state = ch.two.state; on = flag_again ch.two.on i };
-  three = record { phase = ch.three.phase; v = ch.three.v; state = ch.three.state; on = flag_again ch.three.on i };
-  four = record { phase = ch.four.phase; v = ch.four.v; state = ch.four.state; on = flag_again ch.four.on i };
+  one = record { phase = ch.one.phase; v = ch.one.v; state = state_again ch.one.state i; on = flag_again ch.one.on i };
+  two = record { phase = ch.two.phase; v = ch.two.v; state = state_again ch.two.state i; on = flag_again ch.two.on i };
+  three = record { phase = ch.three.phase; v = ch.three.v; state = state_again ch.three.state i; on = flag_again ch.three.on i };
+  four = record { phase = ch.four.phase; v = ch.four.v; state = state_again ch.four.state i; on = flag_again ch.four.on i };
   last = last_again ch.last h.pair h.last i;
 }
 

@@ -2,16 +2,18 @@
 use Rattle.std.proofs.Common.{◌≡◌, ℕ, ◌-◌, ◌<◌, ◌≤◌, ◌^◌, Bool, true, false, List, [], ◌++◌, length, ℤ, pos, negsuc, refl, arith}
 use Rattle.std.specs.Prelude.{All, ◌&&◌, nat_le, nat_lt, slice_index_or}
 use Rattle.std.proofs.lemmas.Int.{ints}
-use Rattle.std.proofs.lemmas.Bool.{le-leb, lt-ltb, le-ltb}
+use Rattle.std.proofs.lemmas.Bool.{le-leb, lt-ltb, le-ltb, and_from}
 use Rattle.std.proofs.lemmas.List.Elements.{All-get_or}
 use Rattle.md_word.specs.Coding.{flag_number}
+use Rattle.fm_env.specs.declared.state.EnvelopeState.{EnvelopeState}
+use Rattle.fm_env.specs.declared.state.EnvelopeState.TheVariants.{Attack, Decay, Sustain, Release}
 use Rattle.md_fields.specs.Fields.{AllHold, AreWithin, Field}
 use Rattle.md_fields.proofs.Items.{none_wrong}
 use Rattle.fm_voice.specs.Channel.{IsLevel}
 use Rattle.fm_chip.specs.Channels.{IsChannel, blank, channel_at}
 use Rattle.fm_chip.specs.Operators.{IsOperator}
 use Rattle.fm_chip.specs.Synth.{IsSynth, Synth}
-use Rattle.fm_chip.specs.SynthSpelling.{SpellsSynth, fields1, fields2, fields3, fields4, fields5, fields6, four_fields, head_fields, is_output, last_before, last_fields, operator_before, saved_four, saved_last, saved_operator, saved_synth, synth_bytes, synth_fields, word_of}
+use Rattle.fm_chip.specs.SynthSpelling.{SpellsSynth, fields1, fields2, fields3, fields4, fields5, fields6, four_fields, head_fields, is_output, last_before, last_fields, operator_before, saved_four, saved_last, saved_operator, saved_synth, state_number, synth_bytes, synth_fields, word_of}
 use Rattle.fm_chip.specs.declared.channels.Channel.{Channel}
 use Rattle.fm_chip.specs.declared.operator.Operator.{Operator}
 
@@ -27,11 +29,18 @@ flag_byte : (flag : Bool) → flag_number flag < 2 ^ 8
 flag_byte true = omega arith
 flag_byte false = omega arith
 
+-- a state has a number up to 3
+state_few : (state : EnvelopeState) → state_number state ≤ 3
+state_few Attack = omega arith
+state_few Decay = omega arith
+state_few Sustain = omega arith
+state_few Release = omega arith
+
 operator_ready : (o : Operator) (rest : List Field) → IsOperator o → Ready rest → Ready (operator_before (saved_operator o) rest)
 unfolding AllHold AreWithin
 operator_ready o rest ok ready = (
-  (lt-ltb o.phase 0x10_0000 ok.phase, (le-leb o.v 1023 ok.v, (le-leb o.state 3 ok.state, (flag_holds o.on, ready.0)))),
-  (omega (arith, ok.phase), (omega (arith, ok.v), (omega (arith, ok.state), (flag_byte o.on, ready.1)))),
+  (lt-ltb o.phase 0x10_0000 ok.phase, (le-leb o.v 1023 ok.v, (le-leb (state_number o.state) 3 (state_few o.state), (flag_holds o.on, ready.0)))),
+  (omega (arith, ok.phase), (omega (arith, ok.v), (omega (arith, state_few o.state), (flag_byte o.on, ready.1)))),
 )
 
 channel_ready : (ch : Channel) (rest : List Field) → IsChannel ch → Ready rest → Ready (four_fields (saved_four ch) ++ rest)
@@ -58,16 +67,12 @@ output_holds (negsuc n) h =
     let above : nat_le 0xe000 (0xffff - n) ≡ true = le-leb 0xe000 (0xffff - n) (omega (arith, few)) in
     rw high above
 
-both : (a b : Bool) → a ≡ true → b ≡ true → (a && b) ≡ true
-both true b first second = second
-both false b first second = absurd cc
-
 last_ready : (last : List ℤ) (rest : List Field) → All IsLevel last → length last ≡ 2 → Ready rest → Ready (last_before (saved_last last) rest)
 unfolding AllHold AreWithin
 last_ready last rest levels two ready =
     let older : IsLevel (slice_index_or last 0 (pos 0)) = All-get_or IsLevel last 0 (pos 0) (omega (arith, two)) levels in
     let newer : IsLevel (slice_index_or last 1 (pos 0)) = All-get_or IsLevel last 1 (pos 0) (omega (arith, two)) levels in (
-      (both _ _ (output_holds _ older) (output_holds _ newer), (refl, ready.0)),
+      (and_from _ _ (output_holds _ older) (output_holds _ newer), (refl, ready.0)),
       (output_small _ older, (output_small _ newer, ready.1)),
     )
 

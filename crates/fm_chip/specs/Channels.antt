@@ -1,6 +1,7 @@
 -- A channel at a sample: its envelopes' tick, what is heard, and its phases' steps.
 -- Yamaha, YM2608 Application Manual, channels; Sega, Genesis Software Manual, FM registers 2A and 2B.
 use Rattle.std.specs.Prelude.{◌≡◌, ℕ, ◌/◌, ◌%◌, ◌≤◌, ◌==◌, nat_le, ℤ, pos, ◌-ℤ◌, ◌*ℤ◌, Bool, ◌&&◌, if◌then◌else◌, List, [], ◌∷◌, length, All, false, slice_index_or}
+use Rattle.fm_env.specs.declared.state.EnvelopeState.TheVariants.{Attack}
 use Rattle.fm_voice.specs.Channel.{Voice, channel_voice, heard, last_after, IsLevel}
 use Rattle.fm_chip.specs.declared.operator.Operator.{Operator}
 use Rattle.fm_chip.specs.declared.channels.Channel.{Channel}
@@ -13,7 +14,7 @@ use Rattle.fm_chip.specs.Lfo.{tremolo}
 
 -- an operator of which all is 0
 abbrev pub blank_operator : Operator
-blank_operator = record { phase = 0; v = 0; state = 0; on = false }
+blank_operator = record { phase = 0; v = 0; state = Attack; on = false }
 
 -- what stands for a channel outside the list
 abbrev pub blank : Channel

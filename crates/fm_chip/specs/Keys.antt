@@ -1,6 +1,6 @@
 -- The keys, by a byte for register 28. Yamaha, YM2608 Application Manual, key on and off.
 use Rattle.std.specs.Prelude.{ℕ, ◌+◌, ◌/◌, ◌%◌, ◌==◌, if◌then◌else◌, Option, None, Some, List, slice_set}
-use Rattle.fm_env.specs.Envelopes.{attack}
+use Rattle.fm_env.specs.declared.state.EnvelopeState.TheVariants.{Attack}
 use Rattle.fm_chip.specs.declared.channels.Channel.{Channel}
 use Rattle.fm_chip.specs.Channels.{channel_at}
 use Rattle.fm_chip.specs.Operators.{pressed}
@@ -15,10 +15,10 @@ keyed_channel value =
 -- bits 7 to 4 are the keys of operators 4 to 1
 unfoldable pub all_pressed : List ℕ → ℕ → ℕ → Channel → Channel
 all_pressed registers value c ch = record {
-  one = pressed (value / 16 % 2 == 1) (rate registers c 0 attack) ch.one;
-  two = pressed (value / 32 % 2 == 1) (rate registers c 1 attack) ch.two;
-  three = pressed (value / 64 % 2 == 1) (rate registers c 2 attack) ch.three;
-  four = pressed (value / 128 % 2 == 1) (rate registers c 3 attack) ch.four;
+  one = pressed (value / 16 % 2 == 1) (rate registers c 0 Attack) ch.one;
+  two = pressed (value / 32 % 2 == 1) (rate registers c 1 Attack) ch.two;
+  three = pressed (value / 64 % 2 == 1) (rate registers c 2 Attack) ch.three;
+  four = pressed (value / 128 % 2 == 1) (rate registers c 3 Attack) ch.four;
   last = ch.last;
 }
 

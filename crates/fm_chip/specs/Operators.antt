@@ -11,7 +11,6 @@ use Rattle.fm_chip.specs.Lfo.{gain}
 pub record IsOperator (o : Operator) : Type 0 where
   pub phase : o.phase < 2 ^ 20
   pub v : o.v ≤ 1023
-  pub state : o.state ≤ 3
 
 -- its envelope
 abbrev pub envelope_of : Operator → EnvelopeValue

@@ -2,7 +2,8 @@
 -- A channel c of 0 to 5 is channel c modulo 3 of port c/3; an operator o is 0 to 3.
 -- Yamaha, YM2608 Application Manual, FM registers.
 use Rattle.std.specs.Prelude.{ℕ, ◌+◌, ◌-◌, ◌*◌, ◌/◌, ◌%◌, ◌^◌, ◌==◌, nat_lt, nat_le, min, ◌&&◌, if◌then◌else◌, List, slice_index}
-use Rattle.fm_env.specs.Envelopes.{attack, decay, sustain}
+use Rattle.fm_env.specs.declared.state.EnvelopeState.{EnvelopeState}
+use Rattle.fm_env.specs.declared.state.EnvelopeState.TheVariants.{Attack, Decay, Sustain, Release}
 use Rattle.fm_voice.specs.Phase.{key_code}
 use Rattle.fm_chip.specs.declared.frequency.Frequency.{Frequency}
 
@@ -45,15 +46,15 @@ frequency registers c o = frequency_at registers (frequency_place registers c o)
 unfoldable pub rated : ℕ → ℕ → ℕ → ℕ
 rated r code scale = if r == 0 then 0 else min 63 (2 * r + code / 2 ^ (3 - scale))
 
--- the value R of each state: attack, decay, sustain, release
-unfoldable pub rate_value : List ℕ → ℕ → ℕ → ℕ → ℕ
-rate_value registers c o state =
-    if state == attack then of_operator registers c o 0x50 % 32 else (
-    if state == decay then of_operator registers c o 0x60 % 32 else (
-    if state == sustain then of_operator registers c o 0x70 % 32 else of_operator registers c o 0x80 % 16 * 2 + 1))
+-- the value R of each state
+unfoldable pub rate_value : List ℕ → ℕ → ℕ → EnvelopeState → ℕ
+rate_value registers c o Attack = of_operator registers c o 0x50 % 32
+rate_value registers c o Decay = of_operator registers c o 0x60 % 32
+rate_value registers c o Sustain = of_operator registers c o 0x70 % 32
+rate_value registers c o Release = of_operator registers c o 0x80 % 16 * 2 + 1
 
 -- the rate of an operator in a state
-unfoldable pub rate : List ℕ → ℕ → ℕ → ℕ → ℕ
+unfoldable pub rate : List ℕ → ℕ → ℕ → EnvelopeState → ℕ
 rate registers c o state =
     rated (rate_value registers c o state)
     (key_code (frequency registers c o).fnum (frequency registers c o).block)

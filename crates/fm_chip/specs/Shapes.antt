@@ -1,7 +1,9 @@
 -- What the registers say of an operator's envelope and level, and what follows of it.
 -- Yamaha, YM2608 Application Manual, operators.
-use Rattle.std.specs.Prelude.{◌≡◌, ℕ, ◌+◌, ◌*◌, ◌%◌, ◌<◌, ◌≤◌, ◌==◌, nat_le, min, false, if◌then◌else◌, List, [], ◌∷◌, length, All, slice_index_or}
-use Rattle.fm_env.specs.Envelopes.{attack, decay, sustain, release, stepping_state, ticked}
+use Rattle.std.specs.Prelude.{◌≡◌, ℕ, ◌+◌, ◌*◌, ◌%◌, ◌<◌, ◌≤◌, nat_le, min, false, if◌then◌else◌, List, [], ◌∷◌, length, All, slice_index_or}
+use Rattle.fm_env.specs.Envelopes.{stepping_state, ticked}
+use Rattle.fm_env.specs.declared.state.EnvelopeState.{EnvelopeState}
+use Rattle.fm_env.specs.declared.state.EnvelopeState.TheVariants.{Attack, Decay, Sustain, Release}
 use Rattle.fm_chip.specs.declared.shapes.Shape.{Shape}
 use Rattle.fm_chip.specs.declared.shapes.Shapes.{Shapes}
 use Rattle.fm_chip.specs.declared.operator.Operator.{Operator}
@@ -13,10 +15,10 @@ use Rattle.fm_chip.specs.Operators.{envelope_of, kept}
 -- the shape of operator n of channel c
 unfoldable pub shape_of : List ℕ → ℕ → ℕ → Shape
 shape_of registers c n = record {
-  attack = rate registers c n attack;
-  decay = rate registers c n decay;
-  sustain = rate registers c n sustain;
-  release = rate registers c n release;
+  attack = rate registers c n Attack;
+  decay = rate registers c n Decay;
+  sustain = rate registers c n Sustain;
+  release = rate registers c n Release;
   sustain_level = sustain_level registers c n;
   total_level = 8 * (of_operator registers c n 0x40 % 128);
   has_tremolo = nat_le 128 (of_operator registers c n 0x60);
@@ -66,11 +68,11 @@ pub record AreShapes (registers : List ℕ) (channels : List Shapes) : Type 0 wh
   pub fine : All AreInRange channels
 
 -- the rate of a shape in a state
-unfoldable pub rate_in : Shape → ℕ → ℕ
-rate_in s state =
-    if state == attack then s.attack else (
-    if state == decay then s.decay else (
-    if state == sustain then s.sustain else s.release))
+unfoldable pub rate_in : Shape → EnvelopeState → ℕ
+rate_in s Attack = s.attack
+rate_in s Decay = s.decay
+rate_in s Sustain = s.sustain
+rate_in s Release = s.release
 
 -- the operator after a tick of an envelope of this shape
 unfoldable pub enveloped_by : Shape → ℕ → Operator → Operator

@@ -3,7 +3,7 @@
 use Rattle.std.specs.Prelude.{◌≡◌, ℕ, zero, suc, ◌+◌, ◌*◌, ◌/◌, ◌%◌, ◌<◌, ◌==◌, ℤ, pos, ◌+ℤ◌, false, ◌&&◌, if◌then◌else◌, Option, None, Some, List, [], ◌∷◌, length, map, All, slice_index, slice_set, replicate}
 use Rattle.std.specs.List.{range_with_len}
 use Rattle.fm_voice.specs.Channel.{IsWithin}
-use Rattle.fm_env.specs.Envelopes.{release}
+use Rattle.fm_env.specs.declared.state.EnvelopeState.TheVariants.{Release}
 use Rattle.fm_chip.specs.declared.lfo.Lfo.{Lfo}
 use Rattle.fm_chip.specs.declared.operator.Operator.{Operator}
 use Rattle.fm_chip.specs.declared.channels.Channel.{Channel}
@@ -41,7 +41,7 @@ pub record IsSynth (s : Synth) : Type 0 where
 
 -- an operator at power-on: at the highest attenuation, in release
 abbrev pub silent_operator : Operator
-silent_operator = record { phase = 0; v = 1023; state = release; on = false }
+silent_operator = record { phase = 0; v = 1023; state = Release; on = false }
 
 -- a channel at power-on
 abbrev pub silent : Channel

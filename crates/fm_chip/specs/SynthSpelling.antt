@@ -1,8 +1,10 @@
 -- The bytes of a saved state that keep the synthesis: registers, latches, oscillator, the envelopes'
 -- counter, the operators channel by channel, and the last outputs of each channel. This project's profile.
-use Rattle.std.specs.Prelude.{ℕ, ◌+◌, ◌-◌, ◌==◌, nat_le, nat_lt, true, Bool, ◌&&◌, ◌||◌, if◌then◌else◌, ℤ, pos, negsuc, List, [], ◌∷◌, ◌++◌, take, drop, slice_index, slice_index_or}
+use Rattle.std.specs.Prelude.{◌≡◌, ℕ, refl, ◌+◌, ◌-◌, ◌==◌, nat_le, nat_lt, true, Bool, ◌&&◌, ◌||◌, if◌then◌else◌, ℤ, pos, negsuc, List, [], ◌∷◌, ◌++◌, take, drop, slice_index, slice_index_or}
 use Rattle.std.specs.Int.{w16, w32}
 use Rattle.md_word.specs.Coding.{flag_number}
+use Rattle.fm_env.specs.declared.state.EnvelopeState.{EnvelopeState}
+use Rattle.fm_env.specs.declared.state.EnvelopeState.TheVariants.{Attack, Decay, Sustain, Release}
 use Rattle.md_fields.specs.Fields.{Field, byte, word, long, block, spelling}
 use Rattle.md_fields.specs.Items.{IsRefused, IsRight, Keeps}
 use Rattle.md_fields.specs.Places.{number_at}
@@ -17,13 +19,31 @@ use Rattle.fm_chip.specs.declared.saved_synth.SavedSynth.{SavedSynth}
 
 -- ---- an operator, and the four of a channel
 
+-- the number of an envelope's state
+abbrev pub state_number : EnvelopeState → ℕ
+state_number Attack = 0
+state_number Decay = 1
+state_number Sustain = 2
+state_number Release = 3
+
+-- the state of a number, 0 to 3
+abbrev pub state_of : ℕ → EnvelopeState
+state_of n = if n == 0 then Attack else (if n == 1 then Decay else (if n == 2 then Sustain else Release))
+
+-- a state is that of its number
+pub state_again : (state : EnvelopeState) → state_of (state_number state) ≡ state
+state_again Attack = refl
+state_again Decay = refl
+state_again Sustain = refl
+state_again Release = refl
+
 -- what is kept of an operator
 abbrev pub saved_operator : Operator → SavedOperator
-saved_operator o = record { phase = o.phase; v = o.v; state = o.state; on = flag_number o.on }
+saved_operator o = record { phase = o.phase; v = o.v; state = state_number o.state; on = flag_number o.on }
 
 -- the operator of which this is kept
 abbrev pub operator_from : SavedOperator → Operator
-operator_from s = record { phase = s.phase; v = s.v; state = s.state; on = (s.on == 1) }
+operator_from s = record { phase = s.phase; v = s.v; state = state_of s.state; on = (s.on == 1) }
 
 -- what the eight bytes at a place keep of an operator
 abbrev pub operator_at : ℕ → List ℕ → SavedOperator

@@ -7,7 +7,7 @@ ghost use Rattle.fm_chip.specs.Channels.{IsChannel, channel_at};
 
 use crate::channels::Channel;
 use crate::registers::{Registers, rate};
-use fm_env::ATTACK;
+use fm_env::EnvelopeState;
 
 /// The channel, 0 to 5, whose keys a byte tells.
 #[tactic(auto, unfolding(crate::specs::Keys::keyed_channel))]
@@ -47,14 +47,14 @@ fn press_all(channel: &mut Channel, registers: &Registers, value: u8, number: u3
 {
     channel
         .one
-        .press(value / 16 % 2 == 1, rate(registers, number, 0, ATTACK));
+        .press(value / 16 % 2 == 1, rate(registers, number, 0, EnvelopeState::Attack));
     channel
         .two
-        .press(value / 32 % 2 == 1, rate(registers, number, 1, ATTACK));
+        .press(value / 32 % 2 == 1, rate(registers, number, 1, EnvelopeState::Attack));
     channel
         .three
-        .press(value / 64 % 2 == 1, rate(registers, number, 2, ATTACK));
+        .press(value / 64 % 2 == 1, rate(registers, number, 2, EnvelopeState::Attack));
     channel
         .four
-        .press(value / 128 % 2 == 1, rate(registers, number, 3, ATTACK));
+        .press(value / 128 % 2 == 1, rate(registers, number, 3, EnvelopeState::Attack));
 }

@@ -14,9 +14,9 @@ mod registers;
 mod saved_operator;
 mod saved_synth;
 mod shapes;
+mod spelling;
 mod steps;
 mod synth;
-mod synth_spelling;
 
 pub use channels::Channel;
 pub use operator::Operator;

@@ -7,7 +7,7 @@ ghost use Rattle.fm_env.specs.Envelopes.{plain};
 use crate::lfo::gain;
 use crate::registers::{DETUNE_MULTIPLE, Registers, frequency, of_operator};
 use crate::shapes::Shape;
-use fm_env::Envelope;
+use fm_env::{Envelope, EnvelopeState};
 use fm_voice::step_of;
 
 /// An operator. The registers are not its own: they come with each call.
@@ -17,8 +17,8 @@ pub struct Operator {
     pub phase: u32,
     /// The attenuation of its envelope, at most 1,023.
     pub v: u16,
-    /// The state of its envelope, 0 to 3.
-    pub state: u8,
+    /// The state of its envelope.
+    pub state: EnvelopeState,
     /// Whether its key is on.
     pub on: bool,
 }

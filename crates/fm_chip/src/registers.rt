@@ -5,7 +5,7 @@ ghost use Rattle.std.specs.Prelude.{◌≡◌, ◌+◌, ◌*◌, ◌/◌, ◌%�
 ghost use Rattle.fm_chip.specs.Registers as meaning;
 
 use crate::frequency::Frequency;
-use fm_env::{ATTACK, DECAY, SUSTAIN};
+use fm_env::EnvelopeState;
 use fm_voice::key_code;
 
 /// The registers of both ports, 256 each.
@@ -107,23 +107,25 @@ pub fn rated(value: u32, code: u32, scale: u32) -> u32
 
 /// The register's value of a state's rate.
 #[tactic(auto, unfolding(crate::specs::Registers::rate_value))]
-pub fn rate_value(registers: &Registers, channel: u32, operator: u32, state: u8) -> u32
+pub fn rate_value(registers: &Registers, channel: u32, operator: u32, state: EnvelopeState) -> u32
     requires channel { channel < 6 }
     requires operator { operator < 4 }
     ensures value { result ≡ meaning.rate_value registers.now channel operator state }
     ensures below { result < 32 }
 {
     match state {
-        ATTACK => of_operator(registers, channel, operator, SCALE_ATTACK) % 32,
-        DECAY => of_operator(registers, channel, operator, TREMOLO_DECAY) % 32,
-        SUSTAIN => of_operator(registers, channel, operator, SUSTAIN_RATE) % 32,
-        _ => of_operator(registers, channel, operator, LEVEL_RELEASE) % 16 * 2 + 1,
+        EnvelopeState::Attack => of_operator(registers, channel, operator, SCALE_ATTACK) % 32,
+        EnvelopeState::Decay => of_operator(registers, channel, operator, TREMOLO_DECAY) % 32,
+        EnvelopeState::Sustain => of_operator(registers, channel, operator, SUSTAIN_RATE) % 32,
+        EnvelopeState::Release => {
+            of_operator(registers, channel, operator, LEVEL_RELEASE) % 16 * 2 + 1
+        }
     }
 }
 
 /// The rate at which an operator's envelope steps in a state, 0 to 63.
 #[tactic(auto, unfolding(crate::specs::Registers::rate))]
-pub fn rate(registers: &Registers, channel: u32, operator: u32, state: u8) -> u32
+pub fn rate(registers: &Registers, channel: u32, operator: u32, state: EnvelopeState) -> u32
     requires channel { channel < 6 }
     requires operator { operator < 4 }
     ensures value { result ≡ meaning.rate registers.now channel operator state }

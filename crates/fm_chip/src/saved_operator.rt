@@ -5,6 +5,7 @@ ghost use Rattle.fm_chip.specs.SynthSpelling as meaning;
 use crate::channels::Channel;
 use crate::operator::Operator;
 use crate::saved_synth::{SavedLast, wrong_from};
+use fm_env::EnvelopeState;
 use md_fields::{Field, put, u8_at, u16_at, u32_at};
 
 /// The numbers that a saved state keeps of an operator, whatever they are.
@@ -12,6 +13,7 @@ use md_fields::{Field, put, u8_at, u16_at, u32_at};
 pub struct SavedOperator {
     pub phase: u32,
     pub v: u16,
+    /// The number of its envelope's state.
     pub state: u8,
     /// 1 where its key is on.
     pub on: u8,
@@ -25,7 +27,7 @@ impl SavedOperator {
         SavedOperator {
             phase: operator.phase,
             v: operator.v,
-            state: operator.state,
+            state: state_number(operator.state),
             on: u8::from(operator.on),
         }
     }
@@ -50,9 +52,33 @@ impl SavedOperator {
         Operator {
             phase: self.phase,
             v: self.v,
-            state: self.state,
+            state: state_of(self.state),
             on: self.on == 1,
         }
+    }
+}
+
+/// The number of an envelope's state in a saved state.
+fn state_number(state: EnvelopeState) -> u8
+    ensures { result ≡ meaning.state_number state }
+{
+    match state {
+        EnvelopeState::Attack => 0,
+        EnvelopeState::Decay => 1,
+        EnvelopeState::Sustain => 2,
+        EnvelopeState::Release => 3,
+    }
+}
+
+/// The state of a number, 0 to 3.
+fn state_of(number: u8) -> EnvelopeState
+    ensures { result ≡ meaning.state_of number }
+{
+    match number {
+        0 => EnvelopeState::Attack,
+        1 => EnvelopeState::Decay,
+        2 => EnvelopeState::Sustain,
+        _ => EnvelopeState::Release,
     }
 }
 

@@ -8,7 +8,7 @@ use crate::registers::{
     Registers, SCALE_ATTACK, TOTAL_LEVEL, TREMOLO_DECAY, frequency, of_operator, rate_value, rated,
     sustain_level,
 };
-use fm_env::{ATTACK, DECAY, RELEASE, SUSTAIN};
+use fm_env::EnvelopeState;
 use fm_voice::key_code;
 
 /// What the registers say of an operator's envelope and level.
@@ -39,16 +39,16 @@ pub struct Shapes {
 impl Shape {
     /// The rate at which the envelope steps in a state.
     #[tactic(auto, unfolding(crate::specs::Shapes::rate_in))]
-    pub fn rate(&self, state: u8) -> u32
+    pub fn rate(&self, state: EnvelopeState) -> u32
         requires { IsShape self.now }
         ensures value { result ≡ meaning.rate_in self.now state }
         ensures below { result < 64 }
     {
         u32::from(match state {
-            ATTACK => self.attack,
-            DECAY => self.decay,
-            SUSTAIN => self.sustain,
-            _ => self.release,
+            EnvelopeState::Attack => self.attack,
+            EnvelopeState::Decay => self.decay,
+            EnvelopeState::Sustain => self.sustain,
+            EnvelopeState::Release => self.release,
         })
     }
 }
@@ -91,18 +91,18 @@ fn shape_of(registers: &Registers, channel: u32, operator: u32) -> Shape
     let scale = of_operator(registers, channel, operator, SCALE_ATTACK) / 64;
     Shape {
         attack: rated(
-            rate_value(registers, channel, operator, ATTACK),
+            rate_value(registers, channel, operator, EnvelopeState::Attack),
             code,
             scale,
         ) as u8,
-        decay: rated(rate_value(registers, channel, operator, DECAY), code, scale) as u8,
+        decay: rated(rate_value(registers, channel, operator, EnvelopeState::Decay), code, scale) as u8,
         sustain: rated(
-            rate_value(registers, channel, operator, SUSTAIN),
+            rate_value(registers, channel, operator, EnvelopeState::Sustain),
             code,
             scale,
         ) as u8,
         release: rated(
-            rate_value(registers, channel, operator, RELEASE),
+            rate_value(registers, channel, operator, EnvelopeState::Release),
             code,
             scale,
         ) as u8,

@@ -13,7 +13,7 @@ use crate::lfo::Lfo;
 use crate::mixing::sample_all;
 use crate::operator::Operator;
 use crate::registers::Registers;
-use fm_env::RELEASE;
+use fm_env::EnvelopeState;
 use fm_port::{FmList, FmWrite, RESET};
 use std::marker::Model;
 
@@ -68,7 +68,7 @@ impl FmSynth {
         let operator = Operator {
             phase: 0,
             v: 1023,
-            state: RELEASE,
+            state: EnvelopeState::Release,
             on: false,
         };
         let channel = Channel {

@@ -4,38 +4,31 @@ use Rattle.std.specs.Prelude.{ℕ, ◌+◌, ◌*◌, ◌==◌, nat_lt, nat_le, m
 use Rattle.std.specs.Int.{int_div_euclid}
 use Rattle.std.specs.Int.RustNames.{unsigned_abs}
 use Rattle.fm_env.specs.declared.envelope.Envelope.{Envelope}
+use Rattle.fm_env.specs.declared.state.EnvelopeState.{EnvelopeState}
+use Rattle.fm_env.specs.declared.state.EnvelopeState.TheVariants.{Attack, Decay, Sustain, Release}
 use Rattle.fm_env.specs.Steps.{step}
 
 -- an envelope as plain data
 pub record EnvelopeValue : Type 0 where
   -- the attenuation: 0 the loudest, 1,023 silence
   pub v : ℕ
-  pub state : ℕ
+  pub state : EnvelopeState
   pub on : Bool
 
 -- the data of an envelope, apart from the bounds that it keeps
 abbrev pub plain : Envelope → EnvelopeValue
 plain e = record { v = e.v; state = e.state; on = e.on }
 
--- state 0: the key went on, and the attenuation falls to 0
-abbrev pub attack : ℕ
-attack = 0
-
--- state 1: the attenuation rises to the sustain level
-abbrev pub decay : ℕ
-decay = 1
-
--- state 2: it rises further, up to silence, while the key is on
-abbrev pub sustain : ℕ
-sustain = 2
-
--- state 3: the key went off, and it rises up to silence
-abbrev pub release : ℕ
-release = 3
+-- whether it is an attack
+abbrev pub is_attack : EnvelopeState → Bool
+is_attack Attack = true
+is_attack Decay = false
+is_attack Sustain = false
+is_attack Release = false
 
 -- the state in which it steps: an attack that has come to 0 is a decay
-abbrev pub stepping_state : EnvelopeValue → ℕ
-stepping_state e = if (e.state == attack) && (e.v == 0) then decay else e.state
+abbrev pub stepping_state : EnvelopeValue → EnvelopeState
+stepping_state e = if is_attack e.state && (e.v == 0) then Decay else e.state
 
 -- the envelope in the state in which it steps
 unfoldable pub turned : EnvelopeValue → EnvelopeValue
@@ -53,14 +46,16 @@ decayed i level v = if nat_lt v level then v + i else v
 unfoldable pub fallen : ℕ → ℕ → ℕ
 fallen i v = min (v + i) 1023
 
--- a step by i: a decay that ends at the sustain level or above it goes to sustain
+-- a step by i in a state: a decay that ends at the sustain level or above it goes to sustain
+abbrev pub stepped_in : EnvelopeState → ℕ → ℕ → EnvelopeValue → EnvelopeValue
+stepped_in Attack i level e = record e { v = attacked i e.v }
+stepped_in Decay i level e = record e { v = decayed i level e.v; state = if nat_le level (decayed i level e.v) then Sustain else Decay }
+stepped_in Sustain i level e = record e { v = fallen i e.v }
+stepped_in Release i level e = record e { v = fallen i e.v }
+
+-- a step by i in the state that it has
 unfoldable pub stepped : ℕ → ℕ → EnvelopeValue → EnvelopeValue
-stepped i level e =
-    if e.state == attack then record e { v = attacked i e.v } else (
-    if e.state == decay then record e {
-      v = decayed i level e.v;
-      state = if nat_le level (decayed i level e.v) then sustain else decay;
-    } else record e { v = fallen i e.v })
+stepped i level e = stepped_in e.state i level e
 
 -- the envelope after a tick: the rate is that of the state in which it steps
 unfoldable pub ticked : ℕ → ℕ → ℕ → EnvelopeValue → EnvelopeValue
@@ -70,5 +65,5 @@ ticked counter rate level e = stepped (step counter rate) level (turned e)
 -- attack, at full level where the rate is 62 or more; one that is off gives release
 unfoldable pub keyed : Bool → ℕ → EnvelopeValue → EnvelopeValue
 keyed on rate e =
-    if not on then record e { on = false; state = release } else (
-    if e.on then e else record { v = if nat_le 62 rate then 0 else e.v; state = attack; on = true })
+    if not on then record e { on = false; state = Release } else (
+    if e.on then e else record { v = if nat_le 62 rate then 0 else e.v; state = Attack; on = true })

@@ -1,16 +1,8 @@
-ghost use Rattle.std.specs.Prelude.{◌≡◌, ◌<◌, ◌≤◌, ◌==◌, ◌&&◌};
+ghost use Rattle.std.specs.Prelude.{◌≡◌, ◌<◌, ◌≤◌};
 
+use crate::state::EnvelopeState;
 use crate::step::step;
 use crate::value::{attacked, decayed, fallen};
-
-/// The states of an envelope, as `Envelope::state` has them.
-pub const ATTACK: u8 = 0;
-
-pub const DECAY: u8 = 1;
-
-pub const SUSTAIN: u8 = 2;
-
-pub const RELEASE: u8 = 3;
 
 /// An attack at this rate or above is over at once.
 const AT_ONCE: u32 = 62;
@@ -23,12 +15,10 @@ const AT_ONCE: u32 = 62;
 pub struct Envelope {
     /// The attenuation, 0 the loudest, 1,023 silence.
     pub v: u16,
-    /// `ATTACK`, `DECAY`, `SUSTAIN` or `RELEASE`.
-    pub state: u8,
+    pub state: EnvelopeState,
     /// Whether the key is on.
     pub on: bool,
     pub ghost v_in_range: { v ≤ 1023 },
-    pub ghost state_in_range: { state ≤ 3 },
 }
 
 impl Envelope {
@@ -37,14 +27,12 @@ impl Envelope {
 
     /// The state in which it steps at its next tick: decay where an attack stands at 0.
     #[tactic(auto, unfolding(crate::specs::Envelopes::turned))]
-    pub fn stepping_state(&self) -> u8
+    pub fn stepping_state(&self) -> EnvelopeState
         ensures value { result ≡ meaning.stepping_state (plain self.now) }
-        ensures range { result ≤ 3 }
     {
-        if self.state == ATTACK && self.v == 0 {
-            DECAY
-        } else {
-            self.state
+        match self.state {
+            EnvelopeState::Attack if self.v == 0 => EnvelopeState::Decay,
+            state => state,
         }
     }
 
@@ -62,15 +50,15 @@ impl Envelope {
         self.turn();
         let v = u32::from(self.v);
         match self.state {
-            ATTACK => self.v = attacked(i, v) as u16,
-            DECAY => {
+            EnvelopeState::Attack => self.v = attacked(i, v) as u16,
+            EnvelopeState::Decay => {
                 let v = decayed(i, level, v);
                 self.v = v as u16;
                 if v >= level {
-                    self.state = SUSTAIN;
+                    self.state = EnvelopeState::Sustain;
                 }
             }
-            _ => self.v = fallen(i, v) as u16,
+            EnvelopeState::Sustain | EnvelopeState::Release => self.v = fallen(i, v) as u16,
         }
     }
 
@@ -78,7 +66,7 @@ impl Envelope {
     #[tactic(auto, unfolding(crate::specs::Envelopes::turned))]
     fn turn(&mut self)
         ensures value { plain self.new ≡ meaning.turned (plain self.old) }
-        ensures above { self.new.state ≡ 0 → 0 < self.new.v }
+        ensures above { self.new.state ≡ EnvelopeState.Attack → 0 < self.new.v }
     {
         self.state = self.stepping_state();
     }
@@ -92,9 +80,9 @@ impl Envelope {
         ensures value { plain self.new ≡ meaning.keyed on rate (plain self.old) }
     {
         if !on {
-            self.state = RELEASE;
+            self.state = EnvelopeState::Release;
         } else if !self.on {
-            self.state = ATTACK;
+            self.state = EnvelopeState::Attack;
             if rate >= AT_ONCE {
                 self.v = 0;
             }

@@ -2,7 +2,9 @@
 #![tactic(auto)]
 
 mod envelope;
+mod state;
 mod step;
 mod value;
 
-pub use envelope::{ATTACK, DECAY, Envelope, RELEASE, SUSTAIN};
+pub use envelope::Envelope;
+pub use state::EnvelopeState;

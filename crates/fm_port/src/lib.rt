@@ -2,9 +2,9 @@
 #![tactic(auto)]
 
 mod port;
-mod port_spelling;
 mod saved_port;
 mod saved_write;
+mod spelling;
 mod timer;
 mod timers;
 mod write;

@@ -1,3 +1,4 @@
 pub mod Journal
+pub mod Pair
 pub mod Ppm
 pub mod Wav

@@ -14,7 +14,7 @@ use Rattle.md_machine.specs.Rules.{perform, IsChip, next}
 use Rattle.md_machine.specs.Parts.{DrawValue, SubValue}
 use Rattle.md_machine.specs.declared.chips.Chip.{Chip}
 use Rattle.md_machine.specs.declared.chips.Chip.TheVariants.{Main, Sub, Draw, Fm, Psg}
-use Rattle.md_machine.specs.declared.main_chip.MainChip.{MainChip}
+use Rattle.md_machine.specs.declared.chips.main.MainChip.{MainChip}
 
 abbrev AnswerFits : MainChip → Type 0
 AnswerFits c = IfSome c.answer (Fits (request_of c.chip.cart c.chip.state))

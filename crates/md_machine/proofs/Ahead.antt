@@ -14,7 +14,7 @@ use Rattle.md_machine.specs.Parts.{SubValue}
 use Rattle.md_machine.specs.Pins.{level_in, sub_in}
 use Rattle.md_machine.specs.Rules.{five}
 use Rattle.md_machine.specs.declared.chips.Chip.TheVariants.{Main, Sub}
-use Rattle.md_machine.specs.declared.main_chip.MainChip.{MainChip}
+use Rattle.md_machine.specs.declared.chips.main.MainChip.{MainChip}
 use Rattle.md_machine.specs.declared.pins.Pins.{Pins}
 
 -- the chip in another state

@@ -1,8 +1,9 @@
-pub mod Ahead
 pub mod Advances
+pub mod Ahead
 pub mod Appended
 pub mod Assembled
 pub mod Counts
+pub mod Emptied
 pub mod FrameCounts
 pub mod Frames
 pub mod Handed
@@ -16,10 +17,9 @@ pub mod Moves
 pub mod OneRun
 pub mod Owners
 pub mod Pads
-pub mod Regions
 pub mod QuietStays
+pub mod Regions
 pub mod Samples
 pub mod Segments
-pub mod Silent
-pub mod ValidParts
 pub mod Start
+pub mod ValidParts

@@ -19,7 +19,7 @@ use Rattle.md_machine.specs.Lines.{drawn_from, told_view}
 use Rattle.md_machine.specs.Parts.{DrawValue, FmValue, PsgValue, SubValue}
 use Rattle.md_machine.specs.Refinement.{console, draw_of, fm_of, main_of, psg_of, record_of, sub_of}
 use Rattle.md_machine.specs.Rules.{IsChip, advance, five, next, perform, sample}
-use Rattle.md_machine.specs.declared.main_chip.MainChip.{MainChip}
+use Rattle.md_machine.specs.declared.chips.main.MainChip.{MainChip}
 use Rattle.z80_chip.specs.Events.{asked_of}
 use Rattle.z80_chip.specs.States.{next_of as sub_next_of}
 use Rattle.md_machine.specs.Pins.{pins_of}
@@ -194,5 +194,5 @@ told-same m valid =
     (λ c. batch_entry 11 (record { cycle = (fm_of c).cycle; chip = 3 }) (length (fm_ports.taken_below (fm_of c).cycle m.shared.fm.writes)) ∷ [])
     (m.chip 3) (Fm k3.0) k3.1 refl)
     (at-kind read
-    (λ c. batch_entry 12 (record { cycle = (psg_of c).cycle; chip = 4 }) (length (taken_below (psg_of c).cycle m.shared.held)) ∷ [])
+    (λ c. batch_entry 12 (record { cycle = (psg_of c).cycle; chip = 4 }) (length (taken_below (psg_of c).cycle m.shared.psg)) ∷ [])
     (m.chip 4) (Psg k4.0) k4.1 refl)

@@ -61,11 +61,11 @@ fm-kept m v is room =
 psg-kept : (m : Machine Chip Board) (v : PsgValue) → m.chip 4 ≡ Psg v → length (kept_in m).levels ≤ 1056 → (kept_in (move five m 4)).levels ≡ (kept_in m).levels ++ (rendered (console m) 4).levels
 unfolding console rendered put
 psg-kept m v is room =
-    let batch : List ℤ = samples (first_of v.cycle) v.synth (taken_below v.cycle m.shared.held) in
+    let batch : List ℤ = samples (first_of v.cycle) v.synth (taken_below v.cycle m.shared.psg) in
     let room' : length v.samples ≤ 1056 = subst (λ (c : Chip). length (psg_of c).samples ≤ 1056) is room in
     ap (λ (z : Machine Chip Board). (kept_in z).levels) (move-access m 4 (ap (λ (c : Chip). (next c).sample) is))
     ∙ at-kind (λ c. (psg_of (advance (perform c m.shared).chip)).samples)
-    (λ c. (psg_of c).samples ++ samples (first_of (psg_of c).cycle) (psg_of c).synth (taken_below (psg_of c).cycle m.shared.held))
+    (λ c. (psg_of c).samples ++ samples (first_of (psg_of c).cycle) (psg_of c).synth (taken_below (psg_of c).cycle m.shared.psg))
     (m.chip 4) (Psg v) is (kept-all v.samples batch room')
 
 -- a move keeps the sums that it makes, and the levels
@@ -106,7 +106,7 @@ sides-long z = five-each (λ i. length (rendered z i).sides ≡ 16 * cond (i == 
 pub levels-long : (z : Console) (i : ℕ) → i < 5 → length (rendered z i).levels ≡ 16 * cond (i == 4) 1 0
 unfolding rendered
 levels-long z =
-    five-each (λ i. length (rendered z i).levels ≡ 16 * cond (i == 4) 1 0) refl refl refl refl (length-samples (first_of z.psg_cycle) z.psg (taken_below z.psg_cycle z.shared.held))
+    five-each (λ i. length (rendered z i).levels ≡ 16 * cond (i == 4) 1 0) refl refl refl refl (length-samples (first_of z.psg_cycle) z.psg (taken_below z.psg_cycle z.shared.psg))
 
 -- the two sound chips
 unfoldable pub fm_part : Part (ℤ × ℤ)

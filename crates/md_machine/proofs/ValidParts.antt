@@ -23,7 +23,7 @@ use Rattle.md_machine.specs.Refinement.{console, draw_of, main_of, psg_of, sub_o
 use Rattle.md_machine.specs.Rules.{IsChip, five}
 use Rattle.md_machine.specs.declared.chips.Chip.{Chip}
 use Rattle.md_machine.specs.declared.chips.Chip.TheVariants.{Main, Sub, Draw, Fm, Psg}
-use Rattle.md_machine.specs.declared.main_chip.MainChip.{MainChip}
+use Rattle.md_machine.specs.declared.chips.main.MainChip.{MainChip}
 use Rattle.md_machine.proofs.Lifts.{Movers, ValidTo, ran-same}
 use Rattle.md_machine.proofs.Moves.{five-each, kind0, kind1, kind2, kind4}
 use Rattle.md_machine.proofs.Segments.{below-lift}

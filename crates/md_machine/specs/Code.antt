@@ -30,7 +30,7 @@ use Rattle.md_pads.specs.declared.version.Version.TheVariants.{First, Second}
 use Rattle.md_machine.specs.FmCode.{fm_way, port_way}
 use Rattle.md_machine.specs.VdpCode.{draw_way, vdp_way}
 use Rattle.md_machine.specs.Parts.{DrawValue, FmValue, PsgValue, SubValue}
-use Rattle.md_machine.specs.declared.main_chip.MainChip.{MainChip}
+use Rattle.md_machine.specs.declared.chips.main.MainChip.{MainChip}
 use Rattle.md_machine.specs.declared.chips.Chip.{Chip}
 use Rattle.md_machine.specs.declared.chips.Chip.TheVariants.{Main, Sub, Draw, Fm, Psg}
 
@@ -349,13 +349,13 @@ pad_way =
 abbrev pub board_way : Way Board
 board_way =
     by_way (both (both (both recording_way frame_way) (both pad_way pad_way)) (both (both (both (many write_way) port_way) flag) (both (both flag number) (both (maybe store_way) vdp_way))))
-    (λ b. (((b.recording, b.pads), (b.port1, b.port2)), (((b.held, b.fm), b.request), ((b.reset, b.resets), (b.store, b.vdp)))))
+    (λ b. (((b.recording, b.pads), (b.port1, b.port2)), (((b.psg, b.fm), b.request), ((b.reset, b.resets), (b.store, b.vdp)))))
     (λ p. record {
       recording = p.0.0.0;
       pads = p.0.0.1;
       port1 = p.0.1.0;
       port2 = p.0.1.1;
-      held = p.1.0.0.0;
+      psg = p.1.0.0.0;
       fm = p.1.0.0.1;
       request = p.1.0.1;
       reset = p.1.1.0.0;

@@ -140,7 +140,7 @@ fm_moved m = record m {
 -- the PSG takes the writes below its cycle and makes a batch of 16 samples
 unfoldable pub psg_moved : Console → Console
 psg_moved m = record m {
-  psg = after_batch (first_of m.psg_cycle) m.psg (taken_below m.psg_cycle m.shared.held);
+  psg = after_batch (first_of m.psg_cycle) m.psg (taken_below m.psg_cycle m.shared.psg);
   psg_cycle = m.psg_cycle + 16128;
   shared = psg_board m.shared m.psg_cycle;
 }
@@ -160,14 +160,14 @@ told m i =
     (cond (i == 1) (cond (sub_next_of m.sub.state).sample [] ((sub_accessed m).entry ∷ []))
     (cond (i == 2) (let after = line_board m.shared m.line m.note in line_entry after.vdp.pal (record { cycle = m.line; chip = 2 }) (level_of after) ∷ [])
     (cond (i == 3) (batch_entry 11 (record { cycle = m.fm_cycle; chip = 3 }) (length (fm_taken m)) ∷ [])
-    (batch_entry 12 (record { cycle = m.psg_cycle; chip = 4 }) (length (taken_below m.psg_cycle m.shared.held)) ∷ []))))
+    (batch_entry 12 (record { cycle = m.psg_cycle; chip = 4 }) (length (taken_below m.psg_cycle m.shared.psg)) ∷ []))))
 
 -- the frames and the samples that it makes
 unfoldable pub rendered : Console → ℕ → Media
 rendered m i = record {
   frames = cond (i == 2) (frames_of (line_done m).frame) [];
   sides = cond (i == 3) (fm_batches.samples (first_of m.fm_cycle) m.fm (fm_taken m)) [];
-  levels = cond (i == 4) (samples (first_of m.psg_cycle) m.psg (taken_below m.psg_cycle m.shared.held)) [];
+  levels = cond (i == 4) (samples (first_of m.psg_cycle) m.psg (taken_below m.psg_cycle m.shared.psg)) [];
 }
 
 -- the chip of least key

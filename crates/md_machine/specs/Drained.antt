@@ -20,13 +20,13 @@ abbrev pub levels_of : Chip → List ℤ
 levels_of c = (psg_of c).samples
 
 -- the chip without its frame or samples
-abbrev pub silent : Chip → Chip
-silent (Main c) = Main c
-silent (Sub c) = Sub c
-silent (Draw c) = Draw (record c { chip = record c.chip { frame = None } })
-silent (Fm c) = Fm (record c { samples = [] })
-silent (Psg c) = Psg (record c { samples = [] })
+abbrev pub emptied : Chip → Chip
+emptied (Main c) = Main c
+emptied (Sub c) = Sub c
+emptied (Draw c) = Draw (record c { chip = record c.chip { frame = None } })
+emptied (Fm c) = Fm (record c { samples = [] })
+emptied (Psg c) = Psg (record c { samples = [] })
 
 -- the core without the frame or samples that the chip of a number keeps
-abbrev pub silenced : CoreValue Chip Board → ℕ → CoreValue Chip Board
-silenced core number = record core { chips = slice_set core.chips number (silent (chip_in five core.chips number)) }
+abbrev pub with_emptied : CoreValue Chip Board → ℕ → CoreValue Chip Board
+with_emptied core number = record core { chips = slice_set core.chips number (emptied (chip_in five core.chips number)) }

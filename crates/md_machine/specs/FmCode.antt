@@ -7,6 +7,7 @@ use Rattle.md_word.specs.declared.key.Key.{Key}
 use Rattle.chip_core.specs.Codes.{key_way}
 use Rattle.fm_port.specs.Port.{Port}
 use Rattle.fm_chip.specs.Synth.{Synth}
+use Rattle.fm_chip.specs.SynthSpelling.{state_again, state_number, state_of}
 use Rattle.fm_chip.specs.declared.channels.Channel.{Channel}
 use Rattle.fm_chip.specs.declared.lfo.Lfo.{Lfo}
 use Rattle.fm_chip.specs.declared.operator.Operator.{Operator}
@@ -18,8 +19,9 @@ use Rattle.md_machine.specs.Parts.{FmValue}
 -- the way of an operator
 abbrev pub operator_way : Way Operator
 operator_way =
-    by_way (both (both number number) (both number flag)) (λ o. ((o.phase, o.v), (o.state, o.on)))
-    (λ p. record { phase = p.0.0; v = p.0.1; state = p.1.0; on = p.1.1 }) (λ o. refl)
+    by_way (both (both number number) (both number flag)) (λ o. ((o.phase, o.v), (state_number o.state, o.on)))
+    (λ p. record { phase = p.0.0; v = p.0.1; state = state_of p.1.0; on = p.1.1 })
+    (λ o i. record { phase = o.phase; v = o.v; state = state_again o.state i; on = o.on })
 
 -- the way of a channel
 abbrev pub channel_way : Way Channel

@@ -37,7 +37,7 @@ use Rattle.z80_parcel.specs.Requests as fits80
 use Rattle.z80_parcel.specs.Requests.{RequestValue80, ReadByte, WriteByte, HandOver, TakeBack, AnswerValue80, Byte, Nothing, Returned}
 use Rattle.md_machine.specs.Pins.{level_in, pins_by, pins_of, sub_in}
 use Rattle.md_machine.specs.declared.pins.Pins.TheVariants as pins
-use Rattle.md_machine.specs.declared.main_chip.MainChip.{MainChip}
+use Rattle.md_machine.specs.declared.chips.main.MainChip.{MainChip}
 use Rattle.bus_shared.proofs.Values.{tells}
 use Rattle.m68k_chip.proofs.Laws.{answered-later, answered-ok, begun-later, begun-ok}
 use Rattle.psg_sound.specs.PortLaws.{taken_below-few}
@@ -204,9 +204,9 @@ fm-ok c s ok board = record {
 
 psg-ok : (c : PsgValue) (s : Board) → IsPsg c → IsBoard s → IsPsg (psg_advance (psg_perform c s).chip)
 psg-ok c s ok board = record {
-  synth = IsSynth-after_batch (first_of c.cycle) c.synth (taken_below c.cycle s.held) ok.synth;
-  taken = taken_below-few c.cycle s.held board.held;
-  samples = kept-few c.samples (samples (first_of c.cycle) c.synth (taken_below c.cycle s.held)) (length-samples (first_of c.cycle) c.synth (taken_below c.cycle s.held)) ok.samples;
+  synth = IsSynth-after_batch (first_of c.cycle) c.synth (taken_below c.cycle s.psg) ok.synth;
+  taken = taken_below-few c.cycle s.psg board.psg;
+  samples = kept-few c.samples (samples (first_of c.cycle) c.synth (taken_below c.cycle s.psg)) (length-samples (first_of c.cycle) c.synth (taken_below c.cycle s.psg)) ok.samples;
 }
 
 draw-ok : (c : DrawValue) (s : Board) → IsDraw c → IsDraw (draw_advance (draw_perform c s).chip)

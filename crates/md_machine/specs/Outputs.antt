@@ -3,10 +3,10 @@ use Rattle.std.specs.Prelude.{◌≡◌, ◌⊎◌, ℕ, ◌+◌, ℤ, pos, Bool
 use Rattle.std.proofs.Common.{inl, inr}
 use Rattle.std.specs.List.{flat_map}
 use Rattle.md_files.specs.Journal.{entry_bytes}
+use Rattle.md_files.specs.Pair.{mixed}
 use Rattle.md_word.specs.Region.{picture_length}
 use Rattle.md_files.specs.Wav.{pair_bytes}
 use Rattle.md_word.specs.declared.event.Entry.{Entry}
-use Rattle.psg_sound.specs.Pair.{mixed}
 use Rattle.md_files.specs.Ppm.{ppm_head}
 use Rattle.md_machine.specs.Media.{Media}
 

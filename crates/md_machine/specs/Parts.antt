@@ -3,7 +3,7 @@ use Rattle.std.specs.Prelude.{◌≡◌, ℕ, ℤ, ◌≤◌, not, List, length,
 use Rattle.m68k_chip.specs.Validity.{IsChip68}
 use Rattle.z80_chip.specs.Validity.{Chip80Value, IsChip80}
 use Rattle.z80_parcel.specs.Requests.{AnswerValue80}
-use Rattle.md_machine.specs.declared.main_chip.MainChip.{MainChip}
+use Rattle.md_machine.specs.declared.chips.main.MainChip.{MainChip}
 use Rattle.vdp_planes.specs.declared.view.LineView.{LineView}
 use Rattle.vdp_chip.specs.Drawing.{Drawing, IsDrawing}
 use Rattle.fm_chip.specs.Synth as fm_synths

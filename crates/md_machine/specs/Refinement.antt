@@ -9,7 +9,7 @@ use Rattle.md_machine.specs.Console.{Console}
 use Rattle.md_machine.specs.Lines.{no_drawing}
 use Rattle.bus_shared.specs.Board.{Board}
 use Rattle.md_machine.specs.Parts.{DrawValue, FmValue, PsgValue, SubValue}
-use Rattle.md_machine.specs.declared.main_chip.MainChip.{MainChip}
+use Rattle.md_machine.specs.declared.chips.main.MainChip.{MainChip}
 use Rattle.md_machine.specs.declared.chips.Chip.{Chip}
 use Rattle.md_machine.specs.declared.chips.Chip.TheVariants.{Main, Sub, Draw, Fm, Psg}
 

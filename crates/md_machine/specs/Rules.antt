@@ -25,7 +25,7 @@ use Rattle.vdp_planes.specs.declared.view.LineView.{LineView}
 use Rattle.vdp_planes.specs.View.{view_of}
 use Rattle.vdp_chip.specs.Drawing as drawings
 use Rattle.md_machine.specs.Lines.{drawn_from, no_drawing, told_view, untold}
-use Rattle.md_machine.specs.declared.main_chip.MainChip.{MainChip}
+use Rattle.md_machine.specs.declared.chips.main.MainChip.{MainChip}
 use Rattle.md_machine.specs.declared.chips.Chip.{Chip}
 use Rattle.md_machine.specs.declared.chips.Chip.TheVariants.{Main, Sub, Draw, Fm, Psg}
 
@@ -136,9 +136,9 @@ fm_advance c =
 abbrev pub psg_perform : PsgValue → Board → Accessed PsgValue Board
 psg_perform c b =
     record {
-      chip = record c { taken = taken_below c.cycle b.held };
+      chip = record c { taken = taken_below c.cycle b.psg };
       shared = psg_board b c.cycle;
-      entry = batch_entry 12 (psg_next c.cycle).key (length (taken_below c.cycle b.held));
+      entry = batch_entry 12 (psg_next c.cycle).key (length (taken_below c.cycle b.psg));
     }
 
 -- it makes its batch, and keeps the samples

@@ -1,8 +1,14 @@
-use crate::draw::DrawChip;
-use crate::fm::FmChip;
-use crate::main_chip::MainChip;
-use crate::psg_chip::PsgChip;
-use crate::sub_chip::SubChip;
+pub(crate) mod draw;
+pub(crate) mod fm;
+pub(crate) mod main;
+pub(crate) mod psg;
+pub(crate) mod sub;
+
+use draw::DrawChip;
+use fm::FmChip;
+use main::MainChip;
+use psg::PsgChip;
+use sub::SubChip;
 
 /// A chip of the machine.
 #[derive(Drop)]

@@ -6,15 +6,14 @@ ghost use Rattle.md_machine.specs.Outputs.{first_sums, frame_length, frames_byte
 ghost use Rattle.chip_core.specs.Cores.{IsCore};
 ghost use Rattle.bus_shared.specs.Board.{IsBoard};
 ghost use Rattle.md_machine.specs.Drained as drained;
-ghost use Rattle.md_machine.specs.Drained.{silenced};
+ghost use Rattle.md_machine.specs.Drained.{with_emptied};
 ghost use Rattle.md_machine.specs.Rules.{IsChip, five};
 
 use crate::chips::Chip;
 use crate::set::MdChips;
 use chip_core::Core;
-use md_files::{ppm_head, put_entry, put_frame, put_pair};
+use md_files::{mix, ppm_head, put_entry, put_frame, put_pair};
 use md_word::Entry;
-use psg_sound::mix;
 
 /// Appends the records of entries.
 pub(crate) fn put_entries(entries: &[Entry], into: &mut Vec<u8>)
@@ -115,19 +114,19 @@ pub(crate) fn levels_in(chip: &Chip) -> &[i32]
 }
 
 /// Lets the frame or the samples go that the chip of a number keeps.
-pub(crate) fn silence_chip(core: &mut Core<MdChips>, number: usize)
+pub(crate) fn empty_chip(core: &mut Core<MdChips>, number: usize)
     requires { number < 5 }
-    ensures value { core.new ≡ silenced core.old number }
+    ensures value { core.new ≡ with_emptied core.old number }
     ensures core { IsCore five IsChip IsBoard core.new }
 {
     core.chips();
-    core.change(number, silence);
+    core.change(number, empty);
     core.chips();
 }
 
 /// Lets the frame or the samples go that a chip keeps.
-fn silence(chip: &mut Chip)
-    ensures { chip.new ≡ drained.silent chip.old }
+fn empty(chip: &mut Chip)
+    ensures { chip.new ≡ drained.emptied chip.old }
 {
     match chip {
         Chip::Fm(fm) => fm.drain(),

@@ -5,12 +5,12 @@ ghost use Rattle.bus_shared.specs.Board.{power_on};
 ghost use Rattle.md_machine.specs.First as first;
 
 use crate::chips::Chip;
-use crate::draw::DrawChip;
-use crate::fm::FmChip;
-use crate::main_chip::MainChip;
-use crate::psg_chip::PsgChip;
+use crate::chips::draw::DrawChip;
+use crate::chips::fm::FmChip;
+use crate::chips::main::MainChip;
+use crate::chips::psg::PsgChip;
 use crate::set::MdChips;
-use crate::sub_chip::SubChip;
+use crate::chips::sub::SubChip;
 use bus_shared::Shared;
 use chip_core::Core;
 use m68k_chip::Chip68;

@@ -5,7 +5,7 @@ ghost use Rattle.md_word.specs.Region.{frame_cycles};
 ghost use Rattle.chip_core.specs.Cores.{CoreValue, IsCore, machine_of};
 ghost use Rattle.chip_core.specs.Machines.{IsQuiet};
 ghost use Rattle.bus_shared.specs.Board.{Board, IsBoard};
-ghost use Rattle.md_machine.specs.Drained.{silenced};
+ghost use Rattle.md_machine.specs.Drained.{with_emptied};
 ghost use Rattle.md_machine.specs.declared.chips.Chip.{Chip};
 ghost use Rattle.md_machine.specs.Console.{AllBelow, IsRunTo, key_in, mover, power_on};
 ghost use Rattle.md_machine.specs.Outputs.{frame_length, frames_bytes, journal_bytes, sound_bytes};
@@ -18,7 +18,7 @@ ghost use Rattle.md_machine.specs.ValidParts.{HasValidParts};
 ghost use Rattle.md_machine.specs.Media.{no_media};
 
 use crate::drains::{
-    frame_in, levels_in, put_entries, put_frames, put_pairs, sides_in, silence_chip,
+    frame_in, levels_in, put_entries, put_frames, put_pairs, sides_in, empty_chip,
 };
 use crate::first::{first_bounds, first_chips};
 use crate::least::least_key;
@@ -238,7 +238,7 @@ impl Machine {
     {
         let pal = self.pal();
         put_frames(frame_in(&self.core().chips()[2]), pal, into);
-        self.silence_draw();
+        self.empty_draw();
     }
 
     /// Appends the pairs of samples that were made since the machine was last drained.
@@ -251,8 +251,8 @@ impl Machine {
     {
         let chips = self.core().chips();
         put_pairs(levels_in(&chips[4]), sides_in(&chips[3]), into);
-        self.silence_fm();
-        self.silence_psg();
+        self.empty_fm();
+        self.empty_psg();
     }
 
     /// The core.
@@ -277,34 +277,34 @@ impl Machine {
     }
 
     /// Lets the frame or the samples go that the chip of a number keeps.
-    fn silence(&mut self, number: usize)
+    fn empty(&mut self, number: usize)
         requires { number < 5 }
         ensures { (core : CoreValue Chip Board) × (machine_at self.old.at core ≡ self.old) × IsCore five IsChip IsBoard core
-            × (self.new ≡ machine_at self.old.at (silenced core number)) }
+            × (self.new ≡ machine_at self.old.at (with_emptied core number)) }
     {
         if let Some(core) = &mut self.core {
-            silence_chip(core, number);
+            empty_chip(core, number);
         }
     }
 
     /// Lets the frame go.
-    fn silence_draw(&mut self)
+    fn empty_draw(&mut self)
         ensures { self.new ≡ record self.old { media = record self.old.media { frames = [] } } }
     {
-        self.silence(2);
+        self.empty(2);
     }
 
     /// Lets the FM synthesis' samples go.
-    fn silence_fm(&mut self)
+    fn empty_fm(&mut self)
         ensures { self.new ≡ record self.old { media = record self.old.media { sides = [] } } }
     {
-        self.silence(3);
+        self.empty(3);
     }
 
     /// Lets the PSG's samples go.
-    fn silence_psg(&mut self)
+    fn empty_psg(&mut self)
         ensures { self.new ≡ record self.old { media = record self.old.media { levels = [] } } }
     {
-        self.silence(4);
+        self.empty(4);
     }
 }

@@ -9,13 +9,13 @@ ghost use Rattle.md_machine.specs.Rules.{IsChip, five};
 ghost use Rattle.md_machine.specs.Starts.{first_batch as batch_from};
 
 use crate::chips::Chip;
-use crate::draw::DrawChip;
-use crate::fm::FmChip;
+use crate::chips::draw::DrawChip;
+use crate::chips::fm::FmChip;
 use crate::machine::{Machine, most_entries};
-use crate::main_chip::MainChip;
-use crate::psg_chip::PsgChip;
+use crate::chips::main::MainChip;
+use crate::chips::psg::PsgChip;
 use crate::set::MdChips;
-use crate::sub_chip::SubChip;
+use crate::chips::sub::SubChip;
 use bus_shared::Shared;
 use chip_core::{ChipSet, Core};
 use fm_chip::FmSynth;

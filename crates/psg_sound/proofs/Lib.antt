@@ -1,5 +1,4 @@
 pub mod Courses
-pub mod Halves
 pub mod Heard
 pub mod Histories
 pub mod Levels

@@ -1,6 +1,5 @@
 pub mod Batches
 pub mod History
-pub mod Pair
 pub mod Port
 pub mod PortLaws
 pub mod PortSpelling

@@ -1,11 +1,9 @@
-//! The programmable sound generator (PSG): the port that takes its writes, the synthesis of its
-//! level, and the mixed pair.
+//! The programmable sound generator (PSG): the port that takes its writes, and the synthesis of its level.
 #![tactic(auto)]
 
 mod amplitude;
 mod divider;
 mod noise;
-mod pair;
 mod port;
 mod saved_port;
 mod saved_synth;
@@ -14,7 +12,6 @@ mod synth;
 mod tone;
 mod write;
 
-pub use pair::mix;
 pub use port::PsgPort;
 pub use synth::PsgSynth;
 pub use write::{PsgList, PsgWrite};

@@ -61,12 +61,12 @@ record Owners (bytes : List ℕ) (m : Console) : Type 0 where
   numbers : part_of sub_part bytes ≡ number_bytes m.sub.state
   store : part_of store_part bytes ≡ shared.store_bytes (store_of m)
 
-shared_cut : (cart : List ℕ) (recording : Recorded) (bytes : List ℕ) (m : MachineValue) → length bytes ≡ 393620 → IsMachineOf cart recording bytes m → (length (shared.store_bytes m.console.shared.store) ≡ shared.store_size (holder_in bytes == 1)) × ((holder_in bytes == 1) ≡ true → part_of store_part bytes ≡ shared.store_bytes m.console.shared.store) × AreBehind bytes (vdp_bytes m.console.shared.vdp) (fm_port.port_bytes m.console.shared.fm) (psg_port.port_bytes m.console.shared.held) (shared.lines_bytes (lines_of m.console.shared))
+shared_cut : (cart : List ℕ) (recording : Recorded) (bytes : List ℕ) (m : MachineValue) → length bytes ≡ 393620 → IsMachineOf cart recording bytes m → (length (shared.store_bytes m.console.shared.store) ≡ shared.store_size (holder_in bytes == 1)) × ((holder_in bytes == 1) ≡ true → part_of store_part bytes ≡ shared.store_bytes m.console.shared.store) × AreBehind bytes (vdp_bytes m.console.shared.vdp) (fm_port.port_bytes m.console.shared.fm) (psg_port.port_bytes m.console.shared.psg) (shared.lines_bytes (lines_of m.console.shared))
 shared_cut cart recording bytes m long is =
     let b = m.console.shared in
     let s = is.shared.spells in
-    cut_shared bytes (shared.store_bytes b.store) (vdp_bytes b.vdp) (fm_port.port_bytes b.fm) (psg_port.port_bytes b.held) (shared.lines_bytes (lines_of b)) (holder_in bytes == 1) long
-    (vdp_long (at_of bytes) (region_of bytes) (vdp_bytes b.vdp) b.vdp s.vdp) (fm_port_long (at_of bytes) (fm_port.port_bytes b.fm) b.fm s.fm) (psg_port_long (at_of bytes) (psg_port.port_bytes b.held) b.held s.held) (lines_long (at_of bytes) (region_of bytes) (shared_bytes bytes) b s) s.all
+    cut_shared bytes (shared.store_bytes b.store) (vdp_bytes b.vdp) (fm_port.port_bytes b.fm) (psg_port.port_bytes b.psg) (shared.lines_bytes (lines_of b)) (holder_in bytes == 1) long
+    (vdp_long (at_of bytes) (region_of bytes) (vdp_bytes b.vdp) b.vdp s.vdp) (fm_port_long (at_of bytes) (fm_port.port_bytes b.fm) b.fm s.fm) (psg_port_long (at_of bytes) (psg_port.port_bytes b.psg) b.psg s.held) (lines_long (at_of bytes) (region_of bytes) (shared_bytes bytes) b s) s.all
 
 owners : (cart : List ℕ) (recording : Recorded) (bytes : List ℕ) (m : MachineValue) → length bytes ≡ 393620 → IsMachineOf cart recording bytes m → Owners bytes m.console
 owners cart recording bytes m long is =
@@ -146,9 +146,9 @@ saved_there cart recording bytes digest m form d is =
         spells = subst (λ (l : List ℕ). fm_port.SpellsPort (at_of bytes) l c.shared.fm) (sym p.fm_port) is.shared.spells.fm;
         late = late;
       }));
-      psg_writes = (λ i. are_psg_early (next i) (numbers.next i) c.shared.held) ∙ yes (are_psg_early (main_next bytes) (sub_next bytes) c.shared.held) (λ late. is.psg.writes (record {
-        port = c.shared.held;
-        spells = subst (λ (l : List ℕ). psg_port.SpellsPort (at_of bytes) l c.shared.held) (sym p.psg_port) is.shared.spells.held;
+      psg_writes = (λ i. are_psg_early (next i) (numbers.next i) c.shared.psg) ∙ yes (are_psg_early (main_next bytes) (sub_next bytes) c.shared.psg) (λ late. is.psg.writes (record {
+        port = c.shared.psg;
+        spells = subst (λ (l : List ℕ). psg_port.SpellsPort (at_of bytes) l c.shared.psg) (sym p.psg_port) is.shared.spells.psg;
         late = late;
       }));
     }

@@ -47,7 +47,7 @@ pub record AreParts (digest : List ℕ) (at : ℕ) (m : Console) (bytes : List �
   pub fm_next : number_at w64 fm_next_part.place bytes ≡ first_batch at
   pub fm : part_of fm_part bytes ≡ fm.synth_bytes m.fm
   pub psg_next : number_at w64 psg_next_part.place bytes ≡ first_batch at
-  pub psg_port : part_of psg_port_part bytes ≡ psg_port.port_bytes m.shared.held
+  pub psg_port : part_of psg_port_part bytes ≡ psg_port.port_bytes m.shared.psg
   pub psg : part_of psg_part bytes ≡ psg.synth_bytes m.psg
   pub lines : part_of board_part bytes ≡ shared.lines_bytes (lines_of m.shared)
 

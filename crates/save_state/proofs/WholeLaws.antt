@@ -81,7 +81,7 @@ fields_within cart start d s =
                               (
                                 batch_fits start.at s.near,
                                 (
-                                  psg_port_long start.at (psg_port.port_bytes m.shared.held) m.shared.held s.shared.held,
+                                  psg_port_long start.at (psg_port.port_bytes m.shared.psg) m.shared.psg s.shared.psg,
                                   (
                                     psg_long (psg.synth_bytes m.psg) m.psg s.psg,
                                     (lines_long start.at m.pal (shared.board_bytes m.shared) m.shared s.shared, tt),
@@ -119,7 +119,7 @@ whole_sub digest bytes at m owner p =
 whole_shared : (digest bytes : List ℕ) (at : ℕ) (m : Console) → AreParts digest at m bytes → shared_bytes bytes ≡ shared.board_bytes m.shared
 whole_shared digest bytes at m p =
     let h = zero_one (is_some m.shared.store) (holder_in bytes) p.holder in
-    gathered_shared bytes (vdp_bytes m.shared.vdp) (fm_port.port_bytes m.shared.fm) (psg_port.port_bytes m.shared.held) (shared.lines_bytes (lines_of m.shared)) (holder_in bytes == 1) m.shared.store (sym h.1) (λ e. p.store ∙ ap shared.store_bytes (ours m.shared.store m.sub.state.store (sym h.1 ∙ e))) p.video p.fm_port p.psg_port p.lines where
+    gathered_shared bytes (vdp_bytes m.shared.vdp) (fm_port.port_bytes m.shared.fm) (psg_port.port_bytes m.shared.psg) (shared.lines_bytes (lines_of m.shared)) (holder_in bytes == 1) m.shared.store (sym h.1) (λ e. p.store ∙ ap shared.store_bytes (ours m.shared.store m.sub.state.store (sym h.1 ∙ e))) p.video p.fm_port p.psg_port p.lines where
       ours : (a b : Option Store) → is_some a ≡ true → (if is_some a then a else b) ≡ a
       ours (Some x) b e = refl
       ours None b e = absurd cc
@@ -138,11 +138,11 @@ not_late_fm cart digest bytes start s p late =
 not_late_psg : (cart digest bytes : List ℕ) (start : Start) → IsSaved cart start → AreParts digest start.at start.console bytes → ¬ HasLatePsg bytes
 not_late_psg cart digest bytes start s p late =
     let m = start.console in
-    let kept : psg_port.SpellsPort (at_of bytes) (part_of psg_port_part bytes) m.shared.held = subst (λ (a : ℕ). psg_port.SpellsPort a (part_of psg_port_part bytes) m.shared.held) (sym p.at_is) (subst (λ (l : List ℕ). psg_port.SpellsPort start.at l m.shared.held) (sym p.psg_port) s.shared.held) in
-    let same = psg_once (at_of bytes) (part_of psg_port_part bytes) late.port m.shared.held late.spells kept in
+    let kept : psg_port.SpellsPort (at_of bytes) (part_of psg_port_part bytes) m.shared.psg = subst (λ (a : ℕ). psg_port.SpellsPort a (part_of psg_port_part bytes) m.shared.psg) (sym p.at_is) (subst (λ (l : List ℕ). psg_port.SpellsPort start.at l m.shared.psg) (sym p.psg_port) s.shared.psg) in
+    let same = psg_once (at_of bytes) (part_of psg_port_part bytes) late.port m.shared.psg late.spells kept in
     let next = main_next_is cart digest bytes start.at m p s.main in
     let second = (sub_numbers_are cart digest bytes start.at m p s.sub).next in
-    let e : are_psg_early (main_next bytes) (sub_next bytes) late.port ≡ are_psg_early m.main.next m.sub.state.next m.shared.held = λ i. are_psg_early (sym next i) (sym second i) (same i) in
+    let e : are_psg_early (main_next bytes) (sub_next bytes) late.port ≡ are_psg_early m.main.next m.sub.state.next m.shared.psg = λ i. are_psg_early (sym next i) (sym second i) (same i) in
     let f : true ≡ false = sym s.psg_writes ∙ sym e ∙ late.late in
     absurd cc
 

@@ -74,7 +74,7 @@ numbers_cut bytes s ok e long =
 pub record IsBehind (at : ℕ) (b : Board) (rest : List ℕ) : Type 0 where
   pub video : part_of (record { place = 0; size = 65813 }) rest ≡ vdp_bytes (shared.settled_board at b).vdp
   pub fm_port : part_of (record { place = 65813; size = 12316 }) rest ≡ fm_port.port_bytes (shared.settled_board at b).fm
-  pub psg_port : part_of (record { place = 78129; size = 10242 }) rest ≡ psg_port.port_bytes b.held
+  pub psg_port : part_of (record { place = 78129; size = 10242 }) rest ≡ psg_port.port_bytes b.psg
   pub lines : part_of (record { place = 88371; size = 36 }) rest ≡ shared.lines_bytes (lines_of b)
 
 four_cut : (v f p l : List ℕ) → length v ≡ 65813 → length f ≡ 12316 → length p ≡ 10242 → length l ≡ 36 → (take 65813 (drop 0 (v ++ (f ++ (p ++ l)))) ≡ v) × (take 12316 (drop 65813 (v ++ (f ++ (p ++ l)))) ≡ f) × (take 10242 (drop 78129 (v ++ (f ++ (p ++ l)))) ≡ p) × (take 36 (drop 88371 (v ++ (f ++ (p ++ l)))) ≡ l)
@@ -94,11 +94,11 @@ behind_cut at b ok long =
     let s = shared.settled_board at b in
     let v = vdp_bytes s.vdp in
     let f = fm_port.port_bytes s.fm in
-    let p = psg_port.port_bytes b.held in
+    let p = psg_port.port_bytes b.psg in
     let l = shared.lines_bytes (lines_of b) in
     let store = shared_laws.store_long b.store ok.store in
     let flen = fm_port_full at b.fm ok.fm.most in
-    let plen = psg_port_full b.held ok.held.most in
+    let plen = psg_port_full b.psg ok.psg.most in
     let llen = lines_full (lines_of b) in
     let vlen : length v ≡ 65813 = left (shared.store_bytes b.store) v f p l (shared.store_size (is_some b.store)) store flen plen llen (long ∙ size_split (is_some b.store)) in
     let rest : drop (shared.store_size (is_some b.store)) (shared.board_bytes s) ≡ v ++ (f ++ (p ++ l)) = drop_at (shared.store_bytes b.store) (v ++ (f ++ (p ++ l))) (shared.store_size (is_some b.store)) store in
@@ -124,7 +124,7 @@ rest_long bytes rest false some h long r = omega (arith, long, ap shared.board_s
 pub store_cut : (at : ℕ) (m : Console) (sub_part board : List ℕ) (has : Bool) → IsBoard m.shared → has ≡ is_some m.shared.store → drop 62 sub_part ≡ shared.store_bytes m.sub.state.store → board ≡ shared.board_bytes (shared.settled_board at m.shared) → (if has then take 8194 board else drop 62 sub_part) ≡ shared.store_bytes (store_of m)
 store_cut at m sub_part board has ok h s e = by has m.shared.store h (shared_laws.store_long m.shared.store ok.store) s e where
   rest : List ℕ
-  rest = vdp_bytes (shared.settled_board at m.shared).vdp ++ (fm_port.port_bytes (shared.settled_board at m.shared).fm ++ (psg_port.port_bytes m.shared.held ++ shared.lines_bytes (lines_of m.shared)))
+  rest = vdp_bytes (shared.settled_board at m.shared).vdp ++ (fm_port.port_bytes (shared.settled_board at m.shared).fm ++ (psg_port.port_bytes m.shared.psg ++ shared.lines_bytes (lines_of m.shared)))
 
   by : (has : Bool) (store : Option Store) → has ≡ is_some store → length (shared.store_bytes store) ≡ shared.store_size (is_some store) → drop 62 sub_part ≡ shared.store_bytes m.sub.state.store → board ≡ shared.store_bytes store ++ rest → (if has then take 8194 board else drop 62 sub_part) ≡ shared.store_bytes (if is_some store then store else m.sub.state.store)
   by true (Some x) h long s e = ap (take 8194) e ∙ take_at (shared.store_bytes (Some x)) rest 8194 long
@@ -143,7 +143,7 @@ regroup a b c q d e f g h i j k l m n o p = simp (append_assoc, append-nil)
 pub written : (at : ℕ) (m : Console) (digest region numbers holder store video drawn port batch pairs lines : List ℕ) (d : Drawing) (r0 r1 r2 r3 r4 : List ℕ)
     → digest ≡ sha256 m.cart → region ≡ flag_number m.pal ∷ [] → numbers ≡ number_bytes m.sub.state → holder ≡ holder_of m ∷ [] → store ≡ shared.store_bytes (store_of m)
     → video ≡ vdp_bytes (shared.settled_board at m.shared).vdp → drawn ≡ drawing.drawing_bytes d → d.next ≡ m.line → d.note ≡ m.note → d.picture ≡ m.picture
-    → port ≡ fm_port.port_bytes (shared.settled_board at m.shared).fm → batch ≡ to_be_bytes w64 (first_batch at) → pairs ≡ psg_port.port_bytes m.shared.held → lines ≡ shared.lines_bytes (lines_of m.shared)
+    → port ≡ fm_port.port_bytes (shared.settled_board at m.shared).fm → batch ≡ to_be_bytes w64 (first_batch at) → pairs ≡ psg_port.port_bytes m.shared.psg → lines ≡ shared.lines_bytes (lines_of m.shared)
     → r0 ≡ [] ++ (mark ++ (digest ++ (to_be_bytes w64 at ++ region)))
     → r1 ≡ r0 ++ main.chip_bytes m.main
     → r2 ≡ r1 ++ (numbers ++ (holder ++ (store ++ video)))
@@ -153,8 +153,8 @@ pub written : (at : ℕ) (m : Console) (digest region numbers holder store video
 unfolding spelling
 written at m digest region numbers holder store video drawn port batch pairs lines d r0 r1 r2 r3 r4 e1 er e2 e3 e4 e5 e6 dn dt dp e7 e8 e9 e10 f0 f1 f2 f3 f4 =
     f4 ∙ (λ i. (((f3 ∙ (λ j. (f2 ∙ (λ k. (f1 ∙ (λ n. f0 n ++ main.chip_bytes m.main)) k ++ (e2 k ++ (e3 k ++ (e4 k ++ e5 k))))) j ++ ((e6 ∙ same_drawing d m dn dt dp) j ++ (e7 j ++ (e8 j ++ fm.synth_bytes m.fm))))) i) ++ (e8 i ++ (e9 i ++ (psg.synth_bytes m.psg ++ e10 i)))))
-    ∙ (λ i. (((([] ++ (mark ++ (e1 i ++ (to_be_bytes w64 at ++ er i)))) ++ main.chip_bytes m.main) ++ (number_bytes m.sub.state ++ ((holder_of m ∷ []) ++ (shared.store_bytes (store_of m) ++ vdp_bytes (shared.settled_board at m.shared).vdp)))) ++ (drawing.drawing_bytes (drawing_in m) ++ (fm_port.port_bytes (shared.settled_board at m.shared).fm ++ (to_be_bytes w64 (first_batch at) ++ fm.synth_bytes m.fm)))) ++ (to_be_bytes w64 (first_batch at) ++ (psg_port.port_bytes m.shared.held ++ (psg.synth_bytes m.psg ++ shared.lines_bytes (lines_of m.shared)))))
-    ∙ regroup mark (sha256 m.cart) (to_be_bytes w64 at) (flag_number m.pal ∷ []) (main.chip_bytes m.main) (number_bytes m.sub.state) (holder_of m ∷ []) (shared.store_bytes (store_of m)) (vdp_bytes (shared.settled_board at m.shared).vdp) (drawing.drawing_bytes (drawing_in m)) (fm_port.port_bytes (shared.settled_board at m.shared).fm) (to_be_bytes w64 (first_batch at)) (fm.synth_bytes m.fm) (to_be_bytes w64 (first_batch at)) (psg_port.port_bytes m.shared.held) (psg.synth_bytes m.psg) (shared.lines_bytes (lines_of m.shared))
+    ∙ (λ i. (((([] ++ (mark ++ (e1 i ++ (to_be_bytes w64 at ++ er i)))) ++ main.chip_bytes m.main) ++ (number_bytes m.sub.state ++ ((holder_of m ∷ []) ++ (shared.store_bytes (store_of m) ++ vdp_bytes (shared.settled_board at m.shared).vdp)))) ++ (drawing.drawing_bytes (drawing_in m) ++ (fm_port.port_bytes (shared.settled_board at m.shared).fm ++ (to_be_bytes w64 (first_batch at) ++ fm.synth_bytes m.fm)))) ++ (to_be_bytes w64 (first_batch at) ++ (psg_port.port_bytes m.shared.psg ++ (psg.synth_bytes m.psg ++ shared.lines_bytes (lines_of m.shared)))))
+    ∙ regroup mark (sha256 m.cart) (to_be_bytes w64 at) (flag_number m.pal ∷ []) (main.chip_bytes m.main) (number_bytes m.sub.state) (holder_of m ∷ []) (shared.store_bytes (store_of m)) (vdp_bytes (shared.settled_board at m.shared).vdp) (drawing.drawing_bytes (drawing_in m)) (fm_port.port_bytes (shared.settled_board at m.shared).fm) (to_be_bytes w64 (first_batch at)) (fm.synth_bytes m.fm) (to_be_bytes w64 (first_batch at)) (psg_port.port_bytes m.shared.psg) (psg.synth_bytes m.psg) (shared.lines_bytes (lines_of m.shared))
 
 byte_of : (b : Bool) → bool_byte b ≡ (if b then 1 else 0)
 byte_of true = refl

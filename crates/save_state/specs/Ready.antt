@@ -24,4 +24,4 @@ pub record IsReady (at : ℕ) (m : Console) : Type 0 where
   pub drawing : drawing.IsReady at (drawing_in m)
   pub resets : m.sub.state.resets ≤ m.shared.resets
   pub fm_writes : are_fm_early m.main.next m.sub.state.next m.shared.fm ≡ true
-  pub psg_writes : are_psg_early m.main.next m.sub.state.next m.shared.held ≡ true
+  pub psg_writes : are_psg_early m.main.next m.sub.state.next m.shared.psg ≡ true

@@ -59,7 +59,7 @@ state_fields digest at m =
     ∷ quad (first_batch at) true
     ∷ block 741 (fm.synth_bytes m.fm) true
     ∷ quad (first_batch at) true
-    ∷ block 10242 (psg_port.port_bytes m.shared.held) true
+    ∷ block 10242 (psg_port.port_bytes m.shared.psg) true
     ∷ block 26 (psg.synth_bytes m.psg) true
     ∷ block 36 (shared.lines_bytes (lines_of m.shared)) true
     ∷ []
@@ -113,7 +113,7 @@ pub record IsSaved (cart : List ℕ) (start : Start) : Type 0 where
   -- the Z80 has seen no more resets than there were
   pub resets : start.console.sub.state.resets ≤ start.console.shared.resets
   pub fm_writes : are_fm_early start.console.main.next start.console.sub.state.next start.console.shared.fm ≡ true
-  pub psg_writes : are_psg_early start.console.main.next start.console.sub.state.next start.console.shared.held ≡ true
+  pub psg_writes : are_psg_early start.console.main.next start.console.sub.state.next start.console.shared.psg ≡ true
 
 -- the bytes are a saved state of this cartridge, of the form that is written, and keep this machine
 pub record IsNewest (cart : List ℕ) (bytes : List ℕ) (start : Start) : Type 0 where

@@ -1,14 +1,14 @@
-use fm_env::{ATTACK, DECAY, Envelope, RELEASE, SUSTAIN};
+use fm_env::{Envelope, EnvelopeState};
 
 /// An envelope, what it ticks by, and its attenuations after four ticks.
 struct Row {
     v: u16,
-    state: u8,
+    state: EnvelopeState,
     rate: u32,
     level: u32,
     counters: [u32; 4],
     want: [u16; 4],
-    last: u8,
+    last: EnvelopeState,
 }
 
 // Attack at rate 48 steps by 1 at each tick: it takes (v + 1)/16, rounded up, that is 64, 60, 57, 53.
@@ -20,66 +20,66 @@ struct Row {
 static ROWS: [Row; 7] = [
     Row {
         v: 1023,
-        state: ATTACK,
+        state: EnvelopeState::Attack,
         rate: 48,
         level: 0,
         counters: [1, 2, 3, 4],
         want: [959, 899, 842, 789],
-        last: ATTACK,
+        last: EnvelopeState::Attack,
     },
     Row {
         v: 3,
-        state: ATTACK,
+        state: EnvelopeState::Attack,
         rate: 60,
         level: 992,
         counters: [1, 2, 3, 4],
         want: [1, 0, 8, 16],
-        last: DECAY,
+        last: EnvelopeState::Decay,
     },
     Row {
         v: 0,
-        state: DECAY,
+        state: EnvelopeState::Decay,
         rate: 56,
         level: 8,
         counters: [1, 2, 3, 4],
         want: [4, 8, 12, 16],
-        last: SUSTAIN,
+        last: EnvelopeState::Sustain,
     },
     Row {
         v: 100,
-        state: SUSTAIN,
+        state: EnvelopeState::Sustain,
         rate: 53,
         level: 0,
         counters: [1, 2, 3, 4],
         want: [102, 104, 108, 110],
-        last: SUSTAIN,
+        last: EnvelopeState::Sustain,
     },
     Row {
         v: 1000,
-        state: RELEASE,
+        state: EnvelopeState::Release,
         rate: 63,
         level: 0,
         counters: [1, 2, 3, 4],
         want: [1008, 1016, 1023, 1023],
-        last: RELEASE,
+        last: EnvelopeState::Release,
     },
     Row {
         v: 7,
-        state: RELEASE,
+        state: EnvelopeState::Release,
         rate: 4,
         level: 0,
         counters: [1023, 1024, 2048, 3072],
         want: [7, 8, 8, 9],
-        last: RELEASE,
+        last: EnvelopeState::Release,
     },
     Row {
         v: 7,
-        state: RELEASE,
+        state: EnvelopeState::Release,
         rate: 1,
         level: 0,
         counters: [0, 1024, 2048, 3072],
         want: [7, 7, 7, 7],
-        last: RELEASE,
+        last: EnvelopeState::Release,
     },
 ];
 
@@ -87,7 +87,7 @@ static ROWS: [Row; 7] = [
 fn is_right(row: &Row) -> bool {
     let mut envelope = Envelope {
         v: row.v % 1024,
-        state: row.state % 4,
+        state: row.state,
         on: true,
     };
     for (counter, want) in row.counters.iter().zip(&row.want) {
@@ -110,7 +110,7 @@ fn envelopes_over_time(rt: HostRuntime) {
 fn keyed(was: bool, on: bool, rate: u32) -> Envelope {
     let mut envelope = Envelope {
         v: 500,
-        state: SUSTAIN,
+        state: EnvelopeState::Sustain,
         on: was,
     };
     envelope.key(on, rate);
@@ -122,10 +122,10 @@ fn keyed(was: bool, on: bool, rate: u32) -> Envelope {
 #[test]
 fn keys(rt: HostRuntime) {
     for (was, on, rate, v, state) in [
-        (false, true, 61, 500, ATTACK),
-        (false, true, 62, 0, ATTACK),
-        (true, true, 63, 500, SUSTAIN),
-        (true, false, 63, 500, RELEASE),
+        (false, true, 61, 500, EnvelopeState::Attack),
+        (false, true, 62, 0, EnvelopeState::Attack),
+        (true, true, 63, 500, EnvelopeState::Sustain),
+        (true, false, 63, 500, EnvelopeState::Release),
     ] {
         let found = keyed(was, on, rate);
         assert!(rt;

@@ -1,7 +1,8 @@
 use fm_chip::FmSynth;
 use fm_port::{FmList, FmPort};
+use md_files::mix;
 use md_word::Key;
-use psg_sound::{PsgList, PsgPort, PsgSynth, mix};
+use psg_sound::{PsgList, PsgPort, PsgSynth};
 
 /// Cycles of a batch of sixteen samples.
 const BATCH: u64 = 16_128;

@@ -1,5 +1,6 @@
+use md_files::mix;
 use md_word::Key;
-use psg_sound::{PsgList, PsgPort, PsgSynth, PsgWrite, mix};
+use psg_sound::{PsgList, PsgPort, PsgSynth, PsgWrite};
 
 /// A byte that the 68000 writes.
 fn byte(cycle: u64, value: u8) -> PsgWrite {

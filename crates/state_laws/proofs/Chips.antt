@@ -177,14 +177,14 @@ PartsKept at pal parts =
     ((store : Option Store) × StoreKept parts.store store)
     × (((vdp : Vdp) × video.Spells at pal parts.vdp vdp)
     × (((port : Port) × fm_port.SpellsPort at parts.fm port)
-    × (((held : List PsgWrite) × psg_port.SpellsPort at parts.held held)
+    × (((psg : List PsgWrite) × psg_port.SpellsPort at parts.psg psg)
     × (((n : SavedLines) × LinesKept at parts.lines n) × Unit {0}))))
 
 record AreBytes (parts : shared.Parts) : Type 0 where
   store : IsBytes parts.store
   vdp : IsBytes parts.vdp
   fm : IsBytes parts.fm
-  held : IsBytes parts.held
+  psg : IsBytes parts.psg
   lines : IsBytes parts.lines
 
 parts_verdict : (at : ℕ) (pal : Bool) (start : ℕ) (parts : shared.Parts) → AreBytes parts → (length parts.store ≡ 0) ⊎ (length parts.store ≡ 8194)
@@ -193,7 +193,7 @@ parts_verdict at pal start parts fits long =
     chained 0 (shared.StoreGoesWrongAt parts.store) _ (store_verdict parts.store fits.store long) (λ kept. kept.1.right)
     (chained start (video.GoesWrongAt at pal parts.vdp) _ (video_verdict at pal parts.vdp fits.vdp) (λ kept place. video_laws.right_not_refused at pal parts.vdp (numbers_of kept.0) place kept.1.keeps kept.1.right)
     (chained _ (fm_port.PortGoesWrongAt at parts.fm) _ (fm_port_verdict at parts.fm fits.fm) (λ kept. fm_port_laws.right_nowhere at parts.fm kept.0 kept.1)
-    (chained _ (psg_port.PortGoesWrongAt at parts.held) _ (psg_port_verdict at parts.held fits.held) (λ kept. psg_port_laws.right_nowhere at parts.held kept.0 kept.1)
+    (chained _ (psg_port.PortGoesWrongAt at parts.psg) _ (psg_port_verdict at parts.psg fits.psg) (λ kept. psg_port_laws.right_nowhere at parts.psg kept.0 kept.1)
     (chained _ (shared.LinesGoWrongAt at parts.lines) (λ place. ⊥) (lines_verdict at parts.lines fits.lines) (λ kept place. lines_laws.lines_right at parts.lines kept.0 place kept.1.0 kept.1.1) (inl tt)))))
 
 cut_bytes : (bytes : List ℕ) → IsBytes bytes → AreBytes (shared.cut bytes)
@@ -205,7 +205,7 @@ cut_bytes bytes fits =
       store = IsBytes-take (shared.store_length bytes) bytes fits;
       vdp = IsBytes-take video.vdp_size (drop (shared.store_length bytes) bytes) behind;
       fm = IsBytes-take 12316 (drop video.vdp_size (drop (shared.store_length bytes) bytes)) past_vdp;
-      held = IsBytes-take 10242 (drop 12316 (drop video.vdp_size (drop (shared.store_length bytes) bytes))) past_fm;
+      psg = IsBytes-take 10242 (drop 12316 (drop video.vdp_size (drop (shared.store_length bytes) bytes))) past_fm;
       lines = IsBytes-drop 10242 (drop 12316 (drop video.vdp_size (drop (shared.store_length bytes) bytes))) past_fm;
     }
 
@@ -214,15 +214,15 @@ abbrev pub BoardKept : Recorded → ℕ → Bool → List ℕ → Board → Type
 BoardKept recording at pal bytes board = shared.Spells at pal bytes board × (board.recording ≡ recording)
 
 board_of : (recording : Recorded) (at : ℕ) (pal : Bool) (bytes : List ℕ) → PartsKept at pal (shared.cut bytes) → (board : Board) × BoardKept recording at pal bytes board
-board_of recording at pal bytes (store, (vdp, (port, (held, (lines, nothing))))) = (
-  board_from recording store.0 vdp.0 port.0 held.0 lines.0,
+board_of recording at pal bytes (store, (vdp, (port, (psg, (lines, nothing))))) = (
+  board_from recording store.0 vdp.0 port.0 psg.0 lines.0,
   (
-    shared_laws.whole at pal bytes recording store.0 vdp.0 port.0 held.0 lines.0 (record {
+    shared_laws.whole at pal bytes recording store.0 vdp.0 port.0 psg.0 lines.0 (record {
       store_is = store.1.is;
       store_fits = store.1.fits;
       vdp_is = vdp.1;
       fm_is = port.1;
-      held_is = held.1;
+      psg_is = psg.1;
       lines_are = lines.1.0;
       lines_right = lines.1.1;
     }),

@@ -37,7 +37,7 @@ saved-with cart at m recording is = record {
   holder = is.holder;
   main = is.main;
   sub = is.sub;
-  shared = record { all = is.shared.all; store = is.shared.store; vdp = is.shared.vdp; fm = is.shared.fm; held = is.shared.held; lines = is.shared.lines; right = is.shared.right };
+  shared = record { all = is.shared.all; store = is.shared.store; vdp = is.shared.vdp; fm = is.shared.fm; psg = is.shared.psg; lines = is.shared.lines; right = is.shared.right };
   drawing = is.drawing;
   fm_cycle = is.fm_cycle;
   psg_cycle = is.psg_cycle;

@@ -6,10 +6,10 @@ mod case;
 mod chip;
 mod known;
 mod need;
+mod resuming;
 mod saved;
 mod sequencer;
 mod spelling;
 mod stage;
-mod waiting;
 
 pub use chip::Chip80;

@@ -314,7 +314,7 @@ impl Sequencer {
     {
         match self.stage {
             Stage::Access => self.waiting(cart, parcel, progress),
-            Stage::Yield => hand_over(parcel),
+            Stage::Yield => yield_parcel(parcel),
             Stage::Sample | Stage::Take => Request80::Take,
         }
     }
@@ -391,7 +391,7 @@ impl Sequencer {
 }
 
 /// What a yield hands over: the parcel, which the Z80 has no longer.
-fn hand_over(parcel: &mut Option<Parcel>) -> Request80
+fn yield_parcel(parcel: &mut Option<Parcel>) -> Request80
     ensures request { request_value80 result ≡ events.handing (option_map store_of parcel.old) }
     ensures none { parcel.new ≡ None }
 {

@@ -86,7 +86,7 @@ returns-clause-found c =
             store_fits = c.in-Ok.ensures.found.1;
             vdp_is = subst (λ (l : List ℕ). vdp_spelling.Spells c.args.at c.args.pal l c.in-Ok-unspell.vdp) front c.in-Ok-unspell.ensures.found;
             fm_is = subst (λ (l : List ℕ). fm_spelling.SpellsPort c.args.at (take 12316 l) ports.fm) back c.in-Ok-ports_in.ensures.fm;
-            held_is = subst (λ (l : List ℕ). psg_spelling.SpellsPort c.args.at (take 10242 (drop 12316 l)) ports.psg) back c.in-Ok-ports_in.ensures.psg;
+            psg_is = subst (λ (l : List ℕ). psg_spelling.SpellsPort c.args.at (take 10242 (drop 12316 l)) ports.psg) back c.in-Ok-ports_in.ensures.psg;
             lines_are = subst (λ (l : List ℕ). Keeps (lines_fields c.args.at) (drop 10242 (drop 12316 l)) ports.lines) back c.in-Ok-ports_in.ensures.lines.0;
             lines_right = c.in-Ok-ports_in.ensures.lines.1;
           })),

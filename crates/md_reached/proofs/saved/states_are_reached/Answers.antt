@@ -19,6 +19,6 @@ returns c = λ cart bytes state start buttons.
       processors = c.processors_of_states.ensures cart at (main.chip_bytes m.main) (sub.chip_bytes m.sub.state) s.image s.sub_image s.main s.sub s.one_owner s.resets;
       video = c.video_of_states.ensures at m.pal (vdps.vdp_bytes m.shared.vdp) (drawings.drawing_bytes (drawing_in m)) m s.shared.vdp s.drawing;
       lines = c.lines_of_states.ensures at m.pal (boards.board_bytes m.shared) m s.shared buttons;
-      writes = c.writes_of_states.ensures at (fm_port.port_bytes m.shared.fm) (psg_port.port_bytes m.shared.held) m s.shared.fm s.shared.held s.fm_writes s.psg_writes;
+      writes = c.writes_of_states.ensures at (fm_port.port_bytes m.shared.fm) (psg_port.port_bytes m.shared.psg) m s.shared.fm s.shared.psg s.fm_writes s.psg_writes;
       timers = c.timers_of_states.ensures at (fm_port.port_bytes m.shared.fm) m s.shared.fm;
     }

@@ -106,4 +106,4 @@ returns-clause-kept c = rw (← c.self.view_is) (λ is.
     board_spelled c.args.at _ c.requires.cycle c.self.invariant is
     (rw c.deref.ensures at (c.spell.ensures.kept c.args.at (omega arith) (rw c.deref.ensures is.vdp)))
     (rw c.deref-2.ensures at (c.spell-2.ensures.kept (rw c.deref-2.ensures is.timers) (rw c.deref-2.ensures is.fm)))
-    (rw c.deref-3.ensures at (c.spell-3.ensures.kept c.args.at (rw c.deref-3.ensures is.held))))
+    (rw c.deref-3.ensures at (c.spell-3.ensures.kept c.args.at (rw c.deref-3.ensures is.psg))))
