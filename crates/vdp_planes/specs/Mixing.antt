@@ -1,6 +1,6 @@
 -- What a dot of the picture shows, and the bytes that it prints. Genesis Technical Overview, priority,
 -- shadow and highlight; the bytes of a level are this project's profile.
-use Rattle.std.specs.Prelude.{◌≡◌, ℕ, ◌+◌, ◌-◌, ◌*◌, ◌/◌, ◌%◌, ◌<◌, ◌≤◌, Bool, ◌==◌, ◌||◌, ◌&&◌, not, nat_lt, nat_le, if◌then◌else◌, List, slice_index, slice_index_or}
+use Rattle.std.specs.Prelude.{◌≡◌, ℕ, ◌+◌, ◌-◌, ◌*◌, ◌/◌, ◌%◌, ◌<◌, ◌≤◌, Bool, false, ◌==◌, ◌||◌, ◌&&◌, not, nat_lt, nat_le, if◌then◌else◌, List, [], ◌∷◌, slice_index, slice_index_or}
 use Rattle.vdp_planes.specs.Dots.{Dot}
 use Rattle.vdp_planes.specs.declared.view.LineView.{LineView}
 use Rattle.vdp_planes.specs.declared.colours.Rgb.{Rgb}
@@ -130,9 +130,13 @@ shade_by n = if (n == 0) then shades.Shadow else (if (n == 1) then shades.Normal
 unfoldable pub table_colour : LineView → ℕ → Rgb
 table_colour view n = rgb_of view (at_shade (n % 64) (shade_by (n / 64)))
 
--- what a table of colours holds before it is filled
-abbrev pub black : Rgb
-black = record { red = 0; green = 0; blue = 0 }
+-- a colour's bytes in a table: its three, and one that no dot shows
+abbrev pub entry_of : Rgb → List ℕ
+entry_of c = c.red ∷ c.green ∷ c.blue ∷ 0 ∷ []
+
+-- whether a dot can show a shade: without shadow and highlight the normal one alone
+abbrev pub IsSeen : LineView → Shade → Type 0
+IsSeen view shade = has_bit (register view 12) 8 ≡ false → shade ≡ shades.Normal
 
 -- the number of the colour that a place of the screen shows
 unfoldable pub index_at : LineView → List Dot → List Dot → List Dot → ℕ → ℕ
@@ -163,5 +167,5 @@ abbrev pub mixed_at : LineView → List Dot → List Dot → List Dot → ℕ �
 mixed_at view a b s from x = index_of (mixed view (dot_at a (x - from)) (dot_at b (x - from)) (dot_at s (x - from)))
 
 -- byte n of the dots of these indices
-abbrev pub printed_byte : List Rgb → List ℕ → ℕ → ℕ
-printed_byte table line n = part (slice_index_or table (slice_index line (n / 3)) black) (n % 3)
+abbrev pub printed_byte : List (List ℕ) → List ℕ → ℕ → ℕ
+printed_byte table line n = slice_index (slice_index_or table (slice_index line (n / 3)) []) (n % 3)

@@ -1,7 +1,8 @@
-ghost use Rattle.std.specs.Prelude.{◌≡◌, ℕ, ◌+◌, ◌*◌, ◌/◌, ◌%◌, ◌<◌, ◌≤◌, length, slice_index_or};
+ghost use Rattle.std.specs.Prelude.{◌≡◌, ℕ, ◌+◌, ◌*◌, ◌/◌, ◌%◌, ◌<◌, ◌≤◌, [], length, slice_index_or};
 ghost use Rattle.vdp_planes.specs.View.{seen};
-ghost use Rattle.vdp_planes.specs.Mixing.{black, printed, rgb_of, shade_number, at_shade, table_colour};
+ghost use Rattle.vdp_planes.specs.Mixing.{IsSeen, ShadedColour, at_shade, entry_of, index_of, printed, rgb_of, shade_number, table_colour};
 
+use crate::register::MODE_4;
 use crate::view::Scene;
 
 /// How bright a colour is shown.
@@ -48,10 +49,32 @@ pub fn rgb_of(scene: &Scene, colour: usize, shade: Shade) -> Rgb
     }
 }
 
-/// The colours that a line can show: the 64 in shadow, normal and highlighted.
-pub fn fill_table(scene: &Scene, table: &mut [Rgb; 192])
-    ensures whole { length table.new ≡ 192 }
-    ensures colours { (n : ℕ) → n < 192 → slice_index_or table.new n black ≡ table_colour (seen scene.now) n }
+/// The bytes of a colour, and one that no dot shows: so a dot is written at once.
+#[inline(always)]
+fn entry_of(colour: Rgb) -> [u8; 4]
+    ensures { result ≡ entry_of colour }
+{
+    [colour.red, colour.green, colour.blue, 0]
+}
+
+/// The colours that the line can show: the 64 in shadow, normal and highlighted, or, without shadow
+/// and highlight, the 64 normal ones alone.
+pub fn fill_shown(scene: &Scene, table: &mut [[u8; 4]; 192])
+    requires whole { length table.old ≡ 192 }
+    ensures { (s : ShadedColour) → s.colour < 64 → IsSeen (seen scene.now) s.shade
+        → slice_index_or table.new (index_of s) [] ≡ entry_of (rgb_of (seen scene.now) s) }
+{
+    if scene.registers[MODE_4] / 8 % 2 == 1 {
+        fill_table(scene, table);
+    } else {
+        fill_shade(scene, Shade::Normal, 64, table);
+    }
+}
+
+/// All 192 colours.
+fn fill_table(scene: &Scene, table: &mut [[u8; 4]; 192])
+    requires whole { length table.old ≡ 192 }
+    ensures { (n : ℕ) → n < 192 → slice_index_or table.new n [] ≡ entry_of (table_colour (seen scene.now) n) }
 {
     fill_shade(scene, Shade::Shadow, 0, table);
     fill_shade(scene, Shade::Normal, 64, table);
@@ -60,15 +83,15 @@ pub fn fill_table(scene: &Scene, table: &mut [Rgb; 192])
 
 /// Fills the part of the table for a shade, which begins at `from`.
 #[inline(always)]
-fn fill_shade(scene: &Scene, shade: Shade, from: usize, table: &mut [Rgb; 192])
+fn fill_shade(scene: &Scene, shade: Shade, from: usize, table: &mut [[u8; 4]; 192])
     requires from { from ≡ 64 * shade_number shade }
     requires below { from < 129 }
     requires whole { length table.old ≡ 192 }
     ensures whole { length table.new ≡ 192 }
-    ensures colours { (n : ℕ) → n < 64 → slice_index_or table.new (from + n) black ≡ rgb_of (seen scene.now) (at_shade n shade) }
-    ensures before { (n : ℕ) → n < from → slice_index_or table.new n black ≡ slice_index_or table.old n black }
+    ensures colours { (n : ℕ) → n < 64 → slice_index_or table.new (from + n) [] ≡ entry_of (rgb_of (seen scene.now) (at_shade n shade)) }
+    ensures before { (n : ℕ) → n < from → slice_index_or table.new n [] ≡ slice_index_or table.old n [] }
 {
     for n in 0..64 {
-        table[from + n] = rgb_of(scene, n, shade);
+        table[from + n] = entry_of(rgb_of(scene, n, shade));
     }
 }

@@ -1,9 +1,9 @@
-ghost use Rattle.std.specs.Prelude.{◌≡◌, ℕ, ◌+◌, ◌-◌, ◌*◌, ◌/◌, ◌%◌, ◌<◌, ◌≤◌, length, slice_index};
+ghost use Rattle.std.specs.Prelude.{◌≡◌, ℕ, ◌+◌, ◌-◌, ◌*◌, ◌/◌, ◌%◌, ◌<◌, ◌≤◌, [], length, slice_index, slice_index_or};
 ghost use Rattle.vdp_planes.specs.View.{AllColours, IsFilled, register, seen};
 ghost use Rattle.vdp_planes.specs.Planes.{width_of};
 ghost use Rattle.vdp_planes.specs.Mixing.{IsSpan, back_at, backdrop, backdrop_byte, in_picture, index_at, index_of, line_byte, mixed_at, part, printed_byte, shaded_at, unshaded_at};
 
-use crate::colours::{Rgb, Shade, fill_table, rgb_of};
+use crate::colours::{Rgb, Shade, fill_shown, rgb_of};
 use crate::mix::{index_of, shaded, unshaded};
 use crate::register::{BACKDROP, MODE_2, MODE_4};
 use crate::view::{Dot, LineView, Scene};
@@ -74,12 +74,8 @@ fn mix_shown(scene: &Scene, a: &[Dot; 320], b: &[Dot; 320], s: &[Dot; 320], rgb:
     requires room { length rgb.old ≡ 960 }
     ensures { (n : ℕ) → n < 960 → slice_index rgb.new n ≡ line_byte (seen scene.now) a.now b.now s.now n }
 {
-    let mut table = [Rgb {
-        red: 0,
-        green: 0,
-        blue: 0,
-    }; 192];
-    fill_table(scene, &mut table);
+    let mut table = [[0; 4]; 192];
+    fill_shown(scene, &mut table);
     let mut line = [0; 320];
     mix_indexes(scene, a, b, s, &mut line);
     print(&table, &line, rgb);
@@ -209,16 +205,20 @@ fn fill_unshaded(
     }
 }
 
-/// Writes the bytes of the colours of these indices.
-fn print(table: &[Rgb; 192], line: &[u8; 320], rgb: &mut [u8])
+/// Writes the bytes of the colours of these indices. Each dot but the last is written with one byte
+/// more, in whose place the next dot's first then stands.
+fn print(table: &[[u8; 4]; 192], line: &[u8; 320], rgb: &mut [u8])
     requires indices { (x : ℕ) → x < 320 → slice_index line.now x < 192 }
+    requires entries { (x : ℕ) → x < 320 → length (slice_index_or table.now (slice_index line.now x) []) ≡ 4 }
     requires room { length rgb.old ≡ 960 }
     ensures { (n : ℕ) → n < 960 → slice_index rgb.new n ≡ printed_byte table.now line.now n }
 {
-    for x in 0..320 {
-        let colour = table[usize::from(line[x])];
-        rgb[3 * x] = colour.red;
-        rgb[3 * x + 1] = colour.green;
-        rgb[3 * x + 2] = colour.blue;
+    for x in 0..319 {
+        let dot = table[usize::from(line[x])];
+        rgb[3 * x..3 * x + 4].copy_from_slice(&dot);
     }
+    let [red, green, blue, _] = table[usize::from(line[319])];
+    rgb[957] = red;
+    rgb[958] = green;
+    rgb[959] = blue;
 }
