@@ -5,11 +5,7 @@ use Rattle.vdp_planes.specs.declared.view.LineView.{LineView}
 use Rattle.vdp_planes.specs.View.{IsFilled, clear, register, word_at, has_bit}
 use Rattle.vdp_planes.specs.Planes.{across, cell_dot, cells_of, down, name_place, pattern_index, pixel_dot, pixel_of, point_x, point_y, run_dot, scrolled_dot, turned, window_dot, window_place}
 use Rattle.vdp_planes.proofs.Filled.{filled_as}
-
--- a width is one of three
-cells_three : (bits : ℕ) → (cells_of bits ≡ 32) ⊎ (cells_of bits ≡ 64) ⊎ (cells_of bits ≡ 128)
-unfolding cells_of
-cells_three bits = grind arith
+use Rattle.vdp_planes.proofs.Masks.{cells_three}
 
 -- within a cell a place rises with x
 rises : (w n k : ℕ) → (w ≡ 32) ⊎ (w ≡ 64) ⊎ (w ≡ 128) → n % (w * 8) % 8 + k < 8 → (n + k) % (w * 8) ≡ n % (w * 8) + k
@@ -41,10 +37,16 @@ down-run : (view : LineView) (second columns : Bool) (x i end : ℕ) → columns
 down-run view second true x i end e h low high = let near = h refl in let pair : i / 16 ≡ x / 16 = omega arith in down-same view second x i pair
 down-run view second false x i end e h low high = down-flat view second x i (sym e)
 
-pub scrolled_run : (view : LineView) (second : Bool) (y x i : ℕ) → x ≤ i → i < x + 8 - point_x view second y x % 8 → down view second i ≡ down view second x
+-- so does the point of the plane down
+pub point_y-run : (view : LineView) (second columns : Bool) (y x i end py : ℕ) → columns ≡ has_bit (register view 11) 4 → (columns ≡ true → end ≤ x + 16 - x % 16)
+    → py ≡ point_y view second y x → x ≤ i → i < end → py ≡ point_y view second y i
+unfolding point_y
+point_y-run view second columns y x i end py e h f low high = rw (down-run view second columns x i end e h low high) f
+
+pub scrolled_run : (view : LineView) (second : Bool) (y x i : ℕ) → x ≤ i → i < x + 8 - point_x view second y x % 8 → point_y view second y i ≡ point_y view second y x
     → run_dot view (word_at view (name_place view second (point_x view second y x) (point_y view second y x))) (point_x view second y x % 8) (point_y view second y x % 8) x i
     ≡ scrolled_dot view second y i
-unfolding scrolled_dot point_y name_place
+unfolding scrolled_dot name_place
 scrolled_run view second y x i low near below =
     let px = point_x view second y x in
     let rise = point_x-rises view second y x i low near in
@@ -60,14 +62,15 @@ window_run view y x i low near =
     let at : i % 8 ≡ x % 8 + (i - x) = omega arith in
     rw (cell, at)
 
-pub scrolled_drawn : (view : LineView) (second columns : Bool) (y x next name px py : ℕ) (old new : List Dot)
-    → px ≡ point_x view second y x → py ≡ point_y view second y x → name ≡ word_at view (name_place view second px py)
-    → next ≤ x + 8 - px % 8 → columns ≡ has_bit (register view 11) 4 → (columns ≡ true → next ≤ x + 16 - x % 16)
+pub scrolled_drawn : (view : LineView) (second : Bool) (y x next name px py : ℕ) (old new : List Dot)
+    → px ≡ point_x view second y x → ((i : ℕ) → x ≤ i → i < next → py ≡ point_y view second y i) → name ≡ word_at view (name_place view second px py)
+    → next ≤ x + 8 - px % 8 → x < next
     → IsFilled clear x next old new (run_dot view name (px % 8) (py % 8) x)
     → IsFilled clear x next old new (scrolled_dot view second y)
-scrolled_drawn view second columns y x next name px py old new e f n near g column h =
+scrolled_drawn view second y x next name px py old new e f n near further h =
+    let here = f x (omega arith) further in
     filled_as clear x next old new (run_dot view name (px % 8) (py % 8) x) (scrolled_dot view second y) h
-    (λ i low high. let whole = scrolled_run view second y x i low (omega (arith, ap (λ m. m % 8) e)) (down-run view second columns x i next g column low high) in cc)
+    (λ i low high. let whole = scrolled_run view second y x i low (omega (arith, ap (λ m. m % 8) e)) (sym (f i low high) ∙ here) in cc)
 
 pub window_drawn : (view : LineView) (y x next name at : ℕ) (old new : List Dot)
     → at ≡ window_place view y x → name ≡ word_at view at → next ≤ x + 8 - x % 8

@@ -15,6 +15,7 @@ pub record IsScroll (view : LineView) (scroll : Scroll) : Type 0 where
   pub number : scroll.number ≡ plane_number scroll.second
   pub columns : scroll.by_columns ≡ has_bit (register view 11) 4
   pub base_below : scroll.base < 65536
+  pub base_even : scroll.base % 2 ≡ 0
   pub shift_most : scroll.shift ≤ 65536
   pub number_below : scroll.number < 2
   pub line_below : scroll.y < 240

@@ -4,6 +4,9 @@ ghost use Rattle.vdp_planes.specs.Planes.{pattern_index, pixel_dot, pixel_of, ru
 
 use crate::view::{Dot, Scene};
 
+/// The right pixels of four bytes.
+const RIGHT_PIXELS: u32 = 0x0f0f_0f0f;
+
 /// A row or column, from the other side where it is flipped.
 #[inline(always)]
 #[tactic(auto, unfolding(crate::specs::Planes::turned))]
@@ -15,13 +18,6 @@ fn turned(flip: bool, n: u32) -> u32
     if flip { 7 - n } else { n }
 }
 
-/// A byte's two pixels changed about.
-#[inline(always)]
-fn swapped(byte: u8) -> u8
-    ensures { result ≡ byte % 16 * 16 + byte / 16 }
-{
-    byte % 16 * 16 + byte / 16
-}
 
 /// Four bytes as a number, the first the highest.
 #[inline(always)]
@@ -29,6 +25,31 @@ fn joined(b0: u8, b1: u8, b2: u8, b3: u8) -> u32
     ensures { result ≡ b0 * 16777216 + b1 * 65536 + b2 * 256 + b3 }
 {
     u32::from(b0) * 16_777_216 + u32::from(b1) * 65_536 + u32::from(b2) * 256 + u32::from(b3)
+}
+
+/// The same four bytes, the last the highest.
+#[inline(always)]
+fn reversed(row: u32) -> u32
+    ensures { (b0 b1 b2 b3 : ℕ) → b0 < 256 → b1 < 256 → b2 < 256 → b3 < 256 → row ≡ b3 * 16777216 + b2 * 65536 + b1 * 256 + b0
+        → result ≡ b0 * 16777216 + b1 * 65536 + b2 * 256 + b3 }
+{
+    joined(
+        (row % 256) as u8,
+        (row / 256 % 256) as u8,
+        (row / 65_536 % 256) as u8,
+        (row / 16_777_216) as u8,
+    )
+}
+
+/// Each byte's two pixels changed about.
+#[inline(always)]
+fn swapped(row: u32) -> u32
+    ensures { (b0 b1 b2 b3 : ℕ) → b0 < 256 → b1 < 256 → b2 < 256 → b3 < 256 → row ≡ b3 * 16777216 + b2 * 65536 + b1 * 256 + b0
+        → result ≡ (b3 % 16 * 16 + b3 / 16) * 16777216 + (b2 % 16 * 16 + b2 / 16) * 65536 + (b1 % 16 * 16 + b1 / 16) * 256 + (b0 % 16 * 16 + b0 / 16) }
+{
+    let left = row / 16 & RIGHT_PIXELS;
+    let right = row & RIGHT_PIXELS;
+    right * 16 + left
 }
 
 /// The eight pixels of a row of a pattern as a number's digits, the left one the highest, or the
@@ -44,8 +65,9 @@ fn pixels(scene: &Scene, pattern: u32, row: u32, flip: bool) -> u32
     let b1 = scene.vram[at + 1];
     let b2 = scene.vram[at + 2];
     let b3 = scene.vram[at + 3];
-    let forward = joined(b0, b1, b2, b3);
-    let backward = joined(swapped(b3), swapped(b2), swapped(b1), swapped(b0));
+    let row = joined(b3, b2, b1, b0);
+    let forward = reversed(row);
+    let backward = swapped(row);
     if flip { backward } else { forward }
 }
 

@@ -1,10 +1,10 @@
-ghost use Rattle.std.specs.Prelude.{◌≡◌, ◌+◌, ◌-◌, ◌/◌, ◌%◌, ◌*◌, ◌<◌, ◌≤◌, ◌^◌, length, true};
+ghost use Rattle.std.specs.Prelude.{◌≡◌, ℕ, ◌+◌, ◌-◌, ◌/◌, ◌%◌, ◌*◌, ◌<◌, ◌≤◌, ◌^◌, length, true};
 ghost use Rattle.vdp_planes.specs.View.{IsFilled, clear, has_bit, register, seen};
-ghost use Rattle.vdp_planes.specs.Planes.{down, name_place, plane_number, scroll_place, scrolled_dot};
+ghost use Rattle.vdp_planes.specs.Planes.{down, name_place, plane_number, point_y, scroll_place, scrolled_dot};
 ghost use Rattle.vdp_planes.specs.Scrolls.{IsScroll};
 
 use crate::cells::cell_run;
-use crate::fields::{cells, word, wrapped};
+use crate::fields::{cells, even_word, word, wrapped};
 use crate::register::{MODE_3, PLANE_A, PLANE_B, PLANE_SIZE, SCROLLS};
 use crate::view::{Dot, Scene};
 
@@ -113,24 +113,50 @@ fn column_end(scroll: &Scroll, x: u32, to: u32) -> u32
 }
 
 /// Draws the dots of the plane from `x` on: those of one cell, none of them at `to` or behind it.
-/// The answer is the place behind them.
+/// `py` is the point of the plane down, the same for all. The answer is the place behind them.
 #[inline(always)]
-#[tactic(auto, unfolding(crate::specs::Planes::name_place, crate::specs::Planes::point_x, crate::specs::Planes::point_y))]
-fn scrolled_cell(scene: &Scene, scroll: &Scroll, x: u32, to: u32, out: &mut [Dot; 320]) -> u32
+#[tactic(auto, unfolding(crate::specs::Planes::name_place, crate::specs::Planes::point_x))]
+fn scrolled_cell(
+    scene: &Scene,
+    scroll: &Scroll,
+    py: u32,
+    x: u32,
+    to: u32,
+    out: &mut [Dot; 320],
+) -> u32
     requires scroll { IsScroll (seen scene.now) scroll.now }
     requires order { x < to }
     requires within { to ≤ 320 }
+    requires tall { py < 1024 }
+    requires down { (i : ℕ) → x ≤ i → i < to → py ≡ point_y (seen scene.now) scroll.now.second scroll.now.y i }
     ensures drawn { IsFilled clear x result out.old out.new (scrolled_dot (seen scene.now) scroll.now.second scroll.now.y) }
     ensures further { x < result }
     ensures most { result ≤ to }
 {
     let px = wrapped(x + scroll.shift, scroll.across);
-    let py = wrapped(scroll.y + down(scene, scroll, x), scroll.down);
     let index = (py / 8 * cells(scroll.across) + px / 8) % 4096;
-    let name = word(scene, scroll.base + 2 * index);
-    let next = (x + 8 - px % 8).min(column_end(scroll, x, to)).min(to);
+    let name = even_word(scene, scroll.base / 2 + index);
+    let next = (x + 8 - px % 8).min(to);
     cell_run(scene, name, px % 8, py % 8, x, next, out);
     next
+}
+
+/// Draws the dots of the plane from one place to another, all with one vertical scroll.
+#[inline(always)]
+#[tactic(auto, unfolding(crate::specs::Planes::point_y))]
+fn draw_column(scene: &Scene, scroll: &Scroll, from: u32, to: u32, out: &mut [Dot; 320])
+    requires scroll { IsScroll (seen scene.now) scroll.now }
+    requires whole { length out.old ≡ 320 }
+    requires order { from < to }
+    requires within { to ≤ 320 }
+    requires column { scroll.now.by_columns ≡ true → to ≤ from + 16 - from % 16 }
+    ensures { IsFilled clear from to out.old out.new (scrolled_dot (seen scene.now) scroll.now.second scroll.now.y) }
+{
+    let py = wrapped(scroll.y + down(scene, scroll, from), scroll.down);
+    let mut x = from;
+    while x < to {
+        x = scrolled_cell(scene, scroll, py, x, to, out);
+    }
 }
 
 /// Draws the dots of the plane from one place to another.
@@ -146,6 +172,8 @@ pub fn draw_scrolled(scene: &Scene, scroll: &Scroll, from: u32, to: u32, out: &m
     let scroll = *scroll;
     let mut x = from;
     while x < to {
-        x = scrolled_cell(&scene, &scroll, x, to, out);
+        let end = column_end(&scroll, x, to).min(to);
+        draw_column(&scene, &scroll, x, end, out);
+        x = end;
     }
 }
