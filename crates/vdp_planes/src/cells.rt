@@ -79,7 +79,7 @@ fn pixel(pixels: u32, column: u32) -> u16
     ensures value { result ≡ pixel_of pixels column }
     ensures below { result < 16 }
 {
-    ((pixels >> (28 - 4 * column)) % 16) as u16
+    ((pixels << (4 * column)) >> 28) as u16
 }
 
 /// The word of a transparent dot of a name.
