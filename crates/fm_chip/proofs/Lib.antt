@@ -3,6 +3,7 @@ pub mod Courses
 pub mod Histories
 pub mod Mixed
 pub mod Quiet
+pub mod Rests
 pub mod Shaped
 pub mod SynthBytes
 pub mod SynthKept

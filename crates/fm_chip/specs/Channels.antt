@@ -7,7 +7,7 @@ use Rattle.fm_chip.specs.declared.operator.Operator.{Operator}
 use Rattle.fm_chip.specs.declared.channels.Channel.{Channel}
 use Rattle.fm_chip.specs.declared.channels.Moment.{Moment}
 use Rattle.fm_chip.specs.Registers.{at, of_channel}
-use Rattle.fm_chip.specs.Operators.{IsOperator, enveloped, attenuation, advanced}
+use Rattle.fm_chip.specs.Operators.{IsAtRest, IsOperator, enveloped, attenuation, advanced}
 use Rattle.fm_chip.specs.declared.steps.Steps.{Steps}
 use Rattle.fm_chip.specs.Steps.{steps_of}
 use Rattle.fm_chip.specs.Lfo.{tremolo}
@@ -39,6 +39,13 @@ pub record IsQuiet (ch : Channel) : Type 0 where
   pub two : 832 ≤ ch.two.v
   pub three : 832 ≤ ch.three.v
   pub four : 832 ≤ ch.four.v
+
+-- all four envelopes have come to the end of their release
+pub record AreAtRest (ch : Channel) : Type 0 where
+  pub one : IsAtRest ch.one
+  pub two : IsAtRest ch.two
+  pub three : IsAtRest ch.three
+  pub four : IsAtRest ch.four
 
 -- all four envelopes tick
 unfoldable pub all_enveloped : List ℕ → ℕ → ℕ → Channel → Channel

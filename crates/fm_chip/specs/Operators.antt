@@ -1,7 +1,8 @@
 -- An operator: its envelope's tick, what it sounds at, its phase's step and its key.
 -- Yamaha, YM2608 Application Manual, operators.
-use Rattle.std.specs.Prelude.{ℕ, ◌+◌, ◌*◌, ◌/◌, ◌%◌, ◌^◌, ◌<◌, ◌≤◌, nat_le, min, Bool, ◌&&◌, not, if◌then◌else◌, List}
+use Rattle.std.specs.Prelude.{◌≡◌, ℕ, ◌+◌, ◌*◌, ◌/◌, ◌%◌, ◌^◌, ◌<◌, ◌≤◌, nat_le, min, Bool, ◌&&◌, not, if◌then◌else◌, List}
 use Rattle.fm_env.specs.Envelopes.{EnvelopeValue, stepping_state, ticked, keyed}
+use Rattle.fm_env.specs.declared.state.EnvelopeState.TheVariants.{Release}
 use Rattle.fm_voice.specs.Phase.{step_of}
 use Rattle.fm_chip.specs.declared.operator.Operator.{Operator}
 use Rattle.fm_chip.specs.Registers.{frequency, rate, of_operator, sustain_level}
@@ -11,6 +12,11 @@ use Rattle.fm_chip.specs.Lfo.{gain}
 pub record IsOperator (o : Operator) : Type 0 where
   pub phase : o.phase < 2 ^ 20
   pub v : o.v ≤ 1023
+
+-- its envelope has come to the end of its release
+pub record IsAtRest (o : Operator) : Type 0 where
+  pub v : o.v ≡ 1023
+  pub state : o.state ≡ Release
 
 -- its envelope
 abbrev pub envelope_of : Operator → EnvelopeValue

@@ -1,6 +1,6 @@
 ghost use Rattle.std.specs.Prelude.{◌/◌, ◌≡◌, ◌+◌, ◌*◌, ◌^◌, ◌<◌, ◌≤◌, ◌≤ℤ◌, pos, negsuc, All, IsTrue};
 ghost use Rattle.fm_chip.specs.Channels as meaning;
-ghost use Rattle.fm_chip.specs.Channels.{IsChannel, IsQuiet};
+ghost use Rattle.fm_chip.specs.Channels.{AreAtRest, IsChannel, IsQuiet};
 ghost use Rattle.fm_chip.specs.Steps.{IsSmall, steps_of};
 ghost use Rattle.fm_chip.specs.Shapes.{AreInRange, all_enveloped_by, attenuations_by, ready_by, shapes_of};
 ghost use Rattle.fm_voice.specs.Channel.{IsLevel, heard};
@@ -44,6 +44,9 @@ impl Channel {
         ensures value { self.new ≡ all_enveloped_by shapes.now counter self.old }
         ensures channel { IsChannel self.new }
     {
+        if self.is_at_rest() {
+            return;
+        }
         self.one.tick(&shapes.one, counter);
         self.two.tick(&shapes.two, counter);
         self.three.tick(&shapes.three, counter);
@@ -89,6 +92,16 @@ impl Channel {
             && u32::from(self.two.v) >= SILENT
             && u32::from(self.three.v) >= SILENT
             && u32::from(self.four.v) >= SILENT
+    }
+
+    /// Whether a tick leaves all four envelopes as they are.
+    fn is_at_rest(&self) -> bool
+        ensures { IsTrue result → AreAtRest self.now }
+    {
+        self.one.is_at_rest()
+            && self.two.is_at_rest()
+            && self.three.is_at_rest()
+            && self.four.is_at_rest()
     }
 
     /// The level where the oscillator stands at `t`.

@@ -1,6 +1,6 @@
-ghost use Rattle.std.specs.Prelude.{◌≡◌, ◌+◌, ◌*◌, ◌^◌, ◌<◌, ◌≤◌};
+ghost use Rattle.std.specs.Prelude.{◌≡◌, ◌+◌, ◌*◌, ◌^◌, ◌<◌, ◌≤◌, IsTrue};
 ghost use Rattle.fm_chip.specs.Operators as meaning;
-ghost use Rattle.fm_chip.specs.Operators.{IsOperator};
+ghost use Rattle.fm_chip.specs.Operators.{IsAtRest, IsOperator};
 ghost use Rattle.fm_chip.specs.Shapes.{IsShape, attenuation_by, enveloped_by};
 ghost use Rattle.fm_env.specs.Envelopes.{plain};
 
@@ -45,6 +45,17 @@ impl Operator {
         self.v = envelope.v;
         self.state = envelope.state;
         self.on = envelope.on;
+    }
+
+    /// Whether its envelope has come to the end of its release, where a tick leaves it as it is.
+    #[inline(always)]
+    pub fn is_at_rest(&self) -> bool
+        ensures { IsTrue result → IsAtRest self.now }
+    {
+        match self.state {
+            EnvelopeState::Release => self.v == 1023,
+            EnvelopeState::Attack | EnvelopeState::Decay | EnvelopeState::Sustain => false,
+        }
     }
 
     /// Makes a tick of its envelope.
