@@ -18,7 +18,6 @@ fn turned(flip: bool, n: u32) -> u32
     if flip { 7 - n } else { n }
 }
 
-
 /// Four bytes as a number, the first the highest.
 #[inline(always)]
 fn joined(b0: u8, b1: u8, b2: u8, b3: u8) -> u32
@@ -55,7 +54,7 @@ fn swapped(row: u32) -> u32
 /// The eight pixels of a row of a pattern as a number's digits, the left one the highest, or the
 /// lowest where the row is flipped.
 #[inline(always)]
-fn pixels(scene: &Scene, pattern: u32, row: u32, flip: bool) -> u32
+pub fn row_pixels(scene: &Scene, pattern: u32, row: u32, flip: bool) -> u32
     requires pattern { pattern < 2048 }
     requires row { row < 8 }
     ensures { (c : ℕ) → c < 8 → pixel_of result c ≡ pattern_index (seen scene.now) pattern (turned flip c) row }
@@ -71,10 +70,10 @@ fn pixels(scene: &Scene, pattern: u32, row: u32, flip: bool) -> u32
     if flip { backward } else { forward }
 }
 
-/// A digit of these.
+/// A digit of these, the left one first.
 #[inline(always)]
 #[tactic(auto, unfolding(crate::specs::Planes::pixel_of))]
-fn pixel(pixels: u32, column: u32) -> u16
+pub fn pixel(pixels: u32, column: u32) -> u16
     requires { column < 8 }
     ensures value { result ≡ pixel_of pixels column }
     ensures below { result < 16 }
@@ -141,29 +140,11 @@ pub fn cell_run(
     ensures { IsFilled clear from to out.old out.new (run_dot (seen scene.now) name column row from) }
 {
     let line = turned(name / 4096 % 2 == 1, row);
-    let pixels = pixels(scene, name % 2048, line, name / 2048 % 2 == 1);
+    let pixels = row_pixels(scene, name % 2048, line, name / 2048 % 2 == 1);
     // a whole cell apart: its number of dots is known to the compiler
     if to == from + 8 {
         whole_run(name, pixels, from, out);
     } else {
         pixel_run(name, pixels, column, from, to, out);
-    }
-}
-
-/// A pixel of a pattern.
-#[inline(always)]
-#[tactic(auto, unfolding(crate::specs::Planes::pattern_index))]
-pub fn pattern_index(scene: &Scene, pattern: u32, column: u32, row: u32) -> u8
-    requires pattern { pattern < 2048 }
-    requires column { column < 8 }
-    requires row { row < 8 }
-    ensures value { result ≡ pattern_index (seen scene.now) pattern column row }
-    ensures below { result < 16 }
-{
-    let byte = scene.vram[(pattern * 32 + row * 4 + column / 2) as usize];
-    if column % 2 == 0 {
-        byte / 16
-    } else {
-        byte % 16
     }
 }

@@ -13,7 +13,7 @@ mod scroll;
 mod view;
 mod window;
 
-pub use cells::pattern_index;
+pub use cells::{pixel, row_pixels};
 pub use fields::word;
 pub use line::{draw_plane, plane_line};
 pub use screen::{mix_dots, mix_line};

@@ -1,9 +1,9 @@
 -- A line of sprite dots on its way.
-use Rattle.std.specs.Prelude.{◌≡◌, ℕ, ◌<◌, ◌≤◌, Bool, true, false, ◌||◌, ◌&&◌, not, if◌then◌else◌, List, ◌++◌, length}
+use Rattle.std.specs.Prelude.{◌≡◌, ℕ, ◌+◌, ◌*◌, ◌/◌, ◌%◌, ◌<◌, ◌≤◌, Bool, true, false, ◌||◌, ◌&&◌, not, if◌then◌else◌, List, ◌++◌, length}
 use Rattle.vdp_planes.specs.Dots.{Dot}
 use Rattle.vdp_planes.specs.declared.view.LineView.{LineView}
-use Rattle.vdp_planes.specs.View.{IsFilled, clear, dot_at}
-use Rattle.vdp_planes.specs.Planes.{width_of}
+use Rattle.vdp_planes.specs.View.{IsFilled, clear, dot_at, has_bit}
+use Rattle.vdp_planes.specs.Planes.{pixel_of, width_of}
 use Rattle.vdp_planes.specs.Mixing.{is_opaque}
 use Rattle.vdp_sprites.specs.declared.sprite.Sprite.{Sprite}
 use Rattle.vdp_sprites.specs.Sprites.{Part, any_below, collides, opaque_of, part_dot, parts_from, reaches}
@@ -11,6 +11,10 @@ use Rattle.vdp_sprites.specs.Sprites.{Part, any_below, collides, opaque_of, part
 -- a sprite that shows so many pixels
 abbrev pub part_of : Sprite → ℕ → Part
 part_of sprite pixels = record { sprite = sprite; pixels = pixels }
+
+-- a dot of a sprite by one of the eight pixels of a row of a cell
+unfoldable pub dot_of : Sprite → ℕ → ℕ → Dot
+dot_of s pixels column = record { colour = s.name / 8192 % 4 * 16 + pixel_of pixels column; priority = has_bit s.name 32768 }
 
 -- a dot drawn where nothing opaque stands
 unfoldable pub over : Dot → Dot → Dot

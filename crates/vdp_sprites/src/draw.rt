@@ -1,12 +1,13 @@
-ghost use Rattle.std.specs.Prelude.{◌≡◌, ℕ, ◌+◌, ◌-◌, ◌*◌, ◌<◌, ◌≤◌, ◌||◌, ◌&&◌, Bool, true, false, not, ◌==◌, min, length, slice_set, List, []};
+ghost use Rattle.std.specs.Prelude.{◌≡◌, ℕ, ◌+◌, ◌-◌, ◌*◌, ◌%◌, ◌<◌, ◌≤◌, ◌||◌, ◌&&◌, Bool, true, false, not, ◌==◌, min, length, slice_set, List, []};
+ghost use Rattle.vdp_planes.specs.Dots.{Dot as DotValue};
 ghost use Rattle.vdp_planes.specs.View.{AllColours, clear, dot_at, seen};
 ghost use Rattle.vdp_planes.specs.Planes.{width_of};
 ghost use Rattle.vdp_planes.specs.Mixing.{is_opaque};
-ghost use Rattle.vdp_sprites.specs.Sprites.{Part, collides, overflow, own_dot, parts, parts_from, sprite_dot};
+ghost use Rattle.vdp_sprites.specs.Sprites.{Part, collides, overflow, parts, parts_from, reaches, sprite_dot};
 ghost use Rattle.vdp_sprites.specs.Drawn.{IsLine, IsOver, IsReach, over, part_of};
 
 use crate::chosen::{Found, choose};
-use crate::parts::{own_dot, too_wide};
+use crate::parts::{cell_pixels, dot_of, too_wide};
 use crate::sprite::Sprite;
 use vdp_planes::{Dot, LineView, Scene, SpriteNote, width_of};
 
@@ -53,8 +54,54 @@ fn span_of(sprite: Sprite, pixels: u32, width: u32) -> (u32, u32)
     (first, last)
 }
 
+/// The place behind the cell of a sprite that has the place x, none behind `to`.
+#[inline(always)]
+fn cell_end(sprite: Sprite, x: u32, to: u32) -> u32
+    requires within { to ≤ 320 }
+    requires order { x < to }
+    requires left { sprite.x ≤ x + 128 }
+    ensures further { x < result }
+    ensures most { result ≤ to }
+    ensures cell { result ≤ x + 8 - (x + 128 - sprite.x) % 8 }
+{
+    let left = x + 128 - u32::from(sprite.x);
+    (x + 8 - left % 8).min(to)
+}
+
+/// Draws dots of a sprite that lie in one cell; the answer is `hit`, or true where one met another.
+#[inline(always)]
+fn draw_cell(
+    scene: &Scene,
+    y: u32,
+    sprite: Sprite,
+    from: u32,
+    to: u32,
+    mut hit: bool,
+    out: &mut [Dot; 320],
+) -> bool
+    requires line { y < 240 }
+    requires order { from < to }
+    requires within { to ≤ 320 }
+    requires left { sprite.x ≤ from + 128 }
+    requires right { from + 128 < sprite.x + 8 * sprite.width }
+    requires cell { to ≤ from + 8 - (from + 128 - sprite.x) % 8 }
+    ensures { (part : Part) (old : List DotValue) (before : Bool) → part.sprite ≡ sprite
+        → ((x : ℕ) → from ≤ x → x < to → reaches part x ≡ true)
+        → IsOver (seen scene.now) y from part old out.old before hit
+        → IsOver (seen scene.now) y to part old out.new before result }
+{
+    let pixels = cell_pixels(scene, y, sprite, from);
+    let first = (from + 128 - u32::from(sprite.x)) % 8;
+    for x in from..to {
+        let below = out[x as usize];
+        let dot = dot_of(sprite, pixels, first + (x - from));
+        out[x as usize] = over(below, dot);
+        hit = meeting(hit, below, dot);
+    }
+    hit
+}
+
 /// Draws the part of a sprite that shows; the answer is `hit`, or true where it met another.
-#[tactic(auto, using(crate::proofs::Parted::over_begun, crate::proofs::Parted::over_more))]
 fn draw_part(
     scene: &Scene,
     y: u32,
@@ -67,15 +114,18 @@ fn draw_part(
     requires line { y < 240 }
     requires width { width ≤ 320 }
     requires pixels { pixels ≤ 320 }
+    requires part { pixels ≤ 8 * sprite.width }
     requires whole { length out.old ≡ 320 }
     ensures { IsOver (seen scene.now) y width (part_of sprite pixels) out.old out.new hit result }
 {
+    // a copy stays in registers, since no dot is written over it
+    let scene = *scene;
     let (first, last) = span_of(sprite, pixels, width);
-    for x in first..last {
-        let below = out[x as usize];
-        let dot = own_dot(scene, y, sprite, x);
-        out[x as usize] = over(below, dot);
-        hit = meeting(hit, below, dot);
+    let mut x = first;
+    while x < last {
+        let end = cell_end(sprite, x, last);
+        hit = draw_cell(&scene, y, sprite, x, end, hit, out);
+        x = end;
     }
     hit
 }

@@ -1,11 +1,12 @@
-ghost use Rattle.std.specs.Prelude.{◌≡◌, ℕ, ◌+◌, ◌-◌, ◌*◌, ◌^◌, ◌<◌, ◌≤◌, Bool, List, nat_lt, sum_by};
+ghost use Rattle.std.specs.Prelude.{◌≡◌, ℕ, ◌+◌, ◌-◌, ◌*◌, ◌%◌, ◌^◌, ◌<◌, ◌≤◌, Bool, List, nat_lt, sum_by};
 ghost use Rattle.vdp_planes.specs.View.{seen};
+ghost use Rattle.vdp_sprites.specs.Drawn.{dot_of};
 ghost use Rattle.vdp_sprites.specs.Sprites.{own_dot, within};
 ghost use Rattle.vdp_sprites.specs.declared.sprite.Sprite.{Sprite as TheSprite};
 
 use crate::chosen::Found;
 use crate::sprite::Sprite;
-use vdp_planes::{Dot, Scene, pattern_index};
+use vdp_planes::{Dot, Scene, pixel, row_pixels};
 
 /// A place within a sprite of so many pixels, from the other side where it is flipped.
 #[inline(always)]
@@ -23,24 +24,43 @@ fn within(flip: bool, pixels: u32, n: u32) -> u32
     }
 }
 
-/// The dot of a sprite at a place of a line. Its cells run down, then right; a flip turns the whole.
+/// The pixels of a sprite in a line, of the cell that has the place x. Its cells run down, then right; a
+/// flip turns the whole.
 #[inline(always)]
-#[tactic(auto, unfolding(crate::specs::Sprites::own_dot))]
-pub fn own_dot(scene: &Scene, y: u32, sprite: Sprite, x: u32) -> Dot
+pub fn cell_pixels(scene: &Scene, y: u32, sprite: Sprite, x: u32) -> u32
     requires line { y < 240 }
     requires place { x < 320 }
-    ensures value { result ≡ own_dot (seen scene.now) y sprite x }
-    ensures below { result.colour < 64 }
+    requires left { sprite.x ≤ x + 128 }
+    requires right { x + 128 < sprite.x + 8 * sprite.width }
+    ensures { (i : ℕ) → x ≤ i → i < x + 8 - (x + 128 - sprite.x) % 8
+        → dot_of sprite result ((x + 128 - sprite.x) % 8 + (i - x)) ≡ own_dot (seen scene.now) y sprite i }
 {
     let name = u32::from(sprite.name);
     let height = u32::from(sprite.height);
-    let left = (x + 128).saturating_sub(u32::from(sprite.x));
+    let flip = name / 2048 % 2 == 1;
+    let left = x + 128 - u32::from(sprite.x);
     let top = (y + 128).saturating_sub(u32::from(sprite.y));
-    let across = within(name / 2048 % 2 == 1, 8 * u32::from(sprite.width), left);
+    let across = within(flip, u32::from(sprite.width), left / 8);
     let down = within(name / 4096 % 2 == 1, 8 * height, top);
-    let pattern = (name + across / 8 * height + down / 8) % 2048;
-    let index = pattern_index(scene, pattern, across % 8, down % 8);
-    Dot::new((name / 8192 % 4) as u8 * 16 + index, name / 32768 % 2 == 1)
+    row_pixels(
+        scene,
+        (name + across * height + down / 8) % 2048,
+        down % 8,
+        flip,
+    )
+}
+
+/// The dot of a sprite by one of eight pixels.
+#[inline(always)]
+#[tactic(auto, unfolding(crate::specs::Drawn::dot_of))]
+pub fn dot_of(sprite: Sprite, pixels: u32, column: u32) -> Dot
+    requires { column < 8 }
+    ensures value { result ≡ dot_of sprite pixels column }
+    ensures below { result.colour < 64 }
+{
+    let palette = sprite.name / 8192 % 4 * 16;
+    let colour = palette + pixel(pixels, column);
+    Dot::new(colour as u8, sprite.name / 32768 % 2 == 1)
 }
 
 /// Whether the chosen sprites have more pixels than a line counts.

@@ -8,10 +8,10 @@ returns-then-to-from c =
     let first : c.args.column ≡ 0 = omega arith in
     let end : c.args.to ≡ c.args.from + 8 = c.if-to-from.true in
     rw (first, end)
-    (pixels_drawn (seen c.args.scene.now) c.args.name c.pixels-pixels.result 0 c.args.row c.args.from (c.args.from + 8) _ _ (omega arith)
-    (rw c.turned-line.ensures.value at c.pixels-pixels.ensures) c.whole_run.ensures)
+    (pixels_drawn (seen c.args.scene.now) c.args.name c.row_pixels-pixels.result 0 c.args.row c.args.from (c.args.from + 8) _ _ (omega arith)
+    (rw c.turned-line.ensures.value at c.row_pixels-pixels.ensures) c.whole_run.ensures)
 
 pub returns-else-to-from : goal.returns-else-to-from
 returns-else-to-from c =
-    pixels_drawn (seen c.args.scene.now) c.args.name c.pixels-pixels.result c.args.column c.args.row c.args.from c.args.to _ _ c.requires.cell
-    (rw c.turned-line.ensures.value at c.pixels-pixels.ensures) c.pixel_run.ensures
+    pixels_drawn (seen c.args.scene.now) c.args.name c.row_pixels-pixels.result c.args.column c.args.row c.args.from c.args.to _ _ c.requires.cell
+    (rw c.turned-line.ensures.value at c.row_pixels-pixels.ensures) c.pixel_run.ensures
