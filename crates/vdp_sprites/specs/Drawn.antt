@@ -1,12 +1,12 @@
 -- A line of sprite dots on its way.
-use Rattle.std.specs.Prelude.{◌≡◌, ℕ, ◌+◌, ◌*◌, ◌/◌, ◌%◌, ◌<◌, ◌≤◌, Bool, true, false, ◌||◌, ◌&&◌, not, if◌then◌else◌, List, ◌++◌, length}
+use Rattle.std.specs.Prelude.{◌≡◌, ℕ, ◌+◌, ◌-◌, ◌*◌, ◌/◌, ◌%◌, ◌<◌, ◌≤◌, Bool, true, false, ◌||◌, ◌&&◌, not, if◌then◌else◌, List, ◌++◌, length}
 use Rattle.vdp_planes.specs.Dots.{Dot}
 use Rattle.vdp_planes.specs.declared.view.LineView.{LineView}
 use Rattle.vdp_planes.specs.View.{IsFilled, clear, dot_at, has_bit}
 use Rattle.vdp_planes.specs.Planes.{pixel_of, width_of}
 use Rattle.vdp_planes.specs.Mixing.{is_opaque}
 use Rattle.vdp_sprites.specs.declared.sprite.Sprite.{Sprite}
-use Rattle.vdp_sprites.specs.Sprites.{Part, any_below, collides, opaque_of, part_dot, parts_from, reaches}
+use Rattle.vdp_sprites.specs.Sprites.{Part, any_below, collides, opaque_of, own_dot, part_dot, parts_from, reaches}
 
 -- a sprite that shows so many pixels
 abbrev pub part_of : Sprite → ℕ → Part
@@ -40,6 +40,13 @@ meets_at view y part old x = is_opaque (dot_at old x) && is_opaque (part_dot vie
 pub record IsOver (view : LineView) (y to : ℕ) (part : Part) (old new : List Dot) (hit after : Bool) : Type 0 where
   pub dots : IsFilled clear 0 to old new (over_at view y part old)
   pub meets : after ≡ (hit || any_below to (meets_at view y part old))
+
+-- the dots of a part from one place to another are those of a sprite by eight pixels, of which the one in
+-- this column stands first
+pub record IsRun (view : LineView) (y : ℕ) (part : Part) (sprite : Sprite) (pixels column from to : ℕ) : Type 0 where
+  pub sprite_is : part.sprite ≡ sprite
+  pub reach : (x : ℕ) → from ≤ x → x < to → reaches part x ≡ true
+  pub dots : (x : ℕ) → from ≤ x → x < to → dot_of sprite pixels (column + (x - from)) ≡ own_dot view y sprite x
 
 -- a line after the parts of a list, and whether two of them met
 pub record IsLine (view : LineView) (y : ℕ) (list : List Part) (line : List Dot) (hit : Bool) : Type 0 where

@@ -1,10 +1,11 @@
 ghost use Rattle.std.specs.Prelude.{◌≡◌, ℕ, ◌+◌, ◌-◌, ◌*◌, ◌%◌, ◌<◌, ◌≤◌, ◌||◌, ◌&&◌, Bool, true, false, not, ◌==◌, min, length, slice_set, List, []};
 ghost use Rattle.vdp_planes.specs.Dots.{Dot as DotValue};
+ghost use Rattle.vdp_planes.specs.declared.view.LineView.{LineView as View};
 ghost use Rattle.vdp_planes.specs.View.{AllColours, clear, dot_at, seen};
 ghost use Rattle.vdp_planes.specs.Planes.{width_of};
 ghost use Rattle.vdp_planes.specs.Mixing.{is_opaque};
 ghost use Rattle.vdp_sprites.specs.Sprites.{Part, collides, overflow, parts, parts_from, reaches, sprite_dot};
-ghost use Rattle.vdp_sprites.specs.Drawn.{IsLine, IsOver, IsReach, over, part_of};
+ghost use Rattle.vdp_sprites.specs.Drawn.{IsLine, IsOver, IsReach, IsRun, over, part_of};
 
 use crate::chosen::{Found, choose};
 use crate::parts::{cell_pixels, dot_of, too_wide};
@@ -68,6 +69,52 @@ fn cell_end(sprite: Sprite, x: u32, to: u32) -> u32
     (x + 8 - left % 8).min(to)
 }
 
+/// Draws dots of a sprite from these pixels, the one in `column` at `from`; the answer is `hit`, or true
+/// where one met another.
+#[inline(always)]
+fn draw_run(
+    sprite: Sprite,
+    pixels: u32,
+    column: u32,
+    from: u32,
+    to: u32,
+    mut hit: bool,
+    out: &mut [Dot; 320],
+) -> bool
+    requires order { from ≤ to }
+    requires within { to ≤ 320 }
+    requires cell { column + to ≤ from + 8 }
+    ensures { (view : View) (y : ℕ) (part : Part) (old : List DotValue) (before : Bool) → IsRun view y part sprite pixels column from to
+        → IsOver view y from part old out.old before hit
+        → IsOver view y to part old out.new before result }
+{
+    for x in from..to {
+        let below = out[x as usize];
+        let dot = dot_of(sprite, pixels, column + (x - from));
+        out[x as usize] = over(below, dot);
+        hit = meeting(hit, below, dot);
+    }
+    hit
+}
+
+/// Draws the eight dots of a cell's row: their number is known to the compiler.
+#[inline(always)]
+fn draw_whole(sprite: Sprite, pixels: u32, from: u32, mut hit: bool, out: &mut [Dot; 320]) -> bool
+    requires within { from + 8 ≤ 320 }
+    ensures { (view : View) (y : ℕ) (part : Part) (old : List DotValue) (before : Bool) → IsRun view y part sprite pixels 0 from (from + 8)
+        → IsOver view y from part old out.old before hit
+        → IsOver view y (from + 8) part old out.new before result }
+{
+    let at = from as usize;
+    for column in 0..8 {
+        let below = out[at + column as usize];
+        let dot = dot_of(sprite, pixels, column);
+        out[at + column as usize] = over(below, dot);
+        hit = meeting(hit, below, dot);
+    }
+    hit
+}
+
 /// Draws dots of a sprite that lie in one cell; the answer is `hit`, or true where one met another.
 #[inline(always)]
 fn draw_cell(
@@ -76,7 +123,7 @@ fn draw_cell(
     sprite: Sprite,
     from: u32,
     to: u32,
-    mut hit: bool,
+    hit: bool,
     out: &mut [Dot; 320],
 ) -> bool
     requires line { y < 240 }
@@ -91,14 +138,13 @@ fn draw_cell(
         → IsOver (seen scene.now) y to part old out.new before result }
 {
     let pixels = cell_pixels(scene, y, sprite, from);
-    let first = (from + 128 - u32::from(sprite.x)) % 8;
-    for x in from..to {
-        let below = out[x as usize];
-        let dot = dot_of(sprite, pixels, first + (x - from));
-        out[x as usize] = over(below, dot);
-        hit = meeting(hit, below, dot);
+    let column = (from + 128 - u32::from(sprite.x)) % 8;
+    // a whole cell apart: its number of dots is known to the compiler
+    if to == from + 8 {
+        draw_whole(sprite, pixels, from, hit, out)
+    } else {
+        draw_run(sprite, pixels, column, from, to, hit, out)
     }
-    hit
 }
 
 /// Draws the part of a sprite that shows; the answer is `hit`, or true where it met another.

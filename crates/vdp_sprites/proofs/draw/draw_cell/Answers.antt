@@ -1,20 +1,25 @@
-use Rattle.std.proofs.Common.{◌≡◌, ◌∙◌, sym, ap, ◌<◌, length, arith}
-use Rattle.std.specs.Prelude.{slice_index_or}
-use Rattle.std.proofs.lemmas.List.{get_or_default}
-use Rattle.vdp_planes.specs.View.{clear, seen}
-use Rattle.vdp_sprites.specs.Sprites.{own_dot}
-use Rattle.vdp_sprites.proofs.Parted.{over_next}
+use Rattle.std.proofs.Common.{◌≡◌, ◌∙◌, ◌+◌, ◌-◌, ◌%◌, sym, ap, arith}
+use Rattle.vdp_planes.specs.View.{seen}
+use Rattle.vdp_sprites.specs.Drawn.{dot_of}
 use Rattle.vdp_sprites.proofs.draw.draw_cell.Goals as goal
 
-pub loop-x-preserved : goal.loop-x-preserved
-loop-x-preserved c =
+pub returns-then-to-from : goal.returns-then-to-from
+returns-then-to-from c =
     λ part old before e reach begun.
-    let view = seen c.args.scene.now in
-    let x = c.loop-x.x in
-    let out = c.loop-x.out in
-    let so_far = c.loop-x.invariant part old before e reach begun in
-    let here : x < length out = omega (arith, so_far.dots.whole, c.requires.within) in
-    let dot : c.dot_of-dot.result ≡ own_dot view c.args.y c.args.sprite x = (rw c.from.ensures at c.dot_of-dot.ensures.value) ∙ c.cell_pixels-pixels.ensures x (omega arith) (omega (arith, c.requires.cell)) in
-    over_next view c.args.y x part old out before c.loop-x.hit c.meeting-hit.result (slice_index_or out x c.index-out-x.result) c.dot_of-dot.result c.over.result
-    so_far (omega (arith, c.requires.within)) (reach x (omega arith) (omega arith)) (get_or_default out x c.index-out-x.result clear here)
-    (dot ∙ ap (λ s. own_dot view c.args.y s x) (sym e)) c.over.ensures c.meeting-hit.ensures
+    let first : (c.args.from + 128 - c.args.sprite.x) % 8 ≡ 0 = omega (arith, c.requires.cell) in
+    let end : c.args.to ≡ c.args.from + 8 = c.if-to-from.true in
+    rw end
+    (c.draw_whole.ensures (seen c.args.scene.now) c.args.y part old before (record {
+      sprite_is = e;
+      reach = λ x low high. reach x low (omega arith);
+      dots = λ x low high. ap (λ n. dot_of c.args.sprite c.cell_pixels-pixels.result (n + (x - c.args.from))) (sym first) ∙ c.cell_pixels-pixels.ensures x low (omega arith);
+    }) begun)
+
+pub returns-else-to-from : goal.returns-else-to-from
+returns-else-to-from c =
+    λ part old before e reach begun.
+    c.draw_run.ensures (seen c.args.scene.now) c.args.y part old before (record {
+      sprite_is = e;
+      reach = reach;
+      dots = λ x low high. rw c.from.ensures (c.cell_pixels-pixels.ensures x low (omega (arith, c.requires.cell)));
+    }) begun
