@@ -4,6 +4,15 @@ ghost use Rattle.vdp_planes.specs.Planes.{pattern_index, pixel_dot, pixel_of, ru
 
 use crate::view::{Dot, Scene};
 
+/// Moves a number of 16 bits to four places, 20 bits apart.
+const FOUR_APART: u64 = 0x1000_0100_0010_0001;
+
+/// The lowest digits of four numbers of 16 bits.
+const LOW_DIGITS: u64 = 0x000f_000f_000f_000f;
+
+/// One in each of four numbers of 16 bits.
+const FOUR_ONES: u64 = 0x0001_0001_0001_0001;
+
 /// The right pixels of four bytes.
 const RIGHT_PIXELS: u32 = 0x0f0f_0f0f;
 
@@ -85,7 +94,8 @@ pub fn pixel(pixels: u32, column: u32) -> u16
 #[inline(always)]
 fn base(name: u32) -> u16
     requires { name < 2 ^ 16 }
-    ensures { result ≡ name / 32768 % 2 * 256 + name / 8192 % 4 * 16 }
+    ensures value { result ≡ name / 32768 % 2 * 256 + name / 8192 % 4 * 16 }
+    ensures below { result < 496 }
 {
     (name / 32768 % 2 * 256 + name / 8192 % 4 * 16) as u16
 }
@@ -106,19 +116,48 @@ fn pixel_run(name: u32, pixels: u32, column: u32, from: u32, to: u32, out: &mut 
     }
 }
 
-/// Draws the eight dots of a cell's row: their number is known to the compiler.
+/// The words of four dots in one number, the left one lowest: the four digits are moved apart by one
+/// multiplication, and the word of a transparent dot is added to each.
 #[inline(always)]
-#[tactic(auto, using(crate::proofs::Filled::filled_next))]
+fn four_words(digits: u32, base: u16) -> u64
+    requires digits { digits < 2 ^ 16 }
+    requires base { base < 496 }
+    ensures { (c : ℕ) → c < 4 → result / 2 ^ (16 * c) % 65536 ≡ base + digits / 2 ^ (12 - 4 * c) % 16 }
+{
+    let apart = u64::from(digits).wrapping_mul(FOUR_APART) / 4096 & LOW_DIGITS;
+    apart + u64::from(base) * FOUR_ONES
+}
+
+/// Puts four dots of a cell's row, those from `column` on, at their places behind `from`.
+#[inline(always)]
+fn put_four(name: u32, pixels: u32, words: u64, column: u32, from: u32, out: &mut [Dot; 320])
+    requires column { column ≤ 4 }
+    requires within { from + 8 ≤ 320 }
+    requires whole { length out.old ≡ 320 }
+    requires words { (c : ℕ) → c < 4 → words / 2 ^ (16 * c) % 65536 ≡ name / 32768 % 2 * 256 + name / 8192 % 4 * 16 + pixel_of pixels (column + c) }
+    ensures { IsFilled clear (from + column) (from + column + 4) out.old out.new (pixel_dot name pixels 0 from) }
+{
+    // no loop, so that the compiler stores the four at once
+    let at = from as usize + column as usize;
+    out[at] = Dot::of_word((words % 65_536) as u16);
+    out[at + 1] = Dot::of_word((words / 65_536 % 65_536) as u16);
+    out[at + 2] = Dot::of_word((words / 4_294_967_296 % 65_536) as u16);
+    out[at + 3] = Dot::of_word((words / 281_474_976_710_656 % 65_536) as u16);
+}
+
+/// Draws the eight dots of a cell's row, four at once.
+#[inline(always)]
 fn whole_run(name: u32, pixels: u32, from: u32, out: &mut [Dot; 320])
     requires name { name < 2 ^ 16 }
     requires within { from + 8 ≤ 320 }
+    requires whole { length out.old ≡ 320 }
     ensures { IsFilled clear from (from + 8) out.old out.new (pixel_dot name pixels 0 from) }
 {
     let base = base(name);
-    let at = from as usize;
-    for column in 0..8 {
-        out[at + column as usize] = Dot::of_word(base + pixel(pixels, column));
-    }
+    let left = four_words(pixels / 65_536, base);
+    let right = four_words(pixels % 65_536, base);
+    put_four(name, pixels, left, 0, from, out);
+    put_four(name, pixels, right, 4, from, out);
 }
 
 /// Draws the dots of a row of the cell of this name, the one in `column` at `from`, up to `to`.
