@@ -14,14 +14,11 @@ pub fn put_entry(entry: &Entry, into: &mut Vec<u8>)
     ensures length { vec_len into.new ≡ vec_len into.old + 16 }
     ensures room { vec_capacity into.new ≡ vec_capacity into.old }
 {
-    let mut cycle = [0; 8];
-    BigEndian::write_u64(&mut cycle, entry.key.cycle);
-    put(&cycle, into);
-    put(&[entry.key.chip, entry.kind], into);
-    let mut address = [0; 4];
-    BigEndian::write_u32(&mut address, entry.address);
-    put(&address, into);
-    let mut value = [0; 2];
-    BigEndian::write_u16(&mut value, entry.value);
-    put(&value, into);
+    let mut bytes = [0; 16];
+    BigEndian::write_u64(&mut bytes, entry.key.cycle);
+    bytes[8] = entry.key.chip;
+    bytes[9] = entry.kind;
+    BigEndian::write_u32(&mut bytes[10..], entry.address);
+    BigEndian::write_u16(&mut bytes[14..], entry.value);
+    put(&bytes, into);
 }

@@ -3,4 +3,4 @@ use Rattle.md_files.proofs.put.put.Given as goal
 
 abbrev pub invariant-loop-byte : goal.invariant-loop-byte
 invariant-loop-byte l =
-    (l.into.items ≡ l.fn.into.items ++ take l.byte-index l.bytes) × (vec_len l.into ≡ vec_len l.fn.into + l.byte-index) × (vec_capacity l.into ≡ vec_capacity l.fn.into)
+    (l.taken.items ≡ l.fn.into.items ++ take l.byte-index l.bytes) × (vec_len l.taken ≡ vec_len l.fn.into + l.byte-index) × (vec_capacity l.taken ≡ vec_capacity l.fn.into)
