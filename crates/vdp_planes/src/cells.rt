@@ -41,12 +41,7 @@ fn reversed(row: u32) -> u32
     ensures { (b0 b1 b2 b3 : ℕ) → b0 < 256 → b1 < 256 → b2 < 256 → b3 < 256 → row ≡ b3 * 16777216 + b2 * 65536 + b1 * 256 + b0
         → result ≡ b0 * 16777216 + b1 * 65536 + b2 * 256 + b3 }
 {
-    joined(
-        (row % 256) as u8,
-        (row / 256 % 256) as u8,
-        (row / 65_536 % 256) as u8,
-        (row / 16_777_216) as u8,
-    )
+    row.swap_bytes()
 }
 
 /// Each byte's two pixels changed about.
