@@ -155,6 +155,20 @@ fn whole_run(name: u32, pixels: u32, from: u32, out: &mut [Dot; 320])
     put_four(name, pixels, right, 4, from, out);
 }
 
+/// Draws the eight dots of a row of the cell of this name.
+#[inline(always)]
+pub fn cell_row(scene: &Scene, name: u32, row: u32, from: u32, out: &mut [Dot; 320])
+    requires name { name < 2 ^ 16 }
+    requires row { row < 8 }
+    requires within { from + 8 ≤ 320 }
+    requires whole { length out.old ≡ 320 }
+    ensures { IsFilled clear from (from + 8) out.old out.new (run_dot (seen scene.now) name 0 row from) }
+{
+    let line = turned(name / 4096 % 2 == 1, row);
+    let pixels = row_pixels(scene, name % 2048, line, name / 2048 % 2 == 1);
+    whole_run(name, pixels, from, out);
+}
+
 /// Draws the dots of a row of the cell of this name, the one in `column` at `from`, up to `to`.
 #[inline(always)]
 pub fn cell_run(

@@ -3,7 +3,7 @@ ghost use Rattle.vdp_planes.specs.View.{IsFilled, clear, has_bit, register, seen
 ghost use Rattle.vdp_planes.specs.Planes.{down, name_place, plane_number, point_y, scroll_place, scrolled_dot};
 ghost use Rattle.vdp_planes.specs.Scrolls.{IsScroll};
 
-use crate::cells::cell_run;
+use crate::cells::{cell_row, cell_run};
 use crate::fields::{cells, even_word, word, wrapped};
 use crate::register::{MODE_3, PLANE_A, PLANE_B, PLANE_SIZE, SCROLLS};
 use crate::view::{Dot, Scene};
@@ -132,6 +132,7 @@ fn scrolled_cell(
     ensures drawn { IsFilled clear x result out.old out.new (scrolled_dot (seen scene.now) scroll.now.second scroll.now.y) }
     ensures further { x < result }
     ensures most { result ≤ to }
+    ensures next { result < to → (result + scroll.now.shift) % 8 ≡ 0 }
 {
     let px = wrapped(x + scroll.shift, scroll.across);
     let index = (py / 8 * cells(scroll.across) + px / 8) % 4096;
@@ -141,7 +142,26 @@ fn scrolled_cell(
     next
 }
 
-/// Draws the dots of the plane from one place to another, all with one vertical scroll.
+/// Draws the eight dots of a cell that begins at `x`. `py` is the point of the plane down, the same for all.
+#[inline(always)]
+#[tactic(auto, unfolding(crate::specs::Planes::name_place, crate::specs::Planes::point_x))]
+fn whole_cell(scene: &Scene, scroll: &Scroll, py: u32, x: u32, out: &mut [Dot; 320])
+    requires scroll { IsScroll (seen scene.now) scroll.now }
+    requires within { x + 8 ≤ 320 }
+    requires whole { length out.old ≡ 320 }
+    requires tall { py < 1024 }
+    requires begins { (x + scroll.now.shift) % 8 ≡ 0 }
+    requires down { (i : ℕ) → x ≤ i → i < x + 8 → py ≡ point_y (seen scene.now) scroll.now.second scroll.now.y i }
+    ensures { IsFilled clear x (x + 8) out.old out.new (scrolled_dot (seen scene.now) scroll.now.second scroll.now.y) }
+{
+    let px = wrapped(x + scroll.shift, scroll.across);
+    let index = (py / 8 * cells(scroll.across) + px / 8) % 4096;
+    let name = even_word(scene, scroll.base / 2 + index);
+    cell_row(scene, name, py % 8, x, out);
+}
+
+/// Draws the dots of the plane from one place to another, all with one vertical scroll: cells that begin
+/// where another ends are drawn whole.
 #[inline(always)]
 #[tactic(auto, unfolding(crate::specs::Planes::point_y))]
 fn draw_column(scene: &Scene, scroll: &Scroll, from: u32, to: u32, out: &mut [Dot; 320])
@@ -153,9 +173,13 @@ fn draw_column(scene: &Scene, scroll: &Scroll, from: u32, to: u32, out: &mut [Do
     ensures { IsFilled clear from to out.old out.new (scrolled_dot (seen scene.now) scroll.now.second scroll.now.y) }
 {
     let py = wrapped(scroll.y + down(scene, scroll, from), scroll.down);
-    let mut x = from;
-    while x < to {
-        x = scrolled_cell(scene, scroll, py, x, to, out);
+    let mut x = scrolled_cell(scene, scroll, py, from, to, out);
+    while x + 8 <= to {
+        whole_cell(scene, scroll, py, x, out);
+        x += 8;
+    }
+    if x < to {
+        scrolled_cell(scene, scroll, py, x, to, out);
     }
 }
 
