@@ -1,8 +1,8 @@
 -- A batch on its way from sample to sample.
-use Rattle.std.proofs.Common.{◌≡◌, ◌∙◌, ap, ℕ, ◌+◌, List, add-one, ℤ}
+use Rattle.std.proofs.Common.{◌≡◌, ◌∙◌, ap, ℕ, ◌+◌, List, [], add-one, ℤ}
 use Rattle.fm_port.specs.declared.write.FmWrite.{FmWrite}
 use Rattle.fm_chip.specs.Synth.{Synth, sampled, sides}
-use Rattle.fm_chip.specs.Batches.{Course, written_all, due, course, sample, after_batch}
+use Rattle.fm_chip.specs.Batches.{Course, made_below, written_all, due, course, sample, after_batch}
 
 pub course-first : (first : ℕ) (s : Synth) (ws rest : List FmWrite) → rest ≡ ws → record { chip = s; rest = rest } ≡ course first s ws 0
 unfolding course
@@ -25,3 +25,7 @@ pub after_batch-is : (first : ℕ) (s : Synth) (ws : List FmWrite) (after : Synt
     → c ≡ course first s ws 16 → after ≡ written_all c.rest c.chip → after ≡ after_batch first s ws
 unfolding after_batch
 after_batch-is first s ws after c e f = f ∙ ap (λ (x : Course). written_all x.rest x.chip) e
+
+-- where there are no writes none is made
+pub none-below : (cycle : ℕ) (s : Synth) (c : Course) (ws : List FmWrite) → c ≡ made_below cycle s ws → ws ≡ [] → c.rest ≡ []
+none-below cycle s c ws e none = ap (λ (x : Course). x.rest) (e ∙ ap (made_below cycle s) none)

@@ -1,6 +1,7 @@
 pub mod Agreeing
 pub mod Courses
 pub mod Histories
+pub mod Idle
 pub mod Mixed
 pub mod Quiet
 pub mod Rests

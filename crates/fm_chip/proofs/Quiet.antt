@@ -27,7 +27,7 @@ unfolding voice_of
 quiet-heard registers t c ch quiet = heard-quiet _ (are-silent registers _ c ch quiet)
 
 -- the channel with these last outputs
-abbrev with_last : Channel → List ℤ → Channel
+abbrev pub with_last : Channel → List ℤ → Channel
 with_last ch last = record { one = ch.one; two = ch.two; three = ch.three; four = ch.four; last = last }
 
 pub quiet-sounded : (registers : List ℕ) (t c : ℕ) (ch : Channel) (b : ℤ) → IsQuiet ch → b ≡ last_at ch.last 1 → with_last ch (b ∷ pos 0 ∷ []) ≡ sounded registers t c ch

@@ -13,7 +13,7 @@ use Rattle.fm_chip.specs.Registers.{at, of_channel}
 use Rattle.fm_chip.specs.Lfo.{stepped}
 use Rattle.fm_chip.specs.Latches.{taken_latch, own_latch}
 use Rattle.fm_chip.specs.Keys.{keyed_channel, channels_keyed}
-use Rattle.fm_chip.specs.Channels.{IsChannel, channel_at, channel_value, channel_after}
+use Rattle.fm_chip.specs.Channels.{AreAtRest, IsChannel, channel_at, channel_value, channel_after}
 
 -- the chip: the registers and latches that were written, and what sounds by them
 pub record Synth : Type 0 where
@@ -26,6 +26,12 @@ pub record Synth : Type 0 where
   -- the counter of the envelopes
   pub counter : ℕ
   pub channels : List Channel
+
+-- no sample is heard of it while nothing is written: each channel's envelopes have come to the end of their
+-- release, and the converter is off
+pub record IsIdle (s : Synth) : Type 0 where
+  pub channels : All AreAtRest s.channels
+  pub converter : at s.registers 0x2b < 128
 
 -- what holds of each chip
 pub record IsSynth (s : Synth) : Type 0 where

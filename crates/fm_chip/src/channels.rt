@@ -1,5 +1,6 @@
-ghost use Rattle.std.specs.Prelude.{◌/◌, ◌≡◌, ◌+◌, ◌*◌, ◌^◌, ◌<◌, ◌≤◌, ◌≤ℤ◌, pos, negsuc, All, IsTrue};
+ghost use Rattle.std.specs.Prelude.{ℕ, List, ◌/◌, ◌≡◌, ◌+◌, ◌*◌, ◌^◌, ◌<◌, ◌≤◌, ◌≤ℤ◌, pos, negsuc, All, IsTrue};
 ghost use Rattle.fm_chip.specs.Channels as meaning;
+ghost use Rattle.fm_chip.specs.declared.channels.Moment.{Moment as MomentValue};
 ghost use Rattle.fm_chip.specs.Channels.{AreAtRest, IsChannel, IsQuiet};
 ghost use Rattle.fm_chip.specs.Steps.{IsSmall, steps_of};
 ghost use Rattle.fm_chip.specs.Shapes.{AreInRange, all_enveloped_by, attenuations_by, ready_by, shapes_of};
@@ -95,7 +96,7 @@ impl Channel {
     }
 
     /// Whether a tick leaves all four envelopes as they are.
-    fn is_at_rest(&self) -> bool
+    pub fn is_at_rest(&self) -> bool
         ensures { IsTrue result → AreAtRest self.now }
     {
         self.one.is_at_rest()
@@ -174,6 +175,23 @@ impl Channel {
         if moment.ticks {
             self.tick(shapes, moment.counter);
         }
+    }
+
+    /// Makes a sample where all envelopes have come to the end of their release: nothing is heard, and its
+    /// phases advance by the steps that are due.
+    #[inline(always)]
+    #[tactic(auto, unfolding(crate::specs::Channels::all_advanced))]
+    pub fn rest(&mut self, steps: &Steps)
+        requires channel { IsChannel self.old }
+        requires rest { AreAtRest self.old }
+        requires small { IsSmall steps.now }
+        ensures after { (registers : List ℕ) (m : MomentValue) (c : ℕ) → steps.now ≡ steps_of registers (m.t / 4) c
+            → self.new ≡ meaning.channel_after registers m c self.old }
+        ensures channel { IsChannel self.new }
+        ensures rest { AreAtRest self.new }
+    {
+        self.last = [self.last[1], 0];
+        self.advance(steps);
     }
 
     /// Makes a sample of channel `number`, 0 to 5: the envelopes tick where that is due, it sounds, and

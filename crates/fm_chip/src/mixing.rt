@@ -1,13 +1,15 @@
-ghost use Rattle.std.specs.Prelude.{◌/◌, ◌≡◌, ◌+◌, ◌*◌, ◌<◌, ◌≤ℤ◌, pos, length, All, slice_set};
+ghost use Rattle.std.specs.Prelude.{ℕ, List, IsTrue, ◌/◌, ◌≡◌, ◌+◌, ◌*◌, ◌<◌, ◌≤ℤ◌, pos, length, All, slice_set};
 ghost use Rattle.fm_chip.specs.Synth as meaning;
-ghost use Rattle.fm_chip.specs.Channels.{IsChannel, channel_at, channel_value, channel_after};
-ghost use Rattle.fm_chip.specs.Steps.{AreSteps};
+ghost use Rattle.fm_chip.specs.Channels.{AreAtRest, IsChannel, channel_at, channel_value, channel_after};
+ghost use Rattle.fm_chip.specs.declared.channels.Moment.{Moment as MomentValue};
+ghost use Rattle.fm_chip.specs.Steps.{AreSteps, IsSmall};
 ghost use Rattle.fm_chip.specs.Shapes.{AreShapes};
 ghost use Rattle.fm_voice.specs.Channel.{IsLevel, IsWithin};
 
 use crate::channels::{Channel, Moment};
 use crate::kept::Kept;
 use crate::registers::{Registers, SIDES_DEPTHS, of_channel};
+use crate::steps::Steps;
 
 /// What a channel's level adds to the left side.
 #[tactic(auto, unfolding(crate::specs::Synth::left_of))]
@@ -65,6 +67,37 @@ fn sample_one(
         &kept.shapes[number as usize],
         number,
     )
+}
+
+/// Whether all envelopes of all channels have come to the end of their release.
+pub fn are_at_rest(channels: &[Channel; 6]) -> bool
+    requires { length channels.now ≡ 6 }
+    ensures { IsTrue result → All AreAtRest channels.now }
+{
+    for channel in channels {
+        if !channel.is_at_rest() {
+            return false;
+        }
+    }
+    true
+}
+
+/// Makes a sample of all channels where all envelopes have come to the end of their release.
+pub fn rest_all(channels: &mut [Channel; 6], steps: &[Steps; 6])
+    requires channels { All IsChannel channels.old }
+    requires rest { All AreAtRest channels.old }
+    requires six { length channels.old ≡ 6 }
+    requires steps { length steps.now ≡ 6 }
+    requires small { All IsSmall steps.now }
+    ensures after { (registers : List ℕ) (m : MomentValue) → AreSteps registers (m.t / 4) steps.now
+        → channels.new ≡ meaning.channels_after registers m channels.old }
+    ensures channels { All IsChannel channels.new }
+    ensures rest { All AreAtRest channels.new }
+    ensures six { length channels.new ≡ 6 }
+{
+    for number in 0..6 {
+        channels[number].rest(&steps[number]);
+    }
 }
 
 /// Makes a sample of all channels; returns the sums of both sides, each from −49,152 to 49,152.

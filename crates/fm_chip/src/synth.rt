@@ -1,6 +1,6 @@
-ghost use Rattle.std.specs.Prelude.{◌≡◌, ◌+◌, ◌*◌, ◌^◌, ◌<◌, ◌≤◌, List, [], ◌∷◌, length, All};
+ghost use Rattle.std.specs.Prelude.{◌≡◌, ◌+◌, ◌*◌, ◌^◌, ◌<◌, ◌≤◌, List, [], ◌∷◌, length, All, true};
 ghost use Rattle.fm_chip.specs.Synth as meaning;
-ghost use Rattle.fm_chip.specs.Synth.{IsSides, IsSynth, at_power_on, written, sides, sampled};
+ghost use Rattle.fm_chip.specs.Synth.{IsIdle, IsSides, IsSynth, at_power_on, written, sides, sampled};
 ghost use Rattle.fm_chip.specs.Batches.{after_batch, made_below, samples, written_all};
 ghost use Rattle.fm_chip.specs.History.{Continues, IsNextBatch, chip_before};
 ghost use Rattle.fm_port.specs.declared.write.FmWrite.{FmWrite as Write};
@@ -10,7 +10,7 @@ use crate::kept::Kept;
 use crate::keys::{keyed_channel, press};
 use crate::latch::{own_latch, taken_latch};
 use crate::lfo::Lfo;
-use crate::mixing::sample_all;
+use crate::mixing::{are_at_rest, rest_all, sample_all};
 use crate::operator::Operator;
 use crate::registers::Registers;
 use fm_env::EnvelopeState;
@@ -22,6 +22,9 @@ const SAMPLE: u64 = 1_008;
 
 /// The register of the low frequency oscillator.
 const OSCILLATOR: usize = 0x22;
+
+/// The register that puts the converter on.
+const CONVERTER: usize = 0x2b;
 
 /// The register of the keys.
 const KEYS: u8 = 0x28;
@@ -108,10 +111,11 @@ impl FmSynth {
             → IsNextBatch history list.now.items first self.new out.new }
     {
         let mut rest = list.as_slice();
+        let idle = self.is_idle_through(rest);
         for k in 0..16 {
             let number = first + k as u64;
             rest = self.write_below(SAMPLE * number, rest);
-            out[k] = self.sample(number);
+            out[k] = self.sample_by(number, idle);
         }
         self.write_all(rest);
         // Opens the chip for its proof: that the registers are in their ranges.
@@ -141,6 +145,57 @@ impl FmSynth {
         for write in writes {
             self.write(write);
         }
+    }
+
+    /// Whether nothing is heard while these writes are made, since there are none.
+    fn is_idle_through(&self, writes: &[FmWrite]) -> bool
+        ensures idle { result ≡ true → IsIdle self.now }
+        ensures none { result ≡ true → writes.now ≡ [] }
+    {
+        if let [] = writes {
+            return self.is_idle();
+        }
+        false
+    }
+
+    /// Whether nothing is heard while nothing is written.
+    fn is_idle(&self) -> bool
+        ensures { result ≡ true → IsIdle self.now }
+    {
+        if self.registers[CONVERTER] >= 128 {
+            return false;
+        }
+        are_at_rest(&self.channels)
+    }
+
+    /// Makes sample number `k`, of which nothing is heard where the chip is idle.
+    fn sample_by(&mut self, k: u64, idle: bool) -> (i32, i32)
+        requires idle { idle ≡ true → IsIdle self.old }
+        ensures sides { result ≡ sides k self.old }
+        ensures range { IsSides result }
+        ensures after { self.new ≡ sampled k self.old }
+        ensures idle { idle ≡ true → IsIdle self.new }
+    {
+        if idle { self.rest(k) } else { self.sample(k) }
+    }
+
+    /// Makes sample number `k` of an idle chip: apart, so that it stays out of the way of samples that sound.
+    #[inline(never)]
+    #[tactic(auto, unfolding(crate::specs::Synth::moment, crate::specs::Synth::counted, crate::specs::Synth::sampled))]
+    fn rest(&mut self, k: u64) -> (i32, i32)
+        requires { IsIdle self.old }
+        ensures sides { result ≡ sides k self.old }
+        ensures range { IsSides result }
+        ensures after { self.new ≡ sampled k self.old }
+        ensures idle { IsIdle self.new }
+    {
+        self.lfo.step(self.registers[OSCILLATOR]);
+        if k % 3 == 0 {
+            self.counter = (self.counter + 1) % 4096;
+        }
+        self.kept.renew(&self.registers, self.lfo.t / 4);
+        rest_all(&mut self.channels, &self.kept.steps);
+        (0, 0)
     }
 
     /// Makes sample number `k`: the sums of the left and the right side.

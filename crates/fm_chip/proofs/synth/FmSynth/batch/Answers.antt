@@ -3,13 +3,15 @@ use Rattle.std.proofs.lemmas.List.Elements.{All-from_get_or}
 use Rattle.std.proofs.lemmas.List.FromFn.{fill_by_all}
 use Rattle.fm_chip.specs.Synth.{IsSides}
 use Rattle.fm_chip.specs.Batches.{Course, course, sample, samples}
-use Rattle.fm_chip.proofs.Courses.{course-first, course-more, sample-is, after_batch-is}
+use Rattle.fm_chip.proofs.Courses.{course-first, course-more, none-below, sample-is, after_batch-is}
 use Rattle.fm_chip.proofs.Histories.{IsNextBatch-is}
 use Rattle.fm_chip.proofs.synth.FmSynth.batch.Goals as goal
 
 pub loop-k-init : goal.loop-k-init
 loop-k-init c = record {
   course = course-first c.args.first c.args.self.now c.args.list.now.items _ c.as_slice-rest.ensures.value;
+  idle = c.is_idle_through-idle.ensures.idle;
+  none = c.is_idle_through-idle.ensures.none;
   sixteen = search rules;
   samples = λ j h. absurd (omega arith);
   range = λ j h. absurd (omega arith);
@@ -24,14 +26,16 @@ loop-k-preserved c =
     let now : Course = record { chip = c.write_below-rest.new.self; rest = c.write_below-rest.result.now } in
     let room : k < length c.loop-k.out = omega (arith, c.loop-k.invariant.sixteen) in
     record {
-      course = course-more first s ws k _ _ now c.loop-k.invariant.course c.write_below-rest.ensures c.sample.ensures.after;
+      course = course-more first s ws k _ _ now c.loop-k.invariant.course c.write_below-rest.ensures c.sample_by.ensures.after;
+      idle = c.sample_by.ensures.idle;
+      none = λ on. none-below _ _ now _ c.write_below-rest.ensures (c.loop-k.invariant.none on);
       sixteen = search rules;
       samples = below_more _ _
           (λ j h. let ne : j ≢ k = omega arith in rw get_or-set_other (c.loop-k.invariant.samples j h))
-          (rw get_or-set_same (sample-is first s ws k _ now _ c.loop-k.invariant.course c.write_below-rest.ensures c.sample.ensures.sides));
+          (rw get_or-set_same (sample-is first s ws k _ now _ c.loop-k.invariant.course c.write_below-rest.ensures c.sample_by.ensures.sides));
       range = below_more _ _
           (λ j h. let ne : j ≢ k = omega arith in rw get_or-set_other (c.loop-k.invariant.range j h))
-          (rw get_or-set_same c.sample.ensures.range);
+          (rw get_or-set_same c.sample_by.ensures.range);
     }
 
 pub returns-clause-chip : goal.returns-clause-chip
