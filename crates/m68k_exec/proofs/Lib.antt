@@ -1,5 +1,6 @@
 pub mod Bounds
 pub mod Compares
+pub mod Foresight
 pub mod Later
 pub mod Pushes
 pub mod Stack

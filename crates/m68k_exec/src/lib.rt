@@ -12,5 +12,5 @@ use access::outcome::Outcome;
 use access::stop::Stop;
 use access::view::Around;
 pub use access::view::Progress;
-pub use sample::go;
-pub use sample::step::{Finish, Step};
+pub use sample::step::{Finish, Foreseen, Step};
+pub use sample::{foresee, go};

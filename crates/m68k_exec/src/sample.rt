@@ -1,8 +1,9 @@
-ghost use Rattle.std.specs.Prelude.{◌≡◌, ◌≢◌, ◌<◌, ◌≤◌};
+ghost use Rattle.std.specs.Prelude.{◌≡◌, ◌≢◌, ◌+◌, ◌<◌, ◌≤◌, ℕ, false, true, length, Ok};
 ghost use Rattle.arrayvec.specs.ArrayVec.{array_vec_len};
 ghost use Rattle.m68k_decode.specs.Ops.{IsOp, IsInstruction};
 ghost use Rattle.m68k_exec.specs.Access.Clauses.{done_of, memory_of};
 ghost use Rattle.m68k_exec.specs.Sample.Entries.{IsException, number_of};
+ghost use Rattle.m68k_exec.specs.Sample.Foresight.{EndsForeseen, FinishesForeseen};
 ghost use Rattle.m68k_exec.specs.Sample.Samples.{named, Keeps, NamesInstruction, SpendsRightly, WaitsBelow, nothing, told_by};
 ghost use Rattle.m68k_exec.specs.Access.Outcomes.{outcome_of};
 ghost use Rattle.m68k_exec.specs.Sample.Samples as samples;
@@ -14,7 +15,7 @@ pub mod step;
 
 use crate::access::ask;
 use crate::access::memory::instruction_words;
-use crate::{Around, Finish, Outcome, Progress, Step, Stop};
+use crate::{Around, Finish, Foreseen, Outcome, Progress, Step, Stop};
 use arrayvec::ArrayVec;
 use entry::enter;
 use exception::{ADDRESS_ERROR, Exception};
@@ -137,6 +138,31 @@ fn ended_by(
     });
 }
 
+/// Keeps what a sample comes to that found the registers `found`, where the write that waits is its last
+/// access.
+fn foresee_finish(op: &Op, found: &Regs, around: &Around, foreseen: &mut Foreseen)
+    requires few { length around.now.answers.now ≤ 32 }
+    ensures known { foreseen.new.known ≡ foreseen.old.known }
+    ensures regs { foreseen.new.regs ≡ foreseen.old.regs }
+    ensures finish { foreseen.old.known ≡ true → FinishesForeseen foreseen.new op.now found.now (memory_of around.now) }
+{
+    if foreseen.known {
+        foreseen.finish = Finish {
+            op: *op,
+            spent: Spent {
+                taken: false,
+                expired: false,
+                count: 0,
+                cause: 0,
+                accesses: (around.answers.len() + 1) as u8,
+            },
+            stopped: false,
+            halted: false,
+            trace: leaves_trace(found, 0),
+        };
+    }
+}
+
 /// The instruction with this first word. At an address error the changes of registers and the
 /// private writes are dropped, and the accesses before it stay.
 #[tactic(auto, unfolding(crate::specs::Sample::Samples::instruction))]
@@ -147,9 +173,13 @@ fn instruction(
     regs: &mut Regs,
     progress: &mut Progress,
     step: &mut Step,
+    foreseen: &mut Foreseen,
 )
     requires decoded { IsInstruction decoded.now }
     requires fresh { done_of progress.old ≡ nothing }
+    requires few { length around.now.answers.now ≤ 32 }
+    requires nothing { foreseen.old.known ≡ false }
+    ensures foreseen { EndsForeseen step.new foreseen.new (samples.instruction decoded.now first regs.old) (memory_of around.now) }
     ensures value { told_by step.new regs.new (done_of progress.new) ≡ samples.instruction decoded.now first regs.old (memory_of around.now) }
     ensures kept { Keeps step.new regs.old regs.new }
 {
@@ -161,9 +191,10 @@ fn instruction(
         return take_exception(op, exception, false, &found, around, regs, progress, step);
     }
     regs.pc = start.wrapping_add(u32::from(decoded.length));
-    match execute(op, start, around, regs, progress) {
+    match execute(op, start, around, regs, progress, foreseen) {
         Ok(outcome) => ended_by(op, &found, &outcome, around, regs, progress, step),
         Err(Stop::Ask(request)) => {
+            foresee_finish(op, &found, around, foreseen);
             *regs = found;
             *step = Step::Need(request);
         }
@@ -231,14 +262,18 @@ fn sample(
     regs: &mut Regs,
     progress: &mut Progress,
     step: &mut Step,
+    foreseen: &mut Foreseen,
 )
     requires decoded { IsInstruction decoded.now }
     requires fresh { done_of progress.old ≡ nothing }
+    requires few { length around.now.answers.now ≤ 32 }
+    requires nothing { foreseen.old.known ≡ false }
+    ensures foreseen { EndsForeseen step.new foreseen.new (samples.sample_of cause decoded.now first regs.old) (memory_of around.now) }
     ensures value { told_by step.new regs.new (done_of progress.new) ≡ samples.sample_of cause decoded.now first regs.old (memory_of around.now) }
     ensures kept { Keeps step.new regs.old regs.new }
 {
     match cause {
-        0 => instruction(decoded, first, around, regs, progress, step),
+        0 => instruction(decoded, first, around, regs, progress, step, foreseen),
         1..=7 => interrupt(cause, &decoded.op, around, regs, progress, step),
         _ => trace(&decoded.op, around, regs, progress, step),
     }
@@ -255,12 +290,15 @@ fn run(
     cause: u8,
     progress: &mut Progress,
     step: &mut Step,
+    foreseen: &mut Foreseen,
 )
     ensures value { told_by step.new regs.new (done_of progress.new) ≡ samples.sampled cause regs.old (record { rom = cart.now; ram = ram.now; answers = answers.now.items }) }
     ensures kept { Keeps step.new regs.old regs.new }
+    ensures foreseen { EndsForeseen step.new foreseen.new (samples.sampled cause regs.old) (record { rom = cart.now; ram = ram.now; answers = answers.now.items }) }
     ensures instruction { IsOp (named regs.old (record { rom = cart.now; ram = ram.now; answers = answers.now.items })) }
 {
     progress.restart(0);
+    foreseen.known = false;
     let around = Around {
         rom: cart.bytes(),
         ram,
@@ -272,7 +310,9 @@ fn run(
         length: 2,
     };
     decode_into(&words, &mut decoded);
-    sample(cause, &decoded, words[0], &around, regs, progress, step)
+    sample(
+        cause, &decoded, words[0], &around, regs, progress, step, foreseen,
+    )
 }
 
 /// What the 68000 does at a sample, as far as the answers of its shared accesses go: it starts
@@ -282,8 +322,30 @@ fn run(
 /// and more for a pending trace. `ram` is work RAM before it. Where it waits for an answer the
 /// registers stay as they were. `progress` is cleared first; its writes count where the step is
 /// done: the bytes written into work RAM, the oldest first. `step` is what it comes to, whatever it
-/// was. Source: M68000 Programmer's Reference Manual, sections 4 and 6; M68000 User's Manual, section
+/// was. Where it waits for the answer to a write, `foreseen` has what it comes to then, if that is known:
+/// of a MOVE whose last access waits, and whose other accesses were answered. Source: M68000 Programmer's Reference Manual, sections 4 and 6; M68000 User's Manual, section
 /// 6.
+pub fn foresee(
+    regs: &mut Regs,
+    cart: &Cart,
+    ram: &[u8; 65536],
+    answers: &ArrayVec<u16, 32>,
+    cause: u8,
+    progress: &mut Progress,
+    step: &mut Step,
+    foreseen: &mut Foreseen,
+)
+    ensures foreseen { EndsForeseen step.new foreseen.new (samples.sampled cause regs.old) (record { rom = cart.now; ram = ram.now; answers = answers.now.items }) }
+    ensures value { told_by step.new regs.new (done_of progress.new) ≡ samples.sampled cause regs.old (record { rom = cart.now; ram = ram.now; answers = answers.now.items }) }
+    ensures kept { Keeps step.new regs.old regs.new }
+    ensures waits { WaitsBelow step.new (array_vec_len answers.now) 32 }
+    ensures spent { SpendsRightly step.new }
+    ensures instruction { NamesInstruction step.new }
+{
+    run(regs, cart, ram, answers, cause, progress, step, foreseen)
+}
+
+/// The same where nothing is to be foreseen.
 pub fn go(
     regs: &mut Regs,
     cart: &Cart,
@@ -299,5 +361,15 @@ pub fn go(
     ensures spent { SpendsRightly step.new }
     ensures instruction { NamesInstruction step.new }
 {
-    run(regs, cart, ram, answers, cause, progress, step)
+    let mut foreseen = Foreseen::nothing();
+    foresee(
+        regs,
+        cart,
+        ram,
+        answers,
+        cause,
+        progress,
+        step,
+        &mut foreseen,
+    )
 }

@@ -1,13 +1,22 @@
-ghost use Rattle.std.specs.Prelude.{◌≡◌, ◌+◌, ◌<◌, ◌≤◌};
+ghost use Rattle.std.specs.Prelude.{◌≡◌, ◌+◌, ◌<◌, ◌≤◌, ℕ, false, true, Ok, length};
 ghost use Rattle.arrayvec.specs.ArrayVec.{array_vec_len};
 ghost use Rattle.md_word.specs.Modes.{IsMode};
-ghost use Rattle.m68k_exec.specs.Access.Clauses.{Ends, done_of, memory_of};
+ghost use Rattle.md_word.specs.Fields.{with_flags};
+ghost use Rattle.md_word.specs.Width.{modulus_of};
+ghost use Rattle.m68k_ea.specs.Steps.{stepped};
+ghost use Rattle.m68k_exec.specs.Access.Operands as operands;
+ghost use Rattle.m68k_exec.specs.Access.Actions as actions;
+ghost use Rattle.m68k_exec.specs.Access.Clauses.{Ends, Leaves, Meets, done_of, memory_of};
+ghost use Rattle.m68k_exec.specs.Sample.Foresight.{Foresees, WaitsForLast};
+ghost use Rattle.m68k_decode.specs.Ops as ops;
 ghost use Rattle.m68k_exec.specs.Rows.Moves as moves;
 
-use crate::access::operands::{load, store};
-use crate::{Around, Outcome, Progress, Stop};
+use crate::access::operands::{load, locate, put, step};
+use crate::access::write;
+use crate::{Around, Foreseen, Outcome, Progress, Stop};
 use m68k_alu::compute;
-use md_word::{Mode, Regs, Size, Task, extend};
+use m68k_ea::Place;
+use md_word::{Flags, Mode, Regs, Size, Task, extend};
 
 /// Where the target's words stand: behind the source's.
 #[inline(always)]
@@ -27,9 +36,91 @@ fn behind_source(size: Size, source: Mode, start: u32) -> u32
     }
 }
 
+/// Whether an operand that is written behind so many answers waits for its last, where there are `count`.
+#[inline(always)]
+fn waits_for_last(size: Size, used: usize, count: usize) -> bool
+    ensures { result ≡ true → used + ops.moves_of size ≡ count + 1 }
+{
+    match size {
+        Size::Byte | Size::Word => used == count,
+        Size::Long => used < count && used + 1 == count,
+    }
+}
+
+/// Writes the result of MOVE into memory. Where the last access of that waits, the registers behind the
+/// instruction are foreseen: those given, with its flags.
+#[inline(always)]
+#[tactic(auto, using(crate::proofs::Foresight::nothing_waits))]
+fn write_last(
+    size: Size,
+    address: u32,
+    value: u32,
+    flags: Flags,
+    around: &Around,
+    regs: &Regs,
+    progress: &mut Progress,
+    foreseen: &mut Foreseen,
+) -> Result<(), Stop>
+    requires value { value < modulus_of size }
+    requires fresh { array_vec_len progress.old.writes ≡ 0 }
+    requires nothing { foreseen.old.known ≡ false }
+    ensures value { Meets result (done_of progress.new) (actions.write size address value (memory_of around.now) (done_of progress.old)) }
+    ensures written { array_vec_len progress.new.writes ≤ array_vec_len progress.old.writes + 4 }
+    ensures foreseen { WaitsForLast result foreseen.new (with_flags regs.now flags) (actions.write size address value) tt (memory_of around.now) (done_of progress.old) }
+{
+    let last = waits_for_last(size, progress.used, around.answers.len());
+    match write(size, address, value, around, progress) {
+        Ok(()) => Ok(()),
+        Err(Stop::Ask(request)) => {
+            if last {
+                foreseen.known = true;
+                foreseen.regs = *regs;
+                foreseen.regs.set_flags(flags);
+            }
+            Err(Stop::Ask(request))
+        }
+        Err(stop) => Err(stop),
+    }
+}
+
+/// Writes the result of MOVE where a mode names, and moves the register of (An)+ or −(An). Where the last
+/// access of that waits, the registers behind the instruction are foreseen.
+#[inline(always)]
+#[tactic(auto, using(crate::proofs::Foresight::nothing_waits), unfolding(crate::specs::Access::Operands::store, crate::specs::Access::Operands::put, crate::specs::Access::Operands::stored))]
+fn store_last(
+    mode: Mode,
+    size: Size,
+    value: u32,
+    flags: Flags,
+    pc: u32,
+    around: &Around,
+    regs: &mut Regs,
+    progress: &mut Progress,
+    foreseen: &mut Foreseen,
+) -> Result<(), Stop>
+    requires mode { IsMode mode }
+    requires value { value < modulus_of size }
+    requires fresh { array_vec_len progress.old.writes ≡ 0 }
+    requires nothing { foreseen.old.known ≡ false }
+    ensures value { Leaves result regs.new (done_of progress.new) (operands.store mode size value pc regs.old (memory_of around.now) (done_of progress.old)) }
+    ensures written { array_vec_len progress.new.writes ≤ array_vec_len progress.old.writes + 4 }
+    ensures foreseen { WaitsForLast result foreseen.new (with_flags (stepped mode size regs.old) flags) (operands.store mode size value pc regs.old) (stepped mode size regs.old) (memory_of around.now) (done_of progress.old) }
+{
+    let to = locate(mode, size, pc, regs);
+    step(mode, size, regs);
+    match to {
+        Place::Memory(address) => {
+            write_last(
+                size, address, value, flags, around, regs, progress, foreseen,
+            )
+        }
+        place => put(size, place, value, around, regs, progress),
+    }
+}
+
 /// MOVE. The source is read, and its register moved, before the target's address is calculated.
 #[inline(always)]
-#[tactic(auto, unfolding(crate::specs::Rows::Moves::move_operand))]
+#[tactic(auto, using(crate::proofs::Foresight::nothing_foreseen), unfolding(crate::specs::Rows::Moves::move_operand))]
 pub fn move_operand(
     size: Size,
     source: Mode,
@@ -38,20 +129,29 @@ pub fn move_operand(
     around: &Around,
     regs: &mut Regs,
     progress: &mut Progress,
+    foreseen: &mut Foreseen,
 ) -> Result<Outcome, Stop>
     requires source { IsMode source }
     requires target { IsMode target }
     requires fresh { array_vec_len progress.old.writes ≡ 0 }
+    requires nothing { foreseen.old.known ≡ false }
     ensures value { Ends result regs.new (done_of progress.new) (moves.move_operand size source target start regs.old (memory_of around.now) (done_of progress.old)) }
     ensures written { array_vec_len progress.new.writes ≤ array_vec_len progress.old.writes + 4 }
+    ensures foreseen { Foresees result foreseen.new (moves.move_operand size source target start regs.old) (memory_of around.now) (done_of progress.old) }
 {
     let flags = regs.flags();
     let from = load(source, size, start.wrapping_add(2), around, regs, progress)?;
     let out = compute(Task::Move, size, from, from, flags);
     let pc = behind_source(size, source, start);
-    store(target, size, out.value, pc, around, regs, progress)?;
-    regs.set_flags(out.flags);
-    Ok(Outcome::plain())
+    match store_last(
+        target, size, out.value, out.flags, pc, around, regs, progress, foreseen,
+    ) {
+        Ok(()) => {
+            regs.set_flags(out.flags);
+            Ok(Outcome::plain())
+        }
+        Err(stop) => Err(stop),
+    }
 }
 
 /// MOVEA: the sign is extended, and the flags stay.

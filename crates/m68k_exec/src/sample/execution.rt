@@ -1,8 +1,9 @@
-ghost use Rattle.std.specs.Prelude.{◌≡◌, ◌+◌, ◌≤◌};
+ghost use Rattle.std.specs.Prelude.{◌≡◌, ◌+◌, ◌≤◌, false};
 ghost use Rattle.arrayvec.specs.ArrayVec.{array_vec_len};
 ghost use Rattle.m68k_decode.specs.Ops.{IsOp};
 ghost use Rattle.m68k_exec.specs.Access.Clauses.{Ends, done_of, memory_of};
 ghost use Rattle.m68k_exec.specs.Sample.Execution as execution;
+ghost use Rattle.m68k_exec.specs.Sample.Foresight.{Foresees};
 
 mod control;
 mod jumps;
@@ -13,7 +14,7 @@ mod products;
 mod registers;
 mod sums;
 
-use crate::{Around, Outcome, Progress, Stop};
+use crate::{Around, Foreseen, Outcome, Progress, Stop};
 use control::control;
 use jumps::jumps;
 use m68k_decode::Op;
@@ -30,17 +31,21 @@ use sums::sums;
 /// One that ends in an exception makes four accesses at most before it. Each group of instructions has
 /// a function, since all locals of a function are set to 0 at its start.
 #[inline(always)]
+#[tactic(auto, using(crate::proofs::Foresight::nothing_foreseen))]
 pub fn execute(
     op: &Op,
     start: u32,
     around: &Around,
     regs: &mut Regs,
     progress: &mut Progress,
+    foreseen: &mut Foreseen,
 ) -> Result<Outcome, Stop>
     requires operands { IsOp op.now }
     requires fresh { array_vec_len progress.old.writes ≡ 0 }
+    requires nothing { foreseen.old.known ≡ false }
     ensures value { Ends result regs.new (done_of progress.new) (execution.row op.now start regs.old (memory_of around.now) (done_of progress.old)) }
     ensures written { array_vec_len progress.new.writes ≤ array_vec_len progress.old.writes + 64 }
+    ensures foreseen { Foresees result foreseen.new (execution.row op.now start regs.old) (memory_of around.now) (done_of progress.old) }
 {
     match *op {
         Op::Immediate(..)
@@ -52,7 +57,7 @@ pub fn execute(
         | Op::MovepToRegister(..)
         | Op::MovepToMemory(..) => numbers(op, start, around, regs, progress),
         Op::Move(..) | Op::Movea(..) | Op::Moveq(..) | Op::Lea(..) => moves(
-            op, start, around, regs, progress,
+            op, start, around, regs, progress, foreseen,
         ),
         Op::Quick(..)
         | Op::ToRegister(..)

@@ -1,5 +1,7 @@
+ghost use Rattle.std.specs.Prelude.{◌≡◌, false};
+
 use m68k_decode::Op;
-use md_word::{Request68, Spent};
+use md_word::{Regs, Request68, Spent};
 
 /// What a sample of the 68000 comes to, once its shared accesses are answered.
 #[derive(Clone, Copy)]
@@ -23,4 +25,47 @@ pub enum Step {
     Need(Request68),
     /// All are answered.
     Done(Finish),
+}
+
+/// What comes behind a write that waits for its answer, where that is known: the write is the last
+/// access of its instruction, no answer to it changes anything, and no work RAM is written.
+#[derive(Clone, Copy)]
+pub struct Foreseen {
+    pub known: bool,
+    /// The registers then.
+    pub regs: Regs,
+    /// What the sample comes to.
+    pub finish: Finish,
+}
+
+impl Foreseen {
+    /// Nothing is known.
+    pub fn nothing() -> Self
+        ensures { result.known ≡ false }
+    {
+        Foreseen {
+            known: false,
+            regs: Regs {
+                d: [0; 8],
+                a: [0; 7],
+                usp: 0,
+                ssp: 0,
+                pc: 0,
+                sr: 0,
+            },
+            finish: Finish {
+                op: Op::Nop,
+                spent: Spent {
+                    taken: false,
+                    expired: false,
+                    count: 0,
+                    cause: 0,
+                    accesses: 0,
+                },
+                stopped: false,
+                halted: false,
+                trace: false,
+            },
+        }
+    }
 }

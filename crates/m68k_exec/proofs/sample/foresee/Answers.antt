@@ -1,5 +1,5 @@
 use Rattle.m68k_exec.proofs.Bounds.Steps.{names_instruction, spends_rightly, waits_below}
-use Rattle.m68k_exec.proofs.sample.go.Goals as goal
+use Rattle.m68k_exec.proofs.sample.foresee.Goals as goal
 
 pub returns-clause-waits : goal.returns-clause-waits
 returns-clause-waits c = waits_below c.run.new.step _ _ _ _ _ c.run.ensures.value
