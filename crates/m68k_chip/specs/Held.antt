@@ -1,6 +1,10 @@
--- The request that the chip keeps is the one that waits.
-use Rattle.std.specs.Prelude.{List, ℕ}
+-- The request that the chip keeps is the one that waits, and what it foresees is what comes.
+use Rattle.std.specs.Prelude.{◌≡◌, true, [], ◌∷◌, ◌++◌, List, ℕ}
 use Rattle.md_word.specs.declared.main_bus.Request68.{Request68}
+use Rattle.m68k_exec.specs.Sample.Samples.{nothing, told_by}
+use Rattle.m68k_exec.specs.declared.sample.step.Foreseen.{Foreseen}
+use Rattle.m68k_exec.specs.declared.sample.step.Step.TheVariants.{Done}
+use Rattle.m68k_chip.specs.Events.{carried_out}
 use Rattle.m68k_chip.specs.Validity.{Asks, Chip68Value, IsChip68}
 use Rattle.m68k_chip.specs.States.{State68}
 use Rattle.m68k_chip.specs.declared.stage.Stage.{Stage}
@@ -12,7 +16,19 @@ IsWaiting Sample cart state request = Unit {0}
 IsWaiting Access cart state request = Asks cart state state.cause state.answers request
 IsWaiting Word cart state request = Unit {0}
 
--- the chip is valid, and at an access waits for the answer to this request
-pub record IsHeld (value : Chip68Value) (request : Request68) : Type 0 where
+-- what is carried out ends as it is foreseen, whatever it is answered behind these answers
+abbrev pub Foretells : Foreseen → List ℕ → State68 → ℕ → List ℕ → Type 0
+Foretells foreseen cart state cause answers =
+    foreseen.known ≡ true → (value : ℕ) → carried_out cart state cause (answers ++ value ∷ []) ≡ told_by (Done foreseen.finish) foreseen.regs nothing
+
+-- at an access what is known to come comes
+abbrev pub IsForeseen : Stage → List ℕ → State68 → Foreseen → Type 0
+IsForeseen Sample cart state foreseen = Unit {0}
+IsForeseen Access cart state foreseen = Foretells foreseen cart state state.cause state.answers
+IsForeseen Word cart state foreseen = Unit {0}
+
+-- the chip is valid, and at an access waits for the answer to this request, and foresees what comes
+pub record IsHeld (value : Chip68Value) (request : Request68) (foreseen : Foreseen) : Type 0 where
   pub valid : IsChip68 value
   pub waiting : IsWaiting value.state.stage value.cart value.state request
+  pub foresees : IsForeseen value.state.stage value.cart value.state foreseen

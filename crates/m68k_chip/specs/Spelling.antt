@@ -1,8 +1,9 @@
 -- The bytes of a saved state that keep the 68000. This project's profile.
-use Rattle.std.specs.Prelude.{ℕ, true, List, take, drop}
+use Rattle.std.specs.Prelude.{◌≡◌, ℕ, false, true, List, take, drop}
 use Rattle.md_fields.specs.Fields.{spelling}
 use Rattle.md_fields.specs.Items.{IsRefused, IsRight, Keeps}
 use Rattle.md_word.specs.declared.main_bus.Request68.{Request68}
+use Rattle.m68k_exec.specs.declared.sample.step.Foreseen.{Foreseen}
 use Rattle.m68k_chip.specs.Held.{IsWaiting}
 use Rattle.m68k_chip.specs.Numbers.{IsRegs, numbers_of}
 use Rattle.m68k_chip.specs.Saved.{chip_fields, fields_by}
@@ -31,7 +32,8 @@ GoesWrongAt cart at bytes place = IsRefused chip_size (chip_fields cart at) byte
 abbrev pub ram_in : List ℕ → List ℕ
 ram_in bytes = take 0x1_0000 (drop 178 bytes)
 
--- the bytes keep the 68000, and at an access this request waits
-pub record IsKept (cart : List ℕ) (at : ℕ) (bytes : List ℕ) (state : State68) (request : Request68) : Type 0 where
+-- the bytes keep the 68000, and at an access this request waits; nothing is foreseen
+pub record IsKept (cart : List ℕ) (at : ℕ) (bytes : List ℕ) (state : State68) (request : Request68) (foreseen : Foreseen) : Type 0 where
   pub spells : Spells cart at bytes state
   pub waits : IsWaiting state.stage cart state request
+  pub unknown : foreseen.known ≡ false

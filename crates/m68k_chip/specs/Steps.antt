@@ -6,6 +6,9 @@ use Rattle.m68k_exec.specs.Sample.Samples.{Ended}
 use Rattle.m68k_exec.specs.declared.access.stop.Stop.{Stop}
 use Rattle.m68k_exec.specs.declared.access.stop.Stop.TheVariants.{Ask, Odd}
 use Rattle.m68k_exec.specs.declared.sample.step.Finish.{Finish}
+use Rattle.m68k_exec.specs.declared.sample.step.Foreseen.{Foreseen}
+use Rattle.m68k_chip.specs.Held.{Foretells}
+use Rattle.m68k_chip.specs.States.{State68}
 
 -- what a finish tells, with the registers and the bytes written then
 abbrev pub ended_by : Finish → Regs → List (ℕ × ℕ) → Ended
@@ -24,3 +27,9 @@ abbrev pub IsTold : Result Ended Stop → Request68 → Type 0
 IsTold (Ok ended) request = Unit {0}
 IsTold (Err (Ask asked)) request = request ≡ asked
 IsTold (Err (Odd address read used)) request = Unit {0}
+
+-- what is foreseen, where a request waits
+abbrev pub IsForetold : Result Ended Stop → Foreseen → List ℕ → State68 → ℕ → List ℕ → Type 0
+IsForetold (Ok ended) foreseen cart state cause answers = Unit {0}
+IsForetold (Err (Ask asked)) foreseen cart state cause answers = Foretells foreseen cart state cause answers
+IsForetold (Err (Odd address read used)) foreseen cart state cause answers = Unit {0}

@@ -32,7 +32,7 @@ impl Model for Chip68 {
 
     ghost view = { λ chip. record { cart = arc_value chip.cart; state = state_of chip.sequencer chip.ram.value } };
 
-    ghost invariant = { λ chip. IsHeld (record { cart = arc_value chip.cart; state = state_of chip.sequencer chip.ram.value }) chip.sequencer.request };
+    ghost invariant = { λ chip. IsHeld (record { cart = arc_value chip.cart; state = state_of chip.sequencer chip.ram.value }) chip.sequencer.request chip.sequencer.foreseen };
 }
 
 impl Chip68 {

@@ -1,4 +1,4 @@
-ghost use Rattle.std.specs.Prelude.{◌≡◌, ◌≤◌, ℕ, Bool, length, map, IfErr, IfOk};
+ghost use Rattle.std.specs.Prelude.{◌≡◌, ◌≤◌, ℕ, Bool, false, length, map, IfErr, IfOk};
 ghost use Rattle.md_fields.specs.Fields.{AreSized, seen};
 ghost use Rattle.md_fields.specs.Padding as padding;
 ghost use Rattle.md_fields.specs.Places.{Stand};
@@ -12,6 +12,7 @@ use crate::known::known_regs;
 use crate::resuming::first_answers;
 use crate::sequencer::{STEP, Sequencer};
 use crate::stage::Stage;
+use m68k_exec::Foreseen;
 use md_fields::{
     Field, are_zero_words, first_wrong, is_after, is_soon, u8_at, u16_at, u32_at, u64_at, words_at,
 };
@@ -304,7 +305,8 @@ impl<'a> Saved68<'a> {
     /// The 68000 of which these numbers are kept. What it waits for is not known yet.
     fn sequencer(&self) -> Sequencer
         requires { self.now.count ≤ 31 }
-        ensures { state_of result self.now.ram ≡ state_from self.now }
+        ensures state { state_of result self.now.ram ≡ state_from self.now }
+        ensures unknown { result.foreseen.known ≡ false }
     {
         Sequencer {
             regs: self.regs,
@@ -318,6 +320,7 @@ impl<'a> Saved68<'a> {
             answers: first_answers(&self.answers, usize::from(self.count)),
             transfer: self.transfer,
             request: Request68::Ack(0),
+            foreseen: Foreseen::nothing(),
         }
     }
 
@@ -334,7 +337,7 @@ impl<'a> Saved68<'a> {
     /// The 68000 that the bytes keep, with the request that it waits for, where all rules hold; else
     /// the place of the refusal.
     pub fn checked(bytes: &'a [u8], at: u64, cart: &Cart) -> Result<Sequencer, usize>
-        ensures found { IfOk result (λ s. IsKept cart.now at bytes.now (state_of s (ram_in bytes.now)) s.request) }
+        ensures found { IfOk result (λ s. IsKept cart.now at bytes.now (state_of s (ram_in bytes.now)) s.request s.foreseen) }
         ensures refused { IfErr result (λ place. GoesWrongAt cart.now at bytes.now place) }
     {
         if bytes.len() != LENGTH {

@@ -6,15 +6,16 @@ ghost use Rattle.m68k_exec.specs.Access.Memory.{ram_after, word_at};
 ghost use Rattle.m68k_chip.specs.Cases as cases;
 ghost use Rattle.m68k_chip.specs.Events as events;
 ghost use Rattle.m68k_chip.specs.Events.{answered, answered_at, begun, carried_out, end_of, request_at, went_on};
-ghost use Rattle.m68k_chip.specs.Held.{IsWaiting};
-ghost use Rattle.m68k_chip.specs.Steps.{IsTold, ended_by};
+ghost use Rattle.m68k_exec.specs.declared.sample.step.Foreseen.{Foreseen};
+ghost use Rattle.m68k_chip.specs.Held.{IsForeseen, IsWaiting};
+ghost use Rattle.m68k_chip.specs.Steps.{IsForetold, IsTold, ended_by};
 ghost use Rattle.m68k_chip.specs.States.{long_in, none_left, power_on, state_of};
 ghost use Rattle.m68k_chip.specs.declared.stage.Stage.TheVariants.{Access};
 
 use crate::case::Case;
 use crate::stage::Stage;
 use arrayvec::ArrayVec;
-use m68k_exec::{Finish, Progress, Step, go, word_at};
+use m68k_exec::{Finish, Foreseen, Progress, Step, foresee, word_at};
 use m68k_time::clocks;
 use md_word::clock::MAIN_CLOCK;
 use md_word::{Answer68, Regs, Request68, Transfer};
@@ -58,6 +59,8 @@ pub struct Sequencer {
     pub transfer: Transfer,
     /// The request that waits for its answer at an access.
     pub request: Request68,
+    /// What comes behind the answer, where that is known.
+    pub foreseen: Foreseen,
 }
 
 /// The long at an offset of a cartridge, its high byte first.
@@ -106,6 +109,7 @@ impl Sequencer {
             answers: ArrayVec::new(),
             transfer: NONE_LEFT,
             request: Request68::Ack(0),
+            foreseen: Foreseen::nothing(),
         }
     }
 
@@ -197,6 +201,7 @@ impl Sequencer {
         requires answers { length self.old.answers.items < 32 }
         ensures state { (ram : List ℕ) → state_of self.new ram ≡ events.asking (state_of self.old ram) cause self.old.answers.items }
         ensures request { self.new.request ≡ request }
+        ensures foreseen { self.new.foreseen ≡ self.old.foreseen }
     {
         self.next = self.start + STEP * (self.answers.len() as u64 + 1);
         self.stage = Stage::Access;
@@ -231,9 +236,10 @@ impl Sequencer {
         requires { self.old.start < 2 ^ 50 }
         ensures state { state_of self.new ram.new ≡ went_on cart.now (state_of self.old ram.old) cause self.old.answers.items }
         ensures told { IsTold (carried_out cart.now (state_of self.old ram.old) cause self.old.answers.items) self.new.request }
+        ensures foretold { IsForetold (carried_out cart.now (state_of self.old ram.old) cause self.old.answers.items) self.new.foreseen cart.now (state_of self.old ram.old) cause self.old.answers.items }
     {
         let mut step = Step::Need(Request68::Ack(0));
-        go(
+        foresee(
             &mut self.regs,
             cart,
             ram,
@@ -241,6 +247,7 @@ impl Sequencer {
             cause,
             progress,
             &mut step,
+            &mut self.foreseen,
         );
         match &step {
             Step::Need(request) => self.ask(cause, *request),
@@ -249,6 +256,17 @@ impl Sequencer {
                 self.finish(finish);
             }
         }
+    }
+
+    /// Ends what was carried out as it is foreseen.
+    fn end_foreseen(&mut self)
+        requires { self.old.start < 2 ^ 50 }
+        ensures { (ram : List ℕ) → state_of self.new ram
+            ≡ events.finished (state_of self.old ram) (ended_by self.old.foreseen.finish self.old.foreseen.regs []) }
+    {
+        self.regs = self.foreseen.regs;
+        let finish = self.foreseen.finish;
+        self.finish(&finish);
     }
 
     /// A word of a transfer was moved, and the next costs so many cycles.
@@ -276,6 +294,7 @@ impl Sequencer {
     fn start_transfer(&mut self, transfer: Option<Transfer>)
         ensures state { (ram : List ℕ) → state_of self.new ram ≡ events.with_started (state_of self.old ram) transfer }
         ensures answers { self.new.answers.items ≡ self.old.answers.items }
+        ensures foreseen { self.new.foreseen ≡ self.old.foreseen }
     {
         if let Some(transfer) = transfer {
             self.transfer = transfer;
@@ -289,6 +308,7 @@ impl Sequencer {
         requires answers { self.old.answers.items ≡ [] }
         ensures state { state_of self.new ram.new ≡ begun cart.now (state_of self.old ram.old) level }
         ensures waiting { IsWaiting self.new.stage cart.now (state_of self.new ram.new) self.new.request }
+        ensures foreseen { IsForeseen self.new.stage cart.now (state_of self.new ram.new) self.new.foreseen }
     {
         match self.case_at(level).cause() {
             Some(cause) => self.go_on(cause, cart, ram, progress),
@@ -306,13 +326,19 @@ impl Sequencer {
     )
         requires start { self.old.start < 2 ^ 50 }
         requires few { array_vec_len self.old.answers < 32 }
+        requires foreseen { IsForeseen Access cart.now (state_of self.old ram.old) self.old.foreseen }
         ensures state { state_of self.new ram.new ≡ answered_at Access cart.now (state_of self.old ram.old) answer.now }
         ensures waiting { IsWaiting self.new.stage cart.now (state_of self.new ram.new) self.new.request }
+        ensures foreseen { IsForeseen self.new.stage cart.now (state_of self.new ram.new) self.new.foreseen }
     {
         self.start_transfer(answer.transfer);
-        self.answers.push(answer.value);
-        let cause = self.cause;
-        self.go_on(cause, cart, ram, progress);
+        if self.foreseen.known {
+            self.end_foreseen();
+        } else {
+            self.answers.push(answer.value);
+            let cause = self.cause;
+            self.go_on(cause, cart, ram, progress);
+        }
     }
 
     /// The request that waits for its answer at the next event, which is an access.
@@ -341,8 +367,10 @@ impl Sequencer {
         requires next { self.old.next < 2 ^ 50 }
         requires source { self.old.transfer.source < 2 ^ 24 }
         requires few { array_vec_len self.old.answers < 32 }
+        requires foreseen { IsForeseen self.old.stage cart.now (state_of self.old ram.old) self.old.foreseen }
         ensures state { state_of self.new ram.new ≡ answered cart.now (state_of self.old ram.old) answer.now }
         ensures waiting { IsWaiting self.new.stage cart.now (state_of self.new ram.new) self.new.request }
+        ensures foreseen { IsForeseen self.new.stage cart.now (state_of self.new ram.new) self.new.foreseen }
     {
         match self.stage {
             Stage::Sample => {}

@@ -8,6 +8,6 @@ answer-requires-clause-few c = few-answers _ c.self.invariant.valid
 
 pub invariant_of-self : goal.invariant_of-self
 invariant_of-self c =
-    after_answer _ c.deref.result.now (state_of c.self.inside.sequencer c.self.inside.ram.value) _ _ _ c.args.answer c.self.view_is c.self.invariant.valid c.requires.asking c.requires.fits
+    after_answer _ c.deref.result.now (state_of c.self.inside.sequencer c.self.inside.ram.value) _ _ _ _ c.args.answer c.self.view_is c.self.invariant.valid c.requires.asking c.requires.fits
     c.deref.ensures
-    (rw c.deref_mut.ensures.value at c.answer.ensures.state) c.answer.ensures.waiting
+    (rw c.deref_mut.ensures.value at c.answer.ensures.state) c.answer.ensures.waiting c.answer.ensures.foreseen

@@ -12,6 +12,6 @@ begin-requires-clause-answers c =
 
 pub invariant_of-self : goal.invariant_of-self
 invariant_of-self c =
-    after_sample _ c.deref.result.now (state_of c.self.inside.sequencer c.self.inside.ram.value) _ _ _ c.args.pins.level c.args.pins.known c.self.view_is c.self.invariant.valid c.requires.sampling
+    after_sample _ c.deref.result.now (state_of c.self.inside.sequencer c.self.inside.ram.value) _ _ _ _ c.args.pins.level c.args.pins.known c.self.view_is c.self.invariant.valid c.requires.sampling
     c.deref.ensures
-    (rw c.deref_mut.ensures.value at c.begin.ensures.state) c.begin.ensures.waiting
+    (rw c.deref_mut.ensures.value at c.begin.ensures.state) c.begin.ensures.waiting c.begin.ensures.foreseen

@@ -13,6 +13,7 @@ use Rattle.md_fields.proofs.Standing.{IsBytes-drop, IsBytes-take}
 use Rattle.md_fields.proofs.Refusals.{no_rule, same_rule}
 use Rattle.m68k_chip.proofs.RuleLaws.{recent_from}
 use Rattle.m68k_chip.proofs.SpellingLaws.{no_other, only_place, right_not_refused, spelled_long, spelled_valid}
+use Rattle.m68k_chip.proofs.Waiting.{unknown-foreseen}
 use Rattle.m68k_chip.proofs.chip.Chip68.unspell.Goals as goal
 
 pub copied-requires : goal.copied-requires
@@ -32,14 +33,15 @@ returns-in_err-ram-in-Ok-clause-rule c =
 made : (c : goal.After-new) → state_of c.in-Ok.sequencer c.in_ok-ram-in-Ok.ram.value ≡ state_of c.in-Ok.sequencer (ram_in c.args.bytes.now)
 made c = ap (state_of c.in-Ok.sequencer) c.in_ok-ram-in-Ok.ensures
 
-kept : (c : goal.After-new) → IsKept (arc_value c.args.cart) c.args.at c.args.bytes.now (state_of c.in-Ok.sequencer (ram_in c.args.bytes.now)) c.in-Ok.sequencer.request
-kept c = subst (λ (image : List ℕ). IsKept image c.args.at c.args.bytes.now (state_of c.in-Ok.sequencer (ram_in c.args.bytes.now)) c.in-Ok.sequencer.request) c.deref-2.ensures c.in-Ok.ensures.found
+kept : (c : goal.After-new) → IsKept (arc_value c.args.cart) c.args.at c.args.bytes.now (state_of c.in-Ok.sequencer (ram_in c.args.bytes.now)) c.in-Ok.sequencer.request c.in-Ok.sequencer.foreseen
+kept c = subst (λ (image : List ℕ). IsKept image c.args.at c.args.bytes.now (state_of c.in-Ok.sequencer (ram_in c.args.bytes.now)) c.in-Ok.sequencer.request c.in-Ok.sequencer.foreseen) c.deref-2.ensures c.in-Ok.ensures.found
 
 pub invariant_of-result : goal.invariant_of-result
 invariant_of-result c = record {
   valid = subst (λ (s : State68). IsChip68 (of (arc_value c.args.cart) s)) (sym (made c))
       (spelled_valid (arc_value c.args.cart) c.args.at c.args.bytes.now _ (subst (λ (image : List ℕ). IsImage image) c.deref.ensures c.bytes.ensures.image) (kept c).spells);
   waiting = subst (λ (s : State68). IsWaiting s.stage (arc_value c.args.cart) s c.in-Ok.sequencer.request) (sym (made c)) (kept c).waits;
+  foresees = unknown-foreseen _ (arc_value c.args.cart) _ c.in-Ok.sequencer.foreseen (kept c).unknown;
 }
 
 pub returns-in_ok-ram-in-Ok-clause-found : goal.returns-in_ok-ram-in-Ok-clause-found

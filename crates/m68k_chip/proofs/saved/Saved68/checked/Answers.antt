@@ -1,5 +1,6 @@
 use Rattle.std.proofs.Common.{◌≡◌, ℕ, true, List, None, subst, sym, ap, ◌∙◌, arith}
 use Rattle.md_fields.specs.Fields.{sizes, first_wrong}
+use Rattle.m68k_exec.specs.declared.sample.step.Foreseen.{Foreseen}
 use Rattle.m68k_chip.specs.Held.{IsWaiting}
 use Rattle.m68k_chip.specs.Numbers.{Numbers68, state_from}
 use Rattle.m68k_chip.specs.Resuming.{asks_more}
@@ -28,10 +29,10 @@ returns-then-resumes-clause-found c =
     let n : Numbers68 = c.read-saved.result in
     let ram : c.saved.inside.ram.now ≡ n.ram = ap (λ (x : Numbers68). x.ram) c.saved.view_is in
     let none : first_wrong 0 (fields_by c.args.at true n) ≡ None = ap (first_wrong 0) (sym c.fields.ensures.fields) ∙ sym c.first_wrong.ensures ∙ c.in_default.is in
-    let state : state_of c.sequencer-sequencer.result c.saved.inside.ram.now ≡ state_from n = ap (state_of c.sequencer-sequencer.result) ram ∙ c.sequencer-sequencer.ensures in
+    let state : state_of c.sequencer-sequencer.result c.saved.inside.ram.now ≡ state_from n = ap (state_of c.sequencer-sequencer.result) ram ∙ c.sequencer-sequencer.ensures.state in
     let asks : asks_more c.args.cart.now (state_from n) ≡ true = sym (c.resumes.ensures.value ∙ ap (asks_more c.args.cart.now) state) ∙ c.if-resumes.true in
     let made : state_of c.resumes.new.self (ram_in c.args.bytes.now) ≡ state_from n =
-    c.resumes.ensures.state (ram_in c.args.bytes.now) ∙ ap (state_of c.sequencer-sequencer.result) (sym c.read-saved.ensures.ram) ∙ c.sequencer-sequencer.ensures in
+    c.resumes.ensures.state (ram_in c.args.bytes.now) ∙ ap (state_of c.sequencer-sequencer.result) (sym c.read-saved.ensures.ram) ∙ c.sequencer-sequencer.ensures.state in
     record {
       spells = subst (Spells c.args.cart.now c.args.at c.args.bytes.now) (sym made)
           (spells c.args.cart.now c.args.at c.args.bytes.now n
@@ -39,6 +40,7 @@ returns-then-resumes-clause-found c =
           (right c.args.cart.now c.args.at c.args.bytes.now n (λ i. omega (arith, c.type_inv.bytes i)) c.read-saved.ensures.stands none asks));
       waits = subst (λ (r : List ℕ). IsWaiting c.resumes.new.self.stage c.args.cart.now (state_of c.resumes.new.self r) c.resumes.new.self.request) (ram ∙ c.read-saved.ensures.ram)
           (c.resumes.ensures.waiting c.if-resumes.true);
+      unknown = ap (λ (f : Foreseen). f.known) c.resumes.ensures.foreseen ∙ c.sequencer-sequencer.ensures.unknown;
     }
 
 pub returns-else-resumes-clause-refused : goal.returns-else-resumes-clause-refused
@@ -46,6 +48,6 @@ returns-else-resumes-clause-refused c =
     let n : Numbers68 = c.read-saved.result in
     let ram : c.saved.inside.ram.now ≡ n.ram = ap (λ (x : Numbers68). x.ram) c.saved.view_is in
     let none : first_wrong 0 (fields_by c.args.at true n) ≡ None = ap (first_wrong 0) (sym c.fields.ensures.fields) ∙ sym c.first_wrong.ensures ∙ c.in_default.is in
-    let state : state_of c.sequencer-sequencer.result c.saved.inside.ram.now ≡ state_from n = ap (state_of c.sequencer-sequencer.result) ram ∙ c.sequencer-sequencer.ensures in
+    let state : state_of c.sequencer-sequencer.result c.saved.inside.ram.now ≡ state_from n = ap (state_of c.sequencer-sequencer.result) ram ∙ c.sequencer-sequencer.ensures.state in
     breaks_ram c.args.cart.now c.args.at c.args.bytes.now n (λ i. omega (arith, c.type_inv.bytes i)) c.read-saved.ensures.stands none
     (sym (c.resumes.ensures.value ∙ ap (asks_more c.args.cart.now) state) ∙ c.if-resumes.false)

@@ -1,16 +1,18 @@
-use Rattle.std.proofs.Common.{ℕ, List, [], ◌∷◌, ◌++◌, ◌∙◌, ap, arith}
-use Rattle.m68k_chip.specs.Events.{went_on, with_started}
+use Rattle.std.proofs.Common.{◌≡◌, ℕ, List, [], ◌∷◌, ◌++◌, ◌∙◌, ap, sym, arith}
+use Rattle.m68k_exec.specs.declared.sample.step.Foreseen.{Foreseen}
+use Rattle.m68k_chip.specs.Events.{finished, went_on, with_started}
 use Rattle.m68k_chip.specs.States.{State68, state_of}
+use Rattle.m68k_chip.specs.Steps.{ended_by}
 use Rattle.m68k_chip.proofs.Laws.{started-rest}
-use Rattle.m68k_chip.proofs.Waiting.{went-apart, went-waits}
+use Rattle.m68k_chip.proofs.Waiting.{ends-foreseen, ends-foretold, ends-waits, went-apart, went-foreseen, went-waits}
 use Rattle.m68k_chip.proofs.sequencer.Sequencer.take.Goals as goal
 
 pub go_on-requires : goal.go_on-requires
 go_on-requires c =
     omega (arith, c.requires.start, ap (λ (s : State68). s.start) (c.start_transfer.ensures.state []), (started-rest (state_of c.args.self.now []) c.args.answer.now.transfer).3)
 
-pub returns-clause-state : goal.returns-clause-state
-returns-clause-state c =
+pub returns-else-self-clause-state : goal.returns-else-self-clause-state
+returns-else-self-clause-state c =
     let list : List ℕ = c.args.self.now.answers.items ++ c.args.answer.now.value ∷ [] in
     let old : State68 = state_of c.args.self.now c.args.ram.now in
     let found : State68 = state_of c.start_transfer.new.self c.args.ram.now in
@@ -22,6 +24,37 @@ returns-clause-state c =
     ∙ ap (λ (s : State68). went_on c.args.cart.now s s.cause list) (c.start_transfer.ensures.state c.args.ram.now)
     ∙ ap (λ (cause : ℕ). went_on c.args.cart.now started cause list) (started-rest old c.args.answer.now.transfer).4
 
-pub returns-clause-waiting : goal.returns-clause-waiting
-returns-clause-waiting c =
+pub returns-else-self-clause-waiting : goal.returns-else-self-clause-waiting
+returns-else-self-clause-waiting c =
     went-waits c.args.cart.now _ _ _ _ _ c.go_on.ensures.state c.go_on.ensures.told
+
+pub returns-else-self-clause-foreseen : goal.returns-else-self-clause-foreseen
+returns-else-self-clause-foreseen c =
+    went-foreseen c.args.cart.now _ _ _ _ _ c.go_on.ensures.state c.go_on.ensures.foretold
+
+pub end_foreseen-requires : goal.end_foreseen-requires
+end_foreseen-requires c =
+    omega (arith, c.requires.start, ap (λ (s : State68). s.start) (c.start_transfer.ensures.state []), (started-rest (state_of c.args.self.now []) c.args.answer.now.transfer).3)
+
+-- what was foreseen comes
+came : (c : goal.After-end_foreseen) → state_of c.end_foreseen.new.self c.args.ram.now ≡ finished (with_started (state_of c.args.self.now c.args.ram.now) c.args.answer.now.transfer) (ended_by c.args.self.now.foreseen.finish c.args.self.now.foreseen.regs [])
+came c =
+    let started : State68 = with_started (state_of c.args.self.now c.args.ram.now) c.args.answer.now.transfer in
+    c.end_foreseen.ensures c.args.ram.now
+    ∙ ap (λ (s : State68). finished s (ended_by c.start_transfer.new.self.foreseen.finish c.start_transfer.new.self.foreseen.regs [])) (c.start_transfer.ensures.state c.args.ram.now)
+    ∙ ap (λ (f : Foreseen). finished started (ended_by f.finish f.regs [])) c.start_transfer.ensures.foreseen
+
+pub returns-then-self-clause-state : goal.returns-then-self-clause-state
+returns-then-self-clause-state c =
+    let old : State68 = state_of c.args.self.now c.args.ram.now in
+    let started : State68 = with_started old c.args.answer.now.transfer in
+    let list : List ℕ = c.args.self.now.answers.items ++ c.args.answer.now.value ∷ [] in
+    came c
+    ∙ ends-foretold c.args.cart.now old c.args.answer.now.transfer old.cause old.answers c.args.answer.now.value c.args.self.now.foreseen c.requires.foreseen
+    (sym (ap (λ (f : Foreseen). f.known) c.start_transfer.ensures.foreseen) ∙ c.if-self.true)
+
+pub returns-then-self-clause-waiting : goal.returns-then-self-clause-waiting
+returns-then-self-clause-waiting c = ends-waits c.args.cart.now (with_started (state_of c.args.self.now c.args.ram.now) c.args.answer.now.transfer) _ (ended_by c.args.self.now.foreseen.finish c.args.self.now.foreseen.regs []) c.end_foreseen.new.self.request (came c)
+
+pub returns-then-self-clause-foreseen : goal.returns-then-self-clause-foreseen
+returns-then-self-clause-foreseen c = ends-foreseen c.args.cart.now (with_started (state_of c.args.self.now c.args.ram.now) c.args.answer.now.transfer) _ (ended_by c.args.self.now.foreseen.finish c.args.self.now.foreseen.regs []) c.end_foreseen.new.self.foreseen (came c)
