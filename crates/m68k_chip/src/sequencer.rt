@@ -211,6 +211,7 @@ impl Sequencer {
 
     /// Ends what was carried out, from the registers that it left; what it wrote into work RAM is
     /// stored elsewhere.
+    #[inline(always)]
     fn finish(&mut self, finish: &Finish)
         requires { self.old.start < 2 ^ 50 }
         ensures { (ram : List ℕ) (writes : List (ℕ × ℕ)) → state_of self.new (ram_after ram writes)
