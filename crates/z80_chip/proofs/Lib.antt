@@ -1,4 +1,5 @@
 pub mod Ahead
+pub mod Foresight
 pub mod Kept
 pub mod Laws
 pub mod Recent

@@ -1,5 +1,5 @@
 -- A Z80 that rests: it has no RAM, or its reset is held.
-use Rattle.std.proofs.Common.{◌≡◌, ℕ, zero, suc, ◌+◌, ◌-◌, ◌*◌, ◌<◌, ◌≤◌, Bool, true, false, List, Option, is_some, not, refl, sym, ap, subst, ◌∙◌, arith, if◌then◌else◌}
+use Rattle.std.proofs.Common.{◌≡◌, ℕ, zero, suc, ◌+◌, ◌-◌, ◌*◌, ◌<◌, ◌≤◌, Bool, true, false, List, Option, is_some, refl, sym, ap, subst, ◌∙◌, arith, if◌then◌else◌}
 use Rattle.std.proofs.lemmas.Grind.{div_ceil_times}
 use Rattle.md_word.specs.declared.pins.Pins80.{Pins80}
 use Rattle.z80_exec.specs.Sample.Entries.{after_reset}

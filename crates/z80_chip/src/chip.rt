@@ -24,14 +24,15 @@ pub struct Chip80 {
 
 impl Model for Chip80 {
     ghost use Rattle.std.specs.Arc.{arc_value};
-    ghost use Rattle.z80_chip.specs.Validity.{Chip80Value, IsChip80};
+    ghost use Rattle.z80_chip.specs.Foresight.{IsHeld};
+    ghost use Rattle.z80_chip.specs.Validity.{Chip80Value};
     ghost use Rattle.z80_chip.specs.States.{state_of};
 
     ghost Value = { Chip80Value };
 
     ghost view = { λ chip. record { cart = arc_value chip.cart; state = state_of chip.sequencer chip.parcel } };
 
-    ghost invariant = { λ chip. IsChip80 (record { cart = arc_value chip.cart; state = state_of chip.sequencer chip.parcel }) };
+    ghost invariant = { λ chip. IsHeld (record { cart = arc_value chip.cart; state = state_of chip.sequencer chip.parcel }) chip.sequencer.behind };
 }
 
 impl Chip80 {

@@ -2,6 +2,7 @@
 //! what other chips share, or the handing over of its RAM.
 #![tactic(auto)]
 
+mod behind;
 mod case;
 mod chip;
 mod known;

@@ -1,4 +1,4 @@
-ghost use Rattle.std.specs.Prelude.{◌≡◌, ◌+◌, ◌≤◌, ◌++◌, ℕ, Bool, List, Option, Some, true, length, map, option_map, take, drop};
+ghost use Rattle.std.specs.Prelude.{◌≡◌, ◌+◌, ◌≤◌, ◌++◌, ℕ, Bool, List, Option, Some, false, true, length, map, option_map, take, drop};
 ghost use Rattle.md_fields.specs.Fields.{AreSized, Field as Entry, seen};
 ghost use Rattle.md_fields.specs.Padding as padding;
 ghost use Rattle.md_fields.specs.Places.{Stand};
@@ -7,6 +7,7 @@ ghost use Rattle.z80_chip.specs.Saved as rules;
 ghost use Rattle.z80_chip.specs.States.{state_of};
 ghost use Rattle.z80_parcel.specs.Parcels.{store_of};
 
+use crate::behind::Behind;
 use crate::sequencer::{FIRST_STEP, STEP, Sequencer};
 use crate::stage::Stage;
 use crate::resuming::first_answers;
@@ -206,7 +207,8 @@ impl Saved80 {
     /// The Z80 of which these numbers are kept.
     pub fn sequencer(&self) -> Sequencer
         requires { self.now.count ≤ 4 }
-        ensures { (parcel : Option Held) → state_of result parcel ≡ rules.state_from self.now (option_map store_of parcel) }
+        ensures state { (parcel : Option Held) → state_of result parcel ≡ rules.state_from self.now (option_map store_of parcel) }
+        ensures unknown { result.behind.end.known ≡ false }
     {
         Sequencer {
             regs: self.regs(),
@@ -218,6 +220,7 @@ impl Saved80 {
             resets: self.resets,
             cause: self.cause,
             answers: first_answers(&self.answers, usize::from(self.count)),
+            behind: Behind::nothing(),
         }
     }
 

@@ -3,6 +3,8 @@ ghost use Rattle.arrayvec.specs.ArrayVec.{array_vec_len};
 ghost use Rattle.md_word.specs.declared.sub_bus.Parcel.{Parcel as Held};
 ghost use Rattle.z80_chip.specs.Cases as cases;
 ghost use Rattle.z80_chip.specs.Events as events;
+ghost use Rattle.z80_chip.specs.Foresight.{Foretells, IsForeseen};
+ghost use Rattle.z80_chip.specs.declared.stage.Stage.TheVariants as stages;
 ghost use Rattle.z80_chip.specs.Events.{WentAhead, answered, asked_of, begun, carried_out, handed, went_on};
 ghost use Rattle.z80_exec.specs.Access.Clauses.{done_of};
 ghost use Rattle.z80_chip.specs.States.{State80, no_regs, power_on, state_of};
@@ -10,6 +12,7 @@ ghost use Rattle.z80_parcel.specs.Parcels.{Store, store_of};
 ghost use Rattle.z80_parcel.specs.Requests as requests;
 ghost use Rattle.z80_parcel.specs.Requests.{request_value80, answer_value80};
 
+use crate::behind::Behind;
 use crate::case::Case;
 use crate::stage::Stage;
 use arrayvec::ArrayVec;
@@ -17,7 +20,7 @@ use md_word::clock::SUB_CLOCK;
 use md_word::{Answer80, Parcel, Pins80, Request80};
 use rom_header::Cart;
 use z80_decode::InterruptMode;
-use z80_exec::{Finish80, Progress80, Regs80, Step80, go};
+use z80_exec::{Finish80, Progress80, Regs80, Step80, foresee, go};
 use z80_parcel::store;
 
 /// The master cycles from a sample to the first access, to a yield and to a take, and for which a
@@ -50,6 +53,8 @@ pub struct Sequencer {
     pub cause: u8,
     /// What its accesses have answered so far.
     pub answers: ArrayVec<u8, 4>,
+    /// What comes behind the answer to the write that waits, where that is known.
+    pub behind: Behind,
 }
 
 impl Sequencer {
@@ -86,6 +91,7 @@ impl Sequencer {
             resets: 0,
             cause: 0,
             answers: ArrayVec::new(),
+            behind: Behind::nothing(),
         }
     }
 
@@ -144,7 +150,8 @@ impl Sequencer {
     fn wait(&mut self, cycles: u64)
         requires start { self.old.start < 2 ^ 51 }
         requires cycles { cycles < 2 ^ 51 }
-        ensures { (parcel : Option Held) → state_of self.new parcel ≡ events.waited (state_of self.old parcel) cycles }
+        ensures state { (parcel : Option Held) → state_of self.new parcel ≡ events.waited (state_of self.old parcel) cycles }
+        ensures stage { self.new.stage ≡ stages.Sample }
     {
         self.next = self.start + cycles;
         self.start = self.next;
@@ -154,7 +161,8 @@ impl Sequencer {
     /// Goes to a yield or a take.
     fn go_to(&mut self, stage: Stage)
         requires { self.old.start < 2 ^ 50 }
-        ensures { (parcel : Option Held) → state_of self.new parcel ≡ events.moving (state_of self.old parcel) stage }
+        ensures state { (parcel : Option Held) → state_of self.new parcel ≡ events.moving (state_of self.old parcel) stage }
+        ensures stage { self.new.stage ≡ stage }
     {
         self.next = self.start + FIRST_STEP;
         self.stage = stage;
@@ -163,7 +171,8 @@ impl Sequencer {
     /// Goes to the access that waits for the next answer.
     fn ask(&mut self, cause: u8)
         requires { self.old.start < 2 ^ 50 }
-        ensures { (parcel : Option Held) → state_of self.new parcel ≡ events.asking (state_of self.old parcel) cause }
+        ensures state { (parcel : Option Held) → state_of self.new parcel ≡ events.asking (state_of self.old parcel) cause }
+        ensures behind { self.new.behind ≡ self.old.behind }
     {
         self.next = self.start + FIRST_STEP + STEP * self.answers.len() as u64;
         self.stage = Stage::Access;
@@ -175,7 +184,8 @@ impl Sequencer {
     fn finish(&mut self, finish: &Finish80)
         requires start { self.old.start < 2 ^ 50 }
         requires t { finish.now.t ≤ 23 }
-        ensures { (parcel : Option Held) → state_of self.new parcel ≡ events.ended_at (state_of self.old parcel) finish.now }
+        ensures state { (parcel : Option Held) → state_of self.new parcel ≡ events.ended_at (state_of self.old parcel) finish.now }
+        ensures stage { self.new.stage ≡ stages.Sample }
     {
         self.halted = finish.halted;
         self.after_ei = finish.after_ei;
@@ -195,12 +205,24 @@ impl Sequencer {
     ) -> Option<Finish80>
         ensures value { events.ended_by result self.new.regs (done_of progress.new)
             ≡ events.ended_in (carried_out cart.now (state_of self.old (Some parcel.now)) cause) }
-        ensures kept { result ≡ None → self.new ≡ self.old }
-        ensures others { self.new ≡ record self.old { regs = self.new.regs } }
+        ensures kept { result ≡ None → self.new ≡ record self.old { behind = self.new.behind } }
+        ensures others { self.new ≡ record self.old { regs = self.new.regs; behind = self.new.behind } }
+        ensures foretells { result ≡ None → Foretells self.new.behind cart.now (state_of self.old (Some parcel.now)) cause }
         ensures most { IfSome result (λ finish. finish.t ≤ 23) }
     {
-        match go(&mut self.regs, cart, parcel, &self.answers, cause, progress) {
-            Step80::Need(_) => None,
+        match foresee(
+            &mut self.regs,
+            cart,
+            parcel,
+            &self.answers,
+            cause,
+            progress,
+            &mut self.behind.end,
+        ) {
+            Step80::Need(request) => {
+                self.behind.keep(&request);
+                None
+            }
             Step80::Done(finish) => Some(finish),
         }
     }
@@ -209,7 +231,8 @@ impl Sequencer {
     #[tactic(auto, unfolding(crate::specs::Events::went_on))]
     fn go_on(&mut self, cause: u8, cart: &Cart, parcel: &mut Parcel, progress: &mut Progress80)
         requires { self.old.start < 2 ^ 50 }
-        ensures { state_of self.new (Some parcel.new) ≡ went_on cart.now (state_of self.old (Some parcel.old)) cause }
+        ensures state { state_of self.new (Some parcel.new) ≡ went_on cart.now (state_of self.old (Some parcel.old)) cause }
+        ensures foreseen { IsForeseen self.new.stage cart.now (state_of self.new (Some parcel.new)) self.new.behind }
     {
         match self.step(cause, cart, parcel, progress) {
             None => self.ask(cause),
@@ -230,7 +253,8 @@ impl Sequencer {
     )
         requires start { self.old.start < 2 ^ 50 }
         requires ram { IsSome parcel.old }
-        ensures { state_of self.new parcel.new ≡ went_on cart.now (state_of self.old parcel.old) cause }
+        ensures state { state_of self.new parcel.new ≡ went_on cart.now (state_of self.old parcel.old) cause }
+        ensures foreseen { IsForeseen self.new.stage cart.now (state_of self.new parcel.new) self.new.behind }
     {
         if let Some(parcel) = parcel {
             self.go_on(cause, cart, parcel, progress);
@@ -248,7 +272,8 @@ impl Sequencer {
     )
         requires start { self.old.start < 2 ^ 50 }
         requires answers { self.old.answers.items ≡ [] }
-        ensures { state_of self.new parcel.new ≡ begun cart.now (state_of self.old parcel.old) pins.now }
+        ensures state { state_of self.new parcel.new ≡ begun cart.now (state_of self.old parcel.old) pins.now }
+        ensures foreseen { IsForeseen self.new.stage cart.now (state_of self.new parcel.new) self.new.behind }
     {
         self.see_reset(pins);
         match self.case_at(pins, parcel) {
@@ -267,6 +292,7 @@ impl Sequencer {
         requires end { end ≤ 2 ^ 50 }
         ensures steps { result ≡ events.steps_to self.old.start end }
         ensures few { result ≤ 2 ^ 50 }
+        ensures stage { self.new.stage ≡ stages.Sample }
         ensures state { (parcel : Option Held) → state_of self.new parcel
             ≡ events.waited (state_of self.old parcel) (events.step * events.steps_to self.old.start end) }
     {
@@ -289,6 +315,7 @@ impl Sequencer {
         requires end { end ≤ 2 ^ 50 }
         requires answers { self.old.answers.items ≡ [] }
         ensures state { WentAhead result end cart.now pins.now (state_of self.old parcel.old) (state_of self.new parcel.new) }
+        ensures foreseen { IsForeseen self.new.stage cart.now (state_of self.new parcel.new) self.new.behind }
         ensures few { result ≤ 2 ^ 50 + 1 }
         ensures all { cases.is_rest (cases.case_of (state_of self.old parcel.old) pins.now) ≡ true → end ≤ self.new.next }
     {
@@ -309,8 +336,10 @@ impl Sequencer {
         progress: &mut Progress80,
     ) -> Request80
         requires access { events.Waits self.old.stage cart.now (state_of self.old parcel.old) }
+        requires foreseen { IsForeseen self.old.stage cart.now (state_of self.old parcel.old) self.old.behind }
         ensures request { request_value80 result ≡ asked_of cart.now (state_of self.old parcel.old) }
         ensures state { state_of self.new parcel.new ≡ handed (state_of self.old parcel.old) }
+        ensures foreseen { IsForeseen self.new.stage cart.now (state_of self.new parcel.new) self.new.behind }
     {
         match self.stage {
             Stage::Access => self.waiting(cart, parcel, progress),
@@ -328,9 +357,13 @@ impl Sequencer {
     ) -> Request80
         requires ram { IsSome parcel.now }
         requires waits { events.Asks cart.now (state_of self.old parcel.now) }
+        requires foretells { Foretells self.old.behind cart.now (state_of self.old parcel.now) self.old.cause }
         ensures request { request_value80 result ≡ events.asked_in (carried_out cart.now (state_of self.old parcel.now) self.old.cause) }
         ensures state { self.new ≡ self.old }
     {
+        if self.behind.end.known {
+            return Request80::Write(self.behind.address, self.behind.value);
+        }
         match parcel {
             None => Request80::Take,
             Some(parcel) => match go(
@@ -359,7 +392,9 @@ impl Sequencer {
         requires start { self.old.start < 2 ^ 50 }
         requires few { array_vec_len self.old.answers < 4 }
         requires ram { events.HasRam self.old.stage (state_of self.old parcel.old) }
-        ensures { state_of self.new parcel.new ≡ answered cart.now (state_of self.old parcel.old) (answer_value80 answer) }
+        requires foreseen { IsForeseen self.old.stage cart.now (state_of self.old parcel.old) self.old.behind }
+        ensures foreseen { IsForeseen self.new.stage cart.now (state_of self.new parcel.new) self.new.behind }
+        ensures state { state_of self.new parcel.new ≡ answered cart.now (state_of self.old parcel.old) (answer_value80 answer) }
     {
         match self.stage {
             Stage::Sample => {}
@@ -382,11 +417,30 @@ impl Sequencer {
         requires start { self.old.start < 2 ^ 50 }
         requires few { array_vec_len self.old.answers < 4 }
         requires ram { IsSome parcel.old }
-        ensures { state_of self.new parcel.new ≡ events.went_on_with cart.now (state_of self.old parcel.old) value }
+        requires foretells { Foretells self.old.behind cart.now (state_of self.old parcel.old) self.old.cause }
+        ensures state { state_of self.new parcel.new ≡ events.went_on_with cart.now (state_of self.old parcel.old) value }
+        ensures foreseen { IsForeseen self.new.stage cart.now (state_of self.new parcel.new) self.new.behind }
     {
+        if self.behind.end.known {
+            self.end_foreseen();
+            return;
+        }
         self.answers.push(value);
         let cause = self.cause;
         self.carry_out(cause, cart, parcel, progress);
+    }
+
+    /// Ends what was carried out as it is foreseen.
+    fn end_foreseen(&mut self)
+        requires start { self.old.start < 2 ^ 50 }
+        requires t { self.old.behind.end.finish.t ≤ 23 }
+        ensures state { (parcel : Option Held) → state_of self.new parcel
+            ≡ events.ended_at (record (state_of self.old parcel) { regs = self.old.behind.end.regs }) self.old.behind.end.finish }
+        ensures stage { self.new.stage ≡ stages.Sample }
+    {
+        self.regs = self.behind.end.regs;
+        let finish = self.behind.end.finish;
+        self.finish(&finish);
     }
 }
 

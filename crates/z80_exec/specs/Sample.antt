@@ -2,5 +2,6 @@
 pub mod Bounds
 pub mod Entries
 pub mod Execution
+pub mod Foresight
 pub mod Samples
 pub mod Times

@@ -12,5 +12,5 @@ use access::view::Around;
 pub use access::view::Progress80;
 use access::waiting::Waiting;
 pub use regs80::Regs80;
-pub use sample::go;
-pub use sample::step::{Finish80, Step80};
+pub use sample::step::{Finish80, Foreseen80, Step80};
+pub use sample::{foresee, go};

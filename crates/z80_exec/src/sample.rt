@@ -1,7 +1,8 @@
-ghost use Rattle.std.specs.Prelude.{◌≡◌, ◌<◌, ◌≤◌, slice_index};
+ghost use Rattle.std.specs.Prelude.{◌≡◌, ◌<◌, ◌≤◌, false, slice_index};
 ghost use Rattle.arrayvec.specs.ArrayVec.{array_vec_len};
 ghost use Rattle.z80_decode.specs.Instructions.{decoded};
 ghost use Rattle.z80_exec.specs.Access.Clauses.{done_of, memory_of};
+ghost use Rattle.z80_exec.specs.Sample.Foresight.{EndsForeseen};
 ghost use Rattle.z80_exec.specs.Sample.Samples as samples;
 ghost use Rattle.z80_exec.specs.Sample.Samples.{CoversAccesses, Keeps, WaitsBelow, WaitsRightly, nothing, told_by};
 
@@ -11,7 +12,7 @@ pub mod step;
 mod times;
 
 use crate::access::memory::instruction_bytes;
-use crate::{Around, Finish80, Progress80, Regs80, Step80};
+use crate::{Around, Finish80, Foreseen80, Progress80, Regs80, Step80};
 use arrayvec::ArrayVec;
 use entry::enter;
 use execution::execute;
@@ -64,21 +65,29 @@ fn instruction(
     around: &Around,
     regs: &mut Regs80,
     progress: &mut Progress80,
+    foreseen: &mut Foreseen80,
 ) -> Step80
-    requires { done_of progress.old ≡ nothing }
+    requires fresh { done_of progress.old ≡ nothing }
+    requires nothing { foreseen.old.known ≡ false }
+    ensures foreseen { EndsForeseen result foreseen.new (samples.instruction found.now first regs.old) (memory_of around.now) }
     ensures value { told_by result regs.new (done_of progress.new) ≡ samples.instruction found.now first regs.old (memory_of around.now) }
     ensures kept { Keeps result regs.old regs.new }
 {
     let before = *regs;
     let op = found.op;
     fetch(found, first, regs);
-    match execute(op, around, regs, progress) {
+    match execute(op, around, regs, progress, foreseen) {
         Ok(taken) => Step80::Done(Finish80 {
             t: time_of(op, taken),
             halted: matches!(op, Op80::Halt),
             after_ei: matches!(op, Op80::EnableInterrupts),
         }),
         Err(waiting) => {
+            foreseen.finish = Finish80 {
+                t: time_of(op, false),
+                halted: matches!(op, Op80::Halt),
+                after_ei: matches!(op, Op80::EnableInterrupts),
+            };
             *regs = before;
             Step80::Need(waiting.request())
         }
@@ -115,11 +124,14 @@ fn run(
     answers: &ArrayVec<u8, 4>,
     cause: u8,
     progress: &mut Progress80,
+    foreseen: &mut Foreseen80,
 ) -> Step80
+    ensures foreseen { EndsForeseen result foreseen.new (samples.sampled cause regs.old) (record { rom = cart.now; ram = parcel.now.ram.value; bank = parcel.now.bank; answers = answers.now.items }) }
     ensures value { told_by result regs.new (done_of progress.new) ≡ samples.sampled cause regs.old (record { rom = cart.now; ram = parcel.now.ram.value; bank = parcel.now.bank; answers = answers.now.items }) }
     ensures kept { Keeps result regs.old regs.new }
 {
     progress.restart();
+    foreseen.known = false;
     let around = Around {
         rom: cart.bytes(),
         ram: &parcel.ram,
@@ -128,7 +140,7 @@ fn run(
     };
     if cause == 0 {
         let bytes = instruction_bytes(regs.pc, &around);
-        instruction(&decode(&bytes), bytes[0], &around, regs, progress)
+        instruction(&decode(&bytes), bytes[0], &around, regs, progress, foreseen)
     } else {
         interrupt(&around, regs, progress)
     }
@@ -140,8 +152,29 @@ fn run(
 /// `cause` is 0 for the instruction at the program counter, and more for an interrupt. `parcel` has
 /// RAM and the bank register before it. Where it waits for an answer, to a read or a write, the
 /// registers stay as they were. `progress` is cleared first; its writes count where the step is done:
-/// the bytes written into RAM and the bank register, the oldest first. Source: Zilog UM0080, "Z80
+/// the bytes written into RAM and the bank register, the oldest first. Where it waits for the answer to
+/// a write, `foreseen` has what it comes to then, if that is known: of an LD of 8 bits. Source: Zilog UM0080, "Z80
 /// Instruction Description" and "Interrupt Response".
+pub fn foresee(
+    regs: &mut Regs80,
+    cart: &Cart,
+    parcel: &Parcel,
+    answers: &ArrayVec<u8, 4>,
+    cause: u8,
+    progress: &mut Progress80,
+    foreseen: &mut Foreseen80,
+) -> Step80
+    ensures foreseen { EndsForeseen result foreseen.new (samples.sampled cause regs.old) (record { rom = cart.now; ram = parcel.now.ram.value; bank = parcel.now.bank; answers = answers.now.items }) }
+    ensures value { told_by result regs.new (done_of progress.new) ≡ samples.sampled cause regs.old (record { rom = cart.now; ram = parcel.now.ram.value; bank = parcel.now.bank; answers = answers.now.items }) }
+    ensures kept { Keeps result regs.old regs.new }
+    ensures waits { WaitsBelow result (array_vec_len answers.now) 4 }
+    ensures asks { WaitsRightly result }
+    ensures covers { CoversAccesses result progress.new.used }
+{
+    run(regs, cart, parcel, answers, cause, progress, foreseen)
+}
+
+/// The same where nothing is to be foreseen.
 pub fn go(
     regs: &mut Regs80,
     cart: &Cart,
@@ -156,5 +189,6 @@ pub fn go(
     ensures asks { WaitsRightly result }
     ensures covers { CoversAccesses result progress.new.used }
 {
-    run(regs, cart, parcel, answers, cause, progress)
+    let mut foreseen = Foreseen80::nothing();
+    foresee(regs, cart, parcel, answers, cause, progress, &mut foreseen)
 }

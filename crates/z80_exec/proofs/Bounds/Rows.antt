@@ -72,7 +72,7 @@ accesses_of (ops.BlockOutput block) = 1
 accesses_of op = 0
 
 -- operands
-fetch : (place : Place8) (regs : Regs80) → Sound (touches (kind_of place)) (operands.fetch place regs)
+pub fetch : (place : Place8) (regs : Regs80) → Sound (touches (kind_of place)) (operands.fetch place regs)
 unfolding operands.fetch operands.address_of
 fetch places.AtBc regs = read regs.bc
 fetch places.AtDe regs = read regs.de

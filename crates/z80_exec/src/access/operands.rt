@@ -10,7 +10,7 @@ use z80_decode::Place8;
 
 /// The address of a place in memory.
 #[tactic(auto, unfolding(crate::specs::Access::Operands::address_of))]
-fn address(place: Place8, regs: &Regs80) -> Option<u16>
+pub fn address(place: Place8, regs: &Regs80) -> Option<u16>
     ensures { result ≡ operands.address_of place regs.now }
 {
     match place {

@@ -1,30 +1,93 @@
-ghost use Rattle.std.specs.Prelude.{◌≡◌, ◌+◌, ◌≤◌};
+ghost use Rattle.std.specs.Prelude.{◌≡◌, ◌+◌, ◌≤◌, false};
 ghost use Rattle.arrayvec.specs.ArrayVec.{array_vec_len};
-ghost use Rattle.z80_exec.specs.Access.Clauses.{Ends, done_of, memory_of};
+ghost use Rattle.z80_exec.specs.Access.Clauses.{Ends, Leaves, Meets, done_of, memory_of};
+ghost use Rattle.z80_exec.specs.Access.Actions as actions;
+ghost use Rattle.z80_exec.specs.Access.Operands as operands;
 ghost use Rattle.z80_exec.specs.Rows.Loads as loads;
+ghost use Rattle.z80_exec.specs.Sample.Foresight.{Foresees, WaitsForLast};
 
-use crate::access::operands::{fetch, pop, push, put};
-use crate::access::{read_word, write_word};
+use crate::access::operands::{address, fetch, pop, push};
+use crate::access::{read_word, write, write_word};
 use crate::regs80::pair_at;
-use crate::{Around, Progress80, Regs80, Waiting};
+use crate::{Around, Foreseen80, Progress80, Regs80, Waiting};
 use z80_alu::special_loaded;
 use z80_decode::{Index, Pair, Place8, Special};
 
+/// Writes a byte. Where the write waits, and takes the next answer, the registers behind it are foreseen:
+/// those given.
+#[inline(always)]
+#[tactic(auto, using(crate::proofs::Foresight::nothing_waits))]
+fn write_last(
+    at: u16,
+    value: u8,
+    around: &Around,
+    regs: &Regs80,
+    progress: &mut Progress80,
+    foreseen: &mut Foreseen80,
+) -> Result<(), Waiting>
+    requires fresh { array_vec_len progress.old.writes ≡ 0 }
+    requires nothing { foreseen.old.known ≡ false }
+    ensures value { Meets result (done_of progress.new) (actions.write at value (memory_of around.now) (done_of progress.old)) }
+    ensures foreseen { WaitsForLast result foreseen.new regs.now (actions.write at value) tt (memory_of around.now) (done_of progress.old) }
+{
+    let last = progress.used == around.answers.len();
+    match write(at, value, around, progress) {
+        Ok(()) => Ok(()),
+        Err(waiting) => {
+            if last {
+                foreseen.known = true;
+                foreseen.regs = *regs;
+            }
+            Err(waiting)
+        }
+    }
+}
+
+/// Puts a byte in its place. Where the write waits, the registers behind it are foreseen.
+#[inline(always)]
+#[tactic(auto, using(crate::proofs::Foresight::nothing_waits), unfolding(crate::specs::Access::Operands::put, crate::specs::Access::Operands::put_memory))]
+fn put_last(
+    place: Place8,
+    value: u8,
+    around: &Around,
+    regs: &mut Regs80,
+    progress: &mut Progress80,
+    foreseen: &mut Foreseen80,
+) -> Result<(), Waiting>
+    requires fresh { array_vec_len progress.old.writes ≡ 0 }
+    requires nothing { foreseen.old.known ≡ false }
+    ensures value { Leaves result regs.new (done_of progress.new) (operands.put place value regs.old (memory_of around.now) (done_of progress.old)) }
+    ensures foreseen { WaitsForLast result foreseen.new regs.old (operands.put place value regs.old) regs.old (memory_of around.now) (done_of progress.old) }
+{
+    match address(place, regs) {
+        Some(at) => write_last(at, value, around, regs, progress, foreseen),
+        None => {
+            regs.set_byte(place, value);
+            Ok(())
+        }
+    }
+}
+
 /// LD of 8 bits.
-#[tactic(auto, unfolding(crate::specs::Rows::Loads::load))]
+#[tactic(auto, using(crate::proofs::Foresight::nothing_foreseen), unfolding(crate::specs::Rows::Loads::load))]
 pub fn load(
     target: Place8,
     source: Place8,
     around: &Around,
     regs: &mut Regs80,
     progress: &mut Progress80,
+    foreseen: &mut Foreseen80,
 ) -> Result<bool, Waiting>
-    requires { array_vec_len progress.old.writes + 1 ≤ 4 }
-    ensures { Ends result regs.new (done_of progress.new) (loads.load target source regs.old (memory_of around.now) (done_of progress.old)) }
+    requires fresh { array_vec_len progress.old.writes ≡ 0 }
+    requires nothing { foreseen.old.known ≡ false }
+    ensures value { Ends result regs.new (done_of progress.new) (loads.load target source regs.old (memory_of around.now) (done_of progress.old)) }
+    ensures foreseen { Foresees result foreseen.new (loads.load target source regs.old) (memory_of around.now) (done_of progress.old) }
 {
     let value = fetch(source, around, regs, progress)?;
-    put(target, value, around, regs, progress)?;
-    Ok(false)
+    match put_last(target, value, around, regs, progress, foreseen) {
+        Ok(()) => Ok(false),
+        Err(waiting) => Err(waiting),
+    }
 }
 
 /// LD A,I and LD A,R.

@@ -1,7 +1,8 @@
-ghost use Rattle.std.specs.Prelude.{◌+◌, ◌≤◌};
+ghost use Rattle.std.specs.Prelude.{◌≡◌, false};
 ghost use Rattle.arrayvec.specs.ArrayVec.{array_vec_len};
 ghost use Rattle.z80_exec.specs.Access.Clauses.{Ends, done_of, memory_of};
 ghost use Rattle.z80_exec.specs.Sample.Execution as execution;
+ghost use Rattle.z80_exec.specs.Sample.Foresight.{Foresees};
 
 use crate::regs80::pair_at;
 use crate::rows::arithmetic::{change, operate};
@@ -22,22 +23,28 @@ use crate::rows::pairs::{
 };
 use crate::rows::ports::{block_input, block_output, input, input_at_number};
 use crate::rows::rotates::{rotate_digits_left, rotate_digits_right};
-use crate::{Around, Progress80, Regs80, Waiting};
+use crate::{Around, Foreseen80, Progress80, Regs80, Waiting};
 use z80_decode::{Op80, Task80};
 
 /// Carries out an instruction. On entry the program counter is behind it. Tells whether it took the
 /// longer of two times.
+#[tactic(auto, using(crate::proofs::Foresight::nothing_foreseen))]
 pub fn execute(
     op: Op80,
     around: &Around,
     regs: &mut Regs80,
     progress: &mut Progress80,
+    foreseen: &mut Foreseen80,
 ) -> Result<bool, Waiting>
-    requires { array_vec_len progress.old.writes + 2 ≤ 4 }
-    ensures { Ends result regs.new (done_of progress.new) (execution.row op regs.old (memory_of around.now) (done_of progress.old)) }
+    requires fresh { array_vec_len progress.old.writes ≡ 0 }
+    requires nothing { foreseen.old.known ≡ false }
+    ensures foreseen { Foresees result foreseen.new (execution.row op regs.old) (memory_of around.now) (done_of progress.old) }
+    ensures value { Ends result regs.new (done_of progress.new) (execution.row op regs.old (memory_of around.now) (done_of progress.old)) }
 {
     match op {
-        Op80::Load(target, source) => return load(target, source, around, regs, progress),
+        Op80::Load(target, source) => {
+            return load(target, source, around, regs, progress, foreseen);
+        }
         Op80::LoadFromSpecial(special) => load_from_special(special, regs),
         Op80::LoadToSpecial(special) => load_to_special(special, regs),
         Op80::LoadPair(pair, value) => regs.set_pair(pair, value),

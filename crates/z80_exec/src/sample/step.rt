@@ -1,4 +1,8 @@
+ghost use Rattle.std.specs.Prelude.{◌≡◌, false};
+
+use crate::Regs80;
 use md_word::Request80;
+use z80_decode::InterruptMode;
 
 /// What a sample of the Z80 comes to, once its shared accesses are answered.
 #[derive(Clone, Copy)]
@@ -18,4 +22,50 @@ pub enum Step80 {
     Need(Request80),
     /// All are answered.
     Done(Finish80),
+}
+
+/// What comes behind a write that waits for its answer, where that is known: the write is the last
+/// access of its instruction, no answer to it changes anything, and nothing private is written.
+#[derive(Clone, Copy)]
+pub struct Foreseen80 {
+    pub known: bool,
+    /// The registers then.
+    pub regs: Regs80,
+    /// What the sample comes to.
+    pub finish: Finish80,
+}
+
+impl Foreseen80 {
+    /// Nothing is known.
+    pub fn nothing() -> Self
+        ensures { result.known ≡ false }
+    {
+        Foreseen80 {
+            known: false,
+            regs: Regs80 {
+                af: 0,
+                bc: 0,
+                de: 0,
+                hl: 0,
+                af2: 0,
+                bc2: 0,
+                de2: 0,
+                hl2: 0,
+                ix: 0,
+                iy: 0,
+                sp: 0,
+                pc: 0,
+                i: 0,
+                r: 0,
+                iff1: false,
+                iff2: false,
+                mode: InterruptMode::Mode0,
+            },
+            finish: Finish80 {
+                t: 0,
+                halted: false,
+                after_ei: false,
+            },
+        }
+    }
 }

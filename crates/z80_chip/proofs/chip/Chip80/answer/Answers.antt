@@ -5,9 +5,9 @@ use Rattle.z80_chip.proofs.Laws.{few-answers}
 use Rattle.z80_chip.proofs.chip.Chip80.answer.Goals as goal
 
 pub answer-requires-clause-few : goal.answer-requires-clause-few
-answer-requires-clause-few c = few-answers _ c.self.invariant
+answer-requires-clause-few c = few-answers _ c.self.invariant.valid
 
 pub invariant_of-self : goal.invariant_of-self
 invariant_of-self c =
-    after_answer _ c.deref.result.now (state_of c.self.inside.sequencer c.self.inside.parcel) _ _ (answer_value80 c.args.answer) c.self.view_is c.self.invariant c.requires.asking c.requires.fits
-    c.deref.ensures c.answer.ensures
+    after_answer _ c.deref.result.now (state_of c.self.inside.sequencer c.self.inside.parcel) _ _ _ (answer_value80 c.args.answer) c.self.view_is c.self.invariant.valid c.requires.asking c.requires.fits
+    c.deref.ensures c.answer.ensures.state c.answer.ensures.foreseen

@@ -25,6 +25,6 @@ returns c = λ at late rules.
     } in
     let range : IsInRange c.args.self.now.state = subst (λ (v : Chip80Value). IsInRange v.state) c.self.view_is
     (record { regs = regs; next = c.known_counts.ensures.next; resets = c.known_counts.ensures.resets }) in
-    let valid : IsChip80 c.args.self.now = subst (λ (v : Chip80Value). IsChip80 v) c.self.view_is c.self.invariant in
+    let valid : IsChip80 c.args.self.now = subst (λ (v : Chip80Value). IsChip80 v) c.self.view_is c.self.invariant.valid in
     let small : at < 2 ^ 64 = omega (arith, late, range.next) in
     spelled_back at c.args.self.now small valid range rules late

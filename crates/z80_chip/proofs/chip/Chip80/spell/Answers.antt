@@ -20,7 +20,7 @@ pub put_store-requires : goal.put_store-requires
 put_store-requires c =
     let store : Option Store = option_map store_of c.self.inside.parcel in
     let size : spelled_size (is_some store) ≡ spelled_size (is_some c.args.self.now.state.store) = ap (λ (v : Chip80Value). spelled_size (is_some v.state.store)) c.self.view_is in
-    omega (arith, long_as_sized _ c.fields.ensures.sizes ∙ ap sizes c.fields.ensures.fields ∙ number_size c.args.at _ c.of.result, c.put.ensures.length, c.put.ensures.room, c.requires, size, tail_size store c.self.invariant.store)
+    omega (arith, long_as_sized _ c.fields.ensures.sizes ∙ ap sizes c.fields.ensures.fields ∙ number_size c.args.at _ c.of.result, c.put.ensures.length, c.put.ensures.room, c.requires, size, tail_size store c.self.invariant.valid.store)
 
 pub returns-clause-bytes : goal.returns-clause-bytes
 returns-clause-bytes c =
@@ -54,11 +54,11 @@ returns-clause-kept c = λ late rules.
     } in
     let range : IsInRange c.args.self.now.state = subst (λ (v : Chip80Value). IsInRange v.state) c.self.view_is
     (record { regs = regs; next = c.known_counts.ensures.next; resets = c.known_counts.ensures.resets }) in
-    let valid : IsChip80 c.args.self.now = subst (λ (v : Chip80Value). IsChip80 v) c.self.view_is c.self.invariant in
+    let valid : IsChip80 c.args.self.now = subst (λ (v : Chip80Value). IsChip80 v) c.self.view_is c.self.invariant.valid in
     spelled_back c.args.at c.args.self.now (omega arith) valid range rules late
 
 pub returns-clause-length : goal.returns-clause-length
 returns-clause-length c =
     let store : Option Store = option_map store_of c.self.inside.parcel in
     let size : spelled_size (is_some store) ≡ spelled_size (is_some c.args.self.now.state.store) = ap (λ (v : Chip80Value). spelled_size (is_some v.state.store)) c.self.view_is in
-    omega (arith, long_as_sized _ c.fields.ensures.sizes ∙ ap sizes c.fields.ensures.fields ∙ number_size c.args.at _ c.of.result, c.put.ensures.length, c.put_store.ensures.length, size, tail_size store c.self.invariant.store)
+    omega (arith, long_as_sized _ c.fields.ensures.sizes ∙ ap sizes c.fields.ensures.fields ∙ number_size c.args.at _ c.of.result, c.put.ensures.length, c.put_store.ensures.length, size, tail_size store c.self.invariant.valid.store)

@@ -16,6 +16,7 @@ use Rattle.md_fields.proofs.Refusals.{same_rule}
 use Rattle.z80_chip.proofs.RuleLaws.{rules_from}
 use Rattle.z80_chip.proofs.SavedLaws.{count_few, valid}
 use Rattle.z80_chip.proofs.SpellingLaws.{answers_four, breaks_ram, no_other, only_place, read_keeps, read_of, read_right, read_rules, read_store, right_not_refused, spells}
+use Rattle.z80_chip.proofs.Foresight.{unknown-foreseen}
 use Rattle.z80_chip.proofs.chip.Chip80.unspell.Goals as goal
 
 pub returns-in-Err-clause-only : goal.returns-in-Err-clause-only
@@ -62,7 +63,7 @@ sequencer-requires c = omega (arith, count_few c.args.at true _ (read_rules c.ar
 
 -- what is made
 made : (c : goal.After-new) → state_of c.sequencer.result c.in_ok-parcel.parcel ≡ state_from c.in-Ok.saved (store_at c.args.bytes.now)
-made c = c.sequencer.ensures c.in_ok-parcel.parcel ∙ ap (state_from c.in-Ok.saved) c.in_ok-parcel.ensures
+made c = c.sequencer.ensures.state c.in_ok-parcel.parcel ∙ ap (state_from c.in-Ok.saved) c.in_ok-parcel.ensures
 
 asks : (c : goal.After-new) → asks_more (arc_value c.args.cart) (read_of c.args.bytes.now c.in-Ok.saved) ≡ true
 asks c =
@@ -76,14 +77,16 @@ right : (c : goal.After-new) → IsRight (chip_fields (arc_value c.args.cart) c.
 right c = read_right (arc_value c.args.cart) c.args.at c.args.bytes.now c.in-Ok.saved c.in-Ok.ensures.found (asks c)
 
 pub invariant_of-result : goal.invariant_of-result
-invariant_of-result c =
-    subst (λ (state : State80). IsChip80 (of (arc_value c.args.cart) state)) (sym (made c))
-    (valid (arc_value c.args.cart) c.args.at (read_of c.args.bytes.now c.in-Ok.saved)
-    (subst (λ (image : List ℕ). IsImage image) c.deref.ensures c.bytes.ensures.image)
-    (read_store c.args.at c.args.bytes.now c.in-Ok.saved c.in-Ok.ensures.found)
-    (answers_four (arc_value c.args.cart) c.args.at c.args.bytes.now (read_of c.args.bytes.now c.in-Ok.saved) (keeps c))
-    (read_rules c.args.at c.args.bytes.now c.in-Ok.saved c.in-Ok.ensures.found)
-    (asks c))
+invariant_of-result c = record {
+  valid = subst (λ (state : State80). IsChip80 (of (arc_value c.args.cart) state)) (sym (made c))
+      (valid (arc_value c.args.cart) c.args.at (read_of c.args.bytes.now c.in-Ok.saved)
+      (subst (λ (image : List ℕ). IsImage image) c.deref.ensures c.bytes.ensures.image)
+      (read_store c.args.at c.args.bytes.now c.in-Ok.saved c.in-Ok.ensures.found)
+      (answers_four (arc_value c.args.cart) c.args.at c.args.bytes.now (read_of c.args.bytes.now c.in-Ok.saved) (keeps c))
+      (read_rules c.args.at c.args.bytes.now c.in-Ok.saved c.in-Ok.ensures.found)
+      (asks c));
+  foresees = unknown-foreseen _ (arc_value c.args.cart) _ c.sequencer.result.behind c.sequencer.ensures.unknown;
+}
 
 pub returns-clause-found : goal.returns-clause-found
 returns-clause-found c = (

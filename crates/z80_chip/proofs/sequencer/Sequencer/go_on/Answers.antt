@@ -5,20 +5,21 @@ use Rattle.z80_exec.specs.Sample.Samples.{Ended}
 use Rattle.z80_chip.specs.Events.{asking, carried_out, ended_at, ended_by, went_on}
 use Rattle.z80_chip.specs.States.{State80, state_of}
 use Rattle.z80_chip.specs.declared.sequencer.Sequencer.{Sequencer}
+use Rattle.z80_chip.proofs.Foresight.{asked-foreseen}
 use Rattle.z80_chip.proofs.Steps.{ends, waits}
 use Rattle.z80_chip.proofs.sequencer.Sequencer.go_on.Goals as goal
 
-pub returns-in-None : goal.returns-in-None
+pub returns-in-None-clause-state : goal.returns-in-None-clause-state
 unfolding went_on
-returns-in-None c =
+returns-in-None-clause-state c =
     let old : State80 = state_of c.args.self.now (Some c.args.parcel.now) in
-    c.ask.ensures (Some c.args.parcel.now)
+    c.ask.ensures.state (Some c.args.parcel.now)
     ∙ ap (λ (s : Sequencer). asking (state_of s (Some c.args.parcel.now)) c.args.cause) (c.step.ensures.kept c.in-None.is)
     ∙ waits old c.args.cause (carried_out c.args.cart.now old c.args.cause) (sym (ap (λ r. ended_by r c.step.new.self.regs (done_of c.step.new.progress)) c.in-None.is) ∙ c.step.ensures.value)
 
-pub returns-in-Some : goal.returns-in-Some
+pub returns-in-Some-clause-state : goal.returns-in-Some-clause-state
 unfolding went_on
-returns-in-Some c =
+returns-in-Some-clause-state c =
     let old : State80 = state_of c.args.self.now (Some c.args.parcel.now) in
     let writes : List (ℕ × ℕ) = c.step.new.progress.writes.items in
     let ended : Ended = record {
@@ -36,7 +37,13 @@ returns-in-Some c =
     let stored : store_of c.store.new.parcel ≡ written writes (store_of c.args.parcel.now) =
     ap (λ (l : List ℕ). record { ram = l; bank = c.store.new.parcel.bank }) ram
     ∙ ap (λ (n : ℕ). record { ram = ram_after c.args.parcel.now.ram.value writes; bank = n }) bank in
-    c.finish.ensures (Some c.store.new.parcel)
+    c.finish.ensures.state (Some c.store.new.parcel)
     ∙ ap (λ (s : Sequencer). ended_at (state_of s (Some c.store.new.parcel)) c.in-Some.finish) c.step.ensures.others
     ∙ ap (λ (s : Store). ended_at (record old { regs = c.step.new.self.regs; store = Some s }) c.in-Some.finish) stored
     ∙ ends old c.args.cause (carried_out c.args.cart.now old c.args.cause) ended (sym (ap (λ r. ended_by r c.step.new.self.regs (done_of c.step.new.progress)) c.in-Some.is) ∙ c.step.ensures.value)
+
+pub returns-in-None-clause-foreseen : goal.returns-in-None-clause-foreseen
+returns-in-None-clause-foreseen c =
+    asked-foreseen c.args.cart.now (state_of c.args.self.now (Some c.args.parcel.now)) _ c.args.cause c.step.new.self.behind _
+    (c.ask.ensures.state (Some c.args.parcel.now) ∙ ap (λ (s : Sequencer). asking (state_of s (Some c.args.parcel.now)) c.args.cause) (c.step.ensures.kept c.in-None.is))
+    c.ask.ensures.behind (c.step.ensures.foretells c.in-None.is)

@@ -1,5 +1,5 @@
 use Rattle.z80_exec.proofs.Bounds.Steps.{covers_accesses, waits_below, waits_rightly}
-use Rattle.z80_exec.proofs.sample.go.Goals as goal
+use Rattle.z80_exec.proofs.sample.foresee.Goals as goal
 
 pub returns-clause-waits : goal.returns-clause-waits
 returns-clause-waits c = waits_below c.run.result _ _ _ _ _ c.run.ensures.value

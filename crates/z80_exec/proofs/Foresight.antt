@@ -1,0 +1,117 @@
+-- What comes behind a write that waits for its answer.
+use Rattle.std.proofs.Common.{◌≡◌, ℕ, zero, suc, ◌+◌, ◌<◌, ◌≤◌, ◌∙◌, Bool, true, false, nat_lt, List, [], ◌∷◌, ◌++◌, length, length-append, slice_index, Result, Ok, Err, refl, sym, ap, arith, if◌then◌else◌}
+use Rattle.std.proofs.lemmas.Bool.Decides.{nat_tests}
+use Rattle.md_word.specs.declared.sub_bus.Request80.{Request80}
+use Rattle.md_word.specs.declared.sub_bus.Request80.TheVariants.{Write}
+use Rattle.z80_decode.specs.Instructions.{decoded}
+use Rattle.z80_decode.specs.declared.decoded80.Decoded80.{Decoded80}
+use Rattle.z80_decode.specs.declared.place8.Place8.{Place8}
+use Rattle.z80_exec.specs.Access.Actions as actions
+use Rattle.z80_exec.specs.Access.Actions.{Act, Done}
+use Rattle.z80_exec.specs.Access.Memory.{Memory, instruction_byte, instruction_bytes, is_shared_write}
+use Rattle.z80_exec.specs.Access.Operands as operands
+use Rattle.z80_exec.specs.Access.Operands.{address_of}
+use Rattle.z80_exec.specs.Access.Outcomes.{Outcome, plain}
+use Rattle.z80_exec.specs.Laws.{SameBelow}
+use Rattle.z80_exec.specs.Rows.Loads as loads
+use Rattle.z80_exec.specs.Sample.Foresight.{EndsForeseen, Foresees, WaitsForLast, all_answered, answered_with}
+use Rattle.z80_exec.specs.Sample.Samples as samples
+use Rattle.z80_exec.specs.declared.access.waiting.Waiting.{Waiting}
+use Rattle.z80_exec.specs.declared.regs80.Regs80.{Regs80}
+use Rattle.z80_exec.specs.declared.sample.step.Foreseen80.{Foreseen80}
+use Rattle.z80_exec.specs.declared.sample.step.Step80.{Step80}
+use Rattle.z80_exec.specs.declared.sample.step.Step80.TheVariants as steps
+use Rattle.z80_exec.proofs.Bounds.Rows as rows
+
+-- where nothing is known nothing is foreseen
+pub nothing_foreseen : {A : Type 0} (result : Result A Waiting) (foreseen : Foreseen80) (act : Act Outcome) (memory : Memory) (done : Done) → foreseen.known ≡ false → Foresees result foreseen act memory done
+nothing_foreseen (Ok x) foreseen act memory done none = none
+nothing_foreseen (Err waiting) foreseen act memory done none = λ known. absurd (let no_way = sym none ∙ known in cc)
+
+pub nothing_waits : {A B : Type 0} (result : Result A Waiting) (foreseen : Foreseen80) (regs : Regs80) (act : Act B) (given : B) (memory : Memory) (done : Done) → foreseen.known ≡ false → WaitsForLast result foreseen regs act given memory done
+nothing_waits (Ok x) foreseen regs act given memory done none = none
+nothing_waits (Err waiting) foreseen regs act given memory done none = λ known. absurd (let no_way = sym none ∙ known in cc)
+
+split : {A : Type 0} (P : Type 0) (test : Bool) (x y z : A) → (if test then x else y) ≡ z → (test ≡ true → x ≡ z → P) → (test ≡ false → y ≡ z → P) → P
+split P true x y z e h k = h refl e
+split P false x y z e h k = k refl e
+
+-- ---- one answer more
+
+read-first : (l : List ℕ) (x k : ℕ) → k < length l → slice_index (l ++ x ∷ []) k ≡ slice_index l k
+read-first [] x k h = absurd (omega arith)
+read-first (y ∷ l) x zero h = refl
+read-first (y ∷ l) x (suc k) h = read-first l x k (omega arith)
+
+one-longer : (value : ℕ) (memory : Memory) → length (answered_with value memory).answers ≡ length memory.answers + 1
+one-longer value memory = length-append memory.answers (value ∷ [])
+
+-- what was taken is the same
+same-below : (count value : ℕ) (memory : Memory) → count ≤ length memory.answers → SameBelow count memory (answered_with value memory)
+same-below count value memory few = record {
+  rom = refl;
+  ram = refl;
+  bank = refl;
+  enough = (let e = one-longer value memory in omega (arith, e, few));
+  answers = λ k below. read-first memory.answers value k (omega (arith, below, few));
+}
+
+-- ---- a write that waits
+
+answered : (request : Request80) (memory : Memory) (before : Done) → nat_lt before.used (length memory.answers) ≡ true → actions.asked request memory before ≡ Ok (slice_index memory.answers before.used, record before { used = before.used + 1 })
+unfolding actions.asked
+answered request memory before e = rw e
+
+told-behind : (request : Request80) (memory : Memory) (done : Done) (value : ℕ) → done.used ≡ length memory.answers → actions.told request (answered_with value memory) done ≡ Ok (tt, record done { used = length memory.answers + 1 })
+unfolding actions.told
+told-behind request memory done value last =
+    let e = one-longer value memory in
+    let more : nat_lt done.used (length (answered_with value memory).answers) ≡ true = grind (arith, nat_tests, e, last) in
+    rw (answered request (answered_with value memory) done more) (rw last refl)
+
+as-last : (memory : Memory) (done : Done) → done.writes ≡ [] → record done { used = length memory.answers + 1 } ≡ all_answered memory
+as-last memory done empty = ap (λ (w : List (ℕ × ℕ)). record { used = length memory.answers + 1; writes = w }) empty
+
+pub write-behind : (at written : ℕ) (memory : Memory) (done : Done) (request : Request80) → actions.write at written memory done ≡ Err request → done.used ≡ length memory.answers → done.writes ≡ []
+    → (value : ℕ) → actions.write at written (answered_with value memory) done ≡ Ok (tt, all_answered memory)
+unfolding actions.write
+write-behind at written memory done request e last empty value =
+    split _ (is_shared_write at) _ _ _ e
+    (λ shared v. rw shared (told-behind (Write at written) memory done value last ∙ ap (λ (d : Done). Ok (tt, d)) (as-last memory done empty)))
+    (λ shared v. absurd (cc))
+
+pub none-written : (l : List (ℕ × ℕ)) → length l ≡ 0 → l ≡ []
+none-written [] e = refl
+none-written (x ∷ l) e = absurd (omega (arith, e))
+
+-- ---- LD of 8 bits
+
+pub load-behind : (target source : Place8) (regs : Regs80) (memory : Memory) (done : Done) (from : ℕ) (mid : Done) (value : ℕ)
+    → operands.fetch source regs memory done ≡ Ok (from, mid) → mid.used ≤ length memory.answers
+    → operands.put target from regs (answered_with value memory) mid ≡ Ok (regs, all_answered memory)
+    → loads.load target source regs (answered_with value memory) done ≡ Ok (plain regs, all_answered memory)
+unfolding loads.load
+load-behind target source regs memory done from mid value fetched few stored =
+    let again = (rows.fetch source regs).later.value memory (answered_with value memory) done from mid fetched (same-below mid.used value memory few) in
+    rw again (rw stored refl)
+
+pub foresees-load : (A : Type 0) (waiting : Waiting) (foreseen : Foreseen80) (target source : Place8) (regs : Regs80) (memory : Memory) (done : Done) (from : ℕ) (mid : Done)
+    → operands.fetch source regs memory done ≡ Ok (from, mid)
+    → WaitsForLast {A = Unit {0}} {B = Regs80} (Err waiting) foreseen regs (operands.put target from regs) regs memory mid
+    → Foresees {A = A} (Err waiting) foreseen (loads.load target source regs) memory done
+foresees-load A waiting foreseen target source regs memory done from mid fetched waits = λ known value.
+    let w = waits known in
+    load-behind target source regs memory done from mid value fetched w.1 (w.2 value) ∙ ap (λ (r : Regs80). Ok (plain r, all_answered memory)) (sym w.0)
+
+-- ---- the sample
+
+same-bytes : (address value : ℕ) (memory : Memory) → instruction_bytes address (answered_with value memory) ≡ instruction_bytes address memory
+unfolding instruction_bytes instruction_byte
+same-bytes address value memory = refl
+
+pub sample-foresees : (step : Step80) (foreseen : Foreseen80) (regs : Regs80) (memory : Memory) (found : Decoded80) (first : ℕ) → found ≡ decoded (instruction_bytes regs.pc memory) → first ≡ slice_index (instruction_bytes regs.pc memory) 0
+    → EndsForeseen step foreseen (samples.instruction found first regs) memory → EndsForeseen step foreseen (samples.sampled 0 regs) memory
+unfolding samples.sampled
+sample-foresees (steps.Need request) foreseen regs memory found first names begins ends = λ known value.
+    rw (same-bytes regs.pc value memory) (rw (sym names, sym begins) (ends known value))
+sample-foresees (steps.Done finish) foreseen regs memory found first names begins ends = tt
