@@ -186,21 +186,23 @@ four_holds s rest h =
     let one = operator_holds s.one r1 h in
     let two = operator_holds s.two r2 one.3 in
     let three = operator_holds s.three r3 two.3 in
-    let four = operator_holds s.four rest three.3 in
-    (record {
-      one = one.0;
-      two = two.0;
-      three = three.0;
-      four = four.0;
-      state1 = one.1;
-      state2 = two.1;
-      state3 = three.1;
-      state4 = four.1;
-      on1 = one.2;
-      on2 = two.2;
-      on3 = three.2;
-      on4 = four.2;
-    }, four.3)
+    let four = operator_holds s.four rest three.3 in (
+      record {
+        one = one.0;
+        two = two.0;
+        three = three.0;
+        four = four.0;
+        state1 = one.1;
+        state2 = two.1;
+        state3 = three.1;
+        state4 = four.1;
+        on1 = one.2;
+        on2 = two.2;
+        on3 = three.2;
+        on4 = four.2;
+      },
+      four.3,
+    )
 
 last_holds : (s : SavedLast) (rest : List Field) → AllHold (last_before s rest) → ((is_output s.older && is_output s.newer) ≡ true) × AllHold rest
 unfolding AllHold

@@ -45,16 +45,20 @@ fn press_all(channel: &mut Channel, registers: &Registers, value: u8, number: u3
     ensures value { channel.new ≡ meaning.all_pressed registers.now value number channel.old }
     ensures channel { IsChannel channel.new }
 {
-    channel
-        .one
-        .press(value / 16 % 2 == 1, rate(registers, number, 0, EnvelopeState::Attack));
-    channel
-        .two
-        .press(value / 32 % 2 == 1, rate(registers, number, 1, EnvelopeState::Attack));
-    channel
-        .three
-        .press(value / 64 % 2 == 1, rate(registers, number, 2, EnvelopeState::Attack));
-    channel
-        .four
-        .press(value / 128 % 2 == 1, rate(registers, number, 3, EnvelopeState::Attack));
+    channel.one.press(
+        value / 16 % 2 == 1,
+        rate(registers, number, 0, EnvelopeState::Attack),
+    );
+    channel.two.press(
+        value / 32 % 2 == 1,
+        rate(registers, number, 1, EnvelopeState::Attack),
+    );
+    channel.three.press(
+        value / 64 % 2 == 1,
+        rate(registers, number, 2, EnvelopeState::Attack),
+    );
+    channel.four.press(
+        value / 128 % 2 == 1,
+        rate(registers, number, 3, EnvelopeState::Attack),
+    );
 }

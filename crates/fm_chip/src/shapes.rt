@@ -95,7 +95,11 @@ fn shape_of(registers: &Registers, channel: u32, operator: u32) -> Shape
             code,
             scale,
         ) as u8,
-        decay: rated(rate_value(registers, channel, operator, EnvelopeState::Decay), code, scale) as u8,
+        decay: rated(
+            rate_value(registers, channel, operator, EnvelopeState::Decay),
+            code,
+            scale,
+        ) as u8,
         sustain: rated(
             rate_value(registers, channel, operator, EnvelopeState::Sustain),
             code,

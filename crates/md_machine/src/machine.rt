@@ -18,7 +18,7 @@ ghost use Rattle.md_machine.specs.ValidParts.{HasValidParts};
 ghost use Rattle.md_machine.specs.Media.{no_media};
 
 use crate::drains::{
-    frame_in, levels_in, put_entries, put_frames, put_pairs, sides_in, empty_chip,
+    empty_chip, frame_in, levels_in, put_entries, put_frames, put_pairs, sides_in,
 };
 use crate::first::{first_bounds, first_chips};
 use crate::least::least_key;

@@ -8,9 +8,9 @@ ghost use Rattle.z80_chip.specs.States.{state_of};
 ghost use Rattle.z80_parcel.specs.Parcels.{store_of};
 
 use crate::behind::Behind;
+use crate::resuming::first_answers;
 use crate::sequencer::{FIRST_STEP, STEP, Sequencer};
 use crate::stage::Stage;
-use crate::resuming::first_answers;
 use md_fields::{Field, are_zeros, is_after, is_soon, u8_at, u16_at, u64_at};
 use md_word::Parcel;
 use rom_header::Cart;
