@@ -1,5 +1,5 @@
 -- What follows of the kept shapes is what follows of the registers.
-use Rattle.std.proofs.Common.{◌≡◌, ap, refl, ℕ, ◌∙◌, List, if◌then◌else◌, arith}
+use Rattle.std.proofs.Common.{◌≡◌, ap, refl, ℕ, ◌∙◌, List, if◌then◌else◌}
 use Rattle.fm_env.specs.Envelopes.{stepping_state, ticked}
 use Rattle.fm_env.specs.declared.state.EnvelopeState.{EnvelopeState}
 use Rattle.fm_env.specs.declared.state.EnvelopeState.TheVariants.{Attack, Decay, Sustain, Release}
@@ -7,7 +7,7 @@ use Rattle.fm_chip.specs.declared.operator.Operator.{Operator}
 use Rattle.fm_chip.specs.declared.channels.Channel.{Channel}
 use Rattle.fm_chip.specs.declared.channels.Moment.{Moment}
 use Rattle.fm_chip.specs.declared.shapes.Shapes.{Shapes}
-use Rattle.fm_chip.specs.Registers.{rate, rate_value, sustain_level}
+use Rattle.fm_chip.specs.Registers.{rate, sustain_level}
 use Rattle.fm_chip.specs.Operators.{attenuation, envelope_of, enveloped, kept}
 use Rattle.fm_chip.specs.Channels.{all_enveloped, attenuations, ready}
 use Rattle.fm_chip.specs.Shapes.{shape_of, shapes_of, rate_in, enveloped_by, attenuation_by, all_enveloped_by, ready_by, attenuations_by}

@@ -1,6 +1,6 @@
 -- The bytes that keep a synthesis are read again.
 use Rattle.std.proofs.Common.{◌≡◌, ℕ, ◌-◌, ◌<◌, ◌≤◌, ◌^◌, Bool, true, false, List, [], ◌++◌, length, ℤ, pos, negsuc, refl, arith}
-use Rattle.std.specs.Prelude.{All, ◌&&◌, nat_le, nat_lt, slice_index_or}
+use Rattle.std.specs.Prelude.{All, nat_le, nat_lt, slice_index_or}
 use Rattle.std.proofs.lemmas.Int.{ints}
 use Rattle.std.proofs.lemmas.Bool.{le-leb, lt-ltb, le-ltb, and_from}
 use Rattle.std.proofs.lemmas.List.Elements.{All-get_or}
