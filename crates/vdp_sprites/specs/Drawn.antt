@@ -13,8 +13,8 @@ abbrev pub part_of : Sprite → ℕ → Part
 part_of sprite pixels = record { sprite = sprite; pixels = pixels }
 
 -- a dot of a sprite by one of the eight pixels of a row of a cell
-unfoldable pub dot_of : Sprite → ℕ → ℕ → Dot
-dot_of s pixels column = record { colour = s.name / 8192 % 4 * 16 + pixel_of pixels column; priority = has_bit s.name 32768 }
+unfoldable pub pixel_dot : Sprite → ℕ → ℕ → Dot
+pixel_dot s pixels column = record { colour = s.name / 8192 % 4 * 16 + pixel_of pixels column; priority = has_bit s.name 32768 }
 
 -- a dot drawn where nothing opaque stands
 unfoldable pub over : Dot → Dot → Dot
@@ -46,7 +46,7 @@ pub record IsOver (view : LineView) (y to : ℕ) (part : Part) (old new : List D
 pub record IsRun (view : LineView) (y : ℕ) (part : Part) (sprite : Sprite) (pixels column from to : ℕ) : Type 0 where
   pub sprite_is : part.sprite ≡ sprite
   pub reach : (x : ℕ) → from ≤ x → x < to → reaches part x ≡ true
-  pub dots : (x : ℕ) → from ≤ x → x < to → dot_of sprite pixels (column + (x - from)) ≡ own_dot view y sprite x
+  pub dots : (x : ℕ) → from ≤ x → x < to → pixel_dot sprite pixels (column + (x - from)) ≡ own_dot view y sprite x
 
 -- a line after the parts of a list, and whether two of them met
 pub record IsLine (view : LineView) (y : ℕ) (list : List Part) (line : List Dot) (hit : Bool) : Type 0 where

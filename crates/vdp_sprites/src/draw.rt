@@ -8,7 +8,7 @@ ghost use Rattle.vdp_sprites.specs.Sprites.{Part, collides, overflow, parts, par
 ghost use Rattle.vdp_sprites.specs.Drawn.{IsLine, IsOver, IsReach, IsRun, over, part_of};
 
 use crate::chosen::{Found, choose};
-use crate::parts::{cell_pixels, dot_of, too_wide};
+use crate::parts::{cell_pixels, pixel_dot, too_wide};
 use crate::sprite::Sprite;
 use vdp_planes::{Dot, LineView, Scene, SpriteNote, width_of};
 
@@ -90,7 +90,7 @@ fn draw_run(
 {
     for x in from..to {
         let below = out[x as usize];
-        let dot = dot_of(sprite, pixels, column + (x - from));
+        let dot = pixel_dot(sprite, pixels, column + (x - from));
         out[x as usize] = over(below, dot);
         hit = meeting(hit, below, dot);
     }
@@ -108,7 +108,7 @@ fn draw_whole(sprite: Sprite, pixels: u32, from: u32, mut hit: bool, out: &mut [
     let at = from as usize;
     for column in 0..8 {
         let below = out[at + column as usize];
-        let dot = dot_of(sprite, pixels, column);
+        let dot = pixel_dot(sprite, pixels, column);
         out[at + column as usize] = over(below, dot);
         hit = meeting(hit, below, dot);
     }

@@ -1,6 +1,6 @@
 ghost use Rattle.std.specs.Prelude.{◌≡◌, ℕ, ◌+◌, ◌-◌, ◌*◌, ◌%◌, ◌^◌, ◌<◌, ◌≤◌, Bool, List, nat_lt, sum_by};
 ghost use Rattle.vdp_planes.specs.View.{seen};
-ghost use Rattle.vdp_sprites.specs.Drawn.{dot_of};
+ghost use Rattle.vdp_sprites.specs.Drawn.{pixel_dot};
 ghost use Rattle.vdp_sprites.specs.Sprites.{own_dot, within};
 ghost use Rattle.vdp_sprites.specs.declared.sprite.Sprite.{Sprite as TheSprite};
 
@@ -33,7 +33,7 @@ pub fn cell_pixels(scene: &Scene, y: u32, sprite: Sprite, x: u32) -> u32
     requires left { sprite.x ≤ x + 128 }
     requires right { x + 128 < sprite.x + 8 * sprite.width }
     ensures { (i : ℕ) → x ≤ i → i < x + 8 - (x + 128 - sprite.x) % 8
-        → dot_of sprite result ((x + 128 - sprite.x) % 8 + (i - x)) ≡ own_dot (seen scene.now) y sprite i }
+        → pixel_dot sprite result ((x + 128 - sprite.x) % 8 + (i - x)) ≡ own_dot (seen scene.now) y sprite i }
 {
     let name = u32::from(sprite.name);
     let height = u32::from(sprite.height);
@@ -52,10 +52,10 @@ pub fn cell_pixels(scene: &Scene, y: u32, sprite: Sprite, x: u32) -> u32
 
 /// The dot of a sprite by one of eight pixels.
 #[inline(always)]
-#[tactic(auto, unfolding(crate::specs::Drawn::dot_of))]
-pub fn dot_of(sprite: Sprite, pixels: u32, column: u32) -> Dot
+#[tactic(auto, unfolding(crate::specs::Drawn::pixel_dot))]
+pub fn pixel_dot(sprite: Sprite, pixels: u32, column: u32) -> Dot
     requires { column < 8 }
-    ensures value { result ≡ dot_of sprite pixels column }
+    ensures value { result ≡ pixel_dot sprite pixels column }
     ensures below { result.colour < 64 }
 {
     let palette = sprite.name / 8192 % 4 * 16;

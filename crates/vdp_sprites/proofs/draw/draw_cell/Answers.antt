@@ -1,6 +1,6 @@
 use Rattle.std.proofs.Common.{◌≡◌, ◌∙◌, ◌+◌, ◌-◌, ◌%◌, sym, ap, arith}
 use Rattle.vdp_planes.specs.View.{seen}
-use Rattle.vdp_sprites.specs.Drawn.{dot_of}
+use Rattle.vdp_sprites.specs.Drawn.{pixel_dot}
 use Rattle.vdp_sprites.proofs.draw.draw_cell.Goals as goal
 
 pub returns-then-to-from : goal.returns-then-to-from
@@ -12,7 +12,7 @@ returns-then-to-from c =
     (c.draw_whole.ensures (seen c.args.scene.now) c.args.y part old before (record {
       sprite_is = e;
       reach = λ x low high. reach x low (omega arith);
-      dots = λ x low high. ap (λ n. dot_of c.args.sprite c.cell_pixels-pixels.result (n + (x - c.args.from))) (sym first) ∙ c.cell_pixels-pixels.ensures x low (omega arith);
+      dots = λ x low high. ap (λ n. pixel_dot c.args.sprite c.cell_pixels-pixels.result (n + (x - c.args.from))) (sym first) ∙ c.cell_pixels-pixels.ensures x low (omega arith);
     }) begun)
 
 pub returns-else-to-from : goal.returns-else-to-from
