@@ -1,9 +1,10 @@
-ghost use Rattle.std.specs.Prelude.{◌≡◌, ◌<◌, ◌≤◌, false, slice_index};
+ghost use Rattle.std.specs.Prelude.{◌≡◌, ◌<◌, ◌≤◌, false, true, slice_index};
 ghost use Rattle.arrayvec.specs.ArrayVec.{array_vec_len};
 ghost use Rattle.z80_decode.specs.Instructions.{decoded};
 ghost use Rattle.z80_exec.specs.Access.Clauses.{done_of, memory_of};
 ghost use Rattle.z80_exec.specs.Sample.Foresight.{EndsForeseen};
 ghost use Rattle.z80_exec.specs.Sample.Samples as samples;
+ghost use Rattle.z80_exec.specs.Sample.Times as times;
 ghost use Rattle.z80_exec.specs.Sample.Samples.{CoversAccesses, Keeps, WaitsBelow, WaitsRightly, nothing, told_by};
 
 mod entry;
@@ -57,6 +58,24 @@ fn fetch(found: &Decoded80, first: u8, regs: &mut Regs80)
     regs.r = risen(regs.r, rise_of(found.op, first));
 }
 
+/// Keeps what an instruction comes to behind the write that waits, where that is known.
+#[inline(never)]
+fn foresee_finish(op: Op80, foreseen: &mut Foreseen80)
+    ensures known { foreseen.new.known ≡ foreseen.old.known }
+    ensures regs { foreseen.new.regs ≡ foreseen.old.regs }
+    ensures time { foreseen.old.known ≡ true → foreseen.new.finish.t ≡ times.time_of op false }
+    ensures halted { foreseen.old.known ≡ true → foreseen.new.finish.halted ≡ samples.halts op }
+    ensures after_ei { foreseen.old.known ≡ true → foreseen.new.finish.after_ei ≡ samples.is_ei op }
+{
+    if foreseen.known {
+        foreseen.finish = Finish80 {
+            t: time_of(op, false),
+            halted: matches!(op, Op80::Halt),
+            after_ei: matches!(op, Op80::EnableInterrupts),
+        };
+    }
+}
+
 /// The instruction that begins with this byte.
 #[tactic(auto, unfolding(crate::specs::Sample::Samples::instruction))]
 fn instruction(
@@ -83,11 +102,7 @@ fn instruction(
             after_ei: matches!(op, Op80::EnableInterrupts),
         }),
         Err(waiting) => {
-            foreseen.finish = Finish80 {
-                t: time_of(op, false),
-                halted: matches!(op, Op80::Halt),
-                after_ei: matches!(op, Op80::EnableInterrupts),
-            };
+            foresee_finish(op, foreseen);
             *regs = before;
             Step80::Need(waiting.request())
         }
