@@ -117,7 +117,7 @@ fn what_is_read_is_written(rt: HostRuntime) -> Result<(), Fail> {
 fn frames_are_a_recording(rt: HostRuntime) -> Result<(), Fail> {
     let alloc = rt.alloc();
     let recording = Recording::of(alloc, &[(0x80, 1), (0x10, 0xff)])?;
-    assert!(rt; recording.write(alloc)?.as_slice() == TWO_FRAMES);
+    assert!(rt; recording.write(alloc)?.as_slice() == TWO_FRAMES.as_slice());
     Ok(())
 }
 

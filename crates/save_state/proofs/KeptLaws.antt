@@ -66,7 +66,7 @@ shared_cut cart recording bytes m long is =
     let b = m.console.shared in
     let s = is.shared.spells in
     cut_shared bytes (shared.store_bytes b.store) (vdp_bytes b.vdp) (fm_port.port_bytes b.fm) (psg_port.port_bytes b.psg) (shared.lines_bytes (lines_of b)) (holder_in bytes == 1) long
-    (vdp_long (at_of bytes) (region_of bytes) (vdp_bytes b.vdp) b.vdp s.vdp) (fm_port_long (at_of bytes) (fm_port.port_bytes b.fm) b.fm s.fm) (psg_port_long (at_of bytes) (psg_port.port_bytes b.psg) b.psg s.held) (lines_long (at_of bytes) (region_of bytes) (shared_bytes bytes) b s) s.all
+    (vdp_long (at_of bytes) (region_of bytes) (vdp_bytes b.vdp) b.vdp s.vdp) (fm_port_long (at_of bytes) (fm_port.port_bytes b.fm) b.fm s.fm) (psg_port_long (at_of bytes) (psg_port.port_bytes b.psg) b.psg s.psg) (lines_long (at_of bytes) (region_of bytes) (shared_bytes bytes) b s) s.all
 
 owners : (cart : List ℕ) (recording : Recorded) (bytes : List ℕ) (m : MachineValue) → length bytes ≡ 393620 → IsMachineOf cart recording bytes m → Owners bytes m.console
 owners cart recording bytes m long is =
