@@ -30,6 +30,9 @@ pub struct Session<R: Replays> {
     played: Vec<(u16, u16)>,
     images: KeptImages,
     machine: Machine,
+    /// The images that were kept last, until the next ones stand, which then take the memory of those before them:
+    /// so no advance gives memory back to the system and asks for it again.
+    latest: Vec<Vec<u8>>,
     scratch: Vec<u8>,
     window: usize,
 }
@@ -76,6 +79,7 @@ impl<R: Replays> Session<R> {
             played: Vec::new(alloc),
             images,
             machine,
+            latest: Vec::new(alloc),
             scratch,
             window: window as usize,
         })
@@ -143,6 +147,7 @@ impl<R: Replays> Session<R> {
             Ok(made) => {
                 self.images.replace(frames - right, made.1.as_slice());
                 self.machine = made.0;
+                self.latest = made.1;
                 self.played = expected;
                 Ok(())
             }
