@@ -9,9 +9,7 @@ keeps the state before it, that is, writes its 393,620 bytes and compares 97 pag
 reads the bytes of a state.
 """
 import argparse
-import pathlib
 import sys
-import tempfile
 import time
 
 import expected
@@ -36,11 +34,7 @@ def main():
     parser = argparse.ArgumentParser(description=__doc__, formatter_class=argparse.RawTextHelpFormatter)
     parser.add_argument("--lines", type=int, default=1_000)
     count = parser.parse_args().lines
-    if not hostile.PROGRAM.exists():
-        sys.exit(f"{hostile.PROGRAM} is missing: run `rt ci` first")
-    with tempfile.TemporaryDirectory() as name:
-        folder = pathlib.Path(name)
-        hostile.build("show", folder / "game.bin")
+    with hostile.folder_of("show") as folder:
         head = [f"run {20 * expected.FRAME}", "step 1"]
         base = seconds(folder, head)
         for line in ("step 1", "back 1"):

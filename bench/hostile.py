@@ -26,6 +26,7 @@ The tables, all if none is named:
 Each prints how many cases it tried and what was wrong. The status is 0 where nothing was, else 1.
 """
 import argparse
+import contextlib
 import os
 import pathlib
 import resource
@@ -79,6 +80,17 @@ def run(folder, *words, **more):
 def build(example, image):
     source = TOP / "examples" / example / f"{example}.asm"
     subprocess.run([PROGRAM, "asm", source, image], check=True, stdout=subprocess.DEVNULL)
+
+
+@contextlib.contextmanager
+def folder_of(example):
+    """A folder in which an example is assembled as game.bin. Without the program that `rt ci` builds all ends."""
+    if not PROGRAM.exists():
+        sys.exit(f"{PROGRAM} is missing: run `rt ci` first")
+    with tempfile.TemporaryDirectory() as name:
+        folder = pathlib.Path(name)
+        build(example, folder / "game.bin")
+        yield folder
 
 
 def save(folder, cycle):

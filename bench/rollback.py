@@ -6,12 +6,10 @@
 Plays FRAMES frames of examples/show from power-on, 600 if not given: by `run` without an output; in a session where
 all buttons are known before their frame; and in one where player 2 is eight frames late and was expected wrongly each
 time, so that eight frames are played again for each new one. Prints milliseconds a frame, the program's start taken
-off, and what a session's frame takes of a run's: at most 1.3, and 9.5 where eight are played again, is asked for.
+off, and what a session's frame takes of a run's.
 """
 import argparse
-import pathlib
 import sys
-import tempfile
 import time
 
 import expected
@@ -79,11 +77,7 @@ def main():
     parser = argparse.ArgumentParser(description=__doc__, formatter_class=argparse.RawTextHelpFormatter)
     parser.add_argument("--frames", type=int, default=600)
     frames = parser.parse_args().frames
-    if not hostile.PROGRAM.exists():
-        sys.exit(f"{hostile.PROGRAM} is missing: run `rt ci` first")
-    with tempfile.TemporaryDirectory() as name:
-        folder = pathlib.Path(name)
-        hostile.build("show", folder / "game.bin")
+    with hostile.folder_of("show") as folder:
         each = (plain(folder, frames) - plain(folder, 1)) / (frames - 1)
         print(f"run: {1_000 * each:.3f} ms a frame")
         for title, lines in (("known", known), ("eight again", late)):

@@ -16,7 +16,7 @@ use Rattle.md_top.specs.Inputs.{CartCause, IsAccepted, IsMissing, cart_of}
 use Rattle.md_top.specs.declared.ending.Ending.{Ending}
 use Rattle.md_top.specs.declared.ending.Ending.TheVariants.{Behind, DemoDone, FramesFault, InputRefused, JournalFault, ListFault, LoadFault, Memory, OtherCart, OutputFault, ReadFault, RecordingFault, RecordingWrong, SaveFault, ScriptFault, ScriptMemory, ScriptRefused, ScriptTooLong, Shown, SoundFault, SourceRefused, StateWrong, TooFar, Usage}
 use Rattle.md_top.proofs.Kept.{unread_before}
-use Rattle.md_top.proofs.Right.{cart_always, is_below, not_below, right_accepted}
+use Rattle.md_top.proofs.Right.{cart_always, cart_there, file_there, file_within, is_below, not_below, right_accepted}
 use Rattle.md_top.proofs.Statuses.{missing_cart}
 
 -- no other command refuses a script
@@ -184,22 +184,6 @@ script_obeyed (Some bytes) cart replies others line fault all refused =
     let same = (one_script cart bytes replies others Obeyed (Refused line fault) all.1 refused.1 not_obeyed (not_refused line fault)).1 in
     cc
 
-script_there : (file : Option (List ℕ)) (P : List ℕ → Type 0) → IsSomeAnd file P → file ≡ None → ⊥
-script_there None P held none = held
-script_there (Some bytes) P held none = cc
-
-script_within : (file : Option (List ℕ)) (P : List ℕ → Type 0) → IsSomeAnd file (λ script. (length script ≤ script_limit) × P script) → IsSomeAnd file (λ script. script_limit < length script) → ⊥
-script_within None P held long = held
-script_within (Some bytes) P held long = omega (arith, held.0, long)
-
-cart_there : (told : Type 0) (words : Debugging) (old new : DepotState) (ending : Ending) → IsAccepted (old.files words.rom) → CartCause told words.rom old new ending
-    → ¬ Rose old.read_faults new.read_faults → told → (status_of ending ≡ 0) ⊎ (status_of ending ≡ 10)
-cart_there told words old new ending accepted cause clean t = elim (cart_always told words.rom old new ending cause clean t) [
-  | inl always ↦
-      inl (always.2 ∙ sym (ap status_of (always.1 (Shown []))) ∙ ap status_of (right_accepted (old.files words.rom) (Shown []) accepted))
-  | inr memory ↦ inr memory
-]
-
 pub debug_done : (told : Type 0) (words : Debugging) (old new : DepotState) (ending : Ending) → CanDebug words old.files → DebugEnds told words old new ending
     → ¬ Rose old.read_faults new.read_faults → told → (status_of ending ≡ 0) ⊎ (status_of ending ≡ 10)
 debug_done told words old new (Shown replies) ready cause clean t = inl refl
@@ -207,9 +191,9 @@ debug_done told words old new (ScriptRefused replies line fault) ready cause cle
     absurd (script_obeyed (old.files words.script) (cart_of words.rom old.files) ready.0 replies line fault ready.1.1 (cause t).1)
 debug_done told words old new (ScriptMemory replies) ready cause clean t = inr refl
 debug_done told words old new ScriptFault ready (accepted, inl rose) clean t = absurd (clean rose)
-debug_done told words old new ScriptFault ready (accepted, inr missing) clean t = absurd (script_there (old.files words.script) _ ready.1.1 missing.1)
-debug_done told words old new ScriptTooLong ready (accepted, long) clean t = absurd (script_within (old.files words.script) _ ready.1.1 (long t))
-debug_done told words old new other ready cause clean t = cart_there told words old new other ready.1.0 cause clean t
+debug_done told words old new ScriptFault ready (accepted, inr missing) clean t = absurd (file_there (old.files words.script) _ ready.1.1 missing.1)
+debug_done told words old new ScriptTooLong ready (accepted, long) clean t = absurd (file_within script_limit (old.files words.script) _ ready.1.1 (long t))
+debug_done told words old new other ready cause clean t = cart_there told words.rom old new other ready.1.0 cause clean t
 
 -- ---- what was fetched
 

@@ -16,7 +16,7 @@ use Rattle.md_top.specs.Runs.{entries_from, halted_from, media_from, powered_on}
 use Rattle.md_machine.specs.Starts.{Start}
 use Rattle.md_args.specs.Words.{Run}
 use Rattle.md_top.specs.declared.ending.Ending.{Ending}
-use Rattle.md_top.specs.declared.ending.Ending.TheVariants.{Done, TooFar, ReadFault, TooLong, Short, NoMark, RecordingFault, RecordingTooLong, RecordingWrong, LoadFault, StateTooLong, StateWrong, OtherCart, Behind, Memory}
+use Rattle.md_top.specs.declared.ending.Ending.TheVariants.{Shown, Done, TooFar, ReadFault, TooLong, Short, NoMark, RecordingFault, RecordingTooLong, RecordingWrong, LoadFault, StateTooLong, StateWrong, OtherCart, Behind, Memory}
 use Rattle.md_top.specs.declared.inputs.Inputs.{Inputs}
 use Rattle.md_pads.proofs.Whole.{one_recording}
 use Rattle.state_laws.proofs.Whole.{one_verdict}
@@ -303,6 +303,26 @@ cart_always told rom old new Short cause clean t = inl (Short, (λ rest. right_r
 cart_always told rom old new NoMark cause clean t = inl (NoMark, (λ rest. right_refused (old.files rom) rest fault.NoMark (cause t)), refl)
 cart_always told rom old new Memory cause clean t = inr refl
 cart_always told rom old new _ cause clean t = absurd cause
+
+-- where the cartridge is accepted no cause of it ends a command
+pub cart_there : (told : Type 0) (rom : List ℕ) (old new : DepotState) (ending : Ending) → IsAccepted (old.files rom) → CartCause told rom old new ending
+    → ¬ Rose old.read_faults new.read_faults → told → (status_of ending ≡ 0) ⊎ (status_of ending ≡ 10)
+cart_there told rom old new ending accepted cause clean t = elim (cart_always told rom old new ending cause clean t) [
+  | inl always ↦
+      inl (always.2 ∙ sym (ap status_of (always.1 (Shown []))) ∙ ap status_of (right_accepted (old.files rom) (Shown []) accepted))
+  | inr memory ↦ inr memory
+]
+
+-- a file that is there is not missing
+pub file_there : (file : Option (List ℕ)) (P : List ℕ → Type 0) → IsSomeAnd file P → file ≡ None → ⊥
+file_there None P held none = held
+file_there (Some bytes) P held none = cc
+
+-- and one within its limit is not too long
+pub file_within : (limit : ℕ) (file : Option (List ℕ)) (P : List ℕ → Type 0) → IsSomeAnd file (λ bytes. (length bytes ≤ limit) × P bytes)
+    → IsSomeAnd file (λ bytes. limit < length bytes) → ⊥
+file_within limit None P held long = held
+file_within limit (Some bytes) P held long = omega (arith, held.0, long)
 
 wrong_always : (file : Option (List ℕ)) (verdict : Verdict) (place : ℕ)
     → IsSomeAnd file (λ bytes. (length bytes ≤ recording_limit) × GoesWrongAt bytes place) → IsVerdict (unwrap_or file []) verdict

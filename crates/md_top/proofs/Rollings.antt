@@ -17,9 +17,9 @@ use Rattle.md_top.specs.Endings.{InfoEnds, RunEnds, inputs_ending, roll_ending, 
 use Rattle.md_top.specs.Inputs.{CartCause, IsAccepted, IsMissing, cart_of}
 use Rattle.md_top.specs.Rollings.{CanRoll, IsRefusedLine, IsRollFound, IsRolledTo, RollEnds, comes_ending, inputs_limit}
 use Rattle.md_top.specs.declared.ending.Ending.{Ending}
-use Rattle.md_top.specs.declared.ending.Ending.TheVariants.{Behind, DemoDone, FramesFault, InputRefused, JournalFault, LineRefused, ListFault, LoadFault, Memory, OtherCart, OutputFault, ReadFault, RecordingFault, RecordingWrong, RolledBack, SaveFault, ScriptFault, ScriptRefused, ScriptTooLong, Shown, SoundFault, SourceRefused, StateWrong, TooFar, Usage}
+use Rattle.md_top.specs.declared.ending.Ending.TheVariants.{Behind, DemoDone, FramesFault, InputRefused, JournalFault, LineRefused, ListFault, LoadFault, Memory, OtherCart, OutputFault, ReadFault, RecordingFault, RecordingWrong, RolledBack, SaveFault, ScriptFault, ScriptRefused, ScriptTooLong, SoundFault, SourceRefused, StateWrong, TooFar, Usage}
 use Rattle.md_top.proofs.Kept.{unread_before}
-use Rattle.md_top.proofs.Right.{cart_always, is_below, not_below, right_accepted}
+use Rattle.md_top.proofs.Right.{cart_always, cart_there, file_there, file_within, is_below, not_below, right_accepted}
 use Rattle.md_top.proofs.Statuses.{missing_cart}
 
 -- no other command refuses a line of what two players press
@@ -187,31 +187,15 @@ inputs_done : (file : Option (List ℕ)) (cart : List ℕ) (window : ℕ) (rolle
 inputs_done None cart window rolled line fault all refused = all
 inputs_done (Some bytes) cart window rolled line fault all refused = done_or_refused cart window bytes rolled line fault all.1 refused.1
 
-inputs_there : (file : Option (List ℕ)) (P : List ℕ → Type 0) → IsSomeAnd file P → file ≡ None → ⊥
-inputs_there None P held none = held
-inputs_there (Some bytes) P held none = cc
-
-inputs_within : (file : Option (List ℕ)) (P : List ℕ → Type 0) → IsSomeAnd file (λ inputs. (length inputs ≤ inputs_limit) × P inputs) → IsSomeAnd file (λ inputs. inputs_limit < length inputs) → ⊥
-inputs_within None P held long = held
-inputs_within (Some bytes) P held long = omega (arith, held.0, long)
-
-roll_cart_there : (told : Type 0) (words : Rolling) (old new : DepotState) (ending : Ending) → IsAccepted (old.files words.rom) → CartCause told words.rom old new ending
-    → ¬ Rose old.read_faults new.read_faults → told → (status_of ending ≡ 0) ⊎ (status_of ending ≡ 10)
-roll_cart_there told words old new ending accepted cause clean t = elim (cart_always told words.rom old new ending cause clean t) [
-  | inl always ↦
-      inl (always.2 ∙ sym (ap status_of (always.1 (Shown []))) ∙ ap status_of (right_accepted (old.files words.rom) (Shown []) accepted))
-  | inr memory ↦ inr memory
-]
-
 pub roll_done : (told : Type 0) (words : Rolling) (old new : DepotState) (ending : Ending) → CanRoll words old.files → RollEnds told words old new ending
     → ¬ Rose old.read_faults new.read_faults → told → (status_of ending ≡ 0) ⊎ (status_of ending ≡ 10)
 roll_done told words old new (RolledBack rolled) ready cause clean t = inl refl
 roll_done told words old new (LineRefused line fault) ready cause clean t =
     absurd (inputs_done (old.files words.inputs) (cart_of words.rom old.files) words.window ready.0 line fault ready.1.1 (cause t).1)
 roll_done told words old new ScriptFault ready (accepted, inl rose) clean t = absurd (clean rose)
-roll_done told words old new ScriptFault ready (accepted, inr missing) clean t = absurd (inputs_there (old.files words.inputs) _ ready.1.1 missing.1)
-roll_done told words old new ScriptTooLong ready (accepted, long) clean t = absurd (inputs_within (old.files words.inputs) _ ready.1.1 (long t))
-roll_done told words old new other ready cause clean t = roll_cart_there told words old new other ready.1.0 cause clean t
+roll_done told words old new ScriptFault ready (accepted, inr missing) clean t = absurd (file_there (old.files words.inputs) _ ready.1.1 missing.1)
+roll_done told words old new ScriptTooLong ready (accepted, long) clean t = absurd (file_within inputs_limit (old.files words.inputs) _ ready.1.1 (long t))
+roll_done told words old new other ready cause clean t = cart_there told words.rom old new other ready.1.0 cause clean t
 
 -- ---- what was fetched
 
