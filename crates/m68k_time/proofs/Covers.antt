@@ -2,6 +2,7 @@
 use Rattle.std.proofs.Common.{◌≡◌, ◌≢◌, ℕ, ◌+◌, ◌*◌, ◌≤◌, ◌==◌, Bool, true, false, cond, refl, arith}
 use Rattle.std.specs.Prelude.{◌&&◌, count_ones, nat_le}
 use Rattle.std.proofs.lemmas.Bool.Decides.{nat_tests}
+use Rattle.std.proofs.lemmas.Bool.{false≢true}
 use Rattle.md_word.specs.declared.mode.Mode.{Mode}
 use Rattle.md_word.specs.declared.mode.Mode.TheVariants.{Data, Address, Indirect, PostInc, PreDec, Displaced, Indexed, AbsShort, AbsLong, PcDisplaced, PcIndexed, Immediate}
 use Rattle.md_word.specs.declared.size.Size.{Size}
@@ -127,9 +128,6 @@ quicks : (size : Size) (mode : Mode) → 4 * (2 * touches_of size mode) + 4 ≤ 
 quicks size (Address n) = omega arith
 quicks size mode = changed size mode 4 8 8 12 (omega arith) (omega arith) (omega arith) (omega arith)
 
-clash : false ≡ true → ⊥
-clash same = cc
-
 -- the modes of the control instructions
 peas : (mode : Mode) → IsOf control mode → 12 ≤ (control_times mode).pea
 peas (Indirect n) is = omega arith
@@ -139,7 +137,7 @@ peas (AbsShort at) is = omega arith
 peas (AbsLong at) is = omega arith
 peas (PcDisplaced by) is = omega arith
 peas (PcIndexed index long by) is = omega arith
-peas _ is = absurd (clash is)
+peas _ is = absurd (false≢true is)
 
 jsrs : (mode : Mode) → IsOf control mode → 12 ≤ (control_times mode).jsr
 jsrs (Indirect n) is = omega arith
@@ -149,7 +147,7 @@ jsrs (AbsShort at) is = omega arith
 jsrs (AbsLong at) is = omega arith
 jsrs (PcDisplaced by) is = omega arith
 jsrs (PcIndexed index long by) is = omega arith
-jsrs _ is = absurd (clash is)
+jsrs _ is = absurd (false≢true is)
 
 jmps : (mode : Mode) → IsOf control mode → 4 ≤ (control_times mode).jmp
 jmps (Indirect n) is = omega arith
@@ -159,7 +157,7 @@ jmps (AbsShort at) is = omega arith
 jmps (AbsLong at) is = omega arith
 jmps (PcDisplaced by) is = omega arith
 jmps (PcIndexed index long by) is = omega arith
-jmps _ is = absurd (clash is)
+jmps _ is = absurd (false≢true is)
 
 leas : (mode : Mode) → IsOf control mode → 4 ≤ (control_times mode).lea
 leas (Indirect n) is = omega arith
@@ -169,7 +167,7 @@ leas (AbsShort at) is = omega arith
 leas (AbsLong at) is = omega arith
 leas (PcDisplaced by) is = omega arith
 leas (PcIndexed index long by) is = omega arith
-leas _ is = absurd (clash is)
+leas _ is = absurd (false≢true is)
 
 stores : (mode : Mode) → IsOf control_alterable_or_predecrement mode → 4 ≤ (control_times mode).to_memory
 stores (Indirect n) is = omega arith
@@ -178,7 +176,7 @@ stores (Displaced n by) is = omega arith
 stores (Indexed n index long by) is = omega arith
 stores (AbsShort at) is = omega arith
 stores (AbsLong at) is = omega arith
-stores _ is = absurd (clash is)
+stores _ is = absurd (false≢true is)
 
 loads : (mode : Mode) → IsOf control_or_postincrement mode → 4 ≤ (control_times mode).to_registers
 loads (Indirect n) is = omega arith
@@ -189,7 +187,7 @@ loads (AbsShort at) is = omega arith
 loads (AbsLong at) is = omega arith
 loads (PcDisplaced by) is = omega arith
 loads (PcIndexed index long by) is = omega arith
-loads _ is = absurd (clash is)
+loads _ is = absurd (false≢true is)
 
 listed : (size : Size) (ones count base : ℕ) → count ≡ ones → 4 ≤ base → 4 * (ones * moves_of size) + 4 ≤ base + by_size size 4 8 * count
 listed Byte ones count base same some = omega (arith, same, some)
@@ -210,7 +208,7 @@ pairs : (size : Size) (source target : Mode) (a b : ℕ) → 4 ≤ a → 4 ≤ b
     → 4 * (touches_of size source + 2 * touches_of size target) + 4 ≤ placed source (by_size size a b) (by_size size 18 30)
 pairs size (Data n) target a b short long paired = omega (arith, no-touches size target paired.alike, least size 4 a b short long)
 pairs size (PreDec n) target a b short long paired = three size target
-pairs size _ target a b short long paired = absurd (clash paired.direct_or_below)
+pairs size _ target a b short long paired = absurd (false≢true paired.direct_or_below)
 
 read-long : (m : Mode) → 4 ≤ by_source m 8 6
 read-long (Data n) = omega arith
