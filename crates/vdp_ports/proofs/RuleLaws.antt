@@ -1,7 +1,7 @@
 -- The rules of the fields are those that the ports keep, where what goes on is settled.
 use Rattle.std.proofs.Common.{◌≡◌, ℕ, zero, suc, ◌-◌, ◌%◌, ◌^◌, slice_index, ◌<◌, ◌≤◌, ◌⊎◌, inl, inr, Bool, true, false, cond, eqb, leb, ltb, bit_and, List, refl, arith}
 use Rattle.std.specs.Prelude.{◌&&◌, ◌||◌, All}
-use Rattle.std.proofs.lemmas.Bool.{and_parts, eq-eqb, eqb-true, le-leb, leb-true, lt-ltb, ltb-true}
+use Rattle.std.proofs.lemmas.Bool.{and_parts, eq-eqb, eqb-true, le-leb, leb-true, lt-ltb, ltb-true, and_from, or_left, or_right}
 use Rattle.std.specs.List.{AllByRecursion}
 use Rattle.std.proofs.lemmas.List.Elements.{All-from_get_or, recursion_from_All}
 use Rattle.std.proofs.lemmas.List.Sums.{AllPass-from_list_all, list_all-from_AllPass}
@@ -82,10 +82,6 @@ goes_from at (suc (suc zero)) byte source address left next g =
     )
 goes_from at (suc (suc (suc kind))) byte source address left next g = absurd (let few = leb-true (suc (suc (suc kind))) 2 g.known in omega (arith, few))
 
-pub both : (a b : Bool) → a ≡ true → b ≡ true → (a && b) ≡ true
-both true b e f = f
-both false b e f = absurd cc
-
 goes_to : (at kind byte source address left next : ℕ) → IsGoing at kind byte source address left next → (0 < left → at ≤ next) → Goes at kind byte source address left next
 goes_to at zero byte source address left next g settled =
     let z = g.none refl in
@@ -98,8 +94,8 @@ goes_to at (suc zero) byte source address left next g settled =
       byte = refl;
       source = eq-eqb _ _ f.0;
       address = refl;
-      left = both _ _ (le-leb 1 left (omega (arith, f.1))) (le-leb left 0x1_0000 f.2);
-      next = both _ _ (le-leb at next from) (le-leb (next - at) 16 (omega (arith, from, f.3)));
+      left = and_from _ _ (le-leb 1 left (omega (arith, f.1))) (le-leb left 0x1_0000 f.2);
+      next = and_from _ _ (le-leb at next from) (le-leb (next - at) 16 (omega (arith, from, f.3)));
     }
 goes_to at (suc (suc zero)) byte source address left next g settled =
     let f = g.copy refl in
@@ -109,8 +105,8 @@ goes_to at (suc (suc zero)) byte source address left next g settled =
       byte = eq-eqb _ _ f.0;
       source = refl;
       address = refl;
-      left = both _ _ (le-leb 1 left (omega (arith, f.1))) (le-leb left 0x1_0000 f.2);
-      next = both _ _ (le-leb at next from) (le-leb (next - at) 33 (omega (arith, from, f.3)));
+      left = and_from _ _ (le-leb 1 left (omega (arith, f.1))) (le-leb left 0x1_0000 f.2);
+      next = and_from _ _ (le-leb at next from) (le-leb (next - at) 33 (omega (arith, from, f.3)));
     }
 goes_to at (suc (suc (suc kind))) byte source address left next g settled = absurd (omega (arith, g.known))
 
@@ -119,14 +115,6 @@ goes_to at (suc (suc (suc kind))) byte source address left next g settled = absu
 or_cases : (a b : Bool) → (a || b) ≡ true → (a ≡ true) ⊎ (b ≡ true)
 or_cases true b e = inl refl
 or_cases false b e = inr e
-
-or_left : (a b : Bool) → a ≡ true → (a || b) ≡ true
-or_left true b e = refl
-or_left false b e = absurd cc
-
-or_right : (a b : Bool) → b ≡ true → (a || b) ≡ true
-or_right true b e = refl
-or_right false b e = e
 
 abbrev interval : ℕ → ℕ → ℕ → Bool
 interval at from to = (eqb from 0 && eqb to 0) || (eqb (from % line) 0 && (ltb from at && is_after to from line))
@@ -145,12 +133,12 @@ interval_from at from to e =
     ]
 
 interval_to : (at from to : ℕ) → IsInterval at from to → interval at from to ≡ true
-interval_to at from to (inl none) = or_left (eqb from 0 && eqb to 0) _ (both _ _ (eq-eqb _ _ none.0) (eq-eqb _ _ none.1))
+interval_to at from to (inl none) = or_left (eqb from 0 && eqb to 0) _ (and_from _ _ (eq-eqb _ _ none.0) (eq-eqb _ _ none.1))
 interval_to at from to (inr some) =
     or_right (eqb from 0 && eqb to 0) _
-    (both _ _ (eq-eqb _ _ some.0)
-    (both _ _ (lt-ltb from at some.1)
-    (both _ _ (le-leb from to (omega (arith, some.2))) (eq-eqb (to - from) line (omega (arith, some.2))))))
+    (and_from _ _ (eq-eqb _ _ some.0)
+    (and_from _ _ (lt-ltb from at some.1)
+    (and_from _ _ (le-leb from to (omega (arith, some.2))) (eq-eqb (to - from) line (omega (arith, some.2))))))
 
 pub flag_small : (flag : Bool) → leb (flag_number flag) 1 ≡ true
 flag_small true = refl
