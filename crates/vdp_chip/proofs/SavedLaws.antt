@@ -1,6 +1,6 @@
 -- Laws of what a saved state keeps of the drawing half of the VDP.
 use Rattle.std.proofs.Common.{◌≡◌, ℕ, zero, suc, ◌+◌, ◌-◌, ◌*◌, ◌/◌, ◌%◌, ◌<◌, ◌≤◌, ◌==◌, min, Bool, true, false, List, length, drop, get_or, slice_index, refl, sym, ap, subst, ◌∙◌, ◌^◌, arith}
-use Rattle.std.proofs.lemmas.Bool.{and_parts, eq-eqb, eqb-true, le-leb, leb-true, lt-ltb, ltb-true}
+use Rattle.std.proofs.lemmas.Bool.{and_parts, eq-eqb, eqb-true, le-leb, leb-true, lt-ltb, ltb-true, and_from}
 use Rattle.std.proofs.lemmas.List.{get_or-drop, length-drop}
 use Rattle.std.proofs.lemmas.List.Elements.{All-from_get_or, All-get_or}
 use Rattle.std.proofs.lemmas.List.Sums.{AllPass-from_list_all, list_all-from_AllPass}
@@ -17,7 +17,7 @@ use Rattle.vdp_chip.specs.Picture.{memory_length, row_length}
 use Rattle.vdp_chip.specs.Saved.{DrawingNumbers, drawing_fields, drawing_of, numbers_of}
 use Rattle.vdp_chip.specs.Spelling.{GoesWrongAt, IsDrained, IsReady, Spells, drained, drawing_bytes, drawing_size}
 use Rattle.vdp_chip.proofs.Lined.{row_above}
-use Rattle.vdp_ports.proofs.RuleLaws.{both, flag_byte, flag_small}
+use Rattle.vdp_ports.proofs.RuleLaws.{flag_byte, flag_small}
 
 -- the bytes depend neither on the cycle nor on the region
 pub same_bytes : (at other : ℕ) (pal region : Bool) (n : DrawingNumbers) → spelling (drawing_fields at pal n) ≡ spelling (drawing_fields other region n)
@@ -141,9 +141,9 @@ unfolding AllHold
 right_to at d ok is =
     let undrawn = undrawn_same at d.next d.pal ok.at_line is.from is.near in
     none_wrong 0 (drawing_fields at d.pal (numbers_of d)) (
-      both _ _ (eq-eqb (d.next % line) 0 ok.at_line) (both _ _ (le-leb at d.next is.from) (lt-ltb (d.next - at) line (omega (arith, is.from, is.near)))),
+      and_from _ _ (eq-eqb (d.next % line) 0 ok.at_line) (and_from _ _ (le-leb at d.next is.from) (lt-ltb (d.next - at) line (omega (arith, is.from, is.near)))),
       (
-        both _ _ (flag_small d.note.overflow) (flag_small d.note.collision),
+        and_from _ _ (flag_small d.note.overflow) (flag_small d.note.collision),
         (
           refl,
           (
