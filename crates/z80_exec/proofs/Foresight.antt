@@ -1,6 +1,7 @@
 -- What comes behind a write that waits for its answer.
-use Rattle.std.proofs.Common.{◌≡◌, ℕ, zero, suc, ◌+◌, ◌<◌, ◌≤◌, ◌∙◌, Bool, true, false, nat_lt, List, [], ◌∷◌, ◌++◌, length, length-append, slice_index, Result, Ok, Err, refl, sym, ap, arith, if◌then◌else◌}
+use Rattle.std.proofs.Common.{◌≡◌, ℕ, ◌+◌, ◌≤◌, ◌∙◌, Bool, true, false, nat_lt, List, [], ◌∷◌, length, length-append, slice_index, Result, Ok, Err, refl, sym, ap, arith}
 use Rattle.std.proofs.lemmas.Bool.Decides.{nat_tests}
+use Rattle.std.proofs.lemmas.List.{get_or_append_left}
 use Rattle.md_word.specs.declared.sub_bus.Request80.{Request80}
 use Rattle.md_word.specs.declared.sub_bus.Request80.TheVariants.{Write}
 use Rattle.z80_decode.specs.Instructions.{decoded}
@@ -21,7 +22,9 @@ use Rattle.z80_exec.specs.declared.regs80.Regs80.{Regs80}
 use Rattle.z80_exec.specs.declared.sample.step.Foreseen80.{Foreseen80}
 use Rattle.z80_exec.specs.declared.sample.step.Step80.{Step80}
 use Rattle.z80_exec.specs.declared.sample.step.Step80.TheVariants as steps
+use Rattle.z80_exec.proofs.Bounds.Accesses.{answered}
 use Rattle.z80_exec.proofs.Bounds.Rows as rows
+use Rattle.z80_exec.proofs.Bounds.Samples.{split}
 
 -- where nothing is known nothing is foreseen
 pub nothing_foreseen : {A : Type 0} (result : Result A Waiting) (foreseen : Foreseen80) (act : Act Outcome) (memory : Memory) (done : Done) → foreseen.known ≡ false → Foresees result foreseen act memory done
@@ -32,16 +35,7 @@ pub nothing_waits : {A B : Type 0} (result : Result A Waiting) (foreseen : Fores
 nothing_waits (Ok x) foreseen regs act given memory done none = none
 nothing_waits (Err waiting) foreseen regs act given memory done none = λ known. absurd (let no_way = sym none ∙ known in cc)
 
-split : {A : Type 0} (P : Type 0) (test : Bool) (x y z : A) → (if test then x else y) ≡ z → (test ≡ true → x ≡ z → P) → (test ≡ false → y ≡ z → P) → P
-split P true x y z e h k = h refl e
-split P false x y z e h k = k refl e
-
 -- ---- one answer more
-
-read-first : (l : List ℕ) (x k : ℕ) → k < length l → slice_index (l ++ x ∷ []) k ≡ slice_index l k
-read-first [] x k h = absurd (omega arith)
-read-first (y ∷ l) x zero h = refl
-read-first (y ∷ l) x (suc k) h = read-first l x k (omega arith)
 
 one-longer : (value : ℕ) (memory : Memory) → length (answered_with value memory).answers ≡ length memory.answers + 1
 one-longer value memory = length-append memory.answers (value ∷ [])
@@ -53,14 +47,10 @@ same-below count value memory few = record {
   ram = refl;
   bank = refl;
   enough = (let e = one-longer value memory in omega (arith, e, few));
-  answers = λ k below. read-first memory.answers value k (omega (arith, below, few));
+  answers = λ k below. get_or_append_left memory.answers (value ∷ []) 0 k (omega (arith, below, few));
 }
 
 -- ---- a write that waits
-
-answered : (request : Request80) (memory : Memory) (before : Done) → nat_lt before.used (length memory.answers) ≡ true → actions.asked request memory before ≡ Ok (slice_index memory.answers before.used, record before { used = before.used + 1 })
-unfolding actions.asked
-answered request memory before e = rw e
 
 told-behind : (request : Request80) (memory : Memory) (done : Done) (value : ℕ) → done.used ≡ length memory.answers → actions.told request (answered_with value memory) done ≡ Ok (tt, record done { used = length memory.answers + 1 })
 unfolding actions.told

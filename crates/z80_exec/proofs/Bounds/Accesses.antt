@@ -111,7 +111,7 @@ pub last : {A B : Type 0} (m : ℕ) (act : Act A) (f : A → B) → Sound m act 
 last m act f h = more (m + 0) m _ (omega arith) (bind m 0 act _ h (λ x. give (f x)))
 
 -- a shared access
-answered : (request : Request80) (memory : Memory) (before : Done) → nat_lt before.used (length memory.answers) ≡ true → actions.asked request memory before ≡ Ok (slice_index memory.answers before.used, record before { used = before.used + 1 })
+pub answered : (request : Request80) (memory : Memory) (before : Done) → nat_lt before.used (length memory.answers) ≡ true → actions.asked request memory before ≡ Ok (slice_index memory.answers before.used, record before { used = before.used + 1 })
 unfolding actions.asked
 answered request memory before e = rw e
 

@@ -127,7 +127,7 @@ same_bytes : (at count : ℕ) (one other : Memory) → SameBelow count one other
 unfolding instruction_bytes instruction_byte
 same_bytes at count one other same = rw (same.rom, same.ram, same.bank) refl
 
-split : {A : Type 0} (P : Type 0) (test : Bool) (x y z : A) → (if test then x else y) ≡ z → (test ≡ true → x ≡ z → P) → (test ≡ false → y ≡ z → P) → P
+pub split : {A : Type 0} (P : Type 0) (test : Bool) (x y z : A) → (if test then x else y) ≡ z → (test ≡ true → x ≡ z → P) → (test ≡ false → y ≡ z → P) → P
 split P true x y z e h k = h refl e
 split P false x y z e h k = k refl e
 
