@@ -1,9 +1,10 @@
 -- How texts fall into pieces: words, the numbers of md_disasm, and what stands between them.
-use Rattle.std.proofs.Common.{◌≡◌, ℕ, ◌+◌, ◌-◌, ◌*◌, ◌/◌, ◌%◌, ◌<◌, ◌==◌, Bool, true, false, not, ◌&&◌, ◌||◌, List, [], ◌∷◌, ◌++◌, nat_lt, nat_le, length, append_assoc, append-nil, refl, ap, ◌∙◌, sym, arith, if◌then◌else◌}
+use Rattle.std.proofs.Common.{◌≡◌, ℕ, ◌+◌, ◌-◌, ◌*◌, ◌/◌, ◌%◌, ◌<◌, ◌==◌, Bool, true, false, not, ◌||◌, List, [], ◌∷◌, ◌++◌, nat_lt, length, append_assoc, append-nil, refl, ap, ◌∙◌, sym, arith, if◌then◌else◌}
 use Rattle.std.specs.Fmt.{digit_glyph}
 use Rattle.std.proofs.lemmas.Bool.Decides.{nat_tests}
+use Rattle.std.proofs.lemmas.Bool.{not-true, and_parts}
 use Rattle.md_disasm.specs.Digits.{one_digit, two_digits, four_digits, eight_digits}
-use Rattle.md_asm_text.specs.Pieces.{Piece, Word, Number, Name, Mark, are_digits, closed, digit_value, every, is_hexadecimal, is_name, is_worded, opened, split, told, value_behind}
+use Rattle.md_asm_text.specs.Pieces.{Piece, Word, Number, Mark, are_digits, closed, digit_value, every, is_hexadecimal, is_name, is_worded, opened, split, told, value_behind}
 
 -- a text that does not go on with a word
 abbrev pub is_end : List ℕ → Bool
@@ -49,26 +50,17 @@ mark_on : (word : List ℕ) (c : ℕ) (cs : List ℕ) → is_worded c ≡ false 
 unfolding split
 mark_on word c cs is = rw is refl
 
-not_true : (b : Bool) → not b ≡ true → b ≡ false
-not_true true h = cc
-not_true false h = refl
-
 -- a word ends where the text does not go on with it
 pub word_ends : (word e : List ℕ) → is_end e ≡ true → split word e ≡ closed word ++ split [] e
 unfolding split
 word_ends word [] is = sym (append-nil (closed word))
-word_ends word (c ∷ cs) is = mark_on word c cs (not_true (is_worded c) is)
-
-both_true : (a b : Bool) → (a && b) ≡ true → (a ≡ true) × (b ≡ true)
-both_true true true h = (refl, refl)
-both_true true false h = cc
-both_true false b h = cc
+word_ends word (c ∷ cs) is = mark_on word c cs (not-true (is_worded c) is)
 
 -- characters of a word are taken together
 pub words_on : (more word rest : List ℕ) → every is_worded more ≡ true → split word (more ++ rest) ≡ split (word ++ more) rest
 words_on [] word rest is = ap (λ (l : List ℕ). split l rest) (sym (append-nil word))
 words_on (c ∷ cs) word rest is =
-    let parts = both_true (is_worded c) (every is_worded cs) is in
+    let parts = and_parts (is_worded c) (every is_worded cs) is in
     word_on word c (cs ++ rest) parts.0 ∙ words_on cs (word ++ c ∷ []) rest parts.1 ∙ ap (λ (l : List ℕ). split l rest) (append_assoc word (c ∷ []) cs)
 
 -- a whole word
@@ -83,12 +75,12 @@ opened_on word c cs is = rw is refl
 opened_ends : (word e : List ℕ) → is_end e ≡ true → opened word e ≡ Word word ∷ split [] e
 unfolding opened split
 opened_ends word [] is = refl
-opened_ends word (c ∷ cs) is = rw (not_true (is_worded c) is) refl
+opened_ends word (c ∷ cs) is = rw (not-true (is_worded c) is) refl
 
 openeds_on : (more word e : List ℕ) → every is_worded more ≡ true → is_end e ≡ true → opened word (more ++ e) ≡ Word (word ++ more) ∷ split [] e
 openeds_on [] word e is ends = opened_ends word e ends ∙ ap (λ (l : List ℕ). Word l ∷ split [] e) (sym (append-nil word))
 openeds_on (c ∷ cs) word e is ends =
-    let parts = both_true (is_worded c) (every is_worded cs) is in
+    let parts = and_parts (is_worded c) (every is_worded cs) is in
     opened_on word c (cs ++ e) parts.0 ∙ openeds_on cs (word ++ c ∷ []) e parts.1 ends ∙ ap (λ (l : List ℕ). Word l ∷ split [] e) (append_assoc word (c ∷ []) cs)
 
 pub name_opens : (name e : List ℕ) → every is_worded name ≡ true → is_end e ≡ true → opened [] (name ++ e) ≡ Word name ∷ split [] e
@@ -118,7 +110,7 @@ one_all n = rw (hexadecimal n) refl
 every_both : (test : ℕ → Bool) (xs ys : List ℕ) → every test xs ≡ true → every test ys ≡ true → every test (xs ++ ys) ≡ true
 every_both test [] ys h k = k
 every_both test (x ∷ xs) ys h k =
-    let parts = both_true (test x) (every test xs) h in
+    let parts = and_parts (test x) (every test xs) h in
     rw (parts.0, every_both test xs ys parts.1 k) refl
 
 two_all : (n : ℕ) → every is_hexadecimal (two_digits n) ≡ true
@@ -187,7 +179,7 @@ eight_digits_are n h = record { all = eight_all n; long = eight_count n; value =
 all_worded : (digits : List ℕ) → every is_hexadecimal digits ≡ true → every is_worded digits ≡ true
 all_worded [] h = refl
 all_worded (c ∷ cs) h =
-    let parts = both_true (is_hexadecimal c) (every is_hexadecimal cs) h in
+    let parts = and_parts (is_hexadecimal c) (every is_hexadecimal cs) h in
     rw (worded-hexadecimal c parts.0, all_worded cs parts.1) refl
 
 number_told : (count n : ℕ) (digits : List ℕ) → 0 < count → count < 9 → AreDigits count n digits → told (36 ∷ digits) ≡ Number n
