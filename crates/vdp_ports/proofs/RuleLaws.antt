@@ -1,7 +1,7 @@
 -- The rules of the fields are those that the ports keep, where what goes on is settled.
-use Rattle.std.proofs.Common.{◌≡◌, ℕ, zero, suc, ◌-◌, ◌%◌, ◌^◌, slice_index, ◌<◌, ◌≤◌, ◌⊎◌, inl, inr, Bool, true, false, cond, eqb, leb, ltb, bit_and, List, refl, arith}
+use Rattle.std.proofs.Common.{◌≡◌, ℕ, zero, suc, ◌-◌, ◌%◌, ◌^◌, slice_index, ◌<◌, ◌≤◌, inl, inr, Bool, true, false, cond, eqb, leb, ltb, bit_and, List, refl, arith}
 use Rattle.std.specs.Prelude.{◌&&◌, ◌||◌, All}
-use Rattle.std.proofs.lemmas.Bool.{and_parts, eq-eqb, eqb-true, le-leb, leb-true, lt-ltb, ltb-true, and_from, or_left, or_right}
+use Rattle.std.proofs.lemmas.Bool.{and_parts, eq-eqb, eqb-true, le-leb, leb-true, lt-ltb, ltb-true, and_from, or_left, or_right, or_cases}
 use Rattle.std.specs.List.{AllByRecursion}
 use Rattle.std.proofs.lemmas.List.Elements.{All-from_get_or, recursion_from_All}
 use Rattle.std.proofs.lemmas.List.Sums.{AllPass-from_list_all, list_all-from_AllPass}
@@ -111,10 +111,6 @@ goes_to at (suc (suc zero)) byte source address left next g settled =
 goes_to at (suc (suc (suc kind))) byte source address left next g settled = absurd (omega (arith, g.known))
 
 -- ---- the Z80's interrupt
-
-or_cases : (a b : Bool) → (a || b) ≡ true → (a ≡ true) ⊎ (b ≡ true)
-or_cases true b e = inl refl
-or_cases false b e = inr e
 
 abbrev interval : ℕ → ℕ → ℕ → Bool
 interval at from to = (eqb from 0 && eqb to 0) || (eqb (from % line) 0 && (ltb from at && is_after to from line))
