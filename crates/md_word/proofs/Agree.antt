@@ -1,14 +1,12 @@
 -- Two functions of a word agree on a range where the lists of their values are equal, which is
 -- shown by computing both.
-use Rattle.std.proofs.Common.{◌≡◌, ℕ, ◌+◌, ◌<◌, ◌≤◌, List, [], ◌∷◌, map, Bool, cond, suc, zero, inl, inr, ◌⊎◌, arith}
+use Rattle.std.proofs.Common.{◌≡◌, ℕ, ◌+◌, ◌<◌, ◌≤◌, List, [], ◌∷◌, map, Bool, cond, suc, zero, inl, inr, arith}
+use Rattle.std.proofs.lemmas.Bool.{cases_lt}
 
 -- the n numbers from base on
 unfoldable pub range : ℕ → ℕ → List ℕ
 range zero base = []
 range (suc n) base = base ∷ range n (suc base)
-
-below_or_not : (a b : ℕ) → (a < b) ⊎ (b ≤ a)
-below_or_not a b = grind arith
 
 -- where the values agree as lists, they agree at each word
 pub same_at : {A : Type 0} (f g : ℕ → A) (n base : ℕ) → map f (range n base) ≡ map g (range n base) → (w : ℕ) → base ≤ w → w < base + n → f w ≡ g w
@@ -17,7 +15,7 @@ same_at f g zero base e w low high = absurd (omega arith)
 same_at f g (suc n) base e w low high =
     let head : f base ≡ g base = cc in
     let tail : map f (range n (suc base)) ≡ map g (range n (suc base)) = cc in
-    elim (below_or_not base w) [
+    elim (cases_lt base w) [
       | inl h ↦ same_at f g n (suc base) tail w (omega arith) (omega arith)
       | inr h ↦ (let i : w ≡ base = omega arith in rw i head)
     ]
