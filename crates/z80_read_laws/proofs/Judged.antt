@@ -3,6 +3,7 @@
 use Rattle.std.proofs.Common.{◌≡◌, ℕ, ◌<◌, Bool, true, false, List, [], ◌∷◌, ◌++◌, refl, ap, ◌∙◌, sym, arith, codes}
 use Rattle.std.specs.Prelude.{IsTrue}
 use Rattle.std.proofs.lemmas.Slice.Eq.{bytes_eq-Decides}
+use Rattle.std.proofs.lemmas.Bool.{true≢false}
 use Rattle.z80_decode.specs.declared.decoded80.Decoded80.{Decoded80}
 use Rattle.z80_decode.specs.declared.index.Index.{Index}
 use Rattle.z80_decode.specs.declared.index.Index.TheVariants as indexes
@@ -16,7 +17,7 @@ use Rattle.z80_decode.specs.Nested.{of_bytes, bits, by_opcode, low_group, relati
 use Rattle.md_disasm.specs.Rows80.{Row80, row_of}
 use Rattle.md_disasm.specs.Texts80.{led, row_text, text_of}
 use Rattle.md_asm_text.specs.Pieces as texts
-use Rattle.md_asm_text.specs.Pieces.{Piece, every, is_worded, opened, pieces, split}
+use Rattle.md_asm_text.specs.Pieces.{Piece, every, is_worded, pieces, split}
 use Rattle.z80_encode.specs.Coded80.{AreBytes, is_whole}
 use Rattle.z80_encode.specs.Encoding80.{encoded, opcode_of, operands, prefixes}
 use Rattle.z80_encode.proofs.Law80.{encoding_again}
@@ -75,12 +76,9 @@ iy_again at b1 b2 b3 h k l names =
     let same = joined (named (λ w. again at (by_opcode indexes.Iy w b2 b3))) (named (λ w. kept (by_opcode indexes.Iy w b2 b3))) (built_iy_low at b2 b3 k l) (built_iy_middle at b2 b3 k) (built_iy_high at b2 b3) b1 h in
     is_again at (by_opcode indexes.Iy b1 b2 b3) (rw names at reads) (rw names at same)
 
-true_or_not : true ≡ false → ⊥
-true_or_not e = cc
-
 -- a prefix that stands alone has a directive's text
 lone_again : (at : ℕ) (index : Index) → IsAgain at (of_bytes 1 (ops.LonePrefix index))
-lone_again at index none = absurd (true_or_not none)
+lone_again at index none = absurd (true≢false none)
 
 nested_again : (at b0 b1 b2 b3 : ℕ) → at < 65536 → b0 < 256 → b1 < 256 → b2 < 256 → b3 < 256 → IsAgain at (nested b0 b1 b2 b3)
 nested_again at b0 b1 b2 b3 a h k l m = by_page (IsAgain at) b0 b1 b2 b3
@@ -104,7 +102,7 @@ meant_again bytes at h a none =
     ap (λ (s : Source). meant s at) (source_again (row_of (decoded bytes).op at) both.0) ∙ both.1
 
 whole_unless : (op : Op80) → is_db op ≡ false → IsTrue (is_whole op)
-whole_unless (ops.LonePrefix index) none = absurd (true_or_not none)
+whole_unless (ops.LonePrefix index) none = absurd (true≢false none)
 whole_unless _ none = refl
 
 -- the bytes that are tried for it decode to it, whatever follows them
