@@ -5,6 +5,8 @@ use Rattle.std.specs.Option.{is_some, option_map}
 use Rattle.std.specs.Str.{bytes_eq}
 use Rattle.std.proofs.lemmas.Bool.{true≢false}
 use Rattle.std.proofs.lemmas.Slice.Eq.{bytes_eq-Decides}
+use Rattle.std.proofs.Math.Bool.{or-false}
+use Rattle.std.proofs.lemmas.Option.{same_Some}
 use Rattle.clap.specs.Walk.{Rule, Text, arg_by_id, arg_by_long}
 use Rattle.clap.specs.declared.builder.action.ArgAction.TheVariants.{Set}
 use Rattle.clap.specs.declared.builder.value_parser.ValueParser.TheVariants as parser
@@ -79,13 +81,9 @@ abbrev pub HaveIds : List Rule → List (Text × Bool) → Type 0
 HaveIds rules [] = Unit {0}
 HaveIds rules (option ∷ options) = (arg_by_id rules option.0 ≡ Some (option_rule option)) × HaveIds rules options
 
-or_false : (b : Bool) → (b || false) ≡ b
-or_false true = refl
-or_false false = refl
-
 long_among : (options : List (Text × Bool)) (name : Text) → arg_by_long (map option_rule options) name ≡ option_map option_rule (find (is_named name) options)
 long_among [] name = refl
-long_among (option ∷ options) name = rw (or_false (is_named name option)) (go (is_named name option) (long_among options name))
+long_among (option ∷ options) name = rw (or-false (is_named name option)) (go (is_named name option) (long_among options name))
   where
     go : (b : Bool) → arg_by_long (map option_rule options) name ≡ option_map option_rule (find (is_named name) options)
         → cond b (Some (option_rule option)) (arg_by_long (map option_rule options) name)
@@ -105,9 +103,6 @@ listed_among (option ∷ options) name = go (is_named name option) (listed_among
 pub some≢none : {X : Type 0} (x : X) → Some x ≡ None → ⊥
 some≢none x is = true≢false (ap (λ o. is_some o) is)
 
-pub some_is : {X : Type 0} (x y : X) → Some x ≡ Some y → x ≡ y
-some_is x y is = ap (λ o. elim o as (λ _. _) [ Some z ↦ z | None ↦ x ]) is
-
 -- the option that is found has the name and its own argument
 id_among : (rules : List Rule) (options : List (Text × Bool)) (name : Text) (option : Text × Bool) → HaveIds rules options → find (is_named name) options ≡ Some option
     → (option.0 ≡ name) × (arg_by_id rules option.0 ≡ Some (option_rule option))
@@ -118,7 +113,7 @@ id_among rules (first ∷ options) name option have found = go (is_named name fi
         → (find (is_named name) options ≡ Some option → (option.0 ≡ name) × (arg_by_id rules option.0 ≡ Some (option_rule option)))
         → (option.0 ≡ name) × (arg_by_id rules option.0 ≡ Some (option_rule option))
     go true is here later =
-        let same : first ≡ option = some_is first option here in
+        let same : first ≡ option = same_Some first option here in
         (ap (λ o. o.0) (sym same) ∙ (bytes_eq-Decides first.0 name).0 is, subst (λ o. arg_by_id rules o.0 ≡ Some (option_rule o)) same have.0)
     go false is here later = later here
 

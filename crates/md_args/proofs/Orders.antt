@@ -6,10 +6,11 @@ use Rattle.std.proofs.lemmas.Bool.{and_from, and_parts, not_from_false, or_parts
 use Rattle.std.proofs.lemmas.List.Sums.{sum_by-cons}
 use Rattle.std.proofs.lemmas.List.Sorted.{IsPermutation-sym, sum_by-IsPermutation}
 use Rattle.std.proofs.lemmas.Slice.Eq.{bytes_eq-Decides}
+use Rattle.std.proofs.lemmas.Option.{same_Some}
 use Rattle.clap.specs.Walk.{Text}
 use Rattle.md_args.specs.Given.{Argument, are_single, has_name, value_in}
 use Rattle.md_args.specs.Words.{run_by, run_of_arguments}
-use Rattle.md_args.proofs.Lookups.{some_is, some≢none}
+use Rattle.md_args.proofs.Lookups.{some≢none}
 use Rattle.md_args.proofs.Rows.{stands}
 
 abbrev one_if : Bool → ℕ
@@ -105,7 +106,7 @@ value_counted (first ∷ arguments) name value is = go (has_name name first.0) i
     go : (b : Bool) → option_map (λ (argument : Argument). argument.1) (cond b (Some first) (find (λ argument. has_name name argument.0) arguments)) ≡ Some value
         → (value_in arguments name ≡ Some value → 1 ≤ named_with name value arguments) → 1 ≤ one_if (b && bytes_eq first.1 value) + named_with name value arguments
     go true is later =
-        let same : one_if (bytes_eq first.1 value) ≡ 1 = ap one_if ((bytes_eq-Decides first.1 value).1 (some_is first.1 value is)) in
+        let same : one_if (bytes_eq first.1 value) ≡ 1 = ap one_if ((bytes_eq-Decides first.1 value).1 (same_Some first.1 value is)) in
         omega (arith, same)
     go false is later = omega (arith, later is)
 
