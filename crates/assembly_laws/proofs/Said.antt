@@ -1,5 +1,5 @@
 -- An image says its lines: what is assembled of a line has its text, whatever follows it.
-use Rattle.std.proofs.Common.{◌≡◌, ℕ, zero, suc, ◌+◌, ◌*◌, ◌/◌, ◌%◌, ◌<◌, ◌≤◌, inl, inr, Bool, true, false, List, [], ◌∷◌, ◌++◌, length, get_or, drop, Option, Some, None, refl, ap, sym, subst, ◌∙◌, arith, if◌then◌else◌}
+use Rattle.std.proofs.Common.{◌≡◌, ℕ, zero, suc, ◌+◌, ◌*◌, ◌/◌, ◌%◌, ◌<◌, ◌≤◌, inl, inr, Bool, true, false, List, [], ◌∷◌, ◌++◌, length, get_or, drop, Option, Some, None, refl, ap, sym, subst, ◌∙◌, arith, if◌then◌else◌, add-zero}
 use Rattle.std.specs.Prelude.{◌==◌, option_map, slice_index}
 use Rattle.std.proofs.lemmas.Bool.{cases_lt}
 use Rattle.std.proofs.lemmas.List.{get_or-append-add, get_or_past}
@@ -16,7 +16,7 @@ use Rattle.md_asm_code.specs.Codes.{code, in_bytes, main_code}
 use Rattle.md_asm_code.specs.Contents.{Far, Good, Unfit, Unknown, is_unfit, settled, sized}
 use Rattle.md_asm_code.specs.Numbers.{Names, has_name, resolved}
 use Rattle.md_asm.specs.Assembly.{Done, assembly, is_instruction}
-use Rattle.md_asm.specs.Held.{AreHeld, IsAddress, IsHeld, Stands}
+use Rattle.md_asm.specs.Held.{AreHeld, IsAddress, IsHeld, StandsAt}
 use Rattle.md_asm.specs.Rounds.{Slot}
 use Rattle.md_asm.specs.declared.placed.Placed.{Placed}
 use Rattle.md_asm.proofs.Held.{holds_lines}
@@ -56,24 +56,21 @@ code_of z80 bodies.Bad long said at bytes instruction is = cc
 
 -- ---- bytes that stand in an image
 
-stand_bytes : (image : List ℕ) (place : ℕ) (bytes : List ℕ) → AreBytes image → Stands image place bytes → AreBytes bytes
+stand_bytes : (image : List ℕ) (place : ℕ) (bytes : List ℕ) → AreBytes image → StandsAt image place bytes → AreBytes bytes
 stand_bytes image place bytes all stands k = elim (cases_lt k (length bytes)) [
   | inl within ↦ (let here = all (place + k) in let e = stands k within in omega (arith, here, e))
   | inr past ↦ (let e = get_or_past bytes k 0 past in omega (arith, e))
 ]
 
-from_zero : (place : ℕ) → place + 0 ≡ place
-from_zero place = omega arith
-
-first_of : (image : List ℕ) (place a : ℕ) (more : List ℕ) → Stands image place (a ∷ more) → slice_index image place ≡ a
-first_of image place a more stands = ap (λ (n : ℕ). get_or image n 0) (sym (from_zero place)) ∙ stands 0 (omega arith)
+first_of : (image : List ℕ) (place a : ℕ) (more : List ℕ) → StandsAt image place (a ∷ more) → slice_index image place ≡ a
+first_of image place a more stands = ap (λ (n : ℕ). get_or image n 0) (sym (add-zero place)) ∙ stands 0 (omega arith)
 
 -- what is read at a place begins with the bytes that stand there
 record Begins (read bytes : List ℕ) : Type 0 where
   rest : List ℕ
   whole : read ≡ bytes ++ rest
 
-bytes_begin : (image : List ℕ) (place : ℕ) (bytes : List ℕ) → length bytes ≤ 4 → Stands image place bytes → Begins (bytes_from image place) bytes
+bytes_begin : (image : List ℕ) (place : ℕ) (bytes : List ℕ) → length bytes ≤ 4 → StandsAt image place bytes → Begins (bytes_from image place) bytes
 bytes_begin image place [] few stands = record { rest = bytes_from image place; whole = refl }
 bytes_begin image place (a ∷ []) few stands =
     let ea = first_of image place a [] stands in record { rest = drop 1 (bytes_from image place); whole = rw ea refl }
@@ -113,7 +110,7 @@ words_are (word ∷ more) all (suc k) = words_are more (λ i. all (suc (suc i)))
 word_of : (high low word : ℕ) → high ≡ word / 256 → low ≡ word % 256 → high * 256 + low ≡ word
 word_of high low word eh el = omega arith
 
-first_word : (image : List ℕ) (place word : ℕ) (more : List ℕ) → Stands image place (in_bytes (word ∷ more)) → word_at image place ≡ word
+first_word : (image : List ℕ) (place word : ℕ) (more : List ℕ) → StandsAt image place (in_bytes (word ∷ more)) → word_at image place ≡ word
 unfolding in_bytes
 first_word image place word more stands =
     word_of (slice_index image place) (slice_index image (place + 1)) word (first_of image place (word / 256) (word % 256 ∷ in_bytes more) stands) (stands 1 (omega arith))
@@ -121,12 +118,12 @@ first_word image place word more stands =
 two_on : (place next k : ℕ) → next ≡ place + 2 → next + k ≡ place + suc (suc k)
 two_on place next k is = omega arith
 
-words_behind : (image : List ℕ) (place next word : ℕ) (more : List ℕ) → next ≡ place + 2 → Stands image place (in_bytes (word ∷ more)) → Stands image next (in_bytes more)
+words_behind : (image : List ℕ) (place next word : ℕ) (more : List ℕ) → next ≡ place + 2 → StandsAt image place (in_bytes (word ∷ more)) → StandsAt image next (in_bytes more)
 unfolding in_bytes
 words_behind image place next word more is stands k within =
     ap (λ (n : ℕ). get_or image n 0) (two_on place next k is) ∙ stands (suc (suc k)) (omega arith)
 
-words_begin : (image : List ℕ) (place : ℕ) (words : List ℕ) → length words ≤ 5 → Stands image place (in_bytes words) → Begins (words_from image place) words
+words_begin : (image : List ℕ) (place : ℕ) (words : List ℕ) → length words ≤ 5 → StandsAt image place (in_bytes words) → Begins (words_from image place) words
 words_begin image place [] few stands = record { rest = words_from image place; whole = refl }
 words_begin image place (a ∷ []) few stands =
     let ea = first_word image place a [] stands in record { rest = drop 1 (words_from image place); whole = rw ea refl }
@@ -169,7 +166,7 @@ mapped (Some words) bytes is = (words, refl, cc)
 address_stays : (at : ℕ) → at < 65536 → at % 65536 ≡ at
 address_stays at below = omega arith
 
-said_by : (z80 : Bool) (image : List ℕ) (place at : ℕ) (said : List Piece) (bytes : List ℕ) → AreBytes image → IsAddress z80 at → Stands image place bytes
+said_by : (z80 : Bool) (image : List ℕ) (place at : ℕ) (said : List Piece) (bytes : List ℕ) → AreBytes image → IsAddress z80 at → StandsAt image place bytes
     → code z80 said at ≡ Some bytes → pieces (text_at z80 image place at) ≡ said
 said_by true image place at said bytes all below stands is =
     let own = stand_bytes image place bytes all stands in
@@ -180,18 +177,18 @@ said_by true image place at said bytes all below stands is =
     ∙ sub_laws.keeps_text said bytes begins.rest at own rest below is
 said_by false image place at said bytes all below stands is =
     let found = mapped (main_code said at) bytes is in
-    let stood : Stands image place (in_bytes found.0) = subst (λ (l : List ℕ). Stands image place l) found.2 stands in
+    let stood : StandsAt image place (in_bytes found.0) = subst (λ (l : List ℕ). StandsAt image place l) found.2 stands in
     let own = words_are found.0 (stand_bytes image place (in_bytes found.0) all stood) in
     let begins = words_begin image place found.0 (main_laws.few said found.0 at found.1) stood in
     ap (λ (l : List ℕ). pieces (main_texts.text_of (main.decoded l) at)) begins.whole
     ∙ main_laws.keeps_text said found.0 begins.rest at own below found.1
 
-written_by : (z80 : Bool) (image : List ℕ) (place at : ℕ) (said : List Piece) (bytes : List ℕ) → AreBytes image → IsAddress z80 at → Stands image place bytes
+written_by : (z80 : Bool) (image : List ℕ) (place at : ℕ) (said : List Piece) (bytes : List ℕ) → AreBytes image → IsAddress z80 at → StandsAt image place bytes
     → code z80 said at ≡ Some bytes → IsWritten z80 bytes said at
 written_by true image place at said bytes all below stands is = sub_chosen.chosen said bytes at (stand_bytes image place bytes all stands) below is
 written_by false image place at said bytes all below stands is =
     let found = mapped (main_code said at) bytes is in
-    let stood : Stands image place (in_bytes found.0) = subst (λ (l : List ℕ). Stands image place l) found.2 stands in
+    let stood : StandsAt image place (in_bytes found.0) = subst (λ (l : List ℕ). StandsAt image place l) found.2 stands in
     (found.0, found.2, main_chosen.least said found.0 at (words_are found.0 (stand_bytes image place (in_bytes found.0) all stood)) below found.1)
 
 slot_said : (image : List ℕ) (names : Names) (slot : Slot) → AreBytes image → IsHeld image names slot → is_instruction slot.body ≡ true → IsSaid image names slot

@@ -5,8 +5,8 @@ use Rattle.md_asm_line.specs.Texts.{lines as lines_of}
 use Rattle.md_asm_code.specs.Codes.{in_bytes}
 use Rattle.md_asm_code.specs.Numbers.{Names, resolved}
 use Rattle.asm_laws.specs.Chosen.{AreChosen, AreLeast}
-use Rattle.md_asm.specs.Assembly.{is_instruction, placed}
-use Rattle.md_asm.specs.Held.{Stands}
+use Rattle.md_asm.specs.Assembly.{is_instruction, places_of}
+use Rattle.md_asm.specs.Held.{StandsAt}
 use Rattle.md_asm.specs.Rounds.{Read, Round, Slot, round_one, start}
 use Rattle.md_asm.specs.declared.placed.Placed.{Placed}
 use Rattle.assembly_laws.specs.Places.{text_at}
@@ -21,7 +21,7 @@ IsWritten false bytes said at = (words : List ℕ) × (bytes ≡ in_bytes words)
 pub record IsSaid (image : List ℕ) (names : Names) (slot : Slot) : Type 0 where
   pub text : pieces (text_at slot.sub image slot.place slot.address) ≡ resolved names (pieces slot.text)
   pub bytes : List ℕ
-  pub stands : Stands image slot.place bytes
+  pub stands : StandsAt image slot.place bytes
   pub chosen : IsWritten slot.sub bytes (resolved names (pieces slot.text)) slot.address
 
 -- so it is for each line that is an instruction
@@ -33,5 +33,5 @@ AreSaid image names (slot ∷ more) = (is_instruction slot.body ≡ true → IsS
 pub record SaysLines (source image : List ℕ) (lines : List Placed) : Type 0 where
   pub round : Round
   pub read : round_one start 1 (lines_of source) ≡ Read round
-  pub places : lines ≡ placed round.slots
+  pub places : lines ≡ places_of round.slots
   pub said : AreSaid image round.names round.slots

@@ -7,8 +7,8 @@ use Rattle.md_asm_text.specs.Pieces.{pieces}
 use Rattle.md_asm_line.specs.Lines.{Line, line_of}
 use Rattle.md_asm_code.specs.Contents.{is_unfit, size}
 use Rattle.md_asm.specs.Held.{IsAddress}
-use Rattle.md_asm.specs.Places.{Written, address, any_written, is_sub, is_too_large, with_written}
-use Rattle.md_asm.specs.Rounds.{On, Outcome, Read, Round, Slot, Step, Stop, behind, fault_of, go_on, has_bytes, is_twice, kept_if, labelled, moved, round_one, sized_step, slot_of, start, step, unless, wants_even}
+use Rattle.md_asm.specs.Places.{WrittenPlaces, address, any_written, is_sub, is_too_large, with_written}
+use Rattle.md_asm.specs.Rounds.{On, Outcome, Read, Round, Slot, Step, Stop, behind, fault_of, go_on, has_bytes, is_twice, kept_if, labelled, moved, round_one, sized_step, slot_of, start, line_step, unless, wants_even}
 use Rattle.md_asm.specs.declared.kind.Kind.{Kind}
 use Rattle.md_asm.specs.declared.kind.Kind.TheVariants as kinds
 use Rattle.md_asm.specs.declared.processor.Processor.{Processor}
@@ -16,17 +16,17 @@ use Rattle.md_asm.specs.declared.processor.Processor.TheVariants as processors
 use Rattle.md_asm.proofs.Faults.{within}
 
 -- each of some lines
-abbrev pub Each : (Slot → Type 0) → List Slot → Type 0
-Each P [] = Unit {0}
-Each P (s ∷ more) = P s × Each P more
+abbrev pub AllSlots : (Slot → Type 0) → List Slot → Type 0
+AllSlots P [] = Unit {0}
+AllSlots P (s ∷ more) = P s × AllSlots P more
 
-pub each_more : (P : Slot → Type 0) (slots : List Slot) (slot : Slot) → Each P slots → P slot → Each P (slots ++ slot ∷ [])
-each_more P [] slot each is = (is, tt)
-each_more P (s ∷ more) slot each is = (each.0, each_more P more slot each.1 is)
+pub all_slots_more : (P : Slot → Type 0) (slots : List Slot) (slot : Slot) → AllSlots P slots → P slot → AllSlots P (slots ++ slot ∷ [])
+all_slots_more P [] slot each is = (is, tt)
+all_slots_more P (s ∷ more) slot each is = (each.0, all_slots_more P more slot each.1 is)
 
-pub each_by : (P Q : Slot → Type 0) → ((s : Slot) → P s → Q s) → (slots : List Slot) → Each P slots → Each Q slots
-each_by P Q by [] each = tt
-each_by P Q by (s ∷ more) each = (by s each.0, each_by P Q by more each.1)
+pub all_slots_by : (P Q : Slot → Type 0) → ((s : Slot) → P s → Q s) → (slots : List Slot) → AllSlots P slots → AllSlots Q slots
+all_slots_by P Q by [] each = tt
+all_slots_by P Q by (s ∷ more) each = (by s each.0, all_slots_by P Q by more each.1)
 
 -- a place is one of a line's
 pub record IsWithin (s : Slot) (k : ℕ) : Type 0 where
@@ -39,20 +39,20 @@ AreApart s t = (k : ℕ) → IsWithin s k → IsWithin t k → ⊥
 -- each line is apart from those behind it
 abbrev pub AllApart : List Slot → Type 0
 AllApart [] = Unit {0}
-AllApart (s ∷ more) = Each (AreApart s) more × AllApart more
+AllApart (s ∷ more) = AllSlots (AreApart s) more × AllApart more
 
-all_more : (slots : List Slot) (slot : Slot) → AllApart slots → Each (λ s. AreApart s slot) slots → AllApart (slots ++ slot ∷ [])
+all_more : (slots : List Slot) (slot : Slot) → AllApart slots → AllSlots (λ s. AreApart s slot) slots → AllApart (slots ++ slot ∷ [])
 all_more [] slot all apart = (tt, tt)
-all_more (s ∷ more) slot all apart = (each_more (AreApart s) more slot all.0 apart.0, all_more more slot all.1 apart.1)
+all_more (s ∷ more) slot all apart = (all_slots_more (AreApart s) more slot all.0 apart.0, all_more more slot all.1 apart.1)
 
 -- what holds of a line that is kept: its places are written, below the end, and its address is one of its processor
-pub record IsPut (written : Written) (end : ℕ) (s : Slot) : Type 0 where
+pub record IsPut (written : WrittenPlaces) (end : ℕ) (s : Slot) : Type 0 where
   pub covered : (k : ℕ) → IsWithin s k → written k ≡ true
   pub low : s.place + s.long ≤ end
   pub addressed : IsAddress s.sub s.address
 
 pub record IsRound (round : Round) : Type 0 where
-  pub put : Each (IsPut round.written round.end) round.slots
+  pub put : AllSlots (IsPut round.written round.end) round.slots
   pub apart : AllApart round.slots
   pub low : round.end ≤ 4194304
 
@@ -69,7 +69,7 @@ put_more round place long s is = record {
 }
 
 -- where none of so many places is written, each of them is not
-none_of : (written : Written) (place long : ℕ) → any_written written place long ≡ false → (k : ℕ) → place ≤ k → k < place + long → written k ≡ false
+none_of : (written : WrittenPlaces) (place long : ℕ) → any_written written place long ≡ false → (k : ℕ) → place ≤ k → k < place + long → written k ≡ false
 none_of written place zero none k from below = absurd (omega arith)
 none_of written place (suc long) none k from below = elim (eq-or-lt_of_le from) [
   | inl is ↦ rw (sym is) (first (written place) (any_written written (place + 1) long) none)
@@ -94,7 +94,7 @@ address_is : (processor : Processor) (place : ℕ) → place ≤ 4194304 → IsA
 address_is processors.Main place low = omega arith
 address_is (processors.Sub at from) place low = omega arith
 
-written_in : (written : Written) (place long k : ℕ) → place ≤ k → k < place + long → with_written written place long k ≡ true
+written_in : (written : WrittenPlaces) (place long k : ℕ) → place ≤ k → k < place + long → with_written written place long k ≡ true
 written_in written place long k from below = by (written k)
   where
     by : (b : Bool) → (b || (nat_le place k && nat_lt k (place + long))) ≡ true
@@ -128,9 +128,9 @@ behind_by round number line long is none true has =
       low = omega arith;
       addressed = address_is round.processor round.place (omega arith);
     } in record {
-      put = each_more (IsPut (with_written round.written round.place long) (max round.end (round.place + long))) round.slots slot
-          (each_by (IsPut round.written round.end) (IsPut (with_written round.written round.place long) (max round.end (round.place + long))) (put_more round round.place long) round.slots is.put) own;
-      apart = all_more round.slots slot is.apart (each_by (IsPut round.written round.end) (λ s. AreApart s slot) (λ s. apart_from round slot s off) round.slots is.put);
+      put = all_slots_more (IsPut (with_written round.written round.place long) (max round.end (round.place + long))) round.slots slot
+          (all_slots_by (IsPut round.written round.end) (IsPut (with_written round.written round.place long) (max round.end (round.place + long))) (put_more round round.place long) round.slots is.put) own;
+      apart = all_more round.slots slot is.apart (all_slots_by (IsPut round.written round.end) (λ s. AreApart s slot) (λ s. apart_from round slot s off) round.slots is.put);
       low = let end = is.low in omega arith;
     }
 
@@ -147,7 +147,7 @@ sized_by : (round : Round) (number : ℕ) (line : Line) (found : Option ℕ) (ne
 sized_by round number line None next is on = cc
 sized_by round number line (Some long) next is on = unless_by round number line long next is (fault_of round line long) refl on
 
-stepped : (round : Round) (number : ℕ) (line : Line) (next : Round) → IsRound round → step round number line ≡ On next → IsRound next
+stepped : (round : Round) (number : ℕ) (line : Line) (next : Round) → IsRound round → line_step round number line ≡ On next → IsRound next
 stepped round number line next is on = sized_by round number line (size (is_sub round.processor) line.body (pieces line.text)) next is on
 
 went_on : (number : ℕ) (s : Step) (go : Round → Outcome) (last : Round) → go_on number s go ≡ Read last → (next : Round) × (s ≡ On next) × (go next ≡ Read last)
@@ -160,7 +160,7 @@ rounds : (round last : Round) (number : ℕ) (texts : List (List ℕ)) → IsRou
 unfolding round_one
 rounds round last number [] is read = let e : round ≡ last = cc in subst (λ (r : Round). IsRound r) e is
 rounds round last number (text ∷ more) is read =
-    let on = went_on number (step round number (line_of text)) (λ next. round_one next (number + 1) more) last read in
+    let on = went_on number (line_step round number (line_of text)) (λ next. round_one next (number + 1) more) last read in
     rounds on.0 last (number + 1) more (stepped round number (line_of text) on.0 is on.1) on.2
 
 pub read_round : (last : Round) (texts : List (List ℕ)) → round_one start 1 texts ≡ Read last → IsRound last

@@ -4,26 +4,26 @@ use Rattle.std.proofs.lemmas.Bool.{cases_lt}
 use Rattle.md_asm_text.specs.Pieces.{pieces}
 use Rattle.md_asm_code.specs.Contents.{Far, Good, Settled, Unfit, Unknown}
 use Rattle.md_asm_code.specs.Numbers.{Names, resolved}
-use Rattle.md_asm.specs.Held.{Stands}
+use Rattle.md_asm.specs.Held.{StandsAt}
 use Rattle.md_asm.specs.Places.{put}
-use Rattle.md_asm.specs.Rounds.{Filled, Hit, Onto, Patched, Slot, Whole, fill_on, patched, put_settled, round_two, settled_slot}
+use Rattle.md_asm.specs.Rounds.{Filled, Hit, Onto, Patched, Slot, Whole, fill_on, put_settled, round_two, settled_slot, with_slot}
 use Rattle.md_asm.proofs.Slots.{settled_long}
 use Rattle.md_asm.proofs.Memory.{put_leaves, put_long, put_stands}
-use Rattle.md_asm.proofs.Apart.{AllApart, AreApart, Each, IsWithin}
+use Rattle.md_asm.proofs.Apart.{AllApart, AreApart, AllSlots, IsWithin}
 
 -- a line comes to bytes, which stand at its place
 pub record IsFilled (memory : List ℕ) (names : Names) (slot : Slot) : Type 0 where
   pub bytes : List ℕ
   pub settled : settled_slot names slot ≡ Good bytes
-  pub stands : Stands memory slot.place bytes
+  pub stands : StandsAt memory slot.place bytes
 
 -- a place is none of a line's
 abbrev IsOutside : ℕ → Slot → Type 0
 IsOutside k s = IsWithin s k → ⊥
 
 pub record AreFilled (before after : List ℕ) (names : Names) (slots : List Slot) : Type 0 where
-  pub each : Each (IsFilled after names) slots
-  pub leaves : (k : ℕ) → Each (IsOutside k) slots → get_or after k 0 ≡ get_or before k 0
+  pub each : AllSlots (IsFilled after names) slots
+  pub leaves : (k : ℕ) → AllSlots (IsOutside k) slots → get_or after k 0 ≡ get_or before k 0
   pub long : length after ≡ length before
 
 went_on : (number : ℕ) (p : Patched) (go : List ℕ → Filled) (last : List ℕ) → fill_on number p go ≡ Whole last → (next : List ℕ) × (p ≡ Onto next) × (go next ≡ Whole last)
@@ -46,16 +46,16 @@ sides s k outside = elim (cases_lt k s.place) [
   ])
 ]
 
-outside_by : (s : Slot) (slots : List Slot) (k : ℕ) → Each (AreApart s) slots → IsWithin s k → Each (IsOutside k) slots
+outside_by : (s : Slot) (slots : List Slot) (k : ℕ) → AllSlots (AreApart s) slots → IsWithin s k → AllSlots (IsOutside k) slots
 outside_by s [] k apart within = tt
 outside_by s (t ∷ more) k apart within = (λ other. apart.0 k within other, outside_by s more k apart.1 within)
 
-low_as : (before after : List ℕ) (slots : List Slot) → length after ≡ length before → Each (λ s. s.place + s.long ≤ length before) slots → Each (λ s. s.place + s.long ≤ length after) slots
+low_as : (before after : List ℕ) (slots : List Slot) → length after ≡ length before → AllSlots (λ s. s.place + s.long ≤ length before) slots → AllSlots (λ s. s.place + s.long ≤ length after) slots
 low_as before after slots long low = rw long low
 
 -- one line more in front of those that are filled
 with_front : (names : Names) (memory next last : List ℕ) (slot : Slot) (more : List Slot) (bytes : List ℕ) → slot.place + length bytes ≤ length memory
-    → settled_slot names slot ≡ Good bytes → put memory slot.place bytes ≡ next → length bytes ≡ slot.long → Each (AreApart slot) more
+    → settled_slot names slot ≡ Good bytes → put memory slot.place bytes ≡ next → length bytes ≡ slot.long → AllSlots (AreApart slot) more
     → AreFilled next last names more → AreFilled memory last names (slot ∷ more)
 with_front names memory next last slot more bytes room is put_is size apart all =
     let long : length next ≡ length memory = rw (sym put_is) (put_long memory slot.place bytes room) in record {
@@ -76,15 +76,15 @@ with_front names memory next last slot more bytes room is put_is size apart all 
       long = all.long ∙ long;
     }
 
-pub filled : (names : Names) (memory last : List ℕ) (slots : List Slot) → Each (λ s. s.place + s.long ≤ length memory) slots → AllApart slots
+pub all_filled : (names : Names) (memory last : List ℕ) (slots : List Slot) → AllSlots (λ s. s.place + s.long ≤ length memory) slots → AllApart slots
     → round_two names memory slots ≡ Whole last → AreFilled memory last names slots
 unfolding round_two
-filled names memory last [] low apart is = let e : memory ≡ last = cc in record { each = tt; leaves = λ k none. cc; long = cc }
-filled names memory last (slot ∷ more) low apart is =
-    let on = went_on slot.line (patched names memory slot) (λ next. round_two names next more) last is in
+all_filled names memory last [] low apart is = let e : memory ≡ last = cc in record { each = tt; leaves = λ k none. cc; long = cc }
+all_filled names memory last (slot ∷ more) low apart is =
+    let on = went_on slot.line (with_slot names memory slot) (λ next. round_two names next more) last is in
     let own = put_by memory slot.place (settled_slot names slot) on.0 on.1 in
     let size = settled_long slot.sub slot.body slot.long (resolved names (pieces slot.text)) slot.address own.0 own.1 in
     let room : slot.place + length own.0 ≤ length memory = let l = low.0 in omega (arith, l, size) in
     let long : length on.0 ≡ length memory = rw (sym own.2) (put_long memory slot.place own.0 room) in
     with_front names memory on.0 last slot more own.0 room own.1 own.2 size apart.0
-    (filled names on.0 last more (low_as memory on.0 more long low.1) apart.1 on.2)
+    (all_filled names on.0 last more (low_as memory on.0 more long low.1) apart.1 on.2)

@@ -1,7 +1,7 @@
 -- Bytes that are put into a memory stand there, and leave all others.
 use Rattle.std.proofs.Common.{◌≡◌, ℕ, ◌+◌, ◌-◌, ◌<◌, ◌≤◌, ◌⊎◌, inl, inr, List, ◌++◌, length, get_or, take, drop, length-append, length-drop, ap, ◌∙◌, arith}
 use Rattle.std.proofs.lemmas.List.{get_or_append_left, get_or-append_right, get_or-drop, get_or-take, length-replicate, length-take-le}
-use Rattle.md_asm.specs.Held.{Stands}
+use Rattle.md_asm.specs.Held.{StandsAt}
 use Rattle.md_asm.specs.Places.{put, zeros}
 
 pub zeros_long : (count : ℕ) → length (zeros count) ≡ count
@@ -23,7 +23,7 @@ put_long memory place bytes h =
 behind_by : (a b : ℕ) → a + b - a ≡ b
 behind_by a b = omega arith
 
-pub put_stands : (memory : List ℕ) (place : ℕ) (bytes : List ℕ) → place + length bytes ≤ length memory → Stands (put memory place bytes) place bytes
+pub put_stands : (memory : List ℕ) (place : ℕ) (bytes : List ℕ) → place + length bytes ≤ length memory → StandsAt (put memory place bytes) place bytes
 unfolding put
 put_stands memory place bytes h k within =
     let long = front_long memory place bytes h in
@@ -50,6 +50,6 @@ put_leaves memory place bytes k h (inr above) =
     ∙ ap (λ (n : ℕ). get_or memory n 0) back
 
 -- the front of a memory that the bytes end in has them too
-pub take_stands : (memory : List ℕ) (place end : ℕ) (bytes : List ℕ) → place + length bytes ≤ end → Stands memory place bytes → Stands (take end memory) place bytes
+pub take_stands : (memory : List ℕ) (place end : ℕ) (bytes : List ℕ) → place + length bytes ≤ end → StandsAt memory place bytes → StandsAt (take end memory) place bytes
 take_stands memory place end bytes h stands k within =
     get_or-take end memory (place + k) 0 (omega arith) ∙ stands k within

@@ -3,23 +3,23 @@ use Rattle.std.proofs.Common.{◌≡◌, ℕ, zero, suc, ◌+◌, ◌-◌, ◌<�
 use Rattle.std.proofs.Math.ListN.{set}
 use Rattle.std.proofs.lemmas.Bool.Decides.{nat_tests}
 use Rattle.std.proofs.lemmas.List.{get_or-replicate, get_or-set_other, get_or-set_same, get_or_past, length-replicate}
-use Rattle.md_asm.specs.Places.{Written, any_written}
+use Rattle.md_asm.specs.Places.{WrittenPlaces, any_written}
 
 -- one place less is left
-pub any_step : (written : Written) (place left : ℕ) → 0 < left
+pub any_step : (written : WrittenPlaces) (place left : ℕ) → 0 < left
     → any_written written place left ≡ (written place || any_written written (place + 1) (left - 1))
 any_step written place zero some = absurd (omega arith)
 any_step written place (suc left) some = let e : suc left - 1 ≡ left = omega arith in rw e refl
 
-pub any_here : (written : Written) (place left : ℕ) → 0 < left → written place ≡ true → true ≡ any_written written place left
+pub any_here : (written : WrittenPlaces) (place left : ℕ) → 0 < left → written place ≡ true → true ≡ any_written written place left
 any_here written place left some is = rw (any_step written place left some, is) refl
 
-pub any_on : (written : Written) (place left : ℕ) → 0 < left → written place ≡ false
+pub any_on : (written : WrittenPlaces) (place left : ℕ) → 0 < left → written place ≡ false
     → any_written written (place + 1) (left - 1) ≡ any_written written place left
 any_on written place left some is = rw (any_step written place left some, is) refl
 
 -- none is written from a place on
-pub none_above : (written : Written) (limit : ℕ) → ((k : ℕ) → limit ≤ k → written k ≡ false) → (left place : ℕ) → limit ≤ place
+pub none_above : (written : WrittenPlaces) (limit : ℕ) → ((k : ℕ) → limit ≤ k → written k ≡ false) → (left place : ℕ) → limit ≤ place
     → any_written written place left ≡ false
 none_above written limit none zero place h = refl
 none_above written limit none (suc left) place h =

@@ -6,7 +6,7 @@ use Rattle.md_asm_text.specs.Pieces.{Piece}
 use Rattle.md_asm_line.specs.declared.body.Body.{Body}
 use Rattle.md_asm_code.specs.Contents.{Far, Good, Settled, Unfit, Unknown, content, is_unfit, settled, sized}
 use Rattle.md_asm_code.specs.Numbers.{Names, has_name, resolved}
-use Rattle.md_asm.specs.Kept.{AreKept, Comes, FitsAt, IsKept}
+use Rattle.md_asm.specs.Kept.{AreKept, SettlesOn, FitsAt, IsKept}
 use Rattle.md_asm.specs.declared.entry.Entry.{Entry}
 
 -- one line more is kept
@@ -24,9 +24,9 @@ resolved_plain names (pieces.Name w ∷ ps) none = cc
 resolved_plain names (pieces.Mark c ∷ ps) none = ap (λ (l : List Piece). pieces.Mark c ∷ l) (resolved_plain names ps none)
 
 -- what a line without names comes to does not depend on them
-pub comes : (sub : Bool) (body : Body) (long : ℕ) (said : List Piece) (at : ℕ) (bytes : List ℕ) → has_name said ≡ false
-    → settled sub body long said at ≡ Good bytes → Comes sub body long said at bytes
-comes sub body long said at bytes none is names =
+pub settles_without_names : (sub : Bool) (body : Body) (long : ℕ) (said : List Piece) (at : ℕ) (bytes : List ℕ) → has_name said ≡ false
+    → settled sub body long said at ≡ Good bytes → SettlesOn sub body long said at bytes
+settles_without_names sub body long said at bytes none is names =
     ap (λ (l : List Piece). settled sub body long l at) (resolved_plain names said none) ∙ is
 
 -- bytes that a line comes to have its length
@@ -62,6 +62,6 @@ pub settled_fits : (sub : Bool) (body : Body) (long : ℕ) (said : List Piece) (
 settled_fits sub body long said at place room h =
     fits place long room (settled sub body long said at) h (λ bytes is. settled_long sub body long said at bytes is)
 
-pub comes_long : (sub : Bool) (body : Body) (long : ℕ) (said : List Piece) (at : ℕ) (bytes : List ℕ) → Comes sub body long said at bytes
+pub settles_long : (sub : Bool) (body : Body) (long : ℕ) (said : List Piece) (at : ℕ) (bytes : List ℕ) → SettlesOn sub body long said at bytes
     → length bytes ≡ long
-comes_long sub body long said at bytes comes = settled_long sub body long (resolved (λ name. None) said) at bytes (comes (λ name. None))
+settles_long sub body long said at bytes settles = settled_long sub body long (resolved (λ name. None) said) at bytes (settles (λ name. None))

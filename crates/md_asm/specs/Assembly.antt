@@ -36,21 +36,21 @@ is_instruction (bodies.Sub at) = false
 is_instruction bodies.Bad = false
 
 -- the places of the instructions, in the order of the lines
-unfoldable pub placed : List Slot → List Placed
-placed [] = []
-placed (slot ∷ more) = if is_instruction slot.body then placed_slot slot ∷ placed more else placed more
+unfoldable pub places_of : List Slot → List Placed
+places_of [] = []
+places_of (slot ∷ more) = if is_instruction slot.body then placed_slot slot ∷ places_of more else places_of more
 
 -- an image and where its instructions stand, or the first line that is at fault and its least kind
 pub data Assembly : Type 0 where
   Done : List ℕ → List Placed → Assembly
   Failed : ℕ → ℕ → Assembly
 
-abbrev pub filled : Round → Filled → Assembly
-filled round (Whole memory) = Done (take round.end memory) (placed round.slots)
-filled round (Faulty line kind) = Failed line (number_of kind)
+abbrev pub assembly_of : Round → Filled → Assembly
+assembly_of round (Whole memory) = Done (take round.end memory) (places_of round.slots)
+assembly_of round (Faulty line kind) = Failed line (number_of kind)
 
 abbrev pub second : Outcome → Assembly
-second (Read round) = filled round (round_two round.names blank round.slots)
+second (Read round) = assembly_of round (round_two round.names blank round.slots)
 second (Refused line kind) = Failed line (number_of kind)
 
 -- A source's lines are read in their order, each with its place, its address and its length; then each that has

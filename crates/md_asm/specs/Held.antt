@@ -3,13 +3,13 @@ use Rattle.std.specs.Prelude.{ℕ, ◌≡◌, ◌+◌, ◌<◌, Bool, true, fals
 use Rattle.md_asm_line.specs.Texts.{lines as lines_of}
 use Rattle.md_asm_code.specs.Contents.{Good}
 use Rattle.md_asm_code.specs.Numbers.{Names}
-use Rattle.md_asm.specs.Assembly.{placed}
+use Rattle.md_asm.specs.Assembly.{places_of}
 use Rattle.md_asm.specs.Rounds.{Read, Round, Slot, round_one, settled_slot, start}
 use Rattle.md_asm.specs.declared.placed.Placed.{Placed}
 
 -- bytes stand at a place of a memory
-abbrev pub Stands : List ℕ → ℕ → List ℕ → Type 0
-Stands memory place bytes = (k : ℕ) → k < length bytes → slice_index memory (place + k) ≡ slice_index bytes k
+abbrev pub StandsAt : List ℕ → ℕ → List ℕ → Type 0
+StandsAt memory place bytes = (k : ℕ) → k < length bytes → slice_index memory (place + k) ≡ slice_index bytes k
 
 -- an address of the Z80, or of the 68000
 abbrev pub IsAddress : Bool → ℕ → Type 0
@@ -20,7 +20,7 @@ IsAddress false at = at < 4294967296
 pub record IsHeld (image : List ℕ) (names : Names) (slot : Slot) : Type 0 where
   pub bytes : List ℕ
   pub settled : settled_slot names slot ≡ Good bytes
-  pub stands : Stands image slot.place bytes
+  pub stands : StandsAt image slot.place bytes
   pub addressed : IsAddress slot.sub slot.address
 
 abbrev pub AreHeld : List ℕ → Names → List Slot → Type 0
@@ -31,5 +31,5 @@ AreHeld image names (slot ∷ more) = IsHeld image names slot × AreHeld image n
 pub record HoldsLines (source image : List ℕ) (lines : List Placed) : Type 0 where
   pub round : Round
   pub read : round_one start 1 (lines_of source) ≡ Read round
-  pub places : lines ≡ placed round.slots
+  pub places : lines ≡ places_of round.slots
   pub held : AreHeld image round.names round.slots

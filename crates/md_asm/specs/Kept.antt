@@ -8,14 +8,14 @@ use Rattle.md_asm.specs.declared.entry.Entry.{Entry}
 use Rattle.md_asm.specs.declared.pass.Pass.{Pass}
 
 -- a line comes to these bytes whatever values names have
-abbrev pub Comes : Bool → Body → ℕ → List Piece → ℕ → List ℕ → Type 0
-Comes sub body long said at bytes = (names : Names) → settled sub body long (resolved names said) at ≡ Good bytes
+abbrev pub SettlesOn : Bool → Body → ℕ → List Piece → ℕ → List ℕ → Type 0
+SettlesOn sub body long said at bytes = (names : Names) → settled sub body long (resolved names said) at ≡ Good bytes
 
 -- it ends below 400000h, has an address of its processor, and the bytes that it has are its own
 pub record IsKept (entry : Entry) : Type 0 where
   pub low : entry.place + entry.long ≤ 4194304
   pub addressed : entry.z80 ≡ true → entry.address < 65536
-  pub known : IfSome entry.bytes (λ bytes. Comes entry.z80 entry.body entry.long (pieces entry.text.now) entry.address bytes.items)
+  pub known : IfSome entry.bytes (λ bytes. SettlesOn entry.z80 entry.body entry.long (pieces entry.text.now) entry.address bytes.items)
 
 abbrev pub AreKept : List Entry → Type 0
 AreKept [] = Unit {0}

@@ -14,16 +14,16 @@ is_sub processors.Main = false
 is_sub (processors.Sub at from) = true
 
 -- the places that were written, as a test
-abbrev pub Written : Type 0
-Written = ℕ → Bool
+abbrev pub WrittenPlaces : Type 0
+WrittenPlaces = ℕ → Bool
 
 -- one of so many places from a place on was written
-abbrev pub any_written : Written → ℕ → ℕ → Bool
+abbrev pub any_written : WrittenPlaces → ℕ → ℕ → Bool
 any_written written place zero = false
 any_written written place (suc long) = written place || any_written written (place + 1) long
 
 -- these were written too
-abbrev pub with_written : Written → ℕ → ℕ → Written
+abbrev pub with_written : WrittenPlaces → ℕ → ℕ → WrittenPlaces
 with_written written place long other = written other || (nat_le place other && nat_lt other (place + long))
 
 -- the last of so many places is too large

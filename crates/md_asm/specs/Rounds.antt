@@ -8,7 +8,7 @@ use Rattle.md_asm_line.specs.declared.body.Body.{Body}
 use Rattle.md_asm_line.specs.declared.body.Body.TheVariants as bodies
 use Rattle.md_asm_code.specs.Contents.{Settled, Good, Unknown, Unfit, Far, is_unfit, settled, size}
 use Rattle.md_asm_code.specs.Numbers.{Names, resolved}
-use Rattle.md_asm.specs.Places.{Written, address, any_written, is_sub, is_too_large, put, with_written}
+use Rattle.md_asm.specs.Places.{WrittenPlaces, address, any_written, is_sub, is_too_large, put, with_written}
 use Rattle.md_asm.specs.declared.kind.Kind.{Kind}
 use Rattle.md_asm.specs.declared.kind.Kind.TheVariants as kinds
 use Rattle.md_asm.specs.declared.processor.Processor.{Processor}
@@ -29,7 +29,7 @@ pub record Round : Type 0 where
   pub place : ℕ
   pub processor : Processor
   pub names : Names
-  pub written : Written
+  pub written : WrittenPlaces
   pub slots : List Slot
   pub end : ℕ
 
@@ -156,8 +156,8 @@ abbrev pub sized_step : Round → ℕ → Line → Option ℕ → Step
 sized_step round number line None = Stop kinds.BadLine
 sized_step round number line (Some long) = unless (fault_of round line long) (behind round number line long)
 
-abbrev pub step : Round → ℕ → Line → Step
-step round number line = sized_step round number line (size (is_sub round.processor) line.body (pieces line.text))
+abbrev pub line_step : Round → ℕ → Line → Step
+line_step round number line = sized_step round number line (size (is_sub round.processor) line.body (pieces line.text))
 
 pub data Outcome : Type 0 where
   Read : Round → Outcome
@@ -170,7 +170,7 @@ go_on number (Stop kind) go = Refused number kind
 -- the lines from a number on
 unfoldable pub round_one : Round → ℕ → List (List ℕ) → Outcome
 round_one round number [] = Read round
-round_one round number (text ∷ more) = go_on number (step round number (line_of text)) (λ next. round_one next (number + 1) more)
+round_one round number (text ∷ more) = go_on number (line_step round number (line_of text)) (λ next. round_one next (number + 1) more)
 
 -- ---- round two
 
@@ -189,8 +189,8 @@ put_settled memory place Unfit = Hit kinds.DoesNotFit
 put_settled memory place Far = Hit kinds.Far
 
 -- a memory with a line's bytes at its place
-abbrev pub patched : Names → List ℕ → Slot → Patched
-patched names memory slot = put_settled memory slot.place (settled_slot names slot)
+abbrev pub with_slot : Names → List ℕ → Slot → Patched
+with_slot names memory slot = put_settled memory slot.place (settled_slot names slot)
 
 pub data Filled : Type 0 where
   Whole : List ℕ → Filled
@@ -203,4 +203,4 @@ fill_on number (Hit kind) go = Faulty number kind
 -- a memory with the bytes of all lines
 unfoldable pub round_two : Names → List ℕ → List Slot → Filled
 round_two names memory [] = Whole memory
-round_two names memory (slot ∷ more) = fill_on slot.line (patched names memory slot) (λ next. round_two names next more)
+round_two names memory (slot ∷ more) = fill_on slot.line (with_slot names memory slot) (λ next. round_two names next more)

@@ -2,7 +2,7 @@
 use Rattle.std.specs.Prelude.{ℕ, ◌≡◌, false, List, map, Option, Some, None, slice_index_or}
 use Rattle.md_asm_code.specs.Seen.{names_seen}
 use Rattle.md_asm.specs.Assembly.{Assembly, Failed, number_of}
-use Rattle.md_asm.specs.Places.{Written}
+use Rattle.md_asm.specs.Places.{WrittenPlaces}
 use Rattle.md_asm.specs.Rounds.{Faulty, Filled, Hit, On, Onto, Outcome, Patched, Refused, Round, Slot, Step, Stop}
 use Rattle.md_asm.specs.declared.assembled.Assembled.{Assembled}
 use Rattle.md_asm.specs.declared.cells.Cells.{Cells}
@@ -13,7 +13,7 @@ use Rattle.md_asm.specs.declared.kind.Kind.{Kind}
 use Rattle.md_asm.specs.declared.pass.Pass.{Pass}
 use Rattle.md_asm.specs.declared.placed.Placed.{Placed}
 
-abbrev pub cells_seen : Cells → Written
+abbrev pub cells_seen : Cells → WrittenPlaces
 cells_seen cells place = slice_index_or cells.marks.items place false
 
 abbrev pub slot_seen : Entry → Slot

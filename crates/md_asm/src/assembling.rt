@@ -108,9 +108,9 @@ fn is_instruction(body: Body) -> bool
 }
 
 /// Where the instructions stand.
-#[tactic(auto, unfolding(crate::specs::Assembly::placed))]
-fn placed(alloc: Global, entries: &[Entry<'_>]) -> Result<Vec<Placed>, NoMemory>
-    ensures { IfOk result (λ lines. lines.items ≡ meaning.placed (map slot_seen entries.now)) }
+#[tactic(auto, unfolding(crate::specs::Assembly::places_of))]
+fn places_of(alloc: Global, entries: &[Entry<'_>]) -> Result<Vec<Placed>, NoMemory>
+    ensures { IfOk result (λ lines. lines.items ≡ meaning.places_of (map slot_seen entries.now)) }
 {
     let mut lines = Vec::new(alloc);
     let mut rest = entries;
@@ -139,6 +139,6 @@ pub fn assemble(alloc: Global, source: &[u8]) -> Result<Assembled, AsmFault>
     read_lines(alloc, &mut pass, source)?;
     let mut image = written(alloc, &pass.names, pass.entries.as_slice())?;
     image.truncate(pass.end as usize);
-    let lines = placed(alloc, pass.entries.as_slice())?;
+    let lines = places_of(alloc, pass.entries.as_slice())?;
     Ok(Assembled { image, lines })
 }

@@ -68,7 +68,7 @@ pub(crate) fn patch<'a>(
 ) -> Result<Option<Kind>, NoMemory>
     requires kept { IsKept entry.now }
     requires whole { length memory.old ≡ 4194304 }
-    ensures { IfOk result (λ fault. patched_seen fault memory.new ≡ rounds.patched (names_seen names.now) memory.old (slot_seen entry.now)) }
+    ensures { IfOk result (λ fault. patched_seen fault memory.new ≡ rounds.with_slot (names_seen names.now) memory.old (slot_seen entry.now)) }
 {
     if let Some(bytes) = &entry.bytes {
         put(memory, entry.place as usize, bytes.as_slice());

@@ -4,7 +4,7 @@ ghost use Rattle.md_asm_text.specs.Shown.{shown};
 ghost use Rattle.md_asm_line.specs.Lines.{line_of};
 ghost use Rattle.md_asm_line.specs.Seen.{line_seen};
 ghost use Rattle.md_asm_code.specs.Seen.{names_seen};
-ghost use Rattle.md_asm.specs.Kept.{Comes, IsPass};
+ghost use Rattle.md_asm.specs.Kept.{SettlesOn, IsPass};
 ghost use Rattle.md_asm.specs.Places as places;
 ghost use Rattle.md_asm.specs.Rounds as rounds;
 ghost use Rattle.md_asm.specs.Seen.{round_seen, step_seen};
@@ -92,7 +92,7 @@ fn known(
     at: u32,
 ) -> Result<Option<Vec<u8>>, NoMemory>
     requires { z80 ≡ true → at < 65536 }
-    ensures { IfOk result (λ found. IfSome found (λ bytes. Comes z80 body long (map shown pieces.now) at bytes.items)) }
+    ensures { IfOk result (λ found. IfSome found (λ bytes. SettlesOn z80 body long (map shown pieces.now) at bytes.items)) }
 {
     if has_name(pieces) {
         return Ok(None);
@@ -210,7 +210,7 @@ impl<'a> Pass<'a> {
         text: &'a [u8],
     ) -> Result<Option<Kind>, NoMemory>
         requires { IsPass self.old }
-        ensures seen { IfOk result (λ fault. step_seen fault self.new ≡ rounds.step (round_seen self.old) number (line_of text.now)) }
+        ensures seen { IfOk result (λ fault. step_seen fault self.new ≡ rounds.line_step (round_seen self.old) number (line_of text.now)) }
         ensures pass { OnOk result (IsPass self.new) }
     {
         let line = read_line(alloc, text)?;

@@ -1,10 +1,10 @@
 use Rattle.std.proofs.Common.{◌∙◌, ap, map, sym}
 use Rattle.md_asm_text.specs.Shown.{shown}
 use Rattle.md_asm_code.specs.Seen.{settled_seen}
-use Rattle.md_asm.proofs.Slots.{comes}
+use Rattle.md_asm.proofs.Slots.{settles_without_names}
 use Rattle.md_asm.proofs.reading.known.Goals as goal
 
 pub returns-in-Good : goal.returns-in-Good
 returns-in-Good c =
-    comes c.args.z80 c.args.body c.args.long (map shown c.args.pieces.now) c.args.at c.in-Good.bytes.items
+    settles_without_names c.args.z80 c.args.body c.args.long (map shown c.args.pieces.now) c.args.at c.in-Good.bytes.items
     (sym c.has_name.ensures ∙ c.if-has_name.false) (sym c.in_ok-bytes.ensures ∙ ap settled_seen c.in-Good.is)
