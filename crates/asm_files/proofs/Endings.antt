@@ -1,7 +1,7 @@
 -- The ending where neither a fault nor want of memory comes between.
-use Rattle.std.proofs.Common.{◌≡◌, ◌∙◌, ◌⊎◌, inl, inr, ℕ, ◌<◌, ◌≤◌, Bool, true, false, cond, List, [], length, Option, Some, None, ap, sym, refl, arith}
-use Rattle.std.specs.Prelude.{IsSomeAnd, nat_lt}
-use Rattle.std.proofs.lemmas.Bool.Decides.{nat_tests}
+use Rattle.std.proofs.Common.{◌≡◌, ◌∙◌, ◌⊎◌, inl, inr, ℕ, ◌<◌, Bool, cond, List, [], length, Option, Some, None, ap, sym, refl}
+use Rattle.std.specs.Prelude.{IsSomeAnd}
+use Rattle.std.proofs.lemmas.Bool.{le-ltb, lt-ltb}
 use Rattle.md_outer.specs.Outside.{DepotState, Rose}
 use Rattle.md_asm.specs.Assembly as assembly
 use Rattle.md_asm.specs.Assembly.{Assembly}
@@ -10,22 +10,16 @@ use Rattle.asm_files.specs.Assemblies.{HasCause, IsFound, limit, made_ending, ri
 use Rattle.asm_files.specs.declared.comes.Comes.{Comes}
 use Rattle.asm_files.specs.declared.comes.Comes.TheVariants.{Made, Unread, TooLong, Refused, Unwritten, Unlisted, NoMemory}
 
-not_below : (most n : ℕ) → n ≤ most → nat_lt most n ≡ false
-not_below most n within = grind (arith, nat_tests)
-
-is_below : (most n : ℕ) → most < n → nat_lt most n ≡ true
-is_below most n above = grind (arith, nat_tests)
-
 found_right : (source : Option (List ℕ)) (found : Assembly) → IsFound source found → made_ending found ≡ right_ending source
 found_right None found is = absurd is
 found_right (Some bytes) found is =
     ap made_ending (sym is.1)
-    ∙ sym (ap (λ (long : Bool). cond long TooLong (made_ending (assembly.assembly bytes))) (not_below limit (length bytes) is.0))
+    ∙ sym (ap (λ (long : Bool). cond long TooLong (made_ending (assembly.assembly bytes))) (le-ltb limit (length bytes) is.0))
 
 long_right : (source : Option (List ℕ)) → IsSomeAnd source (λ bytes. limit < length bytes) → TooLong ≡ right_ending source
 long_right None long = absurd long
 long_right (Some bytes) long =
-    sym (ap (λ (too_long : Bool). cond too_long TooLong (made_ending (assembly.assembly bytes))) (is_below limit (length bytes) long))
+    sym (ap (λ (too_long : Bool). cond too_long TooLong (made_ending (assembly.assembly bytes))) (lt-ltb limit (length bytes) long))
 
 pub right : (told : Type 0) (words : Assembling) (old new : DepotState) (ending : Comes) → told
     → ¬ Rose old.read_faults new.read_faults → ¬ Rose old.write_faults new.write_faults

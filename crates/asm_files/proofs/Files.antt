@@ -24,11 +24,8 @@ cond-cond false x y z = refl
 twice : (files : Files) (name first second : List ℕ) → with_file (with_file files name first) name second ≡ with_file files name second
 twice files name first second i other = cond-cond (bytes_eq name other) (Some second) (Some first) (files other) i
 
-same_name : (name : List ℕ) → bytes_eq name name ≡ true
-same_name name = (bytes_eq-Decides name name).1 refl
-
 held : (files : Files) (name bytes : List ℕ) → bytes_of (with_file files name bytes) name ≡ bytes
-held files name bytes = rw (same_name name) refl
+held files name bytes = rw ((bytes_eq-Decides name name).1 refl) refl
 
 -- ---- two files
 
