@@ -1,27 +1,19 @@
 -- The bytes that keep a synthesis are read again.
-use Rattle.std.proofs.Common.{◌≡◌, ℕ, ◌<◌, ◌≤◌, ◌^◌, Bool, true, false, refl, arith}
+use Rattle.std.proofs.Common.{◌≡◌, ℕ, ◌<◌, ◌≤◌, true, refl, arith}
 use Rattle.std.specs.Prelude.{◌&&◌, nat_le, nat_lt}
 use Rattle.std.proofs.lemmas.Bool.{le-leb, lt-ltb, and_from}
-use Rattle.md_word.specs.Coding.{flag_number}
 use Rattle.md_fields.specs.Fields.{AllHold, AreWithin}
 use Rattle.md_fields.proofs.Items.{none_wrong}
+use Rattle.md_fields.proofs.Flags.{flag_byte, flag_small}
 use Rattle.psg_sound.specs.Synth.{IsSynth, Synth}
 use Rattle.psg_sound.specs.SynthSpelling.{SpellsSynth, is_counter, saved_synth, synth_bytes, synth_fields}
-
-flag_holds : (flag : Bool) → nat_le (flag_number flag) 1 ≡ true
-flag_holds true = refl
-flag_holds false = refl
-
-flag_byte : (flag : Bool) → flag_number flag < 2 ^ 8
-flag_byte true = omega arith
-flag_byte false = omega arith
 
 counter : (n : ℕ) → 1 ≤ n → n < 1024 → is_counter n ≡ true
 counter n low high = and_from (nat_le 1 n) (nat_lt n 1024) (le-leb 1 n low) (lt-ltb n 1024 high)
 
-rules : (s : Synth) → IsSynth s → AllHold (synth_fields (saved_synth s))
+rules_hold : (s : Synth) → IsSynth s → AllHold (synth_fields (saved_synth s))
 unfolding AllHold
-rules s ok = (
+rules_hold s ok = (
   lt-ltb s.latch 8 ok.latch,
   (
     lt-ltb s.tone1.period 1024 ok.tone1.period,
@@ -48,8 +40,8 @@ rules s ok = (
                         (
                           counter s.noise.divider.counter ok.noise.low ok.noise.high,
                           (
-                            flag_holds s.tone1.divider.bit,
-                            (flag_holds s.tone2.divider.bit, (flag_holds s.tone3.divider.bit, (flag_holds s.noise.divider.bit, (refl, tt)))),
+                            flag_small s.tone1.divider.bit,
+                            (flag_small s.tone2.divider.bit, (flag_small s.tone3.divider.bit, (flag_small s.noise.divider.bit, (refl, tt)))),
                           ),
                         ),
                       ),
@@ -114,5 +106,5 @@ within s ok = (
 pub synth_spelled : (s : Synth) → IsSynth s → SpellsSynth (synth_bytes s) s
 synth_spelled s ok = record {
   keeps = record { within = within s ok; all = refl };
-  right = none_wrong 0 (synth_fields (saved_synth s)) (rules s ok);
+  right = none_wrong 0 (synth_fields (saved_synth s)) (rules_hold s ok);
 }
