@@ -1,7 +1,6 @@
 -- All overflows below a cycle at once.
-use Rattle.std.proofs.Common.{◌≡◌, ◌∙◌, refl, sym, ap, ℕ, zero, suc, ◌+◌, ◌-◌, ◌*◌, ◌/◌, ◌%◌, ◌<◌, ◌≤◌, Bool, true, false, ◌||◌, ◌==◌, nat_lt, inl, inr, ◌⊎◌, arith}
+use Rattle.std.proofs.Common.{◌≡◌, ◌∙◌, refl, sym, ap, ℕ, zero, suc, ◌+◌, ◌-◌, ◌/◌, ◌%◌, ◌<◌, ◌≤◌, Bool, true, false, ◌||◌, ◌==◌, nat_lt, inl, inr, ◌⊎◌, arith, mod-eq_of_lt}
 use Rattle.std.proofs.lemmas.Bool.{cases_lt, lt-ltb, le-ltb, cases_Bool}
-use Rattle.std.proofs.lemmas.Nat.{div-mul-add, div-add-mod'}
 use Rattle.fm_port.specs.declared.timer.Timer.{Timer}
 use Rattle.fm_port.specs.declared.timers.Timers.{Timers}
 use Rattle.fm_port.specs.Timers.{overflowed, settled_by, settled, is_due, last_overflow, both_settled, period_a, period_b}
@@ -25,14 +24,6 @@ either_twice true b = refl
 either_twice false true = refl
 either_twice false false = refl
 
-rem-small : (x period : ℕ) → x < period → x % period ≡ x
-rem-small x period h = (let none : (0 * period + x) / period ≡ 0 = div-mul-add 0 period x h in
-    let same : 0 * period + x ≡ x = omega arith in
-    let zero_of : x / period ≡ 0 = ap (λ y. y / period) (sym same) ∙ none in
-    let split : x / period * period + x % period ≡ x = div-add-mod' x period in
-    let gone : x / period * period ≡ 0 * period = ap (λ y. y * period) zero_of in
-    omega (arith, split, gone))
-
 -- some overflows
 due_by : (n cycle period : ℕ) (enabled flag : Bool) (next : ℕ) → 0 < period → next < cycle → cycle ≤ next + n
     → settled_by n cycle period enabled (record { run = true; next = next; flag = flag })
@@ -47,7 +38,7 @@ due_by (suc n) cycle period enabled flag next p h f =
           due_by n cycle period enabled (flag || enabled) (next + period) p more (omega (arith, f, p))
           ∙ (λ i. record { run = true; next = cycle - 1 - rest i + period; flag = either_twice flag enabled i }))
       | inr last ↦ (let no : nat_lt (next + period) cycle ≡ false = le-ltb (next + period) cycle last in
-          let whole : (cycle - 1 - next) % period ≡ cycle - 1 - next = rem-small (cycle - 1 - next) period (omega (arith, last, h)) in
+          let whole : (cycle - 1 - next) % period ≡ cycle - 1 - next = mod-eq_of_lt (omega (arith, last, h)) in
           let number : next + period ≡ cycle - 1 - (cycle - 1 - next) % period + period = omega (arith, whole, h) in
           none_by n cycle period enabled (record { run = true; next = next + period; flag = flag || enabled }) no
           ∙ (λ i. record { run = true; next = number i; flag = flag || enabled }))
@@ -76,7 +67,7 @@ step cycle period enabled flag next p h = elim (cases_lt (next + period) cycle) 
       due_by cycle cycle period enabled (flag || enabled) (next + period) p more (omega arith)
       ∙ (λ i. record { run = true; next = cycle - 1 - rest i + period; flag = either_twice flag enabled i }))
   | inr last ↦ (let no : nat_lt (next + period) cycle ≡ false = le-ltb (next + period) cycle last in
-      let whole : (cycle - 1 - next) % period ≡ cycle - 1 - next = rem-small (cycle - 1 - next) period (omega (arith, last, h)) in
+      let whole : (cycle - 1 - next) % period ≡ cycle - 1 - next = mod-eq_of_lt (omega (arith, last, h)) in
       let number : next + period ≡ cycle - 1 - (cycle - 1 - next) % period + period = omega (arith, whole, h) in
       none_by cycle cycle period enabled (record { run = true; next = next + period; flag = flag || enabled }) no
       ∙ (λ i. record { run = true; next = number i; flag = flag || enabled }))

@@ -14,7 +14,7 @@ use Rattle.md_fields.specs.Fields.{AreWithin, AllHold, Field, first_wrong, sizes
 use Rattle.md_fields.specs.Items.{IsRight, Keeps}
 use Rattle.md_fields.specs.Padding.{are_zeros, padded}
 use Rattle.md_fields.specs.Places.{IsBytes, Stand, number_at}
-use Rattle.md_fields.proofs.Flags.{flag_again, flag_back}
+use Rattle.md_fields.proofs.Flags.{flag_again, flag_back, flag_small}
 use Rattle.md_fields.proofs.Items.{none_wrong, all_hold, kept, not_both, one_place, same}
 use Rattle.md_fields.proofs.Padding.{padded_back, padded_length, padded_zeros}
 use Rattle.md_fields.proofs.Standing.{IsBytes-drop, IsBytes-take}
@@ -430,16 +430,12 @@ port_within at p n is h0 h1 h2 h3 h4 h5 h7 h9 =
     (subst (λ (k : Numbers). k.run_a ≤ 1) (sym is) (flag_few p.timers.a.run)) (subst (λ (k : Numbers). k.run_b ≤ 1) (sym is) (flag_few p.timers.b.run))
     (subst (λ (k : Numbers). k.flag_a ≤ 1) (sym is) (flag_few p.timers.a.flag)) (subst (λ (k : Numbers). k.flag_b ≤ 1) (sym is) (flag_few p.timers.b.flag)))
 
-flag_right : (b : Bool) → nat_le (flag_number b) 1 ≡ true
-flag_right true = refl
-flag_right false = refl
-
 numbers_right : (at : ℕ) (p : Port) → are_timed at p.timers ≡ true → first_wrong 0 (number_fields at (saved_numbers p)) ≡ None
 unfolding AllHold
 numbers_right at p timed =
     let parts = and_parts _ _ timed in
     none_wrong 0 (number_fields at (saved_numbers p))
-    (refl, (refl, (refl, (refl, (refl, (refl, (parts.0, (refl, (parts.1, (refl, (flag_right p.timers.a.flag, (flag_right p.timers.b.flag, tt))))))))))))
+    (refl, (refl, (refl, (refl, (refl, (refl, (parts.0, (refl, (parts.1, (refl, (flag_small p.timers.a.flag, (flag_small p.timers.b.flag, tt))))))))))))
 
 keeps_own : (at : ℕ) (p : Port) → length p.writes ≤ 1024 → AreWithin (number_fields at (saved_numbers p)) → Keeps (port_fields at) (port_bytes p) (saved_port p)
 unfolding AreWithin spelling

@@ -1,7 +1,7 @@
 -- Timers that stand right are right for a saved state once they are settled.
 use Rattle.std.proofs.Common.{◌≡◌, ℕ, ◌+◌, ◌-◌, ◌/◌, ◌%◌, ◌<◌, ◌≤◌, Bool, true, false, eqb, inl, inr, refl, sym, ◌∙◌, subst, arith}
 use Rattle.std.specs.Prelude.{◌&&◌, nat_lt}
-use Rattle.std.proofs.lemmas.Bool.{and_from, cases_Bool, false≢true}
+use Rattle.std.proofs.lemmas.Bool.{and_from, cases_Bool, false≢true, and_parts, ltb-true}
 use Rattle.std.proofs.Math.Nat.{mod-le}
 use Rattle.std.proofs.lemmas.Nat.{mod_below}
 use Rattle.md_word.specs.Coding.{flag_number}
@@ -24,10 +24,6 @@ idle_late : (at next : ℕ) (run : Bool) → run ≡ true → (run && nat_lt nex
 idle_late at next true runs idle = not_due at next idle
 idle_late at next false runs idle = absurd (false≢true runs)
 
-due_parts : (at next : ℕ) (run : Bool) → (run && nat_lt next at) ≡ true → (run ≡ true) × (next < at)
-due_parts at next true due = (refl, grind (arith, due))
-due_parts at next false due = absurd (false≢true due)
-
 -- the first overflow from a cycle on is less than a period behind it
 near_by : (at next period rest : ℕ) → rest < period → next < at → rest ≤ at - 1 - next → (at ≤ at - 1 - rest + period) × (at - 1 - rest + period < at + period)
 near_by at next period rest small below part = (omega (arith, small, below, part), omega (arith, small, below, part))
@@ -39,9 +35,9 @@ near at next period some below = near_by at next period ((at - 1 - next) % perio
 settled_timed : (at longest bit period : ℕ) (enabled : Bool) (t : Timer) → 0 < period → period ≤ longest → IsTimed at longest bit t
     → let u = settled at period enabled t in is_timer at longest bit (flag_number u.run) u.next ≡ true
 settled_timed at longest bit period enabled t some most is = elim (cases_Bool (is_due at t)) [
-  | inl due ↦ (let parts = due_parts at t.next t.run due in
+  | inl due ↦ (let parts = and_parts t.run (nat_lt t.next at) due in
       let next : ℕ = last_overflow t.next at period + period in
-      let now = near at t.next period some parts.1 in
+      let now = near at t.next period some (ltb-true t.next at parts.1) in
       subst (λ (u : Timer). is_timer at longest bit (flag_number u.run) u.next ≡ true) (settled_due at period enabled t next some due refl)
       (timed_of t.run at longest bit next is.run (λ runs. (now.0, omega (arith, now.1, most))) (λ stands. absurd (false≢true (sym stands ∙ parts.0)))))
   | inr idle ↦ subst (λ (u : Timer). is_timer at longest bit (flag_number u.run) u.next ≡ true) (settled_none at period enabled t idle)
