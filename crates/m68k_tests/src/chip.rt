@@ -1,12 +1,9 @@
 // The 68000 as a chip: the places of its events, as the clocks of the M68000 User's Manual, section
 // 8, and this project's profile give them, at 7 master cycles a clock.
-ghost use Rattle.std.specs.Prelude.{◌≡◌, ◌^◌, ◌<◌, false};
-ghost use Rattle.m68k_chip.specs.Events.{request_of};
-ghost use Rattle.m68k_chip.specs.Validity.{Fits};
-ghost use Rattle.m68k_chip.specs.States.{next_of};
-
+use crate::kept::take;
+use crate::spelling::powered_on;
 use m68k_chip::Chip68;
-use md_word::{Answer68, Pins68, Request68};
+use md_word::{Pins68, Request68};
 use rom_header::Cart;
 use std::alloc::Global;
 use std::sync::Arc;
@@ -32,7 +29,7 @@ fn with_program(alloc: Global, stack: u32, pc: u32, program: &[u16]) -> Result<C
     }
     let cart = Cart::accept(alloc, image.to_vec(alloc)?)?;
     let cart = Arc::new(alloc, cart)?;
-    Chip68::power_on(alloc, cart).map_err(|_| Fail::from("no memory"))
+    powered_on(alloc, cart)
 }
 
 fn pins(level: u8) -> Pins68 {
@@ -40,21 +37,6 @@ fn pins(level: u8) -> Pins68 {
         4 => Pins68 { level: 4 },
         6 => Pins68 { level: 6 },
         _ => Pins68 { level: 0 },
-    }
-}
-
-/// What an access is answered: 0, and the cost of the next word while nothing is drawn.
-fn answer_to(request: &Request68) -> Answer68
-    ensures { Fits request.now result }
-{
-    let cost = match request {
-        Request68::Word(_) => 34,
-        _ => 0,
-    };
-    Answer68 {
-        value: 0,
-        transfer: None,
-        cost,
     }
 }
 
@@ -67,26 +49,13 @@ fn carries_out(chip: &mut Chip68, event: &Event) -> bool {
         return false;
     }
     match request {
-        Some(request) => !next.sample && takes(chip, request),
+        Some(request) => take(chip) == Some(request),
         None if next.sample => {
             chip.sample(pins(level));
             true
         }
         None => false,
     }
-}
-
-/// Answers the access that is next, where it is this one.
-fn takes(chip: &mut Chip68, request: Request68) -> bool
-    requires access { (next_of chip.old.state).sample ≡ false }
-    requires far { chip.old.state.next < 2 ^ 50 }
-{
-    let asked = chip.request();
-    if asked != request {
-        return false;
-    }
-    chip.answer(answer_to(&asked));
-    true
 }
 
 /// Carries out a list of events, and tells the first that is not next.

@@ -1,7 +1,7 @@
 // A 68000 that is kept between the two reads of a long, and goes on.
 ghost use Rattle.m68k_chip.specs.Validity.{Fits};
 
-use crate::spelling::{cartridge, kept, spelled};
+use crate::spelling::{cartridge, kept, powered_on, spelled};
 use m68k_chip::Chip68;
 use md_word::{Answer68, Pins68, Request68};
 use std::alloc::Global;
@@ -26,7 +26,7 @@ fn answer_to(request: &Request68) -> Answer68
 
 /// Answers the access that is next, and tells its request.
 #[tactic(auto, unfolding(m68k_chip::specs::States::next_of))]
-fn take(chip: &mut Chip68) -> Option<Request68> {
+pub fn take(chip: &mut Chip68) -> Option<Request68> {
     let next = chip.next();
     if next.sample || next.key.cycle >= 1 << 50 {
         return None;
@@ -49,8 +49,7 @@ fn begins(chip: &mut Chip68) -> bool {
 
 /// MOVE.L C00000h,D0 behind its first read.
 fn behind_one_read(alloc: Global) -> Result<Chip68, Fail> {
-    let chip = Chip68::power_on(alloc, cartridge(alloc)?);
-    let mut chip = chip.map_err(|_| Fail::from("no memory"))?;
+    let mut chip = powered_on(alloc, cartridge(alloc)?)?;
     if begins(&mut chip) && take(&mut chip) == Some(Request68::Read16(0xc0_0000)) {
         Ok(chip)
     } else {

@@ -39,10 +39,12 @@ pub fn cartridge(alloc: Global) -> Result<Arc<Cart>, Fail> {
     Ok(Arc::new(alloc, cart)?)
 }
 
-/// Puts bytes at a place.
+/// Puts bytes at a place, where all have room.
 fn put(bytes: &mut [u8], place: usize, values: &[u8]) {
-    for (byte, value) in bytes.iter_mut().skip(place).zip(values) {
-        *byte = *value;
+    if let Some(rest) = bytes.get_mut(place..)
+        && let Some(part) = rest.get_mut(..values.len())
+    {
+        part.copy_from_slice(values);
     }
 }
 
@@ -75,6 +77,11 @@ fn at_access(alloc: Global, instruction: &[u8], answers: &[u8]) -> Result<Vec<u8
     put(&mut bytes, 103, &[count]);
     put(&mut bytes, 104, answers);
     Ok(bytes)
+}
+
+/// The 68000 at power-on, with a cartridge.
+pub fn powered_on(alloc: Global, cart: Arc<Cart>) -> Result<Chip68, Fail> {
+    Chip68::power_on(alloc, cart).map_err(|_| Fail::from("no memory"))
 }
 
 /// The 68000 that the bytes keep.
