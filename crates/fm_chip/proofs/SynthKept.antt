@@ -1,14 +1,14 @@
 -- The bytes that keep a synthesis are read again.
-use Rattle.std.proofs.Common.{◌≡◌, ℕ, ◌-◌, ◌<◌, ◌≤◌, ◌^◌, Bool, true, false, List, [], ◌++◌, length, ℤ, pos, negsuc, refl, arith}
+use Rattle.std.proofs.Common.{◌≡◌, ℕ, ◌-◌, ◌<◌, ◌≤◌, ◌^◌, true, false, List, [], ◌++◌, length, ℤ, pos, negsuc, refl, arith}
 use Rattle.std.specs.Prelude.{All, nat_le, nat_lt, slice_index_or}
 use Rattle.std.proofs.lemmas.Int.{ints}
 use Rattle.std.proofs.lemmas.Bool.{le-leb, lt-ltb, le-ltb, and_from}
 use Rattle.std.proofs.lemmas.List.Elements.{All-get_or}
-use Rattle.md_word.specs.Coding.{flag_number}
 use Rattle.fm_env.specs.declared.state.EnvelopeState.{EnvelopeState}
 use Rattle.fm_env.specs.declared.state.EnvelopeState.TheVariants.{Attack, Decay, Sustain, Release}
 use Rattle.md_fields.specs.Fields.{AllHold, AreWithin, Field}
 use Rattle.md_fields.proofs.Items.{none_wrong}
+use Rattle.md_fields.proofs.Flags.{flag_byte, flag_small}
 use Rattle.fm_voice.specs.Channel.{IsLevel}
 use Rattle.fm_chip.specs.Channels.{IsChannel, blank, channel_at}
 use Rattle.fm_chip.specs.Operators.{IsOperator}
@@ -18,16 +18,8 @@ use Rattle.fm_chip.specs.declared.channels.Channel.{Channel}
 use Rattle.fm_chip.specs.declared.operator.Operator.{Operator}
 
 -- the rules of fields hold, and their values fit their bytes
-abbrev Ready : List Field → Type 0
-Ready fields = AllHold fields × AreWithin fields
-
-flag_holds : (flag : Bool) → nat_le (flag_number flag) 1 ≡ true
-flag_holds true = refl
-flag_holds false = refl
-
-flag_byte : (flag : Bool) → flag_number flag < 2 ^ 8
-flag_byte true = omega arith
-flag_byte false = omega arith
+abbrev AreReady : List Field → Type 0
+AreReady fields = AllHold fields × AreWithin fields
 
 -- a state has a number up to 3
 state_few : (state : EnvelopeState) → state_number state ≤ 3
@@ -36,14 +28,14 @@ state_few Decay = omega arith
 state_few Sustain = omega arith
 state_few Release = omega arith
 
-operator_ready : (o : Operator) (rest : List Field) → IsOperator o → Ready rest → Ready (operator_before (saved_operator o) rest)
+operator_ready : (o : Operator) (rest : List Field) → IsOperator o → AreReady rest → AreReady (operator_before (saved_operator o) rest)
 unfolding AllHold AreWithin
 operator_ready o rest ok ready = (
-  (lt-ltb o.phase 0x10_0000 ok.phase, (le-leb o.v 1023 ok.v, (le-leb (state_number o.state) 3 (state_few o.state), (flag_holds o.on, ready.0)))),
+  (lt-ltb o.phase 0x10_0000 ok.phase, (le-leb o.v 1023 ok.v, (le-leb (state_number o.state) 3 (state_few o.state), (flag_small o.on, ready.0)))),
   (omega (arith, ok.phase), (omega (arith, ok.v), (omega (arith, state_few o.state), (flag_byte o.on, ready.1)))),
 )
 
-channel_ready : (ch : Channel) (rest : List Field) → IsChannel ch → Ready rest → Ready (four_fields (saved_four ch) ++ rest)
+channel_ready : (ch : Channel) (rest : List Field) → IsChannel ch → AreReady rest → AreReady (four_fields (saved_four ch) ++ rest)
 channel_ready ch rest ok ready =
     let r3 = operator_before (saved_operator ch.four) rest in
     let r2 = operator_before (saved_operator ch.three) r3 in
@@ -67,7 +59,7 @@ output_holds (negsuc n) h =
     let above : nat_le 0xe000 (0xffff - n) ≡ true = le-leb 0xe000 (0xffff - n) (omega (arith, few)) in
     rw high above
 
-last_ready : (last : List ℤ) (rest : List Field) → All IsLevel last → length last ≡ 2 → Ready rest → Ready (last_before (saved_last last) rest)
+last_ready : (last : List ℤ) (rest : List Field) → All IsLevel last → length last ≡ 2 → AreReady rest → AreReady (last_before (saved_last last) rest)
 unfolding AllHold AreWithin
 last_ready last rest levels two ready =
     let older : IsLevel (slice_index_or last 0 (pos 0)) = All-get_or IsLevel last 0 (pos 0) (omega (arith, two)) levels in
@@ -81,11 +73,11 @@ last_ready last rest levels two ready =
 channel_ok : (s : Synth) (c : ℕ) → IsSynth s → c < 6 → IsChannel (channel_at s.channels c)
 channel_ok s c ok below = All-get_or IsChannel s.channels c blank (omega (arith, below, ok.six)) ok.channels
 
-none_ready : Ready []
+none_ready : AreReady []
 unfolding AllHold AreWithin
 none_ready = (tt, tt)
 
-lasts_ready : (s : Synth) → IsSynth s → Ready (last_fields (saved_synth s))
+lasts_ready : (s : Synth) → IsSynth s → AreReady (last_fields (saved_synth s))
 lasts_ready s ok =
     let saved = saved_synth s in
     let c0 = channel_ok s 0 ok (omega arith) in
@@ -106,7 +98,7 @@ lasts_ready s ok =
     (last_ready _ r5 c4.last c4.pair
     (last_ready _ [] c5.last c5.pair none_ready)))))
 
-channels_ready : (s : Synth) → IsSynth s → Ready (fields1 (saved_synth s))
+channels_ready : (s : Synth) → IsSynth s → AreReady (fields1 (saved_synth s))
 channels_ready s ok =
     let saved = saved_synth s in
     channel_ready _ (fields2 saved) (channel_ok s 0 ok (omega arith))
@@ -116,14 +108,14 @@ channels_ready s ok =
     (channel_ready _ (fields6 saved) (channel_ok s 4 ok (omega arith))
     (channel_ready _ (last_fields saved) (channel_ok s 5 ok (omega arith)) (lasts_ready s ok))))))
 
-head_ready : (s : Synth) (rest : List Field) → IsSynth s → Ready rest → Ready (head_fields (saved_synth s) ++ rest)
+head_ready : (s : Synth) (rest : List Field) → IsSynth s → AreReady rest → AreReady (head_fields (saved_synth s) ++ rest)
 unfolding AllHold AreWithin
 head_ready s rest ok ready = (
   (refl, (refl, (lt-ltb s.lfo.t 128 ok.t, (lt-ltb s.lfo.count 108 ok.count, (lt-ltb s.counter 4096 ok.counter, ready.0))))),
   (ok.registers, (ok.latches, (omega (arith, ok.t), (omega (arith, ok.count), (omega (arith, ok.counter), ready.1))))),
 )
 
-synth_ready : (s : Synth) → IsSynth s → Ready (synth_fields (saved_synth s))
+synth_ready : (s : Synth) → IsSynth s → AreReady (synth_fields (saved_synth s))
 unfolding synth_fields
 synth_ready s ok = head_ready s (fields1 (saved_synth s)) ok (channels_ready s ok)
 
