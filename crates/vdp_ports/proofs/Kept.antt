@@ -13,7 +13,7 @@ length-some : (s : Vdp) → 0 < length_of s
 unfolding length_of
 length-some s = omega arith
 
-length-most : (s : Vdp) → length_of s ≤ 0x1_0000
+pub length-most : (s : Vdp) → length_of s ≤ 0x1_0000
 unfolding length_of
 length-most s = omega arith
 

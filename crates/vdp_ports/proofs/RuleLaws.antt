@@ -11,6 +11,7 @@ use Rattle.md_fields.specs.Items.{IsRight}
 use Rattle.md_fields.proofs.Items.{all_hold, none_wrong}
 use Rattle.md_word.specs.Clock.{line}
 use Rattle.md_word.specs.Coding.{flag_number}
+pub use Rattle.md_fields.proofs.Flags.{flag_byte, flag_small}
 use Rattle.vdp_ports.specs.Numbers.{numbers_of}
 use Rattle.vdp_ports.specs.Ranges.{IsInRange}
 use Rattle.vdp_ports.specs.Rules.{IsGoing, IsInterval}
@@ -136,10 +137,6 @@ interval_to at from to (inr some) =
     (and_from _ _ (lt-ltb from at some.1)
     (and_from _ _ (le-leb from to (omega (arith, some.2))) (eq-eqb (to - from) line (omega (arith, some.2))))))
 
-pub flag_small : (flag : Bool) → leb (flag_number flag) 1 ≡ true
-flag_small true = refl
-flag_small false = refl
-
 -- ---- the height of the display
 
 region_from : (tall pal : Bool) → leb (flag_number tall) (flag_number pal) ≡ true → tall ≡ true → pal ≡ true
@@ -243,10 +240,6 @@ right_to at s is =
     )
 
 -- ---- what is spelled is read again
-
-pub flag_byte : (flag : Bool) → flag_number flag < 2 ^ 8
-flag_byte true = omega arith
-flag_byte false = omega arith
 
 are_words : (ws : List ℕ) → ((k : ℕ) → slice_index ws k < 2 ^ 16) → AllByRecursion (λ n. n < 2 ^ 16) ws
 are_words ws h = recursion_from_All (λ n. n < 2 ^ 16) ws (All-from_get_or (λ n. n < 2 ^ 16) ws 0 (λ k lt. h k))
