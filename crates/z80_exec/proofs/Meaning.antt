@@ -98,9 +98,9 @@ both value regs memory before h k =
     ∙ ap (λ (ram : List ℕ). slice_set ram (ram_place (down (down regs.sp))) (parts.low value)) (ram_then memory.ram before.writes (down regs.sp) (parts.high value) h)
 
 -- it is popped again
-popped : (regs : Regs80) (at : ℕ) (memory : Memory) (done : Done) (low high : ℕ) → IsTrue (is_ram at) → IsTrue (is_ram (next at)) → slice_index (ram_after memory.ram done.writes) (ram_place at) ≡ low → slice_index (ram_after memory.ram done.writes) (ram_place (next at)) ≡ high → operands.pop (record regs { sp = at }) memory done ≡ Ok (record { value = word low high; regs = record regs { sp = (at + 2) % 0x1_0000 } }, done)
+popped_again : (regs : Regs80) (at : ℕ) (memory : Memory) (done : Done) (low high : ℕ) → IsTrue (is_ram at) → IsTrue (is_ram (next at)) → slice_index (ram_after memory.ram done.writes) (ram_place at) ≡ low → slice_index (ram_after memory.ram done.writes) (ram_place (next at)) ≡ high → operands.pop (record regs { sp = at }) memory done ≡ Ok (record { value = word low high; regs = record regs { sp = (at + 2) % 0x1_0000 } }, done)
 unfolding operands.pop actions.read_word
-popped regs at memory done low high h k lower upper =
+popped_again regs at memory done low high h k lower upper =
     rw (ram_read at memory done h, ram_read (next at) memory done k, lower, upper) refl
 
 back : (value : ℕ) (regs other : Regs80) (memory : Memory) (before : Done) → value < 2 ^ 16 → regs.sp < 2 ^ 16 → IsTrue (is_ram (down regs.sp)) → IsTrue (is_ram (down (down regs.sp))) → length memory.ram ≡ 0x2000 → operands.pop (record other { sp = down (down regs.sp) }) memory (two_of value regs before) ≡ Ok (record { value = value; regs = record other { sp = regs.sp } }, two_of value regs before)
@@ -116,7 +116,7 @@ back value regs other memory before fits pointer h k long =
     let above : IsTrue (is_ram (next (down (down regs.sp)))) = rw upper h in
     let whole : word (parts.low value) (parts.high value) ≡ value = omega arith in
     let pointed : (down (down regs.sp) + 2) % 0x1_0000 ≡ regs.sp = omega arith in
-    let last = popped other (down (down regs.sp)) memory (two_of value regs before) (parts.low value) (parts.high value) k above low high in
+    let last = popped_again other (down (down regs.sp)) memory (two_of value regs before) (parts.low value) (parts.high value) k above low high in
     rw last (rw (whole, pointed) refl)
 
 pub again : PopsWhatWasPushed

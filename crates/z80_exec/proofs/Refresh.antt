@@ -1,7 +1,7 @@
 -- Only LD R,A changes R: each other instruction leaves it as its fetch did.
-use Rattle.std.proofs.Common.{◌≡◌, ◌⊎◌, ℕ, ◌+◌, ◌/◌, ◌%◌, ◌==◌, ◌∙◌, Bool, true, false, Option, Some, None, Result, Ok, Err, refl, subst, arith, slice_index}
+use Rattle.std.proofs.Common.{◌≡◌, ◌⊎◌, ℕ, ◌+◌, ◌/◌, ◌%◌, ◌==◌, ◌∙◌, Bool, true, false, Option, Some, None, Result, Ok, Err, refl, subst, slice_index}
 use Rattle.std.specs.Prelude.{◌≢◌, if◌then◌else◌}
-use Rattle.std.proofs.lemmas.Bool.Decides.{nat_tests}
+use Rattle.std.proofs.lemmas.Bool.{ne_eqb}
 use Rattle.md_word.specs.declared.bit.Bit.{Bit}
 use Rattle.md_word.specs.declared.sub_bus.Request80.{Request80}
 use Rattle.md_word.specs.declared.task80.Task80.{Task80}
@@ -400,12 +400,9 @@ after_instruction regs memory ended e other =
     let r : ended.regs.r ≡ (fetched found first regs).r = subst (EndsWith (fetched found first regs).r) e (instruction found first regs memory other) in
     rw r (high found first regs, low found first regs)
 
-positive : (cause : ℕ) → cause ≢ 0 → (cause == 0) ≡ false
-positive cause h = grind (arith, nat_tests)
-
 pub after_interrupt : (cause : ℕ) (regs : Regs80) (memory : Memory) (ended : Ended) → cause ≢ 0 → samples.sampled cause regs memory ≡ Ok ended → ended.regs.r ≡ regs.r
 unfolding samples.sampled
 after_interrupt cause regs memory ended other e =
-    let test = positive cause other in
+    let test = ne_eqb cause 0 other in
     let came : samples.interrupt regs memory ≡ Ok ended = rw test at e in
     subst (EndsWith regs.r) came (interrupt regs memory)

@@ -128,18 +128,18 @@ used_in (Ok x) = x.1.used
 used_in (Err request) = 0
 
 -- a call and a return are taken
-ends : {A : Type 0} (act : Act A) (f : A → Outcome) → ((a : A) → (f a).taken ≡ true) → (memory : Memory) (x : Outcome) (after : Done) (first : Result (A × Done) Request80) → go_on first (λ a mid. actions.give (f a) memory mid) ≡ Ok (x, after) → x.taken ≡ true
+ends_taken : {A : Type 0} (act : Act A) (f : A → Outcome) → ((a : A) → (f a).taken ≡ true) → (memory : Memory) (x : Outcome) (after : Done) (first : Result (A × Done) Request80) → go_on first (λ a mid. actions.give (f a) memory mid) ≡ Ok (x, after) → x.taken ≡ true
 unfolding outcome_in
-ends act f h memory x after (Ok p) e = let is : f p.0 ≡ x = ap (outcome_in x) e in subst (λ (o : Outcome). o.taken ≡ true) is (h p.0)
-ends act f h memory x after (Err stop) e = absurd (cc)
+ends_taken act f h memory x after (Ok p) e = let is : f p.0 ≡ x = ap (outcome_in x) e in subst (λ (o : Outcome). o.taken ≡ true) is (h p.0)
+ends_taken act f h memory x after (Err stop) e = absurd (cc)
 
 call_taken : (target : ℕ) (regs : Regs80) (memory : Memory) (before : Done) (x : Outcome) (after : Done) → calls.call target regs memory before ≡ Ok (x, after) → x.taken ≡ true
 unfolding calls.call
-call_taken target regs memory before x after e = ends (push regs.pc regs) _ (λ a. refl) memory x after (push regs.pc regs memory before) e
+call_taken target regs memory before x after e = ends_taken (push regs.pc regs) _ (λ a. refl) memory x after (push regs.pc regs memory before) e
 
 return_taken : (regs : Regs80) (memory : Memory) (before : Done) (x : Outcome) (after : Done) → calls.return_from regs memory before ≡ Ok (x, after) → x.taken ≡ true
 unfolding calls.return_from
-return_taken regs memory before x after e = ends (pop regs) _ (λ a. refl) memory x after (pop regs memory before) e
+return_taken regs memory before x after e = ends_taken (pop regs) _ (λ a. refl) memory x after (pop regs memory before) e
 
 -- where a condition holds the longer time covers two accesses, and else none is made
 chosen : (op : Op80) (test : Bool) (act : Act Outcome) (other : Outcome) → Sound 2 act → ((memory : Memory) (before : Done) (x : Outcome) (after : Done) → act memory before ≡ Ok (x, after) → x.taken ≡ true) → 10 ≤ time_of op true → 4 ≤ time_of op other.taken → Covers op (λ memory done. if test then act memory done else actions.give other memory done)
