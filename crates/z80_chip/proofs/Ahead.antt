@@ -16,7 +16,7 @@ pub sampling : (state : State80) → (next_of state).sample ≡ true → state.s
 unfolding next_of
 sampling state e = at-sample state.stage e
 
-last_or : (k n : ℕ) → k < suc n → (k < n) ⊎ (k ≡ n)
+pub last_or : (k n : ℕ) → k < suc n → (k < n) ⊎ (k ≡ n)
 last_or k n h = grind arith
 
 -- and one more sample, which lies below the cycle

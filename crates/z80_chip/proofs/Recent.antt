@@ -1,5 +1,5 @@
 -- The rules of the Z80 hold at power-on, and each of its events keeps them.
-use Rattle.std.proofs.Common.{◌≡◌, ℕ, zero, suc, ◌+◌, ◌<◌, ◌≤◌, ◌⊎◌, inl, inr, Bool, true, false, List, [], ◌∷◌, ◌++◌, length, take, is_some, Result, Ok, Err, refl, sym, ap, subst, ◌∙◌, length-append, arith, if◌then◌else◌}
+use Rattle.std.proofs.Common.{◌≡◌, ℕ, zero, suc, ◌+◌, ◌<◌, ◌≤◌, inl, inr, Bool, true, false, List, [], ◌∷◌, ◌++◌, length, take, is_some, Result, Ok, Err, refl, sym, ap, subst, ◌∙◌, length-append, arith, if◌then◌else◌}
 use Rattle.std.specs.Prelude.{slice_index}
 use Rattle.std.proofs.lemmas.List.{get_or_append_left}
 use Rattle.md_word.specs.declared.pins.Pins80.{Pins80}
@@ -20,6 +20,7 @@ use Rattle.z80_chip.specs.declared.stage.Stage.{Stage}
 use Rattle.z80_chip.specs.declared.stage.Stage.TheVariants.{Sample, Access, Yield, Take}
 use Rattle.z80_chip.proofs.Laws.{AtSample, sampling, seen-at, seen-stays}
 use Rattle.z80_chip.proofs.SavedLaws.{whole}
+use Rattle.z80_chip.proofs.Ahead.{last_or}
 
 -- where there are no answers
 none_below : (answers : List ℕ) (k : ℕ) → answers ≡ [] → k < length answers → ⊥
@@ -126,9 +127,6 @@ is_answered (requests.Write at value) (Returned store) fits = absurd fits
 is_answered (requests.Yield parcel) answer fits = refl
 is_answered requests.Take answer fits = refl
 
-place : (k n : ℕ) → k < n + 1 → (k < n) ⊎ (k ≡ n)
-place k n h = grind arith
-
 first_of : (l : List ℕ) (x k : ℕ) → k ≤ length l → take k (l ++ x ∷ []) ≡ take k l
 first_of l x zero h = refl
 first_of [] x (suc k) h = absurd (omega (arith, h))
@@ -143,7 +141,7 @@ fit_more : (cart : List ℕ) (state : State80) (answer : AnswerValue80) → IsAs
 fit_more cart state answer is fits fit k less =
     let value : ℕ = value_in answer in
     let counted = length-append state.answers (value ∷ []) in
-    elim (place k (length state.answers) (omega (arith, counted, less))) [
+    elim (last_or k (length state.answers) (omega (arith, counted, less))) [
       | inl early ↦
           subst (λ (l : List ℕ). is_answer (need_of (carried_out cart (record state { answers = l }) state.cause)) (slice_index (state.answers ++ value ∷ []) k) ≡ true)
           (sym (first_of state.answers value k (omega (arith, early))))

@@ -1,5 +1,5 @@
 -- What a Z80 spells is read again, where its rules hold; and what is read has them.
-use Rattle.std.proofs.Common.{◌≡◌, ℕ, zero, suc, ◌+◌, ◌-◌, ◌*◌, ◌^◌, ◌<◌, ◌≤◌, Bool, true, false, not, cond, eqb, leb, ltb, List, length, slice_index, Option, Some, None, is_some, IfSome, Result, Err, refl, sym, ap, subst, ◌∙◌, arith, ◌⊎◌, inl, inr}
+use Rattle.std.proofs.Common.{◌≡◌, ℕ, zero, suc, ◌+◌, ◌-◌, ◌*◌, ◌^◌, ◌<◌, ◌≤◌, Bool, true, false, not, cond, eqb, leb, ltb, List, length, slice_index, Option, Some, None, is_some, IfSome, Result, Err, refl, sym, ap, subst, ◌∙◌, arith, inl, inr}
 use Rattle.std.specs.Prelude.{◌&&◌, ◌||◌}
 use Rattle.std.proofs.lemmas.Bool.{and_parts, eq-eqb, eqb-true, le-leb, leb-true, lt-ltb, ltb-true, and_from, or_left, or_right, not-true}
 use Rattle.md_fields.specs.Distances.{is_after}
@@ -7,9 +7,9 @@ use Rattle.md_fields.specs.Fields.{AllHold, AreWithin, spelling}
 use Rattle.md_fields.specs.Items.{IsRight}
 use Rattle.md_fields.proofs.Items.{none_wrong}
 use Rattle.md_fields.proofs.Padding.{padded_length, padded_zeros}
-use Rattle.md_word.specs.Coding.{flag_number}
 use Rattle.md_word.specs.declared.sub_bus.Request80.{Request80}
 use Rattle.md_word.specs.declared.sub_bus.Request80.TheVariants as requests
+use Rattle.md_fields.proofs.Flags.{flag_byte, flag_small}
 use Rattle.z80_decode.specs.declared.interrupt_mode.InterruptMode.{InterruptMode}
 use Rattle.z80_decode.specs.declared.interrupt_mode.InterruptMode.TheVariants.{Mode0, Mode1, Mode2}
 use Rattle.z80_exec.specs.Sample.Samples.{Ended}
@@ -27,6 +27,7 @@ use Rattle.z80_chip.specs.declared.stage.Stage.{Stage}
 use Rattle.z80_chip.specs.declared.stage.Stage.TheVariants.{Sample, Access, Yield, Take}
 use Rattle.z80_chip.proofs.Laws.{few-answers}
 use Rattle.z80_chip.proofs.SavedLaws.{Rules, bank_right, rules_of, state_again, waits_by, whole}
+use Rattle.z80_chip.proofs.Ahead.{last_or}
 
 -- ---- the answers
 
@@ -112,10 +113,6 @@ at_stage Take at cart state is below holds small = record {
 }
 
 -- ---- all rules
-
-flag_small : (flag : Bool) → leb (flag_number flag) 1 ≡ true
-flag_small true = refl
-flag_small false = refl
 
 mode_small : (mode : InterruptMode) → leb (mode_number mode) 2 ≡ true
 mode_small Mode0 = refl
@@ -239,10 +236,6 @@ pub record IsInRange (state : State80) : Type 0 where
   pub regs : AreInRange state.regs
   pub next : state.next < 2 ^ 64
   pub resets : state.resets < 2 ^ 64
-
-flag_byte : (flag : Bool) → flag_number flag < 2 ^ 8
-flag_byte true = omega arith
-flag_byte false = omega arith
 
 stage_byte : (stage : Stage) → stage_number stage < 2 ^ 8
 stage_byte Sample = omega arith
@@ -381,15 +374,12 @@ holder_from Access state e = e
 holder_from Yield state e = e
 holder_from Take state e = not-true (is_some state.store) e
 
-below_or_last : (k n : ℕ) → k < suc n → (k < n) ⊎ (k ≡ n)
-below_or_last k n h = grind arith
-
 answered_from : (cart : List ℕ) (state : State80) (n k : ℕ) → are_answered cart state n ≡ true → k < n → is_answer (need_after cart state k) (slice_index state.answers k) ≡ true
 unfolding are_answered
 answered_from cart state zero k e less = absurd (omega (arith, less))
 answered_from cart state (suc n) k e less =
     let p = and_parts _ _ e in
-    elim (below_or_last k n less) [
+    elim (last_or k n less) [
       | inl early ↦ answered_from cart state n k p.0 early
       | inr last ↦ subst (λ (m : ℕ). is_answer (need_after cart state m) (slice_index state.answers m) ≡ true) (sym last) p.1
     ]
