@@ -48,8 +48,8 @@ pub record Grows (text rest : List ℕ) (before : ℕ) : Type 0 where
   pub digits : every is_hexadecimal rest ≡ true
   pub room : before * 16 + digit_value (get_or text 0 0) < limit (length rest)
 
-grows : (c : ℕ) (cs : List ℕ) (before : ℕ) → length (c ∷ cs) ≤ 8 → every is_hexadecimal (c ∷ cs) ≡ true → before < limit (length (c ∷ cs)) → Grows (c ∷ cs) cs before
-grows c cs before few all room =
+value_grows : (c : ℕ) (cs : List ℕ) (before : ℕ) → length (c ∷ cs) ≤ 8 → every is_hexadecimal (c ∷ cs) ≡ true → before < limit (length (c ∷ cs)) → Grows (c ∷ cs) cs before
+value_grows c cs before few all room =
     let digit = digit_few c (first_hexadecimal c cs all) in
     let more = limit_step (length cs) before (digit_value c) room digit in
     let most = limit_most (length cs) in
@@ -58,4 +58,4 @@ grows c cs before few all room =
 pub grown : (text : List ℕ) (before : ℕ) → 0 < length text → length text ≤ 8 → every is_hexadecimal text ≡ true → before < limit (length text)
     → Grows text (take (length text - 1) (drop 1 text)) before
 grown [] before some few all room = absurd (omega arith)
-grown (c ∷ cs) before some few all room = rw (tail_taken c cs) (grows c cs before few all room)
+grown (c ∷ cs) before some few all room = rw (tail_taken c cs) (value_grows c cs before few all room)
