@@ -22,12 +22,12 @@ abbrev summed : Bool → Bool → Bool → ℕ → ℕ → Flags80
 summed s z pv u v = record { s = s; z = z; h = nat_le 16 v; pv = pv; n = false; c = nat_le 0x100 (16 * u + v) }
 
 -- DAA gives two digits, and with a hundred for C this number
-abbrev spells : Out80 → ℕ → Bool
-spells out n = nat_lt (out.value / 16) 10 && nat_lt (out.value % 16) 10 && (decimal_value out.value + 100 * bit (flags_of out.f).c == n)
+abbrev is_spelling : Out80 → ℕ → Bool
+is_spelling out n = nat_lt (out.value / 16) 10 && nat_lt (out.value % 16) 10 && (decimal_value out.value + 100 * bit (flags_of out.f).c == n)
 
 -- of u, the sum of the upper digits, and v, the sum of the lower ones and the carry
 abbrev sum_spelt : Bool → Bool → Bool → ℕ → ℕ → Bool
-sum_spelt s z pv u v = spells (adjusted ((16 * u + v) % 0x100) (summed s z pv u v)) (10 * u + v)
+sum_spelt s z pv u v = is_spelling (adjusted ((16 * u + v) % 0x100) (summed s z pv u v)) (10 * u + v)
 
 sums_spelt : (s z pv : Bool) → map (λ k. sum_spelt s z pv (k / 20) (k % 20)) (range 380 0) ≡ map (λ k. true) (range 380 0)
 unfolding range adjusted corrected correction corrects_upper shown told byte_of flags_of lib.Count.ones
@@ -44,7 +44,7 @@ pub record Spells (out : Out80) (n : ℕ) : Type 0 where
   pub digits : IsDecimal out.value
   pub number : decimal_value out.value + 100 * bit (flags_of out.f).c ≡ n
 
-spelt : (out : Out80) (n : ℕ) → spells out n ≡ true → Spells out n
+spelt : (out : Out80) (n : ℕ) → is_spelling out n ≡ true → Spells out n
 spelt out n e =
     let parts = and_parts (nat_lt (out.value / 16) 10 && nat_lt (out.value % 16) 10) (decimal_value out.value + 100 * bit (flags_of out.f).c == n) e in
     let halves = and_parts (nat_lt (out.value / 16) 10) (nat_lt (out.value % 16) 10) parts.0 in
