@@ -76,13 +76,13 @@ Found w n word = (e : ℕ) × (e < n) × (given w e ≡ Some word) × ((g : ℕ)
 abbrev NoneBelow : Words → ℕ → Type 0
 NoneBelow w n = (g : ℕ) → g < n → given w g ≡ None
 
-abbrev Latest : Words → ℕ → ℕ → Type 0
-Latest w n word = Found w n word ⊎ (NoneBelow w n × (word ≡ 0))
+abbrev IsLatest : Words → ℕ → ℕ → Type 0
+IsLatest w n word = Found w n word ⊎ (NoneBelow w n × (word ≡ 0))
 
 at-or-below : (g n : ℕ) → g < n + 1 → (g < n) ⊎ (g ≡ n)
 at-or-below g n less = grind arith
 
-step : (w : Words) (n word : ℕ) (o : Option ℕ) → given w n ≡ o → Latest w n word → Latest w (n + 1) (unwrap_or o word)
+step : (w : Words) (n word : ℕ) (o : Option ℕ) → given w n ≡ o → IsLatest w n word → IsLatest w (n + 1) (unwrap_or o word)
 step w n word (Some x) is was = inl (n, omega arith, is, λ g past within. absurd (omega (arith, past, within)))
 step w n word None is (inl found) =
     inl (
@@ -103,11 +103,11 @@ step w n word None is (inr low) =
       low.1,
     )
 
-latest-is : (w : Words) (n : ℕ) → Latest w n (latest w n)
+latest-is : (w : Words) (n : ℕ) → IsLatest w n (latest w n)
 latest-is w zero = inr (λ g less. absurd (omega arith), refl)
-latest-is w (suc n) = subst (λ (k : ℕ). Latest w k (latest w (suc n))) (add-one n) (step w n (latest w n) (given w n) refl (latest-is w n))
+latest-is w (suc n) = subst (λ (k : ℕ). IsLatest w k (latest w (suc n))) (add-one n) (step w n (latest w n) (given w n) refl (latest-is w n))
 
-expected-by : (w : Words) (f word : ℕ) (o : Option ℕ) → given w f ≡ o → Latest w f word → IsExpected w f (unwrap_or o word)
+expected-by : (w : Words) (f word : ℕ) (o : Option ℕ) → given w f ≡ o → IsLatest w f word → IsExpected w f (unwrap_or o word)
 expected-by w f word (Some x) is was = told x is
 expected-by w f word None is (inl found) =
     held word found.0 found.1 found.2 (λ g past within. elim (at-or-below g f (omega arith)) [
