@@ -36,12 +36,12 @@ pub record Listed (version : Version) : Type 0 where
   pub here : get_or versions place First ≡ version
 
 -- each version is in the list of all
-pub listed : (version : Version) → Listed version
-listed First = record { place = 0; within = omega arith; here = refl }
-listed (Second false false) = record { place = 1; within = omega arith; here = refl }
-listed (Second true false) = record { place = 2; within = omega arith; here = refl }
-listed (Second false true) = record { place = 3; within = omega arith; here = refl }
-listed (Second true true) = record { place = 4; within = omega arith; here = refl }
+pub version_listed : (version : Version) → Listed version
+version_listed First = record { place = 0; within = omega arith; here = refl }
+version_listed (Second false false) = record { place = 1; within = omega arith; here = refl }
+version_listed (Second true false) = record { place = 2; within = omega arith; here = refl }
+version_listed (Second false true) = record { place = 3; within = omega arith; here = refl }
+version_listed (Second true true) = record { place = 4; within = omega arith; here = refl }
 
 flag-few : (flag : Bool) → flag_number flag ≤ 1
 flag-few true = omega arith

@@ -10,7 +10,7 @@ use Rattle.md_pads.specs.Recording.{BeginsRecording, GoesWrongAt, HasButtons, sp
 use Rattle.md_pads.specs.Reading.{BeginsIn, IsLongestIn, IsSpelledIn, versions}
 use Rattle.md_pads.specs.declared.version.Version.{Version}
 use Rattle.md_pads.specs.declared.version.Version.TheVariants.{First}
-use Rattle.md_pads.proofs.Versions.{listed}
+use Rattle.md_pads.proofs.Versions.{version_listed}
 
 abbrev version_at : ℕ → Version
 version_at i = get_or versions i First
@@ -72,12 +72,12 @@ walked-more bytes count place prefix walked here none =
 -- each version was come to
 found-in : (bytes : List ℕ) (place : ℕ) → Walked bytes 5 place → (version : Version) → ¬ IsSpelledIn version bytes
 found-in bytes place walked version spelled =
-    let l = listed version in
+    let l = version_listed version in
     walked.none l.place l.within (subst (λ (v : Version). IsSpelledIn v bytes) (sym l.here) spelled)
 
 within-longest : (bytes : List ℕ) (place : ℕ) → Walked bytes 5 place → (version : Version) (n : ℕ) → n ≤ length bytes → BeginsIn version (take n bytes) → n ≤ place
 within-longest bytes place walked version n long begins_n =
-    let l = listed version in
+    let l = version_listed version in
     walked.longest l.place n l.within long (subst (λ (v : Version). BeginsIn v (take n bytes)) (sym l.here) begins_n)
 
 -- the end of the walk
