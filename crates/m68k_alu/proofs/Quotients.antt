@@ -105,5 +105,5 @@ unfolding divided
 divided_holds signed source target h =
     answered signed source target h (source == 0) refl (fits_word signed (int_div (dividend_of signed target) (divisor_of signed source))) refl
 
-pub divides : (signed : Bool) (source target : ℕ) (answer : Quotient) → source < 0x1_0000 → answer ≡ divided signed source target → Divides signed source target answer
-divides signed source target answer h e = rw e (divided_holds signed source target h)
+pub quotient_divides : (signed : Bool) (source target : ℕ) (answer : Quotient) → source < 0x1_0000 → answer ≡ divided signed source target → Divides signed source target answer
+quotient_divides signed source target answer h e = rw e (divided_holds signed source target h)

@@ -100,7 +100,7 @@ fn divided(signed: bool, source: u16, target: u32) -> Quotient
 /// than the divisor and has the dividend's sign. An overflow is answered exactly where that
 /// quotient has no place in a word.
 /// Source: M68000 Programmer's Reference Manual, section 4, DIVS and DIVU.
-#[tactic(auto, using(crate::proofs::Quotients::divides))]
+#[tactic(auto, using(crate::proofs::Quotients::quotient_divides))]
 pub fn divide(signed: bool, source: u16, target: u32) -> Quotient
     ensures divided { result ≡ division.divided signed source target }
     ensures relation { division.Divides signed source target result }
