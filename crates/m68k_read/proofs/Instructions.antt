@@ -1,5 +1,5 @@
 -- What the code makes of the text of an instruction is that instruction.
-use Rattle.std.proofs.Common.{◌≡◌, ℕ, zero, suc, ◌+◌, ◌-◌, ◌*◌, ◌/◌, ◌%◌, ◌^◌, ◌<◌, ◌≤◌, ◌==◌, Bool, true, false, not, ◌&&◌, List, [], ◌∷◌, ◌++◌, nat_lt, refl, ap, ◌∙◌, sym, arith, if◌then◌else◌, codes, Option, Some, None}
+use Rattle.std.proofs.Common.{◌≡◌, ℕ, zero, suc, ◌+◌, ◌-◌, ◌*◌, ◌/◌, ◌%◌, ◌^◌, ◌<◌, ◌≤◌, ◌==◌, Bool, true, false, not, ◌&&◌, List, [], ◌∷◌, ◌++◌, nat_lt, refl, ap, ◌∙◌, sym, arith, if◌then◌else◌, codes, Option, Some, None, mod-eq_of_lt}
 use Rattle.std.specs.Prelude.{slice_index}
 use Rattle.std.proofs.lemmas.Bool.Decides.{nat_tests}
 use Rattle.std.proofs.lemmas.Int.{ints}
@@ -42,9 +42,6 @@ pub record IsRead (size : Size) (mode : Mode) : Type 0 where
 
 -- ---- operands
 
-small : (n k : ℕ) → n < k → n % k ≡ n
-small n k h = grind arith
-
 number_back : (size : Size) (n : ℕ) → n < modulus_of size → building.mode size (form_of_number size n) ≡ modes.Immediate n
 unfolding building.mode
 number_back Byte n h = ap modes.Immediate (omega arith)
@@ -61,12 +58,12 @@ mode_back size (modes.Address n) h =
 mode_back size (modes.Indirect n) h = refl
 mode_back size (modes.PostInc n) h = refl
 mode_back size (modes.PreDec n) h = refl
-mode_back size (modes.Displaced n by) h = ap (modes.Displaced n) (small by 65536 h.written)
-mode_back size (modes.Indexed n index long by) h = ap (modes.Indexed n index long) (small by 256 h.written)
-mode_back size (modes.AbsShort at) h = ap modes.AbsShort (small at 65536 h.written)
+mode_back size (modes.Displaced n by) h = ap (modes.Displaced n) (mod-eq_of_lt h.written)
+mode_back size (modes.Indexed n index long by) h = ap (modes.Indexed n index long) (mod-eq_of_lt h.written)
+mode_back size (modes.AbsShort at) h = ap modes.AbsShort (mod-eq_of_lt h.written)
 mode_back size (modes.AbsLong at) h = refl
-mode_back size (modes.PcDisplaced by) h = ap modes.PcDisplaced (small by 65536 h.written)
-mode_back size (modes.PcIndexed index long by) h = ap (modes.PcIndexed index long) (small by 256 h.written)
+mode_back size (modes.PcDisplaced by) h = ap modes.PcDisplaced (mod-eq_of_lt h.written)
+mode_back size (modes.PcIndexed index long by) h = ap (modes.PcIndexed index long) (mod-eq_of_lt h.written)
 mode_back size (modes.Immediate n) h = number_back size n h.fits
 
 register_back : (n : ℕ) → n < 8 → register (forms.Register (8 + n)) ≡ n
@@ -318,13 +315,13 @@ pub movep_load_again : (size : Size) (x y d : ℕ) (at : ℕ) → x < 8 → y < 
 unfolding meant built stem_of stem_in is_worded base either offset
 movep_load_again size x y d at h k l =
     ap (λ (s : Source). meant s at) (row_of_two (row_of (ops.MovepToRegister size x y d) at) refl (k, l) h refl refl)
-    ∙ rw (data_back x h, small d 65536 l) refl
+    ∙ rw (data_back x h, mod-eq_of_lt l) refl
 
 pub movep_store_again : (size : Size) (x y d : ℕ) (at : ℕ) → x < 8 → y < 8 → d < 65536 → again (ops.MovepToMemory size x y d) at ≡ ops.MovepToMemory size x y d
 unfolding meant built stem_of stem_in is_worded base either offset
 movep_store_again size x y d at h k l =
     ap (λ (s : Source). meant s at) (row_of_two (row_of (ops.MovepToMemory size x y d) at) refl h (k, l) refl refl)
-    ∙ rw (data_back x h, small d 65536 l) refl
+    ∙ rw (data_back x h, mod-eq_of_lt l) refl
 
 pub move_again : (size : Size) (from to : Mode) (at : ℕ) → IsRead size from → IsRead size to → again (ops.Move size from to) at ≡ ops.Move size from to
 unfolding meant built stem_of stem_in is_worded base either offset
