@@ -8,7 +8,7 @@ use Rattle.md_fields.specs.Fields.{AllHold, AreWithin, sizes, spelling}
 use Rattle.md_fields.specs.Items.{IsRight, Keeps}
 use Rattle.md_fields.specs.Padding.{are_zeros}
 use Rattle.md_fields.specs.Places.{Stand}
-use Rattle.md_fields.proofs.Flags.{flag_again, flag_back}
+use Rattle.md_fields.proofs.Flags.{flag_again, flag_back, flag_byte, flag_small}
 use Rattle.md_fields.proofs.Items.{all_hold, none_wrong, not_both, one_place, same}
 use Rattle.md_word.specs.Clock.{line}
 use Rattle.vdp_chip.specs.Drawing.{Drawing, IsDrawing, undrawn_from}
@@ -17,7 +17,6 @@ use Rattle.vdp_chip.specs.Picture.{memory_length, row_length}
 use Rattle.vdp_chip.specs.Saved.{DrawingNumbers, drawing_fields, drawing_of, numbers_of}
 use Rattle.vdp_chip.specs.Spelling.{GoesWrongAt, IsDrained, IsReady, Spells, drained, drawing_bytes, drawing_size}
 use Rattle.vdp_chip.proofs.Lined.{row_above}
-use Rattle.vdp_ports.proofs.RuleLaws.{flag_byte, flag_small}
 
 -- the bytes depend neither on the cycle nor on the region
 pub same_bytes : (at other : ℕ) (pal region : Bool) (n : DrawingNumbers) → spelling (drawing_fields at pal n) ≡ spelling (drawing_fields other region n)
