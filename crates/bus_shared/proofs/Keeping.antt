@@ -4,9 +4,9 @@ use Rattle.std.proofs.lemmas.Bool.{cases_eq, eq-eqb, eqb-true, le-leb, leb-true,
 use Rattle.md_fields.specs.Fields.{AllHold, AreWithin}
 use Rattle.md_fields.specs.Items.{IsRight}
 use Rattle.md_fields.proofs.Items.{all_hold, none_wrong}
+use Rattle.md_fields.proofs.Flags.{flag_byte, flag_small}
 use Rattle.md_pads.specs.Pad.{Port}
 use Rattle.md_pads.specs.Recording.{IsFrame}
-use Rattle.vdp_ports.proofs.RuleLaws.{flag_byte, flag_small}
 use Rattle.vdp_ports.specs.Spelling as vdp_spelling
 use Rattle.fm_port.specs.PortSpelling as fm_spelling
 use Rattle.psg_sound.specs.PortSpelling as psg_spelling

@@ -9,6 +9,7 @@ use Rattle.vdp_ports.specs.Vdp.{Vdp, at_power_on, register}
 use Rattle.vdp_ports.specs.Dma.{copying, dropped, filling, length_of}
 use Rattle.vdp_ports.specs.Data.{accessed, place, put, transferred, written}
 use Rattle.vdp_ports.specs.Control.{acknowledged, armed, bit, controlled, first, second, source_of, started, started_by, starts, status, status_read, stored, transfer_of, transfers}
+use Rattle.vdp_ports.proofs.Kept.{length-most}
 use Rattle.vdp_dma.specs.Settling.{advanced, due, finished, is_busy, moved, settled, vram_at}
 use Rattle.vdp_planes.specs.declared.view.SpriteNote.{SpriteNote}
 use Rattle.md_word.specs.Region.{height}
@@ -157,10 +158,6 @@ source-on-bus s h = omega (arith, byte-at s.registers 21 h, byte-at s.registers 
 length-some : (s : Vdp) → 1 ≤ length_of s
 unfolding length_of
 length-some s = omega arith
-
-length-most : (s : Vdp) → length_of s ≤ 0x1_0000
-unfolding length_of
-length-most s = omega arith
 
 cost-by : (b : Bool) → IsWordCost (if b then 34 else 380)
 cost-by true = inl refl
