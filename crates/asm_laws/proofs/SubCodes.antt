@@ -2,8 +2,7 @@
 -- both for all opcodes, whatever the operands are.
 use Rattle.std.proofs.Common.{◌≡◌, ◌==◌, ◌⊎◌, inl, inr, ℕ, ◌+◌, ◌*◌, ◌/◌, ◌%◌, ◌<◌, ◌≤◌, Bool, true, false, cond, not, List, [], ◌∷◌, length, map, take, refl, ap, ◌∙◌, sym, subst, arith}
 use Rattle.std.specs.Prelude.{◌||◌, ◌&&◌, nat_lt, slice_index}
-use Rattle.std.proofs.lemmas.Bool.{eqb-true}
-use Rattle.std.proofs.lemmas.Bool.Decides.{nat_tests}
+use Rattle.std.proofs.lemmas.Bool.{eqb-true, ltb-true}
 use Rattle.z80_decode.specs.declared.decoded80.Decoded80.{Decoded80}
 use Rattle.z80_decode.specs.declared.index.Index.TheVariants as indexes
 use Rattle.z80_decode.specs.declared.op80.Op80.TheVariants as ops
@@ -101,18 +100,15 @@ cases_of false false true below h = inr (refl, inl refl)
 cases_of false false false true h = inr (refl, inr refl)
 cases_of false false false false h = cc
 
-below_is : (a b : ℕ) → nat_lt a b ≡ true → a < b
-below_is a b h = grind (arith, nat_tests)
-
 ix_by : (b2 w code : ℕ) → (w == code) ≡ true ⊎ ((in_manual w ≡ false) × ((in_manual code ≡ true) ⊎ (nat_lt code w ≡ true))) → IsOwn (0xdd ∷ 0xcb ∷ b2 ∷ w ∷ []) (0xdd ∷ 0xcb ∷ b2 ∷ code ∷ [])
 ix_by b2 w code (inl same) = inl (ap (λ (n : ℕ). 0xdd ∷ 0xcb ∷ b2 ∷ n ∷ []) (eqb-true w code same))
 ix_by b2 w code (inr (none, inl manual)) = inr (none, inl manual)
-ix_by b2 w code (inr (none, inr below)) = inr (none, inr (inr (refl, inr (refl, inr (refl, inr (refl, inl (below_is code w below)))))))
+ix_by b2 w code (inr (none, inr below)) = inr (none, inr (inr (refl, inr (refl, inr (refl, inr (refl, inl (ltb-true code w below)))))))
 
 iy_by : (b2 w code : ℕ) → (w == code) ≡ true ⊎ ((in_manual w ≡ false) × ((in_manual code ≡ true) ⊎ (nat_lt code w ≡ true))) → IsOwn (0xfd ∷ 0xcb ∷ b2 ∷ w ∷ []) (0xfd ∷ 0xcb ∷ b2 ∷ code ∷ [])
 iy_by b2 w code (inl same) = inl (ap (λ (n : ℕ). 0xfd ∷ 0xcb ∷ b2 ∷ n ∷ []) (eqb-true w code same))
 iy_by b2 w code (inr (none, inl manual)) = inr (none, inl manual)
-iy_by b2 w code (inr (none, inr below)) = inr (none, inr (inr (refl, inr (refl, inr (refl, inr (refl, inl (below_is code w below)))))))
+iy_by b2 w code (inr (none, inr below)) = inr (none, inr (inr (refl, inr (refl, inr (refl, inr (refl, inl (ltb-true code w below)))))))
 
 -- ---- the pages
 
