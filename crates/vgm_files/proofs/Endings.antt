@@ -1,7 +1,7 @@
 -- The ending where neither a fault nor want of memory comes between.
-use Rattle.std.proofs.Common.{◌≡◌, ◌∙◌, ◌⊎◌, inl, inr, ℕ, ◌<◌, ◌≤◌, Bool, true, false, cond, List, [], length, Option, Some, None, ap, sym, refl, arith}
-use Rattle.std.specs.Prelude.{IsSomeAnd, nat_lt, unwrap_or}
-use Rattle.std.proofs.lemmas.Bool.Decides.{nat_tests}
+use Rattle.std.proofs.Common.{◌≡◌, ◌∙◌, ◌⊎◌, inl, inr, ℕ, ◌<◌, Bool, cond, List, [], length, Option, Some, None, ap, sym, refl}
+use Rattle.std.specs.Prelude.{IsSomeAnd, unwrap_or}
+use Rattle.std.proofs.lemmas.Bool.{le-ltb, lt-ltb}
 use Rattle.md_outer.specs.Outside.{DepotState, Rose, bytes_of}
 use Rattle.md_vgm.specs.Outcomes as outcomes
 use Rattle.md_vgm.specs.Outcomes.{Outcome}
@@ -13,12 +13,6 @@ use Rattle.vgm_files.specs.Conversions.{HasCause, IsFound, IsOutcome, comes_to, 
 use Rattle.vgm_files.specs.declared.converted.Converted.{Converted}
 use Rattle.vgm_files.specs.declared.converted.Converted.TheVariants.{Made, Unread, TooLong, Refused, Unwritten, NoMemory}
 
-not_below : (most n : ℕ) → n ≤ most → nat_lt most n ≡ false
-not_below most n within = grind (arith, nat_tests)
-
-is_below : (most n : ℕ) → most < n → nat_lt most n ≡ true
-is_below most n above = grind (arith, nat_tests)
-
 -- bytes come to one outcome alone
 once : (product : Product) (pal : Bool) (bytes : List ℕ) (first second : Outcome) → comes_to product pal bytes first → comes_to product pal bytes second → first ≡ second
 once Vgm pal bytes first second is is' = made_once pal bytes first second is is'
@@ -29,11 +23,11 @@ found_right : (conversion : Conversion) (input : Option (List ℕ)) (found outco
 found_right conversion None found outcome is known = absurd is
 found_right conversion (Some bytes) found outcome is known =
     ap made_ending (once conversion.product conversion.pal bytes found outcome is.1 known)
-    ∙ sym (ap (λ (long : Bool). cond long TooLong (made_ending outcome)) (not_below limit (length bytes) is.0))
+    ∙ sym (ap (λ (long : Bool). cond long TooLong (made_ending outcome)) (le-ltb limit (length bytes) is.0))
 
 long_right : (input : Option (List ℕ)) (outcome : Outcome) → IsSomeAnd input (λ bytes. limit < length bytes) → TooLong ≡ right_ending input outcome
 long_right None outcome long = absurd long
-long_right (Some bytes) outcome long = sym (ap (λ (too_long : Bool). cond too_long TooLong (made_ending outcome)) (is_below limit (length bytes) long))
+long_right (Some bytes) outcome long = sym (ap (λ (too_long : Bool). cond too_long TooLong (made_ending outcome)) (lt-ltb limit (length bytes) long))
 
 pub right : (told : Type 0) (conversion : Conversion) (old new : DepotState) (ending : Converted) (outcome : Outcome) → told
     → ¬ Rose old.read_faults new.read_faults → ¬ Rose old.write_faults new.write_faults

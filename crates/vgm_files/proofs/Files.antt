@@ -11,11 +11,8 @@ twice_at false first second held = refl
 twice : (files : Files) (name first second : List ℕ) → with_file (with_file files name first) name second ≡ with_file files name second
 twice files name first second i other = twice_at (bytes_eq name other) (Some first) (Some second) (files other) i
 
-same_name : (name : List ℕ) → bytes_eq name name ≡ true
-same_name name = (bytes_eq-Decides name name).1 refl
-
 emptied : (files : Files) (name : List ℕ) → bytes_of (with_file files name []) name ≡ []
-emptied files name = rw (same_name name) refl
+emptied files name = rw ((bytes_eq-Decides name name).1 refl) refl
 
 -- a file that was emptied and then got a piece
 pub filled : (files emptied_files new : Files) (name piece : List ℕ) → emptied_files ≡ with_file files name []
