@@ -1,6 +1,7 @@
 -- Within one cycle the 68000 moves at most once, and first.
 use Rattle.std.proofs.Common.{◌≡◌, ◌≢◌, ℕ, zero, suc, ◌+◌, ◌-◌, ◌<◌, ◌≤◌, ◌^◌, ◌==◌, ◌&&◌, ◌||◌, ◌⊎◌, inl, inr, lit<, Bool, false, cond, nat_lt, ◌++◌, Option, None, refl, sym, ap, subst, ◌∙◌, append-nil, arith, option_to_list}
 use Rattle.std.proofs.lemmas.Bool.Decides.{nat_tests}
+use Rattle.std.proofs.lemmas.Bool.{ne_eqb}
 use Rattle.md_word.specs.Clock.{last_cycle}
 use Rattle.md_word.specs.Keys.{key_lt}
 use Rattle.md_word.specs.declared.key.Key.{Key}
@@ -81,13 +82,10 @@ not_again known m n far has below k later within is =
     let stands = below k within in
     omega (arith, first, rise, same, stands)
 
-unlike_zero : (n : ℕ) → n ≢ 0 → (n == 0) ≡ false
-unlike_zero n other = grind (arith, nat_tests)
-
 -- another chip begins no instruction
 begins_none : (z : Console) → mover z ≢ 0 → begins_in z ≡ None
 begins_none z other =
-    ap (λ (b : Bool). cond (b && (next_of z.main).sample) (begins_at (case_of z.main (level_of z.shared)) z.main.regs.pc) None) (unlike_zero (mover z) other)
+    ap (λ (b : Bool). cond (b && (next_of z.main).sample) (begins_at (case_of z.main (level_of z.shared)) z.main.regs.pc) None) (ne_eqb (mover z) 0 other)
 
 first_alone : (m : Console) (n : ℕ) → 1 ≤ n → ((k : ℕ) → 1 ≤ k → k < n → begins_in (ran m k) ≡ None) → begun_by m n ≡ option_to_list (begins_in m)
 unfolding begun_by ran

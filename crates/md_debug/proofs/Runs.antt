@@ -1,5 +1,5 @@
 -- How the debugger's machine goes on.
-use Rattle.std.proofs.Common.{◌≡◌, ℕ, zero, suc, ◌+◌, ◌-◌, ◌<◌, ◌≤◌, List, [], ◌++◌, Option, option_to_list, inl, inr, ◌⊎◌, add-one, refl, sym, ap, subst, ◌∙◌, append-nil, append_assoc, arith}
+use Rattle.std.proofs.Common.{◌≡◌, ℕ, zero, suc, ◌+◌, ◌-◌, ◌<◌, ◌≤◌, List, [], ◌++◌, Option, option_to_list, inl, inr, ◌⊎◌, add-one, refl, sym, ap, subst, ◌∙◌, append-nil, append_assoc, arith, add-suc, add-zero}
 use Rattle.std.proofs.lemmas.Bool.{cases_lt}
 use Rattle.md_word.specs.Clock.{last_cycle}
 use Rattle.md_word.specs.declared.event.Entry.{Entry}
@@ -19,17 +19,11 @@ use Rattle.md_debug.proofs.Latest.{latest_more, latest_same}
 
 -- ---- runs behind one another
 
-next : (a b : ℕ) → a + suc b ≡ suc (a + b)
-next a b = omega arith
-
-none_more : (a : ℕ) → a + 0 ≡ a
-none_more a = omega arith
-
 begun-add : (m : Console) (a b : ℕ) → begun_by m (a + b) ≡ begun_by m a ++ begun_by (ran m a) b
 unfolding begun_by
-begun-add m a zero = ap (begun_by m) (none_more a) ∙ sym (append-nil (begun_by m a))
+begun-add m a zero = ap (begun_by m) (add-zero a) ∙ sym (append-nil (begun_by m a))
 begun-add m a (suc b) =
-    ap (begun_by m) (next a b)
+    ap (begun_by m) (add-suc a b)
     ∙ ap (λ (l : List ℕ). l ++ option_to_list (begins_in (ran m (a + b)))) (begun-add m a b)
     ∙ ap (λ (z : Console). (begun_by m a ++ begun_by (ran m a) b) ++ option_to_list (begins_in z)) (ran-add m a b)
     ∙ append_assoc (begun_by m a) (begun_by (ran m a) b) (option_to_list (begins_in (ran (ran m a) b)))
