@@ -43,7 +43,7 @@ use Rattle.bus_shared.specs.declared.saved_lines.SavedLines.{SavedLines}
 use Rattle.bus_shared.proofs.SavedLaws as lines_laws
 use Rattle.bus_shared.proofs.SpellingLaws as shared_laws
 use Rattle.state_laws.proofs.Numbers.{main_there, sub_there, video_there, drawing_there, fm_port_there, psg_there, lines_there}
-use Rattle.state_laws.proofs.Deciding.{Verdict, judged, sized}
+use Rattle.state_laws.proofs.Deciding.{Verdict, fields_judged, sized}
 
 -- ---- the processors
 
@@ -57,7 +57,7 @@ sub_read : (cart : List ℕ) (at : ℕ) (bytes : List ℕ) → IsBytes bytes →
 sub_read cart at bytes fits long =
     let n = sub_there bytes in
     let k : saved80.Kept80 = record { numbers = n.0; store = sub.store_at bytes } in
-    elim (judged (saved80.chip_fields cart at) bytes k fits (sub_laws.stands_by at bytes n.0 long n.1 (saved80.asks_more cart k))) [
+    elim (fields_judged (saved80.chip_fields cart at) bytes k fits (sub_laws.stands_by at bytes n.0 long n.1 (saved80.asks_more cart k))) [
       | inl right ↦ inl (saved80.state_from n.0 (sub.store_at bytes), sub_laws.spells cart at bytes k right.0 right.1)
       | inr wrong ↦ inr (wrong.0, inr wrong.1)
     ]

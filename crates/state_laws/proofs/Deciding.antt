@@ -22,9 +22,9 @@ by_first fields bytes s keeps None e = inl (keeps, e)
 by_first fields bytes s keeps (Some place) e = inr (place, record { saved = s; keeps = keeps; first = e })
 
 -- numbers that stand in bytes are right, or a rule fails
-pub judged : {S : Type 0} (fields : S → List Field) (bytes : List ℕ) (s : S) → IsBytes bytes → Stand 0 (fields s) bytes
+pub fields_judged : {S : Type 0} (fields : S → List Field) (bytes : List ℕ) (s : S) → IsBytes bytes → Stand 0 (fields s) bytes
     → (Keeps fields bytes s × IsRight fields s) ⊎ ((place : ℕ) × Breaks fields bytes place)
-judged fields bytes s fits stands = by_first fields bytes s (kept fields bytes s fits stands) (first_wrong 0 (fields s)) refl
+fields_judged fields bytes s fits stands = by_first fields bytes s (kept fields bytes s fits stands) (first_wrong 0 (fields s)) refl
 
 -- an item of so many bytes, of whose numbers a value is made
 pub sized : {S T : Type 0} (size : ℕ) (fields : S → List Field) (Kept : T → Type 0) (bytes : List ℕ) → IsBytes bytes
@@ -34,7 +34,7 @@ pub sized : {S T : Type 0} (size : ℕ) (fields : S → List Field) (Kept : T �
 sized {S} {T} size fields Kept bytes fits read made = elim (cases_eq (length bytes) size) [
   | inl long ↦ (
       let s = read long in
-      elim (judged fields bytes s.0 fits s.1) [
+      elim (fields_judged fields bytes s.0 fits s.1) [
         | inl right ↦ inl (made long s.0 right.0 right.1)
         | inr wrong ↦ inr (wrong.0, inr wrong.1)
       ])
@@ -52,9 +52,9 @@ pub record Decided {T : Type 0} (Kept : T → Type 0) (Wrong : ℕ → Type 0) :
   pub wrong : (place : ℕ) → Wrong place → answer ≡ failed (Rule place)
   pub memory : answer ≢ failed NoMemory
 
-pub decided : {T : Type 0} (Kept : T → Type 0) (Wrong : ℕ → Type 0) → ((x y : T) → Kept x → Kept y → x ≡ y) → ((x : T) → Kept x → (place : ℕ) → Wrong place → ⊥)
+pub decided_by : {T : Type 0} (Kept : T → Type 0) (Wrong : ℕ → Type 0) → ((x y : T) → Kept x → Kept y → x ≡ y) → ((x : T) → Kept x → (place : ℕ) → Wrong place → ⊥)
     → ((p q : ℕ) → Wrong p → Wrong q → p ≡ q) → Verdict {T = T} Kept Wrong → Decided {T = T} Kept Wrong
-decided {T} Kept Wrong one none once (inl (x, is)) = record {
+decided_by {T} Kept Wrong one none once (inl (x, is)) = record {
   answer = Ok x;
   found = is;
   only = λ y other. ap (λ (z : T). Ok z) (one x y is other);
@@ -64,7 +64,7 @@ decided {T} Kept Wrong one none once (inl (x, is)) = record {
 } where
   no_rule : (place : ℕ) → Ok x ≡ failed {T = T} (Rule place) → ⊥
   no_rule place e = cc
-decided {T} Kept Wrong one none once (inr (place, bad)) = record {
+decided_by {T} Kept Wrong one none once (inr (place, bad)) = record {
   answer = failed (Rule place);
   found = tt;
   only = λ y is. absurd (none y is place bad);

@@ -32,7 +32,7 @@ use Rattle.save_state.specs.States.{is_holder}
 use Rattle.save_state.proofs.ItemLaws.{main_read, sub_read, shared_read, drawing_read, fm_read, psg_read}
 use Rattle.save_state.proofs.Joins.{joined}
 use Rattle.state_laws.proofs.Chips.{BoardKept}
-use Rattle.state_laws.proofs.Deciding.{Decided, Verdict, decided}
+use Rattle.state_laws.proofs.Deciding.{Decided, Verdict, decided_by}
 
 -- the answer of a reader that wants no memory
 pub record Answered {T : Type 0} (Keeps : T → Type 0) (Fails : ℕ → Type 0) : Type 0 where
@@ -76,7 +76,7 @@ MainKept cart at bytes chip = (chip.cart ≡ cart) × main.Spells cart at bytes 
 
 main_decided : (cart : List ℕ) (at : ℕ) (bytes : List ℕ) → Verdict (main.Spells cart at bytes) (main.GoesWrongAt cart at bytes) → Decided (MainKept cart at bytes) (main.GoesWrongAt cart at bytes)
 main_decided cart at bytes v =
-    decided (MainKept cart at bytes) (main.GoesWrongAt cart at bytes)
+    decided_by (MainKept cart at bytes) (main.GoesWrongAt cart at bytes)
     (λ x y k l. (let state = main_laws.no_other cart at bytes x.state y.state k.1 l.1 in λ i. record { cart = (k.0 ∙ sym l.0) i; state = state i }))
     (λ x k place wrong. main_laws.right_not_refused cart at bytes x.state place k.1 wrong)
     (main_laws.only_place cart at bytes)
@@ -99,7 +99,7 @@ sub_once cart at bytes x y p q = sym (sub_laws.no_other cart at bytes (kept_of x
 
 sub_decided : (cart : List ℕ) (at : ℕ) (bytes : List ℕ) → Verdict (sub.Spells cart at bytes) (sub.GoesWrongAt cart at bytes) → Decided (SubKept cart at bytes) (sub.GoesWrongAt cart at bytes)
 sub_decided cart at bytes v =
-    decided (SubKept cart at bytes) (sub.GoesWrongAt cart at bytes)
+    decided_by (SubKept cart at bytes) (sub.GoesWrongAt cart at bytes)
     (λ x y k l. (let state = sub_once cart at bytes x.state y.state k.1 l.1 in λ i. record { cart = (k.0 ∙ sym l.0) i; state = state i }))
     (λ x k place wrong. sub_laws.right_not_refused cart at bytes (kept_of x.state) place k.1.keeps k.1.right wrong)
     (sub_laws.only_place cart at bytes)
@@ -121,7 +121,7 @@ sub_answered cart bytes v =
 
 shared_decided : (recording : Recorded) (at : ℕ) (pal : Bool) (bytes : List ℕ) → Verdict (BoardKept recording at pal bytes) (shared.GoesWrongAt at pal bytes) → Decided (BoardKept recording at pal bytes) (shared.GoesWrongAt at pal bytes)
 shared_decided recording at pal bytes v =
-    decided (BoardKept recording at pal bytes) (shared.GoesWrongAt at pal bytes)
+    decided_by (BoardKept recording at pal bytes) (shared.GoesWrongAt at pal bytes)
     (λ x y k l. shared_laws.spelled_once at pal bytes x y k.0 l.0 (k.1 ∙ sym l.1))
     (λ x k place wrong. shared_laws.right_nowhere at pal bytes x k.0 place wrong)
     (shared_laws.wrong_once at pal bytes) v
@@ -140,7 +140,7 @@ shared_answered recording bytes v =
 
 drawing_decided : (at : ℕ) (pal : Bool) (bytes : List ℕ) → Verdict (drawing.Spells at pal bytes) (drawing.GoesWrongAt at pal bytes) → Decided (drawing.Spells at pal bytes) (drawing.GoesWrongAt at pal bytes)
 drawing_decided at pal bytes v =
-    decided (drawing.Spells at pal bytes) (drawing.GoesWrongAt at pal bytes)
+    decided_by (drawing.Spells at pal bytes) (drawing.GoesWrongAt at pal bytes)
     (λ x y p q. sym (drawing_laws.no_other at pal bytes (numbers_of x) x p.keeps p) ∙ drawing_laws.no_other at pal bytes (numbers_of x) y p.keeps q)
     (λ x p place wrong. drawing_laws.right_not_refused at pal bytes (numbers_of x) place p.keeps p.right wrong)
     (drawing_laws.only_place at pal bytes) v
@@ -163,7 +163,7 @@ early_of (inr none) = (true, (λ e. absurd cc, λ l. absurd (none l)))
 
 fm_decided : (bytes : List ℕ) → Verdict (fm.SpellsSynth bytes) (fm.SynthGoesWrongAt bytes) → Decided (fm.SpellsSynth bytes) (fm.SynthGoesWrongAt bytes)
 fm_decided bytes v =
-    decided (fm.SpellsSynth bytes) (fm.SynthGoesWrongAt bytes)
+    decided_by (fm.SpellsSynth bytes) (fm.SynthGoesWrongAt bytes)
     (λ x y p q. sym (fm_laws.read_only bytes (fm.saved_synth x) x p.keeps p) ∙ fm_laws.read_only bytes (fm.saved_synth x) y p.keeps q)
     (λ x p place wrong. fm_laws.right_nowhere bytes (fm.saved_synth x) p.keeps p.right place wrong)
     (fm_laws.wrong_once bytes) v
@@ -185,7 +185,7 @@ fm_answered bytes v late =
 
 psg_decided : (bytes : List ℕ) → Verdict (psg.SpellsSynth bytes) (psg.SynthGoesWrongAt bytes) → Decided (psg.SpellsSynth bytes) (psg.SynthGoesWrongAt bytes)
 psg_decided bytes v =
-    decided (psg.SpellsSynth bytes) (psg.SynthGoesWrongAt bytes)
+    decided_by (psg.SpellsSynth bytes) (psg.SynthGoesWrongAt bytes)
     (λ x y p q. sym (psg_laws.read_only bytes (psg.saved_synth x) x p.keeps p) ∙ psg_laws.read_only bytes (psg.saved_synth x) y p.keeps q)
     (λ x p place wrong. psg_laws.right_nowhere bytes (psg.saved_synth x) p.keeps p.right place wrong)
     (psg_laws.wrong_once bytes) v
