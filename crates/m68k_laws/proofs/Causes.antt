@@ -66,8 +66,8 @@ Plain outcome = outcome.cause ≡ 0
 give : (stack : ℕ) (outcome : Outcome) → Leaves stack outcome → Yields stack (actions.give outcome)
 give stack outcome h = record { at = λ memory before. h }
 
-plain : (stack : ℕ) (outcome : Outcome) → Plain outcome → Yields stack (actions.give outcome)
-plain stack outcome h = give stack outcome (λ some. absurd (some h))
+yields_plain : (stack : ℕ) (outcome : Outcome) → Plain outcome → Yields stack (actions.give outcome)
+yields_plain stack outcome h = give stack outcome (λ some. absurd (some h))
 
 then_at : {A : Type 0} (stack : ℕ) (memory : Memory) (first : Result (A × Done) Stop) (next : A → Act Outcome) → ((x : A) → Yields stack (next x)) → Left stack (go_on first (λ x middle. next x memory middle))
 then_at stack memory (Ok x) next k = (k x.0).at memory x.1
@@ -98,15 +98,15 @@ either P false one other h k = k
 -- the shapes
 test_operand : (stack : ℕ) (operation : Task) (size : Size) (number : ℕ) (mode : Mode) (pc : ℕ) (regs : Regs) → Yields stack (shapes.test_operand operation size number mode pc regs)
 unfolding shapes.test_operand
-test_operand stack operation size number mode pc regs = after stack _ _ (λ first. plain stack _ refl)
+test_operand stack operation size number mode pc regs = after stack _ _ (λ first. yields_plain stack _ refl)
 
 change_operand : (stack : ℕ) (operation : Task) (size : Size) (number : ℕ) (mode : Mode) (pc : ℕ) (regs : Regs) → Yields stack (shapes.change_operand operation size number mode pc regs)
 unfolding shapes.change_operand
-change_operand stack operation size number mode pc regs = after stack (operands.fetch size (place_of mode size regs pc) (stepped mode size regs)) _ (λ first. after stack (operands.put size (place_of mode size regs pc) _ (stepped mode size regs)) _ (λ second. plain stack _ refl))
+change_operand stack operation size number mode pc regs = after stack (operands.fetch size (place_of mode size regs pc) (stepped mode size regs)) _ (λ first. after stack (operands.put size (place_of mode size regs pc) _ (stepped mode size regs)) _ (λ second. yields_plain stack _ refl))
 
 change_register : (stack : ℕ) (operation : Task) (size : Size) (n : ℕ) (mode : Mode) (pc : ℕ) (regs : Regs) → Yields stack (shapes.change_register operation size n mode pc regs)
 unfolding shapes.change_register
-change_register stack operation size n mode pc regs = after stack _ _ (λ first. plain stack _ refl)
+change_register stack operation size n mode pc regs = after stack _ _ (λ first. yields_plain stack _ refl)
 
 change_data : (operation : Task) (size : Size) (number : ℕ) (n : ℕ) (regs : Regs) → Plain (shapes.change_data operation size number n regs)
 unfolding shapes.change_data
@@ -139,19 +139,19 @@ bit_by_number stack operation number mode start regs = bit stack operation numbe
 
 movep_to_register : (stack : ℕ) (size : Size) (x : ℕ) (y : ℕ) (by : ℕ) (start : ℕ) (regs : Regs) → Yields stack (movep.movep_to_register size x y by start regs)
 unfolding movep.movep_to_register
-movep_to_register stack size x y by start regs = after stack _ _ (λ first. plain stack _ refl)
+movep_to_register stack size x y by start regs = after stack _ _ (λ first. yields_plain stack _ refl)
 
 movep_to_memory : (stack : ℕ) (size : Size) (x : ℕ) (y : ℕ) (by : ℕ) (start : ℕ) (regs : Regs) → Yields stack (movep.movep_to_memory size x y by start regs)
 unfolding movep.movep_to_memory
-movep_to_memory stack size x y by start regs = after stack _ _ (λ first. plain stack _ refl)
+movep_to_memory stack size x y by start regs = after stack _ _ (λ first. yields_plain stack _ refl)
 
 move_operand : (stack : ℕ) (size : Size) (source : Mode) (target : Mode) (start : ℕ) (regs : Regs) → Yields stack (moves.move_operand size source target start regs)
 unfolding moves.move_operand
-move_operand stack size source target start regs = after stack (operands.load source size _ regs) _ (λ first. after stack (operands.store target size _ _ first.regs) _ (λ second. plain stack _ refl))
+move_operand stack size source target start regs = after stack (operands.load source size _ regs) _ (λ first. after stack (operands.store target size _ _ first.regs) _ (λ second. yields_plain stack _ refl))
 
 move_address : (stack : ℕ) (size : Size) (n : ℕ) (mode : Mode) (start : ℕ) (regs : Regs) → Yields stack (moves.move_address size n mode start regs)
 unfolding moves.move_address
-move_address stack size n mode start regs = after stack _ _ (λ first. plain stack _ refl)
+move_address stack size n mode start regs = after stack _ _ (λ first. yields_plain stack _ refl)
 
 unary : (stack : ℕ) (operation : Task) (size : Size) (mode : Mode) (start : ℕ) (regs : Regs) → Yields stack (single.unary operation size mode start regs)
 unfolding single.unary
@@ -163,7 +163,7 @@ nbcd stack mode start regs = change_operand stack tasks.Nbcd Byte 0 mode _ regs
 
 tst : (stack : ℕ) (size : Size) (mode : Mode) (start : ℕ) (regs : Regs) → Yields stack (single.tst size mode start regs)
 unfolding single.tst
-tst stack size mode start regs = after stack _ _ (λ first. plain stack _ refl)
+tst stack size mode start regs = after stack _ _ (λ first. yields_plain stack _ refl)
 
 tas : (stack : ℕ) (mode : Mode) (start : ℕ) (regs : Regs) → Yields stack (single.tas mode start regs)
 tas stack (modes.Data n) start regs = change_operand stack tasks.Tas Byte 0 (modes.Data n) _ regs
@@ -171,15 +171,15 @@ tas stack mode start regs = test_operand stack tasks.Tas Byte 0 mode _ regs
 
 move_from_sr : (stack : ℕ) (mode : Mode) (start : ℕ) (regs : Regs) → Yields stack (status.move_from_sr mode start regs)
 unfolding status.move_from_sr
-move_from_sr stack mode start regs = after stack (operands.fetch Word _ _) _ (λ first. after stack (operands.put Word _ _ _) _ (λ second. plain stack _ refl))
+move_from_sr stack mode start regs = after stack (operands.fetch Word _ _) _ (λ first. after stack (operands.put Word _ _ _) _ (λ second. yields_plain stack _ refl))
 
 move_to_ccr : (stack : ℕ) (mode : Mode) (start : ℕ) (regs : Regs) → Yields stack (status.move_to_ccr mode start regs)
 unfolding status.move_to_ccr
-move_to_ccr stack mode start regs = after stack _ _ (λ first. plain stack _ refl)
+move_to_ccr stack mode start regs = after stack _ _ (λ first. yields_plain stack _ refl)
 
 load_sr : (stack : ℕ) (mode : Mode) (start : ℕ) (regs : Regs) → Yields stack (status.load_sr mode start regs)
 unfolding status.load_sr
-load_sr stack mode start regs = after stack _ _ (λ first. plain stack _ refl)
+load_sr stack mode start regs = after stack _ _ (λ first. yields_plain stack _ refl)
 
 move_to_sr : (mode : Mode) (start : ℕ) (regs : Regs) → Yields regs.ssp (status.move_to_sr mode start regs)
 unfolding status.move_to_sr
@@ -188,31 +188,31 @@ move_to_sr mode start regs =
 
 pea : (stack : ℕ) (mode : Mode) (start : ℕ) (regs : Regs) → Yields stack (links.pea mode start regs)
 unfolding links.pea
-pea stack mode start regs = after stack _ _ (λ first. plain stack _ refl)
+pea stack mode start regs = after stack _ _ (λ first. yields_plain stack _ refl)
 
 link : (stack : ℕ) (n : ℕ) (by : ℕ) (regs : Regs) → Yields stack (links.link n by regs)
 unfolding links.link
-link stack n by regs = after stack _ _ (λ first. plain stack _ refl)
+link stack n by regs = after stack _ _ (λ first. yields_plain stack _ refl)
 
 unlk : (stack : ℕ) (n : ℕ) (regs : Regs) → Yields stack (links.unlk n regs)
 unfolding links.unlk
-unlk stack n regs = after stack _ _ (λ first. plain stack _ refl)
+unlk stack n regs = after stack _ _ (λ first. yields_plain stack _ refl)
 
 jsr : (stack : ℕ) (mode : Mode) (start : ℕ) (regs : Regs) → Yields stack (control.jsr mode start regs)
 unfolding control.jsr
-jsr stack mode start regs = after stack _ _ (λ first. plain stack _ refl)
+jsr stack mode start regs = after stack _ _ (λ first. yields_plain stack _ refl)
 
 rts : (stack : ℕ) (regs : Regs) → Yields stack (control.rts regs)
 unfolding control.rts
-rts stack regs = after stack _ _ (λ first. plain stack _ refl)
+rts stack regs = after stack _ _ (λ first. yields_plain stack _ refl)
 
 rtr : (stack : ℕ) (regs : Regs) → Yields stack (control.rtr regs)
 unfolding control.rtr
-rtr stack regs = after stack (operands.pull Word regs) _ (λ first. after stack (operands.pull Long first.regs) _ (λ second. plain stack _ refl))
+rtr stack regs = after stack (operands.pull Word regs) _ (λ first. after stack (operands.pull Long first.regs) _ (λ second. yields_plain stack _ refl))
 
 return_from_exception : (stack : ℕ) (regs : Regs) → Yields stack (control.return_from_exception regs)
 unfolding control.return_from_exception
-return_from_exception stack regs = after stack (operands.pull Word regs) _ (λ first. after stack (operands.pull Long first.regs) _ (λ second. plain stack _ refl))
+return_from_exception stack regs = after stack (operands.pull Word regs) _ (λ first. after stack (operands.pull Long first.regs) _ (λ second. yields_plain stack _ refl))
 
 rte : (start : ℕ) (regs : Regs) → Yields regs.ssp (control.rte start regs)
 unfolding control.rte
@@ -221,24 +221,24 @@ rte start regs =
 
 bsr : (stack : ℕ) (displacement : Displacement) (start : ℕ) (regs : Regs) → Yields stack (branches.bsr displacement start regs)
 unfolding branches.bsr branches.branched
-bsr stack displacement start regs = after stack _ _ (λ first. plain stack _ refl)
+bsr stack displacement start regs = after stack _ _ (λ first. yields_plain stack _ refl)
 
 quick : (stack : ℕ) (operation : Task) (size : Size) (number : ℕ) (mode : Mode) (start : ℕ) (regs : Regs) → Yields stack (arithmetic.quick operation size number mode start regs)
 unfolding arithmetic.change_address
-quick stack operation size number (modes.Address n) start regs = plain stack _ refl
+quick stack operation size number (modes.Address n) start regs = yields_plain stack _ refl
 quick stack operation size number mode start regs = change_operand stack operation size number mode _ regs
 
 scc : (stack : ℕ) (condition : Condition) (mode : Mode) (start : ℕ) (regs : Regs) → Yields stack (setting.scc condition mode start regs)
 unfolding setting.scc
-scc stack condition mode start regs = after stack (operands.fetch Byte _ _) _ (λ first. after stack (operands.put Byte _ _ _) _ (λ second. plain stack _ refl))
+scc stack condition mode start regs = after stack (operands.fetch Byte _ _) _ (λ first. after stack (operands.put Byte _ _ _) _ (λ second. yields_plain stack _ refl))
 
 mulu : (stack : ℕ) (n : ℕ) (mode : Mode) (start : ℕ) (regs : Regs) → Yields stack (products.mulu n mode start regs)
 unfolding products.mulu shapes.change_data
-mulu stack n mode start regs = after stack _ _ (λ first. plain stack _ refl)
+mulu stack n mode start regs = after stack _ _ (λ first. yields_plain stack _ refl)
 
 muls : (stack : ℕ) (n : ℕ) (mode : Mode) (start : ℕ) (regs : Regs) → Yields stack (products.muls n mode start regs)
 unfolding products.muls shapes.change_data
-muls stack n mode start regs = after stack _ _ (λ first. plain stack _ refl)
+muls stack n mode start regs = after stack _ _ (λ first. yields_plain stack _ refl)
 
 extended : (stack : ℕ) (operation : Task) (size : Size) (source : Mode) (target : Mode) (start : ℕ) (regs : Regs) → Yields stack (multiprecision.extended operation size source target start regs)
 unfolding multiprecision.extended
@@ -262,19 +262,19 @@ eor stack size n mode start regs = to_memory stack tasks.Eor size n mode start r
 
 to_address : (stack : ℕ) (operation : Task) (size : Size) (n : ℕ) (mode : Mode) (start : ℕ) (regs : Regs) → Yields stack (arithmetic.to_address operation size n mode start regs)
 unfolding arithmetic.to_address arithmetic.change_address
-to_address stack operation size n mode start regs = after stack _ _ (λ first. plain stack _ refl)
+to_address stack operation size n mode start regs = after stack _ _ (λ first. yields_plain stack _ refl)
 
 cmp : (stack : ℕ) (size : Size) (n : ℕ) (mode : Mode) (start : ℕ) (regs : Regs) → Yields stack (comparisons.cmp size n mode start regs)
 unfolding comparisons.cmp comparisons.compared
-cmp stack size n mode start regs = after stack _ _ (λ first. plain stack _ refl)
+cmp stack size n mode start regs = after stack _ _ (λ first. yields_plain stack _ refl)
 
 cmpa : (stack : ℕ) (size : Size) (n : ℕ) (mode : Mode) (start : ℕ) (regs : Regs) → Yields stack (comparisons.cmpa size n mode start regs)
 unfolding comparisons.cmpa comparisons.compared
-cmpa stack size n mode start regs = after stack _ _ (λ first. plain stack _ refl)
+cmpa stack size n mode start regs = after stack _ _ (λ first. yields_plain stack _ refl)
 
 cmpm : (stack : ℕ) (size : Size) (x : ℕ) (y : ℕ) (start : ℕ) (regs : Regs) → Yields stack (comparisons.cmpm size x y start regs)
 unfolding comparisons.cmpm comparisons.compared
-cmpm stack size x y start regs = after stack (operands.load (modes.PostInc y) size _ regs) _ (λ first. after stack (operands.load (modes.PostInc x) size _ first.regs) _ (λ second. plain stack _ refl))
+cmpm stack size x y start regs = after stack (operands.load (modes.PostInc y) size _ regs) _ (λ first. after stack (operands.load (modes.PostInc x) size _ first.regs) _ (λ second. yields_plain stack _ refl))
 
 shift_memory : (stack : ℕ) (operation : Task) (mode : Mode) (start : ℕ) (regs : Regs) → Yields stack (arithmetic.shift_memory operation mode start regs)
 unfolding arithmetic.shift_memory
@@ -282,11 +282,11 @@ shift_memory stack operation mode start regs = change_operand stack operation Wo
 
 movem_to_memory : (stack : ℕ) (size : Size) (list : ℕ) (mode : Mode) (start : ℕ) (regs : Regs) → Yields stack (movem.movem_to_memory size list mode start regs)
 unfolding movem.movem_to_memory
-movem_to_memory stack size list mode start regs = after stack _ _ (λ first. plain stack _ refl)
+movem_to_memory stack size list mode start regs = after stack _ _ (λ first. yields_plain stack _ refl)
 
 movem_to_registers : (stack : ℕ) (size : Size) (list : ℕ) (mode : Mode) (start : ℕ) (regs : Regs) → Yields stack (movem.movem_to_registers size list mode start regs)
 unfolding movem.movem_to_registers
-movem_to_registers stack size list mode start regs = after stack _ _ (λ first. plain stack _ refl)
+movem_to_registers stack size list mode start regs = after stack _ _ (λ first. yields_plain stack _ refl)
 
 -- rows that access nothing and end in no exception
 immediate_to_ccr : (operation : Task) (number : ℕ) (regs : Regs) → Plain (immediates.immediate_to_ccr operation number regs)
@@ -428,7 +428,7 @@ divs n mode start regs = quotient_by true n mode start regs
 pub row : (op : Op) (start : ℕ) (regs : Regs) → Yields (left_by op regs).ssp (execution.row op start regs)
 row (ops.Immediate operation size number mode) start regs = immediate _ operation size number mode start regs
 row (ops.CompareImmediate size number mode) start regs = compare_immediate _ size number mode start regs
-row (ops.ImmediateToCcr operation number) start regs = plain _ _ (immediate_to_ccr operation number regs)
+row (ops.ImmediateToCcr operation number) start regs = yields_plain _ _ (immediate_to_ccr operation number regs)
 row (ops.ImmediateToSr operation number) start regs = give _ _ (immediate_to_sr operation number start regs)
 row (ops.BitByRegister operation n mode) start regs = bit_by_register _ operation n mode start regs
 row (ops.BitByNumber operation number mode) start regs = bit_by_number _ operation number mode start regs
@@ -441,8 +441,8 @@ row (ops.MoveFromSr mode) start regs = move_from_sr _ mode start regs
 row (ops.MoveToCcr mode) start regs = move_to_ccr _ mode start regs
 row (ops.MoveToSr mode) start regs = move_to_sr mode start regs
 row (ops.Nbcd mode) start regs = nbcd _ mode start regs
-row (ops.Swap n) start regs = plain _ _ (swap n regs)
-row (ops.Ext size n) start regs = plain _ _ (ext size n regs)
+row (ops.Swap n) start regs = yields_plain _ _ (swap n regs)
+row (ops.Ext size n) start regs = yields_plain _ _ (ext size n regs)
 row (ops.Pea mode) start regs = pea _ mode start regs
 row (ops.MovemToMemory size list mode) start regs = movem_to_memory _ size list mode start regs
 row (ops.MovemToRegisters size list mode) start regs = movem_to_registers _ size list mode start regs
@@ -454,23 +454,23 @@ row (ops.Unlk n) start regs = unlk _ n regs
 row (ops.MoveToUsp n) start regs = give _ _ (move_to_usp n start regs)
 row (ops.MoveFromUsp n) start regs = give _ _ (move_from_usp n start regs)
 row ops.Reset start regs = give _ _ (reset start regs)
-row ops.Nop start regs = plain _ _ refl
+row ops.Nop start regs = yields_plain _ _ refl
 row (ops.Stop value) start regs = give _ _ (stop value start regs)
 row ops.Rte start regs = rte start regs
 row ops.Rts start regs = rts _ regs
 row ops.Trapv start regs = give _ _ (trapv regs)
 row ops.Rtr start regs = rtr _ regs
 row (ops.Jsr mode) start regs = jsr _ mode start regs
-row (ops.Jmp mode) start regs = plain _ _ (jmp mode start regs)
-row (ops.Lea n mode) start regs = plain _ _ (lea n mode start regs)
+row (ops.Jmp mode) start regs = yields_plain _ _ (jmp mode start regs)
+row (ops.Lea n mode) start regs = yields_plain _ _ (lea n mode start regs)
 row (ops.Chk n mode) start regs = chk n mode start regs
 row (ops.Quick operation size number mode) start regs = quick _ operation size number mode start regs
 row (ops.Scc condition mode) start regs = scc _ condition mode start regs
-row (ops.Dbcc condition n by) start regs = plain _ _ (dbcc condition n by start regs)
-row (ops.Bra displacement) start regs = plain _ _ (bra displacement start regs)
+row (ops.Dbcc condition n by) start regs = yields_plain _ _ (dbcc condition n by start regs)
+row (ops.Bra displacement) start regs = yields_plain _ _ (bra displacement start regs)
 row (ops.Bsr displacement) start regs = bsr _ displacement start regs
-row (ops.Bcc condition displacement) start regs = plain _ _ (bcc condition displacement start regs)
-row (ops.Moveq n byte) start regs = plain _ _ (moveq n byte regs)
+row (ops.Bcc condition displacement) start regs = yields_plain _ _ (bcc condition displacement start regs)
+row (ops.Moveq n byte) start regs = yields_plain _ _ (moveq n byte regs)
 row (ops.Divu n mode) start regs = divu n mode start regs
 row (ops.Divs n mode) start regs = divs n mode start regs
 row (ops.Decimal operation source target) start regs = decimal _ operation source target start regs
@@ -484,9 +484,9 @@ row (ops.Eor size n mode) start regs = eor _ size n mode start regs
 row (ops.Cmpm size x y) start regs = cmpm _ size x y start regs
 row (ops.Mulu n mode) start regs = mulu _ n mode start regs
 row (ops.Muls n mode) start regs = muls _ n mode start regs
-row (ops.Exg n r) start regs = plain _ _ (exg n r regs)
-row (ops.ShiftByNumber operation size number r) start regs = plain _ _ (shift_by_number operation size number r regs)
-row (ops.ShiftByRegister operation size n r) start regs = plain _ _ (shift_by_register operation size n r regs)
+row (ops.Exg n r) start regs = yields_plain _ _ (exg n r regs)
+row (ops.ShiftByNumber operation size number r) start regs = yields_plain _ _ (shift_by_number operation size number r regs)
+row (ops.ShiftByRegister operation size n r) start regs = yields_plain _ _ (shift_by_register operation size n r regs)
 row (ops.ShiftMemory operation mode) start regs = shift_memory _ operation mode start regs
 row (ops.Illegal opcode) start regs = give _ _ (illegal start regs)
 row (ops.LineA opcode) start regs = give _ _ (line_a_opcode start regs)

@@ -54,9 +54,9 @@ begun_caused op number trace found (Ok (Some regs, done)) = λ halted. refl
 begun_caused op number trace found (Ok (None, done)) = λ halted. absurd (cc)
 begun_caused op number trace found (Err stop) = tt
 
-pub caused : (op : Op) (kind : Exception) (trace : Bool) (found regs : Regs) (memory : Memory) (before : Done) → Caused (number_of kind) (samples.take_exception op kind trace found regs memory before)
+pub exception_caused : (op : Op) (kind : Exception) (trace : Bool) (found regs : Regs) (memory : Memory) (before : Done) → Caused (number_of kind) (samples.take_exception op kind trace found regs memory before)
 unfolding samples.take_exception
-caused op kind trace found regs memory before = begun_caused op (number_of kind) trace found (entries.enter kind regs memory before)
+exception_caused op kind trace found regs memory before = begun_caused op (number_of kind) trace found (entries.enter kind regs memory before)
 
 -- and in no case 0
 abbrev pub Other : Result Ended Stop → Type 0
@@ -68,9 +68,9 @@ begun_other op number trace found (Ok (Some regs, done)) some = some
 begun_other op number trace found (Ok (None, done)) some = omega arith
 begun_other op number trace found (Err stop) some = tt
 
-pub other : (op : Op) (kind : Exception) (trace : Bool) (found regs : Regs) (memory : Memory) (before : Done) → number_of kind ≢ 0 → Other (samples.take_exception op kind trace found regs memory before)
+pub exception_other : (op : Op) (kind : Exception) (trace : Bool) (found regs : Regs) (memory : Memory) (before : Done) → number_of kind ≢ 0 → Other (samples.take_exception op kind trace found regs memory before)
 unfolding samples.take_exception
-other op kind trace found regs memory before some = begun_other op (number_of kind) trace found (entries.enter kind regs memory before) some
+exception_other op kind trace found regs memory before some = begun_other op (number_of kind) trace found (entries.enter kind regs memory before) some
 
 -- nothing was taken before
 waits_first : (list : List Access) (count : ℕ) (sample : Result Ended Stop) (request : Request68) → Comes list count 0 sample → sample ≡ Err (Ask request) → Waits list count request

@@ -31,12 +31,12 @@ faulted list count after address read h =
     let whole : h.taken ≡ after = omega (arith, h.used) in subst (λ taken. Faults list taken address read) whole h.faults
 
 -- what a row comes to
-pub along : (op : Op) (start : ℕ) (regs : Regs) (memory : Memory) → MovesWords op → Along (words (footprint op start regs)) (length memory.answers) 0 (execution.row op start regs memory nothing)
-along op start regs memory moves = (row op start regs moves).along memory nothing (omega arith)
+pub row_along : (op : Op) (start : ℕ) (regs : Regs) (memory : Memory) → MovesWords op → Along (words (footprint op start regs)) (length memory.answers) 0 (execution.row op start regs memory nothing)
+row_along op start regs memory moves = (row op start regs moves).along memory nothing (omega arith)
 
 found : (op : Op) (start : ℕ) (regs : Regs) (memory : Memory) (result : Result (Outcome × Done) Stop) → MovesWords op → execution.row op start regs memory nothing ≡ result → Along (words (footprint op start regs)) (length memory.answers) 0 result
 found op start regs memory result moves e =
-    subst (λ result. Along (words (footprint op start regs)) (length memory.answers) 0 result) e (along op start regs memory moves)
+    subst (λ result. Along (words (footprint op start regs)) (length memory.answers) 0 result) e (row_along op start regs memory moves)
 
 pub instructions : InstructionsFollowFootprints
 instructions = record {

@@ -21,9 +21,9 @@ use Rattle.m68k_exec.specs.declared.sample.exception.Exception.TheVariants.{Addr
 use Rattle.m68k_laws.proofs.Causes as causes
 use Rattle.m68k_laws.proofs.Causes.{Left}
 use Rattle.m68k_laws.proofs.Decoding.{words_known}
-use Rattle.m68k_laws.proofs.Exceptions.{Caused, Comes, Other, caused, exception, other}
+use Rattle.m68k_laws.proofs.Exceptions.{Caused, Comes, Other, exception, exception_caused, exception_other}
 use Rattle.m68k_laws.proofs.Follows.{Along, Asks, Ends}
-use Rattle.m68k_laws.proofs.Instructions.{along, completed, faulted, waited}
+use Rattle.m68k_laws.proofs.Instructions.{row_along, completed, faulted, waited}
 use Rattle.m68k_laws.specs.Accesses.{Access, IsEven, is_odd, shared, words}
 use Rattle.m68k_laws.specs.Frames.{frame, left_by}
 use Rattle.m68k_laws.specs.Laws.{Completes, Faults, Waits}
@@ -48,9 +48,9 @@ pub record Known (regs : Regs) (memory : Memory) (result : Result (Outcome × Do
   pub along : Along (words_at regs memory) (length memory.answers) 0 result
   pub left : Left (left_by (named regs memory) (started regs memory)).ssp result
 
-known : (regs : Regs) (memory : Memory) → Fits memory → Known regs memory (result_at regs memory)
-known regs memory fits = record {
-  along = along _ regs.pc _ memory (words_known memory regs.pc fits);
+result_known : (regs : Regs) (memory : Memory) → Fits memory → Known regs memory (result_at regs memory)
+result_known regs memory fits = record {
+  along = row_along _ regs.pc _ memory (words_known memory regs.pc fits);
   left = (causes.row (named regs memory) regs.pc (started regs memory)).at memory nothing;
 }
 
@@ -142,7 +142,7 @@ unfolding samples.ended_by accesses_of
 completes_all regs memory outcome done ended true is e none = ap accesses_of (rw is at e)
 completes_all regs memory outcome done ended false is e none =
     let some : outcome.cause ≢ 0 = grind (arith, nat_tests) in
-    let not_0 : ended.spent.cause ≢ 0 = subst Other (rw is at e) (other (named regs memory) (Numbered outcome.cause) (samples.leaves_trace regs outcome.cause) regs outcome.regs memory done some) in
+    let not_0 : ended.spent.cause ≢ 0 = subst Other (rw is at e) (exception_other (named regs memory) (Numbered outcome.cause) (samples.leaves_trace regs outcome.cause) regs outcome.regs memory done some) in
     absurd (not_0 none)
 
 completes_by : (regs : Regs) (memory : Memory) (result : Result (Outcome × Done) Stop) (ended : Ended) → Known regs memory result → sample_after regs memory result ≡ Ok ended → ended.spent.cause ≡ 0 → Completes (words_at regs memory) ended.spent.accesses
@@ -151,7 +151,7 @@ completes_by regs memory (Ok x) ended h e none =
     subst (λ taken. Completes (words_at regs memory) taken) used (completed _ (length memory.answers) x.1.used h.along)
 completes_by regs memory (Err (Ask request)) ended h e none = absurd (cc)
 completes_by regs memory (Err (Odd address read used)) ended h e none =
-    let not_0 : ended.spent.cause ≢ 0 = subst Other e (other (named regs memory) (AddressError (opcode (instruction_words regs.pc memory)) address read) false regs regs memory (record { used = used; writes = [] }) (omega arith)) in
+    let not_0 : ended.spent.cause ≢ 0 = subst Other e (exception_other (named regs memory) (AddressError (opcode (instruction_words regs.pc memory)) address read) false regs regs memory (record { used = used; writes = [] }) (omega arith)) in
     absurd (not_0 none)
 
 ends_all : (regs : Regs) (memory : Memory) (outcome : Outcome) (done : Done) (ended : Ended) (test : Bool) → Known regs memory (Ok (outcome, done)) → (outcome.cause == 0) ≡ test → samples.ended_by (named regs memory) regs outcome memory done ≡ Ok ended → ended.spent.cause ≢ 0 → (number : ℕ) × Behind regs memory ended.spent.accesses number Completes × (IsFalse ended.halted → ended.spent.cause ≡ number)
@@ -171,7 +171,7 @@ ends_all regs memory outcome done ended false h is e other_ =
         comes = inr (after_all regs memory outcome done h some);
         holds = ends.completes;
       },
-      subst (Caused outcome.cause) (rw is at e) (caused (named regs memory) (Numbered outcome.cause) trace regs outcome.regs memory done),
+      subst (Caused outcome.cause) (rw is at e) (exception_caused (named regs memory) (Numbered outcome.cause) trace regs outcome.regs memory done),
     )
 
 ends_by : (regs : Regs) (memory : Memory) (result : Result (Outcome × Done) Stop) (ended : Ended) → Known regs memory result → sample_after regs memory result ≡ Ok ended → ended.spent.cause ≢ 0 → (number : ℕ) × Behind regs memory ended.spent.accesses number Completes × (IsFalse ended.halted → ended.spent.cause ≡ number)
@@ -191,15 +191,15 @@ ends_by regs memory (Err (Odd address read used)) ended h e some =
         comes = inl (after_fault regs memory address read used h);
         holds = ends.completes;
       },
-      subst (Caused 3) e (caused (named regs memory) kind false regs regs memory before),
+      subst (Caused 3) e (exception_caused (named regs memory) kind false regs regs memory before),
     )
 
-pub follows : SamplesFollowFootprints
-follows = record {
+pub samples_follow : SamplesFollowFootprints
+samples_follow = record {
   waits = λ regs memory fits even aligned fewer.
       subst (λ sample. (request : Request68) × (sample ≡ Err (Ask request)) × Waits (words_at regs memory) (length memory.answers) request) (sym (sample_is regs memory (even_start regs.pc even)))
-      (waits_by regs memory (result_at regs memory) (known regs memory fits) aligned fewer);
-  asks = λ regs memory request fits even e. asks_by regs memory (result_at regs memory) request (known regs memory fits) (sym (sample_is regs memory (even_start regs.pc even)) ∙ e);
-  completes = λ regs memory ended fits even e none. completes_by regs memory (result_at regs memory) ended (known regs memory fits) (sym (sample_is regs memory (even_start regs.pc even)) ∙ e) none;
-  ends = λ regs memory ended fits even e some. ends_by regs memory (result_at regs memory) ended (known regs memory fits) (sym (sample_is regs memory (even_start regs.pc even)) ∙ e) some;
+      (waits_by regs memory (result_at regs memory) (result_known regs memory fits) aligned fewer);
+  asks = λ regs memory request fits even e. asks_by regs memory (result_at regs memory) request (result_known regs memory fits) (sym (sample_is regs memory (even_start regs.pc even)) ∙ e);
+  completes = λ regs memory ended fits even e none. completes_by regs memory (result_at regs memory) ended (result_known regs memory fits) (sym (sample_is regs memory (even_start regs.pc even)) ∙ e) none;
+  ends = λ regs memory ended fits even e some. ends_by regs memory (result_at regs memory) ended (result_known regs memory fits) (sym (sample_is regs memory (even_start regs.pc even)) ∙ e) some;
 }
