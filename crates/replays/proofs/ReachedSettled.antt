@@ -1,7 +1,7 @@
 -- What holds of a machine that a run reaches holds of it once it is settled.
-use Rattle.std.proofs.Common.{◌≡◌, ◌∙◌, refl, sym, ℕ, zero, suc, ◌/◌, ◌%◌, ◌<◌, ◌≤◌, ◌==◌, ◌&&◌, Bool, true, false, arith}
+use Rattle.std.proofs.Common.{◌≡◌, ◌∙◌, refl, sym, ℕ, zero, suc, ◌/◌, ◌%◌, ◌≤◌, ◌==◌, Bool, true, false, arith}
 use Rattle.std.specs.Prelude.{All, nat_lt}
-use Rattle.std.proofs.lemmas.Bool.{true≢false}
+use Rattle.std.proofs.lemmas.Bool.{true≢false, and_parts, ltb-true}
 use Rattle.fm_port.specs.Timed.{AreTimed, IsTimed}
 use Rattle.fm_port.specs.Timers.{both_settled, is_due, overflowed, period_a, period_b, settled, settled_by}
 use Rattle.fm_port.specs.declared.timer.Timer.{Timer}
@@ -17,15 +17,12 @@ use Rattle.recording_laws.specs.Recorded.{recorded}
 
 -- ---- the timers
 
-due_parts : (at next : ℕ) (run : Bool) → (run && nat_lt next at) ≡ true → (run ≡ true) × (next < at)
-due_parts at next true due = (refl, grind (arith, due))
-due_parts at next false due = absurd (true≢false (sym due))
-
 overflowed-timed : (end longest bit period : ℕ) (enabled : Bool) (t : Timer) → period ≤ longest → is_due end t ≡ true → IsTimed end longest bit t
     → IsTimed end longest bit (overflowed period enabled t)
 overflowed-timed end longest bit period enabled t most due is =
-    let parts = due_parts end t.next t.run due in
-    record { run = is.run; runs = λ runs. omega (arith, parts.1, most); stands = λ stands. absurd (true≢false (sym parts.0 ∙ stands)) }
+    let parts = and_parts t.run (nat_lt t.next end) due in
+    let before = ltb-true t.next end parts.1 in
+    record { run = is.run; runs = λ runs. omega (arith, before, most); stands = λ stands. absurd (true≢false (sym parts.0 ∙ stands)) }
 
 settled-by : (n : ℕ) (b : Bool) (end longest bit period : ℕ) (enabled : Bool) (t : Timer) → is_due end t ≡ b → period ≤ longest → IsTimed end longest bit t
     → IsTimed end longest bit (settled_by n end period enabled t)
