@@ -3,6 +3,7 @@
 use Rattle.std.proofs.Common.{◌≡◌, ℕ, ◌+◌, ◌*◌, ◌%◌, ◌<◌, Bool, true, map, refl, arith}
 use Rattle.std.specs.Prelude.{◌||◌, nat_lt, if◌then◌else◌}
 use Rattle.std.proofs.lemmas.Bool.Decides.{nat_tests}
+use Rattle.std.proofs.lemmas.Bool.{lt-ltb}
 use Rattle.z80_decode.specs.declared.decoded80.Decoded80.{Decoded80}
 use Rattle.z80_decode.specs.declared.index.Index.TheVariants as indexes
 use Rattle.md_word.specs.Width.{extended as widened}
@@ -23,9 +24,6 @@ read at d = is_db d.op || is_read (row_of d.op at)
 abbrev pub read_behind : ℕ → Decoded80 → ℕ → Bool
 read_behind at d w = if names_hl w then read at d else true
 
-byte_true : (n : ℕ) → n < 256 → nat_lt n 256 ≡ true
-byte_true n h = grind (arith, nat_tests)
-
 word_true_at : (n : ℕ) → n < 65536 → nat_lt n 65536 ≡ true
 word_true_at n h = grind (arith, nat_tests)
 
@@ -42,11 +40,11 @@ read_bits at = refl
 
 pub read_ix_bits : (at first : ℕ) → first < 256 → map (λ w. read at (of_bytes 4 (bits w (memory_of indexes.Ix first)))) (range 256 0) ≡ map (λ w. true) (range 256 0)
 unfolding range bit_of bits shift is_worded
-read_ix_bits at first h = rw (byte_true first h) refl
+read_ix_bits at first h = rw (lt-ltb first 256 h) refl
 
 pub read_iy_bits : (at first : ℕ) → first < 256 → map (λ w. read at (of_bytes 4 (bits w (memory_of indexes.Iy first)))) (range 256 0) ≡ map (λ w. true) (range 256 0)
 unfolding range bit_of bits shift is_worded
-read_iy_bits at first h = rw (byte_true first h) refl
+read_iy_bits at first h = rw (lt-ltb first 256 h) refl
 
 pub read_extended : (at first second : ℕ) → first < 256 → second < 256 → map (λ w. read at (extended w first second)) (range 256 0) ≡ map (λ w. true) (range 256 0)
 unfolding range place_of pair_of extended ports pairs_extended modes specials block block_op is_worded
@@ -54,12 +52,12 @@ read_extended at first second h k = rw (word_true first second h k) refl
 
 pub read_plain : (at first second : ℕ) → first < 256 → second < 256 → map (λ w. read at (by_opcode indexes.Hl w first second)) (range 256 0) ≡ map (λ w. true) (range 256 0)
 unfolding range place_of pair_of stacked_of condition_of bit_of arithmetic accumulator relative_jumps pair_loads memory_loads pair_steps step number_loads low_group loads returns jumps calls control by_opcode is_worded
-read_plain at first second h k = rw (byte_true first h, word_true first second h k, target_true at first) refl
+read_plain at first second h k = rw (lt-ltb first 256 h, word_true first second h k, target_true at first) refl
 
 pub read_ix : (at first second : ℕ) → first < 256 → second < 256 → map (λ w. read_behind at (by_opcode indexes.Ix w first second) w) (range 256 0) ≡ map (λ w. true) (range 256 0)
 unfolding range place_of pair_of stacked_of condition_of bit_of arithmetic accumulator relative_jumps pair_loads memory_loads pair_steps step number_loads low_group loads returns jumps calls control by_opcode low_names_hl names_hl is_worded
-read_ix at first second h k = rw (byte_true first h, byte_true second k, word_true first second h k) refl
+read_ix at first second h k = rw (lt-ltb first 256 h, lt-ltb second 256 k, word_true first second h k) refl
 
 pub read_iy : (at first second : ℕ) → first < 256 → second < 256 → map (λ w. read_behind at (by_opcode indexes.Iy w first second) w) (range 256 0) ≡ map (λ w. true) (range 256 0)
 unfolding range place_of pair_of stacked_of condition_of bit_of arithmetic accumulator relative_jumps pair_loads memory_loads pair_steps step number_loads low_group loads returns jumps calls control by_opcode low_names_hl names_hl is_worded
-read_iy at first second h k = rw (byte_true first h, byte_true second k, word_true first second h k) refl
+read_iy at first second h k = rw (lt-ltb first 256 h, lt-ltb second 256 k, word_true first second h k) refl
