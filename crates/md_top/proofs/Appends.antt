@@ -4,7 +4,7 @@ use Rattle.std.specs.Prelude.{IsSome}
 use Rattle.md_outer.specs.Outside.{Files, IsPrefix, bytes_of, with_file}
 use Rattle.md_top.specs.Outputs.{Adds, AddsParts, Holds, LeavesParts, Pieces, lengthened, nothing, with_part}
 use Rattle.md_args.specs.Words.{Run}
-use Rattle.md_top.proofs.Writes.{Apart, AreFront, but_state, frames-longer, journal-longer, named, only-frames, only-journal, only-sound, only-state, part-unasked, parts, parts-longer, prefix-append, prefix-more, sound-longer, state-longer}
+use Rattle.md_top.proofs.Writes.{Apart, AreFront, but_state, frames-longer, journal-longer, named, only-frames, only-journal, only-sound, only-state, part-unasked, leaves_parts, parts-longer, prefix-append, prefix-more, sound-longer, state-longer}
 
 -- APPENDS
 
@@ -28,7 +28,7 @@ pub parts-frames : (run : Run) → Apart run → (begun : ℕ → Option (List �
 parts-frames run apart begun file old new piece (some, is) appended first held holds =
     let name = named run.frames some in
     let part = appended name.0 (is ∙ name.1) in
-    parts run first new (record held { frames = held.frames ++ part.0 }) (lengthened held (record nothing { frames = piece }))
+    leaves_parts run first new (record held { frames = held.frames ++ part.0 }) (lengthened held (record nothing { frames = piece }))
     (frames-longer run apart first old new held name.0 part.0 name.1 holds part.2)
     (record { frames = prefix-append held.frames part.0 piece part.1; sound = prefix-more held.sound []; journal = prefix-more held.journal []; state = prefix-more held.state [] })
 
@@ -50,7 +50,7 @@ pub parts-sound : (run : Run) → Apart run → (begun : ℕ → Option (List �
 parts-sound run apart begun file old new piece (some, is) appended first held holds =
     let name = named run.sound some in
     let part = appended name.0 (is ∙ name.1) in
-    parts run first new (record held { sound = held.sound ++ part.0 }) (lengthened held (record nothing { sound = piece }))
+    leaves_parts run first new (record held { sound = held.sound ++ part.0 }) (lengthened held (record nothing { sound = piece }))
     (sound-longer run apart first old new held name.0 part.0 name.1 holds part.2)
     (record { frames = prefix-more held.frames []; sound = prefix-append held.sound part.0 piece part.1; journal = prefix-more held.journal []; state = prefix-more held.state [] })
 
@@ -72,7 +72,7 @@ pub parts-journal : (run : Run) → Apart run → (begun : ℕ → Option (List 
 parts-journal run apart begun file old new piece (some, is) appended first held holds =
     let name = named run.journal some in
     let part = appended name.0 (is ∙ name.1) in
-    parts run first new (record held { journal = held.journal ++ part.0 }) (lengthened held (record nothing { journal = piece }))
+    leaves_parts run first new (record held { journal = held.journal ++ part.0 }) (lengthened held (record nothing { journal = piece }))
     (journal-longer run apart first old new held name.0 part.0 name.1 holds part.2)
     (record { frames = prefix-more held.frames []; sound = prefix-more held.sound []; journal = prefix-append held.journal part.0 piece part.1; state = prefix-more held.state [] })
 
@@ -94,7 +94,7 @@ pub parts-state : (run : Run) (begun : ℕ → Option (List ℕ)) (file : ℕ) (
 parts-state run begun file old new piece (some, is) appended first held holds =
     let name = named run.save some in
     let part = appended name.0 (is ∙ name.1) in
-    parts run first new (record held { state = held.state ++ part.0 }) (lengthened held (record nothing { state = piece }))
+    leaves_parts run first new (record held { state = held.state ++ part.0 }) (lengthened held (record nothing { state = piece }))
     (state-longer run first old new held name.0 part.0 name.1 holds part.2)
     (record { frames = prefix-more held.frames []; sound = prefix-more held.sound []; journal = prefix-more held.journal []; state = prefix-append held.state part.0 piece part.1 })
 

@@ -1,7 +1,8 @@
 -- What a status tells of an assembly, and the ending without a fault.
-use Rattle.std.proofs.Common.{◌≡◌, ◌≢◌, ◌⊎◌, inl, inr, ℕ, Bool, true, false, cond, List, length, Option, Some, None, refl, ap, ◌∙◌, arith}
+use Rattle.std.proofs.Common.{◌≡◌, ◌≢◌, ◌⊎◌, inl, inr, ℕ, Bool, false, cond, List, length, Option, Some, None, refl, ap, ◌∙◌, arith}
 use Rattle.std.specs.Str.{bytes_eq}
 use Rattle.std.proofs.lemmas.Slice.Eq.{bytes_eq-Decides}
+use Rattle.std.proofs.lemmas.Bool.{le-ltb, false_from_ne_true}
 use Rattle.md_outer.specs.Outside.{DepotState, Files, Rose, with_file}
 use Rattle.md_asm.specs.Assembly as assembly
 use Rattle.md_asm.specs.declared.placed.Placed.{Placed}
@@ -17,7 +18,6 @@ use Rattle.md_top.specs.Endings.{InfoEnds, RunEnds, status_of}
 use Rattle.md_top.specs.Inputs.{IsMissing}
 use Rattle.md_top.specs.declared.ending.Ending.{Ending}
 use Rattle.md_top.specs.declared.ending.Ending.TheVariants.{Converted, InputRefused, OutputFault, SourceRefused, ListFault, Usage, TooFar, ReadFault, TooLong, RecordingFault, RecordingWrong, LoadFault, ScriptFault, StateWrong, OtherCart, Behind, FramesFault, SoundFault, JournalFault, SaveFault, Memory}
-use Rattle.md_top.proofs.Right.{not_below}
 use Rattle.md_top.proofs.Statuses.{missing_cart}
 
 -- no other command refuses a source
@@ -109,17 +109,13 @@ pub asm_done : (source : Option (List ℕ)) (image : List ℕ) (lines : List Pla
     → status_of (as_ending (files.right_ending source)) ≡ 0
 asm_done None image lines found = absurd found
 asm_done (Some bytes) image lines found =
-    ap (λ (long : Bool). status_of (as_ending (cond long comes.TooLong (files.made_ending (assembly.assembly bytes))))) (not_below limit (length bytes) found.0)
+    ap (λ (long : Bool). status_of (as_ending (cond long comes.TooLong (files.made_ending (assembly.assembly bytes))))) (le-ltb limit (length bytes) found.0)
     ∙ ap (λ (outcome : assembly.Assembly). status_of (as_ending (files.made_ending outcome))) found.1
 
 -- the files of other names than the outputs'
-is_other : (b : Bool) → (b ≡ true → ⊥) → b ≡ false
-is_other true differ = absurd (differ refl)
-is_other false differ = refl
-
 with_other : (held : Files) (output bytes name : List ℕ) → output ≢ name → with_file held output bytes name ≡ held name
 with_other held output bytes name differ =
-    let other : bytes_eq output name ≡ false = is_other (bytes_eq output name) (λ same. differ ((bytes_eq-Decides output name).0 same)) in
+    let other : bytes_eq output name ≡ false = false_from_ne_true (bytes_eq output name) (λ same. differ ((bytes_eq-Decides output name).0 same)) in
     rw other refl
 
 list_other : (held : Files) (list : Option (List ℕ)) (bytes name : List ℕ) → list ≢ Some name → with_list list held bytes name ≡ held name

@@ -1,8 +1,9 @@
 -- What a status tells of a conversion, and the ending without a fault.
-use Rattle.std.proofs.Common.{◌≡◌, ◌≢◌, ◌⊎◌, inl, inr, ℕ, Bool, true, false, cond, List, [], length, Option, Some, None, refl, ap, ◌∙◌, arith}
+use Rattle.std.proofs.Common.{◌≡◌, ◌≢◌, ◌⊎◌, inl, inr, ℕ, Bool, false, cond, List, [], length, Option, Some, None, refl, ap, ◌∙◌, arith}
 use Rattle.std.specs.Prelude.{unwrap_or}
 use Rattle.std.specs.Str.{bytes_eq}
 use Rattle.std.proofs.lemmas.Slice.Eq.{bytes_eq-Decides}
+use Rattle.std.proofs.lemmas.Bool.{le-ltb, false_from_ne_true}
 use Rattle.md_outer.specs.Outside.{DepotState, Files, Rose, with_file}
 use Rattle.md_vgm.specs.Outcomes.{Made, Outcome}
 use Rattle.md_args.specs.Words.{Conversion, Convert, Run}
@@ -16,7 +17,6 @@ use Rattle.md_top.specs.Endings.{InfoEnds, RunEnds, status_of}
 use Rattle.md_top.specs.Inputs.{IsMissing}
 use Rattle.md_top.specs.declared.ending.Ending.{Ending}
 use Rattle.md_top.specs.declared.ending.Ending.TheVariants.{Converted, InputRefused, OutputFault, ListFault, Usage, TooFar, ReadFault, TooLong, RecordingFault, RecordingWrong, LoadFault, ScriptFault, StateWrong, OtherCart, Behind, FramesFault, SoundFault, JournalFault, SaveFault, Memory}
-use Rattle.md_top.proofs.Right.{not_below}
 use Rattle.md_top.proofs.Statuses.{missing_cart}
 
 -- no other command refuses the input of a conversion
@@ -106,16 +106,12 @@ pub convert_done : (conversion : Conversion) (input : Option (List ℕ)) (made :
     → status_of (as_ending (files.right_ending input (Made made))) ≡ 0
 convert_done conversion None made found = absurd found
 convert_done conversion (Some bytes) made found =
-    ap (λ (long : Bool). status_of (as_ending (cond long converted.TooLong (converted.Made (length made))))) (not_below limit (length bytes) found.0)
+    ap (λ (long : Bool). status_of (as_ending (cond long converted.TooLong (converted.Made (length made))))) (le-ltb limit (length bytes) found.0)
 
 -- the files of other names than the output's
-is_other : (b : Bool) → (b ≡ true → ⊥) → b ≡ false
-is_other true differ = absurd (differ refl)
-is_other false differ = refl
-
 with_other : (held : Files) (output bytes name : List ℕ) → output ≢ name → with_file held output bytes name ≡ held name
 with_other held output bytes name differ =
-    let other : bytes_eq output name ≡ false = is_other (bytes_eq output name) (λ same. differ ((bytes_eq-Decides output name).0 same)) in
+    let other : bytes_eq output name ≡ false = false_from_ne_true (bytes_eq output name) (λ same. differ ((bytes_eq-Decides output name).0 same)) in
     rw other refl
 
 pub converted_other : (conversion : Conversion) (old new : Files) (ending : Ending) → ConvertFiles conversion old new ending → (name : List ℕ) → conversion.output ≢ name → new name ≡ old name

@@ -1,6 +1,7 @@
 -- A session of the debugger: what a status tells of its ending.
 use Rattle.std.proofs.Common.{◌≡◌, ◌≢◌, ◌⊎◌, inl, inr, ℕ, ◌<◌, ◌≤◌, Bool, cond, List, [], length, Option, Some, None, refl, sym, ap, subst, ◌∙◌, arith}
 use Rattle.std.specs.Prelude.{IsSomeAnd, unwrap_or}
+use Rattle.std.proofs.lemmas.Bool.{le-ltb, lt-ltb}
 use Rattle.md_outer.specs.Outside.{DepotState, Files, GoesOn, Rose}
 use Rattle.md_args.specs.Words.{Assembling, Conversion, Debug, Debugging, Demo, Run}
 use Rattle.debug_script.specs.declared.script.Ending.{Ending as ScriptEnding}
@@ -16,7 +17,7 @@ use Rattle.md_top.specs.Inputs.{CartCause, IsAccepted, IsMissing, cart_of}
 use Rattle.md_top.specs.declared.ending.Ending.{Ending}
 use Rattle.md_top.specs.declared.ending.Ending.TheVariants.{Behind, DemoDone, FramesFault, InputRefused, JournalFault, ListFault, LoadFault, Memory, OtherCart, OutputFault, ReadFault, RecordingFault, RecordingWrong, SaveFault, ScriptFault, ScriptMemory, ScriptRefused, ScriptTooLong, Shown, SoundFault, SourceRefused, StateWrong, TooFar, Usage}
 use Rattle.md_top.proofs.Kept.{unread_before}
-use Rattle.md_top.proofs.Right.{cart_always, cart_there, file_there, file_within, is_below, not_below, right_accepted}
+use Rattle.md_top.proofs.Right.{cart_always, cart_there, file_there, file_within, right_accepted}
 use Rattle.md_top.proofs.Statuses.{missing_cart}
 
 -- no other command refuses a script
@@ -124,14 +125,14 @@ script_missing file script none = ap (λ (f : Option (List ℕ)). script_ending 
 script_long : (file : Option (List ℕ)) (script : Scripted) → IsSomeAnd file (λ bytes. script_limit < length bytes) → script_ending file script ≡ ScriptTooLong
 script_long None script long = absurd long
 script_long (Some bytes) script long =
-    ap (λ (b : Bool). cond b ScriptTooLong (played_ending script.replies script.ending)) (is_below script_limit (length bytes) long)
+    ap (λ (b : Bool). cond b ScriptTooLong (played_ending script.replies script.ending)) (lt-ltb script_limit (length bytes) long)
 
 -- the script that is played
 script_played : (file : Option (List ℕ)) (cart replies : List ℕ) (ending : ScriptEnding) → IsSomeAnd file (λ script. (length script ≤ script_limit) × PlaysScript cart script replies ending)
     → (script_ending file (record { replies = replies; ending = ending }) ≡ played_ending replies ending) × PlaysScript cart (unwrap_or file []) replies ending
 script_played None cart replies ending played = absurd played
 script_played (Some bytes) cart replies ending (within, plays) =
-    (ap (λ (b : Bool). cond b ScriptTooLong (played_ending replies ending)) (not_below script_limit (length bytes) within), plays)
+    (ap (λ (b : Bool). cond b ScriptTooLong (played_ending replies ending)) (le-ltb script_limit (length bytes) within), plays)
 
 debug_played : (words : Debugging) (files : Files) (replies : List ℕ) (ending : ScriptEnding) → IsPlayed words files replies ending
     → debug_ending words files (record { replies = replies; ending = ending }) ≡ played_ending replies ending

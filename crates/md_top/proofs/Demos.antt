@@ -1,5 +1,6 @@
 -- The run of a demonstration cartridge: what its digests hold, and what a status tells of its ending.
 use Rattle.std.proofs.Common.{◌≡◌, ◌⊎◌, inl, inr, ℕ, ◌^◌, ◌<◌, ◌≤◌, List, [], ◌++◌, Bool, cond, Some, refl, sym, ap, subst, ◌∙◌, arith}
+use Rattle.std.proofs.lemmas.Bool.{le-ltb, lt-ltb, le-leb, lt-leb}
 use Rattle.sha2.specs.Hashers.{Holds256}
 use Rattle.sha2.specs.Sha256.{sha256}
 use Rattle.md_outer.specs.Outside.{Files, SinkState}
@@ -20,7 +21,6 @@ use Rattle.md_top.specs.declared.digests.Digests.{Digests}
 use Rattle.md_top.specs.declared.ending.Ending.{Ending}
 use Rattle.md_top.specs.declared.ending.Ending.TheVariants.{Behind, DemoDone, Memory, TooFar}
 use Rattle.md_top.specs.declared.hashers.Hashers.{Hashers}
-use Rattle.md_top.proofs.Right.{is_ahead, is_below, is_behind, not_below}
 use Rattle.md_top.proofs.Segments.{no-entries, no-media}
 
 -- THE DIGESTS
@@ -102,19 +102,19 @@ demo_far_only sink demo out out' status _ ends reports far = absurd ends
 
 right_demo_far : (demo : Demo) (files : Files) (verdict : Verdict) (found : Findings) (outcome : Outcome) → last_cycle < demo.cycles
     → right_ending (Some (RunDemo demo)) files verdict found outcome ≡ TooFar
-right_demo_far demo files verdict found outcome far = ap (λ (b : Bool). cond b TooFar (demo_ending demo)) (is_below last_cycle demo.cycles far)
+right_demo_far demo files verdict found outcome far = ap (λ (b : Bool). cond b TooFar (demo_ending demo)) (lt-ltb last_cycle demo.cycles far)
 
 right_demo_near : (demo : Demo) (files : Files) (verdict : Verdict) (found : Findings) (outcome : Outcome) → demo.cycles ≤ last_cycle
     → right_ending (Some (RunDemo demo)) files verdict found outcome ≡ demo_ending demo
-right_demo_near demo files verdict found outcome near = ap (λ (b : Bool). cond b TooFar (demo_ending demo)) (not_below last_cycle demo.cycles near)
+right_demo_near demo files verdict found outcome near = ap (λ (b : Bool). cond b TooFar (demo_ending demo)) (le-ltb last_cycle demo.cycles near)
 
 demo_ending_behind : (demo : Demo) → demo.cycles ≤ 0 → demo_ending demo ≡ Behind 0
 demo_ending_behind demo none =
-    ap (λ (b : Bool). cond b (Behind 0) (DemoDone (summary_from (demo_start demo) demo.cycles))) (is_behind demo.cycles 0 none)
+    ap (λ (b : Bool). cond b (Behind 0) (DemoDone (summary_from (demo_start demo) demo.cycles))) (le-leb demo.cycles 0 none)
 
 demo_ending_done : (demo : Demo) → 0 < demo.cycles → demo_ending demo ≡ DemoDone (summary_from (demo_start demo) demo.cycles)
 demo_ending_done demo some =
-    ap (λ (b : Bool). cond b (Behind 0) (DemoDone (summary_from (demo_start demo) demo.cycles))) (is_ahead demo.cycles 0 some)
+    ap (λ (b : Bool). cond b (Behind 0) (DemoDone (summary_from (demo_start demo) demo.cycles))) (lt-leb demo.cycles 0 some)
 
 -- a run with an end within the limits ends well
 pub right_demo_done : (demo : Demo) (files : Files) (verdict : Verdict) (found : Findings) (outcome : Outcome) → IsEnd demo.cycles

@@ -1,7 +1,6 @@
 -- The run that the machine made is the one of the definition, which goes on from cycle to cycle.
 use Rattle.std.proofs.Common.{◌≡◌, ℕ, ◌+◌, ◌-◌, ◌<◌, ◌≤◌, ◌^◌, ◌⊎◌, inl, inr, true, false, List, ◌++◌, refl, sym, ap, ◌∙◌, subst, arith}
-use Rattle.std.specs.Prelude.{nat_le}
-use Rattle.std.proofs.lemmas.Bool.Decides.{nat_tests}
+use Rattle.std.proofs.lemmas.Bool.{le-leb, lt-leb, leb-false, leb-true}
 use Rattle.md_word.specs.declared.event.Entry.{Entry}
 use Rattle.md_machine.specs.Console.{AllBelow, Console, IsRunTo, journal, key_in, mover, ran, media}
 use Rattle.md_machine.specs.Media.{Media, joined}
@@ -10,26 +9,14 @@ use Rattle.md_machine.specs.Starts.{Start}
 use Rattle.md_top.specs.Runs.{RunLaws, entries_from, is_quiet, media_from, moves_from, run_from}
 use Rattle.md_top.proofs.Least.{least-below, least-found, least-is, least-le}
 
-passes : (end cycle : ℕ) → end ≤ cycle → nat_le end cycle ≡ true
-passes end cycle late = grind (arith, nat_tests)
-
-fails : (end cycle : ℕ) → cycle < end → nat_le end cycle ≡ false
-fails end cycle early = grind (arith, nat_tests)
-
-early_from : (end cycle : ℕ) → nat_le end cycle ≡ false → cycle < end
-early_from end cycle is = grind (arith, nat_tests)
-
-late_from : (end cycle : ℕ) → nat_le end cycle ≡ true → end ≤ cycle
-late_from end cycle is = grind (arith, nat_tests)
-
 pub moves-found : (start : Start) (end : ℕ) {after : Console} {entries : List Entry} {sound : Media} → RunLaws start → end ≤ 2 ^ 50
     → (run : IsRunTo start.console end after entries sound) → moves_from start end ≡ run.moves
 unfolding moves_from
 moves-found start end {after} laws small run =
-    let quiet : is_quiet end after ≡ true = passes end (key_in after (mover after)).cycle (run.quiet (mover after) (mover-lt after)) in
+    let quiet : is_quiet end after ≡ true = le-leb end (key_in after (mover after)).cycle (run.quiet (mover after) (mover-lt after)) in
     least-is (λ n. is_quiet end (ran start.console n)) (end - start.at + 5) run.moves (laws.few_events end run.moves small run.below)
     (subst (λ (machine : Console). is_quiet end machine ≡ true) run.console quiet)
-    (λ k below. fails end (key_in (ran start.console k) (mover (ran start.console k))).cycle (run.below k below))
+    (λ k below. lt-leb end (key_in (ran start.console k) (mover (ran start.console k))).cycle (run.below k below))
 
 -- the machine, the entries, the frames and the samples are the definition's
 pub record Found (start : Start) (end : ℕ) (after : Console) (entries : List Entry) (sound : Media) : Type 0 where
@@ -50,7 +37,7 @@ run-found start end laws small run =
 
 -- the run of the definition leaves no event below its end
 all_early : (start : Start) (end : ℕ) → ((k : ℕ) → k ≤ end - start.at + 5 → is_quiet end (ran start.console k) ≡ false) → AllBelow start.console end (end - start.at + 6)
-all_early start end none k below = early_from end (key_in (ran start.console k) (mover (ran start.console k))).cycle (none k (omega arith))
+all_early start end none k below = leb-false end (key_in (ran start.console k) (mover (ran start.console k))).cycle (none k (omega arith))
 
 complete_from : (start : Start) (end : ℕ) → RunLaws start → end ≤ 2 ^ 50
     → (is_quiet end (ran start.console (moves_from start end)) ≡ true) ⊎ ((k : ℕ) → k ≤ end - start.at + 5 → is_quiet end (ran start.console k) ≡ false)
@@ -68,10 +55,10 @@ pub run-made : (start : Start) (end : ℕ) → RunLaws start → end ≤ 2 ^ 50
 unfolding entries_from media_from moves_from
 run-made start end laws small =
     let quiet : is_quiet end (run_from start end) ≡ true = run-complete start end laws small in
-    let late : end ≤ (key_in (run_from start end) (mover (run_from start end))).cycle = late_from end (key_in (run_from start end) (mover (run_from start end))).cycle quiet in
+    let late : end ≤ (key_in (run_from start end) (mover (run_from start end))).cycle = leb-true end (key_in (run_from start end) (mover (run_from start end))).cycle quiet in
     record {
       moves = moves_from start end;
-      below = λ k below. early_from end (key_in (ran start.console k) (mover (ran start.console k))).cycle
+      below = λ k below. leb-false end (key_in (ran start.console k) (mover (ran start.console k))).cycle
           (least-below (λ n. is_quiet end (ran start.console n)) (end - start.at + 5) k below);
       quiet = λ i below. omega (arith, late, laws.mover_first (run_from start end) i below);
       console = refl;
@@ -84,9 +71,9 @@ pub moves-later : (start : Start) (s t : ℕ) → RunLaws start → t ≤ 2 ^ 50
 unfolding moves_from
 moves-later start s t laws small within =
     let late : t ≤ (key_in (run_from start t) (mover (run_from start t))).cycle =
-    late_from t (key_in (run_from start t) (mover (run_from start t))).cycle (run-complete start t laws small) in
+    leb-true t (key_in (run_from start t) (mover (run_from start t))).cycle (run-complete start t laws small) in
     least-le (λ n. is_quiet s (ran start.console n)) (s - start.at + 5) (moves_from start t)
-    (passes s (key_in (run_from start t) (mover (run_from start t))).cycle (omega (arith, within, late)))
+    (le-leb s (key_in (run_from start t) (mover (run_from start t))).cycle (omega (arith, within, late)))
 
 -- what a run to a later cycle has more
 pub record Later (start : Start) (s t : ℕ) : Type 0 where
@@ -96,9 +83,9 @@ pub record Later (start : Start) (s t : ℕ) : Type 0 where
   pub more_media : media_from start t ≡ joined (media_from start s) output
   pub run : IsRunTo (run_from start s) t (run_from start t) entries output
 
-pub later : (start : Start) (s t : ℕ) → RunLaws start → t ≤ 2 ^ 50 → s ≤ t → Later start s t
+pub later_run : (start : Start) (s t : ℕ) → RunLaws start → t ≤ 2 ^ 50 → s ≤ t → Later start s t
 unfolding entries_from media_from
-later start s t laws small within =
+later_run start s t laws small within =
     let on : moves_from start s ≤ moves_from start t = moves-later start s t laws small within in
     let whole : IsRunTo start.console t (run_from start t) (entries_from start t) (media_from start t) = run-made start t laws small in
     let count : moves_from start t ≡ whole.moves = moves-found start t laws small whole in

@@ -18,13 +18,13 @@ use Rattle.md_top.specs.Limits.{IsEnd}
 use Rattle.md_top.specs.Resuming.{GoesOnFrom, IsKept, RunsWell, StateLaws}
 use Rattle.md_top.specs.Runs.{RunLaws, entries_from, halted_from, media_from, moves_from, run_from, state_to}
 use Rattle.md_top.proofs.Counts.{frames-counted, pairs-counted}
-use Rattle.md_top.proofs.LeastRuns.{Found, Later, later, run-found, run-made}
+use Rattle.md_top.proofs.LeastRuns.{Found, Later, later_run, run-found, run-made}
 
 -- the saved state goes on as the run
 goes-on : (start : Start) (at : ℕ) → RunLaws start → StateLaws → IsReached at (run_from start at) → GoesOnFrom start at
 unfolding state_to
 goes-on start at laws states reached = λ end after entries output within near run.
-    let more : Later start at end = later start at end laws (omega (arith, near)) within in
+    let more : Later start at end = later_run start at end laws (omega (arith, near)) within in
     let on : GoesOn end (settled_console at (run_from start at)) (run_from start end) more.entries more.output =
     states.goes_on (run_from start at) (run_from start end) at end more.entries more.output reached.parts reached.start.quiet within (omega (arith, near)) more.run in
     let one : (on.after ≡ after) × (more.entries ≡ entries) × (more.output ≡ output) =

@@ -1,7 +1,7 @@
 -- The ending where neither a fault nor want of memory comes between.
 use Rattle.std.proofs.Common.{◌≡◌, ◌⊎◌, inl, inr, ℕ, ◌<◌, ◌≤◌, Bool, true, false, cond, List, [], length, Option, Some, None, refl, sym, ap, ap₂, subst, ◌∙◌, arith}
 use Rattle.std.specs.Prelude.{IsSomeAnd, nat_le, nat_lt, unwrap_or}
-use Rattle.std.proofs.lemmas.Bool.Decides.{nat_tests}
+use Rattle.std.proofs.lemmas.Bool.{le-ltb, lt-ltb, le-leb, lt-leb}
 use Rattle.rom_header.specs.Cartridge.{fault_of, has_mark}
 use Rattle.rom_header.specs.declared.cart.CartFault.{CartFault}
 use Rattle.rom_header.specs.declared.cart.CartFault.TheVariants as fault
@@ -21,12 +21,6 @@ use Rattle.md_top.specs.declared.inputs.Inputs.{Inputs}
 use Rattle.md_pads.proofs.Whole.{one_recording}
 use Rattle.state_laws.proofs.Whole.{one_verdict}
 
-pub not_below : (limit n : ℕ) → n ≤ limit → nat_lt limit n ≡ false
-not_below limit n within = grind (arith, nat_tests)
-
-pub is_below : (limit n : ℕ) → limit < n → nat_lt limit n ≡ true
-is_below limit n above = grind (arith, nat_tests)
-
 -- BEHIND THE CARTRIDGE'S FILE
 
 -- a file within the limit is not refused as too long
@@ -38,23 +32,23 @@ not_long false false same = cc
 pub long_is_long : (bytes : List ℕ) → length bytes ≤ cart_limit → fault_of bytes ≡ Some fault.Long → ⊥
 long_is_long bytes within why =
     not_long (nat_lt (length bytes) 512) (has_mark bytes)
-    (rw (not_below 4194304 (length bytes) within) at why)
+    (rw (le-ltb 4194304 (length bytes) within) at why)
 
 pub right_accepted : (file : Option (List ℕ)) (rest : Ending) → IsAccepted file → file_ending file rest ≡ rest
 right_accepted None rest accepted = absurd accepted
 right_accepted (Some bytes) rest (within, ok) =
-    ap (λ (long : Bool). cond long TooLong (cart_ending (fault_of bytes) rest)) (not_below cart_limit (length bytes) within)
+    ap (λ (long : Bool). cond long TooLong (cart_ending (fault_of bytes) rest)) (le-ltb cart_limit (length bytes) within)
     ∙ ap (λ (fault : Option CartFault). cart_ending fault rest) ok
 
 right_long : (file : Option (List ℕ)) (rest : Ending) → IsSomeAnd file (λ bytes. cart_limit < length bytes) → file_ending file rest ≡ TooLong
 right_long None rest long = absurd long
-right_long (Some bytes) rest long = ap (λ (too_long : Bool). cond too_long TooLong (cart_ending (fault_of bytes) rest)) (is_below cart_limit (length bytes) long)
+right_long (Some bytes) rest long = ap (λ (too_long : Bool). cond too_long TooLong (cart_ending (fault_of bytes) rest)) (lt-ltb cart_limit (length bytes) long)
 
 right_refused : (file : Option (List ℕ)) (rest : Ending) (why : CartFault)
     → IsSomeAnd file (λ bytes. (length bytes ≤ cart_limit) × (fault_of bytes ≡ Some why)) → file_ending file rest ≡ cart_ending (Some why) rest
 right_refused None rest why refused = absurd refused
 right_refused (Some bytes) rest why (within, is) =
-    ap (λ (long : Bool). cond long TooLong (cart_ending (fault_of bytes) rest)) (not_below cart_limit (length bytes) within)
+    ap (λ (long : Bool). cond long TooLong (cart_ending (fault_of bytes) rest)) (le-ltb cart_limit (length bytes) within)
     ∙ ap (λ (refused : Option CartFault). cart_ending refused rest) is
 
 right_missing : (file : Option (List ℕ)) (rest : Ending) → file ≡ None → file_ending file rest ≡ ReadFault
@@ -91,7 +85,7 @@ file_recorded : (file : Option (List ℕ)) (verdict : Verdict) (recording : Reco
     → recording_ending file verdict ready ≡ ready recording
 file_recorded None verdict recording ready is judged = absurd is
 file_recorded (Some bytes) (Spelled found) recording ready (within, spells) judged =
-    ap (λ (long : Bool). cond long RecordingTooLong (ready found)) (not_below recording_limit (length bytes) within)
+    ap (λ (long : Bool). cond long RecordingTooLong (ready found)) (le-ltb recording_limit (length bytes) within)
     ∙ ap ready (one_recording bytes found recording judged spells)
 file_recorded (Some bytes) (WrongAt place) recording ready (within, spells) judged = absurd (judged.none (recording, spells))
 
@@ -104,7 +98,7 @@ file_long : (file : Option (List ℕ)) (verdict : Verdict) (ready : Recorded →
     → recording_ending file verdict ready ≡ RecordingTooLong
 file_long None verdict ready long = absurd long
 file_long (Some bytes) verdict ready long =
-    ap (λ (too_long : Bool). cond too_long RecordingTooLong (verdict_ending verdict ready)) (is_below recording_limit (length bytes) long)
+    ap (λ (too_long : Bool). cond too_long RecordingTooLong (verdict_ending verdict ready)) (lt-ltb recording_limit (length bytes) long)
 
 -- whatever the verdict, there is a place at which the bytes go wrong
 file_wrong : (file : Option (List ℕ)) (verdict : Verdict) (place : ℕ) (ready : Recorded → Ending)
@@ -113,7 +107,7 @@ file_wrong : (file : Option (List ℕ)) (verdict : Verdict) (place : ℕ) (ready
 file_wrong None verdict place ready is judged = absurd is
 file_wrong (Some bytes) (Spelled recording) place ready (within, wrong) judged = absurd (wrong.none (recording, judged))
 file_wrong (Some bytes) (WrongAt other) place ready (within, wrong) judged =
-    ap (λ (long : Bool). status_of (cond long RecordingTooLong (RecordingWrong other))) (not_below recording_limit (length bytes) within)
+    ap (λ (long : Bool). status_of (cond long RecordingTooLong (RecordingWrong other))) (le-ltb recording_limit (length bytes) within)
 
 pub recording_right : (told : Type 0) (name : Option (List ℕ)) (old new : DepotState) (verdict : Verdict) (ready : Recorded → Ending) (ending : Ending)
     → RecordingCause told name old new ending → IsJudged name old.files verdict → ¬ Rose old.read_faults new.read_faults → told
@@ -143,13 +137,13 @@ file_kept : (file : Option (List ℕ)) (inputs : Inputs) (verdict state : StateV
     → IsFound inputs (unwrap_or file []) state → state_ending file state end ≡ kept_ending verdict end
 file_kept None inputs verdict state end found judged = absurd found
 file_kept (Some bytes) inputs verdict state end (within, found) judged =
-    ap (λ (long : Bool). cond long StateTooLong (kept_ending state end)) (not_below state_limit (length bytes) within)
+    ap (λ (long : Bool). cond long StateTooLong (kept_ending state end)) (le-ltb state_limit (length bytes) within)
     ∙ ap (λ (s : StateVerdict). kept_ending s end) (one_verdict inputs.cart inputs.recording bytes state verdict judged found)
 
 file_state_long : (file : Option (List ℕ)) (state : StateVerdict) (end : ℕ) → IsSomeAnd file (λ bytes. state_limit < length bytes) → state_ending file state end ≡ StateTooLong
 file_state_long None state end long = absurd long
 file_state_long (Some bytes) state end long =
-    ap (λ (too_long : Bool). cond too_long StateTooLong (kept_ending state end)) (is_below state_limit (length bytes) long)
+    ap (λ (too_long : Bool). cond too_long StateTooLong (kept_ending state end)) (lt-ltb state_limit (length bytes) long)
 
 -- where a run begins
 loaded_run : (load : Option (List ℕ)) (files : Files) (inputs : Inputs) (state : StateVerdict) (start : Start) (end : ℕ) → BeginsWith load files inputs start
@@ -184,12 +178,12 @@ load_right told (Some name) inputs old new state end _ cause judged clean t = ab
 
 pub right_far : (run : Run) (files : Files) (verdict : Verdict) (state : StateVerdict) → last_cycle < run.cycles → asked_ending run files verdict state ≡ TooFar
 right_far run files verdict state far =
-    ap (λ (b : Bool). cond b TooFar (file_ending (files run.rom) (accepted_ending run files verdict state))) (is_below last_cycle run.cycles far)
+    ap (λ (b : Bool). cond b TooFar (file_ending (files run.rom) (accepted_ending run files verdict state))) (lt-ltb last_cycle run.cycles far)
 
 pub right_near : (run : Run) (files : Files) (verdict : Verdict) (state : StateVerdict) → run.cycles ≤ last_cycle
     → asked_ending run files verdict state ≡ file_ending (files run.rom) (accepted_ending run files verdict state)
 right_near run files verdict state near =
-    ap (λ (b : Bool). cond b TooFar (file_ending (files run.rom) (accepted_ending run files verdict state))) (not_below last_cycle run.cycles near)
+    ap (λ (b : Bool). cond b TooFar (file_ending (files run.rom) (accepted_ending run files verdict state))) (le-ltb last_cycle run.cycles near)
 
 pub right_behind_cart : (run : Run) (files : Files) (verdict : Verdict) (state : StateVerdict) → run.cycles ≤ last_cycle → IsAccepted (files run.rom)
     → asked_ending run files verdict state ≡ accepted_ending run files verdict state
@@ -214,12 +208,6 @@ judged_inputs : (run : Run) (files : Files) (verdict : Verdict) (state : StateVe
 judged_inputs run files verdict state inputs are is judged =
     subst (λ (given : Inputs). IsLoadJudged run.load given files state) (sym (inputs_same run files verdict inputs are is)) judged
 
-pub is_behind : (end at : ℕ) → end ≤ at → nat_le end at ≡ true
-is_behind end at behind = grind (arith, nat_tests)
-
-pub is_ahead : (end at : ℕ) → at < end → nat_le end at ≡ false
-is_ahead end at ahead = grind (arith, nat_tests)
-
 right_run : (run : Run) (files : Files) (verdict : Verdict) (state : StateVerdict) (start : Start) → run.cycles ≤ last_cycle → Begins run files start
     → IsJudged run.recording files verdict → IsStateJudged (Some run) files verdict state
     → status_of (asked_ending run files verdict state) ≡ cond (nat_le run.cycles start.at) 9 0
@@ -230,12 +218,12 @@ right_run run files verdict state start near begins is judged =
 pub right_behind : (run : Run) (files : Files) (verdict : Verdict) (state : StateVerdict) (start : Start) → run.cycles ≤ last_cycle → run.cycles ≤ start.at → Begins run files start
     → IsJudged run.recording files verdict → IsStateJudged (Some run) files verdict state → status_of (asked_ending run files verdict state) ≡ 9
 right_behind run files verdict state start near behind begins is judged =
-    right_run run files verdict state start near begins is judged ∙ ap (λ (b : Bool). cond b 9 0) (is_behind run.cycles start.at behind)
+    right_run run files verdict state start near begins is judged ∙ ap (λ (b : Bool). cond b 9 0) (le-leb run.cycles start.at behind)
 
 pub right_done : (run : Run) (files : Files) (verdict : Verdict) (state : StateVerdict) (start : Start) → run.cycles ≤ last_cycle → start.at < run.cycles → Begins run files start
     → IsJudged run.recording files verdict → IsStateJudged (Some run) files verdict state → status_of (asked_ending run files verdict state) ≡ 0
 right_done run files verdict state start near ahead begins is judged =
-    right_run run files verdict state start near begins is judged ∙ ap (λ (b : Bool). cond b 9 0) (is_ahead run.cycles start.at ahead)
+    right_run run files verdict state start near begins is judged ∙ ap (λ (b : Bool). cond b 9 0) (lt-leb run.cycles start.at ahead)
 
 pub right_load : (told : Type 0) (run : Run) (old new : DepotState) (verdict : Verdict) (state : StateVerdict) (ending : Ending) → run.cycles ≤ last_cycle
     → LoadCause told run old new ending → IsJudged run.recording old.files verdict → IsStateJudged (Some run) old.files verdict state
@@ -330,7 +318,7 @@ wrong_always : (file : Option (List ℕ)) (verdict : Verdict) (place : ℕ)
 wrong_always None verdict place is judged = absurd is
 wrong_always (Some bytes) (Spelled recording) place (within, wrong) judged = absurd (wrong.none (recording, judged))
 wrong_always (Some bytes) (WrongAt other) place (within, wrong) judged =
-    (RecordingWrong other, (λ ready. ap (λ (long : Bool). cond long RecordingTooLong (RecordingWrong other)) (not_below recording_limit (length bytes) within)), refl)
+    (RecordingWrong other, (λ ready. ap (λ (long : Bool). cond long RecordingTooLong (RecordingWrong other)) (le-ltb recording_limit (length bytes) within)), refl)
 
 -- and so is a recording
 pub recording_always : (told : Type 0) (name : Option (List ℕ)) (old new : DepotState) (verdict : Verdict) (ending : Ending)

@@ -1,6 +1,7 @@
 -- A session of two players: what a status tells of its ending.
 use Rattle.std.proofs.Common.{◌≡◌, ◌≢◌, ◌⊎◌, inl, inr, ℕ, ◌<◌, ◌≤◌, Bool, cond, List, [], length, Option, Some, None, refl, sym, ap, subst, ◌∙◌, arith}
 use Rattle.std.specs.Prelude.{IsSomeAnd, unwrap_or}
+use Rattle.std.proofs.lemmas.Bool.{le-ltb, lt-ltb}
 use Rattle.md_outer.specs.Outside.{DepotState, Files, GoesOn, Rose}
 use Rattle.md_args.specs.Words.{Assembling, Conversion, Debugging, Demo, Rollback, Rolling, Run}
 use Rattle.rollback_script.specs.declared.fault.LineFault.{LineFault}
@@ -19,7 +20,7 @@ use Rattle.md_top.specs.Rollings.{CanRoll, IsRefusedLine, IsRollFound, IsRolledT
 use Rattle.md_top.specs.declared.ending.Ending.{Ending}
 use Rattle.md_top.specs.declared.ending.Ending.TheVariants.{Behind, DemoDone, FramesFault, InputRefused, JournalFault, LineRefused, ListFault, LoadFault, Memory, OtherCart, OutputFault, ReadFault, RecordingFault, RecordingWrong, RolledBack, SaveFault, ScriptFault, ScriptRefused, ScriptTooLong, SoundFault, SourceRefused, StateWrong, TooFar, Usage}
 use Rattle.md_top.proofs.Kept.{unread_before}
-use Rattle.md_top.proofs.Right.{cart_always, cart_there, file_there, file_within, is_below, not_below, right_accepted}
+use Rattle.md_top.proofs.Right.{cart_always, cart_there, file_there, file_within, right_accepted}
 use Rattle.md_top.proofs.Statuses.{missing_cart}
 
 -- no other command refuses a line of what two players press
@@ -131,14 +132,14 @@ inputs_missing file outcome none = ap (λ (f : Option (List ℕ)). inputs_ending
 
 inputs_long : (file : Option (List ℕ)) (outcome : Comes) → IsSomeAnd file (λ bytes. inputs_limit < length bytes) → inputs_ending file outcome ≡ ScriptTooLong
 inputs_long None outcome long = absurd long
-inputs_long (Some bytes) outcome long = ap (λ (b : Bool). cond b ScriptTooLong (comes_ending outcome)) (is_below inputs_limit (length bytes) long)
+inputs_long (Some bytes) outcome long = ap (λ (b : Bool). cond b ScriptTooLong (comes_ending outcome)) (lt-ltb inputs_limit (length bytes) long)
 
 -- the lines that are obeyed
 inputs_obeyed : (file : Option (List ℕ)) (cart : List ℕ) (window : ℕ) (outcome : Comes) → IsSomeAnd file (λ inputs. (length inputs ≤ inputs_limit) × ComesTo cart window inputs outcome)
     → (inputs_ending file outcome ≡ comes_ending outcome) × ComesTo cart window (unwrap_or file []) outcome
 inputs_obeyed None cart window outcome obeyed = absurd obeyed
 inputs_obeyed (Some bytes) cart window outcome (within, is) =
-    (ap (λ (b : Bool). cond b ScriptTooLong (comes_ending outcome)) (not_below inputs_limit (length bytes) within), is)
+    (ap (λ (b : Bool). cond b ScriptTooLong (comes_ending outcome)) (le-ltb inputs_limit (length bytes) within), is)
 
 roll_to : (words : Rolling) (files : Files) (outcome : Comes) → IsRolledTo words files outcome → roll_ending words files outcome ≡ comes_ending outcome
 roll_to words files outcome (accepted, obeyed) =

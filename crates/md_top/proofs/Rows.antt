@@ -1,8 +1,9 @@
 -- The answers one by one, from the answer as a whole.
-use Rattle.std.proofs.Common.{◌≡◌, ◌≢◌, ◌⊎◌, inl, inr, ℕ, ◌≤◌, Bool, true, false, List, [], Option, Some, None, refl, sym, ap, ◌∙◌, arith}
+use Rattle.std.proofs.Common.{◌≡◌, ◌≢◌, ◌⊎◌, inl, inr, ℕ, ◌≤◌, false, List, [], Option, Some, None, refl, sym, ap, ◌∙◌, arith}
 use Rattle.std.specs.Prelude.{codes}
 use Rattle.std.specs.Str.{bytes_eq}
 use Rattle.std.proofs.lemmas.Slice.Eq.{bytes_eq-Decides}
+use Rattle.std.proofs.lemmas.Bool.{false_from_ne_true}
 use Rattle.rom_header.specs.Header.{header_lines}
 use Rattle.md_pads.specs.Recording.{no_frames}
 use Rattle.md_outer.specs.Outside.{DepotState, Files, Rose, SinkState, with_file}
@@ -195,14 +196,10 @@ not_out _ is = omega (arith, is)
 
 -- FILES OF OTHER NAMES
 
-is_other : (b : Bool) → (b ≡ true → ⊥) → b ≡ false
-is_other true differ = absurd (differ refl)
-is_other false differ = refl
-
 -- an output leaves the files of other names
 with_other : (files : Files) (output bytes name : List ℕ) → output ≢ name → with_file files output bytes name ≡ files name
 with_other files output bytes name differ =
-    let other : bytes_eq output name ≡ false = is_other (bytes_eq output name) (λ same. differ ((bytes_eq-Decides output name).0 same)) in
+    let other : bytes_eq output name ≡ false = false_from_ne_true (bytes_eq output name) (λ same. differ ((bytes_eq-Decides output name).0 same)) in
     rw other refl
 
 part_other : (files : Files) (output written_bytes : Option (List ℕ)) (name : List ℕ) → output ≢ Some name → with_part files output written_bytes name ≡ files name

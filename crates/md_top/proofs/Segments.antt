@@ -21,7 +21,7 @@ use Rattle.md_top.specs.Limits.{IsEnd}
 use Rattle.md_top.specs.Outputs.{Pieces, lengthened, nothing}
 use Rattle.md_top.specs.Runs.{RunLaws, entries_from, frames_to, halted_from, journal_to, media_from, moves_from, pieces_of, pieces_until, run_from, sound_until, state_to}
 use Rattle.md_top.proofs.Writes.{AreFront}
-use Rattle.md_top.proofs.LeastRuns.{Found, Later, later, moves-found, run-found, run-made}
+use Rattle.md_top.proofs.LeastRuns.{Found, Later, later_run, moves-found, run-found, run-made}
 
 -- where a level has its sums, the pairs of samples stand one behind the other
 mixed-append : (levels later : List ℤ) (sides later_sides : List (ℤ × ℤ)) → length sides ≡ length levels
@@ -61,10 +61,10 @@ pub record Segment (start : Start) (at to : ℕ) (after : MachineValue) : Type 0
   pub entries : entries_from start to ≡ entries_from start at ++ after.entries
   pub output : media_from start to ≡ joined (media_from start at) after.media
 
-pub segment : (start : Start) (at to : ℕ) (before : Console) (after : MachineValue) → RunLaws start → to ≤ 2 ^ 50 → at ≤ to
+pub segment_made : (start : Start) (at to : ℕ) (before : Console) (after : MachineValue) → RunLaws start → to ≤ 2 ^ 50 → at ≤ to
     → IsRunTo start.console at before (entries_from start at) (media_from start at) → IsRunTo before to after.console after.entries after.media
     → Segment start at to after
-segment start at to before after laws small within first second =
+segment_made start at to before after laws small within first second =
     let whole : IsRunTo start.console to after.console (entries_from start at ++ after.entries) (joined (media_from start at) after.media) =
     laws.runs_joined before after.console at to (entries_from start at) after.entries (media_from start at) after.media within first second in
     let found : Found start to after.console (entries_from start at ++ after.entries) (joined (media_from start at) after.media) = run-found start to laws small whole in
@@ -111,7 +111,7 @@ paired start at is laws small =
 sound-grows : (start : Start) (end s t : ℕ) → IsStart start → RunLaws start → t ≤ 2 ^ 50 → s ≤ t → IsPrefix (sound_until start end s) (sound_until start end t)
 unfolding sound_until
 sound-grows start end s t is laws small within =
-    let more : Later start s t = later start s t laws small within in (
+    let more : Later start s t = later_run start s t laws small within in (
       sound_bytes more.output,
       append_assoc (wav_head (length (media_from start end).levels) start.console.pal) (sound_bytes (media_from start s)) (sound_bytes more.output)
           ∙ ap (λ (l : List ℕ). wav_head (length (media_from start end).levels) start.console.pal ++ l) (sym (sound_bytes-append (media_from start s) more.output (paired start s is laws (omega (arith, small, within)))) ∙ ap sound_bytes (sym more.more_media)),
@@ -120,13 +120,13 @@ sound-grows start end s t is laws small within =
 frames-grow : (start : Start) (s t : ℕ) → RunLaws start → t ≤ 2 ^ 50 → s ≤ t → IsPrefix (frames_to start s) (frames_to start t)
 unfolding frames_to
 frames-grow start s t laws small within =
-    let more : Later start s t = later start s t laws small within in
+    let more : Later start s t = later_run start s t laws small within in
     (frames_bytes start.console.pal more.output.frames, sym (frames_bytes-append start.console.pal (media_from start s).frames more.output.frames) ∙ ap (λ (m : Media). frames_bytes start.console.pal m.frames) (sym more.more_media))
 
 journal-grows : (start : Start) (s t : ℕ) → RunLaws start → t ≤ 2 ^ 50 → s ≤ t → IsPrefix (journal_to start s) (journal_to start t)
 unfolding journal_to
 journal-grows start s t laws small within =
-    let more : Later start s t = later start s t laws small within in
+    let more : Later start s t = later_run start s t laws small within in
     (journal_bytes more.entries, sym (journal_bytes-append (entries_from start s) more.entries) ∙ ap journal_bytes (sym more.more_entries))
 
 pub pieces-front : (start : Start) (end s : ℕ) → IsStart start → RunLaws start → end ≤ 2 ^ 50 → s ≤ end → AreFront (pieces_until start end s) (pieces_of start end)

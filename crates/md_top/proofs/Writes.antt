@@ -11,9 +11,6 @@ use Rattle.md_args.specs.Words.{Run, differ}
 
 -- FILES
 
-pub bytes_eq-self : (name : List ℕ) → bytes_eq name name ≡ true
-bytes_eq-self name = (bytes_eq-Decides name name).1 refl
-
 -- a choice within a choice by the same test
 cond-cond : {A : Type 0} (b : Bool) (x y z : A) → cond b x (cond b y z) ≡ cond b x z
 cond-cond true x y z = refl
@@ -24,7 +21,7 @@ pub with_file-with_file : (files : Files) (name first second : List ℕ) → wit
 with_file-with_file files name first second = fun_ext (λ other. cond-cond (bytes_eq name other) (Some second) (Some first) (files other))
 
 pub bytes_of-with_file : (files : Files) (name bytes : List ℕ) → bytes_of (with_file files name bytes) name ≡ bytes
-bytes_of-with_file files name bytes = rw (bytes_eq-self name) refl
+bytes_of-with_file files name bytes = rw ((bytes_eq-Decides name name).1 refl) refl
 
 -- two choices whose tests do not both hold change places
 cond-comm : {A : Type 0} (p q : Bool) (x y z : A) → (p ≡ true → q ≡ true → ⊥) → cond q y (cond p x z) ≡ cond p x (cond q y z)
@@ -181,8 +178,8 @@ nothing-front whole =
     record { frames = (whole.frames, refl); sound = (whole.sound, refl); journal = (whole.journal, refl); state = (whole.state, refl) }
 
 -- the outputs hold their bytes, and so parts of longer ones
-pub parts : (run : Run) (first files : Files) (held whole : Pieces) → Holds run first files held → AreFront held whole → LeavesParts run first files whole
-parts run first files held whole holds front = record {
+pub leaves_parts : (run : Run) (first files : Files) (held whole : Pieces) → Holds run first files held → AreFront held whole → LeavesParts run first files whole
+leaves_parts run first files held whole holds front = record {
   parts = all_of held;
   frames = front.frames;
   sound = front.sound;

@@ -9,7 +9,7 @@ use Rattle.md_top.specs.Courses.{CameFrom, cycle_of}
 use Rattle.md_top.specs.Runs.{entries_from, media_from}
 use Rattle.md_top.specs.Workers.{WentOn}
 use Rattle.md_machine.proofs.Regions.{run_stays}
-use Rattle.md_top.proofs.Segments.{Segment, came-to, few-entries, frame-room, frames_bytes-append, journal_bytes-append, paired, segment, sound_bytes-append}
+use Rattle.md_top.proofs.Segments.{Segment, came-to, few-entries, frame-room, frames_bytes-append, journal_bytes-append, paired, segment_made, sound_bytes-append}
 use Rattle.md_top.proofs.segment.advance.Goals as goal
 
 pub drain_frames-requires : goal.drain_frames-requires
@@ -77,7 +77,7 @@ pub returns-clause-underway : goal.returns-clause-underway
 returns-clause-underway g c = λ start came.
     let went : WentOn c.args.course.now.machine c.args.to c.go_on.new.arg2 = c.requires.goes _ c.args.to _ c.go_on.ensures in
     let made : Segment start (cycle_of c.args.course.now) c.args.to c.go_on.new.arg2 =
-    segment start (cycle_of c.args.course.now) c.args.to c.args.course.now.machine.console c.go_on.new.arg2 came.laws
+    segment_made start (cycle_of c.args.course.now) c.args.to c.args.course.now.machine.console c.go_on.new.arg2 came.laws
     (omega (arith, c.requires.far)) (omega (arith, c.requires.later)) came.run went.run in
     let after : c.drain_entries.new.self ≡ record { at = c.args.to; console = c.go_on.new.arg2.console; entries = []; media = no_media } =
     c.drain_entries.ensures.machine ∙ ap (λ (m : MachineValue). record m { entries = [] })
@@ -103,7 +103,7 @@ pub returns-clause-frames : goal.returns-clause-frames
 returns-clause-frames g c = λ start came.
     let went : WentOn c.args.course.now.machine c.args.to c.go_on.new.arg2 = c.requires.goes _ c.args.to _ c.go_on.ensures in
     let made : Segment start (cycle_of c.args.course.now) c.args.to c.go_on.new.arg2 =
-    segment start (cycle_of c.args.course.now) c.args.to c.args.course.now.machine.console c.go_on.new.arg2 came.laws
+    segment_made start (cycle_of c.args.course.now) c.args.to c.args.course.now.machine.console c.go_on.new.arg2 came.laws
     (omega (arith, c.requires.far)) (omega (arith, c.requires.later)) came.run went.run in
     let piece : c.drain_frames.new.into.items ≡ frames_bytes c.go_on.new.arg2.console.pal c.go_on.new.arg2.media.frames =
     c.drain_frames.ensures.bytes ∙ ap (λ (l : List ℕ). l ++ frames_bytes c.go_on.new.arg2.console.pal c.go_on.new.arg2.media.frames) c.clear.ensures.items in
@@ -119,7 +119,7 @@ unfolding sound_bytes
 returns-clause-pairs g c = λ start came.
     let went : WentOn c.args.course.now.machine c.args.to c.go_on.new.arg2 = c.requires.goes _ c.args.to _ c.go_on.ensures in
     let made : Segment start (cycle_of c.args.course.now) c.args.to c.go_on.new.arg2 =
-    segment start (cycle_of c.args.course.now) c.args.to c.args.course.now.machine.console c.go_on.new.arg2 came.laws
+    segment_made start (cycle_of c.args.course.now) c.args.to c.args.course.now.machine.console c.go_on.new.arg2 came.laws
     (omega (arith, c.requires.far)) (omega (arith, c.requires.later)) came.run went.run in
     let piece : c.drain_pairs.new.into.items ≡ sound_bytes c.go_on.new.arg2.media =
     c.drain_pairs.ensures.bytes ∙ ap (λ (l : List ℕ). l ++ sound_bytes c.drain_frames.new.self.media) c.clear-2.ensures.items
@@ -132,7 +132,7 @@ pub returns-clause-records : goal.returns-clause-records
 returns-clause-records g c = λ start came.
     let went : WentOn c.args.course.now.machine c.args.to c.go_on.new.arg2 = c.requires.goes _ c.args.to _ c.go_on.ensures in
     let made : Segment start (cycle_of c.args.course.now) c.args.to c.go_on.new.arg2 =
-    segment start (cycle_of c.args.course.now) c.args.to c.args.course.now.machine.console c.go_on.new.arg2 came.laws
+    segment_made start (cycle_of c.args.course.now) c.args.to c.args.course.now.machine.console c.go_on.new.arg2 came.laws
     (omega (arith, c.requires.far)) (omega (arith, c.requires.later)) came.run went.run in
     let piece : c.drain_entries.new.into.items ≡ journal_bytes c.go_on.new.arg2.entries =
     c.drain_entries.ensures.bytes ∙ ap (λ (l : List ℕ). l ++ journal_bytes c.drain_pairs.new.self.entries) c.clear-3.ensures.items
