@@ -4,13 +4,13 @@ use Rattle.std.specs.Prelude.{IsSomeAnd}
 use Rattle.std.proofs.lemmas.Bool.{le-ltb, lt-ltb}
 use Rattle.md_outer.specs.Outside.{DepotState, Rose}
 use Rattle.md_asm.specs.Assembly as assembly
-use Rattle.md_asm.specs.Assembly.{Assembly}
+use Rattle.md_asm.specs.Assembly.{AssemblyOutcome}
 use Rattle.md_args.specs.Words.{Assembling}
 use Rattle.asm_files.specs.Assemblies.{HasCause, IsFound, limit, made_ending, right_ending}
 use Rattle.asm_files.specs.declared.comes.Comes.{Comes}
 use Rattle.asm_files.specs.declared.comes.Comes.TheVariants.{Made, Unread, TooLong, Refused, Unwritten, Unlisted, NoMemory}
 
-found_right : (source : Option (List ℕ)) (found : Assembly) → IsFound source found → made_ending found ≡ right_ending source
+found_right : (source : Option (List ℕ)) (found : AssemblyOutcome) → IsFound source found → made_ending found ≡ right_ending source
 found_right None found is = absurd is
 found_right (Some bytes) found is =
     ap made_ending (sym is.1)

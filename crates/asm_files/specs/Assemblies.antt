@@ -2,7 +2,7 @@
 use Rattle.std.specs.Prelude.{◌≡◌, ◌⊎◌, ℕ, ◌<◌, ◌≤◌, nat_lt, if◌then◌else◌, List, length, Option, None, Some, IsSomeAnd}
 use Rattle.md_outer.specs.Outside.{DepotState, Files, IsPrefix, Rose, with_file}
 use Rattle.md_asm.specs.Assembly as assembly
-use Rattle.md_asm.specs.Assembly.{Assembly}
+use Rattle.md_asm.specs.Assembly.{AssemblyOutcome}
 use Rattle.md_asm.specs.declared.placed.Placed.{Placed}
 use Rattle.assembly_laws.specs.Lines.{SaysLines}
 use Rattle.md_args.specs.Words.{Assembling}
@@ -15,7 +15,7 @@ abbrev pub limit : ℕ
 limit = 1048576
 
 -- a source that is held, within its limit, is assembled to this
-abbrev pub IsFound : Option (List ℕ) → Assembly → Type 0
+abbrev pub IsFound : Option (List ℕ) → AssemblyOutcome → Type 0
 IsFound source outcome = IsSomeAnd source (λ bytes. (length bytes ≤ limit) × (assembly.assembly bytes ≡ outcome))
 
 -- Why each ending may come. What a file holds is spoken of where the depot tells it.
@@ -72,7 +72,7 @@ LeavesFiles words old new TooLong = new ≡ old
 LeavesFiles words old new (Refused line kind) = new ≡ old
 
 -- The ending where neither a fault nor want of memory comes between, by what the source is assembled to.
-abbrev pub made_ending : Assembly → Comes
+abbrev pub made_ending : AssemblyOutcome → Comes
 made_ending (assembly.Done image lines) = Made (length image)
 made_ending (assembly.Failed line kind) = Refused line kind
 

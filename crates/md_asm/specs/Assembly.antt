@@ -41,19 +41,19 @@ places_of [] = []
 places_of (slot ∷ more) = if is_instruction slot.body then placed_slot slot ∷ places_of more else places_of more
 
 -- an image and where its instructions stand, or the first line that is at fault and its least kind
-pub data Assembly : Type 0 where
-  Done : List ℕ → List Placed → Assembly
-  Failed : ℕ → ℕ → Assembly
+pub data AssemblyOutcome : Type 0 where
+  Done : List ℕ → List Placed → AssemblyOutcome
+  Failed : ℕ → ℕ → AssemblyOutcome
 
-abbrev pub assembly_of : Round → Filled → Assembly
+abbrev pub assembly_of : Round → Filled → AssemblyOutcome
 assembly_of round (Whole memory) = Done (take round.end memory) (places_of round.slots)
 assembly_of round (Faulty line kind) = Failed line (number_of kind)
 
-abbrev pub second : Outcome → Assembly
+abbrev pub second : Outcome → AssemblyOutcome
 second (Read round) = assembly_of round (round_two round.names blank round.slots)
 second (Refused line kind) = Failed line (number_of kind)
 
 -- A source's lines are read in their order, each with its place, its address and its length; then each that has
 -- bytes is put at its place, with all names known. The image ends behind the last byte that is written.
-unfoldable pub assembly : List ℕ → Assembly
+unfoldable pub assembly : List ℕ → AssemblyOutcome
 assembly source = second (round_one start 1 (lines source))

@@ -1,7 +1,7 @@
 -- What the code keeps, as the definitions have it.
 use Rattle.std.specs.Prelude.{ℕ, ◌≡◌, false, List, map, Option, Some, None, slice_index_or}
 use Rattle.md_asm_code.specs.Seen.{names_seen}
-use Rattle.md_asm.specs.Assembly.{Assembly, Failed, number_of}
+use Rattle.md_asm.specs.Assembly.{AssemblyOutcome, Failed, number_of}
 use Rattle.md_asm.specs.Places.{WrittenPlaces}
 use Rattle.md_asm.specs.Rounds.{Faulty, Filled, Hit, On, Onto, Outcome, Patched, Refused, Round, Slot, Step, Stop}
 use Rattle.md_asm.specs.declared.assembled.Assembled.{Assembled}
@@ -56,7 +56,7 @@ abbrev pub lines_seen : Assembled → List Placed
 lines_seen assembled = assembled.lines.items
 
 -- a fault is the definition's, or memory is wanting
-abbrev pub IsFault : AsmFault → Assembly → Type 0
+abbrev pub IsFault : AsmFault → AssemblyOutcome → Type 0
 IsFault (faults.Line line kind) outcome = outcome ≡ Failed line kind
 IsFault faults.NoMemory outcome = Unit {0}
 

@@ -110,7 +110,7 @@ pub asm_done : (source : Option (List ℕ)) (image : List ℕ) (lines : List Pla
 asm_done None image lines found = absurd found
 asm_done (Some bytes) image lines found =
     ap (λ (long : Bool). status_of (as_ending (cond long comes.TooLong (files.made_ending (assembly.assembly bytes))))) (le-ltb limit (length bytes) found.0)
-    ∙ ap (λ (outcome : assembly.Assembly). status_of (as_ending (files.made_ending outcome))) found.1
+    ∙ ap (λ (outcome : assembly.AssemblyOutcome). status_of (as_ending (files.made_ending outcome))) found.1
 
 -- the files of other names than the outputs'
 with_other : (held : Files) (output bytes name : List ℕ) → output ≢ name → with_file held output bytes name ≡ held name
