@@ -48,6 +48,13 @@ fn put(bytes: &mut [u8], place: usize, values: &[u8]) {
     }
 }
 
+/// Puts bytes at each of these places.
+fn put_all(bytes: &mut [u8], pieces: &[(usize, &[u8])]) {
+    for &(place, values) in pieces {
+        put(bytes, place, values);
+    }
+}
+
 // A sample at 1000 (03E8h), with A0 at A10001h, SSP at FF8000h, PC at the start of work RAM, and SR 2700h.
 const SAMPLE: [(usize, &[u8]); 6] = [
     (6, &[0x03, 0xe8]),
@@ -61,9 +68,7 @@ const SAMPLE: [(usize, &[u8]); 6] = [
 /// A 68000 at this sample, with this instruction at the start of work RAM; all else is 0.
 fn at_sample(alloc: Global, instruction: &[u8]) -> Result<Vec<u8>, Fail> {
     let mut bytes = vec![in alloc; 0; LENGTH]?;
-    for (place, values) in SAMPLE {
-        put(&mut bytes, place, values);
-    }
+    put_all(&mut bytes, &SAMPLE);
     put(&mut bytes, 178, instruction);
     Ok(bytes)
 }
@@ -81,12 +86,18 @@ fn at_access(alloc: Global, instruction: &[u8], answers: &[u8]) -> Result<Vec<u8
 
 /// The 68000 at power-on, with a cartridge.
 pub fn powered_on(alloc: Global, cart: Arc<Cart>) -> Result<Chip68, Fail> {
-    Chip68::power_on(alloc, cart).map_err(|_| Fail::from("no memory"))
+    let Ok(chip) = Chip68::power_on(alloc, cart) else {
+        return Err(Fail::from("no memory"));
+    };
+    Ok(chip)
 }
 
 /// The 68000 that the bytes keep.
 pub fn kept(alloc: Global, bytes: &[u8], at: u64) -> Result<Chip68, Fail> {
-    Chip68::unspell(alloc, bytes, at, cartridge(alloc)?).map_err(|_| Fail::from("refused"))
+    let Ok(chip) = Chip68::unspell(alloc, bytes, at, cartridge(alloc)?) else {
+        return Err(Fail::from("refused"));
+    };
+    Ok(chip)
 }
 
 /// The bytes that keep a 68000.
@@ -112,9 +123,7 @@ fn refused(
     at: u64,
     changes: &[(usize, &[u8])],
 ) -> Result<Option<u64>, Fail> {
-    for &(place, values) in changes {
-        put(&mut bytes, place, values);
-    }
+    put_all(&mut bytes, changes);
     place_of(alloc, &bytes, at)
 }
 
