@@ -15,8 +15,10 @@ fn scheduler(alloc: Global) -> Result<Core<MdChips>, Fail>
     ensures room { IfOk result (λ core. core.room ≡ 8) }
 {
     let recording = Arc::new(alloc, Recording::empty(alloc))?;
-    let made = first_core(alloc, cartridge(alloc, &idle())?, recording, false, 8);
-    made.map_err(|_| Fail::from("no memory"))
+    let Ok(core) = first_core(alloc, cartridge(alloc, &idle())?, recording, false, 8) else {
+        return Err(Fail::from("no memory"));
+    };
+    Ok(core)
 }
 
 /// How many events of a list happen below a cycle from power-on on.

@@ -84,8 +84,10 @@ pub fn power_on(
     ensures media { IfOk result (λ machine. machine.media ≡ no_media) }
 {
     let recording = Arc::new(alloc, recording)?;
-    let machine = Machine::power_on(alloc, cartridge(alloc, image)?, recording, pal);
-    machine.map_err(|_| Fail::from("no memory"))
+    let Ok(machine) = Machine::power_on(alloc, cartridge(alloc, image)?, recording, pal) else {
+        return Err(Fail::from("no memory"));
+    };
+    Ok(machine)
 }
 
 /// The machine at power-on, with no button pressed.
