@@ -255,6 +255,17 @@ impl Machine {
         self.empty_psg();
     }
 
+    /// Lets all go that was made since the machine was last drained: the journal's entries, the frame and the
+    /// samples.
+    pub fn discard(&mut self)
+        ensures { self.new ≡ record self.old { entries = []; media = no_media } }
+    {
+        self.clear_journal();
+        self.empty_draw();
+        self.empty_fm();
+        self.empty_psg();
+    }
+
     /// The core.
     pub(crate) fn core(&self) -> &Core<MdChips>
         ensures value { machine_at self.now.at result.now ≡ self.now }
