@@ -1,7 +1,7 @@
 -- What is written is the bytes of the machine.
 use Rattle.std.proofs.Common.{◌≡◌, ℕ, ◌+◌, ◌-◌, ◌≤◌, Bool, true, false, List, [], ◌∷◌, ◌++◌, length, map, replicate, take, drop, Option, Some, None, is_some, IfSome, if◌then◌else◌, append_assoc, refl, sym, ap, subst, ◌∙◌, arith}
 use Rattle.std.specs.Int.{w64, to_be_bytes}
-use Rattle.std.proofs.lemmas.List.{append-nil, take_at, drop_at, length-append, length-drop, length-replicate}
+use Rattle.std.proofs.lemmas.List.{append-nil, take_at, drop_at, length-append, length-drop, length-replicate, length-take}
 use mir.Val.{bool_byte}
 use Rattle.sha2.specs.Sha256.{sha256}
 use Rattle.md_word.specs.Coding.{flag_number}
@@ -12,6 +12,7 @@ use Rattle.sound_writes.specs.Entries.{entries_bytes}
 use Rattle.m68k_chip.specs.Spelling as main
 use Rattle.z80_chip.specs.Spelling as sub
 use Rattle.z80_chip.specs.States.{State80}
+use Rattle.z80_chip.specs.Validity.{IsChip80}
 use Rattle.z80_parcel.specs.Parcels.{Store, IsStore}
 use Rattle.vdp_ports.specs.Spelling.{vdp_bytes}
 use Rattle.vdp_chip.specs.Drawing.{Drawing}
@@ -33,9 +34,10 @@ use Rattle.bus_shared.proofs.SavedLaws as lines_laws
 use Rattle.bus_shared.proofs.SpellingLaws as shared_laws
 use Rattle.md_machine.specs.Console.{Console, drawing_in}
 use Rattle.md_machine.specs.Starts.{first_batch}
-use Rattle.save_state.specs.Layout.{at_part, board_part, digest_part, drawing_part, fm_next_part, fm_part, fm_port_part, holder_part, main_part, part_of, psg_part, psg_port_part, region_part, state_size, store_part, sub_part, video_part}
+use Rattle.md_machine.specs.Owners.{HasOneOwner}
+use Rattle.save_state.specs.Layout.{fm_port_there, lines_there, numbers_there, part_of, psg_port_there, video_there}
 use Rattle.save_state.specs.States.{mark, holder_of, store_of, number_bytes, state_bytes}
-use Rattle.save_state.proofs.Parts.{sub_joined, size_left}
+use Rattle.save_state.proofs.Parts.{owned_long, sub_joined, size_left}
 
 -- ---- how long what is written is
 
@@ -137,24 +139,35 @@ store_cut at m sub_part board has ok h s e = by has m.shared.store h (shared_law
 same_drawing : (d : Drawing) (m : Console) → d.next ≡ m.line → d.note ≡ m.note → d.picture ≡ m.picture → drawing.drawing_bytes d ≡ drawing.drawing_bytes (drawing_in m)
 same_drawing d m a b c = λ i. spelling (saved_drawing.drawing_fields 0 false (saved_drawing.numbers_of (record { next = a i; note = b i; has_view = true; picture = c i; frame = None; pal = m.pal })))
 
-regroup : (a b c q d e f g h i j k l m n o p : List ℕ) → (((([] ++ (a ++ (b ++ (c ++ q)))) ++ d) ++ (e ++ (f ++ (g ++ h)))) ++ (i ++ (j ++ (k ++ l)))) ++ (m ++ (n ++ (o ++ p))) ≡ a ++ (b ++ (c ++ (q ++ (d ++ (e ++ (f ++ (g ++ (h ++ (i ++ (j ++ (k ++ (l ++ (m ++ (n ++ (o ++ (p ++ []))))))))))))))))
-regroup a b c q d e f g h i j k l m n o p = simp (append_assoc, append-nil)
+regroup : (old a b c q d e f g h i j k l m n o p : List ℕ) → (((((((old ++ (a ++ (b ++ (c ++ q)))) ++ d) ++ e) ++ f) ++ g) ++ h) ++ i) ++ (j ++ (k ++ (l ++ (m ++ (n ++ (o ++ p)))))) ≡ old ++ (a ++ (b ++ (c ++ (q ++ (d ++ (e ++ (f ++ (g ++ (h ++ (i ++ (j ++ (k ++ (l ++ (m ++ (n ++ (o ++ (p ++ [])))))))))))))))))
+regroup old a b c q d e f g h i j k l m n o p = simp (append_assoc, append-nil)
 
-pub written : (at : ℕ) (m : Console) (digest region numbers holder store video drawn port batch pairs lines : List ℕ) (d : Drawing) (r0 r1 r2 r3 r4 : List ℕ)
-    → digest ≡ sha256 m.cart → region ≡ flag_number m.pal ∷ [] → numbers ≡ number_bytes m.sub.state → holder ≡ holder_of m ∷ [] → store ≡ shared.store_bytes (store_of m)
-    → video ≡ vdp_bytes (shared.settled_board at m.shared).vdp → drawn ≡ drawing.drawing_bytes d → d.next ≡ m.line → d.note ≡ m.note → d.picture ≡ m.picture
-    → port ≡ fm_port.port_bytes (shared.settled_board at m.shared).fm → batch ≡ to_be_bytes w64 (first_batch at) → pairs ≡ psg_port.port_bytes m.shared.psg → lines ≡ shared.lines_bytes (lines_of m.shared)
-    → r0 ≡ [] ++ (mark ++ (digest ++ (to_be_bytes w64 at ++ region)))
-    → r1 ≡ r0 ++ main.chip_bytes m.main
-    → r2 ≡ r1 ++ (numbers ++ (holder ++ (store ++ video)))
-    → r3 ≡ r2 ++ (drawn ++ (port ++ (batch ++ fm.synth_bytes m.fm)))
-    → r4 ≡ r3 ++ (batch ++ (pairs ++ (psg.synth_bytes m.psg ++ lines)))
-    → r4 ≡ state_bytes at m
+appended : (before first next part other : List ℕ) → next ≡ before ++ part → before ≡ first → part ≡ other → next ≡ first ++ other
+appended before first next part other is one two = is ∙ (λ i. one i ++ two i)
+
+pub written : (at : ℕ) (m : Console) (digest numbers holder store rest : List ℕ) (d : Drawing) (old r0 r1 r2 r3 r4 r5 r6 r7 : List ℕ)
+    → digest ≡ sha256 m.cart → numbers ≡ number_bytes m.sub.state → holder ≡ holder_of m ∷ [] → store ≡ shared.store_bytes (store_of m) → IsBehind at m.shared rest
+    → d.next ≡ m.line → d.note ≡ m.note → d.picture ≡ m.picture
+    → r0 ≡ old ++ (mark ++ (digest ++ (to_be_bytes w64 at ++ (flag_number m.pal ∷ []))))
+    → r1 ≡ r0 ++ main.chip_bytes m.main → r2 ≡ r1 ++ numbers → r3 ≡ r2 ++ holder → r4 ≡ r3 ++ store → r5 ≡ r4 ++ part_of video_there rest
+    → r6 ≡ r5 ++ drawing.drawing_bytes d
+    → r7 ≡ r6 ++ (part_of fm_port_there rest ++ (to_be_bytes w64 (first_batch at) ++ (fm.synth_bytes m.fm ++ (to_be_bytes w64 (first_batch at) ++ (part_of psg_port_there rest ++ (psg.synth_bytes m.psg ++ part_of lines_there rest))))))
+    → r7 ≡ old ++ state_bytes at m
 unfolding spelling
-written at m digest region numbers holder store video drawn port batch pairs lines d r0 r1 r2 r3 r4 e1 er e2 e3 e4 e5 e6 dn dt dp e7 e8 e9 e10 f0 f1 f2 f3 f4 =
-    f4 ∙ (λ i. (((f3 ∙ (λ j. (f2 ∙ (λ k. (f1 ∙ (λ n. f0 n ++ main.chip_bytes m.main)) k ++ (e2 k ++ (e3 k ++ (e4 k ++ e5 k))))) j ++ ((e6 ∙ same_drawing d m dn dt dp) j ++ (e7 j ++ (e8 j ++ fm.synth_bytes m.fm))))) i) ++ (e8 i ++ (e9 i ++ (psg.synth_bytes m.psg ++ e10 i)))))
-    ∙ (λ i. (((([] ++ (mark ++ (e1 i ++ (to_be_bytes w64 at ++ er i)))) ++ main.chip_bytes m.main) ++ (number_bytes m.sub.state ++ ((holder_of m ∷ []) ++ (shared.store_bytes (store_of m) ++ vdp_bytes (shared.settled_board at m.shared).vdp)))) ++ (drawing.drawing_bytes (drawing_in m) ++ (fm_port.port_bytes (shared.settled_board at m.shared).fm ++ (to_be_bytes w64 (first_batch at) ++ fm.synth_bytes m.fm)))) ++ (to_be_bytes w64 (first_batch at) ++ (psg_port.port_bytes m.shared.psg ++ (psg.synth_bytes m.psg ++ shared.lines_bytes (lines_of m.shared)))))
-    ∙ regroup mark (sha256 m.cart) (to_be_bytes w64 at) (flag_number m.pal ∷ []) (main.chip_bytes m.main) (number_bytes m.sub.state) (holder_of m ∷ []) (shared.store_bytes (store_of m)) (vdp_bytes (shared.settled_board at m.shared).vdp) (drawing.drawing_bytes (drawing_in m)) (fm_port.port_bytes (shared.settled_board at m.shared).fm) (to_be_bytes w64 (first_batch at)) (fm.synth_bytes m.fm) (to_be_bytes w64 (first_batch at)) (psg_port.port_bytes m.shared.psg) (psg.synth_bytes m.psg) (shared.lines_bytes (lines_of m.shared))
+written at m digest numbers holder store rest d old r0 r1 r2 r3 r4 r5 r6 r7 e1 e2 e3 e4 behind dn dt dp f0 f1 f2 f3 f4 f5 f6 f7 =
+    let batch : List ℕ = to_be_bytes w64 (first_batch at) in
+    let head : r0 ≡ old ++ (mark ++ (sha256 m.cart ++ (to_be_bytes w64 at ++ (flag_number m.pal ∷ [])))) =
+    f0 ∙ ap (λ (x : List ℕ). old ++ (mark ++ (x ++ (to_be_bytes w64 at ++ (flag_number m.pal ∷ []))))) e1 in
+    let p1 = appended r0 _ r1 (main.chip_bytes m.main) (main.chip_bytes m.main) f1 head refl in
+    let p2 = appended r1 _ r2 numbers (number_bytes m.sub.state) f2 p1 e2 in
+    let p3 = appended r2 _ r3 holder (holder_of m ∷ []) f3 p2 e3 in
+    let p4 = appended r3 _ r4 store (shared.store_bytes (store_of m)) f4 p3 e4 in
+    let p5 = appended r4 _ r5 (part_of video_there rest) (vdp_bytes (shared.settled_board at m.shared).vdp) f5 p4 behind.video in
+    let p6 = appended r5 _ r6 (drawing.drawing_bytes d) (drawing.drawing_bytes (drawing_in m)) f6 p5 (same_drawing d m dn dt dp) in
+    f7
+    ∙ (λ i. p6 i ++ (behind.fm_port i ++ (batch ++ (fm.synth_bytes m.fm ++ (batch ++ (behind.psg_port i ++ (psg.synth_bytes m.psg ++ behind.lines i)))))))
+    ∙ regroup old mark (sha256 m.cart) (to_be_bytes w64 at) (flag_number m.pal ∷ []) (main.chip_bytes m.main) (number_bytes m.sub.state) (holder_of m ∷ []) (shared.store_bytes (store_of m)) (vdp_bytes (shared.settled_board at m.shared).vdp)
+    (drawing.drawing_bytes (drawing_in m)) (fm_port.port_bytes (shared.settled_board at m.shared).fm) batch (fm.synth_bytes m.fm) batch (psg_port.port_bytes m.shared.psg) (psg.synth_bytes m.psg) (shared.lines_bytes (lines_of m.shared))
 
 byte_of : (b : Bool) → bool_byte b ≡ (if b then 1 else 0)
 byte_of true = refl
@@ -170,40 +183,55 @@ flag_of false = refl
 pub region_byte : (m : Console) (pal : Bool) (byte : ℕ) → pal ≡ m.pal → byte ≡ bool_byte pal → byte ∷ [] ≡ flag_number m.pal ∷ []
 region_byte m pal byte h e = ap (λ (n : ℕ). n ∷ []) (e ∙ flag_of pal ∙ ap flag_number h)
 
--- four lists behind another one
-append_long : (all before a b c d : List ℕ) → all ≡ before ++ (a ++ (b ++ (c ++ d))) → length all ≡ length before + (length a + (length b + (length c + length d)))
-append_long all before a b c d e =
-    omega (arith, ap length e, length-append before (a ++ (b ++ (c ++ d))), length-append a (b ++ (c ++ d)), length-append b (c ++ d), length-append c d)
+-- what stands apart while a machine is written: the Z80's numbers, RAM and bank register, and what the bus keeps
+-- behind them
+pub record IsApart (at : ℕ) (m : Console) (sub_part rest store : List ℕ) : Type 0 where
+  pub numbers : part_of numbers_there sub_part ≡ number_bytes m.sub.state
+  pub store_is : store ≡ shared.store_bytes (store_of m)
+  pub few : length store ≤ 8194
+  pub whole : HasOneOwner m → length store ≡ 8194
+  pub long : length rest ≡ 88407
+  pub behind : IsBehind at m.shared rest
 
--- all that is written has as many bytes as a state
-pub all_long : (digest cycle region main numbers holder store video drawn port batch voice pairs noise lines : List ℕ) (r0 r1 r2 r3 r4 : List ℕ)
-    → length digest ≡ digest_part.size → length cycle ≡ at_part.size → length main ≡ main_part.size → length numbers ≡ sub_part.size → length store ≡ store_part.size → length video ≡ video_part.size
-    → length drawn ≡ drawing_part.size → length port ≡ fm_port_part.size → length batch ≡ fm_next_part.size → length voice ≡ fm_part.size → length pairs ≡ psg_port_part.size → length noise ≡ psg_part.size → length lines ≡ board_part.size
-    → r0 ≡ [] ++ (mark ++ (digest ++ (cycle ++ region))) → r1 ≡ r0 ++ main → r2 ≡ r1 ++ (numbers ++ (holder ++ (store ++ video)))
-    → r3 ≡ r2 ++ (drawn ++ (port ++ (batch ++ voice))) → r4 ≡ r3 ++ (batch ++ (pairs ++ (noise ++ lines)))
-    → length region ≡ region_part.size → length holder ≡ holder_part.size → length r4 ≡ state_size
-all_long digest cycle region main numbers holder store video drawn port batch voice pairs noise lines r0 r1 r2 r3 r4 l1 l2 l3 l4 l5 l6 l7 l8 l9 l10 l11 l12 l13 f0 f1 f2 f3 f4 one two =
-    omega (
-      arith,
-      l1,
-      l2,
-      l3,
-      l4,
-      l5,
-      l6,
-      l7,
-      l8,
-      l9,
-      l10,
-      l11,
-      l12,
-      l13,
-      one,
-      two,
-      append_long r0 [] mark digest cycle region f0,
-      ap length f1,
-      length-append r0 main,
-      append_long r2 r1 numbers holder store video f2,
-      append_long r3 r2 drawn port batch voice f3,
-      append_long r4 r3 batch pairs noise lines f4,
-    )
+store_few : (has : Bool) (kept : Option Store) (sub_part board store : List ℕ) → length sub_part ≡ sub.spelled_size (is_some kept) → store ≡ (if has then take 8194 board else drop 62 sub_part) → length store ≤ 8194
+store_few true kept sub_part board store long is = omega (arith, ap length is, length-take 8194 board)
+store_few false (Some s) sub_part board store long is = omega (arith, ap length is, length-drop 62 sub_part, long)
+store_few false None sub_part board store long is = omega (arith, ap length is, length-drop 62 sub_part, long)
+
+pub cut_apart : (at : ℕ) (m : Console) (has : Bool) (middle : ℕ) (apart sub_part board rest store : List ℕ) → IsChip80 m.sub → IsBoard m.shared → has ≡ is_some m.shared.store
+    → apart ≡ sub.chip_bytes m.sub.state ++ shared.board_bytes (shared.settled_board at m.shared) → length (sub.chip_bytes m.sub.state) ≡ middle → middle ≡ sub.spelled_size (is_some m.sub.state.store)
+    → length (shared.board_bytes (shared.settled_board at m.shared)) ≡ shared.board_size (is_some m.shared.store)
+    → sub_part ≡ take middle apart → board ≡ drop middle apart → rest ≡ drop (shared.store_size has) board → store ≡ (if has then take 8194 board else drop 62 sub_part)
+    → IsApart at m sub_part rest store
+cut_apart at m has middle apart sub_part board rest store sub_ok board_ok h all front sub_size board_size one two behind owned =
+    let ours : List ℕ = sub.chip_bytes m.sub.state in
+    let theirs : List ℕ = shared.board_bytes (shared.settled_board at m.shared) in
+    let sub_is : sub_part ≡ ours = one ∙ ap (take middle) all ∙ take_at ours theirs middle front in
+    let board_is : board ≡ theirs = two ∙ ap (drop middle) all ∙ drop_at ours theirs middle front in
+    let sub_long : length sub_part ≡ sub.spelled_size (is_some m.sub.state.store) = ap length sub_is ∙ front ∙ sub_size in
+    let board_long : length board ≡ shared.board_size (is_some m.shared.store) = ap length board_is ∙ board_size in
+    let cut = numbers_cut sub_part m.sub.state sub_ok.store sub_is sub_long in
+    let kept : store ≡ shared.store_bytes (store_of m) = owned ∙ store_cut at m sub_part board has board_ok h cut.1 board_is in
+    record {
+      numbers = cut.0;
+      store_is = kept;
+      few = store_few has m.sub.state.store sub_part board store sub_long owned;
+      whole = λ owner. ap length kept ∙ owned_long m.shared.store m.sub.state.store owner (shared_laws.store_long m.shared.store board_ok.store) (shared_laws.store_long m.sub.state.store sub_ok.store);
+      long = rest_long board rest has (is_some m.shared.store) h board_long behind;
+      behind = board_cut at m.shared board rest has board_ok h board_is board_long behind;
+    }
+
+-- ---- lists behind one another
+
+seven_joined : (old a b c d e f g : List ℕ) → ((((((old ++ a) ++ b) ++ c) ++ d) ++ e) ++ f) ++ g ≡ old ++ (a ++ (b ++ (c ++ (d ++ (e ++ (f ++ g))))))
+seven_joined old a b c d e f g = simp (append_assoc)
+
+pub seven : (old a b c d e f g r1 r2 r3 r4 r5 r6 r7 : List ℕ) → r1 ≡ old ++ a → r2 ≡ r1 ++ b → r3 ≡ r2 ++ c → r4 ≡ r3 ++ d → r5 ≡ r4 ++ e → r6 ≡ r5 ++ f → r7 ≡ r6 ++ g
+    → r7 ≡ old ++ (a ++ (b ++ (c ++ (d ++ (e ++ (f ++ g))))))
+seven old a b c d e f g r1 r2 r3 r4 r5 r6 r7 e1 e2 e3 e4 e5 e6 e7 =
+    let p2 : r2 ≡ (old ++ a) ++ b = e2 ∙ ap (λ (x : List ℕ). x ++ b) e1 in
+    let p3 : r3 ≡ ((old ++ a) ++ b) ++ c = e3 ∙ ap (λ (x : List ℕ). x ++ c) p2 in
+    let p4 : r4 ≡ (((old ++ a) ++ b) ++ c) ++ d = e4 ∙ ap (λ (x : List ℕ). x ++ d) p3 in
+    let p5 : r5 ≡ ((((old ++ a) ++ b) ++ c) ++ d) ++ e = e5 ∙ ap (λ (x : List ℕ). x ++ e) p4 in
+    let p6 : r6 ≡ (((((old ++ a) ++ b) ++ c) ++ d) ++ e) ++ f = e6 ∙ ap (λ (x : List ℕ). x ++ f) p5 in
+    e7 ∙ ap (λ (x : List ℕ). x ++ g) p6 ∙ seven_joined old a b c d e f g

@@ -105,6 +105,27 @@ abbrev pub shared_parts : Bool → List Part
 shared_parts has =
     (if has then store_part ∷ [] else []) ++ (video_part ∷ fm_port_part ∷ psg_port_part ∷ board_part ∷ [])
 
+-- the Z80's numbers, in what the Z80 keeps
+abbrev pub numbers_there : Part
+numbers_there = record { place = 0; size = 62 }
+
+-- the parts of what the bus keeps, behind RAM and bank register
+abbrev pub video_there : Part
+video_there = record { place = 0; size = 65813 }
+
+abbrev pub fm_port_there : Part
+fm_port_there = record { place = 65813; size = 12316 }
+
+abbrev pub psg_port_there : Part
+psg_port_there = record { place = 78129; size = 10242 }
+
+abbrev pub lines_there : Part
+lines_there = record { place = 88371; size = 36 }
+
+-- how many bytes the Z80 and the bus keep at most, each with RAM and bank register
+abbrev pub apart_size : ℕ
+apart_size = 104857
+
 -- the bytes of a part
 abbrev pub part_of : Part → List ℕ → List ℕ
 part_of p bytes = take p.size (drop p.place bytes)

@@ -113,6 +113,9 @@ pub const PADS2: usize = 393_600;
 /// How many bytes a saved state has.
 pub const LENGTH: usize = 393_620;
 
+/// How many bytes the Z80 and the bus keep at most, each with RAM and bank register.
+pub const APART: usize = 104_857;
+
 static SUB_WITH_STORE: [Part; 2] = [SUB, STORE];
 
 static SUB_ALONE: [Part; 1] = [SUB];

@@ -13,4 +13,4 @@ mod writing;
 pub use fault::StateFault;
 pub use layout::LENGTH;
 pub use reading::{read, read_with};
-pub use writing::{write, write_with};
+pub use writing::{spell, write, write_with};

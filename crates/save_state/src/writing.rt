@@ -1,36 +1,28 @@
-ghost use Rattle.std.specs.Prelude.{◌≡◌, ◌≤◌, ◌++◌, OnOk, true, is_some, if◌then◌else◌, drop, take, length, IfOk};
+ghost use Rattle.std.specs.Prelude.{◌≡◌, ◌≤◌, ◌+◌, ◌++◌, ◌∷◌, [], true, is_some, if◌then◌else◌, drop, take, length, vec_len, vec_capacity, IfOk};
+ghost use Rattle.std.specs.Int.{w64, to_be_bytes};
 ghost use Rattle.sha2.specs.Sha256.{sha256};
 ghost use Rattle.bus_shared.specs.Board.{IsBoard};
 ghost use Rattle.bus_shared.specs.Spelling as shared;
 ghost use Rattle.fm_chip.specs.SynthSpelling as fm;
-ghost use Rattle.m68k_chip.specs.Spelling as main;
 ghost use Rattle.psg_sound.specs.SynthSpelling as psg;
-ghost use Rattle.vdp_chip.specs.Spelling as drawing;
 ghost use Rattle.z80_chip.specs.Validity.{IsChip80};
 ghost use Rattle.z80_chip.specs.Spelling as sub;
-ghost use Rattle.m68k_chip.specs.Rules as main_rules;
-ghost use Rattle.z80_chip.specs.Rules as sub_rules;
 ghost use Rattle.md_machine.specs.Owners.{HasOneOwner};
-ghost use Rattle.save_state.specs.Layout.{drawing_part, fm_part, main_part, psg_part, state_size};
+ghost use Rattle.md_machine.specs.Starts as starts;
+ghost use Rattle.save_state.specs.Layout.{apart_size, fm_port_there, lines_there, part_of, psg_port_there, state_size};
 ghost use Rattle.save_state.specs.Ready.{IsReady};
 ghost use Rattle.md_word.specs.Clock.{last_cycle};
-ghost use Rattle.save_state.specs.States.{settled_console, state_bytes};
+ghost use Rattle.md_word.specs.Coding.{flag_number};
+ghost use Rattle.save_state.specs.States.{mark, settled_console, state_bytes};
 ghost use Rattle.save_state.specs.Versions.{IsState};
 
 use crate::items::first_batch;
-use crate::layout::{
-    BOARD, DRAWING, FM, FM_PORT, LENGTH, MAIN, PSG, PSG_PORT, Part, STORE, SUB, TEXT, VIDEO,
-};
-use bus_shared::Shared;
-use fm_chip::FmSynth;
-use m68k_chip::Chip68;
+use crate::laws::kept;
+use crate::layout::{APART, LENGTH, Part, STORE, SUB, TEXT};
 use md_machine::Machine;
 use md_word::NoMemory;
-use psg_sound::PsgSynth;
 use sha2::{Digest, Sha256};
 use std::alloc::Global;
-use vdp_chip::ChipVdp;
-use z80_chip::Chip80;
 
 /// The Z80's numbers, in what it keeps.
 const NUMBERS_THERE: Part = Part { place: 0, size: 62 };
@@ -78,141 +70,117 @@ pub fn write_with(alloc: Global, machine: &Machine, digest: &[u8; 32]) -> Result
     ensures kept { IsReady machine.now.at machine.now.console
         → IfOk result (λ bytes. IsState machine.now.console.cart bytes.items (record { at = machine.now.at; console = settled_console machine.now.at machine.now.console })) }
 {
+    kept(machine);
+    let mut apart = Vec::with_capacity(alloc, APART)?;
+    let mut bytes = Vec::with_capacity(alloc, LENGTH)?;
+    spell(machine, digest, &mut apart, &mut bytes);
+    Ok(bytes)
+}
+
+/// Appends them, for whoever has the memory: there is room for the bytes, and in `apart` for those of the Z80 and
+/// of the bus, 104,857 at most, which do not stand together.
+pub fn spell(machine: &Machine, digest: &[u8; 32], apart: &mut Vec<u8>, into: &mut Vec<u8>)
+    requires cycle { machine.now.at ≤ last_cycle }
+    requires digest { digest.now ≡ sha256 machine.now.console.cart }
+    requires apart { apart_size ≤ vec_capacity apart.old }
+    requires room { vec_len into.old + state_size ≤ vec_capacity into.old }
+    ensures bytes { into.new.items ≡ into.old.items ++ state_bytes machine.now.at machine.now.console }
+    ensures length { HasOneOwner machine.now.console → vec_len into.new ≡ vec_len into.old + state_size }
+    ensures room { vec_capacity into.old ≤ vec_capacity into.new }
+    ensures apart { vec_capacity apart.old ≤ vec_capacity apart.new }
+{
     let at = machine.at();
     let has = machine.shared().has_store();
-    let main = main_bytes(alloc, machine.main_chip(), at)?;
-    let sub = sub_bytes(alloc, machine.sub_chip(), at)?;
-    let board = board_bytes(alloc, machine.shared(), at)?;
-    let drawing = drawing_bytes(alloc, machine.draw_chip(), at)?;
-    let fm = fm_bytes(alloc, machine.fm(), at)?;
-    let psg = psg_bytes(alloc, machine.psg(), at)?;
-    let rest = behind_store(has, board.as_slice());
-    let mut bytes = Vec::with_capacity(alloc, LENGTH)?;
-    append(
-        &TEXT,
-        digest,
-        &at.to_be_bytes(),
-        &[u8::from(machine.pal())],
-        &mut bytes,
-    )?;
-    bytes.extend_from_slice(main.as_slice())?;
-    append(
-        NUMBERS_THERE.of(sub.as_slice()),
-        &[u8::from(has)],
-        store_in(has, sub.as_slice(), board.as_slice()),
-        VIDEO_THERE.of(rest),
-        &mut bytes,
-    )?;
+    let middle = spell_apart(machine, apart);
+    let (sub, board) = apart.as_slice().split_at(middle);
+    let rest = behind_store(has, board);
+    put_head(machine, digest, into);
+    machine.main_chip().spell(at, into);
+    put_part(NUMBERS_THERE, sub, into);
+    put_bytes(&[u8::from(has)], into);
+    put_bytes(store_in(has, sub, board), into);
+    put_part(VIDEO_THERE, rest, into);
+    machine.draw_chip().spell(at, into);
+    put_sound(machine, rest, into);
+}
+
+/// Appends bytes, for which there is room.
+fn put_bytes(bytes: &[u8], into: &mut Vec<u8>)
+    requires { vec_len into.old + length bytes.now ≤ vec_capacity into.old }
+    ensures bytes { into.new.items ≡ into.old.items ++ bytes.now }
+    ensures length { vec_len into.new ≡ vec_len into.old + length bytes.now }
+    ensures room { vec_capacity into.old ≤ vec_capacity into.new }
+{
+    let _room_is_there = into.extend_from_slice(bytes);
+}
+
+/// Appends a part of other bytes.
+fn put_part(part: Part, bytes: &[u8], into: &mut Vec<u8>)
+    requires there { part.place + part.size ≤ length bytes.now }
+    requires room { vec_len into.old + part.size ≤ vec_capacity into.old }
+    ensures bytes { into.new.items ≡ into.old.items ++ part_of part bytes.now }
+    ensures length { vec_len into.new ≡ vec_len into.old + part.size }
+    ensures room { vec_capacity into.old ≤ vec_capacity into.new }
+{
+    put_bytes(part.of(bytes), into);
+}
+
+/// Appends what stands before the chips: the mark, the digest of the cartridge, the cycle and the region.
+fn put_head(machine: &Machine, digest: &[u8; 32], into: &mut Vec<u8>)
+    requires { vec_len into.old + 49 ≤ vec_capacity into.old }
+    ensures bytes { into.new.items ≡ into.old.items ++ (mark ++ (digest.now ++ (to_be_bytes w64 machine.now.at ++ (flag_number machine.now.console.pal ∷ [])))) }
+    ensures length { vec_len into.new ≡ vec_len into.old + 49 }
+    ensures room { vec_capacity into.old ≤ vec_capacity into.new }
+{
+    put_bytes(&TEXT, into);
+    put_bytes(digest, into);
+    put_bytes(&machine.at().to_be_bytes(), into);
+    put_bytes(&[u8::from(machine.pal())], into);
+}
+
+/// Appends the sound chips: ports, which the bus keeps, next batches and syntheses, and the lines behind them.
+fn put_sound(machine: &Machine, rest: &[u8], into: &mut Vec<u8>)
+    requires cycle { machine.now.at ≤ last_cycle }
+    requires rest { length rest.now ≡ 88407 }
+    requires room { vec_len into.old + 23377 ≤ vec_capacity into.old }
+    ensures bytes { let batch = to_be_bytes w64 (starts.first_batch machine.now.at) in
+        into.new.items ≡ into.old.items ++ (part_of fm_port_there rest.now ++ (batch ++ (fm.synth_bytes machine.now.console.fm
+        ++ (batch ++ (part_of psg_port_there rest.now ++ (psg.synth_bytes machine.now.console.psg ++ part_of lines_there rest.now)))))) }
+    ensures length { vec_len into.new ≡ vec_len into.old + 23377 }
+    ensures room { vec_capacity into.old ≤ vec_capacity into.new }
+{
+    let at = machine.at();
     let batch = first_batch(at).to_be_bytes();
-    append(
-        drawing.as_slice(),
-        FM_PORT_THERE.of(rest),
-        &batch,
-        fm.as_slice(),
-        &mut bytes,
-    )?;
-    append(
-        &batch,
-        PSG_PORT_THERE.of(rest),
-        psg.as_slice(),
-        LINES_THERE.of(rest),
-        &mut bytes,
-    )?;
-    Ok(bytes)
+    put_part(FM_PORT_THERE, rest, into);
+    put_bytes(&batch, into);
+    machine.fm().spell(at, into);
+    put_bytes(&batch, into);
+    put_part(PSG_PORT_THERE, rest, into);
+    machine.psg().spell(at, into);
+    put_part(LINES_THERE, rest, into);
 }
 
-/// Appends four lists of bytes, one after another.
-fn append(
-    first: &[u8],
-    second: &[u8],
-    third: &[u8],
-    fourth: &[u8],
-    into: &mut Vec<u8>,
-) -> Result<(), NoMemory>
-    ensures { OnOk result (into.new.items ≡ into.old.items ++ (first.now ++ (second.now ++ (third.now ++ fourth.now)))) }
+/// Makes a list what the Z80 keeps and, behind it, what the bus keeps, as it is once it is settled to the cycle.
+/// The answer is where that begins.
+fn spell_apart(machine: &Machine, apart: &mut Vec<u8>) -> usize
+    requires cycle { machine.now.at ≤ last_cycle }
+    requires room { apart_size ≤ vec_capacity apart.old }
+    ensures bytes { apart.new.items ≡ sub.chip_bytes machine.now.console.sub.state ++ shared.board_bytes (shared.settled_board machine.now.at machine.now.console.shared) }
+    ensures middle { length (sub.chip_bytes machine.now.console.sub.state) ≡ result }
+    ensures sub_long { result ≡ sub.spelled_size (is_some machine.now.console.sub.state.store) }
+    ensures board_long { length (shared.board_bytes (shared.settled_board machine.now.at machine.now.console.shared)) ≡ shared.board_size (is_some machine.now.console.shared.store) }
+    ensures sub { IsChip80 machine.now.console.sub }
+    ensures board { IsBoard machine.now.console.shared }
+    ensures room { vec_capacity apart.old ≤ vec_capacity apart.new }
 {
-    into.extend_from_slice(first)?;
-    into.extend_from_slice(second)?;
-    into.extend_from_slice(third)?;
-    into.extend_from_slice(fourth)?;
-    Ok(())
-}
-
-/// What the 68000 keeps.
-fn main_bytes(alloc: Global, chip: &Chip68, at: u64) -> Result<Vec<u8>, NoMemory>
-    ensures bytes { IfOk result (λ bytes. bytes.items ≡ main.chip_bytes chip.now.state) }
-    ensures long { IfOk result (λ bytes. length bytes.items ≡ main_part.size) }
-    ensures kept { IfOk result (λ bytes. at ≤ chip.now.state.next → main_rules.HasRules at chip.now.state
-        → main.Spells chip.now.cart at (main.chip_bytes chip.now.state) chip.now.state) }
-{
-    let mut bytes = Vec::with_capacity(alloc, MAIN.size)?;
-    chip.spell(at, &mut bytes);
-    Ok(bytes)
-}
-
-/// What the Z80 keeps.
-fn sub_bytes(alloc: Global, chip: &Chip80, at: u64) -> Result<Vec<u8>, NoMemory>
-    ensures bytes { IfOk result (λ bytes. bytes.items ≡ sub.chip_bytes chip.now.state) }
-    ensures long { IfOk result (λ bytes. length bytes.items ≡ sub.spelled_size (is_some chip.now.state.store)) }
-    ensures valid { IsChip80 chip.now }
-    ensures kept { IfOk result (λ bytes. at ≤ chip.now.state.next → sub_rules.HasRules chip.now.cart at chip.now.state
-        → sub.Spells chip.now.cart at (sub.chip_bytes chip.now.state) chip.now.state) }
-{
-    chip.next();
-    let mut bytes = Vec::with_capacity(alloc, SUB.size + STORE.size)?;
-    chip.spell(at, &mut bytes);
-    Ok(bytes)
-}
-
-/// What the bus keeps, as it is once it is settled to the cycle.
-fn board_bytes(alloc: Global, board: &Shared, at: u64) -> Result<Vec<u8>, NoMemory>
-    requires { at ≤ last_cycle }
-    ensures bytes { IfOk result (λ bytes. bytes.items ≡ shared.board_bytes (shared.settled_board at board.now)) }
-    ensures long { IfOk result (λ bytes. length bytes.items ≡ shared.board_size (is_some board.now.store)) }
-    ensures valid { IsBoard board.now }
-    ensures kept { IfOk result (λ bytes. shared.IsReady at board.now
-        → shared.Spells at board.now.vdp.pal (shared.board_bytes (shared.settled_board at board.now)) (shared.settled_board at board.now)) }
-{
-    board.known();
-    let mut bytes = Vec::with_capacity(
-        alloc,
-        STORE.size + VIDEO.size + FM_PORT.size + PSG_PORT.size + BOARD.size,
-    )?;
-    board.spell(at, &mut bytes);
-    Ok(bytes)
-}
-
-/// What the drawing half of the VDP keeps.
-fn drawing_bytes(alloc: Global, chip: &ChipVdp, at: u64) -> Result<Vec<u8>, NoMemory>
-    ensures bytes { IfOk result (λ bytes. bytes.items ≡ drawing.drawing_bytes chip.now) }
-    ensures long { IfOk result (λ bytes. length bytes.items ≡ drawing_part.size) }
-    ensures kept { IfOk result (λ bytes. drawing.IsReady at chip.now → drawing.Spells at chip.now.pal (drawing.drawing_bytes chip.now) (drawing.drained chip.now)) }
-{
-    let mut bytes = Vec::with_capacity(alloc, DRAWING.size)?;
-    chip.spell(at, &mut bytes);
-    Ok(bytes)
-}
-
-/// What the FM synthesis keeps.
-fn fm_bytes(alloc: Global, synth: &FmSynth, at: u64) -> Result<Vec<u8>, NoMemory>
-    ensures bytes { IfOk result (λ bytes. bytes.items ≡ fm.synth_bytes synth.now) }
-    ensures long { IfOk result (λ bytes. length bytes.items ≡ fm_part.size) }
-    ensures kept { IfOk result (λ bytes. fm.SpellsSynth (fm.synth_bytes synth.now) synth.now) }
-{
-    let mut bytes = Vec::with_capacity(alloc, FM.size)?;
-    synth.spell(at, &mut bytes);
-    Ok(bytes)
-}
-
-/// What the PSG's synthesis keeps.
-fn psg_bytes(alloc: Global, synth: &PsgSynth, at: u64) -> Result<Vec<u8>, NoMemory>
-    ensures bytes { IfOk result (λ bytes. bytes.items ≡ psg.synth_bytes synth.now) }
-    ensures long { IfOk result (λ bytes. length bytes.items ≡ psg_part.size) }
-    ensures kept { IfOk result (λ bytes. psg.SpellsSynth (psg.synth_bytes synth.now) synth.now) }
-{
-    let mut bytes = Vec::with_capacity(alloc, PSG.size)?;
-    synth.spell(at, &mut bytes);
-    Ok(bytes)
+    let at = machine.at();
+    machine.sub_chip().next();
+    machine.shared().known();
+    apart.clear();
+    machine.sub_chip().spell(at, apart);
+    let middle = apart.len();
+    machine.shared().spell(at, apart);
+    middle
 }
 
 /// RAM and bank register, of whoever has them.
