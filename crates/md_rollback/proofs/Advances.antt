@@ -1,6 +1,5 @@
 -- What an advance needs and leaves.
-use Rattle.std.proofs.Common.{◌≡◌, ◌≢◌, ◌∙◌, refl, sym, ap, subst, false, ℕ, ◌+◌, ◌-◌, ◌<◌, ◌≤◌, List, [], ◌∷◌, ◌++◌, length, get_or, map, take, drop, arith}
-use Rattle.std.specs.Global.{Vec}
+use Rattle.std.proofs.Common.{◌≡◌, ◌≢◌, ◌∙◌, refl, sym, ap, subst, false, ℕ, ◌+◌, ◌-◌, ◌<◌, ◌≤◌, List, [], ◌∷◌, ◌++◌, length, get_or, take, drop, arith}
 use Rattle.std.proofs.lemmas.List.{take_all}
 use Rattle.std.specs.Prelude.{reverse}
 use Rattle.md_pads.specs.Recording.{Frame, IsRecording, no_frames, recording_of}
@@ -67,12 +66,11 @@ module _ (cart : List ℕ) (spelling : ℕ → Console → List ℕ) (is_ready i
 
 -- ---- the images
 
-pub replaced-is : (a b f g : ℕ) (xs ys : List (Vec ℕ)) (k l : List (List ℕ)) → a ≡ b → f ≡ g → xs ≡ ys → k ≡ l
-    → take a (reverse (map (λ (v : Vec ℕ). v.items) xs) ++ drop f k) ≡ take b (reverse (map (λ (v : Vec ℕ). v.items) ys) ++ drop g l)
-replaced-is a b f g xs ys k l one two three four = λ i. take (one i) (reverse (map (λ (v : Vec ℕ). v.items) (three i)) ++ drop (two i) (four i))
+pub replaced-is : (a b f g : ℕ) (newer kept : List (List ℕ)) → a ≡ b → f ≡ g → take a (reverse newer ++ drop f kept) ≡ take b (reverse newer ++ drop g kept)
+replaced-is a b f g newer kept one two = λ i. take (one i) (reverse newer ++ drop (two i) kept)
 
-pub one-pushed : (most window : ℕ) (bytes image : List ℕ) (old : List (List ℕ)) → most ≡ window + 1 → bytes ≡ image → old ≡ [] → take most (bytes ∷ old) ≡ image ∷ []
-one-pushed most window bytes image old one two three = (λ i. take (one i) (two i ∷ three i)) ∙ take_all (window + 1) (image ∷ []) (omega arith)
+pub one-pushed : (most window : ℕ) (image : List ℕ) (old : List (List ℕ)) → most ≡ window + 1 → old ≡ [] → take most (image ∷ old) ≡ image ∷ []
+one-pushed most window image old one two = (λ i. take (one i) (image ∷ two i)) ∙ take_all (window + 1) (image ∷ []) (omega arith)
 
 -- ---- the session at power-on
 

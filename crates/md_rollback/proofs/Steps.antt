@@ -1,9 +1,7 @@
 -- What a frame leaves of a run from power-on.
-use Rattle.std.proofs.Common.{◌≡◌, ◌∙◌, refl, sym, ap, subst, false, ℕ, ◌+◌, ◌*◌, ◌^◌, ◌<◌, ◌≤◌, List, [], ◌∷◌, ◌++◌, ◌⊎◌, inl, inr, length, map, Result, Ok, Err, arith}
-use Rattle.std.specs.Prelude.{All, IfOk, OnOk}
-use Rattle.std.proofs.lemmas.List.{get_or_append_left, get_or_push, length-map, length_push, map_push}
-use Rattle.std.specs.declared.alloc.AllocError.{AllocError}
-use Rattle.std.specs.Global.{Vec}
+use Rattle.std.proofs.Common.{◌≡◌, ◌∙◌, refl, sym, ap, subst, false, ℕ, zero, suc, ◌+◌, ◌*◌, ◌^◌, ◌<◌, ◌≤◌, List, [], ◌∷◌, ◌++◌, ◌⊎◌, inl, inr, length, take, Result, Ok, Err, arith}
+use Rattle.std.specs.Prelude.{All, reverse}
+use Rattle.std.proofs.lemmas.List.{get_or_append_left, get_or_push, length_push, reverse-append, take_all}
 use Rattle.md_pads.specs.Recording.{Frame, IsFrame, Recorded, recording_of}
 use Rattle.md_pads.specs.declared.version.Version.{Version}
 use Rattle.md_pads.specs.declared.version.Version.TheVariants.{First}
@@ -23,7 +21,8 @@ use Rattle.md_reached.specs.Settling.{GoesOn}
 use Rattle.replays.specs.declared.fault.ReplayFault.{ReplayFault}
 use Rattle.recording_laws.specs.Recorded.{AreAlikeBelow, recorded, with_frames}
 use Rattle.save_state.specs.States.{settled_console}
-use Rattle.md_rollback.specs.Played.{AreImagesOf, IsImageOf, IsPlayed, IsRunAt, KeepsReached}
+use Rattle.rollback_images.specs.Images.{Kept}
+use Rattle.md_rollback.specs.Played.{AreImagesOf, AreMade, IsImageOf, IsKept, IsPlayed, IsRunAt, KeepsReached}
 
 -- the recording of a run is that with which it began
 pub recording-is : (cart : List ℕ) (recording : List Frame) (at : ℕ) (m : Console) → IsRunAt cart recording at m → m.shared.recording ≡ recording_of recording
@@ -89,11 +88,10 @@ played-next cart recording frames end old went new goes join reach within is par
     })
 
 -- the image of a machine that was played
-pub image-made : (cart : List ℕ) (spelling : ℕ → Console → List ℕ) (is_own : ℕ → Console → Type 0) (recording : List Frame) (frames : ℕ) (m : MachineValue) (r : Result (Vec ℕ) AllocError)
-    → IsPlayed cart recording frames m → OnOk r (is_own m.at (settled_console m.at m.console))
-    → IfOk r (λ bytes. bytes.items ≡ spelling m.at (settled_console m.at m.console))
-    → IfOk r (λ bytes. IsImageOf cart spelling is_own recording frames bytes.items)
-image-made cart spelling is_own recording frames m (Ok bytes) played own all =
+pub image-made : (cart : List ℕ) (spelling : ℕ → Console → List ℕ) (is_own : ℕ → Console → Type 0) (recording : List Frame) (frames : ℕ) (m : MachineValue)
+    → IsPlayed cart recording frames m → is_own m.at (settled_console m.at m.console)
+    → IsImageOf cart spelling is_own recording frames (spelling m.at (settled_console m.at m.console))
+image-made cart spelling is_own recording frames m played own =
     let at : m.at ≡ frame * frames = played.machine_is.at in
     record {
       kept = m.console;
@@ -103,9 +101,8 @@ image-made cart spelling is_own recording frames m (Ok bytes) played own all =
       cart_is = played.cart_is;
       reached = played.reached;
       own = subst (λ (n : ℕ). is_own n (settled_console n m.console)) at own;
-      all = all ∙ ap (λ (n : ℕ). spelling n (settled_console n m.console)) at;
+      all = ap (λ (n : ℕ). spelling n (settled_console n m.console)) at;
     }
-image-made cart spelling is_own recording frames m (Err e) played own all = tt
 
 -- the last machine of a run from power-on has a recording of the first version
 last-first : (cart : List ℕ) (recording : List Frame) (at : ℕ) (last : Console) (entries : List Entry) (output : Media)
@@ -180,17 +177,48 @@ may-be-kept cart is_ready recording frames m within keeps played =
 last-or-before : (j n : ℕ) → j < n + 1 → (j < n) ⊎ (j ≡ n)
 last-or-before j n less = grind arith
 
-pub images-push : (cart : List ℕ) (spelling : ℕ → Console → List ℕ) (is_own : ℕ → Console → Type 0) (recording : List Frame) (from at : ℕ) (old : Vec (Vec ℕ)) (image : Vec ℕ) (new : Vec (Vec ℕ))
-    → new.items ≡ old.items ++ image ∷ [] → from + length old.items ≡ at → IsImageOf cart spelling is_own recording (at + 1) image.items
-    → AreImagesOf cart spelling is_own recording (from + 1) (map (λ (v : Vec ℕ). v.items) old.items)
-    → AreImagesOf cart spelling is_own recording (from + 1) (map (λ (v : Vec ℕ). v.items) new.items)
-images-push cart spelling is_own recording from at old image new pushed count last before =
-    let all : map (λ (v : Vec ℕ). v.items) new.items ≡ map (λ (v : Vec ℕ). v.items) old.items ++ image.items ∷ [] =
-    ap (map (λ (v : Vec ℕ). v.items)) pushed ∙ map_push (λ (v : Vec ℕ). v.items) old.items image in
-    let long : length (map (λ (v : Vec ℕ). v.items) old.items) ≡ length old.items = length-map old.items (λ (v : Vec ℕ). v.items) in
-    subst (AreImagesOf cart spelling is_own recording (from + 1)) (sym all)
-    (λ j less. elim (last-or-before j (length (map (λ (v : Vec ℕ). v.items) old.items)) (omega (arith, less, length_push (map (λ (v : Vec ℕ). v.items) old.items) image.items))) [
-      | inl early ↦ subst (IsImageOf cart spelling is_own recording ((from + 1) + j)) (sym (get_or_append_left (map (λ (v : Vec ℕ). v.items) old.items) (image.items ∷ []) [] j early)) (before j early)
-      | inr here ↦ subst (IsImageOf cart spelling is_own recording ((from + 1) + j)) (sym (get_or_push (map (λ (v : Vec ℕ). v.items) old.items) image.items [] j (sym here)))
-          (subst (λ (n : ℕ). IsImageOf cart spelling is_own recording n image.items) (omega (arith, here, long, count)) last)
-    ])
+images-push : (cart : List ℕ) (spelling : ℕ → Console → List ℕ) (is_own : ℕ → Console → Type 0) (recording : List Frame) (from at : ℕ) (old : List (List ℕ)) (image : List ℕ)
+    → from + length old ≡ at → IsImageOf cart spelling is_own recording (at + 1) image → AreImagesOf cart spelling is_own recording (from + 1) old
+    → AreImagesOf cart spelling is_own recording (from + 1) (old ++ image ∷ [])
+images-push cart spelling is_own recording from at old image count last before = λ j less.
+    elim (last-or-before j (length old) (omega (arith, less, length_push old image))) [
+      | inl early ↦ subst (IsImageOf cart spelling is_own recording ((from + 1) + j)) (sym (get_or_append_left old (image ∷ []) [] j early)) (before j early)
+      | inr here ↦ subst (IsImageOf cart spelling is_own recording ((from + 1) + j)) (sym (get_or_push old image [] j (sym here)))
+          (subst (λ (n : ℕ). IsImageOf cart spelling is_own recording n image) (omega (arith, here, count)) last)
+    ]
+
+taken : (a b : ℕ) (xs : List (List ℕ)) → a ≤ b → take a (take b xs) ≡ take a xs
+taken zero b xs less = refl
+taken (suc a) zero xs less = absurd (omega (arith, less))
+taken (suc a) (suc b) [] less = refl
+taken (suc a) (suc b) (x ∷ xs) less = ap (λ ys. x ∷ ys) (taken a b xs (omega (arith, less)))
+
+cut-again : (most : ℕ) (y : List ℕ) (ys : List (List ℕ)) → take most (y ∷ take most ys) ≡ take most (y ∷ ys)
+cut-again zero y ys = refl
+cut-again (suc m) y ys = ap (λ (xs : List (List ℕ)). y ∷ xs) (taken m (suc m) ys (omega arith))
+
+newest-first : (xs : List (List ℕ)) (y : List ℕ) → reverse (xs ++ y ∷ []) ≡ y ∷ reverse xs
+newest-first xs y = reverse-append xs (y ∷ [])
+
+pub made-none : (cart : List ℕ) (spelling : ℕ → Console → List ℕ) (is_own : ℕ → Console → Type 0) (recording : List Frame) (from : ℕ) (old : Kept)
+    → length old.images ≤ old.most → AreMade cart spelling is_own recording from from old old
+made-none cart spelling is_own recording from old few = record {
+  newer = [];
+  count = omega arith;
+  each = λ j less. absurd (omega (arith, less));
+  kept = sym (ap (λ (xs : List (List ℕ)). record old { images = xs }) (take_all old.most old.images few));
+}
+
+pub made-next : (cart : List ℕ) (spelling : ℕ → Console → List ℕ) (is_own : ℕ → Console → Type 0) (recording : List Frame) (from at : ℕ) (old before new : Kept)
+    → AreMade cart spelling is_own recording from at old before → IsKept cart spelling is_own recording (at + 1) before new → AreMade cart spelling is_own recording from (at + 1) old new
+made-next cart spelling is_own recording from at old before new made one =
+    let rest : List (List ℕ) = reverse made.newer ++ old.images in
+    record {
+      newer = made.newer ++ one.bytes ∷ [];
+      count = omega (arith, made.count, length_push made.newer one.bytes);
+      each = images-push cart spelling is_own recording from at made.newer one.bytes made.count one.image made.each;
+      kept = one.kept
+          ∙ ap (λ (k : Kept). record k { images = take k.most (one.bytes ∷ k.images) }) made.kept
+          ∙ ap (λ (xs : List (List ℕ)). record old { images = xs })
+          (cut-again old.most one.bytes rest ∙ ap (λ (xs : List (List ℕ)). take old.most (xs ++ old.images)) (sym (newest-first made.newer one.bytes)));
+    }

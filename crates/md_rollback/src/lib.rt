@@ -3,6 +3,7 @@
 #![tactic(auto)]
 
 mod fault;
+mod images;
 pub mod laws;
 mod play;
 mod recording;

@@ -1,12 +1,13 @@
-ghost use Rattle.std.specs.Prelude.{◌≡◌, ◌≤◌, ◌<◌, ◌+◌, ◌-◌, ◌*◌, ℕ, false, List, [], All, IfOk, length, map, vec_capacity};
+ghost use Rattle.std.specs.Prelude.{◌≡◌, ◌≤◌, ◌<◌, ◌+◌, ◌*◌, ℕ, false, List, [], All, IfOk, OnErr, OnOk, drop, get_or, length};
 ghost use Rattle.std.specs.Arc.{arc_value};
 ghost use Rattle.md_pads.specs.Recording.{Frame, IsFrame, IsRecording, recording_of};
 ghost use Rattle.md_pads.specs.declared.version.Version.TheVariants.{First};
 ghost use Rattle.md_word.specs.Clock.{frame as frame_length};
 ghost use Rattle.md_machine.specs.Media.{no_media};
 ghost use Rattle.rollback_inputs.specs.Inputs.{most_frames};
-ghost use Rattle.md_rollback.specs.Played.{AreImagesOf, IsImageOf, IsPlayed, KeepsReached};
+ghost use Rattle.md_rollback.specs.Played.{AreMade, IsImageOf, IsKept, IsPlayed, KeepsReached};
 
+use crate::images::Images;
 use crate::recording::shared_recording;
 use md_machine::{Machine, laws};
 use md_pads::Recording;
@@ -17,44 +18,21 @@ use replays::{ReplayFault, Replays, settled};
 use std::alloc::Global;
 use std::sync::Arc;
 
-/// The bytes of a frame's records, frames or samples, at most.
-pub(crate) const ROOM: usize = 840_000;
-
-/// Lets what a machine made go.
-pub(crate) fn discard(machine: &mut Machine, scratch: &mut Vec<u8>)
-    requires region { machine.old.console.pal ≡ false }
-    requires entries { length machine.old.entries ≤ 52500 }
-    requires frames { length machine.old.media.frames ≤ 1 }
-    requires samples { length machine.old.media.levels ≤ 896 }
-    requires room { 840000 ≤ vec_capacity scratch.old }
-    ensures machine { machine.new ≡ record machine.old { entries = []; media = no_media } }
-    ensures room { 840000 ≤ vec_capacity scratch.new }
-{
-    scratch.clear();
-    machine.drain_entries(scratch);
-    scratch.clear();
-    machine.drain_frames(scratch);
-    scratch.clear();
-    machine.drain_pairs(scratch);
-}
-
 /// Makes a frame.
-pub(crate) fn play_frame(machine: &mut Machine, frame: usize, scratch: &mut Vec<u8>)
+pub(crate) fn play_frame(machine: &mut Machine, frame: usize)
     requires at { machine.old.at ≡ frame_length * frame }
     requires within { frame < most_frames }
     requires region { machine.old.console.pal ≡ false }
     requires entries { machine.old.entries ≡ [] }
     requires media { machine.old.media ≡ no_media }
-    requires room { 840000 ≤ vec_capacity scratch.old }
     ensures played { (cart : List ℕ) (recording : List Frame) → IsPlayed cart recording frame machine.old → IsPlayed cart recording (frame + 1) machine.new }
-    ensures room { 840000 ≤ vec_capacity scratch.new }
 {
     laws::joined();
     laws::parts_are_valid(machine);
     saved::runs_reach();
     settled::alike_machines_go_on();
     machine.alone(FRAME * (frame as u64 + 1));
-    discard(machine, scratch);
+    machine.discard();
 }
 
 /// The machine of an image at the start of a frame, with another recording.
@@ -83,79 +61,66 @@ pub(crate) fn resume<R: Replays>(
     }
 }
 
-/// Makes a frame, and its image.
-fn play_kept<R: Replays>(
-    alloc: Global,
-    replays: &R,
-    machine: &mut Machine,
-    frame: usize,
-    scratch: &mut Vec<u8>,
-) -> Result<Vec<u8>, NoMemory>
+/// Makes a frame, and keeps its image.
+fn play_kept<R: Replays>(replays: &R, machine: &mut Machine, frame: usize, images: &mut Images)
     requires keeps { KeepsReached (R.cart replays.now) (R.is_ready replays.now) }
     requires played { IsPlayed (R.cart replays.now) machine.old.console.shared.recording.frames frame machine.old }
     requires within { frame < most_frames }
-    requires room { 840000 ≤ vec_capacity scratch.old }
+    requires size { images.old.size ≡ R.size replays.now }
     ensures played { IsPlayed (R.cart replays.now) machine.old.console.shared.recording.frames (frame + 1) machine.new }
-    ensures room { 840000 ≤ vec_capacity scratch.new }
-    ensures sized { IfOk result (λ bytes. length bytes.items ≡ R.size replays.now) }
-    ensures image { IfOk result (λ bytes. IsImageOf (R.cart replays.now) (R.spelling replays.now) (R.is_own replays.now) machine.old.console.shared.recording.frames (frame + 1) bytes.items) }
+    ensures image { IsKept (R.cart replays.now) (R.spelling replays.now) (R.is_own replays.now) machine.old.console.shared.recording.frames (frame + 1) images.old images.new }
 {
-    play_frame(machine, frame, scratch);
-    replays.image(alloc, machine)
+    play_frame(machine, frame);
+    images.keep(replays, machine);
 }
 
-/// Makes the frames from one to another, and their images.
+/// Makes the frames from one to another, and keeps their images.
 pub(crate) fn play<R: Replays>(
-    alloc: Global,
     replays: &R,
     machine: &mut Machine,
     from: usize,
     to: usize,
-    scratch: &mut Vec<u8>,
-) -> Result<Vec<Vec<u8>>, NoMemory>
+    images: &mut Images,
+)
     requires keeps { KeepsReached (R.cart replays.now) (R.is_ready replays.now) }
     requires played { IsPlayed (R.cart replays.now) machine.old.console.shared.recording.frames from machine.old }
     requires order { from ≤ to }
     requires within { to ≤ most_frames }
-    requires room { 840000 ≤ vec_capacity scratch.old }
-    ensures played { IfOk result (λ images. IsPlayed (R.cart replays.now) machine.old.console.shared.recording.frames to machine.new) }
-    ensures room { 840000 ≤ vec_capacity scratch.new }
-    ensures count { IfOk result (λ images. from + length images.items ≡ to) }
-    ensures sizes { IfOk result (λ images. All (λ image. length image.items ≡ R.size replays.now) images.items) }
-    ensures images { IfOk result (λ images. AreImagesOf (R.cart replays.now) (R.spelling replays.now) (R.is_own replays.now) machine.old.console.shared.recording.frames (from + 1) (map (λ image. image.items) images.items)) }
+    requires size { images.old.size ≡ R.size replays.now }
+    requires few { length images.old.images ≤ images.old.most }
+    ensures played { IsPlayed (R.cart replays.now) machine.old.console.shared.recording.frames to machine.new }
+    ensures images { AreMade (R.cart replays.now) (R.spelling replays.now) (R.is_own replays.now) machine.old.console.shared.recording.frames from to images.old images.new }
 {
-    let mut images = Vec::with_capacity(alloc, to - from)?;
     for frame in from..to {
-        let image = play_kept(alloc, replays, machine, frame, scratch)?;
-        images.push_reserved(image);
+        play_kept(replays, machine, frame, images);
     }
-    Ok(images)
 }
 
-/// The machine after all frames of a recording, from an image at the start of one of them on, and the images
-/// at the starts of the later ones and at the end.
+/// The machine after all frames of a recording, from the image on that stands behind so many newer ones, which is
+/// that of the start of one of them. The images of the later frames and of the end come in place of the newer ones.
 pub(crate) fn remade<R: Replays>(
     alloc: Global,
     replays: &R,
-    image: &[u8],
+    images: &mut Images,
+    newer: usize,
     expected: &[(u16, u16)],
     right: usize,
-    scratch: &mut Vec<u8>,
-) -> Result<(Machine, Vec<Vec<u8>>), NoMemory>
+) -> Result<Machine, NoMemory>
     requires keeps { KeepsReached (R.cart replays.now) (R.is_ready replays.now) }
+    requires size { images.old.size ≡ R.size replays.now }
+    requires newer { newer < length images.old.images }
     requires recording { IsRecording (recording_of expected.now) }
-    requires image { IsImageOf (R.cart replays.now) (R.spelling replays.now) (R.is_own replays.now) expected.now right image.now }
+    requires image { IsImageOf (R.cart replays.now) (R.spelling replays.now) (R.is_own replays.now) expected.now right (get_or images.old.images newer []) }
     requires order { right < length expected.now }
     requires within { length expected.now ≤ most_frames }
-    requires room { 840000 ≤ vec_capacity scratch.old }
-    ensures machine { IfOk result (λ made. IsPlayed (R.cart replays.now) expected.now (length expected.now) made.0) }
-    ensures count { IfOk result (λ made. right + length made.1.items ≡ length expected.now) }
-    ensures sizes { IfOk result (λ made. All (λ image. length image.items ≡ R.size replays.now) made.1.items) }
-    ensures images { IfOk result (λ made. AreImagesOf (R.cart replays.now) (R.spelling replays.now) (R.is_own replays.now) expected.now (right + 1) (map (λ image. image.items) made.1.items)) }
-    ensures room { 840000 ≤ vec_capacity scratch.new }
+    ensures machine { IfOk result (λ machine. IsPlayed (R.cart replays.now) expected.now (length expected.now) machine) }
+    ensures images { OnOk result (AreMade (R.cart replays.now) (R.spelling replays.now) (R.is_own replays.now) expected.now right (length expected.now)
+        (record images.old { images = drop newer images.old.images }) images.new) }
+    ensures err { OnErr result (images.new ≡ images.old) }
 {
     let recording = shared_recording(alloc, expected)?;
-    let mut machine = resume(alloc, replays, image, recording, right)?;
-    let images = play(alloc, replays, &mut machine, right, expected.len(), scratch)?;
-    Ok((machine, images))
+    let mut machine = resume(alloc, replays, images.image(newer), recording, right)?;
+    images.drop_newest(newer);
+    play(replays, &mut machine, right, expected.len(), images);
+    Ok(machine)
 }

@@ -4,16 +4,15 @@ ghost use Rattle.md_word.specs.Clock.{frame as frame_length, last_cycle};
 ghost use Rattle.md_machine.specs.Console.{power_on};
 ghost use Rattle.md_machine.specs.Media.{no_media};
 ghost use Rattle.rollback_inputs.specs.Inputs.{IsConfirmed, expected_frames, given, most_frames, no_words};
-ghost use Rattle.rollback_images.specs.Images.{image_room};
 ghost use Rattle.md_rollback.specs.Played.{IsMachineOf, KeepsReached};
 
 use crate::fault::AdvanceFault;
-use crate::play::{ROOM, remade};
+use crate::images::Images;
+use crate::play::remade;
 use md_machine::Machine;
 use md_reached::saved;
 use md_word::NoMemory;
 use replays::Replays;
-use rollback_images::KeptImages;
 use rollback_inputs::{InputFault, Inputs, MOST_FRAMES, same_frames};
 use std::alloc::Global;
 use std::marker::Model;
@@ -28,17 +27,13 @@ pub struct Session<R: Replays> {
     inputs: Inputs,
     /// The words with which the frames were made.
     played: Vec<(u16, u16)>,
-    images: KeptImages,
+    images: Images,
     machine: Machine,
-    /// The images that were kept last, until the next ones stand, which then take the memory of those before them:
-    /// so no advance gives memory back to the system and asks for it again.
-    latest: Vec<Vec<u8>>,
-    scratch: Vec<u8>,
     window: usize,
 }
 
 impl<R: Replays> Model for Session<R> {
-    ghost use Rattle.std.specs.Prelude.{◌≡◌, ◌+◌, ◌≤◌, length, vec_capacity};
+    ghost use Rattle.std.specs.Prelude.{◌≡◌, ◌+◌, length};
     ghost use Rattle.md_rollback.specs.Sessions.{IsSession, SessionValue};
 
     ghost Value = { SessionValue };
@@ -46,7 +41,7 @@ impl<R: Replays> Model for Session<R> {
     ghost view = { λ s. record { window = s.window; local = s.inputs.local; remote = s.inputs.remote; confirmed = s.inputs.confirmed; frames = length s.played.items; machine = s.machine } };
 
     ghost invariant = { λ s. IsSession (R.cart s.replays) (R.spelling s.replays) (R.is_ready s.replays) (R.is_own s.replays) s.window s.inputs s.played.items s.images.images s.machine
-        × (s.images.most ≡ s.window + 1) × (s.images.size ≡ R.size s.replays) × (840000 ≤ vec_capacity s.scratch) };
+        × (s.images.most ≡ s.window + 1) × (s.images.size ≡ R.size s.replays) };
 }
 
 impl<R: Replays> Session<R> {
@@ -63,15 +58,12 @@ impl<R: Replays> Session<R> {
         requires most { window ≤ 16 }
         requires first { machine ≡ record { at = 0; console = power_on (R.cart replays) no_frames false; entries = []; media = no_media } }
         requires keeps { KeepsReached (R.cart replays) (R.is_ready replays) }
-        requires fits { R.size replays ≤ image_room }
         ensures { IfOk result (λ session. session ≡ record { window = window; local = no_words; remote = no_words; confirmed = 0; frames = 0; machine = machine }) }
     {
         saved::power_on_is_reached(machine.cart());
         let inputs = Inputs::make(alloc)?;
-        let mut images = KeptImages::make(alloc, window + 1, replays.image_size())?;
-        let scratch = Vec::with_capacity(alloc, ROOM)?;
-        let image = replays.image(alloc, &machine)?;
-        images.push(image.as_slice());
+        let mut images = Images::make(alloc, window + 1, replays.image_size())?;
+        images.keep(&replays, &machine);
         Ok(Session {
             alloc,
             replays,
@@ -79,8 +71,6 @@ impl<R: Replays> Session<R> {
             played: Vec::new(alloc),
             images,
             machine,
-            latest: Vec::new(alloc),
-            scratch,
             window: window as usize,
         })
     }
@@ -134,25 +124,17 @@ impl<R: Replays> Session<R> {
         self.inputs.known();
         let expected = self.inputs.expected(self.alloc, frames + 1)?;
         let right = same_frames(self.played.as_slice(), expected.as_slice());
-        self.images.fetch(frames - right);
-        let made = remade(
+        let machine = remade(
             self.alloc,
             &self.replays,
-            self.images.fetched(),
+            &mut self.images,
+            frames - right,
             expected.as_slice(),
             right,
-            &mut self.scratch,
-        );
-        match made {
-            Ok(made) => {
-                self.images.replace(frames - right, made.1.as_slice());
-                self.machine = made.0;
-                self.latest = made.1;
-                self.played = expected;
-                Ok(())
-            }
-            Err(NoMemory) => Err(AdvanceFault::NoMemory),
-        }
+        )?;
+        self.machine = machine;
+        self.played = expected;
+        Ok(())
     }
 
     /// How many frames the machine made: at most 36,000.

@@ -1,4 +1,4 @@
-ghost use Rattle.std.specs.Prelude.{◌≡◌, ◌≢◌, ◌≤◌, ℕ, List, [], length, IfOk, OnOk, Ok, Err};
+ghost use Rattle.std.specs.Prelude.{◌≡◌, ◌≢◌, ◌≤◌, ◌+◌, ◌++◌, ℕ, List, [], vec_len, vec_capacity, IfOk, Ok, Err};
 ghost use Rattle.std.specs.Arc.{arc_value};
 ghost use Rattle.md_word.specs.Clock.{last_cycle};
 ghost use Rattle.md_machine.specs.Media.{no_media};
@@ -36,14 +36,18 @@ pub trait Replays: Drop {
     fn image_size(&self) -> usize
         ensures { result ≡ size self.now };
 
-    /// The image of a machine. That of one that may be kept is read back.
-    fn image(&self, alloc: Global, machine: &Machine) -> Result<Vec<u8>, NoMemory>
+    /// Appends the image of a machine. There is room for it, and for as much in `apart`, which is used meanwhile. The
+    /// image of a machine that may be kept is read back.
+    fn spell(&self, machine: &Machine, apart: &mut Vec<u8>, into: &mut Vec<u8>)
         requires cart { machine.now.console.cart ≡ cart self.now }
         requires cycle { machine.now.at ≤ last_cycle }
-        ensures bytes { IfOk result (λ bytes. bytes.items ≡ spelling self.now machine.now.at (settled_console machine.now.at machine.now.console)) }
-        ensures sized { is_ready self.now machine.now.at machine.now.console → IfOk result (λ bytes. length bytes.items ≡ size self.now) }
-        ensures own { is_ready self.now machine.now.at machine.now.console
-            → OnOk result (is_own self.now machine.now.at (settled_console machine.now.at machine.now.console)) };
+        requires apart { size self.now ≤ vec_capacity apart.old }
+        requires room { vec_len into.old + size self.now ≤ vec_capacity into.old }
+        ensures bytes { into.new.items ≡ into.old.items ++ spelling self.now machine.now.at (settled_console machine.now.at machine.now.console) }
+        ensures sized { is_ready self.now machine.now.at machine.now.console → vec_len into.new ≡ vec_len into.old + size self.now }
+        ensures own { is_ready self.now machine.now.at machine.now.console → is_own self.now machine.now.at (settled_console machine.now.at machine.now.console) }
+        ensures room { vec_capacity into.old ≤ vec_capacity into.new }
+        ensures apart { vec_capacity apart.old ≤ vec_capacity apart.new };
 
     /// The machine that an image keeps, with this recording.
     fn machine(

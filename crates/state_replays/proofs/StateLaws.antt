@@ -1,8 +1,6 @@
 -- Images that are saved states.
 use Rattle.std.proofs.Common.{◌≡◌, ◌≢◌, ◌∙◌, refl, sym, ap, ap₂, subst, false, ℕ, List, [], length, Result, Ok, Err, inl, inr, arith}
-use Rattle.std.specs.Prelude.{IfOk, OnOk}
-use Rattle.std.specs.declared.alloc.AllocError.{AllocError}
-use Rattle.std.specs.Global.{Vec}
+use Rattle.std.specs.Prelude.{IfOk}
 use Rattle.md_pads.specs.Recording.{Recorded}
 use Rattle.z80_chip.specs.States as states80
 use Rattle.md_machine.specs.Console.{Console, power_on}
@@ -67,16 +65,15 @@ pub newest-long : (cart bytes : List ℕ) (start : Start) → IsNewest cart byte
 newest-long cart bytes start newest = (parts_of_state cart bytes start newest).long
 
 -- the image of a machine that may be kept is of one that images keep
-pub image-own : (cart : List ℕ) (at : ℕ) (m : Console) (r : Result (Vec ℕ) AllocError) → m.cart ≡ cart → MayBeKept cart at m
-    → (HasOneOwner m → IfOk r (λ bytes. length bytes.items ≡ state_size))
-    → (IsReady at m → IfOk r (λ bytes. IsState m.cart bytes.items (record { at = at; console = settled_console at m })))
-    → OnOk r (IsKept cart at (settled_console at m))
-image-own cart at m (Ok bytes) same (inl first) long kept =
+pub image-own : (cart : List ℕ) (at : ℕ) (m : Console) → m.cart ≡ cart → MayBeKept cart at m
+    → (HasOneOwner m → length (state_bytes at m) ≡ state_size)
+    → (IsReady at m → IsState m.cart (state_bytes at m) (record { at = at; console = settled_console at m }))
+    → IsKept cart at (settled_console at m)
+image-own cart at m same (inl first) long kept =
     inl (first.0, (first.1.0, ap₂ settled_console first.0 first.1.1 ∙ first_settled cart first.1.0 false))
-image-own cart at m (Ok bytes) same (inr ready) long kept =
+image-own cart at m same (inr ready) long kept =
     inr (subst (λ (c : List ℕ). IsSaved c (record { at = at; console = settled_console at m })) same
-    (newest-by-size m.cart bytes.items (record { at = at; console = settled_console at m }) (kept ready) (long ready.one_owner)).saved)
-image-own cart at m (Err e) same may long kept = tt
+    (newest-by-size m.cart (state_bytes at m) (record { at = at; console = settled_console at m }) (kept ready) (long ready.one_owner)).saved)
 
 first-owner : (cart : List ℕ) (recording : Recorded) → HasOneOwner (power_on cart recording false)
 unfolding states80.power_on

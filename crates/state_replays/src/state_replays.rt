@@ -9,7 +9,8 @@ use md_pads::Recording;
 use md_word::NoMemory;
 use replays::{ReplayFault, Replays};
 use rom_header::Cart;
-use save_state::{LENGTH, StateFault, read_with, write_with};
+use save_state::laws::kept;
+use save_state::{LENGTH, StateFault, read_with, spell, write_with};
 use sha2::{Digest, Sha256};
 use std::alloc::Global;
 use std::marker::Model;
@@ -104,8 +105,9 @@ impl Replays for StateReplays {
         LENGTH
     }
 
-    fn image(&self, alloc: Global, machine: &Machine) -> Result<Vec<u8>, NoMemory> {
-        write_with(alloc, machine, &self.digest)
+    fn spell(&self, machine: &Machine, apart: &mut Vec<u8>, into: &mut Vec<u8>) {
+        kept(machine);
+        spell(machine, &self.digest, apart, into);
     }
 
     fn machine(

@@ -1,10 +1,10 @@
-use Rattle.std.proofs.Common.{◌≡◌, ◌∙◌, ◌+◌, ap, sym, subst, List, ℕ, length, map}
+use Rattle.std.proofs.Common.{◌≡◌, ◌∙◌, ap, sym, subst, List, length}
 use Rattle.std.specs.Prelude.{All}
 use Rattle.std.specs.Arc.{arc_value}
-use Rattle.std.specs.Global.{Vec}
 use Rattle.md_pads.specs.Recording.{Frame, IsFrame, Recorded, recording_of}
 use Rattle.md_pads.proofs.Frames.{frames_are}
-use Rattle.md_rollback.specs.Played.{AreImagesOf, IsImageOf, IsPlayed}
+use Rattle.rollback_images.specs.Images.{Kept}
+use Rattle.md_rollback.specs.Played.{AreMade, IsImageOf, IsPlayed}
 use Rattle.md_rollback.proofs.Steps.{frames-are}
 use Rattle.md_rollback.proofs.play.remade.Goals as goal
 
@@ -17,8 +17,9 @@ resume-requires-clause-buttons g c =
 
 pub resume-requires-clause-image : goal.resume-requires-clause-image
 resume-requires-clause-image g c =
-    subst (λ (r : Recorded). IsImageOf (g.R.Replays.cart c.args.replays.now) (g.R.Replays.spelling c.args.replays.now) (g.R.Replays.is_own c.args.replays.now) r.frames c.args.right c.args.image.now)
-    (sym c.in_ok-recording.ensures) c.requires.image
+    subst (λ (r : Recorded). IsImageOf (g.R.Replays.cart c.args.replays.now) (g.R.Replays.spelling c.args.replays.now) (g.R.Replays.is_own c.args.replays.now) r.frames c.args.right c.image.result.now)
+    (sym c.in_ok-recording.ensures)
+    (subst (IsImageOf (g.R.Replays.cart c.args.replays.now) (g.R.Replays.spelling c.args.replays.now) (g.R.Replays.is_own c.args.replays.now) c.args.expected.now c.args.right) (sym c.image.ensures) c.requires.image)
 
 pub play-requires-clause-played : goal.play-requires-clause-played
 play-requires-clause-played g c =
@@ -27,19 +28,24 @@ play-requires-clause-played g c =
     subst (λ (r : List Frame). IsPlayed cart r c.args.right m)
     (sym (frames-are cart (arc_value c.in_ok-recording.recording).frames _ m.console c.in_ok-machine.ensures.machine_is.run)) c.in_ok-machine.ensures
 
+pub play-requires-clause-few : goal.play-requires-clause-few
+play-requires-clause-few g c = c.drop_newest.ensures.within
+
 pub returns-clause-machine : goal.returns-clause-machine
 returns-clause-machine g c =
     let cart = g.R.Replays.cart c.args.replays.now in
     let m = c.in_ok-machine.machine in
     let same : m.console.shared.recording.frames ≡ c.args.expected.now =
     frames-are cart (arc_value c.in_ok-recording.recording).frames _ m.console c.in_ok-machine.ensures.machine_is.run ∙ ap (λ (r : Recorded). r.frames) c.in_ok-recording.ensures in
-    subst (λ (r : List Frame). IsPlayed cart r (length c.args.expected.now) c.play.new.machine) same c.in_ok-images.ensures.played
+    subst (λ (r : List Frame). IsPlayed cart r (length c.args.expected.now) c.play.new.machine) same c.play.ensures.played
 
 pub returns-clause-images : goal.returns-clause-images
 returns-clause-images g c =
     let cart = g.R.Replays.cart c.args.replays.now in
+    let spelling = g.R.Replays.spelling c.args.replays.now in
+    let is_own = g.R.Replays.is_own c.args.replays.now in
     let m = c.in_ok-machine.machine in
     let same : m.console.shared.recording.frames ≡ c.args.expected.now =
     frames-are cart (arc_value c.in_ok-recording.recording).frames _ m.console c.in_ok-machine.ensures.machine_is.run ∙ ap (λ (r : Recorded). r.frames) c.in_ok-recording.ensures in
-    subst (λ (r : List Frame). AreImagesOf cart (g.R.Replays.spelling c.args.replays.now) (g.R.Replays.is_own c.args.replays.now) r (c.args.right + 1) (map (λ (v : Vec ℕ). v.items) c.in_ok-images.images.items))
-    same c.in_ok-images.ensures.images
+    subst (λ (k : Kept). AreMade cart spelling is_own c.args.expected.now c.args.right (length c.args.expected.now) k c.play.new.images) c.drop_newest.ensures.rest
+    (subst (λ (r : List Frame). AreMade cart spelling is_own r c.args.right (length c.args.expected.now) c.drop_newest.new.self c.play.new.images) same c.play.ensures.images)

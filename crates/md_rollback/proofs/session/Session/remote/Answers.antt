@@ -18,7 +18,6 @@ invariant_of-self g c =
       },
       c.self.invariant.1,
       c.self.invariant.2,
-      c.self.invariant.3,
     )
 
 pub returns-clause-given : goal.returns-clause-given

@@ -1,0 +1,74 @@
+ghost use Rattle.std.specs.Prelude.{◌≡◌, ◌≤◌, ◌<◌, ◌∷◌, [], drop, get_or, length, take, IfOk};
+ghost use Rattle.md_word.specs.Clock.{last_cycle};
+ghost use Rattle.save_state.specs.States.{settled_console};
+
+use md_machine::Machine;
+use md_word::NoMemory;
+use replays::Replays;
+use rollback_images::KeptImages;
+use std::alloc::Global;
+use std::marker::Model;
+
+/// The images of a session's last frames, and the lists in which the next one is made, so that none takes memory.
+/// Contracts see the images.
+#[derive(Drop)]
+pub(crate) struct Images {
+    kept: KeptImages,
+    next: Vec<u8>,
+    apart: Vec<u8>,
+}
+
+impl Model for Images {
+    ghost use Rattle.std.specs.Prelude.{◌≤◌, vec_capacity};
+    ghost use Rattle.rollback_images.specs.Images.{Kept};
+
+    ghost Value = { Kept };
+
+    ghost view = { λ i. i.kept };
+
+    ghost invariant = { λ i. (i.kept.size ≤ vec_capacity i.next) × (i.kept.size ≤ vec_capacity i.apart) };
+}
+
+impl Images {
+    /// No images. All memory that they ever need is taken here.
+    pub(crate) fn make(alloc: Global, most: u32, size: usize) -> Result<Images, NoMemory>
+        requires { 1 ≤ most }
+        ensures { IfOk result (λ images. images ≡ record { most = most; size = size; images = [] }) }
+    {
+        Ok(Images {
+            kept: KeptImages::make(alloc, most, size)?,
+            next: Vec::with_capacity(alloc, size)?,
+            apart: Vec::with_capacity(alloc, size)?,
+        })
+    }
+
+    /// Keeps the image of a machine. The oldest one goes where there were as many as are kept.
+    pub(crate) fn keep<R: Replays>(&mut self, replays: &R, machine: &Machine)
+        requires cart { machine.now.console.cart ≡ R.cart replays.now }
+        requires cycle { machine.now.at ≤ last_cycle }
+        requires size { self.old.size ≡ R.size replays.now }
+        ensures kept { self.new ≡ record self.old { images = take self.old.most (R.spelling replays.now machine.now.at (settled_console machine.now.at machine.now.console) ∷ self.old.images) } }
+        ensures own { R.is_ready replays.now machine.now.at machine.now.console → R.is_own replays.now machine.now.at (settled_console machine.now.at machine.now.console) }
+    {
+        self.next.clear();
+        replays.spell(machine, &mut self.apart, &mut self.next);
+        self.kept.push(&mut self.next);
+    }
+
+    /// The image that stands behind so many newer ones.
+    pub(crate) fn image(&self, newer: usize) -> &[u8]
+        requires { newer < length self.now.images }
+        ensures { result.now ≡ get_or self.now.images newer [] }
+    {
+        self.kept.image(newer)
+    }
+
+    /// Drops the newest images, so many.
+    pub(crate) fn drop_newest(&mut self, count: usize)
+        requires { count ≤ length self.old.images }
+        ensures rest { self.new ≡ record self.old { images = drop count self.old.images } }
+        ensures within { length self.new.images ≤ self.new.most }
+    {
+        self.kept.drop_newest(count);
+    }
+}
