@@ -3,7 +3,7 @@ ghost use Rattle.std.specs.Prelude.{◌≡◌, ◌^◌, ◌<◌, ◌≤◌, ◌�
 use crate::case::Case;
 use crate::sequencer::Sequencer;
 use crate::stage::Stage;
-use m68k_exec::Progress;
+use m68k_exec::{DecodeCache, Progress};
 use md_word::{Answer68, Key, Next, NoMemory, Pins68, Regs, Request68};
 use rom_header::Cart;
 use std::alloc::Global;
@@ -20,6 +20,7 @@ pub struct Chip68 {
     pub(crate) ram: Box<[u8; 65536]>,
     pub(crate) sequencer: Sequencer,
     pub(crate) progress: Progress,
+    pub(crate) cache: DecodeCache,
 }
 
 impl Model for Chip68 {
@@ -27,12 +28,13 @@ impl Model for Chip68 {
     ghost use Rattle.m68k_chip.specs.Validity.{Chip68Value};
     ghost use Rattle.m68k_chip.specs.States.{state_of};
     ghost use Rattle.m68k_chip.specs.Held.{IsHeld};
+    ghost use Rattle.m68k_exec.specs.Sample.Caches.{IsCacheOf};
 
     ghost Value = { Chip68Value };
 
     ghost view = { λ chip. record { cart = arc_value chip.cart; state = state_of chip.sequencer chip.ram.value } };
 
-    ghost invariant = { λ chip. IsHeld (record { cart = arc_value chip.cart; state = state_of chip.sequencer chip.ram.value }) chip.sequencer.request chip.sequencer.foreseen };
+    ghost invariant = { λ chip. IsHeld (record { cart = arc_value chip.cart; state = state_of chip.sequencer chip.ram.value }) chip.sequencer.request chip.sequencer.foreseen × IsCacheOf (arc_value chip.cart) chip.cache };
 }
 
 impl Chip68 {
@@ -48,6 +50,7 @@ impl Chip68 {
     pub fn power_on(alloc: Global, cart: Arc<Cart>) -> Result<Chip68, NoMemory>
         ensures { IfOk result (λ chip. chip ≡ record { cart = arc_value cart; state = power_on (arc_value cart) }) }
     {
+        let cache = DecodeCache::empty(alloc)?;
         let ram = zeroed(alloc)?;
         let sequencer = Sequencer::power_on(cart.bytes());
         Ok(Chip68 {
@@ -55,6 +58,7 @@ impl Chip68 {
             ram,
             sequencer,
             progress: Progress::new(),
+            cache,
         })
     }
 
@@ -90,8 +94,13 @@ impl Chip68 {
         requires fits { Fits (request_of self.old.cart self.old.state) answer }
         ensures { self.new ≡ record self.old { state = answered self.old.cart self.old.state answer } }
     {
-        self.sequencer
-            .answer(&answer, &self.cart, &mut self.ram, &mut self.progress);
+        self.sequencer.answer(
+            &answer,
+            &self.cart,
+            &mut self.ram,
+            &mut self.cache,
+            &mut self.progress,
+        );
     }
 
     /// Takes the sample that is the next event, and goes on to the event after it: a pending trace,
@@ -103,8 +112,13 @@ impl Chip68 {
         requires far { self.old.state.next < 2 ^ 50 }
         ensures { self.new ≡ record self.old { state = begun self.old.cart self.old.state pins.level } }
     {
-        self.sequencer
-            .begin(pins.level, &self.cart, &mut self.ram, &mut self.progress);
+        self.sequencer.begin(
+            pins.level,
+            &self.cart,
+            &mut self.ram,
+            &mut self.cache,
+            &mut self.progress,
+        );
     }
 
     /// Takes the sample that is the next event, as `sample` does, and then all samples of these pins

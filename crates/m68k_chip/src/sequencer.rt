@@ -3,6 +3,7 @@ ghost use Rattle.arrayvec.specs.ArrayVec.{array_vec_len};
 ghost use Rattle.rom_header.specs.Cartridge.{IsImage};
 ghost use Rattle.m68k_time.specs.Clocks.{clocks_of};
 ghost use Rattle.m68k_exec.specs.Access.Memory.{ram_after, word_at};
+ghost use Rattle.m68k_exec.specs.Sample.Caches.{IsCacheOf};
 ghost use Rattle.m68k_chip.specs.Cases as cases;
 ghost use Rattle.m68k_chip.specs.Events as events;
 ghost use Rattle.m68k_chip.specs.Events.{answered, answered_at, begun, carried_out, end_of, request_at, went_on};
@@ -15,7 +16,7 @@ ghost use Rattle.m68k_chip.specs.declared.stage.Stage.TheVariants.{Access};
 use crate::case::Case;
 use crate::stage::Stage;
 use arrayvec::ArrayVec;
-use m68k_exec::{Finish, Foreseen, Progress, Step, foresee, word_at};
+use m68k_exec::{DecodeCache, Finish, Foreseen, Progress, Step, foresee_cached, word_at};
 use m68k_time::clocks;
 use md_word::clock::MAIN_CLOCK;
 use md_word::{Answer68, Regs, Request68, Transfer};
@@ -233,19 +234,29 @@ impl Sequencer {
 
     /// Goes on with what is carried out, as far as the answers go.
     #[tactic(auto, unfolding(crate::specs::Events::went_on))]
-    pub fn go_on(&mut self, cause: u8, cart: &Cart, ram: &mut [u8; 65536], progress: &mut Progress)
-        requires { self.old.start < 2 ^ 50 }
+    pub fn go_on(
+        &mut self,
+        cause: u8,
+        cart: &Cart,
+        ram: &mut [u8; 65536],
+        cache: &mut DecodeCache,
+        progress: &mut Progress,
+    )
+        requires start { self.old.start < 2 ^ 50 }
+        requires cache { IsCacheOf cart.now cache.old }
+        ensures cache { IsCacheOf cart.now cache.new }
         ensures state { state_of self.new ram.new ≡ went_on cart.now (state_of self.old ram.old) cause self.old.answers.items }
         ensures told { IsTold (carried_out cart.now (state_of self.old ram.old) cause self.old.answers.items) self.new.request }
         ensures foretold { IsForetold (carried_out cart.now (state_of self.old ram.old) cause self.old.answers.items) self.new.foreseen cart.now (state_of self.old ram.old) cause self.old.answers.items }
     {
         let mut step = Step::Need(Request68::Ack(0));
-        foresee(
+        foresee_cached(
             &mut self.regs,
             cart,
             ram,
             &self.answers,
             cause,
+            cache,
             progress,
             &mut step,
             &mut self.foreseen,
@@ -304,15 +315,24 @@ impl Sequencer {
 
     /// Goes on from a sample at this interrupt level to the next event.
     #[tactic(auto, unfolding(crate::specs::Events::begun))]
-    pub fn begin(&mut self, level: u8, cart: &Cart, ram: &mut [u8; 65536], progress: &mut Progress)
+    pub fn begin(
+        &mut self,
+        level: u8,
+        cart: &Cart,
+        ram: &mut [u8; 65536],
+        cache: &mut DecodeCache,
+        progress: &mut Progress,
+    )
         requires start { self.old.start < 2 ^ 50 }
         requires answers { self.old.answers.items ≡ [] }
+        requires cache { IsCacheOf cart.now cache.old }
+        ensures cache { IsCacheOf cart.now cache.new }
         ensures state { state_of self.new ram.new ≡ begun cart.now (state_of self.old ram.old) level }
         ensures waiting { IsWaiting self.new.stage cart.now (state_of self.new ram.new) self.new.request }
         ensures foreseen { IsForeseen self.new.stage cart.now (state_of self.new ram.new) self.new.foreseen }
     {
         match self.case_at(level).cause() {
-            Some(cause) => self.go_on(cause, cart, ram, progress),
+            Some(cause) => self.go_on(cause, cart, ram, cache, progress),
             None => self.wait(),
         }
     }
@@ -323,11 +343,14 @@ impl Sequencer {
         answer: &Answer68,
         cart: &Cart,
         ram: &mut [u8; 65536],
+        cache: &mut DecodeCache,
         progress: &mut Progress,
     )
         requires start { self.old.start < 2 ^ 50 }
         requires few { array_vec_len self.old.answers < 32 }
         requires foreseen { IsForeseen Access cart.now (state_of self.old ram.old) self.old.foreseen }
+        requires cache { IsCacheOf cart.now cache.old }
+        ensures cache { IsCacheOf cart.now cache.new }
         ensures state { state_of self.new ram.new ≡ answered_at Access cart.now (state_of self.old ram.old) answer.now }
         ensures waiting { IsWaiting self.new.stage cart.now (state_of self.new ram.new) self.new.request }
         ensures foreseen { IsForeseen self.new.stage cart.now (state_of self.new ram.new) self.new.foreseen }
@@ -338,7 +361,7 @@ impl Sequencer {
         } else {
             self.answers.push(answer.value);
             let cause = self.cause;
-            self.go_on(cause, cart, ram, progress);
+            self.go_on(cause, cart, ram, cache, progress);
         }
     }
 
@@ -362,6 +385,7 @@ impl Sequencer {
         answer: &Answer68,
         cart: &Cart,
         ram: &mut [u8; 65536],
+        cache: &mut DecodeCache,
         progress: &mut Progress,
     )
         requires start { self.old.start < 2 ^ 50 }
@@ -369,13 +393,15 @@ impl Sequencer {
         requires source { self.old.transfer.source < 2 ^ 24 }
         requires few { array_vec_len self.old.answers < 32 }
         requires foreseen { IsForeseen self.old.stage cart.now (state_of self.old ram.old) self.old.foreseen }
+        requires cache { IsCacheOf cart.now cache.old }
+        ensures cache { IsCacheOf cart.now cache.new }
         ensures state { state_of self.new ram.new ≡ answered cart.now (state_of self.old ram.old) answer.now }
         ensures waiting { IsWaiting self.new.stage cart.now (state_of self.new ram.new) self.new.request }
         ensures foreseen { IsForeseen self.new.stage cart.now (state_of self.new ram.new) self.new.foreseen }
     {
         match self.stage {
             Stage::Sample => {}
-            Stage::Access => self.take(answer, cart, ram, progress),
+            Stage::Access => self.take(answer, cart, ram, cache, progress),
             Stage::Word => self.move_word(answer.cost),
         }
     }

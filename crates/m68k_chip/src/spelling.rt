@@ -6,7 +6,7 @@ ghost use Rattle.m68k_chip.specs.States.{State68};
 use crate::chip::Chip68;
 use crate::known::{known_next, known_regs};
 use crate::saved::{LENGTH, RAM, Saved68};
-use m68k_exec::Progress;
+use m68k_exec::{DecodeCache, Progress};
 use md_fields::put;
 use md_word::{NoMemory, Unspell};
 use rom_header::Cart;
@@ -56,12 +56,14 @@ impl Chip68 {
         cart.bytes();
         match Saved68::checked(bytes, at, &cart) {
             Ok(sequencer) => {
+                let cache = DecodeCache::empty(alloc)?;
                 let ram = copied(alloc, bytes)?;
                 Ok(Chip68 {
                     cart,
                     ram,
                     sequencer,
                     progress: Progress::new(),
+                    cache,
                 })
             }
             Err(place) => Err(Unspell::Rule {

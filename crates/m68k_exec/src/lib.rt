@@ -12,5 +12,6 @@ use access::outcome::Outcome;
 use access::stop::Stop;
 use access::view::Around;
 pub use access::view::Progress;
+pub use sample::cache::DecodeCache;
 pub use sample::step::{Finish, Foreseen, Step};
-pub use sample::{foresee, go};
+pub use sample::{foresee, foresee_cached, go};

@@ -2,12 +2,14 @@ ghost use Rattle.std.specs.Prelude.{◌≡◌, ◌≢◌, ◌+◌, ◌<◌, ◌�
 ghost use Rattle.arrayvec.specs.ArrayVec.{array_vec_len};
 ghost use Rattle.m68k_decode.specs.Ops.{IsOp, IsInstruction};
 ghost use Rattle.m68k_exec.specs.Access.Clauses.{done_of, memory_of};
+ghost use Rattle.m68k_exec.specs.Sample.Caches.{IsCacheOf};
 ghost use Rattle.m68k_exec.specs.Sample.Entries.{IsException, number_of};
 ghost use Rattle.m68k_exec.specs.Sample.Foresight.{EndsForeseen, FinishesForeseen};
 ghost use Rattle.m68k_exec.specs.Sample.Samples.{named, Keeps, NamesInstruction, SpendsRightly, WaitsBelow, nothing, told_by};
 ghost use Rattle.m68k_exec.specs.Access.Outcomes.{outcome_of};
 ghost use Rattle.m68k_exec.specs.Sample.Samples as samples;
 
+pub mod cache;
 mod entry;
 mod exception;
 mod execution;
@@ -17,6 +19,7 @@ use crate::access::ask;
 use crate::access::memory::instruction_words;
 use crate::{Around, Finish, Foreseen, Outcome, Progress, Step, Stop};
 use arrayvec::ArrayVec;
+use cache::DecodeCache;
 use entry::enter;
 use exception::{ADDRESS_ERROR, Exception};
 use execution::execute;
@@ -165,6 +168,7 @@ fn foresee_finish(op: &Op, found: &Regs, around: &Around, foreseen: &mut Foresee
 
 /// The instruction with this first word. At an address error the changes of registers and the
 /// private writes are dropped, and the accesses before it stay.
+#[inline(always)]
 #[tactic(auto, unfolding(crate::specs::Sample::Samples::instruction))]
 fn instruction(
     decoded: &Decoded,
@@ -254,6 +258,7 @@ fn trace(op: &Op, around: &Around, regs: &mut Regs, progress: &mut Progress, ste
 }
 
 /// The sample of this cause, with the instruction at the program counter and its first word.
+#[inline(always)]
 fn sample(
     cause: u8,
     decoded: &Decoded,
@@ -371,5 +376,73 @@ pub fn go(
         progress,
         step,
         &mut foreseen,
+    )
+}
+
+/// The same with a cache of the cartridge's instructions.
+#[tactic(auto, unfolding(crate::specs::Sample::Samples::sampled))]
+fn run_cached(
+    regs: &mut Regs,
+    cart: &Cart,
+    ram: &[u8; 65536],
+    answers: &ArrayVec<u16, 32>,
+    cause: u8,
+    cache: &mut DecodeCache,
+    progress: &mut Progress,
+    step: &mut Step,
+    foreseen: &mut Foreseen,
+)
+    requires cache { IsCacheOf cart.now cache.old }
+    ensures cache { IsCacheOf cart.now cache.new }
+    ensures value { told_by step.new regs.new (done_of progress.new) ≡ samples.sampled cause regs.old (record { rom = cart.now; ram = ram.now; answers = answers.now.items }) }
+    ensures kept { Keeps step.new regs.old regs.new }
+    ensures foreseen { EndsForeseen step.new foreseen.new (samples.sampled cause regs.old) (record { rom = cart.now; ram = ram.now; answers = answers.now.items }) }
+    ensures instruction { IsOp (named regs.old (record { rom = cart.now; ram = ram.now; answers = answers.now.items })) }
+{
+    progress.restart(0);
+    foreseen.known = false;
+    let around = Around {
+        rom: cart.bytes(),
+        ram,
+        answers: answers.as_slice(),
+    };
+    let address = regs.pc;
+    cache.refresh(address, &around);
+    let found = cache.entry(address, &around);
+    sample(
+        cause,
+        &found.decoded,
+        found.first,
+        &around,
+        regs,
+        progress,
+        step,
+        foreseen,
+    )
+}
+
+/// The same as `foresee`, with a cache of the cartridge's instructions.
+pub fn foresee_cached(
+    regs: &mut Regs,
+    cart: &Cart,
+    ram: &[u8; 65536],
+    answers: &ArrayVec<u16, 32>,
+    cause: u8,
+    cache: &mut DecodeCache,
+    progress: &mut Progress,
+    step: &mut Step,
+    foreseen: &mut Foreseen,
+)
+    requires cache { IsCacheOf cart.now cache.old }
+    ensures cache { IsCacheOf cart.now cache.new }
+    ensures foreseen { EndsForeseen step.new foreseen.new (samples.sampled cause regs.old) (record { rom = cart.now; ram = ram.now; answers = answers.now.items }) }
+    ensures value { told_by step.new regs.new (done_of progress.new) ≡ samples.sampled cause regs.old (record { rom = cart.now; ram = ram.now; answers = answers.now.items }) }
+    ensures kept { Keeps step.new regs.old regs.new }
+    ensures waits { WaitsBelow step.new (array_vec_len answers.now) 32 }
+    ensures spent { SpendsRightly step.new }
+    ensures instruction { NamesInstruction step.new }
+{
+    run_cached(
+        regs, cart, ram, answers, cause, cache, progress, step, foreseen,
     )
 }

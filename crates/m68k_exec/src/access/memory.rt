@@ -7,7 +7,7 @@ ghost use Rattle.m68k_exec.specs.Access.Memory as memory;
 use crate::{Around, Progress};
 
 /// The first address of the work RAM, which is repeated up to the last address.
-const WORK_RAM: u32 = 0xe0_0000;
+pub const WORK_RAM: u32 = 0xe0_0000;
 
 /// The byte that is read where nothing answers.
 const OPEN_BUS: u8 = 0xff;

@@ -14,7 +14,7 @@ made c =
     ∙ ap (λ (image : List ℕ). power_on image) (c.bytes.ensures.value ∙ c.deref.ensures)
 
 pub invariant_of-result : goal.invariant_of-result
-invariant_of-result c = at_power_on _ _ _ _ (subst (λ (image : List ℕ). IsImage image) c.deref.ensures c.bytes.ensures.image) (made c)
+invariant_of-result c = (at_power_on _ _ _ _ (subst (λ (image : List ℕ). IsImage image) c.deref.ensures c.bytes.ensures.image) (made c), c.in_ok-cache.ensures (arc_value c.args.cart))
 
 pub returns : goal.returns
 returns c = ap (λ (state : State68). of (arc_value c.args.cart) state) (made c)

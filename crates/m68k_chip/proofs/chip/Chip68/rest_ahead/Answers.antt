@@ -12,14 +12,16 @@ pub invariant_of-self : goal.invariant_of-self
 unfolding next_of
 invariant_of-self c =
     let old = state_of c.self.inside.sequencer c.self.inside.ram.value in
-    let at = at-sample c.self.inside.sequencer.stage _ old (ap (λ (v : Chip68Value). (next_of v.state).sample) c.self.view_is ∙ c.requires.sampling) c.self.invariant.valid.stands in
-    let start = at.0.start in
-    record {
-      valid = subst (λ (state : State68). IsChip68 (of (arc_value c.self.inside.cart) state)) (sym (c.rest_ahead.ensures.state c.self.inside.ram.value))
-          (rested-valid _ old _ c.self.invariant.valid at.0 at.1 (omega (arith, start)));
-      waiting = subst (λ (state : State68). IsWaiting state.stage (arc_value c.self.inside.cart) state c.rest_ahead.new.self.request) (sym (c.rest_ahead.ensures.state c.self.inside.ram.value)) tt;
-      foresees = subst (λ (state : State68). IsForeseen state.stage (arc_value c.self.inside.cart) state c.rest_ahead.new.self.foreseen) (sym (c.rest_ahead.ensures.state c.self.inside.ram.value)) tt;
-    }
+    let at = at-sample c.self.inside.sequencer.stage _ old (ap (λ (v : Chip68Value). (next_of v.state).sample) c.self.view_is ∙ c.requires.sampling) c.self.invariant.0.valid.stands in
+    let start = at.0.start in (
+      record {
+        valid = subst (λ (state : State68). IsChip68 (of (arc_value c.self.inside.cart) state)) (sym (c.rest_ahead.ensures.state c.self.inside.ram.value))
+            (rested-valid _ old _ c.self.invariant.0.valid at.0 at.1 (omega (arith, start)));
+        waiting = subst (λ (state : State68). IsWaiting state.stage (arc_value c.self.inside.cart) state c.rest_ahead.new.self.request) (sym (c.rest_ahead.ensures.state c.self.inside.ram.value)) tt;
+        foresees = subst (λ (state : State68). IsForeseen state.stage (arc_value c.self.inside.cart) state c.rest_ahead.new.self.foreseen) (sym (c.rest_ahead.ensures.state c.self.inside.ram.value)) tt;
+      },
+      c.self.invariant.1,
+    )
 
 pub returns-clause-state : goal.returns-clause-state
 returns-clause-state c =

@@ -1,4 +1,5 @@
-use Rattle.std.proofs.Common.{ap, ◌∙◌}
+use Rattle.std.proofs.Common.{ℕ, List, ap, subst, sym, ◌∙◌}
+use Rattle.m68k_exec.specs.Sample.Caches.{IsCacheOf}
 use Rattle.m68k_chip.specs.Validity.{Chip68Value}
 use Rattle.m68k_chip.specs.States.{next_of, state_of}
 use Rattle.m68k_chip.proofs.Kept.{after_sample}
@@ -8,10 +9,15 @@ use Rattle.m68k_chip.proofs.chip.Chip68.sample.Goals as goal
 pub begin-requires-clause-answers : goal.begin-requires-clause-answers
 unfolding next_of
 begin-requires-clause-answers c =
-    (at-sample c.self.inside.sequencer.stage _ (state_of c.self.inside.sequencer c.self.inside.ram.value) (ap (λ (v : Chip68Value). (next_of v.state).sample) c.self.view_is ∙ c.requires.sampling) c.self.invariant.valid.stands).0.answers
+    (at-sample c.self.inside.sequencer.stage _ (state_of c.self.inside.sequencer c.self.inside.ram.value) (ap (λ (v : Chip68Value). (next_of v.state).sample) c.self.view_is ∙ c.requires.sampling) c.self.invariant.0.valid.stands).0.answers
+
+pub begin-requires-clause-cache : goal.begin-requires-clause-cache
+begin-requires-clause-cache c = subst (λ (image : List ℕ). IsCacheOf image c.self.inside.cache) (sym c.deref.ensures) c.self.invariant.1
 
 pub invariant_of-self : goal.invariant_of-self
-invariant_of-self c =
-    after_sample _ c.deref.result.now (state_of c.self.inside.sequencer c.self.inside.ram.value) _ _ _ _ c.args.pins.level c.args.pins.known c.self.view_is c.self.invariant.valid c.requires.sampling
-    c.deref.ensures
-    (rw c.deref_mut.ensures.value at c.begin.ensures.state) c.begin.ensures.waiting c.begin.ensures.foreseen
+invariant_of-self c = (
+  after_sample _ c.deref.result.now (state_of c.self.inside.sequencer c.self.inside.ram.value) _ _ _ _ c.args.pins.level c.args.pins.known c.self.view_is c.self.invariant.0.valid c.requires.sampling
+      c.deref.ensures
+      (rw c.deref_mut.ensures.value at c.begin.ensures.state) c.begin.ensures.waiting c.begin.ensures.foreseen,
+  subst (λ (image : List ℕ). IsCacheOf image c.begin.new.cache) c.deref.ensures c.begin.ensures.cache,
+)

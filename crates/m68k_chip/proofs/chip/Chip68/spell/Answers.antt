@@ -26,7 +26,7 @@ returns-clause-kept c = λ late rules.
     let regs = c.known_regs.ensures in
     let read : IsInRange c.args.self.now.state = subst (λ (v : Chip68Value). IsInRange v.state) c.self.view_is
     (record { regs = regs.sizes; d = regs.d; a = regs.a; usp = regs.usp; ssp = regs.ssp; pc = regs.pc; sr = regs.sr; next = c.known_next.ensures }) in
-    let valid : IsChip68 c.args.self.now = subst (λ (v : Chip68Value). IsChip68 v) c.self.view_is c.self.invariant.valid in
+    let valid : IsChip68 c.args.self.now = subst (λ (v : Chip68Value). IsChip68 v) c.self.view_is c.self.invariant.0.valid in
     spelled_back c.args.at c.args.self.now (omega arith) valid read rules late
 
 pub returns-clause-length : goal.returns-clause-length

@@ -21,7 +21,7 @@ copied-requires c = spelled_long c.deref-2.result.now c.args.at c.args.bytes.now
 
 pub returns-in_err-ram-in-Ok-clause-rule : goal.returns-in_err-ram-in-Ok-clause-rule
 returns-in_err-ram-in-Ok-clause-rule c =
-    let p = err_from_is_err_and c.from_residual.result c.from_residual.ensures.1 in
+    let p = err_from_is_err_and c.from_residual-in_err-ram-in-Ok.result c.from_residual-in_err-ram-in-Ok.ensures.1 in
     let kept : Spells (arc_value c.args.cart) c.args.at c.args.bytes.now (state_of c.in-Ok.sequencer (ram_in c.args.bytes.now)) =
     subst (λ (image : List ℕ). Spells image c.args.at c.args.bytes.now (state_of c.in-Ok.sequencer (ram_in c.args.bytes.now))) c.deref-2.ensures c.in-Ok.ensures.found.spells in
     λ place. (
@@ -37,12 +37,15 @@ kept : (c : goal.After-new) → IsKept (arc_value c.args.cart) c.args.at c.args.
 kept c = subst (λ (image : List ℕ). IsKept image c.args.at c.args.bytes.now (state_of c.in-Ok.sequencer (ram_in c.args.bytes.now)) c.in-Ok.sequencer.request c.in-Ok.sequencer.foreseen) c.deref-2.ensures c.in-Ok.ensures.found
 
 pub invariant_of-result : goal.invariant_of-result
-invariant_of-result c = record {
-  valid = subst (λ (s : State68). IsChip68 (of (arc_value c.args.cart) s)) (sym (made c))
-      (spelled_valid (arc_value c.args.cart) c.args.at c.args.bytes.now _ (subst (λ (image : List ℕ). IsImage image) c.deref.ensures c.bytes.ensures.image) (kept c).spells);
-  waiting = subst (λ (s : State68). IsWaiting s.stage (arc_value c.args.cart) s c.in-Ok.sequencer.request) (sym (made c)) (kept c).waits;
-  foresees = unknown-foreseen _ (arc_value c.args.cart) _ c.in-Ok.sequencer.foreseen (kept c).unknown;
-}
+invariant_of-result c = (
+  record {
+    valid = subst (λ (s : State68). IsChip68 (of (arc_value c.args.cart) s)) (sym (made c))
+        (spelled_valid (arc_value c.args.cart) c.args.at c.args.bytes.now _ (subst (λ (image : List ℕ). IsImage image) c.deref.ensures c.bytes.ensures.image) (kept c).spells);
+    waiting = subst (λ (s : State68). IsWaiting s.stage (arc_value c.args.cart) s c.in-Ok.sequencer.request) (sym (made c)) (kept c).waits;
+    foresees = unknown-foreseen _ (arc_value c.args.cart) _ c.in-Ok.sequencer.foreseen (kept c).unknown;
+  },
+  c.in_ok-cache-in-Ok.ensures (arc_value c.args.cart),
+)
 
 pub returns-in_ok-ram-in-Ok-clause-found : goal.returns-in_ok-ram-in-Ok-clause-found
 returns-in_ok-ram-in-Ok-clause-found c = (refl, subst (Spells (arc_value c.args.cart) c.args.at c.args.bytes.now) (sym (made c)) (kept c).spells)
@@ -76,4 +79,14 @@ returns-in-Err-clause-rule c =
     λ place. (
       λ e. subst (GoesWrongAt (arc_value c.args.cart) c.args.at c.args.bytes.now) (same_rule c.in-Err.place place e) wrong,
       λ other. ap (λ (p : ℕ). Err (Rule p)) (only_place (arc_value c.args.cart) c.args.at c.args.bytes.now c.in-Err.place place wrong other),
+    )
+
+pub returns-in_err-cache-in-Ok-clause-rule : goal.returns-in_err-cache-in-Ok-clause-rule
+returns-in_err-cache-in-Ok-clause-rule c =
+    let p = err_from_is_err_and c.from_residual.result c.from_residual.ensures.1 in
+    let kept : Spells (arc_value c.args.cart) c.args.at c.args.bytes.now (state_of c.in-Ok.sequencer (ram_in c.args.bytes.now)) =
+    subst (λ (image : List ℕ). Spells image c.args.at c.args.bytes.now (state_of c.in-Ok.sequencer (ram_in c.args.bytes.now))) c.deref-2.ensures c.in-Ok.ensures.found.spells in
+    λ place. (
+      λ e. absurd (no_rule place p.0 (sym p.2) (sym p.1 ∙ e)),
+      λ wrong. absurd (right_not_refused (arc_value c.args.cart) c.args.at c.args.bytes.now _ place kept wrong),
     )

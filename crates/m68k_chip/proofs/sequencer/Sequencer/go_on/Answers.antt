@@ -17,13 +17,13 @@ returns-in-Need-clause-state c =
     let old : State68 = state_of c.args.self.now c.args.ram.now in
     c.ask.ensures.state c.args.ram.now
     ∙ ap (λ (r : Regs). asking (record old { regs = r }) c.args.cause c.args.self.now.answers.items)
-    (subst (λ (step : Step). Keeps step c.args.self.now.regs c.foresee.new.regs) c.in-Need.is c.foresee.ensures.kept)
+    (subst (λ (step : Step). Keeps step c.args.self.now.regs c.foresee_cached.new.regs) c.in-Need.is c.foresee_cached.ensures.kept)
     ∙ ap (came_to old c.args.cause c.args.self.now.answers.items)
-    (sym (ap (λ (step : Step). told_by step c.foresee.new.regs (done_of c.foresee.new.progress)) c.in-Need.is) ∙ c.foresee.ensures.value)
+    (sym (ap (λ (step : Step). told_by step c.foresee_cached.new.regs (done_of c.foresee_cached.new.progress)) c.in-Need.is) ∙ c.foresee_cached.ensures.value)
 
 pub returns-in-Need-clause-foretold : goal.returns-in-Need-clause-foretold
 returns-in-Need-clause-foretold c =
-    let is = sym (ap (λ (step : Step). told_by step c.foresee.new.regs (done_of c.foresee.new.progress)) c.in-Need.is) ∙ c.foresee.ensures.value in
+    let is = sym (ap (λ (step : Step). told_by step c.foresee_cached.new.regs (done_of c.foresee_cached.new.progress)) c.in-Need.is) ∙ c.foresee_cached.ensures.value in
     subst (λ (f : Foreseen). IsForetold (sampled c.args.cause c.args.self.now.regs (record { rom = c.args.cart.now; ram = c.args.ram.now; answers = c.args.self.now.answers.items })) f c.args.cart.now (state_of c.args.self.now c.args.ram.now) c.args.cause c.args.self.now.answers.items) (sym c.ask.ensures.foreseen)
-    (subst (λ (r : Result Ended Stop). IsForetold r c.foresee.new.foreseen c.args.cart.now (state_of c.args.self.now c.args.ram.now) c.args.cause c.args.self.now.answers.items) is
-    (subst (λ (step : Step). EndsForeseen step c.foresee.new.foreseen (sampled c.args.cause c.args.self.now.regs) (record { rom = c.args.cart.now; ram = c.args.ram.now; answers = c.args.self.now.answers.items })) c.in-Need.is c.foresee.ensures.foreseen))
+    (subst (λ (r : Result Ended Stop). IsForetold r c.foresee_cached.new.foreseen c.args.cart.now (state_of c.args.self.now c.args.ram.now) c.args.cause c.args.self.now.answers.items) is
+    (subst (λ (step : Step). EndsForeseen step c.foresee_cached.new.foreseen (sampled c.args.cause c.args.self.now.regs) (record { rom = c.args.cart.now; ram = c.args.ram.now; answers = c.args.self.now.answers.items })) c.in-Need.is c.foresee_cached.ensures.foreseen))

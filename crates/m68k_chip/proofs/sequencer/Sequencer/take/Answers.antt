@@ -7,8 +7,8 @@ use Rattle.m68k_chip.proofs.Laws.{started-rest}
 use Rattle.m68k_chip.proofs.Waiting.{ends-foreseen, ends-foretold, ends-waits, went-apart, went-foreseen, went-waits}
 use Rattle.m68k_chip.proofs.sequencer.Sequencer.take.Goals as goal
 
-pub go_on-requires : goal.go_on-requires
-go_on-requires c =
+pub go_on-requires-clause-start : goal.go_on-requires-clause-start
+go_on-requires-clause-start c =
     omega (arith, c.requires.start, ap (λ (s : State68). s.start) (c.start_transfer.ensures.state []), (started-rest (state_of c.args.self.now []) c.args.answer.now.transfer).3)
 
 pub returns-else-self-clause-state : goal.returns-else-self-clause-state

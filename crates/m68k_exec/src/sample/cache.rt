@@ -1,0 +1,109 @@
+ghost use Rattle.std.specs.Prelude.{◌≡◌, ℕ, List, IfOk};
+ghost use Rattle.m68k_exec.specs.Access.Clauses.{memory_of};
+ghost use Rattle.m68k_exec.specs.Sample.Caches.{IsCacheOf, IsInstructionAt, entry_of, place_of};
+ghost use Rattle.m68k_exec.specs.declared.sample.cache.CachedInstruction.{CachedInstruction};
+
+use crate::Around;
+use crate::access::memory::{WORK_RAM, bus_address, instruction_words};
+use m68k_decode::{Decoded, Op, decode_into};
+use md_word::NoMemory;
+use std::alloc::Global;
+
+/// How many entries a cache has.
+const ENTRIES: usize = 4096;
+
+/// An address in work RAM, whose instructions are in no cache.
+const NOWHERE: u32 = 0xffff_ffff;
+
+/// The instruction at an address, and its first word.
+#[derive(Clone, Copy)]
+pub struct CachedInstruction {
+    pub address: u32,
+    pub first: u16,
+    pub decoded: Decoded,
+}
+
+/// Decoded instructions of a cartridge, which never changes: each in the entry that its address names, so
+/// that those of 8 KiB in a row are kept together.
+#[derive(Drop)]
+pub struct DecodeCache {
+    pub entries: Box<[CachedInstruction; 4096]>,
+}
+
+/// The place of the entry of an address.
+#[inline(always)]
+fn place_of(address: u32) -> usize
+    ensures { result ≡ place_of address }
+{
+    (address / 2 % 4096) as usize
+}
+
+/// The instruction at an address.
+fn decode_at(address: u32, around: &Around) -> CachedInstruction
+    ensures address { result.address ≡ address }
+    ensures instruction { IsInstructionAt address (memory_of around.now) result }
+{
+    let words = instruction_words(address, around);
+    let mut decoded = Decoded {
+        op: Op::Nop,
+        length: 2,
+    };
+    decode_into(&words, &mut decoded);
+    CachedInstruction {
+        address,
+        first: words[0],
+        decoded,
+    }
+}
+
+impl DecodeCache {
+    /// A cache of no instruction. It takes 128 KiB.
+    pub fn empty(alloc: Global) -> Result<Self, NoMemory>
+        ensures { (rom : List ℕ) → IfOk result (λ cache. IsCacheOf rom cache) }
+    {
+        let nothing = CachedInstruction {
+            address: NOWHERE,
+            first: 0,
+            decoded: Decoded {
+                op: Op::Nop,
+                length: 2,
+            },
+        };
+        match Box::new(alloc, [nothing; ENTRIES]) {
+            Ok(entries) => Ok(DecodeCache { entries }),
+            Err(_) => Err(NoMemory),
+        }
+    }
+
+    /// Decodes the instruction at an address into its entry.
+    #[inline(never)]
+    fn decode(&mut self, address: u32, around: &Around)
+        requires cache { IsCacheOf around.now.rom.now self.old }
+        ensures cache { IsCacheOf around.now.rom.now self.new }
+        ensures instruction { (blank : CachedInstruction) → IsInstructionAt address (memory_of around.now) (entry_of self.new address blank) }
+    {
+        self.entries[place_of(address)] = decode_at(address, around);
+    }
+
+    /// Has the instruction at an address in its entry.
+    #[inline(always)]
+    pub(crate) fn refresh(&mut self, address: u32, around: &Around)
+        requires cache { IsCacheOf around.now.rom.now self.old }
+        ensures cache { IsCacheOf around.now.rom.now self.new }
+        ensures instruction { (blank : CachedInstruction) → IsInstructionAt address (memory_of around.now) (entry_of self.new address blank) }
+    {
+        let found = self.entries[place_of(address)].address;
+        if found != address || bus_address(address) >= WORK_RAM - 10 {
+            self.decode(address, around);
+        }
+    }
+
+    /// The instruction at an address, which its entry has.
+    #[inline(always)]
+    pub(crate) fn entry(&self, address: u32, around: &Around) -> &CachedInstruction
+        requires { (blank : CachedInstruction) → IsInstructionAt address (memory_of around.now) (entry_of self.now address blank) }
+        ensures { IsInstructionAt address (memory_of around.now) result.now }
+    {
+        &self.entries[place_of(address)]
+    }
+}
