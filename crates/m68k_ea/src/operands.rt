@@ -40,6 +40,7 @@ fn standing(size: Size, address: u32) -> Place
 /// counts as the size takes. A word or long whose address is odd is `Odd`, and nothing else is.
 ///
 /// Source: M68000 Programmer's Reference Manual, section 2.2.
+#[inline(always)]
 #[tactic(auto, using(crate::proofs::Oddness::odd_exactly, crate::proofs::Sums::base_alone))]
 pub fn place(mode: Mode, size: Size, regs: &Regs, pc: u32) -> Place
     requires { IsMode mode }

@@ -74,6 +74,7 @@ pub fn read_byte(address: u32, around: &Around, progress: &mut Progress) -> Resu
 }
 
 /// Reads the word at an even address on the bus.
+#[inline(always)]
 #[tactic(auto, unfolding(crate::specs::Access::Actions::read_aligned))]
 fn read_aligned(at: u32, around: &Around, progress: &mut Progress) -> Result<u16, Stop>
     requires { at < 0x100_0000 }
@@ -89,6 +90,7 @@ fn read_aligned(at: u32, around: &Around, progress: &mut Progress) -> Result<u16
 }
 
 /// Reads the word at an address; an odd one is an address error.
+#[inline(always)]
 #[tactic(auto, unfolding(crate::specs::Access::Actions::read_word))]
 pub fn read_word(address: u32, around: &Around, progress: &mut Progress) -> Result<u16, Stop>
     ensures value { Meets result (done_of progress.new)
@@ -119,6 +121,7 @@ pub fn read_long(address: u32, around: &Around, progress: &mut Progress) -> Resu
 }
 
 /// Reads the operand of a size at an address.
+#[inline(always)]
 #[tactic(auto, unfolding(crate::specs::Access::Actions::read))]
 pub fn read(size: Size, address: u32, around: &Around, progress: &mut Progress) -> Result<u32, Stop>
     ensures value { Meets result (done_of progress.new)
@@ -155,6 +158,7 @@ pub fn write_byte(
 }
 
 /// Writes the word at an even address on the bus.
+#[inline(always)]
 #[tactic(auto, unfolding(crate::specs::Access::Actions::write_aligned))]
 fn write_aligned(at: u32, value: u16, around: &Around, progress: &mut Progress) -> Result<(), Stop>
     requires at { at < 0x100_0000 }
@@ -172,6 +176,7 @@ fn write_aligned(at: u32, value: u16, around: &Around, progress: &mut Progress) 
 }
 
 /// Writes the word at an address; an odd one is an address error.
+#[inline(always)]
 #[tactic(auto, unfolding(crate::specs::Access::Actions::write_word))]
 pub fn write_word(
     address: u32,
@@ -219,6 +224,7 @@ pub fn write_long(
 }
 
 /// Writes an operand of a size at an address.
+#[inline(always)]
 #[tactic(auto, unfolding(crate::specs::Access::Actions::write))]
 pub fn write(
     size: Size,

@@ -39,6 +39,7 @@ pub fn refuse(cause: u8, start: u32, regs: &mut Regs) -> Outcome
 }
 
 /// Reads an operand and sets the flags. `pc` is where the mode's extension words stand.
+#[inline(always)]
 #[tactic(auto, unfolding(crate::specs::Access::Shapes::test_operand))]
 pub fn test_operand(
     task: Task,
@@ -63,6 +64,7 @@ pub fn test_operand(
 }
 
 /// Reads an operand, does the operation, and writes the result where the operand was.
+#[inline(always)]
 #[tactic(auto, unfolding(crate::specs::Access::Shapes::change_operand))]
 pub fn change_operand(
     task: Task,
@@ -91,6 +93,7 @@ pub fn change_operand(
 }
 
 /// Does the operation on a register, and reads nothing: 0 to 7 for D0 to D7, 8 to 15 for A0 to A7.
+#[inline(always)]
 #[tactic(auto, unfolding(crate::specs::Access::Shapes::change_data))]
 pub fn change_data(task: Task, size: Size, number: u32, register: u8, regs: &mut Regs) -> Outcome
     requires number { number < modulus_of size }
@@ -106,6 +109,7 @@ pub fn change_data(task: Task, size: Size, number: u32, register: u8, regs: &mut
 
 /// Reads an operand, and does the operation with it on a register: 0 to 7 for D0 to D7, 8 to 15 for
 /// A0 to A7.
+#[inline(always)]
 #[tactic(auto, unfolding(crate::specs::Access::Shapes::change_register))]
 pub fn change_register(
     task: Task,
