@@ -7,6 +7,7 @@ ghost use Rattle.m68k_exec.specs.Sample.Entries.{IsException, number_of};
 ghost use Rattle.m68k_exec.specs.Sample.Foresight.{EndsForeseen, FinishesForeseen};
 ghost use Rattle.m68k_exec.specs.Sample.Samples.{named, Keeps, NamesInstruction, SpendsRightly, WaitsBelow, nothing, told_by};
 ghost use Rattle.m68k_exec.specs.Access.Outcomes.{outcome_of};
+ghost use Rattle.m68k_exec.specs.declared.sample.exception.Exception.TheVariants.{AddressError, Numbered};
 ghost use Rattle.m68k_exec.specs.Sample.Samples as samples;
 
 pub mod cache;
@@ -103,6 +104,50 @@ fn take_exception(
     }
 }
 
+/// An address error at a word or long of this address, of the instruction with this first word.
+#[inline(never)]
+fn take_address_error(
+    op: &Op,
+    first: u16,
+    address: u32,
+    read: bool,
+    found: &Regs,
+    around: &Around,
+    regs: &mut Regs,
+    progress: &mut Progress,
+    step: &mut Step,
+)
+    requires room { array_vec_len progress.old.writes ≤ 64 }
+    requires used { progress.old.used ≤ 4 }
+    ensures value { told_by step.new regs.new (done_of progress.new) ≡ samples.take_exception op.now (AddressError first address read) false found.now regs.old (memory_of around.now) (done_of progress.old) }
+    ensures kept { Keeps step.new found.now regs.new }
+{
+    let exception = Exception::AddressError(first, address, read);
+    take_exception(op, exception, false, found, around, regs, progress, step)
+}
+
+/// An instruction that ended in the exception of this vector number.
+#[inline(never)]
+fn take_numbered(
+    op: &Op,
+    cause: u8,
+    found: &Regs,
+    around: &Around,
+    regs: &mut Regs,
+    progress: &mut Progress,
+    step: &mut Step,
+)
+    requires room { array_vec_len progress.old.writes ≤ 64 }
+    requires used { progress.old.used ≤ 4 }
+    requires some { cause ≢ 0 }
+    ensures value { told_by step.new regs.new (done_of progress.new) ≡ samples.take_exception op.now (Numbered cause) (samples.leaves_trace found.now cause) found.now regs.old (memory_of around.now) (done_of progress.old) }
+    ensures kept { Keeps step.new found.now regs.new }
+{
+    let exception = Exception::Numbered(cause);
+    let trace = leaves_trace(found, cause);
+    take_exception(op, exception, trace, found, around, regs, progress, step)
+}
+
 /// An instruction that came to its end, perhaps in an exception.
 #[tactic(auto, unfolding(crate::specs::Sample::Samples::ended_by))]
 fn ended_by(
@@ -122,9 +167,7 @@ fn ended_by(
 {
     let cause = outcome.cause;
     if cause != 0 {
-        let exception = Exception::Numbered(cause);
-        let trace = leaves_trace(found, cause);
-        return take_exception(op, exception, trace, found, around, regs, progress, step);
+        return take_numbered(op, cause, found, around, regs, progress, step);
     }
     *step = Step::Done(Finish {
         op: *op,
@@ -191,8 +234,7 @@ fn instruction(
     let found = *regs;
     let start = found.pc;
     if start % 2 == 1 {
-        let exception = Exception::AddressError(first, start, true);
-        return take_exception(op, exception, false, &found, around, regs, progress, step);
+        return take_address_error(op, first, start, true, &found, around, regs, progress, step);
     }
     regs.pc = start.wrapping_add(u32::from(decoded.length));
     match execute(op, start, around, regs, progress, foreseen) {
@@ -209,10 +251,11 @@ fn instruction(
                 used,
             },
         ) => {
-            let exception = Exception::AddressError(first, address, read);
             *regs = found;
             progress.restart(used);
-            take_exception(op, exception, false, &found, around, regs, progress, step)
+            take_address_error(
+                op, first, address, read, &found, around, regs, progress, step,
+            )
         }
     }
 }
