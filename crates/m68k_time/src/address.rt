@@ -4,6 +4,7 @@ ghost use Rattle.m68k_time.specs.Addresses as addresses;
 use md_word::{Mode, Size};
 
 /// The time to calculate an operand's address and to read it.
+#[inline(always)]
 pub(crate) fn address_time(size: Size, mode: Mode) -> u32
     ensures value { result ≡ addresses.address_time size mode }
     ensures most { result ≤ 16 }
@@ -19,6 +20,7 @@ pub(crate) fn address_time(size: Size, mode: Mode) -> u32
 }
 
 /// The time of the target of MOVE, which is not read: the decrement takes no time of its own.
+#[inline(always)]
 pub(crate) fn target_time(size: Size, mode: Mode) -> u32
     ensures value { result ≡ addresses.target_time size mode }
     ensures most { result ≤ 16 }

@@ -6,6 +6,7 @@ use m68k_decode::Op;
 use md_word::Size;
 
 /// The whole time of an exception, by its vector number.
+#[inline(never)]
 pub(crate) fn exception_time(cause: u8, op: &Op) -> u32
     ensures { result ≡ exceptions.exception_time cause op.now }
 {

@@ -115,6 +115,7 @@ fn read_time(size: Size, mode: Mode, short: u32) -> u32
 }
 
 /// BTST, BCHG, BCLR and BSET by a data register.
+#[inline(always)]
 fn bit_time(task: Task, mode: Mode) -> u32
     ensures value { result ≡ rows.bit_time task mode }
     ensures most { result ≤ 24 }
@@ -127,6 +128,7 @@ fn bit_time(task: Task, mode: Mode) -> u32
 }
 
 /// ADDQ and SUBQ.
+#[inline(always)]
 fn quick_time(size: Size, mode: Mode) -> u32
     ensures { result ≡ rows.quick_time size mode }
 {
