@@ -11,6 +11,7 @@ use crate::plain::by_opcode;
 use crate::{Decoded80, Index};
 
 /// The instruction of these bytes, by the prefix.
+#[inline(always)]
 #[tactic(auto, unfolding(crate::specs::Nested::nested))]
 fn by_prefix(opcode: u8, first: u8, second: u8, third: u8) -> Decoded80
     ensures { result ≡ nested opcode first second third }
@@ -29,6 +30,7 @@ fn by_prefix(opcode: u8, first: u8, second: u8, third: u8) -> Decoded80
 /// Each four bytes decode. A prefix DD or FD whose next byte does not name HL is an instruction of
 /// its own, and an opcode after ED that is none has 2 bytes. Source: Zilog UM0080, "Z80 Instruction
 /// Description".
+#[inline(always)]
 #[tactic(auto, using(crate::proofs::Table::decoded_is_nested, crate::proofs::Table::one_row))]
 pub fn decode(bytes: &[u8; 4]) -> Decoded80
     ensures value { result ≡ decoded bytes.now }
