@@ -97,6 +97,12 @@ pub trait ChipSet: Send + Sync {
     fn writes(writer: u8, chip: u8) -> bool
         ensures { result ≡ rules.writes writer chip };
 
+    /// Whether the chip's private work is worth being handed to another thread, where there is one: how
+    /// several workers share their work hangs on it, and nothing else.
+    fn is_dear(_chip: u8) -> bool {
+        true
+    }
+
     /// The least number of cycles between two events of the chip: 1 to 2^50.
     fn gap(chip: u8) -> u64
         requires { chip < rules.count }

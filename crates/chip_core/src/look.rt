@@ -134,7 +134,7 @@ pub(crate) fn look<C: ChipSet>(chips: &[C::Chip], bounds: &[Key]) -> Found
 }
 
 /// The number of the least of several bounds.
-pub(crate) fn least_of(bounds: &[Key]) -> u8
+pub fn least_of(bounds: &[Key]) -> u8
     requires some { 1 ≤ length bounds.now }
     requires few { length bounds.now ≤ 5 }
     ensures value { result ≡ least_below (bound_in bounds.now) (length bounds.now) }

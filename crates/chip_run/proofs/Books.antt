@@ -1,5 +1,5 @@
 -- Sections that book all moves of finished chips.
-use Rattle.std.proofs.Common.{◌≡◌, ◌≢◌, ℕ, suc, ◌<◌, ◌≤◌, refl, sym, ◌∙◌, ap, subst, arith, ◌⊎◌, inl, inr, List, Option, Some, None, IfSome, length, slice_set, get_or-set_same, get_or-set_other, length-set}
+use Rattle.std.proofs.Common.{◌≡◌, ◌≢◌, ℕ, suc, ◌<◌, ◌≤◌, refl, sym, ◌∙◌, ap, subst, arith, ◌⊎◌, inl, inr, List, Option, Some, None, IfSome, length, slice_set, get_or-set_same, get_or-set_other}
 use Rattle.chip_core.specs.Chips.{Rules}
 use Rattle.std.proofs.lemmas.List.{get_or_past}
 use Rattle.chip_core.specs.Equations.{same_or}

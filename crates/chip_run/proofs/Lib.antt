@@ -2,11 +2,14 @@ pub mod Answered
 pub mod Booking
 pub mod Books
 pub mod CoreSteps
+pub mod Desks
 pub mod Gathers
 pub mod Keeping
 pub mod KeyOrder
+pub mod Leasts
 pub mod Makes
 pub mod Places
 pub mod Rounds
 pub mod Settling
 pub mod Sweeps
+pub mod Wholes

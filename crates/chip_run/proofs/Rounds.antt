@@ -143,7 +143,7 @@ module _ {Chip Shared Pins : Type 0} (rules : Rules Chip Shared Pins) where
   settled-amount Advance h k is = (0, ap (λ (x : HeldValue Chip Pins). x.amount) is ∙ (let e : h.amount ≡ h.amount + 0 = omega arith in e))
   settled-amount (Sample pins end) h k is = (is.0, ap (λ (x : HeldValue Chip Pins). x.amount) is.2)
 
-  settled-free : (d : Due Pins) (h k : HeldValue Chip Pins) → h.due ≡ d → Settles rules d h k → k.due ≡ Nothing
+  pub settled-free : (d : Due Pins) (h k : HeldValue Chip Pins) → h.due ≡ d → Settles rules d h k → k.due ≡ Nothing
   settled-free Nothing h k e is = ap (λ (x : HeldValue Chip Pins). x.due) is ∙ e
   settled-free Advance h k e is = ap (λ (x : HeldValue Chip Pins). x.due) is
   settled-free (Sample pins end) h k e is = ap (λ (x : HeldValue Chip Pins). x.due) is.2

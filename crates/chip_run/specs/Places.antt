@@ -1,5 +1,5 @@
 -- The places of the held chips, by their numbers.
-use Rattle.std.specs.Prelude.{◌≡◌, ℕ, Option, Some, None, IfSome, List, slice_index_or}
+use Rattle.std.specs.Prelude.{◌≡◌, ◌≢◌, ℕ, Option, Some, None, IfSome, List, slice_index_or}
 use Rattle.chip_core.specs.Chips.{Rules}
 use Rattle.chip_core.specs.Cores.{CoreValue, machine_of}
 use Rattle.chip_core.specs.Machines.{OnPath}
@@ -28,6 +28,10 @@ module _ {Chip Pins : Type 0} where
   -- of no held chip work is due
   abbrev pub AllFree : Places Chip Pins → Type 0
   AllFree hs = (i : ℕ) (h : HeldValue Chip Pins) → place hs i ≡ Some h → h.due ≡ Nothing
+
+  -- the same of each but that of this number
+  abbrev pub FreeBut : ℕ → Places Chip Pins → Type 0
+  FreeBut k hs = (i : ℕ) (h : HeldValue Chip Pins) → i ≢ k → place hs i ≡ Some h → h.due ≡ Nothing
 
 module _ {Chip Shared Pins : Type 0} (rules : Rules Chip Shared Pins) where
   -- once its due work is done, each held chip is where as many moves of its own as its share counts

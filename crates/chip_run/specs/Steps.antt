@@ -1,14 +1,21 @@
 -- What the turn of a chip does under the lock.
-use Rattle.std.specs.Prelude.{◌≡◌, ◌≢◌, ℕ, ◌+◌, ◌<◌, ◌≤◌, true, false, List, [], ◌∷◌, ◌++◌, length, slice_set}
+use Rattle.std.specs.Prelude.{◌≡◌, ◌≢◌, ℕ, Bool, ◌+◌, ◌<◌, ◌≤◌, true, false, List, [], ◌∷◌, ◌++◌, length, slice_set}
 use Rattle.md_word.specs.declared.event.Next.{Next}
 use Rattle.md_word.specs.declared.key.Key.{Key}
 use Rattle.md_word.specs.Keys.{key_lt}
 use Rattle.chip_core.specs.Chips.{Rules}
 use Rattle.chip_core.specs.Cores.{bound_in}
 use Rattle.chip_core.specs.Looks.{IsLeastLimit, IsLimit}
+use Rattle.chip_core.specs.Machines.{least_below}
 use Rattle.chip_run.specs.Parts.{PartsValue}
 use Rattle.chip_run.specs.declared.step.Step.{Step}
 use Rattle.chip_run.specs.declared.step.Step.TheVariants.{Performed, Sampled, Blocked, Finished}
+
+-- the bound of the chip of this number is the least, and lies below the end
+pub record IsLeastBound {Shared : Type 0} (p : PartsValue Shared) (i : ℕ) : Type 0 where
+  pub inside : i < length p.bounds
+  pub early : (bound_in p.bounds i).cycle < p.end
+  pub least : i ≡ least_below (bound_in p.bounds) (length p.bounds)
 
 module _ {Chip Shared Pins : Type 0} (rules : Rules Chip Shared Pins) where
   -- chip i's next event looks at the bound of chip j: an access at those of all others, a sample at
@@ -56,13 +63,19 @@ module _ {Chip Shared Pins : Type 0} (rules : Rules Chip Shared Pins) where
     journal = p.journal ++ (rules.perform c p.shared).entry ∷ [];
   }
 
-  -- the locked part of a turn, by its answer
-  abbrev pub IsStep : PartsValue Shared → ℕ → Chip → Step Pins → PartsValue Shared → Chip → Type 0
-  IsStep p i c Performed q d =
-      HasTurn p i c × ((rules.next c).sample ≡ false) × (q ≡ after_access p i c) × (d ≡ (rules.perform c p.shared).chip)
-  IsStep p i c (Sampled pins end) q d =
+  -- the chip that the locked part of an access left, with its private work done where the whole access
+  -- is made at once
+  abbrev pub left : Bool → Chip → Chip
+  left false c = c
+  left true c = rules.advance c
+
+  -- the locked part of a turn, or of an access the whole, by its answer
+  abbrev pub IsStep : Bool → PartsValue Shared → ℕ → Chip → Step Pins → PartsValue Shared → Chip → Type 0
+  IsStep whole p i c Performed q d =
+      HasTurn p i c × ((rules.next c).sample ≡ false) × (q ≡ after_access p i c) × (d ≡ left whole (rules.perform c p.shared).chip)
+  IsStep whole p i c (Sampled pins end) q d =
       HasTurn p i c × ((rules.next c).sample ≡ true) × (pins ≡ rules.pins p.shared i) × (q ≡ record p { bounds = raised i c p.bounds }) × (d ≡ c) × IsLeaseEnd q i end
-  IsStep p i c (Blocked other bound) q d =
+  IsStep whole p i c (Blocked other bound) q d =
       ((rules.next c).key.cycle < p.end) × FindsOther (rules.next c) p.bounds i other × (bound ≡ bound_in p.bounds other)
       × (q ≡ record p { bounds = announced i c p.bounds }) × (d ≡ c)
-  IsStep p i c Finished q d = (p.end ≤ (rules.next c).key.cycle) × (q ≡ record p { bounds = announced i c p.bounds }) × (d ≡ c)
+  IsStep whole p i c Finished q d = (p.end ≤ (rules.next c).key.cycle) × (q ≡ record p { bounds = announced i c p.bounds }) × (d ≡ c)

@@ -1,7 +1,10 @@
-ghost use Rattle.std.specs.Prelude.{◌≡◌, ◌↔◌};
-ghost use Rattle.chip_run.specs.Places.{AllFree, AreOnPaths};
+ghost use Rattle.std.specs.Prelude.{◌≡◌, ◌↔◌, ℕ, ◌<◌, IsSome};
+ghost use Rattle.chip_run.specs.Desks.{IsLed};
+ghost use Rattle.chip_run.specs.Places.{AllFree, AreOnPaths, place};
 ghost use Rattle.chip_run.specs.Rounds.{IsEnded, IsRound, IsSwept, Keeps};
 
+use crate::desk::Desk;
+use crate::leading::{Led, lead};
 use crate::sweep::{Swept, look};
 use crate::{Helds, Locked, Named, Round};
 use chip_core::ChipSet;
@@ -93,6 +96,59 @@ impl<C: ChipSet, N: Named, L0: Ledger, L1: Ledger, L2: Ledger, L3: Ledger, L4: L
                 Swept::Finished => {
                     helds.known();
                     return Round::Finished;
+                }
+            }
+        }
+        unreachable!()
+    }
+
+    /// Takes the turns of the held chips under one lock, as far as `lead` does. `tells`: whether workers may wait
+    /// for a bound to change.
+    fn turns<R: Wait>(
+        &self,
+        rt: &R,
+        helds: &mut Helds<C, N, L0, L1, L2, L3, L4>,
+        tells: bool,
+    ) -> Led
+        requires free { AllFree helds.old }
+        requires whole { (L0.parts ≡ 1) × (L1.parts ≡ 1) × (L2.parts ≡ 1) × (L3.parts ≡ 1) × (L4.parts ≡ 1) }
+        ensures { IsLed result helds.new }
+    {
+        let mut guard = self.lock.lock(rt);
+        let led = lead(rt, &mut *guard, helds);
+        if tells {
+            self.moved.notify_all();
+        }
+        led
+    }
+
+    /// Takes the turns of all chips, of which others come to the desk, until all are held and finished. Private
+    /// work that is dear goes to the desk.
+    pub(crate) fn take_turns<R: Wait, G: Gate>(
+        &self,
+        rt: &R,
+        desk: &Desk<C, N, L0, L1, L2, L3, L4>,
+        helds: &mut Helds<C, N, L0, L1, L2, L3, L4>,
+        gate: &G,
+    )
+        requires free { AllFree helds.old }
+        requires whole { (L0.parts ≡ 1) × (L1.parts ≡ 1) × (L2.parts ≡ 1) × (L3.parts ≡ 1) × (L4.parts ≡ 1) }
+        ensures free { AllFree helds.new }
+        ensures held { (i : ℕ) → i < C.rules.count → IsSome (place helds.new i) }
+    {
+        // A worker waits for a bound in the first turn of its chip alone, which it then lays on the desk.
+        let mut met = false;
+        for _ in rt.forever() {
+            met = met || helds.has_all();
+            helds.pass_all(self.end, gate);
+            match self.turns(rt, helds, !met) {
+                Led::Dear(chip) => desk.lay_due(rt, helds, chip),
+                Led::Away => desk.fetch(rt, helds),
+                Led::Ended => {
+                    if helds.has_all() {
+                        return;
+                    }
+                    desk.fetch(rt, helds);
                 }
             }
         }

@@ -1,5 +1,5 @@
 ghost use Rattle.std.specs.Option.{option_map};
-ghost use Rattle.std.specs.Prelude.{◌≡◌, ◌≢◌, ℕ, ◌↔◌, IsTrue, IsSome, IfSome, List, [], ◌∷◌, Option, None, length, slice_set};
+ghost use Rattle.std.specs.Prelude.{◌≡◌, ◌≢◌, ℕ, ◌<◌, ◌↔◌, IsTrue, IsSome, IfSome, List, [], ◌∷◌, Option, None, length, slice_set};
 ghost use Rattle.chip_run.specs.Held.{HeldValue, IsHeld};
 ghost use Rattle.chip_run.specs.Places.{AreOnPaths, HasNumber, place};
 ghost use Rattle.chip_run.specs.Rounds.{SettlesAt, bare, bares};
@@ -79,6 +79,18 @@ impl<C: ChipSet, N: Named, L0: Ledger, L1: Ledger, L2: Ledger, L3: Ledger, L4: L
         }
     }
 
+    /// Whether all chips of the set are held.
+    pub(crate) fn has_all(&self) -> bool
+        ensures { IsTrue result ↔ ((i : ℕ) → i < C.rules.count → IsSome (place self.now i)) }
+    {
+        for chip in 0..C::count() {
+            if !self.has(chip) {
+                return false;
+            }
+        }
+        true
+    }
+
     /// Swaps the places of this number.
     fn swap_places(&mut self, other: &mut Self, chip: u8)
         ensures here { self.new ≡ slice_set self.old chip (place other.old chip) }
@@ -104,6 +116,21 @@ impl<C: ChipSet, N: Named, L0: Ledger, L1: Ledger, L2: Ledger, L3: Ledger, L4: L
         let mut one = Helds::none();
         self.swap_places(&mut one, chip);
         one
+    }
+
+    /// Moves the chip of this number to the same place of another holder.
+    pub(crate) fn move_to(&mut self, other: &mut Self, chip: u8)
+        ensures left { self.new ≡ slice_set self.old chip None }
+        ensures moved { other.new ≡ slice_set other.old chip (place self.old chip) }
+    {
+        match chip {
+            0 => other.place0 = self.place0.take(),
+            1 => other.place1 = self.place1.take(),
+            2 => other.place2 = self.place2.take(),
+            3 => other.place3 = self.place3.take(),
+            4 => other.place4 = self.place4.take(),
+            _ => {}
+        }
     }
 
     /// Puts back the chip of this number.

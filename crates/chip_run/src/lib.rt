@@ -10,10 +10,12 @@
 
 mod blanks;
 mod bus;
+mod desk;
 mod gathering;
 mod held;
 mod helds;
 pub mod laws;
+mod leading;
 mod locked;
 mod making;
 mod named;
@@ -24,6 +26,7 @@ mod sections;
 mod step;
 mod sweep;
 mod turn;
+mod whole;
 mod workers;
 
 pub use blanks::Blanks;

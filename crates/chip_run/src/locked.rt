@@ -1,8 +1,9 @@
-ghost use Rattle.std.specs.Prelude.{◌≡◌, ◌≤◌, [], ◌∷◌, length, slice_get, vec_capacity};
+ghost use Rattle.std.specs.Prelude.{◌≡◌, ◌≤◌, [], ◌∷◌, IfSome, length, slice_get, vec_capacity};
 ghost use Rattle.chip_run.specs.Locked.{IsLocked, LockedValue};
+ghost use Rattle.chip_run.specs.Steps.{IsLeastBound};
 
 use crate::{Named, Parts};
-use chip_core::ChipSet;
+use chip_core::{ChipSet, least_of};
 use md_word::Key;
 use std::marker::{Model, PhantomData};
 use std::sync::ledger::{Book, Ledger};
@@ -60,6 +61,18 @@ impl<C: ChipSet, N: Named, L0: Ledger, L1: Ledger, L2: Ledger, L3: Ledger, L4: L
         ensures end { self.now.parts.end ≡ N.end }
     {
         self.parts.end
+    }
+
+    /// The number of the chip of least bound, where that bound lies below the run's end.
+    pub(crate) fn first(&self) -> Option<u8>
+        ensures { IfSome result (λ i. IsLeastBound self.now.parts i) }
+    {
+        let chip = least_of(&self.parts.bounds);
+        if self.parts.bounds[chip as usize].cycle < self.parts.end {
+            Some(chip)
+        } else {
+            None
+        }
     }
 
     /// The bound of the chip of this number, if there is such a chip.

@@ -30,7 +30,7 @@ pub(crate) fn step_held<C: ChipSet, N: Named, L: Ledger>(
     book.audit(&mut held.share);
     book.add(&mut held.share, held.ahead);
     held.ahead = 0;
-    match parts.step(&mut held.chip, number) {
+    match parts.step(&mut held.chip, number, false) {
         Step::Performed => {
             book.add(&mut held.share, 1);
             held.due = Due::Advance;

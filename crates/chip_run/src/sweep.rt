@@ -54,7 +54,15 @@ fn note(changed: &mut bool, before: Option<Key>, after: Option<Key>)
 }
 
 /// A section, of which the held chips and the bounds alone are seen.
-fn turn_of<C: ChipSet, N: Named, L0: Ledger, L1: Ledger, L2: Ledger, L3: Ledger, L4: Ledger>(
+pub(crate) fn turn_of<
+    C: ChipSet,
+    N: Named,
+    L0: Ledger,
+    L1: Ledger,
+    L2: Ledger,
+    L3: Ledger,
+    L4: Ledger,
+>(
     locked: &mut Locked<C, N, L0, L1, L2, L3, L4>,
     helds: &mut Helds<C, N, L0, L1, L2, L3, L4>,
     chip: u8,

@@ -1,7 +1,8 @@
 ghost use Rattle.std.specs.Prelude.{◌≡◌, ℕ, ◌+◌, ◌-◌, ◌<◌, ◌≤◌, IsSome, length};
-ghost use Rattle.chip_run.specs.Places.{AllFree, IsFree, place};
-ghost use Rattle.chip_run.specs.Rounds.{IsEnded, Keeps};
+ghost use Rattle.chip_run.specs.Places.{AllFree, place};
+ghost use Rattle.chip_run.specs.Rounds.{IsEnded};
 
+use crate::desk::Desk;
 use crate::{Bus, Helds, Named};
 use chip_core::ChipSet;
 use md_outer::Gate;
@@ -12,18 +13,19 @@ use std::sync::ledger::Ledger;
 use std::thread;
 use std::thread::{Promise, Scope, Threads};
 
-/// The promise that the chip of this number comes back, with no work due.
+/// The promise that of no chip that comes back work is due.
 #[derive(Clone, Copy, Drop)]
-struct GivesBack(u8);
+struct GivesBack;
 
 impl<C: ChipSet, N: Named, L0: Ledger, L1: Ledger, L2: Ledger, L3: Ledger, L4: Ledger> Promise<
     Helds<C, N, L0, L1, L2, L3, L4>,
 > for GivesBack {
-    ghost kept_by = { λ p h. IsFree h p.0 };
+    ghost kept_by = { λ p h. AllFree h };
 }
 
-/// Starts a thread for each worker below the last, with the chip of its number, and serves the
-/// other chips.
+/// Starts a thread for each worker below the last, with the chip of its number, and takes the turns of the
+/// other chips, and of each thread's chip once it lies on the desk: a thread makes its chip's next event with
+/// its private work, and then helps.
 ///
 /// The chip of a thread that is refused comes back unserved, and is served with the others.
 fn spread<
@@ -42,6 +44,7 @@ fn spread<
     scope: &Scope<'s, E>,
     rt: &'s R,
     bus: &'s Bus<C, N, L0, L1, L2, L3, L4>,
+    desk: &'s Desk<C, N, L0, L1, L2, L3, L4>,
     gate: &'s G,
     refused: &'s [AtomicBool],
     helds: &mut Helds<C, N, L0, L1, L2, L3, L4>,
@@ -49,45 +52,49 @@ fn spread<
     last: u8,
 )
     requires free { AllFree helds.old }
-    requires held { (i : ℕ) → worker ≤ i → i < last → IsSome (place helds.old i) }
     requires refused { last ≤ length refused.now }
     requires whole { (L0.parts ≡ 1) × (L1.parts ≡ 1) × (L2.parts ≡ 1) × (L3.parts ≡ 1) × (L4.parts ≡ 1) }
-    ensures { Keeps helds.old helds.new }
+    ensures free { AllFree helds.new }
+    ensures held { (i : ℕ) → i < C.rules.count → IsSome (place helds.new i) }
 {
     if worker >= last {
-        bus.serve(rt, helds, gate);
+        bus.take_turns(rt, desk, helds, gate);
+        desk.close(rt);
         return;
     }
     let one = helds.take_out(worker);
     let alone = &refused[worker as usize];
     let job = move || -> Helds<C, N, L0, L1, L2, L3, L4>
-        requires { (L0.parts ≡ 1) × (L1.parts ≡ 1) × (L2.parts ≡ 1) × (L3.parts ≡ 1) × (L4.parts ≡ 1) × AllFree one × IsFree one worker }
-        ensures { IsFree result worker }
+        requires { (L0.parts ≡ 1) × (L1.parts ≡ 1) × (L2.parts ≡ 1) × (L3.parts ≡ 1) × (L4.parts ≡ 1) × AllFree one }
+        ensures { AllFree result }
     {
-        let _ = &worker;
         let mut one = one;
         if !alone.load(Ordering::SeqCst) {
-            bus.serve(rt, &mut one, gate);
+            bus.wait_turn(rt, &mut one, gate);
+            desk.lay_done(rt, &mut one, worker);
+            desk.help(rt);
         }
         one
     };
-    match scope.spawn_with(GivesBack(worker), job) {
+    match scope.spawn_with(GivesBack, job) {
         Ok(child) => {
-            spread(scope, rt, bus, gate, refused, helds, worker + 1, last);
-            helds.put_back(worker, child.join(rt));
+            spread(scope, rt, bus, desk, gate, refused, helds, worker + 1, last);
+            let _none = child.join(rt);
         }
         Err(back) => {
             alone.store(true, Ordering::SeqCst);
             helds.put_back(worker, (back.value)());
-            spread(scope, rt, bus, gate, refused, helds, worker + 1, last);
+            spread(scope, rt, bus, desk, gate, refused, helds, worker + 1, last);
         }
     }
 }
 
 /// Runs all chips to the run's end with so many workers, of which the caller is the last.
 ///
-/// Each other worker is a thread of its own with the chip of its number, and the caller serves the
-/// rest, and with it the chip of each thread that the system refuses to start.
+/// Each other worker is a thread of its own, and begins with the chip of its number, as the caller does with
+/// the rest, and with the chip of each thread that the system refuses to start. Once a thread has made its
+/// chip's next event, the caller takes that chip's turns too, and the thread helps him with private work that
+/// is dear.
 pub fn work<
     C: ChipSet,
     N: Named,
@@ -110,9 +117,12 @@ pub fn work<
     requires held { (i : ℕ) → i < C.rules.count → IsSome (place helds.old i) }
     requires free { AllFree helds.old }
     requires whole { (L0.parts ≡ 1) × (L1.parts ≡ 1) × (L2.parts ≡ 1) × (L3.parts ≡ 1) × (L4.parts ≡ 1) }
-    ensures keeps { Keeps helds.old helds.new }
+    ensures held { (i : ℕ) → i < C.rules.count → IsSome (place helds.new i) }
+    ensures free { AllFree helds.new }
     ensures ended { IsEnded C.rules N.end helds.new }
 {
+    let desk = Desk::new();
+    let shared_desk = &desk;
     let flags = [
         AtomicBool::new(false),
         AtomicBool::new(false),
@@ -126,11 +136,21 @@ pub fn work<
         thread::scope_env(),
         rt,
         move |scope| -> Helds<C, N, L0, L1, L2, L3, L4>
-            requires { (L0.parts ≡ 1) × (L1.parts ≡ 1) × (L2.parts ≡ 1) × (L3.parts ≡ 1) × (L4.parts ≡ 1) × AllFree all × ((i : ℕ) → i < last → IsSome (place all i)) × (last ≤ length refused.now) }
-            ensures { Keeps all result }
+            requires { (L0.parts ≡ 1) × (L1.parts ≡ 1) × (L2.parts ≡ 1) × (L3.parts ≡ 1) × (L4.parts ≡ 1) × AllFree all × (last ≤ length refused.now) }
+            ensures { AllFree result × ((i : ℕ) → i < C.rules.count → IsSome (place result i)) }
         {
             let mut rest = all;
-            spread(scope, rt, bus, gate, refused, &mut rest, 0, last);
+            spread(
+                scope,
+                rt,
+                bus,
+                shared_desk,
+                gate,
+                refused,
+                &mut rest,
+                0,
+                last,
+            );
             rest
         },
     );

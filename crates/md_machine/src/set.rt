@@ -110,6 +110,13 @@ impl ChipSet for MdChips {
         writer == 0 || writer == 2
     }
 
+    /// A batch of the FM chip: some microseconds, which nobody waits for before the next one. Between two
+    /// events the others do less than a hand-over takes, and a line to be drawn elsewhere would want a copy of
+    /// the video memory.
+    fn is_dear(chip: u8) -> bool {
+        chip == 3
+    }
+
     fn gap(chip: u8) -> u64 {
         match chip {
             0 => 28,

@@ -41,14 +41,14 @@ impl Meeting {
         self.missed.store(true, Ordering::SeqCst);
     }
 
-    // The first to come looks for the other; later ones pass.
-    pub fn come_once(&self, number: u8) {
+    // One that came less often than so many times comes; others pass.
+    pub fn come_early(&self, number: u8, times: u64) {
         let mine = if number == 0 {
             &self.first
         } else {
             &self.second
         };
-        if mine.load(Ordering::SeqCst) == 0 {
+        if mine.load(Ordering::SeqCst) < times {
             self.come(number);
         }
     }

@@ -7,7 +7,7 @@ use std::alloc::{AllocError, Global};
 use std::marker::Model;
 use std::sync::Arc;
 
-// Two chips with an event every 10 cycles, whose first private work waits for one another.
+// Two chips with an event every 10 cycles, whose private work waits for one another, for so many events.
 pub struct Pair;
 
 #[derive(Drop)]
@@ -17,6 +17,7 @@ pub struct Chip {
     // whether its events are samples
     sample: bool,
     meeting: Arc<Meeting>,
+    times: u64,
 }
 
 impl Model for Chip {
@@ -113,7 +114,7 @@ impl ChipSet for Pair {
     }
 
     fn advance(chip: &mut Chip) {
-        chip.meeting.come_once(chip.number);
+        chip.meeting.come_early(chip.number, chip.times);
         chip.cycle += 10;
     }
 
@@ -122,7 +123,7 @@ impl ChipSet for Pair {
     }
 
     fn sample(chip: &mut Chip, _pins: &u64) {
-        chip.meeting.come_once(chip.number);
+        chip.meeting.come_early(chip.number, chip.times);
         chip.cycle += 10;
     }
 
@@ -135,7 +136,7 @@ impl ChipSet for Pair {
     }
 }
 
-fn at_start(number: u8, sample: bool, meeting: Arc<Meeting>) -> Chip
+fn at_start(number: u8, sample: bool, meeting: Arc<Meeting>, times: u64) -> Chip
     ensures { result ≡ record { number = number; cycle = 0; sample = sample } }
 {
     Chip {
@@ -143,6 +144,7 @@ fn at_start(number: u8, sample: bool, meeting: Arc<Meeting>) -> Chip
         cycle: 0,
         sample,
         meeting,
+        times,
     }
 }
 
@@ -151,6 +153,7 @@ pub fn power_on(
     alloc: Global,
     sample: bool,
     meeting: &Arc<Meeting>,
+    times: u64,
     room: usize,
 ) -> Result<Core<Pair>, AllocError>
     ensures { IfOk result (λ core. core ≡ record {
@@ -161,8 +164,8 @@ pub fn power_on(
       room = room;
     }) }
 {
-    let first = at_start(0, sample, Arc::try_clone(meeting)?);
-    let second = at_start(1, sample, Arc::try_clone(meeting)?);
+    let first = at_start(0, sample, Arc::try_clone(meeting)?, times);
+    let second = at_start(1, sample, Arc::try_clone(meeting)?, times);
     let chips = vec![in alloc; first, second]?;
     let bounds = vec![in alloc; Key { cycle: 0, chip: 0 }, Key { cycle: 0, chip: 1 }]?;
     let journal = Vec::with_capacity(alloc, room)?;

@@ -47,10 +47,21 @@ fn several_workers_meet_at_the_gate(rt: HostRuntime) -> Result<(), Fail> {
 fn private_work_of_two_workers_overlaps(rt: HostRuntime) -> Result<(), Fail> {
     for sample in [false, true] {
         let meeting = Arc::new(rt.alloc(), Meeting::new())?;
-        let core = pair::power_on(rt.alloc(), sample, &meeting, 2)?;
+        let core = pair::power_on(rt.alloc(), sample, &meeting, 1, 2)?;
         let _core = run_core(&rt, core, 1, 2, &FreeGate);
         assert!(rt; meeting.met(1), "samples: {sample}");
     }
+    Ok(())
+}
+
+// Each of five private works of each chip waits for the other's: workers that went on one after the other
+// behind their first events would never meet again.
+#[test]
+fn private_work_of_two_workers_overlaps_to_the_end(rt: HostRuntime) -> Result<(), Fail> {
+    let meeting = Arc::new(rt.alloc(), Meeting::new())?;
+    let core = pair::power_on(rt.alloc(), false, &meeting, 5, 10)?;
+    let _core = run_core(&rt, core, 50, 2, &FreeGate);
+    assert!(rt; meeting.met(5));
     Ok(())
 }
 

@@ -1,0 +1,91 @@
+-- What the whole turn of a held chip keeps.
+use Rattle.std.proofs.Common.{◌≡◌, ℕ, ◌+◌, ◌-◌, ◌<◌, true, false, refl, sym, subst, arith, List, length, length-set, get_or-set_same, slice_set}
+use Rattle.std.proofs.lemmas.List.{set-set}
+use Rattle.chip_core.specs.Chips.{Rules, RunsTo, Lawful}
+use Rattle.chip_core.specs.Cores.{CoreValue}
+use Rattle.md_word.specs.declared.key.Key.{Key}
+use Rattle.chip_run.specs.Held.{HeldValue, IsAhead, IsDueAt, IsFresh, IsHeld}
+use Rattle.chip_run.specs.Locked.{IsLocked, count_of}
+use Rattle.chip_run.specs.Parts.{PartsValue}
+use Rattle.chip_run.specs.Sections.{IsLockedAt}
+use Rattle.chip_run.specs.Steps.{IsStep}
+use Rattle.chip_run.specs.declared.step.Step.TheVariants.{Performed, Sampled}
+use Rattle.chip_run.specs.declared.held.Due.{Due}
+use Rattle.chip_run.specs.declared.held.Due.TheVariants.{Nothing, Advance}
+use Rattle.chip_run.specs.declared.held.Due.TheVariants as Dues
+use Rattle.chip_run.proofs.Keeping.{held-performed-at, held-sampled-at, kept-performed}
+use Rattle.chip_run.proofs.Settling.{ahead-run, held-advanced, held-run, ran-rest}
+
+module _ {Chip Shared Pins : Type 0} (rules : Rules Chip Shared Pins) (chip_ok : Chip → Type 0) (shared_ok : Shared → Type 0) where
+  -- the shared state is one that the laws speak of
+  pub shared-at : (base : CoreValue Chip Shared) (t : ℕ) (p : PartsValue Shared) (i paid : ℕ) → IsLockedAt rules chip_ok shared_ok base t p i paid → shared_ok p.shared
+  shared-at base t p i paid at = subst shared_ok at.locked.shared at.locked.tidy.valid.shared
+
+  -- what a turn keeps of locked parts, whatever is booked of other chips
+  abbrev Keeps : CoreValue Chip Shared → ℕ → PartsValue Shared → PartsValue Shared → ℕ → ℕ → ℕ → Type 0
+  Keeps base t p q i paid later =
+      (counts : List ℕ) → i < length counts → count_of counts i ≡ paid → IsLocked rules chip_ok shared_ok base t p counts → IsLocked rules chip_ok shared_ok base t q (slice_set counts i later)
+
+  -- after it the parts are locked ones, with what was booked
+  pub locked-next : (base : CoreValue Chip Shared) (t : ℕ) (p q : PartsValue Shared) (i paid later : ℕ) → IsLockedAt rules chip_ok shared_ok base t p i paid → Keeps base t p q i paid later → IsLockedAt rules chip_ok shared_ok base t q i later
+  locked-next base t p q i paid later at keeps = record {
+    counts = slice_set at.counts i later;
+    inside = (let n = length-set at.counts i later in let low = at.inside in omega arith);
+    booked = get_or-set_same at.counts i later 0 at.inside;
+    locked = keeps at.counts at.inside at.booked at.locked;
+  }
+
+  -- two of them, one after the other
+  pub locked-twice : (base : CoreValue Chip Shared) (t : ℕ) (p q r : PartsValue Shared) (i paid later last : ℕ) → Keeps base t p q i paid later → Keeps base t q r i later last → Keeps base t p r i paid last
+  locked-twice base t p q r i paid later last first second counts inside booked lk =
+      subst (λ cs. IsLocked rules chip_ok shared_ok base t r cs) (set-set counts i later last)
+      (second (slice_set counts i later) (let n = length-set counts i later in omega arith) (get_or-set_same counts i later 0 inside) (first counts inside booked lk))
+
+  -- of a chip of which no work is due, all moves are booked
+  pub ahead-none : (base : CoreValue Chip Shared) (t i : ℕ) (due : Due Pins) → due ≡ Nothing → (booked : ℕ) → IsAhead rules chip_ok shared_ok base t i due booked 0
+  ahead-none base t i due free booked = record {
+    samples = λ j x low. absurd (omega arith);
+    fresh = subst (λ (w : Due Pins). IsFresh w 0) (sym free) tt;
+  }
+
+  module _ (law : Lawful rules chip_ok shared_ok) (base : CoreValue Chip Shared) (t : ℕ) (p : PartsValue Shared) (i : ℕ) (h : HeldValue Chip Pins) (hd : IsHeld rules chip_ok shared_ok base t h) (free : h.due ≡ Nothing) (number : h.number ≡ i)
+      (paid ahead : ℕ) (all : h.amount ≡ paid + ahead) (on : IsAhead rules chip_ok shared_ok base t h.number h.due paid ahead) where
+    module _ (q : PartsValue Shared) (d : Chip) (is : IsStep rules true p i h.chip Performed q d) (n : ℕ) (more : n ≡ h.amount + 1) where
+      abbrev performed_chip : Chip
+      performed_chip = (rules.perform h.chip p.shared).chip
+
+      -- the locked part of the access alone
+      apart : IsStep rules false p i h.chip Performed q performed_chip
+      apart = (is.0, is.1, is.2, refl)
+
+      pub held-whole : IsLockedAt rules chip_ok shared_ok base t p i paid → IsHeld rules chip_ok shared_ok base t (record h { chip = d; amount = n })
+      held-whole at =
+          subst (λ (w : Due Pins). IsHeld rules chip_ok shared_ok base t (record h { chip = d; due = w; amount = n })) (sym free)
+          (held-advanced rules chip_ok shared_ok base t (record h { chip = performed_chip; due = Advance; amount = n })
+          (held-performed-at rules chip_ok shared_ok law base t p i h hd free number paid ahead all on at q performed_chip apart n more) refl d is.3)
+
+      pub kept-whole : (counts : List ℕ) → i < length counts → count_of counts i ≡ paid → IsLocked rules chip_ok shared_ok base t p counts → IsLocked rules chip_ok shared_ok base t q (slice_set counts i n)
+      kept-whole counts inside booked lk =
+          kept-performed rules chip_ok shared_ok law base t p i h hd free number paid ahead all on counts inside booked lk q performed_chip apart n more
+
+    module _ (at : IsLockedAt rules chip_ok shared_ok base t p i paid) (q : PartsValue Shared) (d : Chip) (pins : Pins) (end : Key) (is : IsStep rules true p i h.chip (Sampled pins end) q d) where
+      -- the held chip before its sample
+      abbrev leased : HeldValue Chip Pins
+      leased = record h { chip = d; due = Dues.Sample pins end; amount = h.amount + 1 }
+
+      held-leased : IsHeld rules chip_ok shared_ok base t leased
+      held-leased = held-sampled-at rules chip_ok shared_ok law base t p i h hd free number paid ahead all on at q d pins end is (h.amount + 1) refl
+
+      pub due-here : IsDueAt rules chip_ok shared_ok (Dues.Sample pins end) d
+      due-here = held-leased.due
+
+      module _ (r : ℕ) (e : Chip) (ran : RunsTo rules r end pins d e) where
+        pub held-ran : (amount : ℕ) → amount ≡ h.amount + 1 + (r - 1) → IsHeld rules chip_ok shared_ok base t (record h { chip = e; amount = amount })
+        held-ran amount more =
+            subst (λ (w : Due Pins). IsHeld rules chip_ok shared_ok base t (record h { chip = e; due = w; amount = amount })) (sym free)
+            (held-run rules chip_ok shared_ok base t leased pins end held-leased refl (r - 1) e (ran-rest rules chip_ok shared_ok base t r end pins d e ran) amount more)
+
+        pub ahead-ran : (booked : ℕ) → h.amount + 1 ≡ booked → IsAhead rules chip_ok shared_ok base t h.number h.due booked (r - 1)
+        ahead-ran booked more =
+            subst (λ (w : Due Pins). IsAhead rules chip_ok shared_ok base t h.number w booked (r - 1)) (sym free)
+            (ahead-run rules chip_ok shared_ok base t leased pins end held-leased refl (r - 1) e (ran-rest rules chip_ok shared_ok base t r end pins d e ran) booked more)

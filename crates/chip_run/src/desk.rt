@@ -1,0 +1,319 @@
+ghost use Rattle.std.specs.Prelude.{◌≡◌, true, false};
+ghost use Rattle.chip_run.specs.Desks.{IsFoundDue};
+ghost use Rattle.chip_run.specs.Places.{AllFree, FreeBut};
+
+use crate::{Helds, Named};
+use chip_core::ChipSet;
+use std::hint::spin_loop;
+use std::sync::atomic::{AtomicBool, AtomicU64, Ordering};
+use std::sync::ledger::Ledger;
+use std::sync::{Condvar, Mutex, Wait};
+use std::thread::yield_now;
+
+/// How often a helper looks for work before it sleeps.
+const LOOKS: u32 = 20_000;
+
+/// How often the leader looks for a chip before it lets other threads run.
+const GLANCES: u32 = 1_000;
+
+/// What a worker finds on the desk.
+#[derive(Clone, Copy)]
+pub(crate) enum Found {
+    /// The chip of this number, of which private work is due.
+    Chip(u8),
+    Nothing,
+    /// No more work comes.
+    Over,
+}
+
+/// The chips that lie on the desk.
+#[derive(Drop)]
+struct Laid<C: ChipSet, N: Named, L0: Ledger, L1: Ledger, L2: Ledger, L3: Ledger, L4: Ledger> {
+    /// Chips of which private work is due.
+    due: Helds<C, N, L0, L1, L2, L3, L4>,
+    /// Chips of which none is.
+    done: Helds<C, N, L0, L1, L2, L3, L4>,
+    /// No more work comes.
+    over: bool,
+    ghost free: { AllFree done },
+}
+
+impl<C: ChipSet, N: Named, L0: Ledger, L1: Ledger, L2: Ledger, L3: Ledger, L4: Ledger> Laid<
+    C,
+    N,
+    L0,
+    L1,
+    L2,
+    L3,
+    L4,
+> {
+    /// Lays down a chip of which work is due.
+    fn lay_due(&mut self, helds: &mut Helds<C, N, L0, L1, L2, L3, L4>, chip: u8)
+        requires { FreeBut chip helds.old }
+        ensures { AllFree helds.new }
+    {
+        helds.move_to(&mut self.due, chip);
+    }
+
+    /// Lays down a chip of which none is due.
+    fn lay_done(&mut self, helds: &mut Helds<C, N, L0, L1, L2, L3, L4>, chip: u8)
+        requires { AllFree helds.old }
+        ensures { AllFree helds.new }
+    {
+        helds.move_to(&mut self.done, chip);
+    }
+
+    /// Takes the chip of this number, if it lies here and no work of it is due.
+    fn take_done(&mut self, helds: &mut Helds<C, N, L0, L1, L2, L3, L4>, chip: u8) -> bool
+        requires { AllFree helds.old }
+        ensures { AllFree helds.new }
+    {
+        if !self.done.has(chip) {
+            return false;
+        }
+        self.done.move_to(helds, chip);
+        true
+    }
+
+    /// Takes the chip of this number, if it lies here and work of it is due.
+    fn take_due(&mut self, helds: &mut Helds<C, N, L0, L1, L2, L3, L4>, chip: u8) -> bool
+        requires { AllFree helds.old }
+        ensures found { result ≡ true → FreeBut chip helds.new }
+        ensures none { result ≡ false → AllFree helds.new }
+    {
+        if !self.due.has(chip) {
+            return false;
+        }
+        self.due.move_to(helds, chip);
+        true
+    }
+
+    /// Takes all chips of which no work is due; answers whether there were any.
+    fn take_all(&mut self, helds: &mut Helds<C, N, L0, L1, L2, L3, L4>) -> bool
+        requires { AllFree helds.old }
+        ensures { AllFree helds.new }
+    {
+        let mut any = false;
+        for chip in 0..C::count() {
+            if self.take_done(helds, chip) {
+                any = true;
+            }
+        }
+        any
+    }
+
+    /// Takes the first chip of which work is due.
+    fn take_first(&mut self, helds: &mut Helds<C, N, L0, L1, L2, L3, L4>) -> Found
+        requires { AllFree helds.old }
+        ensures { IsFoundDue result helds.new }
+    {
+        for chip in 0..C::count() {
+            if self.take_due(helds, chip) {
+                return Found::Chip(chip);
+            }
+        }
+        if self.over {
+            Found::Over
+        } else {
+            Found::Nothing
+        }
+    }
+
+    /// No more work comes.
+    fn close(&mut self) {
+        self.over = true;
+    }
+}
+
+/// Where the worker that takes the turns of all chips, the leader, lays chips whose private work is dear, and
+/// from where helpers take them and lay them back once that work is done.
+///
+/// The leader sleeps nowhere: he does work that nobody has begun himself. Of the helpers one at most looks for
+/// work, and the others sleep.
+#[derive(Drop)]
+pub(crate) struct Desk<
+    C: ChipSet,
+    N: Named,
+    L0: Ledger,
+    L1: Ledger,
+    L2: Ledger,
+    L3: Ledger,
+    L4: Ledger,
+> {
+    lock: Mutex<Laid<C, N, L0, L1, L2, L3, L4>>,
+    work: Condvar,
+    /// How often something was laid here, wrapping.
+    changes: AtomicU64,
+    /// Whether a helper looks for work without sleeping.
+    watched: AtomicBool,
+}
+
+impl<C: ChipSet, N: Named, L0: Ledger, L1: Ledger, L2: Ledger, L3: Ledger, L4: Ledger> Desk<
+    C,
+    N,
+    L0,
+    L1,
+    L2,
+    L3,
+    L4,
+> {
+    /// An empty desk.
+    pub(crate) fn new() -> Self {
+        Desk {
+            lock: Mutex::new(Laid {
+                due: Helds::none(),
+                done: Helds::none(),
+                over: false,
+            }),
+            work: Condvar::new(),
+            changes: AtomicU64::new(0),
+            watched: AtomicBool::new(false),
+        }
+    }
+
+    /// Lays down a chip of which work is due, and wakes a helper where none looks for work.
+    pub(crate) fn lay_due<R: Wait>(
+        &self,
+        rt: &R,
+        helds: &mut Helds<C, N, L0, L1, L2, L3, L4>,
+        chip: u8,
+    )
+        requires { FreeBut chip helds.old }
+        ensures { AllFree helds.new }
+    {
+        self.put_due(rt, helds, chip);
+        self.changes.fetch_add(1, Ordering::SeqCst);
+        if !self.watched.load(Ordering::SeqCst) {
+            let _guard = self.lock.lock(rt);
+            self.work.notify_one();
+        }
+    }
+
+    fn put_due<R: Wait>(&self, rt: &R, helds: &mut Helds<C, N, L0, L1, L2, L3, L4>, chip: u8)
+        requires { FreeBut chip helds.old }
+        ensures { AllFree helds.new }
+    {
+        let mut guard = self.lock.lock(rt);
+        let laid = &mut *guard;
+        laid.lay_due(helds, chip);
+    }
+
+    /// Lays down a chip of which none is due.
+    pub(crate) fn lay_done<R: Wait>(
+        &self,
+        rt: &R,
+        helds: &mut Helds<C, N, L0, L1, L2, L3, L4>,
+        chip: u8,
+    )
+        requires { AllFree helds.old }
+        ensures { AllFree helds.new }
+    {
+        self.put_done(rt, helds, chip);
+        self.changes.fetch_add(1, Ordering::SeqCst);
+    }
+
+    fn put_done<R: Wait>(&self, rt: &R, helds: &mut Helds<C, N, L0, L1, L2, L3, L4>, chip: u8)
+        requires { AllFree helds.old }
+        ensures { AllFree helds.new }
+    {
+        let mut guard = self.lock.lock(rt);
+        let laid = &mut *guard;
+        laid.lay_done(helds, chip);
+    }
+
+    fn take_all<R: Wait>(&self, rt: &R, helds: &mut Helds<C, N, L0, L1, L2, L3, L4>) -> bool
+        requires { AllFree helds.old }
+        ensures { AllFree helds.new }
+    {
+        let mut guard = self.lock.lock(rt);
+        let laid = &mut *guard;
+        laid.take_all(helds)
+    }
+
+    fn take_first<R: Wait>(&self, rt: &R, helds: &mut Helds<C, N, L0, L1, L2, L3, L4>) -> Found
+        requires { AllFree helds.old }
+        ensures { IsFoundDue result helds.new }
+    {
+        let mut guard = self.lock.lock(rt);
+        let laid = &mut *guard;
+        laid.take_first(helds)
+    }
+
+    /// Takes all chips of which no work is due, or else the first of which work is due, and does it. Where no
+    /// chip lies here, it waits for a moment.
+    pub(crate) fn fetch<R: Wait>(&self, rt: &R, helds: &mut Helds<C, N, L0, L1, L2, L3, L4>)
+        requires { AllFree helds.old }
+        ensures { AllFree helds.new }
+    {
+        let seen = self.changes.load(Ordering::SeqCst);
+        if self.take_all(rt, helds) {
+            return;
+        }
+        match self.take_first(rt, helds) {
+            Found::Chip(chip) => helds.settle(chip),
+            Found::Nothing => self.glance(seen),
+            Found::Over => self.glance(seen),
+        }
+    }
+
+    /// Looks for a change after so many for a moment, and then lets other threads run.
+    fn glance(&self, seen: u64) {
+        for _ in 0..GLANCES {
+            if self.changes.load(Ordering::SeqCst) != seen {
+                return;
+            }
+            spin_loop();
+        }
+        yield_now();
+    }
+
+    /// Does due private work until no more comes.
+    pub(crate) fn help<R: Wait>(&self, rt: &R) {
+        for _ in rt.forever() {
+            let seen = self.changes.load(Ordering::SeqCst);
+            let mut one = Helds::none();
+            match self.take_first(rt, &mut one) {
+                Found::Chip(chip) => {
+                    one.settle(chip);
+                    self.lay_done(rt, &mut one, chip);
+                }
+                Found::Nothing => self.wait_for_change(rt, seen),
+                Found::Over => return,
+            }
+        }
+        unreachable!()
+    }
+
+    /// Waits for a change after so many: it looks for a while where no other helper does, and then sleeps.
+    ///
+    /// No change is missed: it is counted before the one who makes it looks for a watch, and a helper ends its
+    /// watch before it looks at the count for the last time, under the lock under which it is woken.
+    fn wait_for_change<R: Wait>(&self, rt: &R, seen: u64) {
+        if !self.watched.swap(true, Ordering::SeqCst) {
+            self.look(seen);
+            self.watched.store(false, Ordering::SeqCst);
+        }
+        let guard = self.lock.lock(rt);
+        if self.changes.load(Ordering::SeqCst) == seen {
+            let _guard = self.work.wait(rt, guard);
+        }
+    }
+
+    fn look(&self, seen: u64) {
+        for _ in 0..LOOKS {
+            if self.changes.load(Ordering::SeqCst) != seen {
+                return;
+            }
+            spin_loop();
+        }
+    }
+
+    /// Tells all helpers that no more work comes.
+    pub(crate) fn close<R: Wait>(&self, rt: &R) {
+        let mut guard = self.lock.lock(rt);
+        let laid = &mut *guard;
+        laid.close();
+        self.changes.fetch_add(1, Ordering::SeqCst);
+        self.work.notify_all();
+    }
+}
