@@ -59,7 +59,7 @@ fn private_work_of_two_workers_overlaps(rt: HostRuntime) -> Result<(), Fail> {
 #[test]
 fn private_work_of_two_workers_overlaps_to_the_end(rt: HostRuntime) -> Result<(), Fail> {
     let meeting = Arc::new(rt.alloc(), Meeting::new())?;
-    let core = pair::power_on(rt.alloc(), false, &meeting, 5, 10)?;
+    let core = pair::power_on(rt.alloc(), false, &meeting, 5, 12)?;
     let _core = run_core(&rt, core, 50, 2, &FreeGate);
     assert!(rt; meeting.met(5));
     Ok(())
