@@ -23,6 +23,13 @@ not_lt-rank a b p q h = grind (arith, nat_tests)
 pub rank-not_lt : (a b : Key) → a.chip < 8 → b.chip < 8 → rank b ≤ rank a → key_lt a b ≡ false
 rank-not_lt a b p q h = grind (arith, nat_tests)
 
+-- a key of an earlier cycle, and one of no earlier cycle and a greater number
+pub earlier-key : (a b : Key) → a.cycle < b.cycle → key_lt a b ≡ true
+earlier-key a b p = grind (arith, nat_tests)
+
+pub later-key : (a b : Key) → b.cycle ≤ a.cycle → b.chip < a.chip → key_lt a b ≡ false
+later-key a b p q = grind (arith, nat_tests)
+
 -- a key below a bound that a third does not lie under, and the third
 pub lt-through : (a b k : Key) → key_lt a b ≡ true → key_lt k b ≡ false → key_lt a k ≡ true
 lt-through a b k p q = grind (arith, nat_tests)

@@ -133,16 +133,21 @@ pub(crate) fn look<C: ChipSet>(chips: &[C::Chip], bounds: &[Key]) -> Found
     Found { lagging, least }
 }
 
-/// The number of the least of several bounds.
+/// The number of the least of several bounds, each of which has the number of its place: of those of one cycle
+/// the first is the least.
 pub fn least_of(bounds: &[Key]) -> u8
     requires some { 1 ≤ length bounds.now }
     requires few { length bounds.now ≤ 5 }
+    requires number { (i : ℕ) → i < length bounds.now → (bound_in bounds.now i).chip ≡ i }
     ensures value { result ≡ least_below (bound_in bounds.now) (length bounds.now) }
     ensures inside { result < length bounds.now }
 {
     let mut least = 0;
+    let mut cycle = bounds[0].cycle;
     for i in 1..bounds.len() {
-        if bounds[i].is_below(&bounds[least]) {
+        let next = bounds[i].cycle;
+        if next < cycle {
+            cycle = next;
             least = i;
         }
     }
