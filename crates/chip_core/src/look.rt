@@ -43,7 +43,7 @@ pub(crate) fn is_below_writers<C: ChipSet>(key: &Key, bounds: &[Key], chip: u8) 
     ensures { IsTrue result ↔ IsBelowWriters C.rules key.now bounds.now chip }
 {
     for i in 0..bounds.len() {
-        if is_other_writer::<C>(i, chip) && !key.is_below(&bounds[i]) {
+        if is_other_writer::<C>(i as u8, chip) && !key.is_below(&bounds[i]) {
             return false;
         }
     }
@@ -51,14 +51,15 @@ pub(crate) fn is_below_writers<C: ChipSet>(key: &Key, bounds: &[Key], chip: u8) 
 }
 
 /// Whether chip `i` is another than `chip` and writes its pins.
-fn is_other_writer<C: ChipSet>(i: usize, chip: u8) -> bool
-    requires { i < 5 }
+#[inline(always)]
+fn is_other_writer<C: ChipSet>(i: u8, chip: u8) -> bool
     ensures { IsTrue result ↔ ((i ≢ chip) × (C.rules.writes i chip ≡ true)) }
 {
-    i != chip as usize && C::writes(i as u8, chip)
+    i != chip && C::writes(i, chip)
 }
 
 /// Takes the lesser of two keys, where a test holds.
+#[inline(always)]
 fn lower(end: &mut Key, key: &Key, counts: bool)
     ensures { end.new ≡ (if counts && key_lt key.now end.old then key.now else end.old) }
 {
@@ -70,14 +71,15 @@ fn lower(end: &mut Key, key: &Key, counts: bool)
 
 /// The key below which a chip may sample its pins up to cycle `t`: the least of the first key at that
 /// cycle and of the bounds of the other chips that write its pins.
+#[inline(always)]
 pub fn limit_of<C: ChipSet>(bounds: &[Key], t: u64, chip: u8) -> Key
-    requires few { length bounds.now ≤ 5 }
+    requires count { length bounds.now ≡ C.rules.count }
     ensures limit { IsLimit C.rules t (bound_in bounds.now) (length bounds.now) chip result }
     ensures least { IsLeastLimit C.rules t (bound_in bounds.now) (length bounds.now) chip result }
 {
     let mut end = Key { cycle: t, chip: 0 };
-    for i in 0..bounds.len() {
-        lower(&mut end, &bounds[i], is_other_writer::<C>(i, chip));
+    for i in 0..C::count() {
+        lower(&mut end, &bounds[i as usize], is_other_writer::<C>(i, chip));
     }
     end
 }
@@ -135,23 +137,24 @@ pub(crate) fn look<C: ChipSet>(chips: &[C::Chip], bounds: &[Key]) -> Found
 
 /// The number of the least of several bounds, each of which has the number of its place: of those of one cycle
 /// the first is the least.
-pub fn least_of(bounds: &[Key]) -> u8
-    requires some { 1 ≤ length bounds.now }
-    requires few { length bounds.now ≤ 5 }
+#[inline(always)]
+pub fn least_of<C: ChipSet>(bounds: &[Key]) -> u8
+    requires some { 1 ≤ C.rules.count }
+    requires count { length bounds.now ≡ C.rules.count }
     requires number { (i : ℕ) → i < length bounds.now → (bound_in bounds.now i).chip ≡ i }
     ensures value { result ≡ least_below (bound_in bounds.now) (length bounds.now) }
     ensures inside { result < length bounds.now }
 {
     let mut least = 0;
     let mut cycle = bounds[0].cycle;
-    for i in 1..bounds.len() {
-        let next = bounds[i].cycle;
+    for i in 1..C::count() {
+        let next = bounds[i as usize].cycle;
         if next < cycle {
             cycle = next;
             least = i;
         }
     }
-    least as u8
+    least
 }
 
 /// The move that a next event is.

@@ -67,7 +67,7 @@ impl<C: ChipSet, N: Named, L0: Ledger, L1: Ledger, L2: Ledger, L3: Ledger, L4: L
     pub(crate) fn first(&self) -> Option<u8>
         ensures { IfSome result (λ i. IsLeastBound self.now.parts i) }
     {
-        let chip = least_of(&self.parts.bounds);
+        let chip = least_of::<C>(&self.parts.bounds);
         if self.parts.bounds[chip as usize].cycle < self.parts.end {
             Some(chip)
         } else {

@@ -67,7 +67,7 @@ impl<C: ChipSet> Core<C> {
             (λ i. (i ≡ least_below (seen C.rules self.now).bound C.rules.count) × (((seen C.rules self.now).bound i).cycle < t)) }
         ensures core { IsCore C.rules C.chip_ok C.shared_ok self.now }
     {
-        let chip = least_of(&self.bounds);
+        let chip = least_of::<C>(&self.bounds);
         if self.bounds[chip as usize].cycle < t {
             Some(chip)
         } else {

@@ -6,14 +6,14 @@ use Rattle.chip_core.proofs.look.least_of.Goals as goal
 use Rattle.chip_core.proofs.look.least_of.Goals.{then-next-cycle, else-next-cycle}
 
 pub loop-i-init : goal.loop-i-init
-loop-i-init c = record {
+loop-i-init g c = record {
   inside = (omega arith);
   is = (let h = least-in (λ i. slice_index_or c.args.bounds.now i no_key) 0 in omega arith);
   cycle = refl;
 }
 
 pub loop-i-preserved : goal.loop-i-preserved
-loop-i-preserved c =
+loop-i-preserved g c =
     elim c.if-next-cycle.branch [
       | then-next-cycle w ↦ record {
         inside = (let e = w.least-is in omega arith);
