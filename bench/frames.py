@@ -10,8 +10,7 @@ instructions that each frame has some 9,400 of, `scale`, `chord` and `show` are 
 `transfer` moves 7,500 bytes into the VDP's memory in the vertical blanking of each frame, `data` writes a
 word to the VDP's data port 5,818 times a frame, and in `busy` the Z80 writes the FM chip's converter 1,810
 times a frame, while the 68000 sleeps and writes 275 words in each vertical interrupt. Frames are
-drawn in each, and written in none. Then it runs `mix`, `chord` and `show`
-for a tenth of them with 2, 3 and 5 workers.
+drawn in each, and written in none. Then it runs `mix`, `chord` and `show` with 2, 3 and 5 workers.
 The times are those of the clock on the wall, the program's start and the writing of its files included;
 the switches are those of all its threads, those that wait and those that are made to. Of `idle` and `mix`
 the moves are known, and a second line has the nanoseconds of one: the 68000's, one an instruction, the
@@ -187,7 +186,7 @@ def main():
             measure(cartridge, image, frames, folder)
         for cartridge in ("mix", "chord", "show"):
             for workers in (2, 3, 5):
-                measure(cartridge, folder / f"{cartridge}.bin", max(frames // 10, 1), folder, workers)
+                measure(cartridge, folder / f"{cartridge}.bin", frames, folder, workers)
 
 
 if __name__ == "__main__":
