@@ -8,7 +8,7 @@ use Rattle.chip_core.specs.declared.event.Event.TheVariants.{Announce, Perform, 
 use Rattle.chip_core.specs.Chips.{Rules, Lawful, SamplesBelow, SamplesTo, sampled}
 use Rattle.chip_core.specs.Cores.{CoreValue, IsCore, no_key, seen}
 use Rattle.chip_core.specs.Events.{AreKeys, IsEnabled, IsTidy, Reaches, SamplesOn, Seen, after, left_bound, own_event, sampled_on}
-use Rattle.chip_core.specs.Looks.{IsLimit}
+use Rattle.chip_core.specs.Looks.{IsLeastLimit, IsLimit}
 use Rattle.chip_core.specs.Machines.{Machine, is_sample, key_of, put}
 use Rattle.chip_core.proofs.Keeps.{tidy-leads}
 use Rattle.chip_core.proofs.Keys.{put-other, put-same}
@@ -44,6 +44,13 @@ module _ {Chip Shared Pins : Type 0} (rules : Rules Chip Shared Pins) where
         λ j h ne w. subst (λ (b : Key). key_lt key b ≡ true)
             (sym (put-other moved.bound i (key_of rules moved.machine i) j ne ∙ put-other s.bound i (left_bound rules s.machine i) j ne)) (found.1 j h ne w),
       )
+
+  least-sampled : (t : ℕ) (s : Seen Chip Shared) (n i : ℕ) (end : Key) → IsLeastLimit rules t s.bound n i end → IsLeastLimit rules t (after rules (after rules s (Sample i)) (Announce i)).bound n i end
+  least-sampled t s n i end least key low all =
+      let moved : Seen Chip Shared = after rules s (Sample i) in
+      least key low
+      (λ j h ne w. subst (λ (b : Key). key_lt key b ≡ true)
+      (put-other moved.bound i (key_of rules moved.machine i) j ne ∙ put-other s.bound i (left_bound rules s.machine i) j ne) (all j h ne w))
 
   keys-sampled : (s : Seen Chip Shared) (i : ℕ) → is_sample rules s.machine i ≡ true → AreKeys rules s rules.count → AreKeys rules (after rules (after rules s (Sample i)) (Announce i)) rules.count
   keys-sampled s i is keys = subst (λ e. AreKeys rules (after rules (after rules s e) (Announce i)) rules.count) (own-sample s i is) (keys-turned rules s i keys)
@@ -138,6 +145,7 @@ module _ {Chip Shared Pins : Type 0} (rules : Rules Chip Shared Pins) (chip_ok :
     pub tidy : IsTidy rules chip_ok shared_ok z
     pub keys : AreKeys rules s rules.count → AreKeys rules z rules.count
     pub limit : IsLimit rules t z.bound rules.count i end
+    pub least : IsLeastLimit rules t s.bound rules.count i end → IsLeastLimit rules t z.bound rules.count i end
     pub less : work rules t z + n ≤ work rules t s
 
   module _ (t : ℕ) (small : t ≤ 2 ^ 50) where
@@ -161,6 +169,7 @@ module _ {Chip Shared Pins : Type 0} (rules : Rules Chip Shared Pins) (chip_ok :
         tidy = (let r = sample-reaches z before.tidy i en in tidy-leads rules chip_ok shared_ok law t small z before.tidy r.0 (after rules (after rules z (Sample i)) (Announce i)) r.1);
         keys = λ keys. keys-sampled rules z i en.1 (before.keys keys);
         limit = limit-sampled rules t z rules.count i end before.limit;
+        least = λ least. least-sampled rules t z rules.count i end (before.least least);
         less = (let fall = sample-less z before.tidy i en in let rest = before.less in omega arith);
       }
         where
@@ -169,7 +178,7 @@ module _ {Chip Shared Pins : Type 0} (rules : Rules Chip Shared Pins) (chip_ok :
 
       on-sampled : (n : ℕ) → ((k : ℕ) → k < n → SamplesBelow rules end ((sampled_on rules k s i).machine.chip i)) → Sampled t end i n s (sampled_on rules n s i)
       unfolding sampled_on
-      on-sampled zero each = record { led = reaches-itself rules t s; tidy = tidy; keys = λ keys. keys; limit = limit; less = omega arith }
+      on-sampled zero each = record { led = reaches-itself rules t s; tidy = tidy; keys = λ keys. keys; limit = limit; least = λ least. least; less = omega arith }
       on-sampled (suc n) each = next-sampled n (sampled_on rules n s i) (on-sampled n (λ k q. each k (omega arith))) (each n (omega arith))
 
       pub sampled-on : (z : Seen Chip Shared) (on : SamplesOn rules end i s z) → Sampled t end i on.samples s z

@@ -12,7 +12,7 @@ use Rattle.chip_core.specs.declared.event.Event.{Event}
 use Rattle.chip_core.specs.declared.event.Event.TheVariants.{Announce, Perform, Sample}
 use Rattle.chip_core.specs.Chips.{Rules, Lawful}
 use Rattle.chip_core.specs.Cores.{CoreValue, IsCore, ReachesEnd, machine_of, no_key, seen}
-use Rattle.chip_core.specs.Events.{AreKeys, HasPlace, HasRoom, IsBelowAll, IsEnabled, IsTidy, Leads, Reaches, Seen, after, left_bound, own_event}
+use Rattle.chip_core.specs.Events.{AreKeys, HasPlace, HasRoom, IsBelowAll, IsEnabled, IsTidy, Leads, Reaches, Seen, after, left_bound, own_event, past_access}
 use Rattle.chip_core.specs.Machines.{IsQuiet, IsRunTo, Machine, is_sample, key_of, least_below, move, mover, put}
 use Rattle.chip_core.proofs.Keys.{rank, by_test, least-false, least-true, put-same, put-other, put-each, least-same, rank-key_lt}
 use Rattle.chip_core.proofs.Stages.{chip-other, mover-in, mover-least, number-small, rank-apart}
@@ -178,6 +178,9 @@ module _ {Chip Shared Pins : Type 0} (rules : Rules Chip Shared Pins) (chip_ok :
       announced : Reaches rules t (after rules s (own_event rules s i)) (after rules (after rules s (own_event rules s i)) (Announce i))
       announced = announced-reaches t (after rules s (own_event rules s i)) tidy-own i h
 
+      tidy-turned : IsTidy rules chip_ok shared_ok (after rules (after rules s (own_event rules s i)) (Announce i))
+      tidy-turned = tidy-leads rules chip_ok shared_ok law t small (after rules s (own_event rules s i)) tidy-own announced.0 (after rules (after rules s (own_event rules s i)) (Announce i)) announced.1
+
       pub turn-reaches : Reaches rules t s (after rules (after rules s (own_event rules s i)) (Announce i))
       turn-reaches = (own_event rules s i ∷ announced.0, (en, announced.1))
 
@@ -186,6 +189,37 @@ module _ {Chip Shared Pins : Type 0} (rules : Rules Chip Shared Pins) (chip_ok :
           let fall = work-falls rules chip_ok shared_ok law t small s tidy (own_event rules s i) en in
           let rest = work-leads rules chip_ok shared_ok law t small (after rules s (own_event rules s i)) tidy-own announced.0 (after rules (after rules s (own_event rules s i)) (Announce i)) announced.1 in
           omega arith
+
+      -- the access that the chip waits at, if it waits at one
+      pub past-reaches : Reaches rules t s (past_access rules s i)
+      past-reaches =
+          by_test (is_sample rules s.machine i)
+          (λ e. subst (λ b. Reaches rules t s (cond b s (after rules (after rules s (Perform i)) (Announce i)))) (sym e) (reaches-itself rules t s))
+          (λ e. subst (λ b. Reaches rules t s (cond b s (after rules (after rules s (Perform i)) (Announce i)))) (sym e)
+          (subst (λ b. Reaches rules t s (after rules (after rules s (cond b (Sample i) (Perform i))) (Announce i))) e turn-reaches))
+
+      pub keys-past : AreKeys rules s rules.count → AreKeys rules (past_access rules s i) rules.count
+      keys-past keys =
+          by_test (is_sample rules s.machine i)
+          (λ e. subst (λ b. AreKeys rules (cond b s (after rules (after rules s (Perform i)) (Announce i))) rules.count) (sym e) keys)
+          (λ e. subst (λ b. AreKeys rules (cond b s (after rules (after rules s (Perform i)) (Announce i))) rules.count) (sym e)
+          (subst (λ b. AreKeys rules (after rules (after rules s (cond b (Sample i) (Perform i))) (Announce i)) rules.count) e (keys-turned rules s i keys)))
+
+      -- what leads on from there to where no sample of the chip may come leaves less to do
+      pub past-less : (z : Seen Chip Shared) → Reaches rules t (past_access rules s i) z → (IsEnabled rules z t (Sample i) → ⊥) → work rules t z < work rules t s
+      past-less z r ended =
+          by_test (is_sample rules s.machine i)
+          (λ e. (let on = subst (λ b. Reaches rules t (cond b s (after rules (after rules s (Perform i)) (Announce i))) z) e r in
+          some on.0 on.1 (subst (λ b. IsEnabled rules s t (cond b (Sample i) (Perform i))) e en)))
+          (λ e. (let on = subst (λ b. Reaches rules t (cond b s (after rules (after rules s (Perform i)) (Announce i))) z) e r in
+          let less = subst (λ b. work rules t (after rules (after rules s (cond b (Sample i) (Perform i))) (Announce i)) < work rules t s) e turn-less in
+          let tidy_on = subst (λ b. IsTidy rules chip_ok shared_ok (after rules (after rules s (cond b (Sample i) (Perform i))) (Announce i))) e tidy-turned in
+          let rest = work-leads rules chip_ok shared_ok law t small (after rules (after rules s (Perform i)) (Announce i)) tidy_on on.0 z on.1 in
+          omega arith))
+        where
+          some : (es : List Event) → Leads rules t s es z → IsEnabled rules s t (Sample i) → work rules t z < work rules t s
+          some [] l due = absurd (ended (subst (λ (x : Seen Chip Shared). IsEnabled rules x t (Sample i)) (sym l) due))
+          some (e ∷ es) l due = let falls = work-leads rules chip_ok shared_ok law t small s tidy (e ∷ es) z l in omega arith
 
   -- an event and an announcement leave a core
   pub core-turned : (v w : CoreValue Chip Shared) → IsCore rules chip_ok shared_ok v → (e : Event) → IsEnabled rules (seen rules v) (2 ^ 50) e → (i : ℕ) → i < rules.count

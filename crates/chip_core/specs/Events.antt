@@ -67,9 +67,9 @@ module _ {Chip Shared Pins : Type 0} (rules : Rules Chip Shared Pins) where
   abbrev pub own_event : Seen Chip Shared → ℕ → Event
   own_event s i = cond (is_sample rules s.machine i) (Sample i) (Perform i)
 
-  -- the core after the event that chip i waits at, and the announcement of its next one
-  abbrev pub turned : Seen Chip Shared → ℕ → Seen Chip Shared
-  turned s i = after (after s (own_event s i)) (Announce i)
+  -- the core after the access that chip i waits at, if it waits at one, and the announcement behind it
+  abbrev pub past_access : Seen Chip Shared → ℕ → Seen Chip Shared
+  past_access s i = cond (is_sample rules s.machine i) s (after (after s (Perform i)) (Announce i))
 
   -- the events of the list, each enabled at its turn, lead from one core to the other
   abbrev pub Leads : ℕ → Seen Chip Shared → List Event → Seen Chip Shared → Type 0

@@ -2,8 +2,8 @@ ghost use Rattle.std.specs.Prelude.{◌≡◌, ℕ, ◌^◌, ◌<◌, ◌≤◌,
 ghost use Rattle.chip_core.specs.declared.event.Event.{Event};
 ghost use Rattle.chip_core.specs.Chips.{SamplesBelow};
 ghost use Rattle.chip_core.specs.Cores.{IsCore, ReachesEnd, chip_in, machine_of, seen};
-ghost use Rattle.chip_core.specs.Events.{AreKeys, HasPlace, HasRoom, IsEnabled, Reaches, SamplesOn, after, own_event, turned};
-ghost use Rattle.chip_core.specs.Looks.{IsLimit};
+ghost use Rattle.chip_core.specs.Events.{AreKeys, HasPlace, HasRoom, IsEnabled, Reaches, SamplesOn, after, own_event, past_access};
+ghost use Rattle.chip_core.specs.Looks.{IsLeastLimit, IsLimit};
 ghost use Rattle.chip_core.specs.Machines.{IsRunTo, least_below};
 
 use crate::look::{least_of, limit_of};
@@ -75,28 +75,30 @@ impl<C: ChipSet> Core<C> {
         }
     }
 
-    /// The chip makes the event that it waits at, and its bound becomes the key of the next one.
+    /// The chip makes the access that it waits at, where it waits at one, and its bound becomes the key of
+    /// its next event.
     fn turn(&mut self, chip: u8)
         requires chip { chip < C.rules.count }
         requires enabled { IsEnabled C.rules (seen C.rules self.old) (2 ^ 50) (own_event C.rules (seen C.rules self.old) chip) }
         requires room { HasPlace (length self.old.journal) self.old.room (own_event C.rules (seen C.rules self.old) chip) }
-        ensures after { seen C.rules self.new ≡ turned C.rules (seen C.rules self.old) chip }
+        ensures after { seen C.rules self.new ≡ past_access C.rules (seen C.rules self.old) chip }
         ensures room { self.new.room ≡ self.old.room }
         ensures core { IsCore C.rules C.chip_ok C.shared_ok self.new }
     {
         if C::next(&self.chips[chip as usize]).sample {
-            self.turn_sample(chip);
-        } else {
-            self.turn_access(chip);
+            return;
         }
+        self.turn_access(chip);
     }
 
-    /// The chip samples on, below cycle `t` and the bounds of the others that write its pins.
+    /// The chip samples on, below cycle `t` and the bounds of the others that write its pins, as long as it
+    /// may.
     fn sample_on(&mut self, t: u64, chip: u8)
         requires time { t ≤ 2 ^ 50 }
         requires chip { chip < C.rules.count }
         requires keys { AreKeys C.rules (seen C.rules self.old) C.rules.count }
         ensures led { Reaches C.rules t (seen C.rules self.old) (seen C.rules self.new) }
+        ensures ended { ¬ IsEnabled C.rules (seen C.rules self.new) t (Event.Sample chip) }
         ensures keys { AreKeys C.rules (seen C.rules self.new) C.rules.count }
         ensures room { self.new.room ≡ self.old.room }
         ensures core { IsCore C.rules C.chip_ok C.shared_ok self.new }
@@ -122,6 +124,7 @@ impl<C: ChipSet> Core<C> {
     /// The key below which the chip may sample.
     fn limit(&self, t: u64, chip: u8) -> Key
         ensures limit { IsLimit C.rules t (seen C.rules self.now).bound C.rules.count chip result }
+        ensures least { IsLeastLimit C.rules t (seen C.rules self.now).bound C.rules.count chip result }
         ensures core { IsCore C.rules C.chip_ok C.shared_ok self.now }
     {
         limit_of::<C>(&self.bounds, t, chip)
@@ -135,23 +138,6 @@ impl<C: ChipSet> Core<C> {
     {
         let next = C::next(&self.chips[chip as usize]);
         next.sample && next.key.is_below(end)
-    }
-
-    fn turn_sample(&mut self, chip: u8)
-        requires enabled { IsEnabled C.rules (seen C.rules self.old) (2 ^ 50) (Event.Sample chip) }
-        ensures after { seen C.rules self.new
-            ≡ after C.rules (after C.rules (seen C.rules self.old) (Event.Sample chip)) (Event.Announce chip) }
-        ensures room { self.new.room ≡ self.old.room }
-        ensures core { IsCore C.rules C.chip_ok C.shared_ok self.new }
-    {
-        let i = chip as usize;
-        let pins = C::pins(&self.shared, chip);
-        let held = &mut self.chips[i];
-        C::sample(held, &pins);
-        let next = C::next(held);
-        let bound = &mut self.bounds[i];
-        bound.cycle = next.key.cycle;
-        bound.chip = next.key.chip;
     }
 
     /// The chip makes the sample of these pins that is due, and perhaps more of them before a key, and

@@ -25,6 +25,7 @@ loop-end-preserved g c = record {
   led = reaches-on g.C.ChipSet.rules c.args.t (seen g.C.ChipSet.rules c.args.self.now) (seen g.C.ChipSet.rules c.loop-end.self) (seen g.C.ChipSet.rules c.turn_samples.new.self) c.loop-end.invariant.led (came g c).led;
   keys = (came g c).keys c.loop-end.invariant.keys;
   limit = (came g c).limit;
+  least = (came g c).least c.loop-end.invariant.least;
   pins = c.loop-end.invariant.pins ∙ ap (λ s. g.C.ChipSet.rules.pins s c.args.chip) (sym c.turn_samples.ensures.shared);
   room = c.turn_samples.ensures.room ∙ c.loop-end.invariant.room;
   core = c.turn_samples.ensures.core;

@@ -1,10 +1,9 @@
-use Rattle.std.proofs.Common.{◌<◌, arith, subst, sym, ◌∙◌, ◌^◌}
+use Rattle.std.proofs.Common.{subst, sym, ◌∙◌, ◌^◌}
 use Rattle.chip_core.specs.Cores.{seen}
 use Rattle.chip_core.specs.Events.{AreKeys, HasRoom, Reaches, own_event}
 use Rattle.chip_core.proofs.Keeps.{enabled-wider}
 use Rattle.chip_core.proofs.Lists.{tidy-core}
-use Rattle.chip_core.proofs.Works.{work, work-leads}
-use Rattle.chip_core.proofs.Turns.{ends-there, first-enabled, first-quiet, first-there, keys-turned, own-place, reaches-on, room-there, turn-less, turn-reaches}
+use Rattle.chip_core.proofs.Turns.{ends-there, first-enabled, first-quiet, first-there, keys-past, own-place, past-less, past-reaches, reaches-on, room-there}
 use Rattle.chip_core.proofs.scheduler.run_least.run_least.Goals as goal
 
 pub turn-requires-clause-chip : goal.turn-requires-clause-chip
@@ -32,29 +31,20 @@ sample_on-requires-clause-chip g c κs within = (first-enabled g.C.ChipSet.rules
 
 pub sample_on-requires-clause-keys : goal.sample_on-requires-clause-keys
 sample_on-requires-clause-keys g c κs within =
-    subst (λ s. AreKeys g.C.ChipSet.rules s g.C.ChipSet.rules.count) (sym c.turn.ensures.after) (keys-turned g.C.ChipSet.rules (seen g.C.ChipSet.rules c.loop-chip.core) c.in-Some.chip c.loop-chip.invariant.keys)
+    subst (λ s. AreKeys g.C.ChipSet.rules s g.C.ChipSet.rules.count) (sym c.turn.ensures.after)
+    (keys-past g.C.ChipSet.rules g.C.ChipSet.chip_ok g.C.ChipSet.shared_ok (g.met.C.ChipSet g.world.𝓛 g.world.𝓜 g.world.𝓡 ((λ s x. x), (λ x. x), (λ x. x), (λ x. x))).lawful c.args.t c.requires.time (seen g.C.ChipSet.rules c.loop-chip.core) (tidy-core g.C.ChipSet.rules g.C.ChipSet.chip_ok g.C.ChipSet.shared_ok c.loop-chip.core c.loop-chip.invariant.core) c.in-Some.chip (first-enabled g.C.ChipSet.rules g.C.ChipSet.chip_ok g.C.ChipSet.shared_ok (g.met.C.ChipSet g.world.𝓛 g.world.𝓜 g.world.𝓡 ((λ s x. x), (λ x. x), (λ x. x), (λ x. x))).lawful c.args.t c.requires.time (seen g.C.ChipSet.rules c.loop-chip.core) (tidy-core g.C.ChipSet.rules g.C.ChipSet.chip_ok g.C.ChipSet.shared_ok c.loop-chip.core c.loop-chip.invariant.core) c.loop-chip.invariant.keys c.in-Some.chip c.in-Some.ensures.found.0 c.in-Some.ensures.found.1).0 (first-enabled g.C.ChipSet.rules g.C.ChipSet.chip_ok g.C.ChipSet.shared_ok (g.met.C.ChipSet g.world.𝓛 g.world.𝓜 g.world.𝓡 ((λ s x. x), (λ x. x), (λ x. x), (λ x. x))).lawful c.args.t c.requires.time (seen g.C.ChipSet.rules c.loop-chip.core) (tidy-core g.C.ChipSet.rules g.C.ChipSet.chip_ok g.C.ChipSet.shared_ok c.loop-chip.core c.loop-chip.invariant.core) c.loop-chip.invariant.keys c.in-Some.chip c.in-Some.ensures.found.0 c.in-Some.ensures.found.1).1 c.loop-chip.invariant.keys)
 
 pub loop-chip-smaller : goal.loop-chip-smaller
 loop-chip-smaller g c =
-    let turned = subst (λ s. work g.C.ChipSet.rules c.args.t s < work g.C.ChipSet.rules c.args.t (seen g.C.ChipSet.rules c.loop-chip.core)) (sym c.turn.ensures.after)
-    (turn-less g.C.ChipSet.rules g.C.ChipSet.chip_ok g.C.ChipSet.shared_ok (g.met.C.ChipSet g.world.𝓛 g.world.𝓜 g.world.𝓡 ((λ s x. x), (λ x. x), (λ x. x), (λ x. x))).lawful c.args.t c.requires.time (seen g.C.ChipSet.rules c.loop-chip.core) (tidy-core g.C.ChipSet.rules g.C.ChipSet.chip_ok g.C.ChipSet.shared_ok c.loop-chip.core c.loop-chip.invariant.core) c.in-Some.chip
-    (first-enabled g.C.ChipSet.rules g.C.ChipSet.chip_ok g.C.ChipSet.shared_ok (g.met.C.ChipSet g.world.𝓛 g.world.𝓜 g.world.𝓡 ((λ s x. x), (λ x. x), (λ x. x), (λ x. x))).lawful
-    c.args.t c.requires.time (seen g.C.ChipSet.rules c.loop-chip.core) (tidy-core g.C.ChipSet.rules g.C.ChipSet.chip_ok g.C.ChipSet.shared_ok c.loop-chip.core c.loop-chip.invariant.core) c.loop-chip.invariant.keys c.in-Some.chip c.in-Some.ensures.found.0 c.in-Some.ensures.found.1).0
-    (first-enabled g.C.ChipSet.rules g.C.ChipSet.chip_ok g.C.ChipSet.shared_ok (g.met.C.ChipSet g.world.𝓛 g.world.𝓜 g.world.𝓡 ((λ s x. x), (λ x. x), (λ x. x), (λ x. x))).lawful
-    c.args.t c.requires.time (seen g.C.ChipSet.rules c.loop-chip.core) (tidy-core g.C.ChipSet.rules g.C.ChipSet.chip_ok g.C.ChipSet.shared_ok c.loop-chip.core c.loop-chip.invariant.core) c.loop-chip.invariant.keys c.in-Some.chip c.in-Some.ensures.found.0 c.in-Some.ensures.found.1).1) in
-    let on = work-leads g.C.ChipSet.rules g.C.ChipSet.chip_ok g.C.ChipSet.shared_ok (g.met.C.ChipSet g.world.𝓛 g.world.𝓜 g.world.𝓡 ((λ s x. x), (λ x. x), (λ x. x), (λ x. x))).lawful c.args.t c.requires.time (seen g.C.ChipSet.rules c.turn.new.self) (tidy-core g.C.ChipSet.rules g.C.ChipSet.chip_ok g.C.ChipSet.shared_ok c.turn.new.self c.turn.ensures.core) c.sample_on.ensures.led.0 (seen g.C.ChipSet.rules c.sample_on.new.self) c.sample_on.ensures.led.1 in
-    omega (arith, turned, on)
+    past-less g.C.ChipSet.rules g.C.ChipSet.chip_ok g.C.ChipSet.shared_ok (g.met.C.ChipSet g.world.𝓛 g.world.𝓜 g.world.𝓡 ((λ s x. x), (λ x. x), (λ x. x), (λ x. x))).lawful c.args.t c.requires.time (seen g.C.ChipSet.rules c.loop-chip.core) (tidy-core g.C.ChipSet.rules g.C.ChipSet.chip_ok g.C.ChipSet.shared_ok c.loop-chip.core c.loop-chip.invariant.core) c.in-Some.chip (first-enabled g.C.ChipSet.rules g.C.ChipSet.chip_ok g.C.ChipSet.shared_ok (g.met.C.ChipSet g.world.𝓛 g.world.𝓜 g.world.𝓡 ((λ s x. x), (λ x. x), (λ x. x), (λ x. x))).lawful c.args.t c.requires.time (seen g.C.ChipSet.rules c.loop-chip.core) (tidy-core g.C.ChipSet.rules g.C.ChipSet.chip_ok g.C.ChipSet.shared_ok c.loop-chip.core c.loop-chip.invariant.core) c.loop-chip.invariant.keys c.in-Some.chip c.in-Some.ensures.found.0 c.in-Some.ensures.found.1).0 (first-enabled g.C.ChipSet.rules g.C.ChipSet.chip_ok g.C.ChipSet.shared_ok (g.met.C.ChipSet g.world.𝓛 g.world.𝓜 g.world.𝓡 ((λ s x. x), (λ x. x), (λ x. x), (λ x. x))).lawful c.args.t c.requires.time (seen g.C.ChipSet.rules c.loop-chip.core) (tidy-core g.C.ChipSet.rules g.C.ChipSet.chip_ok g.C.ChipSet.shared_ok c.loop-chip.core c.loop-chip.invariant.core) c.loop-chip.invariant.keys c.in-Some.chip c.in-Some.ensures.found.0 c.in-Some.ensures.found.1).1 (seen g.C.ChipSet.rules c.sample_on.new.self)
+    (subst (λ s. Reaches g.C.ChipSet.rules c.args.t s (seen g.C.ChipSet.rules c.sample_on.new.self)) c.turn.ensures.after c.sample_on.ensures.led) c.sample_on.ensures.ended
 
 pub loop-chip-preserved : goal.loop-chip-preserved
 loop-chip-preserved g c = record {
   led = reaches-on g.C.ChipSet.rules c.args.t (seen g.C.ChipSet.rules c.args.core.now) (seen g.C.ChipSet.rules c.loop-chip.core) (seen g.C.ChipSet.rules c.sample_on.new.self) c.loop-chip.invariant.led
       (reaches-on g.C.ChipSet.rules c.args.t (seen g.C.ChipSet.rules c.loop-chip.core) (seen g.C.ChipSet.rules c.turn.new.self) (seen g.C.ChipSet.rules c.sample_on.new.self)
       (subst (λ s. Reaches g.C.ChipSet.rules c.args.t (seen g.C.ChipSet.rules c.loop-chip.core) s) (sym c.turn.ensures.after)
-      (turn-reaches g.C.ChipSet.rules g.C.ChipSet.chip_ok g.C.ChipSet.shared_ok (g.met.C.ChipSet g.world.𝓛 g.world.𝓜 g.world.𝓡 ((λ s x. x), (λ x. x), (λ x. x), (λ x. x))).lawful c.args.t c.requires.time (seen g.C.ChipSet.rules c.loop-chip.core) (tidy-core g.C.ChipSet.rules g.C.ChipSet.chip_ok g.C.ChipSet.shared_ok c.loop-chip.core c.loop-chip.invariant.core) c.in-Some.chip
-      (first-enabled g.C.ChipSet.rules g.C.ChipSet.chip_ok g.C.ChipSet.shared_ok (g.met.C.ChipSet g.world.𝓛 g.world.𝓜 g.world.𝓡 ((λ s x. x), (λ x. x), (λ x. x), (λ x. x))).lawful
-      c.args.t c.requires.time (seen g.C.ChipSet.rules c.loop-chip.core) (tidy-core g.C.ChipSet.rules g.C.ChipSet.chip_ok g.C.ChipSet.shared_ok c.loop-chip.core c.loop-chip.invariant.core) c.loop-chip.invariant.keys c.in-Some.chip c.in-Some.ensures.found.0 c.in-Some.ensures.found.1).0
-      (first-enabled g.C.ChipSet.rules g.C.ChipSet.chip_ok g.C.ChipSet.shared_ok (g.met.C.ChipSet g.world.𝓛 g.world.𝓜 g.world.𝓡 ((λ s x. x), (λ x. x), (λ x. x), (λ x. x))).lawful
-      c.args.t c.requires.time (seen g.C.ChipSet.rules c.loop-chip.core) (tidy-core g.C.ChipSet.rules g.C.ChipSet.chip_ok g.C.ChipSet.shared_ok c.loop-chip.core c.loop-chip.invariant.core) c.loop-chip.invariant.keys c.in-Some.chip c.in-Some.ensures.found.0 c.in-Some.ensures.found.1).1))
+      (past-reaches g.C.ChipSet.rules g.C.ChipSet.chip_ok g.C.ChipSet.shared_ok (g.met.C.ChipSet g.world.𝓛 g.world.𝓜 g.world.𝓡 ((λ s x. x), (λ x. x), (λ x. x), (λ x. x))).lawful c.args.t c.requires.time (seen g.C.ChipSet.rules c.loop-chip.core) (tidy-core g.C.ChipSet.rules g.C.ChipSet.chip_ok g.C.ChipSet.shared_ok c.loop-chip.core c.loop-chip.invariant.core) c.in-Some.chip (first-enabled g.C.ChipSet.rules g.C.ChipSet.chip_ok g.C.ChipSet.shared_ok (g.met.C.ChipSet g.world.𝓛 g.world.𝓜 g.world.𝓡 ((λ s x. x), (λ x. x), (λ x. x), (λ x. x))).lawful c.args.t c.requires.time (seen g.C.ChipSet.rules c.loop-chip.core) (tidy-core g.C.ChipSet.rules g.C.ChipSet.chip_ok g.C.ChipSet.shared_ok c.loop-chip.core c.loop-chip.invariant.core) c.loop-chip.invariant.keys c.in-Some.chip c.in-Some.ensures.found.0 c.in-Some.ensures.found.1).0 (first-enabled g.C.ChipSet.rules g.C.ChipSet.chip_ok g.C.ChipSet.shared_ok (g.met.C.ChipSet g.world.𝓛 g.world.𝓜 g.world.𝓡 ((λ s x. x), (λ x. x), (λ x. x), (λ x. x))).lawful c.args.t c.requires.time (seen g.C.ChipSet.rules c.loop-chip.core) (tidy-core g.C.ChipSet.rules g.C.ChipSet.chip_ok g.C.ChipSet.shared_ok c.loop-chip.core c.loop-chip.invariant.core) c.loop-chip.invariant.keys c.in-Some.chip c.in-Some.ensures.found.0 c.in-Some.ensures.found.1).1))
       c.sample_on.ensures.led);
   keys = c.sample_on.ensures.keys;
   room = c.sample_on.ensures.room ∙ c.turn.ensures.room ∙ c.loop-chip.invariant.room;
