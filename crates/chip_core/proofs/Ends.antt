@@ -1,11 +1,12 @@
 -- A core without a key below the end is the machine after all events below it, with the whole
 -- journal.
 use Rattle.std.proofs.Common.{◌≡◌, ◌≢◌, ℕ, zero, suc, ◌^◌, ◌<◌, ◌≤◌, false, refl, sym, ◌∙◌, ap, subst, arith, ◌⊎◌, inl, inr}
+use Rattle.std.proofs.lemmas.Bool.{cases_lt}
 use Rattle.chip_core.specs.Chips.{Rules, Lawful}
 use Rattle.chip_core.specs.Machines.{Machine, key_of, is_sample, mover, run, made, AllBelow, IsQuiet, IsRunTo, IsValid}
 use Rattle.chip_core.specs.Standing.{StandsFor}
 use Rattle.chip_core.specs.Events.{Seen, Stands, IsTidy}
-use Rattle.chip_core.proofs.Keys.{same_or, le_or, lt_or}
+use Rattle.chip_core.proofs.Keys.{same_or, le_or}
 use Rattle.chip_core.proofs.Stages.{mover-in}
 use Rattle.chip_core.proofs.Runs.{made-mover, made-other, made-mono, below-less, climb, chip-at, shared-stretch, journal-stretch}
 use Rattle.chip_core.proofs.Stands.{past_count}
@@ -89,7 +90,7 @@ module _ {Chip Shared Pins : Type 0} (rules : Rules Chip Shared Pins) (chip_ok :
           p.2.1 ∙ sym (chip-at rules base.machine i p.0 end.last (made_is i h ∙ sym p.2.0))
 
       inside : held.accesses ≤ end.last
-      inside = go (lt_or end.last held.accesses)
+      inside = go (cases_lt end.last held.accesses)
         where
           go : (end.last < held.accesses) ⊎ (held.accesses ≤ end.last) → held.accesses ≤ end.last
           go (inl lt) = absurd (

@@ -1,10 +1,10 @@
 -- Samples of the same pins, one behind the other.
 use Rattle.std.proofs.Common.{◌≡◌, ℕ, zero, suc, ◌+◌, ◌-◌, ◌^◌, ◌<◌, ◌≤◌, ◌⊎◌, inl, inr, true, false, refl, sym, ◌∙◌, ap, subst, arith}
+use Rattle.std.proofs.lemmas.Bool.{cases_lt}
 use Rattle.std.proofs.lemmas.Bool.Decides.{nat_tests}
 use Rattle.md_word.specs.declared.key.Key.{Key}
 use Rattle.md_word.specs.Keys.{key_lt}
 use Rattle.chip_core.specs.Chips.{ArePins, Follows, IsDue, Lawful, Rules, SamplesBelow, SamplesTo, sampled}
-use Rattle.chip_core.proofs.Keys.{lt_or}
 
 -- a key below one that is not above a cycle
 pub below-cycle : (k end : Key) → key_lt k end ≡ true → key_lt (record { cycle = 2 ^ 50; chip = 0 }) end ≡ false → k.cycle < 2 ^ 50
@@ -28,7 +28,7 @@ module _ {Chip Shared Pins : Type 0} (rules : Rules Chip Shared Pins) where
   pub more-samples : (a b : ℕ) (end : Key) (pins : Pins) (c d e : Chip) → SamplesTo rules a end pins c d → SamplesTo rules b end pins d e → SamplesTo rules (a + b) end pins c e
   more-samples a b end pins c d e first next = record {
     some = (let one = first.some in omega arith);
-    each = λ k h. go k h (lt_or k a);
+    each = λ k h. go k h (cases_lt k a);
     is = next.is ∙ ap (sampled rules b pins) first.is ∙ sym (sampled-more a b (a + b) pins c refl);
   }
     where

@@ -1,9 +1,10 @@
 -- A run that goes on from where another ended is one run; and two runs to one cycle are equal.
 use Rattle.std.proofs.Common.{◌≡◌, ◌≢◌, ℕ, zero, suc, ◌+◌, ◌<◌, ◌≤◌, true, false, sym, ◌∙◌, ap, ap₂, subst, arith, ◌⊎◌, inl, inr, List, [], ◌∷◌, ◌++◌, append-nil, append_assoc}
+use Rattle.std.proofs.lemmas.Bool.{cases_lt}
 use Rattle.md_word.specs.declared.event.Entry.{Entry}
 use Rattle.chip_core.specs.Chips.{Accessed, Rules, Lawful}
 use Rattle.chip_core.specs.Machines.{Machine, key_of, is_sample, accessed, move, entries, mover, run, journal, move_key, AllBelow, AreSame, IsRunTo}
-use Rattle.chip_core.proofs.Keys.{by_test, same_or, lt_or, least-same}
+use Rattle.chip_core.proofs.Keys.{by_test, same_or, least-same}
 use Rattle.chip_core.proofs.Stages.{chip-sample, chip-access, chip-other, shared-sample, shared-access, entries-sample, entries-access, mover-in}
 use Rattle.chip_core.proofs.Runs.{run-zero, run-suc, journal-zero, journal-suc, below-less, below-suc}
 
@@ -105,7 +106,7 @@ module _ {Chip Shared Pins : Type 0} (rules : Rules Chip Shared Pins) (chip_ok :
 
   -- what ends quietly makes no move more below the end
   no-more : (m w : Machine Chip Shared) (t : ℕ) (first : List Entry) (n : ℕ) → AllBelow rules m t n → (one : IsRunTo rules m t w first) → n ≤ one.moves
-  no-more m w t first n below one = go (lt_or one.moves n)
+  no-more m w t first n below one = go (cases_lt one.moves n)
     where
       who : ℕ
       who = mover rules (run rules m one.moves)

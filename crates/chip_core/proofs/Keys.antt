@@ -37,9 +37,6 @@ lt-through a b k p q = grind (arith, nat_tests)
 pub lt-later : (a b k c : Key) → key_lt a b ≡ true → key_lt k b ≡ false → k.cycle < c.cycle → key_lt a c ≡ true
 lt-later a b k c p q r = grind (arith, nat_tests)
 
-pub lt_or : (a b : ℕ) → (a < b) ⊎ (b ≤ a)
-lt_or a b = grind arith
-
 -- the order of two numbers
 pub le_or : (a b : ℕ) → (a ≤ b) ⊎ (b ≤ a)
 le_or a b = grind arith

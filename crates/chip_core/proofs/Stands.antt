@@ -1,6 +1,7 @@
 -- Each event keeps what a core stands for, and a core without a key below the end is the one that
 -- the run leads to.
 use Rattle.std.proofs.Common.{◌≡◌, ◌≢◌, ℕ, suc, ◌+◌, ◌^◌, ◌<◌, ◌≤◌, Bool, true, false, ◌==◌, refl, sym, ◌∙◌, ap, ap₂, subst, arith, ◌⊎◌, inl, inr, List, [], ◌∷◌, ◌++◌, length, append-nil, All, true≢false}
+use Rattle.std.proofs.lemmas.Bool.{cases_lt}
 use Rattle.std.proofs.lemmas.List.Elements.{filter-append, All-push, All-weaker}
 use Rattle.md_word.specs.declared.event.Entry.{Entry}
 use Rattle.md_word.specs.declared.key.Key.{Key}
@@ -9,7 +10,7 @@ use Rattle.chip_core.specs.Chips.{Accessed, Rules, Lawful}
 use Rattle.chip_core.specs.Machines.{Machine, put, of_chip, key_of, is_sample, accessed, move, entries, mover, run, journal, made, move_key, AllBelow, OnPath, IsValid}
 use Rattle.chip_core.specs.Standing.{IsLeft, IsBound, StandsFor}
 use Rattle.chip_core.specs.Events.{Seen, looks_at, IsBelowAll, IsBelowLooked, left_bound, IsTidy}
-use Rattle.chip_core.proofs.Keys.{rank, by_test, same_or, le_or, lt_or, key_lt-rank, not_lt-rank, rank-not_lt, lt-later, put-same, put-other}
+use Rattle.chip_core.proofs.Keys.{rank, by_test, same_or, le_or, key_lt-rank, not_lt-rank, rank-not_lt, lt-later, put-same, put-other}
 use Rattle.chip_core.proofs.Stages.{chip-sample, chip-access, chip-other, shared-sample, shared-access, entries-sample, entries-access, number-small, entry-key, entries-other, mover-in}
 use Rattle.chip_core.proofs.Runs.{run-suc, journal-suc, made-mover, made-mono, below-less, chip-at, own-suc, own-mono, shared-stretch, journal-stretch, entry-of-all, run-valid, key-by-made, move_key-mono, own-access, own-at, own-by-made, pins-stretch}
 
@@ -27,7 +28,7 @@ module _ {Chip Shared Pins : Type 0} (rules : Rules Chip Shared Pins) (chip_ok :
   -- an access in the journal is among the moves that its chip has made
   pub in_count : (n i : ℕ) → i < rules.count → n < st.accesses → mover rules (run rules base n) ≡ i → is_sample rules (run rules base n) (mover rules (run rules base n)) ≡ false
       → made rules base i n < count i
-  in_count n i h inside at access = go (lt_or (made rules base i n) (count i))
+  in_count n i h inside at access = go (cases_lt (made rules base i n) (count i))
     where
       go : (made rules base i n < count i) ⊎ (count i ≤ made rules base i n) → made rules base i n < count i
       go (inl lt) = lt
@@ -44,7 +45,7 @@ module _ {Chip Shared Pins : Type 0} (rules : Rules Chip Shared Pins) (chip_ok :
   -- an access that the journal lacks is past the moves that its chip has made
   pub past_count : (n i : ℕ) → i < rules.count → st.accesses ≤ n → AllBelow rules base t (suc n) → mover rules (run rules base n) ≡ i
       → is_sample rules (run rules base n) (mover rules (run rules base n)) ≡ false → count i ≤ made rules base i n
-  past_count n i h outside below at access = go (lt_or (made rules base i n) (count i))
+  past_count n i h outside below at access = go (cases_lt (made rules base i n) (count i))
     where
       go : (made rules base i n < count i) ⊎ (count i ≤ made rules base i n) → count i ≤ made rules base i n
       go (inl lt) = absurd (

@@ -1,5 +1,6 @@
 -- A section first books the samples that the chip made under its lease, and announces its next event.
 use Rattle.std.proofs.Common.{◌≡◌, ◌≢◌, ℕ, zero, suc, ◌+◌, ◌-◌, ◌<◌, ◌≤◌, true, false, refl, sym, ◌∙◌, ap, subst, arith, ◌⊎◌, inl, inr, List, ◌++◌, length, append-nil, length-set, slice_set}
+use Rattle.std.proofs.lemmas.Bool.{cases_lt}
 use Rattle.std.proofs.lemmas.Bool.Decides.{nat_tests}
 use Rattle.std.proofs.lemmas.List.Elements.{All-weaker}
 use Rattle.md_word.specs.declared.event.Entry.{Entry}
@@ -11,7 +12,7 @@ use Rattle.chip_core.specs.Equations.{entries-sample, made-mover, made-other, ma
 use Rattle.chip_core.specs.Events.{IsTidy}
 use Rattle.chip_core.specs.Machines.{AllBelow, Machine, OnPath, IsValid, entries, journal, key_of, made, mover, of_chip, put, run}
 use Rattle.chip_core.specs.Standing.{IsBound, StandsFor}
-use Rattle.chip_core.proofs.Keys.{lt-through, lt_or, not_lt-rank, put-each, rank, rank-not_lt}
+use Rattle.chip_core.proofs.Keys.{lt-through, not_lt-rank, put-each, rank, rank-not_lt}
 use Rattle.chip_core.proofs.Lists.{set-put, valid-core}
 use Rattle.chip_core.proofs.Runs.{below-less, key-by-made, own-at, own-suc, run-valid}
 use Rattle.chip_run.specs.Held.{AreSamples}
@@ -63,7 +64,7 @@ module _ {Chip Shared Pins : Type 0} (rules : Rules Chip Shared Pins) (chip_ok :
   no-entries zero below low high =
       own-at rules chip_ok shared_ok law b base_ok t lk.small i before.moves 0 before.below below (let none = made-zero rules b i in let first = before.made in omega arith)
   no-entries (suc n) below low high =
-      one-entry n below low high (λ more most. no-entries n (below-less rules b t n (suc n) below (omega arith)) more most) (same_or (mover rules (run rules b n)) i) (lt_or (made rules b i n) (count_of counts i))
+      one-entry n below low high (λ more most. no-entries n (below-less rules b t n (suc n) below (omega arith)) more most) (same_or (mover rules (run rules b n)) i) (cases_lt (made rules b i n) (count_of counts i))
 
   -- the machine with the chip where it is
   abbrev now : Machine Chip Shared

@@ -1,9 +1,9 @@
 -- Sections that book all moves of finished chips.
 use Rattle.std.proofs.Common.{◌≡◌, ◌≢◌, ℕ, suc, ◌<◌, ◌≤◌, refl, sym, ◌∙◌, ap, subst, arith, ◌⊎◌, inl, inr, List, Option, Some, None, IfSome, length, slice_set, get_or-set_same, get_or-set_other}
+use Rattle.std.proofs.lemmas.Bool.{cases_lt}
 use Rattle.chip_core.specs.Chips.{Rules}
 use Rattle.std.proofs.lemmas.List.{get_or_past}
 use Rattle.chip_core.specs.Equations.{same_or}
-use Rattle.chip_core.proofs.Keys.{lt_or}
 use Rattle.chip_run.specs.Gathering.{AreBooked, booked_at}
 use Rattle.chip_run.specs.Held.{HeldValue}
 use Rattle.chip_run.specs.Locked.{LockedValue, count_of}
@@ -58,7 +58,7 @@ module _ {Chip Pins : Type 0} where
 
   -- all are booked where those below the count of the places are
   pub booked-all : (n : ℕ) (hs : Places Chip Pins) (counts : List ℕ) → length hs ≤ n → ((i : ℕ) → i < n → IfSome (place hs i) (λ h. h.amount ≡ count_of counts i)) → AreBooked counts hs
-  booked-all n hs counts len each i = go (lt_or i n)
+  booked-all n hs counts len each i = go (cases_lt i n)
     where
       go : (i < n) ⊎ (n ≤ i) → IfSome (place hs i) (λ h. h.amount ≡ count_of counts i)
       go (inl less) = each i less

@@ -1,10 +1,10 @@
 -- Of which held chips work is due, as they go between the workers.
 use Rattle.std.proofs.Common.{◌≡◌, ◌≢◌, ℕ, ◌<◌, ◌≤◌, refl, sym, ◌∙◌, ap, subst, ◌⊎◌, inl, inr, Option, Some, None, IfSome, length, slice_set, get_or-set_same, get_or-set_other}
+use Rattle.std.proofs.lemmas.Bool.{cases_lt}
 use Rattle.std.proofs.lemmas.List.{get_or_past, set_past}
 use Rattle.std.proofs.lemmas.Option.{none-some}
 use Rattle.chip_core.specs.Chips.{Rules}
 use Rattle.chip_core.specs.Equations.{same_or}
-use Rattle.chip_core.proofs.Keys.{lt_or}
 use Rattle.chip_run.specs.Held.{HeldValue}
 use Rattle.chip_run.specs.Places.{AllFree, FreeBut, Places, place}
 use Rattle.chip_run.specs.Rounds.{Made, SettlesAt}
@@ -26,7 +26,7 @@ module _ {Chip Pins : Type 0} where
 
   -- the chip is laid down
   pub laid-free : (k : ℕ) (hs hs2 : Places Chip Pins) → FreeBut k hs → hs2 ≡ slice_set hs k None → AllFree hs2
-  laid-free k hs hs2 but is i h there = go (same_or i k) (lt_or k (length hs))
+  laid-free k hs hs2 but is i h there = go (same_or i k) (cases_lt k (length hs))
     where
       found : place (slice_set hs k None) i ≡ Some h
       found = ap (λ xs. place xs i) (sym is) ∙ there

@@ -1,5 +1,6 @@
 -- The chips put together again are the machine's.
 use Rattle.std.proofs.Common.{◌≡◌, ℕ, ◌+◌, ◌<◌, ◌≤◌, sym, ◌∙◌, ap, subst, arith, List, [], ◌∷◌, ◌++◌, ◌⊎◌, inl, inr, Option, Some, IfSome, length, length-append, slice_index_or}
+use Rattle.std.proofs.lemmas.Bool.{cases_lt}
 use Rattle.std.proofs.Math.ListN.{get_or-append}
 use Rattle.std.proofs.Math.Seq.{get_or-append_seam}
 use Rattle.md_word.specs.Keys.{key_lt}
@@ -13,7 +14,6 @@ use Rattle.chip_run.specs.declared.held.Due.{Due}
 use Rattle.chip_run.specs.declared.held.Due.TheVariants.{Nothing}
 use Rattle.chip_run.specs.Locked.{IsLocked, count_of, seen_at}
 use Rattle.chip_run.specs.Parts.{PartsValue}
-use Rattle.chip_core.proofs.Keys.{lt_or}
 use Rattle.chip_core.proofs.Runs.{chip-at}
 use Rattle.chip_run.specs.Gathering.{Gathered}
 
@@ -35,8 +35,8 @@ module _ {Chip Shared Pins : Type 0} (rules : Rules Chip Shared Pins) where
       subst (λ xs. Gathered rules m t (k + 1) xs) (sym e) (record {
         some = λ _. len;
         all = λ past. let l = len in omega arith;
-        are = λ i low h. go i h (lt_or i k) low;
-        quiet = λ i low h. still i h (lt_or i k) low;
+        are = λ i low h. go i h (cases_lt i k) low;
+        quiet = λ i low h. still i h (cases_lt i k) low;
       })
     where
       had : length chips ≡ k

@@ -1,12 +1,13 @@
 -- The chip of least bound.
 use Rattle.std.proofs.Common.{◌≡◌, ◌≢◌, ℕ, zero, suc, ◌<◌, ◌≤◌, true, false, sym, subst, arith, ◌⊎◌, inl, inr, List, length}
+use Rattle.std.proofs.lemmas.Bool.{cases_lt}
 use Rattle.std.proofs.lemmas.Bool.Decides.{nat_tests}
 use Rattle.md_word.specs.declared.key.Key.{Key}
 use Rattle.md_word.specs.Keys.{key_lt}
 use Rattle.chip_core.specs.Chips.{Lawful, Rules}
 use Rattle.chip_core.specs.Cores.{bound_in}
 use Rattle.chip_core.specs.Machines.{least_below}
-use Rattle.chip_core.proofs.Keys.{least-is, lt_or, rank, rank-not_lt}
+use Rattle.chip_core.proofs.Keys.{least-is, rank, rank-not_lt}
 use Rattle.chip_run.specs.Held.{HeldValue}
 use Rattle.chip_run.specs.Parts.{PartsValue}
 use Rattle.chip_run.specs.Sections.{IsFound}
@@ -31,7 +32,7 @@ greater-chip a b less p = grind (arith, nat_tests)
 
 -- of the keys of two chips one is below the other
 other-key : (a b : Key) → a.chip ≢ b.chip → key_lt b a ≡ false → key_lt a b ≡ true
-other-key a b ne p = go (lt_or a.chip b.chip) (lt_or b.chip a.chip)
+other-key a b ne p = go (cases_lt a.chip b.chip) (cases_lt b.chip a.chip)
   where
     go : (a.chip < b.chip) ⊎ (b.chip ≤ a.chip) → (b.chip < a.chip) ⊎ (a.chip ≤ b.chip) → key_lt a b ≡ true
     go (inl less) q = lesser-chip a b less p

@@ -1,5 +1,6 @@
 -- The chips taken out of their list are the base's, each at the start of its path.
 use Rattle.std.proofs.Common.{◌≡◌, ℕ, zero, suc, ◌+◌, ◌^◌, ◌<◌, ◌≤◌, refl, sym, ◌∙◌, ap, ap₂, subst, arith, Option, Some, IsSome, List, [], ◌∷◌, ◌++◌, ◌⊎◌, inl, inr, length, length-append, slice_index_or}
+use Rattle.std.proofs.lemmas.Bool.{cases_lt}
 use mathlib.Core.Path.{fun_ext}
 use Rattle.std.proofs.Math.ListN.{get_or-append}
 use Rattle.std.proofs.Math.Seq.{get_or-append_seam}
@@ -11,7 +12,6 @@ use Rattle.chip_core.specs.Limits.{all_moves_left}
 use Rattle.chip_core.specs.Machines.{Machine, OnPath}
 use Rattle.chip_core.specs.Standing.{StandsFor}
 use Rattle.chip_core.proofs.Keeps.{stands_first}
-use Rattle.chip_core.proofs.Keys.{lt_or}
 use Rattle.chip_core.proofs.Lists.{valid-core, tidy-core}
 use Rattle.chip_core.proofs.Runs.{made-zero, run-zero}
 use Rattle.chip_run.specs.Held.{HeldValue, IsHeld}
@@ -32,7 +32,7 @@ no-counts (suc (suc (suc (suc (suc i))))) = refl
 module _ {Chip Shared Pins : Type 0} (rules : Rules Chip Shared Pins) where
   -- a number within the list is a chip's
   pub remains-inside : (base : CoreValue Chip Shared) (k : ℕ) (chips : List Chip) → Remains rules base (k + 1) chips → k < length chips → k < rules.count
-  remains-inside base k chips r h = go (lt_or k rules.count)
+  remains-inside base k chips r h = go (cases_lt k rules.count)
     where
       go : (k < rules.count) ⊎ (rules.count ≤ k) → k < rules.count
       go (inl low) = low
@@ -40,7 +40,7 @@ module _ {Chip Shared Pins : Type 0} (rules : Rules Chip Shared Pins) where
 
   -- where the list ends before the number there is no such chip
   pub remains-none : (base : CoreValue Chip Shared) (k : ℕ) (chips : List Chip) → Remains rules base (k + 1) chips → length chips ≤ k → rules.count ≤ k
-  remains-none base k chips r h = go (lt_or k rules.count)
+  remains-none base k chips r h = go (cases_lt k rules.count)
     where
       go : (k < rules.count) ⊎ (rules.count ≤ k) → rules.count ≤ k
       go (inl low) = absurd (let l = r.some (omega arith) in omega arith)

@@ -1,10 +1,9 @@
 -- What rounds leave of the held chips.
 use Rattle.std.proofs.Common.{◌≡◌, ◌≢◌, ◌↔◌, ℕ, ◌+◌, ◌<◌, ◌≤◌, Bool, true, false, refl, sym, ◌∙◌, ap, subst, arith, [], ◌∷◌, ◌⊎◌, inl, inr, Option, Some, None, IfSome, IsSome, length, slice_set, slice_index_or, get_or-set_same, get_or-set_other}
-use Rattle.std.proofs.lemmas.Bool.{false≢true}
+use Rattle.std.proofs.lemmas.Bool.{false≢true, cases_lt}
 use Rattle.std.proofs.lemmas.List.{get_or_past, map-set, set-get_or, set-set, set_past}
 use Rattle.std.proofs.Math.Seq.{map-set_same}
 use Rattle.std.proofs.Math.ListN.{get_or-map}
-use Rattle.chip_core.proofs.Keys.{lt_or}
 use Rattle.std.proofs.lemmas.Option.{none-some, same_Some}
 use Rattle.std.specs.Option.{option_map}
 use Rattle.chip_core.specs.Chips.{Rules}
@@ -108,7 +107,7 @@ module _ {Chip Pins : Type 0} where
 
   -- the rest, with a place written
   pub set-free : (hs hs2 : Places Chip Pins) (w : ℕ) (o : Option (HeldValue Chip Pins)) → AllFree hs → IfSome o (λ h. h.due ≡ Nothing) → hs2 ≡ slice_set hs w o → AllFree hs2
-  set-free hs hs2 w o free ok is i h there = go (same_or i w) (lt_or w (length hs))
+  set-free hs hs2 w o free ok is i h there = go (same_or i w) (cases_lt w (length hs))
     where
       found : place (slice_set hs w o) i ≡ Some h
       found = ap (λ xs. place xs i) (sym is) ∙ there
@@ -208,7 +207,7 @@ module _ {Chip Shared Pins : Type 0} (rules : Rules Chip Shared Pins) where
 
   -- all are finished where those below the count of the places are
   pub ended-all : (t n : ℕ) (hs : Places Chip Pins) → length hs ≤ n → ((i : ℕ) → i < n → IsEndedAt rules t hs i) → IsEnded rules t hs
-  ended-all t n hs len each i = go (lt_or i n)
+  ended-all t n hs len each i = go (cases_lt i n)
     where
       go : (i < n) ⊎ (n ≤ i) → IsEndedAt rules t hs i
       go (inl less) = each i less

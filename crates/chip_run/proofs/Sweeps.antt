@@ -1,12 +1,12 @@
 -- What a sweep over the held chips finds.
 use Rattle.std.proofs.Common.{◌≡◌, ◌≢◌, ℕ, ◌+◌, ◌<◌, ◌≤◌, Bool, true, false, refl, sym, ◌∙◌, ap, subst, arith, ◌⊎◌, inl, inr, Option, Some, None, IfSome, IsSome, List, length, slice_set, slice_get, get_or-set_other, length-set}
+use Rattle.std.proofs.lemmas.Bool.{cases_lt}
 use Rattle.std.proofs.lemmas.Bool.Decides.{nat_tests}
 use Rattle.std.proofs.lemmas.List.{get_or_past}
 use Rattle.std.proofs.lemmas.Option.{none-some, same_Some, slice_get-get_or, slice_get_past, unwrap_or-slice_get}
 use Rattle.std.specs.Option.{option_map, unwrap_or}
 use Rattle.md_word.specs.declared.key.Key.{Key}
 use Rattle.md_word.specs.Keys.{key_lt}
-use Rattle.chip_core.proofs.Keys.{lt_or}
 use Rattle.chip_core.specs.Chips.{Rules}
 use Rattle.chip_core.specs.Cores.{bound_in, no_key}
 use Rattle.chip_core.specs.Equations.{by_test, same_or}
@@ -50,7 +50,7 @@ module _ {Chip Shared Pins : Type 0} (rules : Rules Chip Shared Pins) where
 
 -- the same bound at a place is the same element there
 got-same : (cs ds : List Key) (n : ℕ) → length ds ≡ length cs → bound_in ds n ≡ bound_in cs n → slice_get ds n ≡ slice_get cs n
-got-same cs ds n long e = go (lt_or n (length cs))
+got-same cs ds n long e = go (cases_lt n (length cs))
   where
     go : (n < length cs) ⊎ (length cs ≤ n) → slice_get ds n ≡ slice_get cs n
     go (inl less) = slice_get-get_or ds n no_key (omega (arith, long)) ∙ ap Some e ∙ sym (slice_get-get_or cs n no_key less)
@@ -230,7 +230,7 @@ module _ {Chip Shared Pins : Type 0} (rules : Rules Chip Shared Pins) where
   found-least t n hs w len f = record {
     chip = f.chip;
     waits = f.waits;
-    least = λ i. subst (λ key. IsNotLess t key (place hs i)) (sym f.key_is) (go i (lt_or i n));
+    least = λ i. subst (λ key. IsNotLess t key (place hs i)) (sym f.key_is) (go i (cases_lt i n));
   }
     where
       go : (i : ℕ) → (i < n) ⊎ (n ≤ i) → IsNotLess t w.key (place hs i)

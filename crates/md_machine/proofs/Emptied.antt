@@ -1,5 +1,6 @@
 -- The machine after its frame, or the samples of a sound chip, were drained.
-use Rattle.std.proofs.Common.{◌≡◌, ℕ, ◌<◌, ◌≤◌, ◌==◌, cond, Bool, true, false, [], length, Some, refl, sym, ap, ◌∙◌, arith, subst, lit<, lit≤}
+use Rattle.std.proofs.Common.{◌≡◌, ℕ, ◌<◌, ◌≤◌, ◌==◌, cond, Bool, true, false, [], length, Some, refl, sym, ap, ◌∙◌, arith, subst, lit<, lit≤, eqb-true}
+use Rattle.std.proofs.lemmas.Bool.{eqb-false}
 use Rattle.std.proofs.lemmas.Bool.Decides.{nat_tests}
 use Rattle.std.specs.Prelude.{slice_set}
 use Rattle.std.proofs.lemmas.List.{get_or-set_other, get_or-set_same}
@@ -60,17 +61,11 @@ emptied-levels (Fm c) = refl
 emptied-levels (Psg c) = refl
 
 -- the chips after one of them was emptied
-apart : (i j : ℕ) → (i == j) ≡ false → i ≡ j → ⊥
-apart i j e same = let own : (j == j) ≡ false = subst (λ (k : ℕ). (k == j) ≡ false) same e in grind (arith, nat_tests)
-
-equal : (i j : ℕ) → (i == j) ≡ true → i ≡ j
-equal i j e = grind (arith, nat_tests)
-
 with_emptied_by : (b : Bool) (v : CoreValue Chip Board) (j : ℕ) (x : Chip) (i : ℕ) → j < 5 → length v.chips ≡ 5 → x ≡ emptied (chip_in five v.chips j) → (i == j) ≡ b
     → chip_in five (slice_set v.chips j x) i ≡ cond b (emptied (chip_in five v.chips j)) (chip_in five v.chips i)
 with_emptied_by true v j x i below long is e =
-    ap (chip_in five (slice_set v.chips j x)) (equal i j e) ∙ get_or-set_same v.chips j x five.blank (omega (arith, long, below)) ∙ is
-with_emptied_by false v j x i below long is e = get_or-set_other v.chips j i x five.blank (apart i j e)
+    ap (chip_in five (slice_set v.chips j x)) (eqb-true i j e) ∙ get_or-set_same v.chips j x five.blank (omega (arith, long, below)) ∙ is
+with_emptied_by false v j x i below long is e = get_or-set_other v.chips j i x five.blank (eqb-false i j e)
 
 abbrev emptied_machine : CoreValue Chip Board → ℕ → Machine Chip Board
 emptied_machine v j = record { shared = v.shared; chip = put (chip_in five v.chips) j (emptied (chip_in five v.chips j)) }
@@ -156,11 +151,11 @@ emptied-stands c d ok is = record { key = ap (λ (x : Chip). (next x).key) is �
 -- no event moves by it
 key-with_emptied : (b : Bool) (v : CoreValue Chip Board) (j i : ℕ) → j < 5 → length v.chips ≡ 5 → (i == j) ≡ b → key_in five (with_emptied v j).chips i ≡ key_in five v.chips i
 key-with_emptied true v j i below long e =
-    ap (key_in five (with_emptied v j).chips) (equal i j e)
+    ap (key_in five (with_emptied v j).chips) (eqb-true i j e)
     ∙ ap (λ (x : Chip). (next x).key) (get_or-set_same v.chips j (emptied (chip_in five v.chips j)) five.blank (omega (arith, long, below)))
-    ∙ emptied-key (chip_in five v.chips j) ∙ ap (key_in five v.chips) (sym (equal i j e))
+    ∙ emptied-key (chip_in five v.chips j) ∙ ap (key_in five v.chips) (sym (eqb-true i j e))
 key-with_emptied false v j i below long e =
-    ap (λ (x : Chip). (next x).key) (get_or-set_other v.chips j i (emptied (chip_in five v.chips j)) five.blank (apart i j e))
+    ap (λ (x : Chip). (next x).key) (get_or-set_other v.chips j i (emptied (chip_in five v.chips j)) five.blank (eqb-false i j e))
 
 quiet-with_emptied : (v : CoreValue Chip Board) (at j : ℕ) → j < 5 → length v.chips ≡ 5 → IsQuiet five (machine_of five v) at → IsQuiet five (machine_of five (with_emptied v j)) at
 quiet-with_emptied v at j below long quiet i within = subst (λ (k : Key). at ≤ k.cycle) (sym (key-with_emptied (i == j) v j i below long refl)) (quiet i within)
@@ -176,7 +171,7 @@ pal-by : (b : Bool) (v : CoreValue Chip Board) (j : ℕ) → j < 5 → length v.
     → (draw_of (chip_in five (with_emptied v j).chips 2)).chip.pal ≡ (draw_of (chip_in five v.chips 2)).chip.pal
 pal-by true v j below long e =
     ap (λ (c : Chip). (draw_of c).chip.pal) (with_emptied_by true v j (emptied (chip_in five v.chips j)) 2 below long refl e)
-    ∙ emptied-pal (chip_in five v.chips j) ∙ ap (λ (k : ℕ). (draw_of (chip_in five v.chips k)).chip.pal) (sym (equal 2 j e))
+    ∙ emptied-pal (chip_in five v.chips j) ∙ ap (λ (k : ℕ). (draw_of (chip_in five v.chips k)).chip.pal) (sym (eqb-true 2 j e))
 pal-by false v j below long e = ap (λ (c : Chip). (draw_of c).chip.pal) (with_emptied_by false v j (emptied (chip_in five v.chips j)) 2 below long refl e)
 
 -- the region stays

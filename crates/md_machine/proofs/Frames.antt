@@ -1,5 +1,5 @@
 -- The frame that the drawing half keeps is that of the record's run: over a segment there is one at most.
-use Rattle.std.proofs.Common.{◌≡◌, ◌⊎◌, ℕ, zero, suc, ◌+◌, ◌<◌, ◌≤◌, ◌==◌, ◌%◌, cond, Bool, true, false, List, [], ◌∷◌, ◌++◌, refl, sym, ap, ◌∙◌, arith, subst, lit<, inl, inr, Option, Some, None, length}
+use Rattle.std.proofs.Common.{◌≡◌, ◌⊎◌, ℕ, zero, suc, ◌+◌, ◌<◌, ◌≤◌, ◌==◌, ◌%◌, cond, Bool, true, false, List, [], ◌∷◌, ◌++◌, refl, sym, ap, ◌∙◌, arith, subst, lit<, inl, inr, Option, Some, None, length, eqb-true}
 use Rattle.std.proofs.lemmas.Bool.Decides.{nat_tests}
 use Rattle.std.proofs.lemmas.List.{append-nil}
 use Rattle.chip_core.specs.Machines as machines
@@ -65,9 +65,6 @@ once_by false pal old picture from next line whole behind (inl none) = inl none
 once_by false pal old picture from next line whole behind (inr f) =
     inr (record { at = f.at; behind = f.behind; before = omega (arith, f.before); line = f.line; whole = f.whole })
 
-is_line : (n height : ℕ) → (n == height) ≡ true → n ≡ height
-is_line n height e = grind (arith, nat_tests)
-
 -- the first stages of a run, seen from a cycle on
 record Framed (pal : Bool) (m : Machine Chip Board) (frames : List (List ℕ)) (from : ℕ) : Type 0 where
   region : (drawing m).pal ≡ pal
@@ -127,7 +124,7 @@ line-framed pal m v frames from is ok near before =
     let behind : from ≤ v.chip.next = subst (λ (d : Drawing). from ≤ d.next) here before.behind in
     let once : Once pal from v.chip.next v.chip.frame = subst (λ (d : Drawing). Once pal from d.next d.frame) here before.once in
     let on_line : (line_of v.chip.next v.chip.pal == rows v.chip.pal) ≡ true → line_of v.chip.next pal ≡ rows pal =
-    subst (λ (p : Bool). (line_of v.chip.next v.chip.pal == rows v.chip.pal) ≡ true → line_of v.chip.next p ≡ rows p) its (is_line (line_of v.chip.next v.chip.pal) (rows v.chip.pal)) in
+    subst (λ (p : Bool). (line_of v.chip.next v.chip.pal == rows v.chip.pal) ≡ true → line_of v.chip.next p ≡ rows p) its (eqb-true (line_of v.chip.next v.chip.pal) (rows v.chip.pal)) in
     let kept : frames_of v.chip.frame ≡ frames = ap (λ (d : Drawing). frames_of d.frame) (sym here) ∙ before.same in
     record {
       region = ap (λ (d : Drawing). d.pal) left ∙ region ∙ its;

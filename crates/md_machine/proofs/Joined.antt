@@ -1,26 +1,20 @@
 -- Two runs, the one behind the other, are one.
-use Rattle.std.proofs.Common.{◌≡◌, ℕ, zero, suc, ◌+◌, ◌-◌, ◌<◌, ◌≤◌, ◌⊎◌, inl, inr, List, ◌++◌, sym, ap, ◌∙◌, subst, append-nil, append_assoc, arith}
+use Rattle.std.proofs.Common.{◌≡◌, ℕ, zero, suc, ◌+◌, ◌-◌, ◌<◌, ◌≤◌, ◌⊎◌, inl, inr, List, ◌++◌, sym, ap, ◌∙◌, subst, append-nil, append_assoc, arith, add-suc, add-zero}
 use Rattle.std.proofs.lemmas.Bool.{cases_lt}
 use Rattle.md_word.specs.declared.event.Entry.{Entry}
 use Rattle.md_machine.specs.Console.{Console, IsRunTo, rendered, journal, key_in, moved, mover, ran, media, told}
 use Rattle.md_machine.specs.Media.{Media, joined, no_media}
 
-next : (a b : ℕ) → a + suc b ≡ suc (a + b)
-next a b = omega arith
-
-none : (a : ℕ) → a + 0 ≡ a
-none a = omega arith
-
 pub ran-add : (m : Console) (a b : ℕ) → ran m (a + b) ≡ ran (ran m a) b
 unfolding ran
-ran-add m a zero = ap (ran m) (none a)
-ran-add m a (suc b) = ap (ran m) (next a b) ∙ ap (λ z. moved z (mover z)) (ran-add m a b)
+ran-add m a zero = ap (ran m) (add-zero a)
+ran-add m a (suc b) = ap (ran m) (add-suc a b) ∙ ap (λ z. moved z (mover z)) (ran-add m a b)
 
 pub journal-add : (m : Console) (a b : ℕ) → journal m (a + b) ≡ journal m a ++ journal (ran m a) b
 unfolding journal
-journal-add m a zero = ap (journal m) (none a) ∙ sym (append-nil (journal m a))
+journal-add m a zero = ap (journal m) (add-zero a) ∙ sym (append-nil (journal m a))
 journal-add m a (suc b) =
-    ap (journal m) (next a b)
+    ap (journal m) (add-suc a b)
     ∙ ap (λ l. l ++ told (ran m (a + b)) (mover (ran m (a + b)))) (journal-add m a b)
     ∙ ap (λ z. (journal m a ++ journal (ran m a) b) ++ told z (mover z)) (ran-add m a b)
     ∙ append_assoc (journal m a) (journal (ran m a) b) (told (ran (ran m a) b) (mover (ran (ran m a) b)))
@@ -38,9 +32,9 @@ joined-assoc a b c = λ i. record {
 
 pub media-add : (m : Console) (a b : ℕ) → media m (a + b) ≡ joined (media m a) (media (ran m a) b)
 unfolding media
-media-add m a zero = ap (media m) (none a) ∙ sym (joined-none (media m a))
+media-add m a zero = ap (media m) (add-zero a) ∙ sym (joined-none (media m a))
 media-add m a (suc b) =
-    ap (media m) (next a b)
+    ap (media m) (add-suc a b)
     ∙ ap (λ l. joined l (rendered (ran m (a + b)) (mover (ran m (a + b))))) (media-add m a b)
     ∙ ap (λ z. joined (joined (media m a) (media (ran m a) b)) (rendered z (mover z))) (ran-add m a b)
     ∙ joined-assoc (media m a) (media (ran m a) b) (rendered (ran (ran m a) b) (mover (ran (ran m a) b)))

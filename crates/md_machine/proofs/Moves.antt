@@ -38,9 +38,6 @@ unfolding move
 move-access m i is = rw is refl
 
 -- which kind each chip is, by its number
-clash : {A : Type 0} (a b : ℕ) → (a ≡ b → ⊥) → a ≡ b → A
-clash a b differ same = absurd (differ same)
-
 sub_one : (c : SubValue) → (next (Sub c)).key.chip ≡ 1
 unfolding sub_next_of
 sub_one c = refl

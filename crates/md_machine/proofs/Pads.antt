@@ -1,7 +1,7 @@
 -- The pads show the recording's words of the frame of which the line behind the picture began last.
-use Rattle.std.proofs.Common.{◌≡◌, ℕ, zero, suc, ◌+◌, ◌-◌, ◌*◌, ◌/◌, ◌%◌, ◌<◌, ◌≤◌, ◌==◌, cond, Bool, true, false, List, refl, sym, ap, ◌∙◌, arith, if◌then◌else◌, ◌⊎◌, inl, inr}
+use Rattle.std.proofs.Common.{◌≡◌, ℕ, zero, suc, ◌+◌, ◌-◌, ◌*◌, ◌/◌, ◌%◌, ◌<◌, ◌≤◌, ◌==◌, cond, Bool, true, false, List, refl, sym, ap, ◌∙◌, arith, if◌then◌else◌, ◌⊎◌, inl, inr, eqb-true, le-leb}
 use Rattle.std.specs.Prelude.{nat_le}
-use Rattle.std.proofs.lemmas.Bool.{cases_lt}
+use Rattle.std.proofs.lemmas.Bool.{cases_lt, eqb-false, lt-leb}
 use Rattle.std.proofs.lemmas.Bool.Decides.{nat_tests}
 use Rattle.md_pads.specs.Recording.{Frame, pads_of, Recorded}
 use Rattle.md_word.specs.Clock.{line}
@@ -65,24 +65,11 @@ psg_leaves_pads z =
     let leaves = batch_leaves z.shared z.psg_cycle in
     record { line_is = refl; recording_is = leaves.recording; pads_are = leaves.pads; region_is = ap (λ (vdp : Vdp). vdp.pal) leaves.vdp }
 
--- one line more
-is_true : (a b : ℕ) → (a == b) ≡ true → a ≡ b
-is_true a b e = grind (arith, nat_tests)
-
-is_false : (a b : ℕ) → (a == b) ≡ false → ¬ (a ≡ b)
-is_false a b e same = grind (arith, nat_tests)
-
-low : (n limit : ℕ) → n ≤ limit → nat_le n limit ≡ true
-low n limit h = grind (arith, nat_tests)
-
-high : (n limit : ℕ) → limit < n → nat_le n limit ≡ false
-high n limit h = grind (arith, nat_tests)
-
 shown_low : (pal : Bool) (recording : Recorded) (n : ℕ) → n ≤ rows pal → pads_shown pal recording n ≡ (0, 0)
-shown_low pal recording n h = rw (low n (rows pal) h) refl
+shown_low pal recording n h = rw (le-leb n (rows pal) h) refl
 
 shown_high : (pal : Bool) (recording : Recorded) (n f : ℕ) → rows pal < n → (n - (rows pal + 1)) / lines pal ≡ f → pads_shown pal recording n ≡ pads_of recording f
-shown_high pal recording n f h e = rw (high n (rows pal) h) (ap (pads_of recording) e)
+shown_high pal recording n f h e = rw (lt-leb n (rows pal) h) (ap (pads_of recording) e)
 
 -- the line behind the picture is as many lines on as the picture has rows
 behind-rows : (pal : Bool) (k : ℕ) → line * k % frame_cycles pal ≡ finished_at pal → line * k % frame_cycles pal ≡ 3420 * rows pal
@@ -114,8 +101,8 @@ beside_its_pads pal recording k e = elim (early_or_late pal k) [
 
 step_by : (b pal : Bool) (recording : Recorded) (k : ℕ) → (line * k % frame_cycles pal == finished_at pal) ≡ b
     → (if b then pads_of recording (line * k / frame_cycles pal) else pads_shown pal recording k) ≡ pads_shown pal recording (k + 1)
-step_by true pal recording k e = at_its_pads pal recording k (is_true _ _ e)
-step_by false pal recording k e = beside_its_pads pal recording k (is_false _ _ e)
+step_by true pal recording k e = at_its_pads pal recording k (eqb-true _ _ e)
+step_by false pal recording k e = beside_its_pads pal recording k (eqb-false _ _ e)
 
 pads-of : (b : Bool) (board : Board) (pads : Frame) → (if b then record board { pads = pads } else board).pads ≡ (if b then pads else board.pads)
 pads-of true board pads = refl

@@ -1,5 +1,5 @@
 -- The samples that a sound chip keeps are those of the record's run, as long as there is room.
-use Rattle.std.proofs.Common.{◌≡◌, ℕ, zero, suc, ◌+◌, ◌*◌, ◌<◌, ◌≤◌, ◌==◌, cond, Bool, true, false, List, [], ◌++◌, length, refl, sym, ap, ◌∙◌, arith, subst, lit<}
+use Rattle.std.proofs.Common.{◌≡◌, ℕ, zero, suc, ◌+◌, ◌*◌, ◌<◌, ◌≤◌, ◌==◌, cond, Bool, true, false, List, [], ◌++◌, length, refl, sym, ap, ◌∙◌, arith, subst, lit<, le-leb}
 use Rattle.std.specs.Prelude.{ℤ, nat_le}
 use Rattle.std.proofs.lemmas.Bool.Decides.{nat_tests}
 use Rattle.std.proofs.Common.{length-append}
@@ -33,12 +33,9 @@ pub record Part (A : Type 0) : Type 0 where
   pub grows : (m : Machine Chip Board) → IsValid five IsChip IsBoard m → (i : ℕ) → i < 5 → (i ≡ number → length (of (kept_in m)) ≤ 1056) → of (kept_in (move five m i)) ≡ of (kept_in m) ++ of (rendered (console m) i)
   pub long : (z : Console) (i : ℕ) → i < 5 → length (of (rendered z i)) ≡ 16 * cond (i == number) 1 0
 
-is_room : (n limit : ℕ) → n ≤ limit → nat_le n limit ≡ true
-is_room n limit within = grind (arith, nat_tests)
-
 -- with room a batch goes behind what is kept
 kept-all : {A : Type 0} (old batch : List A) → length old ≤ 1056 → kept old batch ≡ old ++ batch
-kept-all old batch room = ap (λ (b : Bool). cond b (old ++ batch) old) (is_room (length old) 1056 room)
+kept-all old batch room = ap (λ (b : Bool). cond b (old ++ batch) old) (le-leb (length old) 1056 room)
 
 -- a move of another chip leaves chip j
 pub other_by : (b : Bool) (m : Machine Chip Board) (i j : ℕ) → is_sample five m i ≡ b → (j == i) ≡ false → (move five m i).chip j ≡ m.chip j

@@ -115,9 +115,6 @@ segment-pairs m w from to entered runs valid movers pal few none =
     let same : length (kept_in w).levels ≡ 16 * made five m 4 runs.moves = ap (λ (c : Chip). length (psg_of c).samples) (runs.chips 4 (lit< tt)) ∙ levels.long in
     subst (λ (n : ℕ). n ≤ most_pairs pal) (sym same) (pairs-of pal _ here)
 
-pub at_most : {a b limit : ℕ} → a ≤ b → b ≤ limit → a ≤ limit
-at_most first second = omega arith
-
 -- the entries of a segment
 pub few_entries : (m : Machine Chip Board) (from to : ℕ) {w : Machine Chip Board} {entered : List Entry} (runs : machines.IsRunTo five m to w entered)
     → length (machines.journal five m runs.moves) ≤ all_moves_left five to m → all_moves_left five to m ≤ moves_within five (to - from) → (pal : Bool) → to ≤ from + frame_cycles pal

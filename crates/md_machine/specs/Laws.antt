@@ -1,6 +1,6 @@
 -- What the scheduler asks of the five chips.
 use Rattle.std.specs.Prelude.{◌≡◌, ℕ, ◌^◌, ◌<◌, ◌≤◌, nat_le, Bool, true, false, ◌==◌, refl, List, ◌++◌, length, cond, ◌+◌, ◌||◌, Option, Some, None}
-use Rattle.std.proofs.Common.{arith, sym, length-append, lit<, lit≤, ap, subst, Result, Ok, Err, IfSome, IsTrue}
+use Rattle.std.proofs.Common.{arith, sym, length-append, lit<, lit≤, ap, subst, Result, Ok, Err, IfSome, IsTrue, leb-true, true≢false}
 use Rattle.std.proofs.lemmas.Bool.Decides.{nat_tests}
 use Rattle.chip_core.specs.Chips.{Follows, IsDue, Lawful}
 use Rattle.md_word.specs.declared.key.Key.{Key}
@@ -51,10 +51,6 @@ use Rattle.md_machine.specs.Parts.{DrawValue, FmValue, IsDraw, IsFm, IsPsg, PsgV
 use Rattle.md_machine.specs.Rules.{IsChip, advance, draw_advance, draw_perform, first_of, five, fm_advance, fm_perform, gap, kept, next, perform, psg_advance, psg_perform, sample, sub_advance, sub_perform, view_in, writes}
 use Rattle.md_machine.specs.declared.chips.Chip.{Chip}
 use Rattle.md_machine.specs.declared.chips.Chip.TheVariants.{Main, Sub, Draw, Fm, Psg}
-
--- a flag is not both
-clash : true ≡ false → ⊥
-clash same = cc
 
 -- the board's transfers are those that the 68000 can be told
 started : (t : Option Transfer) → IfSome t IsTransfer → IfSome t IsStarted
@@ -177,19 +173,16 @@ sample-next : (c : Chip) (s : Board) (i : ℕ) → IsDue five IsChip IsBoard c s
 unfolding next_of sub_next_of
 sample-next (Main c) s i d = record { number = refl; later = begun-later c.chip (level_in (pins_of s i)) d.chip d.kind }
 sample-next (Sub c) s i d = record { number = refl; later = laws80.begun-later c.chip (sub_in (pins_of s i)) d.chip d.kind }
-sample-next (Draw c) s i d = absurd (clash (sym d.kind))
-sample-next (Fm c) s i d = absurd (clash (sym d.kind))
-sample-next (Psg c) s i d = absurd (clash (sym d.kind))
+sample-next (Draw c) s i d = absurd (true≢false (sym d.kind))
+sample-next (Fm c) s i d = absurd (true≢false (sym d.kind))
+sample-next (Psg c) s i d = absurd (true≢false (sym d.kind))
 
 kept_by : {A : Type 0} (b : Bool) (old batch : List A) → (b ≡ true → length old ≤ 1056) → length batch ≡ 16 → length old ≤ 1072 → length (cond b (old ++ batch) old) ≤ 1072
 kept_by true old batch room sixteen few = omega (arith, room refl, length-append old batch)
 kept_by false old batch room sixteen few = few
 
-le_from : (n limit : ℕ) → nat_le n limit ≡ true → n ≤ limit
-le_from n limit is = grind (arith, nat_tests)
-
 kept-few : {A : Type 0} (old batch : List A) → length batch ≡ 16 → length old ≤ 1072 → length (kept old batch) ≤ 1072
-kept-few old batch sixteen few = kept_by (nat_le (length old) 1056) old batch (le_from (length old) 1056) sixteen few
+kept-few old batch sixteen few = kept_by (nat_le (length old) 1056) old batch (leb-true (length old) 1056) sixteen few
 
 -- a batch of the FM synthesis has sixteen samples
 pub sixteen-fm : (c : FmValue) → length (fm_batches.samples (first_of c.cycle) c.synth c.taken) ≡ 16
@@ -271,9 +264,9 @@ main-number c i is = is
 
 -- pins change only by those that write them
 leaves-pins : (c : Chip) (s : Board) (i j : ℕ) → IsDue five IsChip IsBoard c s i false → writes i j ≡ false → pins_of (perform c s).shared j ≡ pins_of s j
-leaves-pins (Main c) s i j d other = absurd (clash (subst (λ (n : ℕ). writes n j ≡ false) (sym (main-number c i d.number)) other))
+leaves-pins (Main c) s i j d other = absurd (true≢false (subst (λ (n : ℕ). writes n j ≡ false) (sym (main-number c i d.number)) other))
 leaves-pins (Sub c) s i j d other = pins-same (j == 1) s _ (sub_pins_stay s (sub_next_of c.chip.state).key (asked_of c.chip.cart c.chip.state))
-leaves-pins (Draw c) s i j d other = absurd (clash (subst (λ (n : ℕ). writes n j ≡ false) (sym d.number) other))
+leaves-pins (Draw c) s i j d other = absurd (true≢false (subst (λ (n : ℕ). writes n j ≡ false) (sym d.number) other))
 leaves-pins (Fm c) s i j d other = pins-same (j == 1) s _ (fm_batch_pins_stay s c.cycle)
 leaves-pins (Psg c) s i j d other = pins-same (j == 1) s _ (batch_pins_stay s c.cycle)
 

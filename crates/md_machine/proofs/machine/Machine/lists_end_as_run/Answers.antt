@@ -1,4 +1,4 @@
-use Rattle.std.proofs.Common.{◌≡◌, ◌∙◌, ℕ, ◌+◌, ◌≤◌, refl, sym, ap, subst, arith, lit<, List, []}
+use Rattle.std.proofs.Common.{◌≡◌, ◌∙◌, ℕ, ◌+◌, ◌≤◌, refl, sym, ap, subst, arith, lit<, List, [], le_trans}
 use Rattle.md_word.specs.Clock.{last_cycle}
 use Rattle.md_word.specs.Region.{frame_cycles}
 use Rattle.md_word.specs.declared.event.Entry.{Entry}
@@ -17,7 +17,7 @@ use Rattle.md_machine.specs.Refinement.{console}
 use Rattle.md_machine.specs.Rules.{IsChip, five}
 use Rattle.md_machine.specs.declared.chips.Chip.{Chip}
 use Rattle.md_machine.proofs.Lists.{goes-on}
-use Rattle.md_machine.proofs.Segments.{at_most, batches-few, fm_batches-few, segment-run}
+use Rattle.md_machine.proofs.Segments.{batches-few, fm_batches-few, segment-run}
 use Rattle.md_machine.proofs.machine.Machine.lists_end_as_run.Goals as goal
 
 pub returns : goal.returns
@@ -40,8 +40,8 @@ returns c =
       goes_on = goes-on z tidy to;
       there = λ quiet. segment-run first z.machine m.at to z.journal (c.events.ensures.ended (seen five core) z to (omega arith) valid tidy stands quiet)
           (λ n below. c.stages.ensures.valid first to n (omega arith) valid below) c.stages.ensures.mover tidy.valid
-          (λ n below. at_most (c.limits.ensures.made first to n 3 (omega arith) valid below (lit< tt)) (fm_batches-few (console first).pal first m.at to near c.self.invariant.quiet))
-          (λ n below. at_most (c.limits.ensures.made first to n 4 (omega arith) valid below (lit< tt)) (batches-few (console first).pal first m.at to near c.self.invariant.quiet))
+          (λ n below. le_trans (c.limits.ensures.made first to n 3 (omega arith) valid below (lit< tt)) (fm_batches-few (console first).pal first m.at to near c.self.invariant.quiet))
+          (λ n below. le_trans (c.limits.ensures.made first to n 4 (omega arith) valid below (lit< tt)) (batches-few (console first).pal first m.at to near c.self.invariant.quiet))
           media valid c.self.invariant.quiet near;
     }) in
     subst (λ (v : MachineValue). ListsEndAsRun v.at v.console) c.self.view_is (record { core = core; is = refl; each = each })
