@@ -420,9 +420,10 @@ impl Shared {
         }
     }
 
-    /// Carries out an access of the 68000.
+    /// Carries out an access of the 68000, at a cycle of at most 2^50: its answer, and its entry in the
+    /// journal. It is what [`carry_out`] does of such a request, for a caller who knows that it is one.
     #[tactic(auto, unfolding(crate::specs::Accesses::main_answer, crate::specs::Accesses::main_told))]
-    fn main(&mut self, key: Key, request: Request68) -> (Answer68, Entry)
+    pub fn carry_out_main(&mut self, key: Key, request: Request68) -> (Answer68, Entry)
         requires chip { key.chip ≡ 0 }
         requires soon { key.cycle ≤ 2 ^ 50 }
         ensures answer { result.0 ≡ accesses.main_answer self.old key request }
@@ -477,9 +478,10 @@ impl Shared {
         }
     }
 
-    /// Carries out an access of the Z80.
+    /// Carries out an access of the Z80, at a cycle of at most 2^50: its answer, and its entry in the
+    /// journal. It is what [`carry_out`] does of such a request, for a caller who knows that it is one.
     #[tactic(auto, unfolding(crate::specs::Accesses::sub_access))]
-    fn sub(&mut self, key: Key, request: Request80) -> (Answer80, Entry)
+    pub fn carry_out_sub(&mut self, key: Key, request: Request80) -> (Answer80, Entry)
         requires chip { key.chip < 2 }
         requires soon { key.cycle ≤ 2 ^ 50 }
         ensures answer { answer_value80 result.0 ≡ (accesses.sub_access self.old key (request_value80 request)).answer }
@@ -585,11 +587,11 @@ pub fn carry_out(shared: &mut Shared, key: Key, request: Request) -> (Answer, En
 {
     match request {
         Request::Main(request) => {
-            let (answer, entry) = shared.main(key, request);
+            let (answer, entry) = shared.carry_out_main(key, request);
             (Answer::Main(answer), entry)
         }
         Request::Sub(request) => {
-            let (answer, entry) = shared.sub(key, request);
+            let (answer, entry) = shared.carry_out_sub(key, request);
             (Answer::Sub(answer), entry)
         }
         Request::Line(mut view, note) => {

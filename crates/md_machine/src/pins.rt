@@ -12,6 +12,15 @@ pub enum Pins {
     Sub(Pins80),
 }
 
+/// What the Z80's pins are taken for where there are none.
+const NONE: Pins80 = Pins80 {
+    request: false,
+    reset: false,
+    resets: 0,
+    int_from: 0,
+    int_to: 0,
+};
+
 impl Pins {
     /// The pins of the 68000; where they are the Z80's, none is asked for.
     pub(crate) fn main(&self) -> Pins68
@@ -24,18 +33,13 @@ impl Pins {
     }
 
     /// The pins of the Z80; where they are the 68000's, all is 0.
-    pub(crate) fn sub(&self) -> Pins80
-        ensures { result ≡ shown.sub_in self.now }
+    #[inline(always)]
+    pub(crate) fn sub(&self) -> &Pins80
+        ensures { result.now ≡ shown.sub_in self.now }
     {
         match self {
-            Pins::Sub(pins) => *pins,
-            Pins::Main(_) => Pins80 {
-                request: false,
-                reset: false,
-                resets: 0,
-                int_from: 0,
-                int_to: 0,
-            },
+            Pins::Sub(pins) => pins,
+            Pins::Main(_) => &NONE,
         }
     }
 }

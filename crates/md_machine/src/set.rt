@@ -67,15 +67,18 @@ impl ChipSet for MdChips {
         }
     }
 
-    /// A line is drawn straight from the board, and no view is filled.
+    /// The 68000 keeps no answer, and a line is drawn straight from the board, without a view.
     #[tactic(auto, unfolding(m68k_chip::specs::States::next_of, z80_chip::specs::States::next_of))]
     fn access(chip: &mut Chip, shared: &mut Shared) -> Entry {
-        if let Chip::Draw(draw) = chip {
-            return draw.access(shared);
+        match chip {
+            Chip::Main(main) => main.access(shared),
+            Chip::Draw(draw) => draw.access(shared),
+            Chip::Sub(_) | Chip::Fm(_) | Chip::Psg(_) => {
+                let entry = Self::perform(chip, shared);
+                Self::advance(chip);
+                entry
+            }
         }
-        let entry = Self::perform(chip, shared);
-        Self::advance(chip);
-        entry
     }
 
     fn pins(shared: &Shared, chip: u8) -> Pins {

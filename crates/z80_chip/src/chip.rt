@@ -113,17 +113,17 @@ impl Chip80 {
 
     /// Takes the sample that is the next event, as `sample` does, and then all samples of these pins
     /// below cycle `end`, up to the first access; answers how many that were.
-    pub fn sample_ahead(&mut self, pins: Pins80, end: u64) -> u64
+    pub fn sample_ahead(&mut self, pins: &Pins80, end: u64) -> u64
         requires sampling { (next_of self.old.state).sample ≡ true }
         requires far { self.old.state.next < 2 ^ 50 }
         requires end { end ≤ 2 ^ 50 }
-        ensures state { WentAhead result end self.old.cart pins self.old.state self.new.state }
-        ensures all { is_rest (case_of self.old.state pins) ≡ true → end ≤ self.new.state.next }
+        ensures state { WentAhead result end self.old.cart pins.now self.old.state self.new.state }
+        ensures all { is_rest (case_of self.old.state pins.now) ≡ true → end ≤ self.new.state.next }
         ensures cart { self.new.cart ≡ self.old.cart }
     {
         let mut samples = self.rest_ahead(pins, end);
         while self.samples_below(end) {
-            self.sample(pins);
+            self.sample(*pins);
             samples += 1;
         }
         samples
@@ -131,16 +131,16 @@ impl Chip80 {
 
     /// Takes the sample that is the next event and, where the Z80 does nothing, all samples of these
     /// pins below cycle `end` too; answers how many that were.
-    fn rest_ahead(&mut self, pins: Pins80, end: u64) -> u64
+    fn rest_ahead(&mut self, pins: &Pins80, end: u64) -> u64
         requires sampling { (next_of self.old.state).sample ≡ true }
         requires far { self.old.state.next < 2 ^ 50 }
         requires end { end ≤ 2 ^ 50 }
-        ensures state { WentAhead result end self.old.cart pins self.old.state self.new.state }
+        ensures state { WentAhead result end self.old.cart pins.now self.old.state self.new.state }
         ensures few { result ≤ 2 ^ 50 + 1 }
-        ensures all { is_rest (case_of self.old.state pins) ≡ true → end ≤ self.new.state.next }
+        ensures all { is_rest (case_of self.old.state pins.now) ≡ true → end ≤ self.new.state.next }
         ensures cart { self.new.cart ≡ self.old.cart }
     {
-        self.sequencer.begin_ahead(&pins, end, &self.cart, &mut self.parcel, &mut self.progress)
+        self.sequencer.begin_ahead(pins, end, &self.cart, &mut self.parcel, &mut self.progress)
     }
 
     /// Whether the next event is a sample below a cycle.

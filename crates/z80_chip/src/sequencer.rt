@@ -244,6 +244,7 @@ impl Sequencer {
     }
 
     /// Carries out an instruction or an interrupt, where the Z80 has its RAM.
+    #[inline(never)]
     fn carry_out(
         &mut self,
         cause: u8,
@@ -262,6 +263,7 @@ impl Sequencer {
     }
 
     /// Goes on from a sample with these pins to the next event.
+    #[inline(always)]
     #[tactic(auto, unfolding(crate::specs::Events::begun))]
     pub fn begin(
         &mut self,

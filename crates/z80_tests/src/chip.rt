@@ -69,7 +69,7 @@ fn sample_ahead(chip: &mut Chip80, reset: bool, end: u64) -> Option<u64> {
         int_from: 0,
         int_to: 0,
     };
-    chip.sample_ahead(pins, end);
+    chip.sample_ahead(&pins, end);
     Some(chip.next().key.cycle)
 }
 

@@ -6,7 +6,7 @@ ghost use Rattle.bus_shared.specs.Board.{Board};
 ghost use Rattle.md_machine.specs.Parts.{IsMain};
 ghost use Rattle.md_machine.specs.Rules as rules;
 
-use bus_shared::{Request, Shared, carry_out};
+use bus_shared::Shared;
 use m68k_chip::Chip68;
 use md_word::{Answer68, Entry, Next, Pins68};
 
@@ -26,7 +26,7 @@ impl MainChip {
     }
 
     /// The part of an access that needs the board: the answer is kept.
-    #[tactic(auto, unfolding(m68k_chip::specs::States::next_of, bus_shared::specs::Accesses::carried))]
+    #[tactic(auto, unfolding(m68k_chip::specs::States::next_of, bus_shared::specs::Accesses::main_answer))]
     pub(crate) fn perform(&mut self, shared: &mut Shared) -> Entry
         requires access { (next_of self.old.chip.state).sample ≡ false }
         requires cycle { self.old.chip.state.next < 2 ^ 50 }
@@ -35,9 +35,24 @@ impl MainChip {
         ensures entry { result ≡ (rules.main_perform self.old shared.old).entry }
     {
         let key = self.chip.next().key;
-        let request = Request::Main(self.chip.request());
-        let (answer, entry) = carry_out(shared, key, request);
-        self.answer = answer.main();
+        let (answer, entry) = shared.carry_out_main(key, self.chip.request());
+        self.answer = Some(answer);
+        entry
+    }
+
+    /// Both halves of an access: no answer is kept.
+    #[tactic(auto, unfolding(m68k_chip::specs::States::next_of))]
+    pub(crate) fn access(&mut self, shared: &mut Shared) -> Entry
+        requires access { (next_of self.old.chip.state).sample ≡ false }
+        requires cycle { self.old.chip.state.next < 2 ^ 50 }
+        ensures chip { self.new ≡ rules.main_advance (rules.main_perform self.old shared.old).chip }
+        ensures shared { shared.new ≡ (rules.main_perform self.old shared.old).shared }
+        ensures entry { result ≡ (rules.main_perform self.old shared.old).entry }
+    {
+        let key = self.chip.next().key;
+        let (answer, entry) = shared.carry_out_main(key, self.chip.request());
+        self.answer = None;
+        self.chip.answer(answer);
         entry
     }
 

@@ -4,7 +4,7 @@ ghost use Rattle.z80_chip.specs.States.{next_of};
 ghost use Rattle.z80_parcel.specs.Requests.{Fits};
 ghost use Rattle.md_machine.specs.Rules as rules;
 
-use bus_shared::{Request, Shared, carry_out};
+use bus_shared::Shared;
 use md_word::{Answer80, Entry, Next, Pins80};
 use std::marker::Model;
 use z80_chip::Chip80;
@@ -37,7 +37,7 @@ impl SubChip {
     }
 
     /// The part of an access that needs the board: the answer is kept.
-    #[tactic(auto, unfolding(z80_chip::specs::States::next_of, bus_shared::specs::Accesses::carried))]
+    #[tactic(auto, unfolding(z80_chip::specs::States::next_of))]
     pub(crate) fn perform(&mut self, shared: &mut Shared) -> Entry
         requires access { (next_of self.old.chip.state).sample ≡ false }
         requires cycle { self.old.chip.state.next < 2 ^ 50 }
@@ -46,9 +46,8 @@ impl SubChip {
         ensures entry { result ≡ (rules.sub_perform self.old shared.old).entry }
     {
         let key = self.chip.next().key;
-        let request = Request::Sub(self.chip.request());
-        let (answer, entry) = carry_out(shared, key, request);
-        self.answer = answer.sub();
+        let (answer, entry) = shared.carry_out_sub(key, self.chip.request());
+        self.answer = Some(answer);
         entry
     }
 
@@ -65,20 +64,20 @@ impl SubChip {
         }
     }
 
-    pub(crate) fn sample(&mut self, pins: Pins80)
+    pub(crate) fn sample(&mut self, pins: &Pins80)
         requires sample { (next_of self.old.chip.state).sample ≡ true }
         requires cycle { self.old.chip.state.next < 2 ^ 50 }
-        ensures { self.new ≡ rules.sub_sample self.old pins }
+        ensures { self.new ≡ rules.sub_sample self.old pins.now }
     {
-        self.chip.sample(pins);
+        self.chip.sample(*pins);
     }
 
     /// A sample, and those of the same pins below cycle `end` after it; answers how many that were.
-    pub(crate) fn sample_ahead(&mut self, pins: Pins80, end: u64) -> u64
+    pub(crate) fn sample_ahead(&mut self, pins: &Pins80, end: u64) -> u64
         requires sample { (next_of self.old.chip.state).sample ≡ true }
         requires cycle { self.old.chip.state.next < 2 ^ 50 }
         requires end { end ≤ 2 ^ 50 }
-        ensures state { WentAhead result end self.old.chip.cart pins self.old.chip.state self.new.chip.state }
+        ensures state { WentAhead result end self.old.chip.cart pins.now self.old.chip.state self.new.chip.state }
         ensures cart { self.new.chip.cart ≡ self.old.chip.cart }
         ensures answer { self.new.answer ≡ self.old.answer }
     {

@@ -4,13 +4,13 @@ use Rattle.z80_chip.specs.Events.{WentAhead}
 use Rattle.z80_chip.proofs.chip.Chip80.sample_ahead.Given as goal
 
 -- samples led here, over the same cartridge; where it rested, none is left below the cycle
-abbrev pub invariant-loop-pins : goal.invariant-loop-pins
-invariant-loop-pins l = record {
+abbrev pub invariant-loop-self : goal.invariant-loop-self
+invariant-loop-self l = record {
   led : WentAhead l.samples l.end l.fn.self.cart l.pins l.fn.self.state l.self.state;
   all : is_rest (case_of l.fn.self.state l.pins) ≡ true → l.end ≤ l.self.state.next;
   cart : l.self.cart ≡ l.fn.self.cart;
   few : l.samples ≤ 2 ^ 50 + 1 + l.self.state.next;
 }
 
-abbrev pub decreases-loop-pins : goal.decreases-loop-pins
-decreases-loop-pins l = l.end - l.self.state.next
+abbrev pub decreases-loop-self : goal.decreases-loop-self
+decreases-loop-self l = l.end - l.self.state.next
