@@ -6,6 +6,9 @@ use md_fields::{Field, put};
 /// How many bytes keep 1,024 writes, at most.
 const MOST: usize = 12_288;
 
+/// So many bytes of 0.
+static ZEROS: [u8; MOST] = [0; MOST];
+
 /// Appends how many writes there are.
 #[tactic(auto, unfolding(md_fields::specs::Fields::spelling))]
 pub fn put_count(count: u16, into: &mut Vec<u8>)
@@ -26,6 +29,5 @@ pub fn put_zeros(count: usize, into: &mut Vec<u8>)
     ensures length { vec_len into.new ≡ vec_len into.old + count }
     ensures room { vec_capacity into.old ≤ vec_capacity into.new }
 {
-    let zeros = [0; MOST];
-    put(&[Field::Block(&zeros[..count], true)], into);
+    put(&[Field::Block(&ZEROS[..count], true)], into);
 }
