@@ -14,18 +14,25 @@ use Rattle.md_word.specs.Clock.{line}
 use Rattle.vdp_chip.specs.Drawing.{Drawing, IsDrawing, undrawn_from}
 use Rattle.md_word.specs.Region.{lines, rows}
 use Rattle.vdp_chip.specs.Picture.{memory_length, row_length}
-use Rattle.vdp_chip.specs.Saved.{DrawingNumbers, drawing_fields, drawing_of, numbers_of}
+use Rattle.vdp_chip.specs.Saved.{DrawingNumbers, drawing_fields, drawing_of, fields_by, is_picture, numbers_of}
 use Rattle.vdp_chip.specs.Spelling.{GoesWrongAt, IsDrained, IsReady, Spells, drained, drawing_bytes, drawing_size}
 use Rattle.vdp_chip.proofs.Lined.{row_above}
 
--- the bytes depend neither on the cycle nor on the region
-pub same_bytes : (at other : ℕ) (pal region : Bool) (n : DrawingNumbers) → spelling (drawing_fields at pal n) ≡ spelling (drawing_fields other region n)
+-- the bytes depend neither on the cycle nor on whether the picture's rule holds
+pub bytes_by : (at other : ℕ) (holds more : Bool) (n : DrawingNumbers) → spelling (fields_by at holds n) ≡ spelling (fields_by other more n)
 unfolding spelling
-same_bytes at other pal region n = refl
+bytes_by at other holds more n = refl
+
+-- nor on the region
+pub same_bytes : (at other : ℕ) (pal region : Bool) (n : DrawingNumbers) → spelling (drawing_fields at pal n) ≡ spelling (drawing_fields other region n)
+same_bytes at other pal region n = bytes_by at other (is_picture at pal n.picture) (is_picture other region n.picture) n
+
+pub size_by : (at : ℕ) (holds : Bool) (n : DrawingNumbers) → sizes (fields_by at holds n) ≡ drawing_size
+unfolding sizes
+size_by at holds n = refl
 
 pub fields_size : (at : ℕ) (pal : Bool) (n : DrawingNumbers) → sizes (drawing_fields at pal n) ≡ drawing_size
-unfolding sizes
-fields_size at pal n = refl
+fields_size at pal n = size_by at (is_picture at pal n.picture) n
 
 -- the numbers that stand in bytes are the only ones
 pub only_one : (at : ℕ) (pal : Bool) (bytes : List ℕ) (s t : DrawingNumbers) → Stand 0 (drawing_fields at pal s) bytes → Stand 0 (drawing_fields at pal t) bytes → s ≡ t

@@ -48,11 +48,15 @@ is_note n = nat_le n.overflow 1 && nat_le n.collision 1
 abbrev pub is_picture : ℕ → Bool → List ℕ → Bool
 is_picture at pal picture = are_zeros (drop (row_length * undrawn_from at pal) picture)
 
--- the fields in their order, and their rules, by the cycle of the state and its region
-abbrev pub drawing_fields : ℕ → Bool → DrawingNumbers → List Field
-drawing_fields at pal n =
+-- the fields in their order, and their rules, by the cycle of the state and by whether that of the picture holds
+abbrev pub fields_by : ℕ → Bool → DrawingNumbers → List Field
+fields_by at holds n =
     quad n.next (is_first n.next at)
     ∷ byte n.overflow (is_note n)
     ∷ byte n.collision true
-    ∷ block memory_length n.picture (is_picture at pal n.picture)
+    ∷ block memory_length n.picture holds
     ∷ []
+
+-- the same by the cycle of the state and its region
+abbrev pub drawing_fields : ℕ → Bool → DrawingNumbers → List Field
+drawing_fields at pal n = fields_by at (is_picture at pal n.picture) n

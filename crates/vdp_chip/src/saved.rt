@@ -5,7 +5,7 @@ ghost use Rattle.md_fields.specs.Places.{Stand};
 ghost use Rattle.vdp_chip.specs.Drawing as drawing;
 ghost use Rattle.vdp_chip.specs.Picture.{memory_length};
 ghost use Rattle.vdp_chip.specs.Saved as rules;
-ghost use Rattle.vdp_chip.specs.Saved.{drawing_fields};
+ghost use Rattle.vdp_chip.specs.Saved.{drawing_fields, fields_by};
 ghost use Rattle.vdp_chip.specs.Spelling.{drawing_size};
 
 use crate::picture::ROW;
@@ -58,18 +58,26 @@ impl<'a> SavedDrawing<'a> {
         }
     }
 
-    /// The fields in their order, and whether their rules hold in a state at a cycle and of a region.
+    /// The fields in their order, and whether their rules hold in a state at a cycle; whether that of the picture
+    /// does is told.
     #[tactic(auto, unfolding(md_fields::specs::Fields::AreSized))]
-    pub fn fields(&self, at: u64, pal: bool) -> [Field<'_>; 4]
-        ensures fields { map seen result ≡ drawing_fields at pal self.now }
+    pub fn fields(&self, at: u64, holds: bool) -> [Field<'_>; 4]
+        ensures fields { map seen result ≡ fields_by at holds self.now }
         ensures sizes { AreSized (map seen result) }
     {
         [
             Field::Quad(self.next, is_first(self.next, at)),
             Field::Byte(self.overflow, self.overflow <= 1 && self.collision <= 1),
             Field::Byte(self.collision, true),
-            Field::Block(self.picture, is_picture(at, pal, self.picture)),
+            Field::Block(self.picture, holds),
         ]
+    }
+
+    /// Whether the rows of the picture are 0 that are not drawn below a cycle.
+    fn is_picture(&self, at: u64, pal: bool) -> bool
+        ensures { result ≡ rules.is_picture at pal self.now.picture }
+    {
+        are_zeros(&self.picture[ROW * undrawn_from(at, pal) as usize..])
     }
 
     /// The numbers that the bytes keep, where the rules hold of them; else the place of the refusal.
@@ -81,7 +89,8 @@ impl<'a> SavedDrawing<'a> {
             return Err(bytes.len().min(LENGTH));
         }
         let saved = SavedDrawing::read(bytes);
-        match first_wrong(&saved.fields(at, pal)) {
+        let holds = saved.is_picture(at, pal);
+        match first_wrong(&saved.fields(at, holds)) {
             Some(place) => Err(place),
             None => Ok(saved),
         }
@@ -105,11 +114,4 @@ fn undrawn_from(at: u64, pal: bool) -> u32
     } else {
         (line_of(at - 1, pal) + 1).min(rows(pal))
     }
-}
-
-fn is_picture(at: u64, pal: bool, picture: &[u8]) -> bool
-    requires { length picture.now ≡ memory_length }
-    ensures { result ≡ rules.is_picture at pal picture.now }
-{
-    are_zeros(&picture[ROW * undrawn_from(at, pal) as usize..])
 }

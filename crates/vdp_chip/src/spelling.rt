@@ -45,7 +45,7 @@ impl ChipVdp {
         ensures kept { IsReady at self.now → Spells at self.now.pal (drawing_bytes self.now) (drained self.now) }
     {
         self.known();
-        put(&self.saved().fields(at, self.pal), into);
+        put(&self.saved().fields(at, true), into);
     }
 
     /// Tells that the bytes of this chip are read again where its next event is the first of a line from a cycle

@@ -1,22 +1,25 @@
-use Rattle.std.proofs.Common.{inr, sym, ap, ◌∙◌, arith}
+use Rattle.std.proofs.Common.{Bool, inr, sym, ap, ◌∙◌, arith}
 use Rattle.md_fields.specs.Fields.{sizes, first_wrong}
 use Rattle.md_fields.proofs.Items.{kept}
-use Rattle.vdp_chip.specs.Saved.{drawing_fields}
-use Rattle.vdp_chip.proofs.SavedLaws.{fields_size}
+use Rattle.vdp_chip.specs.Saved.{drawing_fields, fields_by}
+use Rattle.vdp_chip.proofs.SavedLaws.{size_by}
 use Rattle.vdp_chip.proofs.saved.SavedDrawing.checked.Goals as goal
 
 pub first_wrong-requires : goal.first_wrong-requires
-first_wrong-requires c = omega (arith, ap sizes c.fields.ensures.fields ∙ fields_size c.args.at c.args.pal c.read-saved.result)
+first_wrong-requires c = omega (arith, ap sizes c.fields.ensures.fields ∙ size_by c.args.at c.is_picture-holds.result c.read-saved.result)
 
 pub returns-in-Some-clause-refused : goal.returns-in-Some-clause-refused
-returns-in-Some-clause-refused c = inr (record {
-  saved = c.read-saved.result;
-  keeps = kept (drawing_fields c.args.at c.args.pal) c.args.bytes.now c.read-saved.result (λ i. omega (arith, c.type_inv.bytes i)) (c.read-saved.ensures c.args.at c.args.pal);
-  first = ap (first_wrong 0) (sym c.fields.ensures.fields) ∙ sym c.first_wrong.ensures ∙ c.in-Some.is;
-})
+returns-in-Some-clause-refused c =
+    let same = c.fields.ensures.fields ∙ ap (λ (b : Bool). fields_by c.args.at b c.read-saved.result) c.is_picture-holds.ensures in
+    inr (record {
+      saved = c.read-saved.result;
+      keeps = kept (drawing_fields c.args.at c.args.pal) c.args.bytes.now c.read-saved.result (λ i. omega (arith, c.type_inv.bytes i)) (c.read-saved.ensures c.args.at c.args.pal);
+      first = ap (first_wrong 0) (sym same) ∙ sym c.first_wrong.ensures ∙ c.in-Some.is;
+    })
 
 pub returns-in-None-clause-found : goal.returns-in-None-clause-found
-returns-in-None-clause-found c = (
-  kept (drawing_fields c.args.at c.args.pal) c.args.bytes.now c.read-saved.result (λ i. omega (arith, c.type_inv.bytes i)) (c.read-saved.ensures c.args.at c.args.pal),
-  ap (first_wrong 0) (sym c.fields.ensures.fields) ∙ sym c.first_wrong.ensures ∙ c.in-None.is,
-)
+returns-in-None-clause-found c =
+    let same = c.fields.ensures.fields ∙ ap (λ (b : Bool). fields_by c.args.at b c.read-saved.result) c.is_picture-holds.ensures in (
+      kept (drawing_fields c.args.at c.args.pal) c.args.bytes.now c.read-saved.result (λ i. omega (arith, c.type_inv.bytes i)) (c.read-saved.ensures c.args.at c.args.pal),
+      ap (first_wrong 0) (sym same) ∙ sym c.first_wrong.ensures ∙ c.in-None.is,
+    )
