@@ -1,8 +1,12 @@
 -- A padded list gives its numbers back, and the numbers of a padded list give it again.
-use Rattle.std.proofs.Common.{◌≡◌, ℕ, zero, suc, ◌-◌, ◌≤◌, true, eqb, List, [], ◌∷◌, ◌++◌, length, take, drop, replicate, refl, sym, ap, ◌∙◌, arith}
+use Rattle.std.proofs.Common.{◌≡◌, ◌≢◌, ℕ, zero, suc, ◌+◌, ◌-◌, ◌≤◌, Bool, true, false, ◌&&◌, eqb, List, [], ◌∷◌, ◌++◌, length, take, drop, replicate, refl, sym, ap, ◌∙◌, arith}
+use Rattle.std.specs.Int.{w64, from_be_bytes, to_be_bytes}
+use Rattle.std.proofs.lemmas.Nat.{be_bytes_8}
 use Rattle.std.proofs.lemmas.Bool.{eqb-true, and_parts}
-use Rattle.std.proofs.lemmas.List.{length-take, length-drop, take-append-drop, take_at, drop_at, length-append, length-replicate}
+use Rattle.std.proofs.lemmas.List.{drop-drop, length-take, length-drop, take-append-drop, take_at, drop_at, length-append, length-replicate}
 use Rattle.md_fields.specs.Padding.{padded, are_zeros}
+use Rattle.md_fields.specs.Places.{IsBytes, number_at}
+use Rattle.md_fields.proofs.Standing.{IsBytes-drop, IsBytes-take}
 
 zeros_are : (ns : List ℕ) → are_zeros ns ≡ true → replicate (length ns) 0 ≡ ns
 zeros_are [] e = refl
@@ -32,3 +36,36 @@ padded_zeros size ns = ap are_zeros (drop_at ns (replicate (size - length ns) 0)
 -- a padded list has the size
 pub padded_length : (size : ℕ) (ns : List ℕ) → length ns ≤ size → length (padded size ns) ≡ size
 padded_length size ns le = omega (arith, le, length-append ns (replicate (size - length ns) 0), length-replicate {A = ℕ} (size - length ns) 0)
+
+-- ---- eight at a time
+
+and_joined : (a b c : Bool) → (a && (b && c)) ≡ ((a && b) && c)
+and_joined true b c = refl
+and_joined false b c = refl
+
+zeros_joined : (a b : List ℕ) → are_zeros (a ++ b) ≡ (are_zeros a && are_zeros b)
+zeros_joined [] b = refl
+zeros_joined (n ∷ ns) b = ap (λ (x : Bool). eqb n 0 && x) (zeros_joined ns b) ∙ and_joined (eqb n 0) (are_zeros ns) (are_zeros b)
+
+zeros_split : (place : ℕ) (bytes : List ℕ) → are_zeros (drop place bytes) ≡ (are_zeros (take 8 (drop place bytes)) && are_zeros (drop (place + 8) bytes))
+zeros_split place bytes =
+    ap are_zeros (sym (take-append-drop 8 (drop place bytes))) ∙ zeros_joined (take 8 (drop place bytes)) (drop 8 (drop place bytes))
+    ∙ ap (λ (l : List ℕ). are_zeros (take 8 (drop place bytes)) && are_zeros l) (drop-drop 8 place bytes)
+
+eight_long : (place : ℕ) (bytes : List ℕ) → place + 8 ≤ length bytes → length (take 8 (drop place bytes)) ≡ 8
+eight_long place bytes room = omega (arith, room, length-take 8 (drop place bytes), length-drop place bytes)
+
+-- eight bytes that are the number 0 are zeros, and what is behind them tells of the rest
+pub eight_more : (place : ℕ) (bytes : List ℕ) → IsBytes bytes → place + 8 ≤ length bytes → number_at w64 place bytes ≡ 0 → are_zeros (drop (place + 8) bytes) ≡ are_zeros (drop place bytes)
+unfolding number_at
+eight_more place bytes fits room e =
+    let zeros : to_be_bytes w64 0 ≡ take 8 (drop place bytes) = be_bytes_8 (take 8 (drop place bytes)) 0 (eight_long place bytes room) (IsBytes-take 8 _ (IsBytes-drop place bytes fits)) (sym e) in
+    sym (zeros_split place bytes ∙ ap (λ (l : List ℕ). are_zeros l && are_zeros (drop (place + 8) bytes)) (sym zeros))
+
+-- eight bytes that are another number are not zeros
+pub eight_not : (place : ℕ) (bytes : List ℕ) → place + 8 ≤ length bytes → number_at w64 place bytes ≢ 0 → are_zeros (drop place bytes) ≡ false
+unfolding number_at
+eight_not place bytes room other = zeros_split place bytes ∙ by (are_zeros (take 8 (drop place bytes))) refl where
+  by : (b : Bool) → are_zeros (take 8 (drop place bytes)) ≡ b → (b && are_zeros (drop (place + 8) bytes)) ≡ false
+  by false e = refl
+  by true e = absurd (other (ap (from_be_bytes w64) (sym (zeros_are (take 8 (drop place bytes)) e) ∙ ap (λ (n : ℕ). replicate n 0) (eight_long place bytes room))))

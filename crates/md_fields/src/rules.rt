@@ -2,6 +2,8 @@ ghost use Rattle.std.specs.Prelude.{◌≡◌};
 ghost use Rattle.md_fields.specs.Distances as distances;
 ghost use Rattle.md_fields.specs.Padding as padding;
 
+use crate::reading::u64_at;
+
 /// How far from the cycle of a saved state the next event of a processor can be.
 const FAR: u64 = 0x10_0000;
 
@@ -19,8 +21,22 @@ pub fn is_after(later: u64, earlier: u64, distance: u64) -> bool
     earlier <= later && later - earlier == distance
 }
 
-/// Whether all these bytes are 0, as those of places that are not used.
+/// Whether all these bytes are 0, as those of places that are not used. Eight are looked at in one step.
 pub fn are_zeros(bytes: &[u8]) -> bool
+    ensures { result ≡ padding.are_zeros bytes.now }
+{
+    let mut place = 0;
+    while place + 8 <= bytes.len() {
+        if u64_at(bytes, place) != 0 {
+            return false;
+        }
+        place += 8;
+    }
+    are_single_zeros(&bytes[place..])
+}
+
+/// The same, byte by byte.
+fn are_single_zeros(bytes: &[u8]) -> bool
     ensures { result ≡ padding.are_zeros bytes.now }
 {
     bytes.iter().all(|byte| *byte == 0)
