@@ -1,7 +1,7 @@
 -- A journal and a file come to one outcome alone.
 use Rattle.std.proofs.Common.{◌≡◌, ◌∙◌, ◌≢◌, ◌⊎◌, ◌<◌, ℕ, Bool, List, Option, None, Some, ap, sym, subst, inl, inr, arith}
 use Rattle.std.proofs.lemmas.Bool.{cases_order}
-use Rattle.md_vgm.specs.Course.{ComesTo, Ends, Goes, Refused, Verdict, fm_before, head_fault, psg_before, stamp, verdict}
+use Rattle.md_vgm.specs.Course.{ComesTo, Ends, Goes, Refused, Verdict, fm_before, head_fault, psg_before, stamp, verdict_of}
 use Rattle.md_vgm.specs.Outcomes.{Failed, IsMade, IsPlayed, Made, Outcome}
 use Rattle.md_vgm.specs.Playing.{sound_file}
 use Rattle.md_vgm.specs.declared.fault.VgmFault.{VgmFault}
@@ -13,13 +13,13 @@ made_once pal journal (Made file) (Failed fault) is is' = absurd (omega (arith, 
 made_once pal journal (Failed fault) (Made file) is is' = absurd (omega (arith, is.0, is'.0))
 made_once pal journal (Failed fault) (Failed other) is is' = ap Failed (is.1 ∙ sym is'.1)
 
-apart : (pal : Bool) (file : List ℕ) (m n : ℕ) → ComesTo pal file m → ComesTo pal file n → verdict pal file m ≢ Goes → verdict pal file n ≢ Goes
+apart : (pal : Bool) (file : List ℕ) (m n : ℕ) → ComesTo pal file m → ComesTo pal file n → verdict_of pal file m ≢ Goes → verdict_of pal file n ≢ Goes
     → (m < n) ⊎ (n < m) → m ≡ n
 apart pal file m n comes comes' stops stops' (inl below) = absurd (stops (comes' m below))
 apart pal file m n comes comes' stops stops' (inr above) = absurd (stops' (comes n above))
 
 -- a file has at most one command to which all before it go on and that does not go on itself
-stops_once : (pal : Bool) (file : List ℕ) (m n : ℕ) → ComesTo pal file m → ComesTo pal file n → verdict pal file m ≢ Goes → verdict pal file n ≢ Goes → m ≡ n
+stops_once : (pal : Bool) (file : List ℕ) (m n : ℕ) → ComesTo pal file m → ComesTo pal file n → verdict_of pal file m ≢ Goes → verdict_of pal file n ≢ Goes → m ≡ n
 stops_once pal file m n comes comes' stops stops' = elim (cases_order m n) [
   | inl same ↦ same
   | inr differ ↦ apart pal file m n comes comes' stops stops' differ
@@ -45,7 +45,7 @@ one_fault v fault other is is' = cc
 
 module _ (pal : Bool) (file : List ℕ) where
   abbrev Stops : VgmFault → Type 0
-  Stops fault = (head_fault file ≡ None) × ((n : ℕ) × ComesTo pal file n × (verdict pal file n ≡ Refused fault))
+  Stops fault = (head_fault file ≡ None) × ((n : ℕ) × ComesTo pal file n × (verdict_of pal file n ≡ Refused fault))
 
   abbrev Heads : VgmFault → Type 0
   Heads fault = (place : ℕ) × (head_fault file ≡ Some place) × (fault ≡ Form place)
@@ -54,7 +54,7 @@ module _ (pal : Bool) (file : List ℕ) where
   ends_alone sound fault is (inl head) = none_or_some (head_fault file) head.0 is.0 head.1
   ends_alone sound fault (none, (m, comes, ends, bytes)) (inr (other, (n, comes', refused))) =
       let same : m ≡ n = stops_once pal file m n comes comes' (ends_stop _ ends) (refused_stop _ fault refused) in
-      ends_or_refused (verdict pal file n) fault (subst (λ (k : ℕ). verdict pal file k ≡ Ends) same ends) refused
+      ends_or_refused (verdict_of pal file n) fault (subst (λ (k : ℕ). verdict_of pal file k ≡ Ends) same ends) refused
 
   fails_once : (fault other : VgmFault) → Heads fault ⊎ Stops fault → Heads other ⊎ Stops other → fault ≡ other
   fails_once fault other (inl head) (inl head') = head.2 ∙ ap Form (one_place (head_fault file) head.0 head'.0 head.1 head'.1) ∙ sym head'.2
@@ -62,7 +62,7 @@ module _ (pal : Bool) (file : List ℕ) where
   fails_once fault other (inr stops) (inl head) = absurd (none_or_some (head_fault file) head.0 stops.0 head.1)
   fails_once fault other (inr (none, (m, comes, refused))) (inr (none', (n, comes', refused'))) =
       let same : m ≡ n = stops_once pal file m n comes comes' (refused_stop _ fault refused) (refused_stop _ other refused') in
-      one_fault (verdict pal file n) fault other (subst (λ (k : ℕ). verdict pal file k ≡ Refused fault) same refused) refused'
+      one_fault (verdict_of pal file n) fault other (subst (λ (k : ℕ). verdict_of pal file k ≡ Refused fault) same refused) refused'
 
   sounds_once : (sound other : List ℕ) → IsPlayed pal file (Made sound) → IsPlayed pal file (Made other) → sound ≡ other
   sounds_once sound other (none, (m, comes, ends, bytes)) (none', (n, comes', ends', bytes')) =
