@@ -6,7 +6,7 @@ use Rattle.vdp_ports.specs.Vdp.{Vdp, register}
 use Rattle.vdp_ports.specs.Data.{other}
 
 -- a byte put into VRAM at a cycle
-pub record Write : Type 0 where
+pub record StampedByte : Type 0 where
   pub stamp : ℕ
   pub address : ℕ
   pub byte : ℕ
@@ -25,7 +25,7 @@ running s k = (s.address + register s 15 * k) % 0x1_0000
 
 -- byte k of what is left, over the memory that the bytes before it left: a copy's is read there, and a
 -- fill's goes to the other half of the word
-unfoldable pub write : Vdp → ℕ → List ℕ → Write
+unfoldable pub write : Vdp → ℕ → List ℕ → StampedByte
 write s k vram = record {
   stamp = s.next_stamp + step s * k;
   address = if copies s then running s k else other (running s k);
@@ -33,7 +33,7 @@ write s k vram = record {
 }
 
 -- the memory after a write
-abbrev pub done : List ℕ → Write → List ℕ
+abbrev pub done : List ℕ → StampedByte → List ℕ
 done vram w = slice_set vram w.address w.byte
 
 -- the memory after the first k bytes
@@ -42,11 +42,11 @@ vram_after s zero = s.vram
 vram_after s (suc k) = done (vram_after s k) (write s k (vram_after s k))
 
 -- all bytes that are left, as stamped writes
-unfoldable pub writes : Vdp → List Write
+unfoldable pub writes : Vdp → List StampedByte
 writes s = map (λ k. write s k (vram_after s k)) (range_with_len 0 s.left)
 
 -- those stamped below a cycle
-unfoldable pub due : ℕ → Vdp → List Write
+unfoldable pub due : ℕ → Vdp → List StampedByte
 due cycle s = filter (λ w. nat_lt w.stamp cycle) (writes s)
 
 -- the VDP after n bytes, with the memory that they left, where some are left
