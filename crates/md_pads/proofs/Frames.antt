@@ -85,17 +85,17 @@ pub record AreFrames (version : Version) (bytes : List ℕ) (count : ℕ) : Type
   pub number : length (frames_in bytes) ≡ count
   pub small : AllByRecursion (HasButtons version) (frames_in bytes)
 
-pub are_frames : (version : Version) (count : ℕ) (bytes : List ℕ) → length bytes ≡ 4 * count → ((i : ℕ) → get_or bytes i 0 < 256)
+pub frames_there : (version : Version) (count : ℕ) (bytes : List ℕ) → length bytes ≡ 4 * count → ((i : ℕ) → get_or bytes i 0 < 256)
     → ((k : ℕ) → 256 * get_or bytes (4 * k) 0 < words (six version 1)) → ((k : ℕ) → 256 * get_or bytes (4 * k + 2) 0 < words (six version 2)) → AreFrames version bytes count
 unfolding frames_in
-are_frames version zero [] len small upper1 upper2 = record { all = refl; number = refl; small = tt }
-are_frames version zero (a ∷ bytes) len small upper1 upper2 = absurd (omega arith)
-are_frames version (suc count) [] len small upper1 upper2 = absurd (omega arith)
-are_frames version (suc count) (a ∷ []) len small upper1 upper2 = absurd (omega arith)
-are_frames version (suc count) (a ∷ b ∷ []) len small upper1 upper2 = absurd (omega arith)
-are_frames version (suc count) (a ∷ b ∷ c ∷ []) len small upper1 upper2 = absurd (omega arith)
-are_frames version (suc count) (a ∷ b ∷ c ∷ d ∷ rest) len small upper1 upper2 =
-    let others = are_frames version count rest (omega arith) (λ i. small (suc (suc (suc (suc i)))))
+frames_there version zero [] len small upper1 upper2 = record { all = refl; number = refl; small = tt }
+frames_there version zero (a ∷ bytes) len small upper1 upper2 = absurd (omega arith)
+frames_there version (suc count) [] len small upper1 upper2 = absurd (omega arith)
+frames_there version (suc count) (a ∷ []) len small upper1 upper2 = absurd (omega arith)
+frames_there version (suc count) (a ∷ b ∷ []) len small upper1 upper2 = absurd (omega arith)
+frames_there version (suc count) (a ∷ b ∷ c ∷ []) len small upper1 upper2 = absurd (omega arith)
+frames_there version (suc count) (a ∷ b ∷ c ∷ d ∷ rest) len small upper1 upper2 =
+    let others = frames_there version count rest (omega arith) (λ i. small (suc (suc (suc (suc i)))))
     (λ k. subst (λ (n : ℕ). 256 * get_or (a ∷ b ∷ c ∷ d ∷ rest) n 0 < words (six version 1)) (four-more k) (upper1 (suc k)))
     (λ k. subst (λ (n : ℕ). 256 * get_or (a ∷ b ∷ c ∷ d ∷ rest) n 0 < words (six version 2)) (four-more-2 k) (upper2 (suc k))) in
     let first = be_bytes_2 (a ∷ b ∷ []) (from_be_bytes w16 (a ∷ b ∷ [])) refl (two_bytes a b (small 0) (small 1)) refl in

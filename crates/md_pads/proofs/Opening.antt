@@ -11,7 +11,7 @@ use Rattle.std.proofs.lemmas.Nat.{be_bytes_4, from_be_bytes-to_be_bytes_4}
 use Rattle.md_pads.specs.Recording.{Frame, HasButtons, Recorded, frame_bytes, lead, six, spelling, Spells, words}
 use Rattle.md_pads.specs.Reading.{BeginsIn, least_count, whole_len, frames_in}
 use Rattle.md_pads.specs.declared.version.Version.{Version}
-use Rattle.md_pads.proofs.Frames.{length-frames, upper-first, upper-second, words-some, are_frames}
+use Rattle.md_pads.proofs.Frames.{length-frames, upper-first, upper-second, words-some, frames_there}
 use Rattle.md_pads.proofs.Versions.{is_lead}
 
 -- where the count stands
@@ -148,7 +148,7 @@ unfolding spelling
 whole version xs bytes opened len =
     let count = least_count (start version) xs in
     let cut = length-drop (start version + 4) xs in
-    let body = are_frames version count (drop (start version + 4) xs) (omega arith)
+    let body = frames_there version count (drop (start version + 4) xs) (omega arith)
     (λ i. rw get_or-drop (bytes (start version + 4 + i) (omega arith)))
     (λ k. rw get_or-drop (let place : start version + 4 + 4 * k ≡ start version + (4 + 4 * k) = omega arith in rw place (opened.first k)))
     (λ k. rw get_or-drop (let place : start version + 4 + (4 * k + 2) ≡ start version + (4 + (4 * k + 2)) = omega arith in rw place (opened.second k))) in
