@@ -1,5 +1,7 @@
 -- A 68000 that goes ahead.
-use Rattle.std.proofs.Common.{◌≡◌, ◌⊎◌, inl, inr, ℕ, suc, ◌+◌, ◌<◌, ◌≤◌, false, true, List, sym, ap, subst, ◌∙◌, arith}
+use Rattle.std.proofs.Common.{◌≡◌, inl, inr, ℕ, suc, ◌+◌, ◌<◌, ◌≤◌, false, true, List, sym, ap, subst, ◌∙◌, arith}
+use Rattle.std.proofs.lemmas.Bool.{cases_lt}
+use Rattle.std.proofs.Math.Nat.{eq-or-lt_of_le}
 use Rattle.m68k_chip.specs.Events.{WentAhead, begun, begun_after}
 use Rattle.m68k_chip.specs.States.{State68, next_of}
 
@@ -13,17 +15,11 @@ one-ahead cart state level end after is = record {
   is = is;
 }
 
-below_or : (a b : ℕ) → (a < b) ⊎ (b ≤ a)
-below_or a b = grind arith
-
 pub not-below : (a b : ℕ) → (a < b → false ≡ true) → b ≤ a
-not-below a b wrong = elim (below_or a b) [
+not-below a b wrong = elim (cases_lt a b) [
   | inl low ↦ (let no_way = wrong low in cc)
   | inr late ↦ late
 ]
-
-last_or : (k n : ℕ) → k < suc n → (k < n) ⊎ (k ≡ n)
-last_or k n h = grind arith
 
 -- and one more, which lies below the cycle
 suc-ahead : (cart : List ℕ) (state : State68) (level end n : ℕ) (now after : State68) → WentAhead n end cart level state now → (next_of now).sample ≡ true → now.next < end
@@ -31,13 +27,13 @@ suc-ahead : (cart : List ℕ) (state : State68) (level end n : ℕ) (now after :
 unfolding begun_after
 suc-ahead cart state level end n now after went kind low is = record {
   some = omega arith;
-  sample = λ k some most. elim (last_or k n most) [
-    | inl before ↦ went.sample k some before
-    | inr last ↦ subst (λ m. (next_of (begun_after m cart state level)).sample ≡ true) (sym last) (subst (λ (x : State68). (next_of x).sample ≡ true) went.is kind)
+  sample = λ k some most. elim (eq-or-lt_of_le {n = k} {m = n} (omega arith)) [
+    | inr before ↦ went.sample k some before
+    | inl last ↦ subst (λ m. (next_of (begun_after m cart state level)).sample ≡ true) (sym last) (subst (λ (x : State68). (next_of x).sample ≡ true) went.is kind)
   ];
-  below = λ k some most. elim (last_or k n most) [
-    | inl before ↦ went.below k some before
-    | inr last ↦ subst (λ m. (begun_after m cart state level).next < end) (sym last) (subst (λ (x : State68). x.next < end) went.is low)
+  below = λ k some most. elim (eq-or-lt_of_le {n = k} {m = n} (omega arith)) [
+    | inr before ↦ went.below k some before
+    | inl last ↦ subst (λ m. (begun_after m cart state level).next < end) (sym last) (subst (λ (x : State68). x.next < end) went.is low)
   ];
   is = is ∙ ap (λ x. begun cart x level) went.is;
 }

@@ -1,8 +1,10 @@
 -- What holds of the 68000 as a chip: its states are valid, and its events are at least 28 cycles apart.
-use Rattle.std.proofs.Common.{◌≡◌, ℕ, ◌+◌, ◌-◌, ◌*◌, ◌%◌, ◌^◌, ◌<◌, ◌≤◌, ◌==◌, ◌⊎◌, inl, inr, Bool, true, false, List, [], ◌∷◌, ◌++◌, length, Option, Some, None, IfSome, is_some, IsTrue, Result, Ok, Err, refl, sym, ap, subst, ◌∙◌, length-append, arith}
+use Rattle.std.proofs.Common.{◌≡◌, ℕ, ◌+◌, ◌-◌, ◌*◌, ◌%◌, ◌^◌, ◌<◌, ◌≤◌, ◌==◌, inl, inr, Bool, true, false, List, [], ◌∷◌, ◌++◌, length, Option, Some, None, IfSome, is_some, IsTrue, Result, Ok, Err, refl, sym, ap, subst, ◌∙◌, length-append, arith}
 use Rattle.std.specs.Prelude.{if◌then◌else◌, ◌||◌, nat_le, nat_lt}
 use Rattle.std.proofs.Math.ListN.{length-set, length-replicate}
+use Rattle.std.proofs.lemmas.Bool.{cases_lt}
 use Rattle.std.proofs.lemmas.Bool.Decides.{nat_tests}
+use Rattle.std.proofs.lemmas.List.{get_or_append_left}
 use Rattle.md_word.specs.declared.main_bus.Answer68.{Answer68}
 use Rattle.md_word.specs.declared.main_bus.Request68.{Request68}
 use Rattle.md_word.specs.declared.main_bus.Transfer.{Transfer}
@@ -23,7 +25,7 @@ use Rattle.m68k_chip.specs.States.{State68, is_sample, next_of, none_left, power
 use Rattle.m68k_chip.specs.declared.case.Case.TheVariants.{Halted, Trace, Interrupt, Stopped, Instruction}
 use Rattle.m68k_chip.specs.declared.stage.Stage.{Stage}
 use Rattle.m68k_chip.specs.declared.stage.Stage.TheVariants.{Sample, Access, Word}
-use Rattle.m68k_chip.proofs.Fitting.{fit-more, read-first}
+use Rattle.m68k_chip.proofs.Fitting.{fit-more}
 use Rattle.m68k_chip.proofs.Resting.{raised, rested-later, rested-ok}
 use Rattle.m68k_chip.proofs.SampleTimes.{suffices}
 
@@ -38,19 +40,19 @@ level-cause : (level : ℕ) → IsLevel level → IsCause level
 level-cause level known = grind (arith, nat_tests)
 
 -- what a sample carries out is a cause, and the processor is not halted
-abbrev pub Chosen : State68 → Option ℕ → Type 0
-Chosen state None = Unit {0}
-Chosen state (Some cause) = IsCause cause × (state.halted ≡ None)
+abbrev pub IsChosen : State68 → Option ℕ → Type 0
+IsChosen state None = Unit {0}
+IsChosen state (Some cause) = IsCause cause × (state.halted ≡ None)
 
 pick : (state : State68) (level : ℕ) → IsLevel level → (halted : Option ℕ) (trace above stopped : Bool) → state.halted ≡ halted
-    → Chosen state (cause_of (if is_some halted then Halted else (if trace then Trace else (if above then Interrupt level else (if stopped then Stopped else Instruction)))))
+    → IsChosen state (cause_of (if is_some halted then Halted else (if trace then Trace else (if above then Interrupt level else (if stopped then Stopped else Instruction)))))
 pick state level known (Some since) trace above stopped e = tt
 pick state level known None true above stopped e = (inr (inr (inr refl)), e)
 pick state level known None false true stopped e = (level-cause level known, e)
 pick state level known None false false true e = tt
 pick state level known None false false false e = (inl refl, e)
 
-pub chosen : (state : State68) (level : ℕ) → IsLevel level → Chosen state (cause_of (case_of state level))
+pub chosen : (state : State68) (level : ℕ) → IsLevel level → IsChosen state (cause_of (case_of state level))
 unfolding case_of
 chosen state level known = pick state level known state.halted state.trace (nat_lt (mask_of state.regs) level) state.stopped refl
 
@@ -68,7 +70,7 @@ ram-length : (ram : List ℕ) (writes : List (ℕ × ℕ)) → length (ram_after
 ram-length ram [] = refl
 ram-length ram (w ∷ ws) = ram-length (stored ram w) ws ∙ length-set {A = ℕ} ram _ (w.1 % 0x100)
 
-halts-early : (b : Bool) (start end : ℕ) → start < end → IfSome (if b then Some start else None) (λ since. since < end)
+pub halts-early : (b : Bool) (start end : ℕ) → start < end → IfSome (if b then Some start else None) (λ since. since < end)
 halts-early true start end less = less
 halts-early false start end less = tt
 
@@ -122,7 +124,7 @@ waited-ok v ok between none = record {
   stands = (record { start = refl; cause = between.cause; answers = between.answers }, none);
 }
 
-begun-by : (v : Chip68Value) → IsChip68 v → IsBetween v.state → v.state.transfer ≡ none_left → (c : Option ℕ) → Chosen v.state c → IsChip68 (of v.cart (begun_with v.cart v.state c))
+begun-by : (v : Chip68Value) → IsChip68 v → IsBetween v.state → v.state.transfer ≡ none_left → (c : Option ℕ) → IsChosen v.state c → IsChip68 (of v.cart (begun_with v.cart v.state c))
 begun-by v ok between none None chosen = waited-ok v ok between none
 begun-by v ok between none (Some cause) chosen = went-ok v.cart v.state cause [] (record {
   image = ok.image;
@@ -264,7 +266,7 @@ answered-ok v answer ok kind fits = answered-by v.state.stage v answer ok ok.sta
 -- what waited takes more than the answers that it had: with no more it would wait again
 same-below : (cart ram answers : List ℕ) (x count : ℕ) → count ≤ length answers
     → SameBelow count (record { rom = cart; ram = ram; answers = answers ++ x ∷ [] }) (record { rom = cart; ram = ram; answers = answers })
-same-below cart ram answers x count few = record { rom = refl; ram = refl; enough = few; answers = λ k less. sym (read-first answers x k (omega (arith, less, few))) }
+same-below cart ram answers x count few = record { rom = refl; ram = refl; enough = few; answers = λ k less. sym (get_or_append_left answers (x ∷ []) 0 k (omega (arith, less, few))) }
 
 different : (ended : Ended) (stop : Stop) → Ok ended ≡ Err stop → ⊥
 different ended stop e = cc
@@ -272,13 +274,10 @@ different ended stop e = cc
 takes-more : (cart : List ℕ) (state : State68) (cause : ℕ) (answers : List ℕ) (x : ℕ) (request : Request68) (ended : Ended) → Asks cart state cause answers request
     → carried_out cart state cause (answers ++ x ∷ []) ≡ Ok ended → length answers + 1 ≤ ended.spent.accesses
 takes-more cart state cause answers x request ended asks e =
-    elim (few ended.spent.accesses (length answers)) [
-      | inl more ↦ more
+    elim (cases_lt (length answers) ended.spent.accesses) [
+      | inl more ↦ omega (arith, more)
       | inr less ↦ absurd (different ended (Ask request) (sym (later.sampled cause state.regs _ _ ended e (same-below cart state.ram answers x ended.spent.accesses less)) ∙ asks))
     ]
-  where
-    few : (a n : ℕ) → (n + 1 ≤ a) ⊎ (a ≤ n)
-    few a n = grind arith
 
 asked-late : (v : Chip68Value) (answer : Answer68) → IsAsking v.cart v.state → v.state.next + 28 ≤ (went_on v.cart (with_started v.state answer.transfer) v.state.cause (v.state.answers ++ answer.value ∷ [])).next
 unfolding went_on

@@ -1,5 +1,4 @@
 pub mod Ahead
-pub mod Choices
 pub mod Fitting
 pub mod Kept
 pub mod Laws

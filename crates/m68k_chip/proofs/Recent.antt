@@ -1,6 +1,8 @@
 -- The rules of the 68000 hold at power-on, and each of its events keeps them.
-use Rattle.std.proofs.Common.{◌≡◌, ℕ, zero, suc, ◌+◌, ◌-◌, ◌<◌, ◌≤◌, ◌==◌, ◌⊎◌, inl, inr, Bool, true, false, List, [], ◌∷◌, length, replicate, Option, Some, None, IfSome, Result, Ok, Err, refl, sym, ap, subst, arith, ◌%◌}
+use Rattle.std.proofs.Common.{◌≡◌, ℕ, zero, suc, ◌+◌, ◌-◌, ◌<◌, ◌≤◌, ◌==◌, inl, inr, Bool, true, false, List, [], ◌∷◌, length, replicate, Option, Some, None, IfSome, Result, Ok, Err, refl, sym, ap, subst, arith, ◌%◌}
 use Rattle.std.specs.Prelude.{if◌then◌else◌, nat_le, slice_index, slice_set, get_or}
+use Rattle.std.proofs.lemmas.Bool.{cases_lt}
+use Rattle.std.proofs.Math.ListN.{get_or-eq_default}
 use Rattle.md_fields.specs.Places.{IsBytes}
 use Rattle.md_word.specs.declared.main_bus.Answer68.{Answer68}
 use Rattle.md_word.specs.declared.main_bus.Request68.{Request68}
@@ -20,7 +22,7 @@ use Rattle.m68k_chip.specs.Validity.{AreFit, Chip68Value, Fits, FitsValue, IsAt,
 use Rattle.m68k_chip.specs.States.{State68, is_sample, next_of, none_left, power_on}
 use Rattle.m68k_chip.specs.declared.stage.Stage.{Stage}
 use Rattle.m68k_chip.specs.declared.stage.Stage.TheVariants.{Sample, Access, Word}
-use Rattle.m68k_chip.proofs.Laws.{Chosen, IsLevel, Ready, at-sample, chosen, none-before, ready-more, started-rest}
+use Rattle.m68k_chip.proofs.Laws.{IsChosen, IsLevel, Ready, at-sample, chosen, halts-early, none-before, ready-more, started-rest}
 use Rattle.m68k_chip.proofs.Resting.{raised}
 use Rattle.m68k_chip.proofs.SampleTimes.{short}
 
@@ -53,19 +55,11 @@ value_small (Write16 at written) value fits = omega (arith, fits)
 value_small (Ack level) value fits = omega (arith, fits)
 value_small (TransferWord word) value fits = omega (arith, fits)
 
-behind : (l : List ℕ) (k : ℕ) → length l ≤ k → slice_index l k ≡ 0
-behind [] k le = refl
-behind (x ∷ l) zero le = absurd (omega (arith, le))
-behind (x ∷ l) (suc k) le = behind l k (omega (arith, le))
-
-within_or_not : (k n : ℕ) → (k < n) ⊎ (n ≤ k)
-within_or_not k n = grind arith
-
 pub answers_small : (cart : List ℕ) (state : State68) (cause : ℕ) (answers : List ℕ) → AreFit cart state cause answers → (k : ℕ) → slice_index answers k < 65536
 answers_small cart state cause answers fit k =
-    elim (within_or_not k (length answers)) [
+    elim (cases_lt k (length answers)) [
       | inl less ↦ (let f = fit k less in value_small f.0 (slice_index answers k) f.2)
-      | inr more ↦ (let none = behind answers k more in omega (arith, none))
+      | inr more ↦ (let none = get_or-eq_default answers 0 more in omega (arith, none))
     ]
 
 -- ---- an event
@@ -79,10 +73,6 @@ transfer_cost transfer (inr started) = cost_small transfer.cost started.cost
     cost_small cost (inl is) = omega (arith, is)
     cost_small cost (inr is) = omega (arith, is)
 
-halted_below : (b : Bool) (start at : ℕ) → start < at → IfSome (if b then Some start else None) (λ since. since < at)
-halted_below true start at less = less
-halted_below false start at less = tt
-
 rested_recent : (b : Bool) (at end : ℕ) (state : State68) → end ≤ at + 10000 → state.transfer.cost ≤ 380 → IsBytes state.ram → IfSome state.halted (λ since. since < at)
     → HasRules at (if b then at_sample state end else at_word state (end + state.transfer.cost))
 rested_recent true at end state near cost ram since = record { ram = ram; recent = record { soon = omega (arith, near); begun = tt; since = since } }
@@ -95,7 +85,7 @@ came_recent at cart state cause answers ready image ram below (Ok ended) e =
     let fits : samples.Fits memory = record { rom = image; ram = ram; answers = answers_small cart state cause answers ready.fit } in
     let brief = short cause state.regs memory ended fits e in
     rested_recent ((left_by state ended).transfer.words == 0) at (end_of state ended) (left_by state ended)
-    (omega (arith, brief, below)) (transfer_cost state.transfer ready.transfer) (bytes_after state.ram ended.writes ram) (halted_below ended.halted state.start at below)
+    (omega (arith, brief, below)) (transfer_cost state.transfer ready.transfer) (bytes_after state.ram ended.writes ram) (halts-early ended.halted state.start at below)
 came_recent at cart state cause answers ready image ram below (Err (Ask request)) e =
     let few = waits cause state.regs _ request e in
     record {
@@ -113,7 +103,7 @@ went_recent : (at : ℕ) (cart : List ℕ) (state : State68) (cause : ℕ) (answ
 unfolding went_on
 went_recent at cart state cause answers ready image ram below = came_recent at cart state cause answers ready image ram below (carried_out cart state cause answers) refl
 
-begun_by : (at : ℕ) (v : Chip68Value) → IsChip68 v → IsBytes v.cart → v.state.start < at → HasRules at v.state → (c : Option ℕ) → Chosen v.state c → HasRules at (begun_with v.cart v.state c)
+begun_by : (at : ℕ) (v : Chip68Value) → IsChip68 v → IsBytes v.cart → v.state.start < at → HasRules at v.state → (c : Option ℕ) → IsChosen v.state c → HasRules at (begun_with v.cart v.state c)
 begun_by at v ok image below rules None is = record { ram = rules.ram; recent = record { soon = omega (arith, below); begun = tt; since = rules.recent.since } }
 begun_by at v ok image below rules (Some cause) is =
     went_recent at v.cart v.state cause [] (record {

@@ -10,7 +10,7 @@ use Rattle.m68k_chip.specs.Validity.{IsChip68, IsTransfer}
 use Rattle.m68k_chip.specs.States.{State68, none_left}
 
 -- what holds of a state that comes to rest after an end
-pub record Rests (cart : List ℕ) (state : State68) (end : ℕ) : Type 0 where
+pub record CanRest (cart : List ℕ) (state : State68) (end : ℕ) : Type 0 where
   pub image : IsImage cart
   pub ram : length state.ram ≡ 0x1_0000
   pub status : IsStatus state.regs.sr
@@ -32,7 +32,7 @@ none : (transfer : Transfer) → (transfer.words == 0) ≡ true → IsTransfer t
 none transfer e (inl is) = is
 none transfer e (inr some) = let least = some.some in absurd (grind (arith, nat_tests))
 
-rested-by : (b : Bool) (cart : List ℕ) (state : State68) (end : ℕ) → (state.transfer.words == 0) ≡ b → Rests cart state end
+rested-by : (b : Bool) (cart : List ℕ) (state : State68) (end : ℕ) → (state.transfer.words == 0) ≡ b → CanRest cart state end
     → IsChip68 (record { cart = cart; state = if b then at_sample state end else at_word state (end + state.transfer.cost) })
 rested-by true cart state end e r = record {
   image = r.image;
@@ -51,7 +51,7 @@ rested-by false cart state end e r = record {
   stands = (record { start = refl; cause = r.cause; answers = r.answers }, started state.transfer e r.transfer);
 }
 
-pub rested-ok : (cart : List ℕ) (state : State68) (end : ℕ) → Rests cart state end → IsChip68 (record { cart = cart; state = rested state end })
+pub rested-ok : (cart : List ℕ) (state : State68) (end : ℕ) → CanRest cart state end → IsChip68 (record { cart = cart; state = rested state end })
 rested-ok cart state end r = rested-by (state.transfer.words == 0) cart state end refl r
 
 later-by : (b : Bool) (state : State68) (end : ℕ) → end ≤ (if b then at_sample state end else at_word state (end + state.transfer.cost)).next

@@ -2,15 +2,17 @@
 use Rattle.std.proofs.Common.{◌≡◌, ℕ, zero, suc, ◌+◌, ◌-◌, ◌*◌, ◌%◌, ◌^◌, ◌<◌, ◌≤◌, inl, inr, Bool, true, false, not, cond, eqb, leb, ltb, List, length, replicate, slice_index, Option, Some, None, is_some, IfSome, refl, sym, ap, subst, ◌∙◌, arith}
 use Rattle.std.specs.Prelude.{◌&&◌, ◌||◌}
 use Rattle.std.specs.List.{AllByRecursion}
-use Rattle.std.proofs.lemmas.Bool.{and_parts, eq-eqb, le-leb, leb-true, lt-ltb, ltb-true, ne_eqb}
+use Rattle.std.proofs.lemmas.Bool.{and_from, and_parts, eq-eqb, le-leb, leb-true, lt-ltb, ltb-true, ne_eqb, or_left, or_right}
 use Rattle.std.proofs.lemmas.List.Elements.{All-append, All-from_get_or, All-replicate, recursion_from_All}
+use Rattle.std.proofs.Math.Seq.{take-length}
 use Rattle.md_fields.specs.Distances.{is_after}
 use Rattle.md_fields.specs.Fields.{AllHold, AreWithin}
 use Rattle.md_fields.specs.Items.{IsRight}
 use Rattle.md_fields.specs.Padding.{padded}
+use Rattle.md_fields.proofs.Distances.{is_after_by}
+use Rattle.md_fields.proofs.Flags.{flag_byte, flag_small}
 use Rattle.md_fields.proofs.Items.{none_wrong}
 use Rattle.md_fields.proofs.Padding.{padded_length, padded_zeros}
-use Rattle.md_word.specs.Coding.{flag_number}
 use Rattle.md_word.specs.declared.main_bus.Request68.{Request68}
 use Rattle.md_word.specs.declared.main_bus.Request68.TheVariants.{Read8, Read16, Write8, Write16, Ack, Word as TransferWord}
 use Rattle.md_word.specs.declared.main_bus.Transfer.{Transfer}
@@ -24,24 +26,11 @@ use Rattle.m68k_chip.specs.Spelling.{Spells, chip_bytes}
 use Rattle.m68k_chip.specs.States.{State68, none_left}
 use Rattle.m68k_chip.specs.declared.stage.Stage.{Stage}
 use Rattle.m68k_chip.specs.declared.stage.Stage.TheVariants.{Sample, Access, Word}
-use Rattle.m68k_chip.proofs.Fitting.{take-all}
 use Rattle.m68k_chip.proofs.Laws.{few-answers, source-low}
 use Rattle.m68k_chip.proofs.Recent.{answers_small, transfer_cost}
 use Rattle.m68k_chip.proofs.SavedLaws.{Rules, rules_of, state_again}
 use Rattle.m68k_chip.proofs.SavedValid.{are_left, costs}
 use Rattle.m68k_chip.proofs.SpellingLaws.{same_bytes}
-
-both : (a b : Bool) → a ≡ true → b ≡ true → (a && b) ≡ true
-both true b e f = f
-both false b e f = absurd cc
-
-or_left : (a b : Bool) → a ≡ true → (a || b) ≡ true
-or_left true b e = refl
-or_left false b e = absurd cc
-
-or_right : (a b : Bool) → b ≡ true → (a || b) ≡ true
-or_right true b e = refl
-or_right false b e = e
 
 -- ---- the answers
 
@@ -58,22 +47,19 @@ unfolding are_answered
 answered_to cart state zero le fit = refl
 answered_to cart state (suc n) le fit =
     let f = fit n (omega (arith, le)) in
-    both _ _ (answered_to cart state n (omega (arith, le)) fit)
+    and_from _ _ (answered_to cart state n (omega (arith, le)) fit)
     (subst (λ r. is_answer (asked_in r) (slice_index state.answers n) ≡ true) (sym f.1) (fits_to f.0 (slice_index state.answers n) f.2))
 
 asks_to : (stage : Stage) (cart : List ℕ) (state : State68) → IsAt stage cart state → asks_at stage cart state ≡ true
 asks_to Sample cart state at = refl
 asks_to Access cart state at =
-    both _ _
-    (subst (λ (l : List ℕ). is_some (asked_in (carried_out cart state state.cause l)) ≡ true) (sym (take-all state.answers))
+    and_from _ _
+    (subst (λ (l : List ℕ). is_some (asked_in (carried_out cart state state.cause l)) ≡ true) (sym (take-length state.answers))
     (subst (λ r. is_some (asked_in r) ≡ true) (sym at.asked) refl))
     (answered_to cart state (length state.answers) (omega arith) at.fit)
 asks_to Word cart state at = refl
 
 -- ---- what depends on the stage
-
-after_to : (later earlier distance : ℕ) → later ≡ earlier + distance → is_after later earlier distance ≡ true
-after_to later earlier distance e = both _ _ (le-leb earlier later (omega (arith, e))) (eq-eqb (later - earlier) distance (omega (arith, e)))
 
 cause_to : (cause : ℕ) → IsCause cause → (eqb cause 0 || (eqb cause 4 || (eqb cause 6 || eqb cause 8))) ≡ true
 cause_to cause (inl is) = or_left (eqb cause 0) _ (eq-eqb cause 0 is)
@@ -112,7 +98,7 @@ at_stage Access at cart state is below = record {
   start = lt-ltb state.start at below;
   halted = subst (λ (h : Option ℕ). (leb (halted_number h) 1 && (eqb (halted_number h) 0 || false)) ≡ true) (sym is.running) refl;
   cause = cause_to state.cause is.cause;
-  follows = after_to state.next state.start (step * (length state.answers + 1)) is.place;
+  follows = is_after_by state.next state.start (step * (length state.answers + 1)) is.place;
   sampling = λ other. absurd (omega (arith, other));
   moving = λ other. absurd (omega (arith, other));
 }
@@ -145,10 +131,10 @@ left_by_stage m t (inl none) sampling moving =
 left_by_stage m t (inr started) sampling moving =
     let some = started.some in
     second_of (eqb t.words 0) _ _ (ne_eqb t.words 0 (λ z. omega (arith, z, some)))
-    (both _ _
-    (both _ _ (le-leb t.words 0x1_0000 started.most)
+    (and_from _ _
+    (and_from _ _ (le-leb t.words 0x1_0000 started.most)
     (is_not m 0 (λ zero. (let words = ap (λ (x : Transfer). x.words) (sampling zero) in omega (arith, words, some)))))
-    (both _ _ (eq-eqb (t.source % 2) 0 started.even) (lt-ltb t.source 0x100_0000 started.on_bus)))
+    (and_from _ _ (eq-eqb (t.source % 2) 0 started.even) (lt-ltb t.source 0x100_0000 started.on_bus)))
 
 cost_to : (cost : ℕ) → IsCost cost → (eqb cost 34 || eqb cost 380) ≡ true
 cost_to cost (inl is) = or_left (eqb cost 34) _ (eq-eqb cost 34 is)
@@ -162,10 +148,6 @@ costs_to t (inr started) =
 
 -- ---- all rules
 
-flag_small : (flag : Bool) → leb (flag_number flag) 1 ≡ true
-flag_small true = refl
-flag_small false = refl
-
 since_to : (halted : Option ℕ) (at : ℕ) → IfSome halted (λ since. since < at) → cond (eqb (halted_number halted) 1) (ltb (since_of halted) at) (eqb (since_of halted) 0) ≡ true
 since_to None at h = refl
 since_to (Some since) at h = lt-ltb since at h
@@ -177,7 +159,7 @@ holding at v ok rules late =
     let s = at_stage state.stage at v.cart state ok.stands rules.recent.begun in
     let soon = rules.recent.soon in
     let few = few-answers v ok in (
-      both _ _ (le-leb at state.next late) (le-leb (state.next - at) 0x10_0000 (omega (arith, soon))),
+      and_from _ _ (le-leb at state.next late) (le-leb (state.next - at) 0x10_0000 (omega (arith, soon))),
       (
         s.known,
         (
@@ -231,7 +213,7 @@ holding at v ok rules late =
                                                         (
                                                           s.cause,
                                                           (
-                                                            both _ _ (le-leb (length state.answers) 31 (omega (arith, few))) (both _ _ s.follows (padded_zeros 32 state.answers)),
+                                                            and_from _ _ (le-leb (length state.answers) 31 (omega (arith, few))) (and_from _ _ s.follows (padded_zeros 32 state.answers)),
                                                             (
                                                               refl,
                                                               (
@@ -293,10 +275,6 @@ pub record IsInRange (state : State68) : Type 0 where
   pub pc : state.regs.pc < 2 ^ 32
   pub sr : state.regs.sr < 2 ^ 16
   pub next : state.next < 2 ^ 64
-
-flag_byte : (flag : Bool) → flag_number flag < 2 ^ 8
-flag_byte true = omega arith
-flag_byte false = omega arith
 
 stage_byte : (stage : Stage) → stage_number stage < 2 ^ 8
 stage_byte Sample = omega arith

@@ -1,8 +1,10 @@
 -- A 68000 whose rules hold is valid.
-use Rattle.std.proofs.Common.{◌≡◌, ◌⊎◌, inl, inr, ℕ, zero, suc, ◌+◌, ◌-◌, ◌*◌, ◌%◌, ◌<◌, ◌≤◌, Bool, true, false, not, cond, eqb, leb, ltb, List, [], ◌∷◌, length, take, slice_index, Some, None, is_some, IfSome, Result, Ok, Err, refl, sym, ap, subst, arith}
+use Rattle.std.proofs.Common.{◌≡◌, ◌⊎◌, inl, inr, ℕ, zero, suc, ◌+◌, ◌-◌, ◌*◌, ◌%◌, ◌<◌, ◌≤◌, Bool, true, false, not, cond, eqb, leb, ltb, List, length, take, slice_index, Some, None, is_some, IfSome, Result, Ok, Err, refl, sym, ap, subst, arith}
 use Rattle.std.specs.Prelude.{◌&&◌, ◌||◌}
-use Rattle.std.proofs.lemmas.Bool.{cases_lt, leb-true, ltb-true, eq-eqb, eqb-true, ne_eqb, and_parts}
-use Rattle.std.proofs.lemmas.List.{length-take}
+use Rattle.std.proofs.lemmas.Bool.{and_parts, both_ways, eq-eqb, eqb-true, leb-true, ltb-true, ne_eqb, or_cases}
+use Rattle.std.proofs.lemmas.List.{length-take, nil_from_length}
+use Rattle.std.proofs.Math.Nat.{eq-or-lt_of_le}
+use Rattle.std.proofs.Math.Seq.{take-length}
 use Rattle.md_word.specs.declared.main_bus.Request68.{Request68}
 use Rattle.md_word.specs.declared.main_bus.Request68.TheVariants.{Read8, Read16, Write8, Write16, Ack, Word as TransferWord}
 use Rattle.rom_header.specs.Cartridge.{IsImage}
@@ -13,16 +15,12 @@ use Rattle.m68k_chip.specs.Events.{carried_out, step}
 use Rattle.m68k_chip.specs.Numbers.{Numbers68, stage_of, state_from}
 use Rattle.m68k_chip.specs.Resuming.{are_answered, asked_after, asked_in, asks_at, asks_more, fits_value, is_answer}
 use Rattle.md_fields.specs.Distances.{is_after}
+use Rattle.md_fields.proofs.Distances.{after_is}
 use Rattle.m68k_chip.specs.Saved.{is_source}
 use Rattle.m68k_chip.specs.Validity.{FitsValue, IsAt, IsCause, IsChip68, IsCost, IsStarted, IsTransfer}
 use Rattle.m68k_chip.specs.States.{State68, none_left}
-use Rattle.m68k_chip.proofs.Fitting.{take-all}
 use Rattle.m68k_chip.proofs.Laws.{of}
 use Rattle.m68k_chip.proofs.SavedLaws.{Rules, count_few}
-
-or_cases : (a b : Bool) → (a || b) ≡ true → (a ≡ true) ⊎ (b ≡ true)
-or_cases true b e = inl refl
-or_cases false b e = inr e
 
 -- ---- the answers
 
@@ -49,20 +47,14 @@ fit_for (Ok ended) value e = absurd cc
 fit_for (Err (Ask request)) value e = (request, refl, fits_from request value e)
 fit_for (Err (Odd address read used)) value e = absurd cc
 
-below_or_last : (k n : ℕ) → k < suc n → (k < n) ⊎ (k ≡ n)
-below_or_last k n lt = elim (cases_lt k n) [
-  | inl less ↦ inl less
-  | inr more ↦ inr (omega (arith, lt, more))
-]
-
 each_answered : (cart : List ℕ) (state : State68) (n k : ℕ) → are_answered cart state n ≡ true → k < n → is_answer (asked_after cart state k) (slice_index state.answers k) ≡ true
 unfolding are_answered
 each_answered cart state zero k e lt = absurd (omega (arith, lt))
 each_answered cart state (suc n) k e lt =
     let p = and_parts _ _ e in
-    elim (below_or_last k n lt) [
-      | inl early ↦ each_answered cart state n k p.0 early
-      | inr last ↦ subst (λ (m : ℕ). is_answer (asked_after cart state m) (slice_index state.answers m) ≡ true) (sym last) p.1
+    elim (eq-or-lt_of_le {n = k} {m = n} (omega (arith, lt))) [
+      | inr early ↦ each_answered cart state n k p.0 early
+      | inl last ↦ subst (λ (m : ℕ). is_answer (asked_after cart state m) (slice_index state.answers m) ≡ true) (sym last) p.1
     ]
 
 -- ---- the transfer
@@ -72,10 +64,6 @@ are_left m s w = cond (eqb w 0) (eqb s 0 && not (eqb m 2)) ((leb w 0x1_0000 && n
 
 abbrev pub costs : ℕ → ℕ → Bool
 costs w c = cond (eqb w 0) (eqb c 0) (eqb c 34 || eqb c 380)
-
-differ : (b : Bool) → b ≡ true → b ≡ false → ⊥
-differ true e f = absurd cc
-differ false e f = absurd cc
 
 then_so : (b x y : Bool) → b ≡ true → cond b x y ≡ true → x ≡ true
 then_so true x y e f = f
@@ -122,13 +110,13 @@ none_by : (m s w c : ℕ) → m ≡ 0 → are_left m s w ≡ true → costs w c 
 none_by m s w c at e f =
     elim (zero_or w) [
       | inl z ↦ no_transfer m s w c z e f
-      | inr some ↦ absurd (differ (not (eqb m 0)) (left_some m s w some e).later (ap (λ (k : ℕ). not (eqb k 0)) at))
+      | inr some ↦ absurd (both_ways (not (eqb m 0)) (ap (λ (k : ℕ). not (eqb k 0)) at) (left_some m s w some e).later)
     ]
 
 some_by : (m s w : ℕ) → m ≡ 2 → are_left m s w ≡ true → 1 ≤ w
 some_by m s w at e =
     elim (zero_or w) [
-      | inl z ↦ absurd (differ (not (eqb m 2)) (left_none m s w z e).1 (ap (λ (k : ℕ). not (eqb k 2)) at))
+      | inl z ↦ absurd (both_ways (not (eqb m 2)) (ap (λ (k : ℕ). not (eqb k 2)) at) (left_none m s w z e).1)
       | inr some ↦ some
     ]
 
@@ -158,17 +146,6 @@ transfer_by m s w c e f =
     ]
 
 -- ---- the stages
-
-none_there : (l : List ℕ) → eqb (length l) 0 ≡ true → l ≡ []
-none_there [] e = refl
-none_there (x ∷ xs) e = absurd (let none = eqb-true (length (x ∷ xs)) 0 e in omega (arith, none))
-
-after_eq : (later earlier distance : ℕ) → is_after later earlier distance ≡ true → later ≡ earlier + distance
-after_eq later earlier distance e =
-    let p = and_parts _ _ e in
-    let le = leb-true earlier later p.0 in
-    let same = eqb-true (later - earlier) distance p.1 in
-    omega (arith, le, same)
 
 no_cause : (c : ℕ) → (eqb c 0 || false) ≡ true → c ≡ 0
 no_cause c e =
@@ -200,11 +177,11 @@ stands_at : (cart : List ℕ) (at m : ℕ) (state : State68) → m ≤ 2
     → asks_at (stage_of m) cart state ≡ true
     → IsAt (stage_of m) cart state
 stands_at cart at zero state le start cause count running none some asks =
-    (record { start = eqb-true state.start state.next start; cause = no_cause state.cause cause; answers = none_there state.answers count }, none refl)
+    (record { start = eqb-true state.start state.next start; cause = no_cause state.cause cause; answers = nil_from_length state.answers (eqb-true (length state.answers) 0 count) }, none refl)
 stands_at cart at (suc zero) state le start cause count running none some asks =
-    let place = after_eq state.next state.start (step * (length state.answers + 1)) count in
+    let place = after_is state.next state.start (step * (length state.answers + 1)) count in
     let p = and_parts _ _ asks in
-    let asked = asks_for (carried_out cart state state.cause state.answers) (subst (λ (l : List ℕ). is_some (asked_in (carried_out cart state state.cause l)) ≡ true) (take-all state.answers) p.0) in
+    let asked = asks_for (carried_out cart state state.cause state.answers) (subst (λ (l : List ℕ). is_some (asked_in (carried_out cart state state.cause l)) ≡ true) (take-length state.answers) p.0) in
     record {
       place = omega (arith, place);
       cause = some_cause state.cause cause;
@@ -214,14 +191,14 @@ stands_at cart at (suc zero) state le start cause count running none some asks =
       fit = λ k lt. fit_for (carried_out cart state state.cause (take k state.answers)) (slice_index state.answers k) (each_answered cart state (length state.answers) k p.1 lt);
     }
 stands_at cart at (suc (suc zero)) state le start cause count running none some asks =
-    (record { start = eqb-true state.start state.next start; cause = no_cause state.cause cause; answers = none_there state.answers count }, some refl)
+    (record { start = eqb-true state.start state.next start; cause = no_cause state.cause cause; answers = nil_from_length state.answers (eqb-true (length state.answers) 0 count) }, some refl)
 stands_at cart at (suc (suc (suc m))) state le start cause count running none some asks = absurd (omega (arith, le))
 
 running_by : (m h since : ℕ) → (eqb h 0 || not (eqb m 1)) ≡ true → eqb m 1 ≡ true → cond (eqb h 1) (Some since) None ≡ None
 running_by m h since e one =
     elim (or_cases (eqb h 0) (not (eqb m 1)) e) [
       | inl runs ↦ ap (λ (k : ℕ). cond (eqb k 1) (Some since) None) (eqb-true h 0 runs)
-      | inr other ↦ absurd (differ (not (eqb m 1)) other (ap not one))
+      | inr other ↦ absurd (both_ways (not (eqb m 1)) (ap not one) other)
     ]
 
 halted_by : (at next : ℕ) (b : Bool) (since : ℕ) → cond b (ltb since at) (eqb since 0) ≡ true → at ≤ next → IfSome (cond b (Some since) None) (λ since. since < next)

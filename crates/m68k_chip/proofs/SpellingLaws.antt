@@ -88,8 +88,8 @@ pub ram_long : (cart : List ℕ) (at : ℕ) (bytes : List ℕ) (n : Numbers68) �
 unfolding AreWithin
 ram_long cart at bytes n keeps = keeps.within.1.1.1.1.1.1.1.1.1.1.1.1.1.1.1.1.1.1.1.1.1.1.1.1.1.1.1.1.1.1.1.1.0
 
-pub spells : (cart : List ℕ) (at : ℕ) (bytes : List ℕ) (n : Numbers68) → Keeps (chip_fields cart at) bytes n → IsRight (chip_fields cart at) n → Spells cart at bytes (state_from n)
-spells cart at bytes n keeps right =
+pub spelled_by : (cart : List ℕ) (at : ℕ) (bytes : List ℕ) (n : Numbers68) → Keeps (chip_fields cart at) bytes n → IsRight (chip_fields cart at) n → Spells cart at bytes (state_from n)
+spelled_by cart at bytes n keeps right =
     let e : numbers_of (state_from n) ≡ n = numbers_back at (asks_more cart (state_from n)) n (answers_long cart at bytes n keeps) (rules_of at (asks_more cart (state_from n)) n right) in
     record {
       keeps = subst (Keeps (chip_fields cart at) bytes) (sym e) keeps;

@@ -34,6 +34,6 @@ ram_in bytes = take 0x1_0000 (drop 178 bytes)
 
 -- the bytes keep the 68000, and at an access this request waits; nothing is foreseen
 pub record IsKept (cart : List ℕ) (at : ℕ) (bytes : List ℕ) (state : State68) (request : Request68) (foreseen : Foreseen) : Type 0 where
-  pub spells : Spells cart at bytes state
+  pub spelled : Spells cart at bytes state
   pub waits : IsWaiting state.stage cart state request
   pub unknown : foreseen.known ≡ false

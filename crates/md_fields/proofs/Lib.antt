@@ -1,3 +1,4 @@
+pub mod Distances
 pub mod Flags
 pub mod Items
 pub mod Padding

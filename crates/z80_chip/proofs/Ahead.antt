@@ -1,5 +1,6 @@
 -- A Z80 that goes ahead.
-use Rattle.std.proofs.Common.{◌≡◌, ◌⊎◌, inl, inr, ℕ, suc, ◌+◌, ◌<◌, true, List, sym, ap, subst, ◌∙◌, refl, arith}
+use Rattle.std.proofs.Common.{◌≡◌, inl, inr, ℕ, suc, ◌+◌, ◌<◌, true, List, sym, ap, subst, ◌∙◌, refl, arith}
+use Rattle.std.proofs.Math.Nat.{eq-or-lt_of_le}
 use Rattle.md_word.specs.declared.pins.Pins80.{Pins80}
 use Rattle.z80_chip.specs.Events.{WentAhead, begun, begun_after}
 use Rattle.z80_chip.specs.States.{State80, is_sample, next_of}
@@ -16,22 +17,19 @@ pub sampling : (state : State80) → (next_of state).sample ≡ true → state.s
 unfolding next_of
 sampling state e = at-sample state.stage e
 
-pub last_or : (k n : ℕ) → k < suc n → (k < n) ⊎ (k ≡ n)
-last_or k n h = grind arith
-
 -- and one more sample, which lies below the cycle
 suc-ahead : (cart : List ℕ) (state : State80) (pins : Pins80) (end n : ℕ) (now after : State80) → WentAhead n end cart pins state now → (next_of now).sample ≡ true → now.next < end
     → after ≡ begun cart now pins → WentAhead (suc n) end cart pins state after
 unfolding begun_after
 suc-ahead cart state pins end n now after went kind low is = record {
   some = omega arith;
-  sample = λ k some most. elim (last_or k n most) [
-    | inl before ↦ went.sample k some before
-    | inr last ↦ subst (λ m. (begun_after m cart state pins).stage ≡ Sample) (sym last) (subst (λ (x : State80). x.stage ≡ Sample) went.is (sampling now kind))
+  sample = λ k some most. elim (eq-or-lt_of_le {n = k} {m = n} (omega arith)) [
+    | inr before ↦ went.sample k some before
+    | inl last ↦ subst (λ m. (begun_after m cart state pins).stage ≡ Sample) (sym last) (subst (λ (x : State80). x.stage ≡ Sample) went.is (sampling now kind))
   ];
-  below = λ k some most. elim (last_or k n most) [
-    | inl before ↦ went.below k some before
-    | inr last ↦ subst (λ m. (begun_after m cart state pins).next < end) (sym last) (subst (λ (x : State80). x.next < end) went.is low)
+  below = λ k some most. elim (eq-or-lt_of_le {n = k} {m = n} (omega arith)) [
+    | inr before ↦ went.below k some before
+    | inl last ↦ subst (λ m. (begun_after m cart state pins).next < end) (sym last) (subst (λ (x : State80). x.next < end) went.is low)
   ];
   is = is ∙ ap (λ x. begun cart x pins) went.is;
 }

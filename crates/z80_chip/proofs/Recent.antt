@@ -1,7 +1,9 @@
 -- The rules of the Z80 hold at power-on, and each of its events keeps them.
-use Rattle.std.proofs.Common.{◌≡◌, ℕ, zero, suc, ◌<◌, ◌≤◌, inl, inr, Bool, true, false, List, [], ◌∷◌, ◌++◌, length, take, is_some, Result, Ok, Err, refl, sym, ap, subst, ◌∙◌, length-append, arith, if◌then◌else◌}
+use Rattle.std.proofs.Common.{◌≡◌, ℕ, zero, ◌+◌, ◌<◌, ◌≤◌, inl, inr, Bool, true, false, List, [], ◌∷◌, ◌++◌, length, take, is_some, Result, Ok, Err, refl, sym, ap, subst, length-append, arith, if◌then◌else◌}
 use Rattle.std.specs.Prelude.{slice_index}
-use Rattle.std.proofs.lemmas.List.{get_or_append_left}
+use Rattle.std.proofs.lemmas.List.{get_or_append_left, get_or_push, take-append-le}
+use Rattle.std.proofs.Math.Nat.{eq-or-lt_of_le}
+use Rattle.std.proofs.Math.Seq.{take-append_seam}
 use Rattle.md_word.specs.declared.pins.Pins80.{Pins80}
 use Rattle.md_word.specs.declared.sub_bus.Request80.{Request80}
 use Rattle.md_word.specs.declared.sub_bus.Request80.TheVariants as requests
@@ -19,8 +21,6 @@ use Rattle.z80_chip.specs.declared.case.Case.TheVariants as cases
 use Rattle.z80_chip.specs.declared.stage.Stage.{Stage}
 use Rattle.z80_chip.specs.declared.stage.Stage.TheVariants.{Sample, Access, Yield, Take}
 use Rattle.z80_chip.proofs.Laws.{AtSample, sampling, seen-at, seen-stays}
-use Rattle.z80_chip.proofs.SavedLaws.{whole}
-use Rattle.z80_chip.proofs.Ahead.{last_or}
 
 -- where there are no answers
 none_below : (answers : List ℕ) (k : ℕ) → answers ≡ [] → k < length answers → ⊥
@@ -55,33 +55,33 @@ went_rules at cart state cause below small has fit = came_rules at cart state ca
 -- ---- a sample
 
 -- whether the Z80 has its RAM, where a case depends on it
-abbrev Holds : Case → Bool → Type 0
-Holds cases.Yield has = has ≡ true
-Holds cases.Take has = has ≡ false
-Holds cases.Suspended has = Unit {0}
-Holds cases.InReset has = Unit {0}
-Holds cases.Interrupt has = has ≡ true
-Holds cases.Halted has = Unit {0}
-Holds cases.Instruction has = has ≡ true
+abbrev HasWhereNeeded : Case → Bool → Type 0
+HasWhereNeeded cases.Yield has = has ≡ true
+HasWhereNeeded cases.Take has = has ≡ false
+HasWhereNeeded cases.Suspended has = Unit {0}
+HasWhereNeeded cases.InReset has = Unit {0}
+HasWhereNeeded cases.Interrupt has = has ≡ true
+HasWhereNeeded cases.Halted has = Unit {0}
+HasWhereNeeded cases.Instruction has = has ≡ true
 
-holds_running : (a b c : Bool) → Holds (if a then cases.InReset else (if b then cases.Interrupt else (if c then cases.Halted else cases.Instruction))) true
-holds_running true b c = tt
-holds_running false true c = refl
-holds_running false false true = tt
-holds_running false false false = refl
+has_running : (a b c : Bool) → HasWhereNeeded (if a then cases.InReset else (if b then cases.Interrupt else (if c then cases.Halted else cases.Instruction))) true
+has_running true b c = tt
+has_running false true c = refl
+has_running false false true = tt
+has_running false false false = refl
 
-holds_by : (request has : Bool) (running : Case) → Holds running true → Holds (bus_case request has running) has
-holds_by true true running h = refl
-holds_by true false running h = tt
-holds_by false true running h = h
-holds_by false false running h = refl
+has_by : (request has : Bool) (running : Case) → HasWhereNeeded running true → HasWhereNeeded (bus_case request has running) has
+has_by true true running h = refl
+has_by true false running h = tt
+has_by false true running h = h
+has_by false false running h = refl
 
-holds : (state : State80) (pins : Pins80) → Holds (case_of state pins) (is_some state.store)
+has_at : (state : State80) (pins : Pins80) → HasWhereNeeded (case_of state pins) (is_some state.store)
 unfolding case_of running_case
-holds state pins =
-    holds_by pins.request (is_some state.store) (running_case state pins) (holds_running pins.reset (is_interrupted state pins) state.halted)
+has_at state pins =
+    has_by pins.request (is_some state.store) (running_case state pins) (has_running pins.reset (is_interrupted state pins) state.halted)
 
-begun_case : (case : Case) (at : ℕ) (cart : List ℕ) (state : State80) → AtSample cart state → state.next < at → Holds case (is_some state.store) → HasRules cart at (begun_as case cart state)
+begun_case : (case : Case) (at : ℕ) (cart : List ℕ) (state : State80) → AtSample cart state → state.next < at → HasWhereNeeded case (is_some state.store) → HasRules cart at (begun_as case cart state)
 begun_case cases.Yield at cart state is below has =
     let start = is.start in
     let none = is.cause in
@@ -115,7 +115,7 @@ unfolding begun
 begun_rules at v pins ok kind below =
     let after : State80 = seen v.state pins in
     let same = seen-stays v.state pins in
-    begun_case (case_of after pins) at v.cart after (seen-at v.cart v.state pins (sampling v ok kind)) (omega (arith, same, below)) (holds after pins)
+    begun_case (case_of after pins) at v.cart after (seen-at v.cart v.state pins (sampling v ok kind)) (omega (arith, same, below)) (has_at after pins)
 
 -- ---- an answer
 
@@ -127,31 +127,22 @@ is_answered (requests.Write at value) (Returned store) fits = absurd fits
 is_answered (requests.Yield parcel) answer fits = refl
 is_answered requests.Take answer fits = refl
 
-first_of : (l : List ℕ) (x k : ℕ) → k ≤ length l → take k (l ++ x ∷ []) ≡ take k l
-first_of l x zero h = refl
-first_of [] x (suc k) h = absurd (omega (arith, h))
-first_of (y ∷ l) x (suc k) h = ap (λ r. y ∷ r) (first_of l x k (omega (arith, h)))
-
-last_of : (l : List ℕ) (x : ℕ) → slice_index (l ++ x ∷ []) (length l) ≡ x
-last_of [] x = refl
-last_of (y ∷ l) x = last_of l x
-
 fit_more : (cart : List ℕ) (state : State80) (answer : AnswerValue80) → IsAsking cart state → Fits (asked_in (carried_out cart state state.cause)) answer → AreFit cart state
     → AreFit cart (record state { answers = state.answers ++ value_in answer ∷ [] })
 fit_more cart state answer is fits fit k less =
     let value : ℕ = value_in answer in
     let counted = length-append state.answers (value ∷ []) in
-    elim (last_or k (length state.answers) (omega (arith, counted, less))) [
-      | inl early ↦
+    elim (eq-or-lt_of_le {n = k} {m = length state.answers} (omega (arith, counted, less))) [
+      | inr early ↦
           subst (λ (l : List ℕ). is_answer (need_of (carried_out cart (record state { answers = l }) state.cause)) (slice_index (state.answers ++ value ∷ []) k) ≡ true)
-          (sym (first_of state.answers value k (omega (arith, early))))
+          (sym (take-append-le k state.answers (value ∷ []) (omega (arith, early))))
           (subst (λ (n : ℕ). is_answer (need_after cart state k) n ≡ true) (sym (get_or_append_left state.answers (value ∷ []) 0 k early)) (fit k early))
-      | inr last ↦
+      | inl last ↦
           subst (λ (j : ℕ). is_answer (need_of (carried_out cart (record state { answers = take j (state.answers ++ value ∷ []) }) state.cause)) (slice_index (state.answers ++ value ∷ []) j) ≡ true)
           (sym last)
           (subst (λ (l : List ℕ). is_answer (need_of (carried_out cart (record state { answers = l }) state.cause)) (slice_index (state.answers ++ value ∷ []) (length state.answers)) ≡ true)
-          (sym (first_of state.answers value (length state.answers) (omega arith) ∙ whole state.answers))
-          (subst (λ (n : ℕ). is_answer (need_of (carried_out cart state state.cause)) n ≡ true) (sym (last_of state.answers value))
+          (sym (take-append_seam state.answers (value ∷ [])))
+          (subst (λ (n : ℕ). is_answer (need_of (carried_out cart state state.cause)) n ≡ true) (sym (get_or_push state.answers value 0 (length state.answers) refl))
           (subst (λ (r : Result Ended Request80). is_answer (need_of r) value ≡ true) (sym is.asked)
           (is_answered is.request answer (subst (λ (r : Result Ended Request80). Fits (asked_in r) answer) is.asked fits)))))
     ]

@@ -59,21 +59,21 @@ module _ (cart : List ℕ) (state : State80) (pins : Pins80) (rest : is_rest (ca
   reset = reset_by (is_reset state pins) state pins.resets
 
   -- where the reset was seen, it waits
-  waits : (x : State80) → x.store ≡ state.store → begun_as (case_of x pins) cart x ≡ waited x step
+  waited_on : (x : State80) → x.store ≡ state.store → begun_as (case_of x pins) cart x ≡ waited x step
   unfolding case_of running_case
-  waits x same =
+  waited_on x same =
       rests-by pins.request (is_some x.store) pins.reset (is_interrupted state pins) state.halted (is_interrupted x pins) x.halted cart x
       (subst (λ (store : Option Store). is_rest (bus_case pins.request (is_some store) (running_case state pins)) ≡ true) (sym same) rest)
 
   first : begun cart state pins ≡ at_sample reset (state.start + step)
   unfolding begun seen
-  first = waits reset (reset-store (is_reset state pins) state pins.resets) ∙ ap (λ c. at_sample reset (c + step)) (reset-start (is_reset state pins) state pins.resets)
+  first = waited_on reset (reset-store (is_reset state pins) state pins.resets) ∙ ap (λ c. at_sample reset (c + step)) (reset-start (is_reset state pins) state pins.resets)
 
   next : (cycle : ℕ) → begun cart (at_sample reset cycle) pins ≡ at_sample reset (cycle + step)
   unfolding begun seen
   next cycle =
       ap (λ x. begun_as (case_of x pins) cart x) (again (is_reset state pins) state pins cycle refl)
-      ∙ waits (at_sample reset cycle) (reset-store (is_reset state pins) state pins.resets)
+      ∙ waited_on (at_sample reset cycle) (reset-store (is_reset state pins) state pins.resets)
 
   pub all-rest : (n : ℕ) → begun_after (suc n) cart state pins ≡ at_sample reset (state.start + step * suc n)
   unfolding begun_after

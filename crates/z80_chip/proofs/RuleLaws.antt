@@ -2,9 +2,12 @@
 use Rattle.std.proofs.Common.{◌≡◌, ℕ, zero, suc, ◌+◌, ◌-◌, ◌*◌, ◌^◌, ◌<◌, ◌≤◌, Bool, true, false, not, cond, eqb, leb, ltb, List, length, slice_index, Option, Some, None, is_some, IfSome, Result, Err, refl, sym, ap, subst, ◌∙◌, arith, inl, inr}
 use Rattle.std.specs.Prelude.{◌&&◌, ◌||◌}
 use Rattle.std.proofs.lemmas.Bool.{and_parts, eq-eqb, eqb-true, le-leb, leb-true, lt-ltb, ltb-true, and_from, or_left, or_right, not-true}
+use Rattle.std.proofs.Math.Nat.{eq-or-lt_of_le}
+use Rattle.std.proofs.Math.Seq.{take-length}
 use Rattle.md_fields.specs.Distances.{is_after}
 use Rattle.md_fields.specs.Fields.{AllHold, AreWithin, spelling}
 use Rattle.md_fields.specs.Items.{IsRight}
+use Rattle.md_fields.proofs.Distances.{is_after_by}
 use Rattle.md_fields.proofs.Items.{none_wrong}
 use Rattle.md_fields.proofs.Padding.{padded_length, padded_zeros}
 use Rattle.md_word.specs.declared.sub_bus.Request80.{Request80}
@@ -26,8 +29,7 @@ use Rattle.z80_chip.specs.declared.saved.Saved80.{Saved80}
 use Rattle.z80_chip.specs.declared.stage.Stage.{Stage}
 use Rattle.z80_chip.specs.declared.stage.Stage.TheVariants.{Sample, Access, Yield, Take}
 use Rattle.z80_chip.proofs.Laws.{few-answers}
-use Rattle.z80_chip.proofs.SavedLaws.{Rules, bank_right, rules_of, state_again, waits_by, whole}
-use Rattle.z80_chip.proofs.Ahead.{last_or}
+use Rattle.z80_chip.proofs.SavedLaws.{Rules, bank_right, rules_of, state_again, waits_by}
 
 -- ---- the answers
 
@@ -46,7 +48,7 @@ waiting_to : (cart : List ℕ) (state : State80) (request : Request80) → carri
 unfolding is_waiting
 waiting_to cart state request asked fit =
     and_from _ _
-    (subst (λ (l : List ℕ). is_access (need_of (carried_out cart (record state { answers = l }) state.cause)) ≡ true) (sym (whole state.answers))
+    (subst (λ (l : List ℕ). is_access (need_of (carried_out cart (record state { answers = l }) state.cause)) ≡ true) (sym (take-length state.answers))
     (subst (λ (r : Result Ended Request80). is_access (need_of r) ≡ true) (sym asked) (access_for request)))
     (answered_to cart state (length state.answers) (omega arith) fit)
 
@@ -66,9 +68,6 @@ asks_to cart at v ok rules =
     ∙ asks_at v.state.stage (is_bank_right v.state.store) v.cart v.state ok.stands rules.fit
 
 -- ---- what depends on the stage
-
-after_to : (later earlier distance : ℕ) → later ≡ earlier + distance → is_after later earlier distance ≡ true
-after_to later earlier distance e = and_from _ _ (le-leb earlier later (omega (arith, e))) (eq-eqb (later - earlier) distance (omega (arith, e)))
 
 -- the rules on the fields that depend on the stage
 record AtStage (at m : ℕ) (has : Bool) (state : State80) : Type 0 where
@@ -94,19 +93,19 @@ at_stage Access at cart state is below holds small = record {
   known = refl;
   start = lt-ltb state.start at below;
   cause = and_from _ _ (le-leb state.cause 1 small) (or_right (eqb state.cause 0) true refl);
-  follows = (let place = is.place in after_to state.next state.start (first_step + step * length state.answers) (omega (arith, place)));
+  follows = (let place = is.place in is_after_by state.next state.start (first_step + step * length state.answers) (omega (arith, place)));
   holder = holds;
 }
 at_stage Yield at cart state is below holds small = record {
   known = refl;
-  start = after_to state.next state.start first_step is.1;
+  start = is_after_by state.next state.start first_step is.1;
   cause = none_caused state.cause false is.0.cause;
   follows = eq-eqb (length state.answers) 0 (ap length is.0.answers);
   holder = holds;
 }
 at_stage Take at cart state is below holds small = record {
   known = refl;
-  start = after_to state.next state.start first_step is.1;
+  start = is_after_by state.next state.start first_step is.1;
   cause = none_caused state.cause false is.0.cause;
   follows = eq-eqb (length state.answers) 0 (ap length is.0.answers);
   holder = ap not holds;
@@ -379,9 +378,9 @@ unfolding are_answered
 answered_from cart state zero k e less = absurd (omega (arith, less))
 answered_from cart state (suc n) k e less =
     let p = and_parts _ _ e in
-    elim (last_or k n less) [
-      | inl early ↦ answered_from cart state n k p.0 early
-      | inr last ↦ subst (λ (m : ℕ). is_answer (need_after cart state m) (slice_index state.answers m) ≡ true) (sym last) p.1
+    elim (eq-or-lt_of_le {n = k} {m = n} (omega (arith, less))) [
+      | inr early ↦ answered_from cart state n k p.0 early
+      | inl last ↦ subst (λ (m : ℕ). is_answer (need_after cart state m) (slice_index state.answers m) ≡ true) (sym last) p.1
     ]
 
 waiting_from : (cart : List ℕ) (state : State80) → is_waiting cart state ≡ true → AreFit cart state

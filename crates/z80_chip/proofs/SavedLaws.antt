@@ -1,13 +1,15 @@
 -- Laws of what a saved state keeps of the Z80.
-use Rattle.std.proofs.Common.{◌≡◌, ℕ, zero, suc, ◌+◌, ◌*◌, ◌-◌, ◌≤◌, Bool, true, false, not, cond, eqb, ltb, List, [], ◌∷◌, length, take, drop, Option, Some, None, is_some, IfSome, Result, Ok, Err, refl, sym, ap, subst, ◌∙◌, arith}
+use Rattle.std.proofs.Common.{◌≡◌, ℕ, zero, suc, ◌+◌, ◌*◌, ◌-◌, ◌≤◌, Bool, true, false, not, cond, eqb, ltb, List, length, take, drop, Option, Some, None, is_some, IfSome, Result, Ok, Err, refl, sym, subst, ◌∙◌, arith}
 use Rattle.std.specs.Prelude.{◌&&◌, ◌||◌}
 use Rattle.std.proofs.lemmas.Bool.{leb-true, eqb-true, and_parts}
-use Rattle.std.proofs.lemmas.List.{length-take}
+use Rattle.std.proofs.lemmas.List.{length-take, nil_from_length}
+use Rattle.std.proofs.Math.Seq.{take-length}
 use Rattle.md_word.specs.declared.sub_bus.Request80.{Request80}
 use Rattle.md_fields.specs.Distances.{is_after, is_soon}
 use Rattle.md_fields.specs.Fields.{AllHold, first_wrong}
 use Rattle.md_fields.specs.Padding.{are_zeros}
 use Rattle.md_fields.specs.Places.{Stand}
+use Rattle.md_fields.proofs.Distances.{after_is}
 use Rattle.md_fields.proofs.Flags.{flag_again, flag_back}
 use Rattle.md_fields.proofs.Items.{all_hold}
 use Rattle.md_fields.proofs.Padding.{padded_again, padded_back}
@@ -267,21 +269,6 @@ or_false : (b : Bool) → (b || false) ≡ true → b ≡ true
 or_false true e = refl
 or_false false e = cc
 
-none_there : (l : List ℕ) → eqb (length l) 0 ≡ true → l ≡ []
-none_there [] e = refl
-none_there (x ∷ xs) e = absurd (let none = eqb-true (length (x ∷ xs)) 0 e in omega (arith, none))
-
-after_eq : (later earlier distance : ℕ) → is_after later earlier distance ≡ true → later ≡ earlier + distance
-after_eq later earlier distance e =
-    let p = and_parts _ _ e in
-    let le = leb-true earlier later p.0 in
-    let same = eqb-true (later - earlier) distance p.1 in
-    omega (arith, le, same)
-
-pub whole : (l : List ℕ) → take (length l) l ≡ l
-whole [] = refl
-whole (x ∷ xs) = ap (λ (l : List ℕ). x ∷ l) (whole xs)
-
 waits_for : (r : Result Ended Request80) → is_access (need_of r) ≡ true → (request : Request80) × (r ≡ Err request)
 waits_for (Ok ended) e = absurd cc
 waits_for (Err request) e = (request, refl)
@@ -291,7 +278,7 @@ unfolding is_waiting
 asks_for cart state e =
     let access = (and_parts _ _ e).0 in
     waits_for (carried_out cart state state.cause)
-    (subst (λ (l : List ℕ). is_access (need_of (carried_out cart (record state { answers = l }) state.cause)) ≡ true) (whole state.answers) access)
+    (subst (λ (l : List ℕ). is_access (need_of (carried_out cart (record state { answers = l }) state.cause)) ≡ true) (take-length state.answers) access)
 
 stands_at : (cart : List ℕ) (at n : ℕ) (state : State80) → n ≤ 3
     → cond (eqb n 0) (eqb state.start state.next) (cond (eqb n 1) (ltb state.start at) (is_after state.next state.start first_step)) ≡ true
@@ -301,15 +288,15 @@ stands_at : (cart : List ℕ) (at n : ℕ) (state : State80) → n ≤ 3
     → (eqb n 1 ≡ true → is_waiting cart state ≡ true)
     → IsAt (stage_of n) cart state
 stands_at cart at zero state le start cause count holder asks =
-    (record { cause = eqb-true state.cause 0 (or_false _ cause); answers = none_there state.answers count }, eqb-true state.start state.next start)
+    (record { cause = eqb-true state.cause 0 (or_false _ cause); answers = nil_from_length state.answers (eqb-true (length state.answers) 0 count) }, eqb-true state.start state.next start)
 stands_at cart at (suc zero) state le start cause count holder asks =
     let asked = asks_for cart state (asks refl) in
-    let place = after_eq state.next state.start (first_step + step * length state.answers) count in
+    let place = after_is state.next state.start (first_step + step * length state.answers) count in
     record { store = holder; place = omega (arith, place); request = asked.0; asked = asked.1 }
 stands_at cart at (suc (suc zero)) state le start cause count holder asks =
-    (record { cause = eqb-true state.cause 0 (or_false _ cause); answers = none_there state.answers count }, after_eq state.next state.start first_step start)
+    (record { cause = eqb-true state.cause 0 (or_false _ cause); answers = nil_from_length state.answers (eqb-true (length state.answers) 0 count) }, after_is state.next state.start first_step start)
 stands_at cart at (suc (suc (suc zero))) state le start cause count holder asks =
-    (record { cause = eqb-true state.cause 0 (or_false _ cause); answers = none_there state.answers count }, after_eq state.next state.start first_step start)
+    (record { cause = eqb-true state.cause 0 (or_false _ cause); answers = nil_from_length state.answers (eqb-true (length state.answers) 0 count) }, after_is state.next state.start first_step start)
 stands_at cart at (suc (suc (suc (suc n)))) state le start cause count holder asks = absurd (omega (arith, le))
 
 -- where the rules hold of RAM and bank register, at an access it waits

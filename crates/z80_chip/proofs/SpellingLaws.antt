@@ -1,7 +1,7 @@
 -- Laws of the bytes that keep the Z80, and of those that keep none.
 use Rattle.std.proofs.Common.{◌≡◌, ℕ, ◌+◌, ◌≤◌, Bool, true, false, not, cond, eqb, ltb, List, ◌++◌, length, take, drop, Option, Some, None, is_some, IfSome, refl, sym, ap, subst, ◌∙◌, inl, inr, ◌⊎◌, arith}
-use Rattle.std.specs.Prelude.{◌&&◌}
 use Rattle.std.specs.Int.{w16}
+use Rattle.std.proofs.Math.Bool.{and-false}
 use Rattle.std.proofs.lemmas.Bool.{ltb-true, eqb-true}
 use Rattle.std.proofs.lemmas.List.{length-take, length-drop}
 use Rattle.md_fields.specs.Fields.{AllHold, AreSized, AreWithin, Field, first_wrong, or_else, sizes, spelling}
@@ -98,21 +98,17 @@ breaks_number cart at bytes s place fits stands e =
           ∙ ap (λ (f : Option ℕ). or_else f (first_wrong (0 + sizes (number_fields at (is_some k.store) s)) (store_fields (asks_more cart k) k.store))) e;
     })
 
-behind : (at : ℕ) (holds : Bool) (s : Saved80) (store : Option Store) → first_wrong 0 (number_fields at (is_some store) s) ≡ None
+wrong_behind : (at : ℕ) (holds : Bool) (s : Saved80) (store : Option Store) → first_wrong 0 (number_fields at (is_some store) s) ≡ None
     → first_wrong 0 (fields_by at holds (record { numbers = s; store = store })) ≡ first_wrong 62 (store_fields holds store)
-behind at holds s store e =
+wrong_behind at holds s store e =
     first_append 0 (number_fields at (is_some store) s) (store_fields holds store)
     ∙ ap (λ (f : Option ℕ). or_else f (first_wrong (0 + sizes (number_fields at (is_some store) s)) (store_fields holds store))) e
     ∙ ap (λ (n : ℕ). first_wrong (0 + n) (store_fields holds store)) (number_size at (is_some store) s)
 
-and_false : (b : Bool) → (b && false) ≡ false
-and_false true = refl
-and_false false = refl
-
 -- RAM's rule is not looked at over a wrong bank register, or where there is no RAM
 asks_none : (cart : List ℕ) (k : Kept80) → is_bank_right k.store ≡ false → asks_more cart k ≡ true
 asks_none cart k e =
-    rw (e, and_false (eqb k.numbers.stage 1)) refl
+    rw (e, and-false (eqb k.numbers.stage 1)) refl
 
 bank_wrong : (holds : Bool) (store : Store) → holds ≡ true → ltb store.bank 512 ≡ false → first_wrong 62 (store_fields holds (Some store)) ≡ Some 8254
 unfolding first_wrong
@@ -131,7 +127,7 @@ breaks_bank cart at bytes s fits stands e long wrong =
     inr (record {
       saved = k;
       keeps = kept (chip_fields cart at) bytes k fits (stands (asks_more cart k));
-      first = behind at (asks_more cart k) s (store_at bytes) e
+      first = wrong_behind at (asks_more cart k) s (store_at bytes) e
           ∙ ap (λ (o : Option Store). first_wrong 62 (store_fields (asks_more cart k) o)) is
           ∙ bank_wrong (asks_more cart k) (there bytes) none wrong;
     })
@@ -145,7 +141,7 @@ right_by false store h = rw (h refl) refl
 pub right_numbers : (at : ℕ) (bytes : List ℕ) (s : Saved80) → first_wrong 0 (number_fields at (is_some (store_at bytes)) s) ≡ None
     → (eqb (length bytes) 62 ≡ false → ltb (number_at w16 8254 bytes) 512 ≡ true)
     → first_wrong 0 (fields_by at true (record { numbers = s; store = store_at bytes })) ≡ None
-right_numbers at bytes s e h = behind at true s (store_at bytes) e ∙ right_by (eqb (length bytes) 62) (there bytes) h
+right_numbers at bytes s e h = wrong_behind at true s (store_at bytes) e ∙ right_by (eqb (length bytes) 62) (there bytes) h
 
 -- ---- what is read
 
@@ -186,7 +182,7 @@ breaks_ram cart at bytes s fits is asks =
     inr (record {
       saved = k;
       keeps = read_keeps cart at bytes s fits is;
-      first = behind at (asks_more cart k) s k.store parts.0 ∙ ram_wrong cart s k.store asks;
+      first = wrong_behind at (asks_more cart k) s k.store parts.0 ∙ ram_wrong cart s k.store asks;
     })
 
 -- ---- what bytes keep
@@ -195,8 +191,8 @@ pub answers_four : (cart : List ℕ) (at : ℕ) (bytes : List ℕ) (k : Kept80) 
 unfolding AreWithin
 answers_four cart at bytes k keeps = keeps.within.1.1.1.1.1.1.1.1.1.1.1.1.1.1.1.1.1.1.1.1.1.1.1.1.1.0
 
-pub spells : (cart : List ℕ) (at : ℕ) (bytes : List ℕ) (k : Kept80) → Keeps (chip_fields cart at) bytes k → IsRight (chip_fields cart at) k → Spells cart at bytes (state_from k.numbers k.store)
-spells cart at bytes k keeps right =
+pub spelled_by : (cart : List ℕ) (at : ℕ) (bytes : List ℕ) (k : Kept80) → Keeps (chip_fields cart at) bytes k → IsRight (chip_fields cart at) k → Spells cart at bytes (state_from k.numbers k.store)
+spelled_by cart at bytes k keeps right =
     let rules = rules_of at (asks_more cart k) k right in
     let e : kept_of (state_from k.numbers k.store) ≡ k = kept_back at (asks_more cart k) k (answers_four cart at bytes k keeps) rules in
     record {

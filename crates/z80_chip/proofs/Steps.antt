@@ -5,9 +5,9 @@ use Rattle.z80_exec.specs.Sample.Samples.{Ended}
 use Rattle.z80_chip.specs.Events.{asking, came_to, ended_in, finished}
 use Rattle.z80_chip.specs.States.{State80}
 
-pub waits : (state : State80) (cause : ℕ) (r : Result Ended Request80) → None ≡ ended_in r → asking state cause ≡ came_to state cause r
-waits state cause (Ok ended) e = cc
-waits state cause (Err request) e = refl
+pub came_waiting : (state : State80) (cause : ℕ) (r : Result Ended Request80) → None ≡ ended_in r → asking state cause ≡ came_to state cause r
+came_waiting state cause (Ok ended) e = cc
+came_waiting state cause (Err request) e = refl
 
 pub ends : (state : State80) (cause : ℕ) (r : Result Ended Request80) (ended : Ended) → Some ended ≡ ended_in r → finished state ended ≡ came_to state cause r
 ends state cause (Ok other) ended e = let same : ended ≡ other = cc in ap (finished state) same

@@ -358,7 +358,7 @@ impl Sequencer {
         progress: &mut Progress80,
     ) -> Request80
         requires ram { IsSome parcel.now }
-        requires waits { events.Asks cart.now (state_of self.old parcel.now) }
+        requires asked { events.Asks cart.now (state_of self.old parcel.now) }
         requires foretells { Foretells self.old.behind cart.now (state_of self.old parcel.now) self.old.cause }
         ensures request { request_value80 result ≡ events.asked_in (carried_out cart.now (state_of self.old parcel.now) self.old.cause) }
         ensures state { self.new ≡ self.old }

@@ -1,14 +1,10 @@
-use Rattle.std.proofs.Common.{◌≡◌, ℕ, Bool, true, false, ltb, inl, inr, sym, ap, ◌∙◌, arith}
-use Rattle.std.proofs.lemmas.Bool.{eq-eqb, le-ltb, lt-ltb, ne_eqb}
+use Rattle.std.proofs.Common.{ℕ, true, false, ltb, inl, inr, sym, ap, ◌∙◌, arith}
+use Rattle.std.proofs.lemmas.Bool.{both_ways, eq-eqb, le-ltb, lt-ltb, ne_eqb}
 use Rattle.md_fields.specs.Fields.{sizes, first_wrong}
 use Rattle.z80_chip.specs.Saved.{number_fields}
 use Rattle.z80_chip.proofs.SpellingLaws.{breaks_bank, breaks_number, has_store, number_size, right_numbers, stands_by}
 use Rattle.z80_chip.proofs.spelling.checked.Goals as goal
 use Rattle.z80_chip.proofs.spelling.checked.Goals.{else-bytes-ne-RAM-via-then-bytes-ne-RAM+else-bytes-ne-LENGTH, else-bytes-ne-RAM-via-else-bytes-ne-RAM, else-has-via-then-has+else-u16_at-ge-BANKS, else-has-via-else-has}
-
-differ : (b : Bool) → b ≡ true → b ≡ false → ⊥
-differ true e f = cc
-differ false e f = cc
 
 pub first_wrong-requires : goal.first_wrong-requires
 first_wrong-requires c = omega (arith, ap sizes c.fields.ensures.fields ∙ number_size c.args.at _ c.read-saved.result)
@@ -47,6 +43,6 @@ returns-clause-found c = record {
       (ap (λ has. first_wrong 0 (number_fields c.args.at has c.read-saved.result)) (sym (has_store c.args.bytes.now)) ∙ ap (first_wrong 0) (sym c.fields.ensures.fields) ∙ sym c.first_wrong.ensures ∙ c.in_default.is)
       (elim c.else-has.branch [
         | else-has-via-then-has+else-u16_at-ge-BANKS w ↦ (λ long. ap (λ (n : ℕ). ltb n 512) (sym w.u16_at.ensures) ∙ lt-ltb w.u16_at.result 512 (omega (arith, w.if-u16_at-ge-BANKS.false)))
-        | else-has-via-else-has w ↦ (λ long. absurd (differ _ (eq-eqb _ _ w.if-has.false) long))
+        | else-has-via-else-has w ↦ (λ long. absurd (both_ways _ long (eq-eqb _ _ w.if-has.false)))
       ]);
 }

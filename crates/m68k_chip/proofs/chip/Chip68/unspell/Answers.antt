@@ -17,13 +17,13 @@ use Rattle.m68k_chip.proofs.Waiting.{unknown-foreseen}
 use Rattle.m68k_chip.proofs.chip.Chip68.unspell.Goals as goal
 
 pub copied-requires : goal.copied-requires
-copied-requires c = spelled_long c.deref-2.result.now c.args.at c.args.bytes.now (state_of c.in-Ok.sequencer (ram_in c.args.bytes.now)) c.in-Ok.ensures.found.spells
+copied-requires c = spelled_long c.deref-2.result.now c.args.at c.args.bytes.now (state_of c.in-Ok.sequencer (ram_in c.args.bytes.now)) c.in-Ok.ensures.found.spelled
 
 pub returns-in_err-ram-in-Ok-clause-rule : goal.returns-in_err-ram-in-Ok-clause-rule
 returns-in_err-ram-in-Ok-clause-rule c =
     let p = err_from_is_err_and c.from_residual-in_err-ram-in-Ok.result c.from_residual-in_err-ram-in-Ok.ensures.1 in
     let kept : Spells (arc_value c.args.cart) c.args.at c.args.bytes.now (state_of c.in-Ok.sequencer (ram_in c.args.bytes.now)) =
-    subst (λ (image : List ℕ). Spells image c.args.at c.args.bytes.now (state_of c.in-Ok.sequencer (ram_in c.args.bytes.now))) c.deref-2.ensures c.in-Ok.ensures.found.spells in
+    subst (λ (image : List ℕ). Spells image c.args.at c.args.bytes.now (state_of c.in-Ok.sequencer (ram_in c.args.bytes.now))) c.deref-2.ensures c.in-Ok.ensures.found.spelled in
     λ place. (
       λ e. absurd (no_rule place p.0 (sym p.2) (sym p.1 ∙ e)),
       λ wrong. absurd (right_not_refused (arc_value c.args.cart) c.args.at c.args.bytes.now _ place kept wrong),
@@ -40,7 +40,7 @@ pub invariant_of-result : goal.invariant_of-result
 invariant_of-result c = (
   record {
     valid = subst (λ (s : State68). IsChip68 (of (arc_value c.args.cart) s)) (sym (made c))
-        (spelled_valid (arc_value c.args.cart) c.args.at c.args.bytes.now _ (subst (λ (image : List ℕ). IsImage image) c.deref.ensures c.bytes.ensures.image) (kept c).spells);
+        (spelled_valid (arc_value c.args.cart) c.args.at c.args.bytes.now _ (subst (λ (image : List ℕ). IsImage image) c.deref.ensures c.bytes.ensures.image) (kept c).spelled);
     waiting = subst (λ (s : State68). IsWaiting s.stage (arc_value c.args.cart) s c.in-Ok.sequencer.request) (sym (made c)) (kept c).waits;
     foresees = unknown-foreseen _ (arc_value c.args.cart) _ c.in-Ok.sequencer.foreseen (kept c).unknown;
   },
@@ -48,23 +48,23 @@ invariant_of-result c = (
 )
 
 pub returns-in_ok-ram-in-Ok-clause-found : goal.returns-in_ok-ram-in-Ok-clause-found
-returns-in_ok-ram-in-Ok-clause-found c = (refl, subst (Spells (arc_value c.args.cart) c.args.at c.args.bytes.now) (sym (made c)) (kept c).spells)
+returns-in_ok-ram-in-Ok-clause-found c = (refl, subst (Spells (arc_value c.args.cart) c.args.at c.args.bytes.now) (sym (made c)) (kept c).spelled)
 
 pub returns-in_ok-ram-in-Ok-clause-recent : goal.returns-in_ok-ram-in-Ok-clause-recent
 returns-in_ok-ram-in-Ok-clause-recent c =
     subst (HasRules c.args.at) (sym (made c)) (record {
       ram = IsBytes-take 0x1_0000 (drop 178 c.args.bytes.now) (IsBytes-drop 178 c.args.bytes.now (λ i. omega (arith, c.type_inv.bytes i)));
-      recent = recent_from (arc_value c.args.cart) c.args.at c.args.bytes.now _ (kept c).spells;
+      recent = recent_from (arc_value c.args.cart) c.args.at c.args.bytes.now _ (kept c).spelled;
     })
 
 pub returns-in_ok-ram-in-Ok-clause-only : goal.returns-in_ok-ram-in-Ok-clause-only
 returns-in_ok-ram-in-Ok-clause-only c = λ state p n.
-    ap (λ (s : State68). Ok (of (arc_value c.args.cart) s)) (made c ∙ no_other (arc_value c.args.cart) c.args.at c.args.bytes.now _ state (kept c).spells p)
+    ap (λ (s : State68). Ok (of (arc_value c.args.cart) s)) (made c ∙ no_other (arc_value c.args.cart) c.args.at c.args.bytes.now _ state (kept c).spelled p)
 
 pub returns-in_ok-ram-in-Ok-clause-rule : goal.returns-in_ok-ram-in-Ok-clause-rule
 returns-in_ok-ram-in-Ok-clause-rule c = λ place. (
   λ e. absurd cc,
-  λ wrong. absurd (right_not_refused (arc_value c.args.cart) c.args.at c.args.bytes.now _ place (kept c).spells wrong),
+  λ wrong. absurd (right_not_refused (arc_value c.args.cart) c.args.at c.args.bytes.now _ place (kept c).spelled wrong),
 )
 
 pub returns-in-Err-clause-only : goal.returns-in-Err-clause-only
@@ -85,7 +85,7 @@ pub returns-in_err-cache-in-Ok-clause-rule : goal.returns-in_err-cache-in-Ok-cla
 returns-in_err-cache-in-Ok-clause-rule c =
     let p = err_from_is_err_and c.from_residual.result c.from_residual.ensures.1 in
     let kept : Spells (arc_value c.args.cart) c.args.at c.args.bytes.now (state_of c.in-Ok.sequencer (ram_in c.args.bytes.now)) =
-    subst (λ (image : List ℕ). Spells image c.args.at c.args.bytes.now (state_of c.in-Ok.sequencer (ram_in c.args.bytes.now))) c.deref-2.ensures c.in-Ok.ensures.found.spells in
+    subst (λ (image : List ℕ). Spells image c.args.at c.args.bytes.now (state_of c.in-Ok.sequencer (ram_in c.args.bytes.now))) c.deref-2.ensures c.in-Ok.ensures.found.spelled in
     λ place. (
       λ e. absurd (no_rule place p.0 (sym p.2) (sym p.1 ∙ e)),
       λ wrong. absurd (right_not_refused (arc_value c.args.cart) c.args.at c.args.bytes.now _ place kept wrong),

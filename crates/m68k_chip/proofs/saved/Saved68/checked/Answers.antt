@@ -8,7 +8,7 @@ use Rattle.m68k_chip.specs.Saved.{fields_by}
 use Rattle.m68k_chip.specs.Spelling.{Spells, ram_in}
 use Rattle.m68k_chip.specs.States.{state_of}
 use Rattle.m68k_chip.proofs.SavedLaws.{count_few, rules_of}
-use Rattle.m68k_chip.proofs.SpellingLaws.{breaks, breaks_ram, fields_size, keeps, right, spells}
+use Rattle.m68k_chip.proofs.SpellingLaws.{breaks, breaks_ram, fields_size, keeps, right, spelled_by}
 use Rattle.m68k_chip.proofs.saved.Saved68.checked.Goals as goal
 
 pub first_wrong-requires : goal.first_wrong-requires
@@ -34,8 +34,8 @@ returns-then-resumes-clause-found c =
     let made : state_of c.resumes.new.self (ram_in c.args.bytes.now) ≡ state_from n =
     c.resumes.ensures.state (ram_in c.args.bytes.now) ∙ ap (state_of c.sequencer-sequencer.result) (sym c.read-saved.ensures.ram) ∙ c.sequencer-sequencer.ensures.state in
     record {
-      spells = subst (Spells c.args.cart.now c.args.at c.args.bytes.now) (sym made)
-          (spells c.args.cart.now c.args.at c.args.bytes.now n
+      spelled = subst (Spells c.args.cart.now c.args.at c.args.bytes.now) (sym made)
+          (spelled_by c.args.cart.now c.args.at c.args.bytes.now n
           (keeps c.args.cart.now c.args.at c.args.bytes.now n (λ i. omega (arith, c.type_inv.bytes i)) c.read-saved.ensures.stands)
           (right c.args.cart.now c.args.at c.args.bytes.now n (λ i. omega (arith, c.type_inv.bytes i)) c.read-saved.ensures.stands none asks));
       waits = subst (λ (r : List ℕ). IsWaiting c.resumes.new.self.stage c.args.cart.now (state_of c.resumes.new.self r) c.resumes.new.self.request) (ram ∙ c.read-saved.ensures.ram)

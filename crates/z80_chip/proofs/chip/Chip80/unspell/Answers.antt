@@ -15,7 +15,7 @@ use Rattle.z80_chip.proofs.Laws.{of}
 use Rattle.md_fields.proofs.Refusals.{same_rule}
 use Rattle.z80_chip.proofs.RuleLaws.{rules_from}
 use Rattle.z80_chip.proofs.SavedLaws.{count_few, valid}
-use Rattle.z80_chip.proofs.SpellingLaws.{answers_four, breaks_ram, no_other, only_place, read_keeps, read_of, read_right, read_rules, read_store, right_not_refused, spells}
+use Rattle.z80_chip.proofs.SpellingLaws.{answers_four, breaks_ram, no_other, only_place, read_keeps, read_of, read_right, read_rules, read_store, right_not_refused, spelled_by}
 use Rattle.z80_chip.proofs.Foresight.{unknown-foreseen}
 use Rattle.z80_chip.proofs.chip.Chip80.unspell.Goals as goal
 
@@ -65,8 +65,8 @@ sequencer-requires c = omega (arith, count_few c.args.at true _ (read_rules c.ar
 made : (c : goal.After-new) → state_of c.sequencer.result c.in_ok-parcel.parcel ≡ state_from c.in-Ok.saved (store_at c.args.bytes.now)
 made c = c.sequencer.ensures.state c.in_ok-parcel.parcel ∙ ap (state_from c.in-Ok.saved) c.in_ok-parcel.ensures
 
-asks : (c : goal.After-new) → asks_more (arc_value c.args.cart) (read_of c.args.bytes.now c.in-Ok.saved) ≡ true
-asks c =
+asked_more : (c : goal.After-new) → asks_more (arc_value c.args.cart) (read_of c.args.bytes.now c.in-Ok.saved) ≡ true
+asked_more c =
     told c.deref-2.result.now (arc_value c.args.cart) c.args.bytes.now c.in-Ok.saved (option_map store_of c.in_ok-parcel.parcel) c.asks_more.result c.deref-2.ensures c.in_ok-parcel.ensures c.asks_more.ensures
     ∙ c.if-not-asks_more.false
 
@@ -74,7 +74,7 @@ keeps : (c : goal.After-new) → Keeps (chip_fields (arc_value c.args.cart) c.ar
 keeps c = read_keeps (arc_value c.args.cart) c.args.at c.args.bytes.now c.in-Ok.saved (λ i. omega (arith, c.type_inv.bytes i)) c.in-Ok.ensures.found
 
 right : (c : goal.After-new) → IsRight (chip_fields (arc_value c.args.cart) c.args.at) (read_of c.args.bytes.now c.in-Ok.saved)
-right c = read_right (arc_value c.args.cart) c.args.at c.args.bytes.now c.in-Ok.saved c.in-Ok.ensures.found (asks c)
+right c = read_right (arc_value c.args.cart) c.args.at c.args.bytes.now c.in-Ok.saved c.in-Ok.ensures.found (asked_more c)
 
 pub invariant_of-result : goal.invariant_of-result
 invariant_of-result c = record {
@@ -84,7 +84,7 @@ invariant_of-result c = record {
       (read_store c.args.at c.args.bytes.now c.in-Ok.saved c.in-Ok.ensures.found)
       (answers_four (arc_value c.args.cart) c.args.at c.args.bytes.now (read_of c.args.bytes.now c.in-Ok.saved) (keeps c))
       (read_rules c.args.at c.args.bytes.now c.in-Ok.saved c.in-Ok.ensures.found)
-      (asks c));
+      (asked_more c));
   foresees = unknown-foreseen _ (arc_value c.args.cart) _ c.sequencer.result.behind c.sequencer.ensures.unknown;
 }
 
@@ -92,14 +92,14 @@ pub returns-clause-found : goal.returns-clause-found
 returns-clause-found c = (
   refl,
   subst (Spells (arc_value c.args.cart) c.args.at c.args.bytes.now) (sym (made c))
-      (spells (arc_value c.args.cart) c.args.at c.args.bytes.now (read_of c.args.bytes.now c.in-Ok.saved) (keeps c) (right c)),
+      (spelled_by (arc_value c.args.cart) c.args.at c.args.bytes.now (read_of c.args.bytes.now c.in-Ok.saved) (keeps c) (right c)),
 )
 
 pub returns-clause-recent : goal.returns-clause-recent
 returns-clause-recent c =
     subst (HasRules (arc_value c.args.cart) c.args.at) (sym (made c))
     (rules_from (arc_value c.args.cart) c.args.at c.args.bytes.now _
-    (spells (arc_value c.args.cart) c.args.at c.args.bytes.now (read_of c.args.bytes.now c.in-Ok.saved) (keeps c) (right c)))
+    (spelled_by (arc_value c.args.cart) c.args.at c.args.bytes.now (read_of c.args.bytes.now c.in-Ok.saved) (keeps c) (right c)))
 
 pub returns-clause-only : goal.returns-clause-only
 returns-clause-only c = λ state p n.

@@ -6,7 +6,7 @@ use Rattle.z80_chip.specs.Events.{asking, carried_out, ended_at, ended_by, went_
 use Rattle.z80_chip.specs.States.{State80, state_of}
 use Rattle.z80_chip.specs.declared.sequencer.Sequencer.{Sequencer}
 use Rattle.z80_chip.proofs.Foresight.{asked-foreseen}
-use Rattle.z80_chip.proofs.Steps.{ends, waits}
+use Rattle.z80_chip.proofs.Steps.{ends, came_waiting}
 use Rattle.z80_chip.proofs.sequencer.Sequencer.go_on.Goals as goal
 
 pub returns-in-None-clause-state : goal.returns-in-None-clause-state
@@ -15,7 +15,7 @@ returns-in-None-clause-state c =
     let old : State80 = state_of c.args.self.now (Some c.args.parcel.now) in
     c.ask.ensures.state (Some c.args.parcel.now)
     ∙ ap (λ (s : Sequencer). asking (state_of s (Some c.args.parcel.now)) c.args.cause) (c.step.ensures.kept c.in-None.is)
-    ∙ waits old c.args.cause (carried_out c.args.cart.now old c.args.cause) (sym (ap (λ r. ended_by r c.step.new.self.regs (done_of c.step.new.progress)) c.in-None.is) ∙ c.step.ensures.value)
+    ∙ came_waiting old c.args.cause (carried_out c.args.cart.now old c.args.cause) (sym (ap (λ r. ended_by r c.step.new.self.regs (done_of c.step.new.progress)) c.in-None.is) ∙ c.step.ensures.value)
 
 pub returns-in-Some-clause-state : goal.returns-in-Some-clause-state
 unfolding went_on
