@@ -1,8 +1,7 @@
 -- What words decode to has modes of its classes: a law on the definition, for any words.
 use Rattle.std.proofs.Common.{◌≡◌, ℕ, zero, suc, ◌/◌, ◌%◌, ◌<◌, ◌==◌, Bool, true, false, List, [], ◌∷◌, map, cond, refl, arith}
 use Rattle.std.proofs.lemmas.Bool.{and_parts}
-use Rattle.std.specs.Prelude.{◌&&◌, filter, bit_and, if◌then◌else◌}
-use Rattle.std.proofs.lemmas.Bool.Decides.{nat_tests}
+use Rattle.std.specs.Prelude.{filter, bit_and, if◌then◌else◌}
 use Rattle.md_word.specs.Fields.{bit_of}
 use Rattle.md_word.specs.declared.mode.Mode.TheVariants as modes
 use Rattle.md_word.specs.declared.size.Size.{Size}
@@ -15,6 +14,7 @@ use Rattle.m68k_decode.specs.Instructions.{chosen, decoded, made, unmatched}
 use Rattle.m68k_decode.specs.Lines.{TableLine, lines_0, lines_1, lines_2, lines_3, lines_4, lines_5, lines_6, lines_7, lines_8, lines_9, lines_b, lines_c, lines_d, lines_e, lines_of, matches, matching, rows_of}
 use Rattle.m68k_decode.specs.Operands.{ArePaired, number_of}
 use Rattle.m68k_decode.specs.Rows.{Row, Decimal, Extended, Jmp, Jsr, Lea, MovemToMemory, MovemToRegisters, Pea}
+use Rattle.m68k_decode.proofs.Classes.{control-below, loads-below, stores-below}
 
 -- what a row says of the low six bits of a word that matches it
 abbrev Permits : ℕ → Row → Type 0
@@ -135,18 +135,9 @@ mode-number (suc (suc (suc (suc (suc (suc (suc zero))))))) (suc (suc (suc (suc z
 mode-number (suc (suc (suc (suc (suc (suc (suc zero))))))) (suc (suc (suc (suc (suc r))))) size k words h below = absurd (omega arith)
 mode-number (suc (suc (suc (suc (suc (suc (suc (suc m)))))))) r size k words h below = absurd (omega arith)
 
-low-number : (size : Size) (k : ℕ) (words : List ℕ) → low_mode_number (opcode words) < 12 → number_of (low_mode size k words) ≡ low_mode_number (opcode words)
+pub low-number : (size : Size) (k : ℕ) (words : List ℕ) → low_mode_number (opcode words) < 12 → number_of (low_mode size k words) ≡ low_mode_number (opcode words)
 unfolding low_mode
 low-number size k words below = mode-number (opcode words / 8 % 8) (opcode words % 8) size k words (omega arith) below
-
-below_control : (n : ℕ) → control n ≡ true → n < 12
-below_control n is = grind (arith, nat_tests)
-
-below_stores : (n : ℕ) → control_alterable_or_predecrement n ≡ true → n < 12
-below_stores n is = grind (arith, nat_tests)
-
-below_loads : (n : ℕ) → control_or_postincrement n ≡ true → n < 12
-below_loads n is = grind (arith, nat_tests)
 
 kept : (class : ℕ → Bool) (size : Size) (k : ℕ) (words : List ℕ) → low_mode_number (opcode words) < 12 → class (low_mode_number (opcode words)) ≡ true → class (number_of (low_mode size k words)) ≡ true
 kept class size k words below is = rw (low-number size k words below) is
@@ -163,12 +154,12 @@ pair words n m = pair_cases (bit_of (opcode words) 8) n m
 
 made_modes : (row : Row) (words : List ℕ) → Permits (opcode words) row → HasModes (made row words).op
 unfolding made
-made_modes Pea words h = kept (λ n. control n) Long 1 words (below_control _ h) h
-made_modes MovemToMemory words h = kept (λ n. control_alterable_or_predecrement n) _ 2 words (below_stores _ h) h
-made_modes MovemToRegisters words h = kept (λ n. control_or_postincrement n) _ 2 words (below_loads _ h) h
-made_modes Jsr words h = kept (λ n. control n) Long 1 words (below_control _ h) h
-made_modes Jmp words h = kept (λ n. control n) Long 1 words (below_control _ h) h
-made_modes Lea words h = kept (λ n. control n) Long 1 words (below_control _ h) h
+made_modes Pea words h = kept (λ n. control n) Long 1 words (control-below _ h) h
+made_modes MovemToMemory words h = kept (λ n. control_alterable_or_predecrement n) _ 2 words (stores-below _ h) h
+made_modes MovemToRegisters words h = kept (λ n. control_or_postincrement n) _ 2 words (loads-below _ h) h
+made_modes Jsr words h = kept (λ n. control n) Long 1 words (control-below _ h) h
+made_modes Jmp words h = kept (λ n. control n) Long 1 words (control-below _ h) h
+made_modes Lea words h = kept (λ n. control n) Long 1 words (control-below _ h) h
 made_modes (Decimal operation) words h = pair words _ _
 made_modes (Extended operation) words h = pair words _ _
 made_modes row words h = tt

@@ -9,7 +9,8 @@ use Rattle.m68k_decode.specs.Instructions.{chosen, decoded, made, unmatched}
 use Rattle.m68k_decode.specs.Lines.{rows_of}
 use Rattle.m68k_decode.specs.Rows.{Row, MovemToMemory, MovemToRegisters, ShiftByNumber}
 
-second : (words : List ℕ) → slice_index words 1 < 65536 → number_at Word 1 words < 65536
+-- the number of the second word
+pub second : (words : List ℕ) → slice_index words 1 < 65536 → number_at Word 1 words < 65536
 unfolding number_at
 second words h = h
 

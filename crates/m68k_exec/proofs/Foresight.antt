@@ -1,6 +1,7 @@
 -- What comes behind a write that waits for its answer.
-use Rattle.std.proofs.Common.{◌≡◌, ℕ, zero, suc, ◌+◌, ◌%◌, ◌/◌, ◌^◌, ◌<◌, ◌≤◌, ◌∙◌, Bool, true, false, nat_lt, List, [], ◌∷◌, ◌++◌, length, length-append, slice_index, Result, Ok, Err, refl, sym, ap, subst, arith, if◌then◌else◌}
+use Rattle.std.proofs.Common.{◌≡◌, ℕ, ◌+◌, ◌%◌, ◌/◌, ◌^◌, ◌<◌, ◌≤◌, ◌∙◌, Bool, true, false, nat_lt, List, [], ◌∷◌, length, length-append, Result, Ok, Err, refl, sym, ap, subst, arith}
 use Rattle.std.proofs.lemmas.Bool.Decides.{nat_tests}
+use Rattle.std.proofs.lemmas.List.{get_or_append_left}
 use Rattle.md_word.specs.Fields.{flags_of, with_flags}
 use Rattle.md_word.specs.declared.main_bus.Request68.{Request68}
 use Rattle.md_word.specs.declared.main_bus.Request68.TheVariants.{Write8, Write16}
@@ -32,13 +33,14 @@ use Rattle.m68k_exec.specs.Rows.Moves.{behind_source}
 use Rattle.m68k_exec.specs.Sample.Execution.{row}
 use Rattle.m68k_exec.specs.Sample.Foresight.{EndsForeseen, FinishesForeseen, Foresees, WaitsForLast, all_answered, answered_with}
 use Rattle.m68k_exec.specs.Sample.Samples as samples
-use Rattle.m68k_exec.specs.Sample.Samples.{Ended, nothing, told_by}
+use Rattle.m68k_exec.specs.Sample.Samples.{nothing, told_by}
 use Rattle.m68k_exec.specs.declared.access.stop.Stop.{Stop}
 use Rattle.m68k_exec.specs.declared.access.stop.Stop.TheVariants.{Ask, Odd}
 use Rattle.m68k_exec.specs.declared.sample.step.Foreseen.{Foreseen}
 use Rattle.m68k_exec.specs.declared.sample.step.Step.{Step}
 use Rattle.m68k_exec.specs.declared.sample.step.Step.TheVariants as steps
 use Rattle.m68k_exec.proofs.Later.Accesses as later
+use Rattle.m68k_exec.proofs.Later.Samples.{split}
 use Rattle.m68k_exec.proofs.Taken.{answered, with_word-used}
 
 -- where nothing is known nothing is foreseen
@@ -52,16 +54,7 @@ nothing_waits (Ok x) foreseen regs act given memory done none = none
 nothing_waits (Err (Ask request)) foreseen regs act given memory done none = λ known. absurd (let no_way = sym none ∙ known in cc)
 nothing_waits (Err (Odd address read used)) foreseen regs act given memory done none = none
 
-split : {A : Type 0} (P : Type 0) (test : Bool) (x y z : A) → (if test then x else y) ≡ z → (test ≡ true → x ≡ z → P) → (test ≡ false → y ≡ z → P) → P
-split P true x y z e h k = h refl e
-split P false x y z e h k = k refl e
-
 -- ---- one answer more
-
-read-first : (l : List ℕ) (x k : ℕ) → k < length l → slice_index (l ++ x ∷ []) k ≡ slice_index l k
-read-first [] x k h = absurd (omega arith)
-read-first (y ∷ l) x zero h = refl
-read-first (y ∷ l) x (suc k) h = read-first l x k (omega arith)
 
 one-longer : (value : ℕ) (memory : Memory) → length (answered_with value memory).answers ≡ length memory.answers + 1
 one-longer value memory = length-append memory.answers (value ∷ [])
@@ -72,7 +65,7 @@ same-below count value memory few = record {
   rom = refl;
   ram = refl;
   enough = (let e = one-longer value memory in omega (arith, e, few));
-  answers = λ k below. read-first memory.answers value k (omega (arith, below, few));
+  answers = λ k below. get_or_append_left memory.answers (value ∷ []) 0 k (omega (arith, below, few));
 }
 
 -- ---- a write that waits
@@ -175,10 +168,6 @@ pub few-taken : (size : Size) (used count : ℕ) → used + moves_of size ≡ co
 few-taken Byte used count e = omega (arith, e)
 few-taken Word used count e = omega (arith, e)
 few-taken Long used count e = omega (arith, e)
-
-pub none-written : (l : List (ℕ × ℕ)) → length l ≡ 0 → l ≡ []
-none-written [] e = refl
-none-written (x ∷ l) e = absurd (omega (arith, e))
 
 -- ---- MOVE
 

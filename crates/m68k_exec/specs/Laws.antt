@@ -15,7 +15,7 @@ use Rattle.m68k_ea.specs.declared.places.Place.{Place}
 use Rattle.m68k_decode.specs.Bounds.{FewCounted}
 use Rattle.m68k_decode.specs.Ops.{IsSpent}
 use Rattle.m68k_exec.specs.declared.access.stop.Stop.TheVariants.{Ask, Odd}
-use Rattle.m68k_exec.specs.Sample.Bounds.{Asks, Fits, IsStatus}
+use Rattle.m68k_exec.specs.Sample.Bounds.{Fits, IsStatus, MayAsk}
 use Rattle.m68k_exec.specs.Access.Actions.{Act, Done, asked, read, write}
 use Rattle.m68k_exec.specs.Sample.Execution.{row}
 use Rattle.m68k_exec.specs.Access.Memory.{Memory}
@@ -67,7 +67,7 @@ pub record SamplesAreBounded : Type 0 where
 -- its level or for a read or write at a shared address
 pub record SamplesAskRightly : Type 0 where
   pub status : (cause : ℕ) (regs : Regs) (memory : Memory) (ended : Ended) → IsStatus regs.sr → sampled cause regs memory ≡ Ok ended → IsStatus ended.regs.sr
-  pub asks : (cause : ℕ) (regs : Regs) (memory : Memory) (request : Request68) → IsStatus regs.sr → sampled cause regs memory ≡ Err (Ask request) → Asks cause request
+  pub asks : (cause : ℕ) (regs : Regs) (memory : Memory) (request : Request68) → IsStatus regs.sr → sampled cause regs memory ≡ Err (Ask request) → MayAsk cause request
 
 -- where memory holds bytes and answers are words, a count that the time depends on is at most 64
 abbrev pub CountsAreFew : Type 0

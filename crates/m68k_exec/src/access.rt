@@ -2,7 +2,7 @@ ghost use Rattle.std.specs.Prelude.{◌≡◌, ◌+◌, ◌%◌, ◌<◌, ◌≤
 ghost use Rattle.arrayvec.specs.ArrayVec.{array_vec_len};
 ghost use Rattle.md_word.specs.Width.{modulus_of};
 ghost use Rattle.m68k_exec.specs.Access.Actions as actions;
-ghost use Rattle.m68k_exec.specs.Access.Clauses.{Meets, NotOdd, Spends, done_of, memory_of};
+ghost use Rattle.m68k_exec.specs.Access.Clauses.{Meets, NotOdd, SpendsAtMost, done_of, memory_of};
 ghost use Rattle.m68k_exec.specs.Access.Operands.{bytes_of};
 
 pub mod conditions;
@@ -23,7 +23,7 @@ use md_word::{Request68, Size, is_shared};
 pub fn ask(request: Request68, around: &Around, progress: &mut Progress) -> Result<u16, Stop>
     ensures value { Meets result (done_of progress.new)
         (actions.asked request (memory_of around.now) (done_of progress.old)) }
-    ensures spent { Spends progress.old progress.new 1 0 }
+    ensures spent { SpendsAtMost progress.old progress.new 1 0 }
     ensures never_odd { NotOdd result }
 {
     if progress.used < around.answers.len() {
@@ -51,7 +51,7 @@ fn ask_byte(at: u32, around: &Around, progress: &mut Progress) -> Result<u8, Sto
 fn tell(request: Request68, around: &Around, progress: &mut Progress) -> Result<(), Stop>
     ensures value { Meets result (done_of progress.new)
         (actions.told request (memory_of around.now) (done_of progress.old)) }
-    ensures spent { Spends progress.old progress.new 1 0 }
+    ensures spent { SpendsAtMost progress.old progress.new 1 0 }
     ensures never_odd { NotOdd result }
 {
     ask(request, around, progress)?;
@@ -165,7 +165,7 @@ fn write_aligned(at: u32, value: u16, around: &Around, progress: &mut Progress) 
     requires room { array_vec_len progress.old.writes + 2 ≤ 80 }
     ensures value { Meets result (done_of progress.new)
         (actions.write_aligned at value (memory_of around.now) (done_of progress.old)) }
-    ensures spent { Spends progress.old progress.new 1 2 }
+    ensures spent { SpendsAtMost progress.old progress.new 1 2 }
     ensures never_odd { NotOdd result }
 {
     if is_shared(at) {
@@ -187,7 +187,7 @@ pub fn write_word(
     requires { array_vec_len progress.old.writes + 2 ≤ 80 }
     ensures value { Meets result (done_of progress.new)
         (actions.write_word address value (memory_of around.now) (done_of progress.old)) }
-    ensures spent { Spends progress.old progress.new 1 2 }
+    ensures spent { SpendsAtMost progress.old progress.new 1 2 }
     ensures even { address % 2 ≡ 0 → NotOdd result }
 {
     if address % 2 == 1 {

@@ -1,8 +1,7 @@
 -- The time of an instruction suffices for its accesses: four clocks for each, and four more.
 use Rattle.std.proofs.Common.{◌≡◌, ◌≢◌, ℕ, ◌+◌, ◌*◌, ◌≤◌, ◌==◌, Bool, true, false, cond, refl, arith}
 use Rattle.std.specs.Prelude.{◌&&◌, count_ones, nat_le}
-use Rattle.std.proofs.lemmas.Bool.Decides.{nat_tests}
-use Rattle.std.proofs.lemmas.Bool.{false≢true}
+use Rattle.std.proofs.lemmas.Bool.{eqb-false, eqb-true, false≢true}
 use Rattle.md_word.specs.declared.mode.Mode.{Mode}
 use Rattle.md_word.specs.declared.mode.Mode.TheVariants.{Data, Address, Indirect, PostInc, PreDec, Displaced, Indexed, AbsShort, AbsLong, PcDisplaced, PcIndexed, Immediate}
 use Rattle.md_word.specs.declared.size.Size.{Size}
@@ -306,27 +305,15 @@ ended false false true bi a t odd other = omega (arith, other refl)
 ended false false false true a t odd other = omega (arith, other refl)
 ended false false false false a t odd other = omega (arith, other refl)
 
-is-three : (n : ℕ) → (n == 3) ≡ true → n ≡ 3
-is-three n is = grind (arith, nat_tests)
-
-not-three : (n : ℕ) → (n == 3) ≡ false → n ≢ 3
-not-three n is = grind (arith, nat_tests)
-
-is-none : (n : ℕ) → (n == 0) ≡ true → n ≡ 0
-is-none n is = grind (arith, nat_tests)
-
-some : (n : ℕ) → (n == 0) ≡ false → n ≢ 0
-some n is = grind (arith, nat_tests)
-
 covers-by : (b : Bool) (op : Op) (spent : Spent) → (spent.cause == 0) ≡ b → HasModes op → IsSpent op spent
     → 4 * spent.accesses + 4 ≤ cond b (row_time op spent) (exception_time spent.cause op)
 covers-by true op spent none is rightly =
-    let cause : spent.cause ≡ 0 = is-none spent.cause none in
+    let cause : spent.cause ≡ 0 = eqb-true spent.cause 0 none in
     omega (arith, rightly.own cause, row-covers-modes op spent is (rightly.counted cause))
 covers-by false op spent ended-in is rightly =
     ended (spent.cause == 3) (spent.cause == 5) (spent.cause == 6) (nat_le 24 spent.cause && nat_le spent.cause 31) spent.accesses (operand_time op)
-    (λ odd. rightly.address_error (is-three spent.cause odd))
-    (λ other. rightly.exception (some spent.cause ended-in) (not-three spent.cause other))
+    (λ odd. rightly.address_error (eqb-true spent.cause 3 odd))
+    (λ other. rightly.exception (eqb-false spent.cause 0 ended-in) (eqb-false spent.cause 3 other))
 
 -- for what words decode to
 pub covers-modes : (op : Op) (spent : Spent) → HasModes op → IsSpent op spent → 4 * spent.accesses + 4 ≤ clocks_of op spent

@@ -8,7 +8,7 @@ use Rattle.md_word.specs.declared.size.Size.TheVariants.{Byte, Word, Long}
 use Rattle.md_word.specs.declared.spent.Spent.{Spent}
 use Rattle.md_word.specs.declared.task.Task.{Task}
 use Rattle.md_word.specs.declared.task.Task.TheVariants as tasks
-use Rattle.std.proofs.lemmas.Bool.Decides.{nat_tests}
+use Rattle.std.proofs.lemmas.Bool.{eqb-true}
 use Rattle.m68k_decode.specs.Bounds.{FewCounted}
 use Rattle.m68k_decode.specs.declared.displacement.Displacement.{Displacement}
 use Rattle.m68k_decode.specs.declared.displacement.Displacement.TheVariants as displacements
@@ -191,11 +191,8 @@ row_few (ops.ShiftByNumber operation size number r) spent h = omega (arith, row_
 row_few (ops.ShiftByRegister operation size n r) spent h = omega (arith, row_most (ops.ShiftByRegister operation size n r) spent, h)
 row_few op spent h = omega (arith, row_most op (record spent { count = 0 }))
 
-is_none : (n : ℕ) → (n == 0) ≡ true → n ≡ 0
-is_none n is = grind (arith, nat_tests)
-
 few_by : (b : Bool) (op : Op) (spent : Spent) → (spent.cause == 0) ≡ b → (spent.cause ≡ 0 → FewCounted op spent.count) → cond b (row_time op spent) (exception_time spent.cause op) ≤ 692
-few_by true op spent e h = row_few op spent (h (is_none spent.cause e))
+few_by true op spent e h = row_few op spent (h (eqb-true spent.cause 0 e))
 few_by false op spent e h = omega (arith, exception_most spent.cause op)
 
 pub few : (op : Op) (spent : Spent) → (spent.cause ≡ 0 → FewCounted op spent.count) → clocks_of op spent ≤ 692

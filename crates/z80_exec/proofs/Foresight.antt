@@ -1,5 +1,5 @@
 -- What comes behind a write that waits for its answer.
-use Rattle.std.proofs.Common.{◌≡◌, ℕ, ◌+◌, ◌≤◌, ◌∙◌, Bool, true, false, nat_lt, List, [], ◌∷◌, length, length-append, slice_index, Result, Ok, Err, refl, sym, ap, arith}
+use Rattle.std.proofs.Common.{◌≡◌, ℕ, ◌+◌, ◌≤◌, ◌∙◌, true, false, nat_lt, List, [], ◌∷◌, length, length-append, slice_index, Result, Ok, Err, refl, sym, ap, arith}
 use Rattle.std.proofs.lemmas.Bool.Decides.{nat_tests}
 use Rattle.std.proofs.lemmas.List.{get_or_append_left}
 use Rattle.md_word.specs.declared.sub_bus.Request80.{Request80}
@@ -11,7 +11,6 @@ use Rattle.z80_exec.specs.Access.Actions as actions
 use Rattle.z80_exec.specs.Access.Actions.{Act, Done}
 use Rattle.z80_exec.specs.Access.Memory.{Memory, instruction_byte, instruction_bytes, is_shared_write}
 use Rattle.z80_exec.specs.Access.Operands as operands
-use Rattle.z80_exec.specs.Access.Operands.{address_of}
 use Rattle.z80_exec.specs.Access.Outcomes.{Outcome, plain}
 use Rattle.z80_exec.specs.Laws.{SameBelow}
 use Rattle.z80_exec.specs.Rows.Loads as loads
@@ -69,10 +68,6 @@ write-behind at written memory done request e last empty value =
     split _ (is_shared_write at) _ _ _ e
     (λ shared v. rw shared (told-behind (Write at written) memory done value last ∙ ap (λ (d : Done). Ok (tt, d)) (as-last memory done empty)))
     (λ shared v. absurd (cc))
-
-pub none-written : (l : List (ℕ × ℕ)) → length l ≡ 0 → l ≡ []
-none-written [] e = refl
-none-written (x ∷ l) e = absurd (omega (arith, e))
 
 -- ---- LD of 8 bits
 

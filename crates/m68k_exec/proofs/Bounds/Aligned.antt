@@ -95,19 +95,19 @@ write_even Long at value e memory done =
     both (write_word at (value / 0x1_0000) memory done) _ (write_word_even at _ e memory done) (λ first after. write_word_even _ _ (next_even at e) memory after)
 
 -- an operand in memory stands at an aligned address
-abbrev Stands : Size → Place → Type 0
-Stands size (places.Memory at) = is_misaligned size at ≡ false
-Stands size _ = Unit {0}
+abbrev StandsAligned : Size → Place → Type 0
+StandsAligned size (places.Memory at) = is_misaligned size at ≡ false
+StandsAligned size _ = Unit {0}
 
-stands-cases : (size : Size) (at : ℕ) (b : Bool) → is_misaligned size at ≡ b → Stands size (if b then places.Odd at else places.Memory at)
+stands-cases : (size : Size) (at : ℕ) (b : Bool) → is_misaligned size at ≡ b → StandsAligned size (if b then places.Odd at else places.Memory at)
 stands-cases size at true e = tt
 stands-cases size at false e = e
 
-in_memory : (size : Size) (at : ℕ) → Stands size (standing size at)
+in_memory : (size : Size) (at : ℕ) → StandsAligned size (standing size at)
 unfolding standing
 in_memory size at = stands-cases size at _ refl
 
-stands : (mode : Mode) (size : Size) (regs : Regs) (pc : ℕ) → Stands size (place_of mode size regs pc)
+stands : (mode : Mode) (size : Size) (regs : Regs) (pc : ℕ) → StandsAligned size (place_of mode size regs pc)
 stands (Data n) size regs pc = tt
 stands (Address n) size regs pc = tt
 stands (Immediate value) size regs pc = tt
@@ -125,7 +125,7 @@ stored_even : (size : Size) (at value : ℕ) (regs : Regs) → is_misaligned siz
 unfolding stored
 stored_even size at value regs e memory done = both (write size at value memory done) _ (write_even size at value e memory done) (λ x after. tt)
 
-changed : {A : Type 0} (size : Size) (place : Place) (regs : Regs) (f : ℕ → ℕ) (g : ℕ → Regs → A) (memory : Memory) (done : Done) → Stands size place → OddBelow (go_on (fetch size place regs memory done) (λ old mid. go_on (put size place (f old) regs memory mid) (λ after last. Ok (g old after, last)))) (done.used + 1)
+changed : {A : Type 0} (size : Size) (place : Place) (regs : Regs) (f : ℕ → ℕ) (g : ℕ → Regs → A) (memory : Memory) (done : Done) → StandsAligned size place → OddBelow (go_on (fetch size place regs memory done) (λ old mid. go_on (put size place (f old) regs memory mid) (λ after last. Ok (g old after, last)))) (done.used + 1)
 unfolding fetch put
 changed size (places.Register n) regs f g memory done h = tt
 changed size (places.Immediate value) regs f g memory done h = tt

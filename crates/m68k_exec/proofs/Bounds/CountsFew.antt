@@ -58,7 +58,7 @@ instruction_small : (memory : Memory) (address : ℕ) → Fits memory → instru
 unfolding instruction_word
 instruction_small memory address fits = word_cases (address % 2 == 0) _ (word_small memory _ fits)
 
-second_small : (memory : Memory) (address : ℕ) → Fits memory → slice_index (instruction_words address memory) 1 < 65536
+pub second_small : (memory : Memory) (address : ℕ) → Fits memory → slice_index (instruction_words address memory) 1 < 65536
 unfolding instruction_words
 second_small memory address fits = instruction_small memory _ fits
 
@@ -93,11 +93,11 @@ fetch_small memory (modes.Immediate value) regs others pc fits = omega arith
 fetch_small memory mode regs others pc fits = place_small memory (effective_address mode Word regs pc) others fits
 
 -- the counts of multiplications and shifts
-abbrev Few : Result (Outcome × Done) Stop → Type 0
-Few (Ok x) = x.0.count ≤ 64
-Few (Err stop) = Unit {0}
+abbrev HasFewCounts : Result (Outcome × Done) Stop → Type 0
+HasFewCounts (Ok x) = x.0.count ≤ 64
+HasFewCounts (Err stop) = Unit {0}
 
-few_on : (first : Result (ℕ × Done) Stop) (g : ℕ → Operand) (f : Operand → Outcome) → Small first → ((value : ℕ) → value < 65536 → (f (g value)).count ≤ 64) → Few (go_on (go_on first (λ value mid. Ok (g value, mid))) (λ source mid. Ok (f source, mid)))
+few_on : (first : Result (ℕ × Done) Stop) (g : ℕ → Operand) (f : Operand → Outcome) → Small first → ((value : ℕ) → value < 65536 → (f (g value)).count ≤ 64) → HasFewCounts (go_on (go_on first (λ value mid. Ok (g value, mid))) (λ source mid. Ok (f source, mid)))
 few_on (Ok x) g f h k = k x.0 h
 few_on (Err stop) g f h k = tt
 
@@ -108,13 +108,13 @@ unlike_few : (value : ℕ) → products.unlike_neighbours value ≤ 64
 unfolding products.unlike_neighbours
 unlike_few value = ones_few _ (omega arith)
 
-mulu_few : (memory : Memory) (n : ℕ) (mode : Mode) (start : ℕ) (regs : Regs) → Fits memory → Few (products.mulu n mode start regs memory nothing)
+mulu_few : (memory : Memory) (n : ℕ) (mode : Mode) (start : ℕ) (regs : Regs) → Fits memory → HasFewCounts (products.mulu n mode start regs memory nothing)
 unfolding products.mulu operands.load
 mulu_few memory n mode start regs fits =
     few_on (operands.fetch Word (place_of mode Word regs (shapes.behind start 2)) regs memory nothing) (λ value. record { value = value; regs = stepped mode Word regs }) (λ source. record (shapes.change_data tasks.Mulu Long source.value n source.regs) { count = count_ones source.value })
     (fetch_small memory mode regs regs (shapes.behind start 2) fits) ones_few
 
-muls_few : (memory : Memory) (n : ℕ) (mode : Mode) (start : ℕ) (regs : Regs) → Fits memory → Few (products.muls n mode start regs memory nothing)
+muls_few : (memory : Memory) (n : ℕ) (mode : Mode) (start : ℕ) (regs : Regs) → Fits memory → HasFewCounts (products.muls n mode start regs memory nothing)
 unfolding products.muls operands.load
 muls_few memory n mode start regs fits =
     few_on (operands.fetch Word (place_of mode Word regs (shapes.behind start 2)) regs memory nothing) (λ value. record { value = value; regs = stepped mode Word regs }) (λ source. record (shapes.change_data tasks.Muls Long source.value n source.regs) { count = products.unlike_neighbours source.value })
@@ -135,10 +135,10 @@ row_few (ops.MovemToMemory size list mode) start regs memory x after fits has e 
 row_few (ops.MovemToRegisters size list mode) start regs memory x after fits has e =
     let c : x.count ≡ count_ones list = counts (ops.MovemToRegisters size list mode) start regs memory nothing x after e in
     let n = ones_few list has in omega (arith, c, n)
-row_few (ops.Mulu n mode) start regs memory x after fits has e = subst Few e (mulu_few memory n mode start regs fits)
-row_few (ops.Muls n mode) start regs memory x after fits has e = subst Few e (muls_few memory n mode start regs fits)
-row_few (ops.ShiftByNumber operation size number r) start regs memory x after fits has e = subst Few e (shift_few operation size number r regs (omega (arith, has)))
-row_few (ops.ShiftByRegister operation size n r) start regs memory x after fits has e = subst Few e (shift_register_few operation size n r regs)
+row_few (ops.Mulu n mode) start regs memory x after fits has e = subst HasFewCounts e (mulu_few memory n mode start regs fits)
+row_few (ops.Muls n mode) start regs memory x after fits has e = subst HasFewCounts e (muls_few memory n mode start regs fits)
+row_few (ops.ShiftByNumber operation size number r) start regs memory x after fits has e = subst HasFewCounts e (shift_few operation size number r regs (omega (arith, has)))
+row_few (ops.ShiftByRegister operation size n r) start regs memory x after fits has e = subst HasFewCounts e (shift_register_few operation size n r regs)
 row_few op start regs memory x after fits has e = tt
 
 from : (op : Op) (memory : Memory) (count : ℕ) → Fits memory → HasNumbers op → FromRow op memory count → FewCounted op count

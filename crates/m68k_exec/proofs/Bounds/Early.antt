@@ -36,29 +36,29 @@ use Rattle.m68k_exec.specs.declared.rows.movem.Order.TheVariants.{Falling, Risin
 use Rattle.m68k_exec.specs.declared.access.stop.Stop.{Stop}
 use Rattle.m68k_exec.specs.declared.access.stop.Stop.TheVariants.{Ask, Odd}
 
-pub record Early (act : Act Outcome) : Type 0 where
+pub record IsEarly (act : Act Outcome) : Type 0 where
   pub odd : (memory : Memory) (before : Done) (address : ℕ) (read : Bool) (used : ℕ) → act memory before ≡ Err (Odd address read used) → before.used ≤ length memory.answers → used ≤ before.used + 4
   pub caused : (memory : Memory) (before : Done) (x : Outcome) (after : Done) → act memory before ≡ Ok (x, after) → x.cause ≢ 0 → before.used ≤ length memory.answers → after.used ≤ before.used + 4
 
-from_few : (most : ℕ) (act : Act Outcome) → most ≤ 4 → Takes most act → Early act
+from_few : (most : ℕ) (act : Act Outcome) → most ≤ 4 → Takes most act → IsEarly act
 from_few most act few h = record {
   odd = λ memory before address read used e in_range. (let r = h.odd memory before address read used e in_range in omega (arith, r.0, few));
   caused = λ memory before x after e other in_range. (let r = h.value memory before x after e in_range in omega (arith, r.0, few));
 }
 
 -- an outcome of this kind has the cause 0
-abbrev Plain : Result (Outcome × Done) Stop → Type 0
-Plain (Ok x) = x.0.cause ≡ 0
-Plain (Err stop) = Unit {0}
+abbrev IsPlain : Result (Outcome × Done) Stop → Type 0
+IsPlain (Ok x) = x.0.cause ≡ 0
+IsPlain (Err stop) = Unit {0}
 
-plain_on : {A : Type 0} (first : Result (A × Done) Stop) (f : A → Done → Result (Outcome × Done) Stop) → ((x : A) (after : Done) → Plain (f x after)) → Plain (go_on first f)
+plain_on : {A : Type 0} (first : Result (A × Done) Stop) (f : A → Done → Result (Outcome × Done) Stop) → ((x : A) (after : Done) → IsPlain (f x after)) → IsPlain (go_on first f)
 plain_on (Ok x) f h = h x.0 x.1
 plain_on (Err stop) f h = tt
 
-never_odd : (act : Act Outcome) → ((memory : Memory) (before : Done) → NotOdd (act memory before)) → ((memory : Memory) (before : Done) → Plain (act memory before)) → Early act
+never_odd : (act : Act Outcome) → ((memory : Memory) (before : Done) → NotOdd (act memory before)) → ((memory : Memory) (before : Done) → IsPlain (act memory before)) → IsEarly act
 never_odd act h k = record {
   odd = λ memory before address read used e in_range. absurd (subst NotOdd e (h memory before));
-  caused = λ memory before x after e other in_range. absurd (other (subst Plain e (k memory before)));
+  caused = λ memory before x after e other in_range. absurd (other (subst IsPlain e (k memory before)));
 }
 
 -- MOVEM: an odd address is an error before any access
@@ -114,19 +114,19 @@ load_list size list at regs memory done =
     cases done.used (list == 0) _ _ (λ e. tt) (λ e. cases done.used (actions.is_odd at) _ _ (λ o. refl) (λ o. at_once done.used _ (load_even size _ at regs o memory done)))
 
 -- MOVEM's outcome
-abbrev Counted : ℕ → Result (Outcome × Done) Stop → Type 0
-Counted list (Ok x) = (x.0.cause ≡ 0) × (x.0.count ≡ count_ones list)
-Counted list (Err stop) = Unit {0}
+abbrev CountsList : ℕ → Result (Outcome × Done) Stop → Type 0
+CountsList list (Ok x) = (x.0.cause ≡ 0) × (x.0.count ≡ count_ones list)
+CountsList list (Err stop) = Unit {0}
 
-counted_on : {A : Type 0} (list : ℕ) (first : Result (A × Done) Stop) (f : A → Regs) → Counted list (go_on first (λ x after. Ok (movem.moved list (f x), after)))
+counted_on : {A : Type 0} (list : ℕ) (first : Result (A × Done) Stop) (f : A → Regs) → CountsList list (go_on first (λ x after. Ok (movem.moved list (f x), after)))
 counted_on list (Ok x) f = (refl, refl)
 counted_on list (Err stop) f = tt
 
-store_counted : (size : Size) (list : ℕ) (mode : Mode) (start : ℕ) (regs : Regs) (memory : Memory) (done : Done) → Counted list (movem.movem_to_memory size list mode start regs memory done)
+store_counted : (size : Size) (list : ℕ) (mode : Mode) (start : ℕ) (regs : Regs) (memory : Memory) (done : Done) → CountsList list (movem.movem_to_memory size list mode start regs memory done)
 unfolding movem.movem_to_memory
 store_counted size list mode start regs memory done = counted_on list (movem.store_list (movem.order_of mode) size list _ regs memory done) _
 
-load_counted : (size : Size) (list : ℕ) (mode : Mode) (start : ℕ) (regs : Regs) (memory : Memory) (done : Done) → Counted list (movem.movem_to_registers size list mode start regs memory done)
+load_counted : (size : Size) (list : ℕ) (mode : Mode) (start : ℕ) (regs : Regs) (memory : Memory) (done : Done) → CountsList list (movem.movem_to_registers size list mode start regs memory done)
 unfolding movem.movem_to_registers
 load_counted size list mode start regs memory done = counted_on list (movem.load_list size list _ regs memory done) _
 
@@ -143,18 +143,18 @@ load_odd : (size : Size) (list : ℕ) (mode : Mode) (start : ℕ) (regs : Regs) 
 unfolding movem.movem_to_registers
 load_odd size list mode start regs memory done = at_once_end done.used _ _ (load_list size list _ regs memory done)
 
-from_once : (list : ℕ) (act : Act Outcome) → ((memory : Memory) (done : Done) → AtOnce done.used (act memory done)) → ((memory : Memory) (done : Done) → Counted list (act memory done)) → Early act
+from_once : (list : ℕ) (act : Act Outcome) → ((memory : Memory) (done : Done) → AtOnce done.used (act memory done)) → ((memory : Memory) (done : Done) → CountsList list (act memory done)) → IsEarly act
 from_once list act h k = record {
   odd = λ memory before address read used e in_range. (let r : used ≡ before.used = subst (AtOnce before.used) e (h memory before) in omega (arith, r));
-  caused = λ memory before x after e other in_range. absurd (other (subst (Counted list) e (k memory before)).0);
+  caused = λ memory before x after e other in_range. absurd (other (subst (CountsList list) e (k memory before)).0);
 }
 
 -- ADDX and SUBX: the source takes two answers at most, and of the target only the read can be odd
-plain_end : {A : Type 0} (first : Result (A × Done) Stop) (f : A → Regs) → Plain (go_on first (λ x last. Ok (plain (f x), last)))
+plain_end : {A : Type 0} (first : Result (A × Done) Stop) (f : A → Regs) → IsPlain (go_on first (λ x last. Ok (plain (f x), last)))
 plain_end (Ok x) f = refl
 plain_end (Err stop) f = tt
 
-plain_change : (operation : Task) (size : Size) (number : ℕ) (mode : Mode) (pc : ℕ) (regs : Regs) (memory : Memory) (done : Done) → Plain (shapes.change_operand operation size number mode pc regs memory done)
+plain_change : (operation : Task) (size : Size) (number : ℕ) (mode : Mode) (pc : ℕ) (regs : Regs) (memory : Memory) (done : Done) → IsPlain (shapes.change_operand operation size number mode pc regs memory done)
 unfolding shapes.change_operand
 plain_change operation size number mode pc regs memory done =
     let to = place_of mode size regs pc in
@@ -162,7 +162,7 @@ plain_change operation size number mode pc regs memory done =
     plain_on (operands.fetch size to (stepped mode size regs) memory done) (λ old mid. go_on (operands.put size to (out old).value (stepped mode size regs) memory mid) (λ x last. Ok (plain (with_flags x (out old).flags), last)))
     (λ old mid. plain_end (operands.put size to (out old).value (stepped mode size regs) memory mid) (λ x. with_flags x (out old).flags))
 
-extended_plain : (operation : Task) (size : Size) (source target : Mode) (start : ℕ) (regs : Regs) (memory : Memory) (done : Done) → Plain (multiprecision.extended operation size source target start regs memory done)
+extended_plain : (operation : Task) (size : Size) (source target : Mode) (start : ℕ) (regs : Regs) (memory : Memory) (done : Done) → IsPlain (multiprecision.extended operation size source target start regs memory done)
 unfolding multiprecision.extended
 extended_plain operation size source target start regs memory done =
     plain_on (operands.load source size (shapes.behind start 2) regs memory done) (λ part mid. shapes.change_operand operation size part.value target (shapes.behind start 2) part.regs memory mid)
@@ -180,19 +180,19 @@ second_odd operation size source target pc behind regs memory before address rea
     let few = touches_most size source in
     omega (arith, one.0, few)
 
-extended_early : (operation : Task) (size : Size) (source target : Mode) (start : ℕ) (regs : Regs) → Early (multiprecision.extended operation size source target start regs)
+extended_early : (operation : Task) (size : Size) (source target : Mode) (start : ℕ) (regs : Regs) → IsEarly (multiprecision.extended operation size source target start regs)
 unfolding multiprecision.extended
 extended_early operation size source target start regs = record {
   odd = λ memory before address read used e in_range. second_odd operation size source target _ _ regs memory before address read used (operands.load source size (shapes.behind start 2) regs memory before) refl e in_range;
-  caused = λ memory before x after e other in_range. absurd (other (subst Plain e (extended_plain operation size source target start regs memory before)));
+  caused = λ memory before x after e other in_range. absurd (other (subst IsPlain e (extended_plain operation size source target start regs memory before)));
 }
 
 -- all other instructions take four answers at most
-abbrev Few : Op → Type 0
-Few (ops.MovemToMemory size list mode) = Unit {0}
-Few (ops.MovemToRegisters size list mode) = Unit {0}
-Few (ops.Extended operation size source target) = Unit {0}
-Few op = accesses_of op ≤ 4
+abbrev TakesFew : Op → Type 0
+TakesFew (ops.MovemToMemory size list mode) = Unit {0}
+TakesFew (ops.MovemToRegisters size list mode) = Unit {0}
+TakesFew (ops.Extended operation size source target) = Unit {0}
+TakesFew op = accesses_of op ≤ 4
 
 bits_most : (operation : Task) (mode : Mode) → bit_touches operation * touches_of Byte mode ≤ 4
 bits_most tasks.Btst mode = let t = touches_most Byte mode in omega (arith, t)
@@ -204,7 +204,7 @@ byte_most (modes.Address n) = omega arith
 byte_most (modes.Immediate value) = omega arith
 byte_most mode = omega arith
 
-few : (op : Op) → Few op
+few : (op : Op) → TakesFew op
 few (ops.Immediate _ size _ mode) = let t = touches_most size mode in omega (arith, t)
 few (ops.CompareImmediate size _ mode) = let t = touches_most size mode in omega (arith, t)
 few (ops.BitByRegister operation _ mode) = bits_most operation mode
@@ -242,7 +242,7 @@ few (ops.ShiftMemory _ mode) = let t = touches_most Word mode in omega (arith, t
 few op = omega arith
 
 -- an address error, or a cause other than 0, comes within four answers
-pub early : (op : Op) (start : ℕ) (regs : Regs) → Early (execution.row op start regs)
+pub early : (op : Op) (start : ℕ) (regs : Regs) → IsEarly (execution.row op start regs)
 early (ops.MovemToMemory size list mode) start regs = from_once list _ (store_odd size list mode start regs) (store_counted size list mode start regs)
 early (ops.MovemToRegisters size list mode) start regs = from_once list _ (load_odd size list mode start regs) (load_counted size list mode start regs)
 early (ops.Extended operation size source target) start regs = extended_early operation size source target start regs
@@ -273,6 +273,6 @@ row32 op start regs = more (accesses_of op) _ _ (let few_ : accesses_of op ≤ 4
 
 -- MOVEM tells how many registers its list has
 pub counts : (op : Op) (start : ℕ) (regs : Regs) (memory : Memory) (before : Done) (x : Outcome) (after : Done) → execution.row op start regs memory before ≡ Ok (x, after) → Counts op x.count
-counts (ops.MovemToMemory size list mode) start regs memory before x after e = (subst (Counted list) e (store_counted size list mode start regs memory before)).1
-counts (ops.MovemToRegisters size list mode) start regs memory before x after e = (subst (Counted list) e (load_counted size list mode start regs memory before)).1
+counts (ops.MovemToMemory size list mode) start regs memory before x after e = (subst (CountsList list) e (store_counted size list mode start regs memory before)).1
+counts (ops.MovemToRegisters size list mode) start regs memory before x after e = (subst (CountsList list) e (load_counted size list mode start regs memory before)).1
 counts op start regs memory before x after e = tt

@@ -126,8 +126,8 @@ write Word address value = write_word address value
 write Long address value = write_long address value
 
 -- registers, an operand and an outcome whose status register has no other bits
-abbrev pub Status : Regs → Type 0
-Status regs = IsStatus regs.sr
+abbrev pub HasStatus : Regs → Type 0
+HasStatus regs = IsStatus regs.sr
 
 abbrev pub StatusOf : Operand → Type 0
 StatusOf operand = IsStatus operand.regs.sr
@@ -143,48 +143,48 @@ fetch size (places.Memory at) regs = read size at
 fetch size (places.Immediate value) regs = give _ _ tt
 fetch size (places.Odd at) regs = odd _ _ _
 
-pub load : (mode : Mode) (size : Size) (pc : ℕ) (regs : Regs) → Status regs → Keeps StatusOf (operands.load mode size pc regs)
+pub load : (mode : Mode) (size : Size) (pc : ℕ) (regs : Regs) → HasStatus regs → Keeps StatusOf (operands.load mode size pc regs)
 unfolding operands.load
 load mode size pc regs h = bind _ _ _ _ (fetch size (place_of mode size regs pc) regs) (λ value a. give _ _ (sr.steps mode size regs h))
 
-stored : (size : Size) (at value : ℕ) (regs : Regs) → Status regs → Keeps Status (operands.stored size at value regs)
+stored : (size : Size) (at value : ℕ) (regs : Regs) → HasStatus regs → Keeps HasStatus (operands.stored size at value regs)
 unfolding operands.stored
 stored size at value regs h = bind _ _ _ _ (write size at value) (λ written a. give _ _ h)
 
-pub put : (size : Size) (place : Place) (value : ℕ) (regs : Regs) → Status regs → Keeps Status (operands.put size place value regs)
+pub put : (size : Size) (place : Place) (value : ℕ) (regs : Regs) → HasStatus regs → Keeps HasStatus (operands.put size place value regs)
 unfolding operands.put
 put size (places.Register n) value regs h = give _ _ (sr.register regs n _ h)
 put size (places.Memory at) value regs h = stored size at value regs h
 put size (places.Immediate number) value regs h = give _ _ h
 put size (places.Odd at) value regs h = odd _ _ _
 
-pub store : (mode : Mode) (size : Size) (value pc : ℕ) (regs : Regs) → Status regs → Keeps Status (operands.store mode size value pc regs)
+pub store : (mode : Mode) (size : Size) (value pc : ℕ) (regs : Regs) → HasStatus regs → Keeps HasStatus (operands.store mode size value pc regs)
 unfolding operands.store
 store mode size value pc regs h = put size (place_of mode size regs pc) value (stepped mode size regs) (sr.steps mode size regs h)
 
-pub push : (size : Size) (value : ℕ) (regs : Regs) → Status regs → Keeps Status (operands.push size value regs)
+pub push : (size : Size) (value : ℕ) (regs : Regs) → HasStatus regs → Keeps HasStatus (operands.push size value regs)
 unfolding operands.push
 push size value regs h = bind _ _ _ _ (write size _ value) (λ written a. give _ _ (sr.address regs 7 _ h))
 
-pub pull : (size : Size) (regs : Regs) → Status regs → Keeps StatusOf (operands.pull size regs)
+pub pull : (size : Size) (regs : Regs) → HasStatus regs → Keeps StatusOf (operands.pull size regs)
 unfolding operands.pull
 pull size regs h = bind _ _ _ _ (read size (operands.stack_of regs)) (λ value a. give _ _ (sr.address regs 7 _ h))
 
 -- the shapes
-pub test_operand : (operation : Task) (size : Size) (number : ℕ) (mode : Mode) (pc : ℕ) (regs : Regs) → Status regs → Keeps StatusAfter (shapes.test_operand operation size number mode pc regs)
+pub test_operand : (operation : Task) (size : Size) (number : ℕ) (mode : Mode) (pc : ℕ) (regs : Regs) → HasStatus regs → Keeps StatusAfter (shapes.test_operand operation size number mode pc regs)
 unfolding shapes.test_operand
 test_operand operation size number mode pc regs h = bind _ _ _ _ (load mode size pc regs h) (λ operand a. give _ _ (sr.flags operand.regs _ a))
 
-pub change_operand : (operation : Task) (size : Size) (number : ℕ) (mode : Mode) (pc : ℕ) (regs : Regs) → Status regs → Keeps StatusAfter (shapes.change_operand operation size number mode pc regs)
+pub change_operand : (operation : Task) (size : Size) (number : ℕ) (mode : Mode) (pc : ℕ) (regs : Regs) → HasStatus regs → Keeps StatusAfter (shapes.change_operand operation size number mode pc regs)
 unfolding shapes.change_operand
 change_operand operation size number mode pc regs h =
     bind _ _ _ _ (fetch size _ _) (λ old a. bind _ _ _ _ (put size (place_of mode size regs pc) _ _ (sr.steps mode size regs h)) (λ after b. give _ _ (sr.flags after _ b)))
 
-pub change_data : (operation : Task) (size : Size) (number n : ℕ) (regs : Regs) → Status regs → StatusAfter (shapes.change_data operation size number n regs)
+pub change_data : (operation : Task) (size : Size) (number n : ℕ) (regs : Regs) → HasStatus regs → StatusAfter (shapes.change_data operation size number n regs)
 unfolding shapes.change_data
 change_data operation size number n regs h = sr.flags (operands.with_part size n _ regs) _ (sr.register regs n _ h)
 
-pub change_register : (operation : Task) (size : Size) (n : ℕ) (mode : Mode) (pc : ℕ) (regs : Regs) → Status regs → Keeps StatusAfter (shapes.change_register operation size n mode pc regs)
+pub change_register : (operation : Task) (size : Size) (n : ℕ) (mode : Mode) (pc : ℕ) (regs : Regs) → HasStatus regs → Keeps StatusAfter (shapes.change_register operation size n mode pc regs)
 unfolding shapes.change_register
 change_register operation size n mode pc regs h =
     bind _ _ _ _ (load mode size pc regs h) (λ operand a. give _ _ (sr.flags (operands.with_part size n _ operand.regs) _ (sr.register operand.regs n _ a)))

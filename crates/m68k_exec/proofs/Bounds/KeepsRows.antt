@@ -17,7 +17,7 @@ use Rattle.m68k_decode.specs.declared.displacement.Displacement.{Displacement}
 use Rattle.m68k_decode.specs.declared.op.Op.{Op}
 use Rattle.m68k_decode.specs.declared.op.Op.TheVariants as ops
 use Rattle.m68k_ea.specs.Places.{place_of}
-use Rattle.m68k_exec.proofs.Bounds.Keeps.{Any, Keeps, Status, StatusAfter, bind, change_data, change_operand, change_register, choice, fetch, give, load, odd, pull, push, put, read, read_byte, store, test_operand, write, write_byte}
+use Rattle.m68k_exec.proofs.Bounds.Keeps.{Any, HasStatus, Keeps, StatusAfter, bind, change_data, change_operand, change_register, choice, fetch, give, load, odd, pull, push, put, read, read_byte, store, test_operand, write, write_byte}
 use Rattle.m68k_exec.proofs.Bounds.SystemByte as sr
 use Rattle.m68k_exec.specs.Sample.Bounds.{IsStatus}
 use Rattle.m68k_exec.specs.Access.Actions as actions
@@ -52,182 +52,182 @@ either true one other h k = h
 either false one other h k = k
 
 -- rows that access nothing
-privileged : (start : ℕ) (regs : Regs) (outcome : Outcome) → Status regs → StatusAfter outcome → StatusAfter (status.privileged start regs outcome)
+privileged : (start : ℕ) (regs : Regs) (outcome : Outcome) → HasStatus regs → StatusAfter outcome → StatusAfter (status.privileged start regs outcome)
 privileged start regs outcome h k = either (is_supervisor regs) outcome _ k h
 
-immediate_to_ccr : (operation : Task) (number : ℕ) (regs : Regs) → Status regs → StatusAfter (immediates.immediate_to_ccr operation number regs)
+immediate_to_ccr : (operation : Task) (number : ℕ) (regs : Regs) → HasStatus regs → StatusAfter (immediates.immediate_to_ccr operation number regs)
 unfolding immediates.immediate_to_ccr
 immediate_to_ccr operation number regs h = sr.ccr _ regs h
 
-immediate_to_sr : (operation : Task) (number start : ℕ) (regs : Regs) → Status regs → StatusAfter (immediates.immediate_to_sr operation number start regs)
+immediate_to_sr : (operation : Task) (number start : ℕ) (regs : Regs) → HasStatus regs → StatusAfter (immediates.immediate_to_sr operation number start regs)
 unfolding immediates.immediate_to_sr
 immediate_to_sr operation number start regs h = privileged start regs _ h (sr.status _ regs)
 
-swap : (n : ℕ) (regs : Regs) → Status regs → StatusAfter (single.swap n regs)
+swap : (n : ℕ) (regs : Regs) → HasStatus regs → StatusAfter (single.swap n regs)
 unfolding single.swap
 swap n regs h = change_data tasks.Swap Long 0 n regs h
 
-ext : (size : Size) (n : ℕ) (regs : Regs) → Status regs → StatusAfter (single.ext size n regs)
+ext : (size : Size) (n : ℕ) (regs : Regs) → HasStatus regs → StatusAfter (single.ext size n regs)
 unfolding single.ext
 ext size n regs h = change_data tasks.Ext size 0 n regs h
 
-trap : (number : ℕ) (regs : Regs) → Status regs → StatusAfter (control.trap number regs)
+trap : (number : ℕ) (regs : Regs) → HasStatus regs → StatusAfter (control.trap number regs)
 unfolding control.trap
 trap number regs h = h
 
-trapv : (regs : Regs) → Status regs → StatusAfter (control.trapv regs)
+trapv : (regs : Regs) → HasStatus regs → StatusAfter (control.trapv regs)
 unfolding control.trapv
 trapv regs h = either (flags_of regs).v _ _ h h
 
-move_to_usp : (n start : ℕ) (regs : Regs) → Status regs → StatusAfter (status.move_to_usp n start regs)
+move_to_usp : (n start : ℕ) (regs : Regs) → HasStatus regs → StatusAfter (status.move_to_usp n start regs)
 unfolding status.move_to_usp
 move_to_usp n start regs h = privileged start regs _ h h
 
-move_from_usp : (n start : ℕ) (regs : Regs) → Status regs → StatusAfter (status.move_from_usp n start regs)
+move_from_usp : (n start : ℕ) (regs : Regs) → HasStatus regs → StatusAfter (status.move_from_usp n start regs)
 unfolding status.move_from_usp
 move_from_usp n start regs h = privileged start regs _ h (sr.address regs n _ h)
 
-stop : (value start : ℕ) (regs : Regs) → Status regs → StatusAfter (status.stop value start regs)
+stop : (value start : ℕ) (regs : Regs) → HasStatus regs → StatusAfter (status.stop value start regs)
 unfolding status.stop
 stop value start regs h = privileged start regs _ h (sr.status value regs)
 
-reset : (start : ℕ) (regs : Regs) → Status regs → StatusAfter (status.reset start regs)
+reset : (start : ℕ) (regs : Regs) → HasStatus regs → StatusAfter (status.reset start regs)
 unfolding status.reset
 reset start regs h = privileged start regs _ h h
 
-jmp : (mode : Mode) (start : ℕ) (regs : Regs) → Status regs → StatusAfter (control.jmp mode start regs)
+jmp : (mode : Mode) (start : ℕ) (regs : Regs) → HasStatus regs → StatusAfter (control.jmp mode start regs)
 unfolding control.jmp
 jmp mode start regs h = h
 
-lea : (n : ℕ) (mode : Mode) (start : ℕ) (regs : Regs) → Status regs → StatusAfter (links.lea n mode start regs)
+lea : (n : ℕ) (mode : Mode) (start : ℕ) (regs : Regs) → HasStatus regs → StatusAfter (links.lea n mode start regs)
 unfolding links.lea
 lea n mode start regs h = sr.address regs n _ h
 
-branched : (distance start : ℕ) (regs : Regs) → Status regs → StatusAfter (branches.branched distance start regs)
+branched : (distance start : ℕ) (regs : Regs) → HasStatus regs → StatusAfter (branches.branched distance start regs)
 unfolding branches.branched
 branched distance start regs h = h
 
-bra : (displacement : Displacement) (start : ℕ) (regs : Regs) → Status regs → StatusAfter (branches.bra displacement start regs)
+bra : (displacement : Displacement) (start : ℕ) (regs : Regs) → HasStatus regs → StatusAfter (branches.bra displacement start regs)
 unfolding branches.bra
 bra displacement start regs h = branched _ start regs h
 
-bcc : (condition : Condition) (displacement : Displacement) (start : ℕ) (regs : Regs) → Status regs → StatusAfter (branches.bcc condition displacement start regs)
+bcc : (condition : Condition) (displacement : Displacement) (start : ℕ) (regs : Regs) → HasStatus regs → StatusAfter (branches.bcc condition displacement start regs)
 unfolding branches.bcc
 bcc condition displacement start regs h = either (holds condition (flags_of regs)) _ _ (branched _ start regs h) h
 
-counted : (n by start : ℕ) (regs : Regs) → Status regs → StatusAfter (branches.counted n by start regs)
+counted : (n by start : ℕ) (regs : Regs) → HasStatus regs → StatusAfter (branches.counted n by start regs)
 unfolding branches.counted
 counted n by start regs h = either _ _ _ (sr.register regs n _ h) (branched _ start _ (sr.register regs n _ h))
 
-dbcc : (condition : Condition) (n by start : ℕ) (regs : Regs) → Status regs → StatusAfter (branches.dbcc condition n by start regs)
+dbcc : (condition : Condition) (n by start : ℕ) (regs : Regs) → HasStatus regs → StatusAfter (branches.dbcc condition n by start regs)
 unfolding branches.dbcc
 dbcc condition n by start regs h = either (holds condition (flags_of regs)) _ _ h (counted n by start regs h)
 
-moveq : (n byte : ℕ) (regs : Regs) → Status regs → StatusAfter (registers.moveq n byte regs)
+moveq : (n byte : ℕ) (regs : Regs) → HasStatus regs → StatusAfter (registers.moveq n byte regs)
 unfolding registers.moveq
 moveq n byte regs h = change_data tasks.Move Long _ n regs h
 
-exg : (n r : ℕ) (regs : Regs) → Status regs → StatusAfter (registers.exg n r regs)
+exg : (n r : ℕ) (regs : Regs) → HasStatus regs → StatusAfter (registers.exg n r regs)
 unfolding registers.exg
 exg n r regs h = sr.register _ r _ (sr.register regs n _ h)
 
-shift_by_number : (operation : Task) (size : Size) (count r : ℕ) (regs : Regs) → Status regs → StatusAfter (shifts.shift_by_number operation size count r regs)
+shift_by_number : (operation : Task) (size : Size) (count r : ℕ) (regs : Regs) → HasStatus regs → StatusAfter (shifts.shift_by_number operation size count r regs)
 unfolding shifts.shift_by_number
 shift_by_number operation size count r regs h = change_data operation size count r regs h
 
-shift_by_register : (operation : Task) (size : Size) (n r : ℕ) (regs : Regs) → Status regs → StatusAfter (shifts.shift_by_register operation size n r regs)
+shift_by_register : (operation : Task) (size : Size) (n r : ℕ) (regs : Regs) → HasStatus regs → StatusAfter (shifts.shift_by_register operation size n r regs)
 unfolding shifts.shift_by_register
 shift_by_register operation size n r regs h = shift_by_number operation size _ r regs h
 
-illegal : (start : ℕ) (regs : Regs) → Status regs → StatusAfter (control.illegal start regs)
+illegal : (start : ℕ) (regs : Regs) → HasStatus regs → StatusAfter (control.illegal start regs)
 unfolding control.illegal
 illegal start regs h = h
 
-line_a : (start : ℕ) (regs : Regs) → Status regs → StatusAfter (control.line_a_opcode start regs)
+line_a : (start : ℕ) (regs : Regs) → HasStatus regs → StatusAfter (control.line_a_opcode start regs)
 unfolding control.line_a_opcode
 line_a start regs h = h
 
-line_f : (start : ℕ) (regs : Regs) → Status regs → StatusAfter (control.line_f_opcode start regs)
+line_f : (start : ℕ) (regs : Regs) → HasStatus regs → StatusAfter (control.line_f_opcode start regs)
 unfolding control.line_f_opcode
 line_f start regs h = h
 
-change_address : (operation : Task) (number n : ℕ) (regs : Regs) → Status regs → StatusAfter (arithmetic.change_address operation number n regs)
+change_address : (operation : Task) (number n : ℕ) (regs : Regs) → HasStatus regs → StatusAfter (arithmetic.change_address operation number n regs)
 unfolding arithmetic.change_address
 change_address operation number n regs h = sr.address regs n _ h
 
 -- bits
-bit_of_size : (operation : Task) (size : Size) (number : ℕ) (mode : Mode) (pc : ℕ) (regs : Regs) → Status regs → Keeps StatusAfter (bits.bit_of_size operation size number mode pc regs)
+bit_of_size : (operation : Task) (size : Size) (number : ℕ) (mode : Mode) (pc : ℕ) (regs : Regs) → HasStatus regs → Keeps StatusAfter (bits.bit_of_size operation size number mode pc regs)
 bit_of_size tasks.Btst size number mode pc regs h = test_operand tasks.Btst size number mode pc regs h
 bit_of_size operation size number mode pc regs h = change_operand operation size number mode pc regs h
 
-bit_change : (operation : Task) (number : ℕ) (mode : Mode) (pc : ℕ) (regs : Regs) → Status regs → Keeps StatusAfter (bits.bit operation number mode pc regs)
+bit_change : (operation : Task) (number : ℕ) (mode : Mode) (pc : ℕ) (regs : Regs) → HasStatus regs → Keeps StatusAfter (bits.bit operation number mode pc regs)
 unfolding bits.bit
 bit_change operation number mode pc regs h = bit_of_size operation (bits.bit_size mode) _ mode pc regs h
 
-bit_by_register : (operation : Task) (n : ℕ) (mode : Mode) (start : ℕ) (regs : Regs) → Status regs → Keeps StatusAfter (bits.bit_by_register operation n mode start regs)
+bit_by_register : (operation : Task) (n : ℕ) (mode : Mode) (start : ℕ) (regs : Regs) → HasStatus regs → Keeps StatusAfter (bits.bit_by_register operation n mode start regs)
 unfolding bits.bit_by_register
 bit_by_register operation n mode start regs h = bit_change operation _ mode _ regs h
 
-bit_by_number : (operation : Task) (number : ℕ) (mode : Mode) (start : ℕ) (regs : Regs) → Status regs → Keeps StatusAfter (bits.bit_by_number operation number mode start regs)
+bit_by_number : (operation : Task) (number : ℕ) (mode : Mode) (start : ℕ) (regs : Regs) → HasStatus regs → Keeps StatusAfter (bits.bit_by_number operation number mode start regs)
 unfolding bits.bit_by_number
 bit_by_number operation number mode start regs h = bit_change operation number mode _ regs h
 
 -- immediates
-immediate : (operation : Task) (size : Size) (number : ℕ) (mode : Mode) (start : ℕ) (regs : Regs) → Status regs → Keeps StatusAfter (immediates.immediate operation size number mode start regs)
+immediate : (operation : Task) (size : Size) (number : ℕ) (mode : Mode) (start : ℕ) (regs : Regs) → HasStatus regs → Keeps StatusAfter (immediates.immediate operation size number mode start regs)
 unfolding immediates.immediate
 immediate operation size number mode start regs h = change_operand operation size number mode _ regs h
 
-compare_immediate : (size : Size) (number : ℕ) (mode : Mode) (start : ℕ) (regs : Regs) → Status regs → Keeps StatusAfter (immediates.compare_immediate size number mode start regs)
+compare_immediate : (size : Size) (number : ℕ) (mode : Mode) (start : ℕ) (regs : Regs) → HasStatus regs → Keeps StatusAfter (immediates.compare_immediate size number mode start regs)
 unfolding immediates.compare_immediate
 compare_immediate size number mode start regs h = test_operand tasks.Cmp size number mode _ regs h
 
 -- the stack
-pea : (mode : Mode) (start : ℕ) (regs : Regs) → Status regs → Keeps StatusAfter (links.pea mode start regs)
+pea : (mode : Mode) (start : ℕ) (regs : Regs) → HasStatus regs → Keeps StatusAfter (links.pea mode start regs)
 unfolding links.pea
 pea mode start regs h = bind _ _ _ _ (push Long _ regs h) (λ after a. give _ _ a)
 
-link : (n by : ℕ) (regs : Regs) → Status regs → Keeps StatusAfter (links.link n by regs)
+link : (n by : ℕ) (regs : Regs) → HasStatus regs → Keeps StatusAfter (links.link n by regs)
 unfolding links.link
 link n by regs h = bind _ _ _ _ (push Long _ regs h) (λ after a. give _ _ (sr.address _ 7 _ (sr.address after n _ a)))
 
-unlk : (n : ℕ) (regs : Regs) → Status regs → Keeps StatusAfter (links.unlk n regs)
+unlk : (n : ℕ) (regs : Regs) → HasStatus regs → Keeps StatusAfter (links.unlk n regs)
 unfolding links.unlk
 unlk n regs h = bind _ _ _ _ (pull Long _ (sr.address regs 7 _ h)) (λ old a. give _ _ (sr.address old.regs n _ a))
 
-jsr : (mode : Mode) (start : ℕ) (regs : Regs) → Status regs → Keeps StatusAfter (control.jsr mode start regs)
+jsr : (mode : Mode) (start : ℕ) (regs : Regs) → HasStatus regs → Keeps StatusAfter (control.jsr mode start regs)
 unfolding control.jsr
 jsr mode start regs h = bind _ _ _ _ (push Long _ regs h) (λ after a. give _ _ a)
 
-rts : (regs : Regs) → Status regs → Keeps StatusAfter (control.rts regs)
+rts : (regs : Regs) → HasStatus regs → Keeps StatusAfter (control.rts regs)
 unfolding control.rts
 rts regs h = bind _ _ _ _ (pull Long regs h) (λ target a. give _ _ a)
 
-rtr : (regs : Regs) → Status regs → Keeps StatusAfter (control.rtr regs)
+rtr : (regs : Regs) → HasStatus regs → Keeps StatusAfter (control.rtr regs)
 unfolding control.rtr
 rtr regs h = bind _ _ _ _ (pull Word regs h) (λ codes a. bind _ _ _ _ (pull Long codes.regs a) (λ target b. give _ _ (sr.ccr codes.value target.regs b)))
 
-return_from_exception : (regs : Regs) → Status regs → Keeps StatusAfter (control.return_from_exception regs)
+return_from_exception : (regs : Regs) → HasStatus regs → Keeps StatusAfter (control.return_from_exception regs)
 unfolding control.return_from_exception
 return_from_exception regs h = bind _ _ _ _ (pull Word regs h) (λ value a. bind _ _ _ _ (pull Long value.regs a) (λ target b. give _ _ (sr.status value.value target.regs)))
 
-rte : (start : ℕ) (regs : Regs) → Status regs → Keeps StatusAfter (control.rte start regs)
+rte : (start : ℕ) (regs : Regs) → HasStatus regs → Keeps StatusAfter (control.rte start regs)
 unfolding control.rte
 rte start regs h = choice _ (is_supervisor regs) _ _ (λ e. return_from_exception regs h) (λ e. give _ _ h)
 
-bsr : (displacement : Displacement) (start : ℕ) (regs : Regs) → Status regs → Keeps StatusAfter (branches.bsr displacement start regs)
+bsr : (displacement : Displacement) (start : ℕ) (regs : Regs) → HasStatus regs → Keeps StatusAfter (branches.bsr displacement start regs)
 unfolding branches.bsr
 bsr displacement start regs h = bind _ _ _ _ (push Long regs.pc regs h) (λ after a. give _ _ (branched _ start after a))
 
-caught : (negative : Bool) (regs : Regs) → Status regs → StatusAfter (control.caught negative regs)
+caught : (negative : Bool) (regs : Regs) → HasStatus regs → StatusAfter (control.caught negative regs)
 unfolding control.caught
 caught negative regs h = sr.flags regs _ h
 
-checked : (value bound : ℕ) (regs : Regs) → Status regs → StatusAfter (control.checked value bound regs)
+checked : (value bound : ℕ) (regs : Regs) → HasStatus regs → StatusAfter (control.checked value bound regs)
 unfolding control.checked
 checked value bound regs h =
     either (int_lt (signed_of Word value) (pos 0)) _ _ (caught true regs h) (either (int_lt (signed_of Word bound) (signed_of Word value)) _ _ (caught false regs h) h)
 
-chk : (n : ℕ) (mode : Mode) (start : ℕ) (regs : Regs) → Status regs → Keeps StatusAfter (control.chk n mode start regs)
+chk : (n : ℕ) (mode : Mode) (start : ℕ) (regs : Regs) → HasStatus regs → Keeps StatusAfter (control.chk n mode start regs)
 unfolding control.chk
 chk n mode start regs h = bind _ _ _ _ (load mode Word _ regs h) (λ bound a. give _ _ (checked _ bound.value bound.regs a))
 
@@ -243,24 +243,24 @@ store_list : (order : Order) (size : Size) (list at : ℕ) (regs : Regs) → Kee
 unfolding movem.store_list
 store_list order size list at regs = choice _ (list == 0) _ _ (λ e. give _ _ tt) (λ e. choice _ (actions.is_odd at) _ _ (λ o. odd _ _ _) (λ o. store_each order size _ at regs))
 
-load_each : (size : Size) (places : List ℕ) (at : ℕ) (regs : Regs) → Status regs → Keeps StatusIn (movem.load_each size places at regs)
+load_each : (size : Size) (places : List ℕ) (at : ℕ) (regs : Regs) → HasStatus regs → Keeps StatusIn (movem.load_each size places at regs)
 load_each size [] at regs h = give _ _ h
 load_each size (place ∷ rest) at regs h = bind _ _ _ _ (read size at) (λ value a. load_each size rest _ _ (sr.register regs place _ h))
 
-load_list : (size : Size) (list at : ℕ) (regs : Regs) → Status regs → Keeps StatusIn (movem.load_list size list at regs)
+load_list : (size : Size) (list at : ℕ) (regs : Regs) → HasStatus regs → Keeps StatusIn (movem.load_list size list at regs)
 unfolding movem.load_list
 load_list size list at regs h = choice _ (list == 0) _ _ (λ e. give _ _ h) (λ e. choice _ (actions.is_odd at) _ _ (λ o. odd _ _ _) (λ o. load_each size _ at regs h))
 
-left_at : (mode : Mode) (at : ℕ) (regs : Regs) → Status regs → Status (movem.left_at mode at regs)
+left_at : (mode : Mode) (at : ℕ) (regs : Regs) → HasStatus regs → HasStatus (movem.left_at mode at regs)
 left_at (modes.PostInc n) at regs h = sr.address regs n at h
 left_at (modes.PreDec n) at regs h = sr.address regs n at h
 left_at _ at regs h = h
 
-movem_to_memory : (size : Size) (list : ℕ) (mode : Mode) (start : ℕ) (regs : Regs) → Status regs → Keeps StatusAfter (movem.movem_to_memory size list mode start regs)
+movem_to_memory : (size : Size) (list : ℕ) (mode : Mode) (start : ℕ) (regs : Regs) → HasStatus regs → Keeps StatusAfter (movem.movem_to_memory size list mode start regs)
 unfolding movem.movem_to_memory
 movem_to_memory size list mode start regs h = bind _ _ _ _ (store_list _ size list _ regs) (λ reached a. give _ _ (left_at mode reached regs h))
 
-movem_to_registers : (size : Size) (list : ℕ) (mode : Mode) (start : ℕ) (regs : Regs) → Status regs → Keeps StatusAfter (movem.movem_to_registers size list mode start regs)
+movem_to_registers : (size : Size) (list : ℕ) (mode : Mode) (start : ℕ) (regs : Regs) → HasStatus regs → Keeps StatusAfter (movem.movem_to_registers size list mode start regs)
 unfolding movem.movem_to_registers
 movem_to_registers size list mode start regs h = bind _ _ _ _ (load_list size list _ regs h) (λ last a. give _ _ (left_at mode last.address last.regs a))
 
@@ -291,143 +291,143 @@ write_spread Byte at value = write_byte at value
 write_spread Word at value = write_spread_word at value
 write_spread Long at value = write_spread_long at value
 
-movep_to_register : (size : Size) (x y by start : ℕ) (regs : Regs) → Status regs → Keeps StatusAfter (movep.movep_to_register size x y by start regs)
+movep_to_register : (size : Size) (x y by start : ℕ) (regs : Regs) → HasStatus regs → Keeps StatusAfter (movep.movep_to_register size x y by start regs)
 unfolding movep.movep_to_register
 movep_to_register size x y by start regs h = bind _ _ _ _ (read_spread size _) (λ value a. give _ _ (sr.register regs x _ h))
 
-movep_to_memory : (size : Size) (x y by start : ℕ) (regs : Regs) → Status regs → Keeps StatusAfter (movep.movep_to_memory size x y by start regs)
+movep_to_memory : (size : Size) (x y by start : ℕ) (regs : Regs) → HasStatus regs → Keeps StatusAfter (movep.movep_to_memory size x y by start regs)
 unfolding movep.movep_to_memory
 movep_to_memory size x y by start regs h = bind _ _ _ _ (write_spread size _ _) (λ written a. give _ _ h)
 
 -- moves, one operand, and the status register
-move_operand : (size : Size) (source target : Mode) (start : ℕ) (regs : Regs) → Status regs → Keeps StatusAfter (moves.move_operand size source target start regs)
+move_operand : (size : Size) (source target : Mode) (start : ℕ) (regs : Regs) → HasStatus regs → Keeps StatusAfter (moves.move_operand size source target start regs)
 unfolding moves.move_operand
 move_operand size source target start regs h =
     bind _ _ _ _ (load source size _ regs h) (λ from a. bind _ _ _ _ (store target size _ _ from.regs a) (λ after b. give _ _ (sr.flags after _ b)))
 
-move_address : (size : Size) (n : ℕ) (mode : Mode) (start : ℕ) (regs : Regs) → Status regs → Keeps StatusAfter (moves.move_address size n mode start regs)
+move_address : (size : Size) (n : ℕ) (mode : Mode) (start : ℕ) (regs : Regs) → HasStatus regs → Keeps StatusAfter (moves.move_address size n mode start regs)
 unfolding moves.move_address
 move_address size n mode start regs h = bind _ _ _ _ (load mode size _ regs h) (λ from a. give _ _ (sr.address from.regs n _ a))
 
-unary : (operation : Task) (size : Size) (mode : Mode) (start : ℕ) (regs : Regs) → Status regs → Keeps StatusAfter (single.unary operation size mode start regs)
+unary : (operation : Task) (size : Size) (mode : Mode) (start : ℕ) (regs : Regs) → HasStatus regs → Keeps StatusAfter (single.unary operation size mode start regs)
 unfolding single.unary
 unary operation size mode start regs h = change_operand operation size 0 mode _ regs h
 
-nbcd : (mode : Mode) (start : ℕ) (regs : Regs) → Status regs → Keeps StatusAfter (single.nbcd mode start regs)
+nbcd : (mode : Mode) (start : ℕ) (regs : Regs) → HasStatus regs → Keeps StatusAfter (single.nbcd mode start regs)
 unfolding single.nbcd
 nbcd mode start regs h = change_operand tasks.Nbcd Byte 0 mode _ regs h
 
-tst : (size : Size) (mode : Mode) (start : ℕ) (regs : Regs) → Status regs → Keeps StatusAfter (single.tst size mode start regs)
+tst : (size : Size) (mode : Mode) (start : ℕ) (regs : Regs) → HasStatus regs → Keeps StatusAfter (single.tst size mode start regs)
 unfolding single.tst
 tst size mode start regs h = bind _ _ _ _ (load mode size _ regs h) (λ operand a. give _ _ (sr.flags operand.regs _ a))
 
-tas : (mode : Mode) (start : ℕ) (regs : Regs) → Status regs → Keeps StatusAfter (single.tas mode start regs)
+tas : (mode : Mode) (start : ℕ) (regs : Regs) → HasStatus regs → Keeps StatusAfter (single.tas mode start regs)
 tas (modes.Data n) start regs h = change_operand tasks.Tas Byte 0 (modes.Data n) _ regs h
 tas mode start regs h = test_operand tasks.Tas Byte 0 mode _ regs h
 
-move_from_sr : (mode : Mode) (start : ℕ) (regs : Regs) → Status regs → Keeps StatusAfter (status.move_from_sr mode start regs)
+move_from_sr : (mode : Mode) (start : ℕ) (regs : Regs) → HasStatus regs → Keeps StatusAfter (status.move_from_sr mode start regs)
 unfolding status.move_from_sr
 move_from_sr mode start regs h =
     bind _ _ _ _ (fetch Word _ _) (λ old a. bind _ _ _ _ (put Word (place_of mode Word regs (shapes.behind start 2)) _ _ (sr.steps mode Word regs h)) (λ after b. give _ _ b))
 
-move_to_ccr : (mode : Mode) (start : ℕ) (regs : Regs) → Status regs → Keeps StatusAfter (status.move_to_ccr mode start regs)
+move_to_ccr : (mode : Mode) (start : ℕ) (regs : Regs) → HasStatus regs → Keeps StatusAfter (status.move_to_ccr mode start regs)
 unfolding status.move_to_ccr
 move_to_ccr mode start regs h = bind _ _ _ _ (load mode Word _ regs h) (λ operand a. give _ _ (sr.ccr operand.value operand.regs a))
 
-load_sr : (mode : Mode) (start : ℕ) (regs : Regs) → Status regs → Keeps StatusAfter (status.load_sr mode start regs)
+load_sr : (mode : Mode) (start : ℕ) (regs : Regs) → HasStatus regs → Keeps StatusAfter (status.load_sr mode start regs)
 unfolding status.load_sr
 load_sr mode start regs h = bind _ _ _ _ (load mode Word _ regs h) (λ operand a. give _ _ (sr.status operand.value operand.regs))
 
-move_to_sr : (mode : Mode) (start : ℕ) (regs : Regs) → Status regs → Keeps StatusAfter (status.move_to_sr mode start regs)
+move_to_sr : (mode : Mode) (start : ℕ) (regs : Regs) → HasStatus regs → Keeps StatusAfter (status.move_to_sr mode start regs)
 unfolding status.move_to_sr
 move_to_sr mode start regs h = choice _ (is_supervisor regs) _ _ (λ e. load_sr mode start regs h) (λ e. give _ _ h)
 
 -- digits 5 to E
-quick : (operation : Task) (size : Size) (number : ℕ) (mode : Mode) (start : ℕ) (regs : Regs) → Status regs → Keeps StatusAfter (arithmetic.quick operation size number mode start regs)
+quick : (operation : Task) (size : Size) (number : ℕ) (mode : Mode) (start : ℕ) (regs : Regs) → HasStatus regs → Keeps StatusAfter (arithmetic.quick operation size number mode start regs)
 quick operation size number (modes.Address n) start regs h = give _ _ (change_address operation number n regs h)
 quick operation size number mode start regs h = change_operand operation size number mode _ regs h
 
-scc : (condition : Condition) (mode : Mode) (start : ℕ) (regs : Regs) → Status regs → Keeps StatusAfter (setting.scc condition mode start regs)
+scc : (condition : Condition) (mode : Mode) (start : ℕ) (regs : Regs) → HasStatus regs → Keeps StatusAfter (setting.scc condition mode start regs)
 unfolding setting.scc
 scc condition mode start regs h =
     bind _ _ _ _ (fetch Byte _ _) (λ old a. bind _ _ _ _ (put Byte (place_of mode Byte regs (shapes.behind start 2)) _ _ (sr.steps mode Byte regs h)) (λ after b. give _ _ b))
 
-quotient_ended : (quotient : Quotient) (n : ℕ) (regs : Regs) → Status regs → StatusAfter (quotients.ended_by quotient n regs)
+quotient_ended : (quotient : Quotient) (n : ℕ) (regs : Regs) → HasStatus regs → StatusAfter (quotients.ended_by quotient n regs)
 quotient_ended Zero n regs h = h
 quotient_ended Overflow n regs h = h
 quotient_ended (Value value) n regs h = sr.register regs n value h
 
-quotient_finished : (quotient : Quotient) (n : ℕ) (regs : Regs) → Status regs → StatusAfter (quotients.finished quotient n regs)
+quotient_finished : (quotient : Quotient) (n : ℕ) (regs : Regs) → HasStatus regs → StatusAfter (quotients.finished quotient n regs)
 unfolding quotients.finished
 quotient_finished quotient n regs h = quotient_ended quotient n _ (sr.flags regs _ h)
 
-quotient_by : (signed : Bool) (n : ℕ) (mode : Mode) (start : ℕ) (regs : Regs) → Status regs → Keeps StatusAfter (quotients.quotient_by signed n mode start regs)
+quotient_by : (signed : Bool) (n : ℕ) (mode : Mode) (start : ℕ) (regs : Regs) → HasStatus regs → Keeps StatusAfter (quotients.quotient_by signed n mode start regs)
 unfolding quotients.quotient_by
 quotient_by signed n mode start regs h = bind _ _ _ _ (load mode Word _ regs h) (λ source a. give _ _ (quotient_finished _ n source.regs a))
 
-divu : (n : ℕ) (mode : Mode) (start : ℕ) (regs : Regs) → Status regs → Keeps StatusAfter (quotients.divu n mode start regs)
+divu : (n : ℕ) (mode : Mode) (start : ℕ) (regs : Regs) → HasStatus regs → Keeps StatusAfter (quotients.divu n mode start regs)
 unfolding quotients.divu
 divu n mode start regs h = quotient_by false n mode start regs h
 
-divs : (n : ℕ) (mode : Mode) (start : ℕ) (regs : Regs) → Status regs → Keeps StatusAfter (quotients.divs n mode start regs)
+divs : (n : ℕ) (mode : Mode) (start : ℕ) (regs : Regs) → HasStatus regs → Keeps StatusAfter (quotients.divs n mode start regs)
 unfolding quotients.divs
 divs n mode start regs h = quotient_by true n mode start regs h
 
-mulu : (n : ℕ) (mode : Mode) (start : ℕ) (regs : Regs) → Status regs → Keeps StatusAfter (products.mulu n mode start regs)
+mulu : (n : ℕ) (mode : Mode) (start : ℕ) (regs : Regs) → HasStatus regs → Keeps StatusAfter (products.mulu n mode start regs)
 unfolding products.mulu
 mulu n mode start regs h = bind _ _ _ _ (load mode Word _ regs h) (λ source a. give _ _ (change_data tasks.Mulu Long source.value n source.regs a))
 
-muls : (n : ℕ) (mode : Mode) (start : ℕ) (regs : Regs) → Status regs → Keeps StatusAfter (products.muls n mode start regs)
+muls : (n : ℕ) (mode : Mode) (start : ℕ) (regs : Regs) → HasStatus regs → Keeps StatusAfter (products.muls n mode start regs)
 unfolding products.muls
 muls n mode start regs h = bind _ _ _ _ (load mode Word _ regs h) (λ source a. give _ _ (change_data tasks.Muls Long source.value n source.regs a))
 
-extended : (operation : Task) (size : Size) (source target : Mode) (start : ℕ) (regs : Regs) → Status regs → Keeps StatusAfter (multiprecision.extended operation size source target start regs)
+extended : (operation : Task) (size : Size) (source target : Mode) (start : ℕ) (regs : Regs) → HasStatus regs → Keeps StatusAfter (multiprecision.extended operation size source target start regs)
 unfolding multiprecision.extended
 extended operation size source target start regs h = bind _ _ _ _ (load source size _ regs h) (λ part a. change_operand operation size part.value target _ part.regs a)
 
-decimal : (operation : Task) (source target : Mode) (start : ℕ) (regs : Regs) → Status regs → Keeps StatusAfter (multiprecision.decimal operation source target start regs)
+decimal : (operation : Task) (source target : Mode) (start : ℕ) (regs : Regs) → HasStatus regs → Keeps StatusAfter (multiprecision.decimal operation source target start regs)
 unfolding multiprecision.decimal
 decimal operation source target start regs h = extended operation Byte source target start regs h
 
-to_register : (operation : Task) (size : Size) (n : ℕ) (mode : Mode) (start : ℕ) (regs : Regs) → Status regs → Keeps StatusAfter (arithmetic.to_register operation size n mode start regs)
+to_register : (operation : Task) (size : Size) (n : ℕ) (mode : Mode) (start : ℕ) (regs : Regs) → HasStatus regs → Keeps StatusAfter (arithmetic.to_register operation size n mode start regs)
 unfolding arithmetic.to_register
 to_register operation size n mode start regs h = change_register operation size n mode _ regs h
 
-to_memory : (operation : Task) (size : Size) (n : ℕ) (mode : Mode) (start : ℕ) (regs : Regs) → Status regs → Keeps StatusAfter (arithmetic.to_memory operation size n mode start regs)
+to_memory : (operation : Task) (size : Size) (n : ℕ) (mode : Mode) (start : ℕ) (regs : Regs) → HasStatus regs → Keeps StatusAfter (arithmetic.to_memory operation size n mode start regs)
 unfolding arithmetic.to_memory
 to_memory operation size n mode start regs h = change_operand operation size _ mode _ regs h
 
-eor : (size : Size) (n : ℕ) (mode : Mode) (start : ℕ) (regs : Regs) → Status regs → Keeps StatusAfter (arithmetic.eor size n mode start regs)
+eor : (size : Size) (n : ℕ) (mode : Mode) (start : ℕ) (regs : Regs) → HasStatus regs → Keeps StatusAfter (arithmetic.eor size n mode start regs)
 unfolding arithmetic.eor
 eor size n mode start regs h = to_memory tasks.Eor size n mode start regs h
 
-to_address : (operation : Task) (size : Size) (n : ℕ) (mode : Mode) (start : ℕ) (regs : Regs) → Status regs → Keeps StatusAfter (arithmetic.to_address operation size n mode start regs)
+to_address : (operation : Task) (size : Size) (n : ℕ) (mode : Mode) (start : ℕ) (regs : Regs) → HasStatus regs → Keeps StatusAfter (arithmetic.to_address operation size n mode start regs)
 unfolding arithmetic.to_address
 to_address operation size n mode start regs h = bind _ _ _ _ (load mode size _ regs h) (λ source a. give _ _ (change_address operation _ n source.regs a))
 
-shift_memory : (operation : Task) (mode : Mode) (start : ℕ) (regs : Regs) → Status regs → Keeps StatusAfter (arithmetic.shift_memory operation mode start regs)
+shift_memory : (operation : Task) (mode : Mode) (start : ℕ) (regs : Regs) → HasStatus regs → Keeps StatusAfter (arithmetic.shift_memory operation mode start regs)
 unfolding arithmetic.shift_memory
 shift_memory operation mode start regs h = change_operand operation Word 1 mode _ regs h
 
-compared : (size : Size) (source target : ℕ) (regs : Regs) → Status regs → StatusAfter (comparisons.compared size source target regs)
+compared : (size : Size) (source target : ℕ) (regs : Regs) → HasStatus regs → StatusAfter (comparisons.compared size source target regs)
 unfolding comparisons.compared
 compared size source target regs h = sr.flags regs _ h
 
-cmp : (size : Size) (n : ℕ) (mode : Mode) (start : ℕ) (regs : Regs) → Status regs → Keeps StatusAfter (comparisons.cmp size n mode start regs)
+cmp : (size : Size) (n : ℕ) (mode : Mode) (start : ℕ) (regs : Regs) → HasStatus regs → Keeps StatusAfter (comparisons.cmp size n mode start regs)
 unfolding comparisons.cmp
 cmp size n mode start regs h = bind _ _ _ _ (load mode size _ regs h) (λ source a. give _ _ (compared size source.value _ source.regs a))
 
-cmpa : (size : Size) (n : ℕ) (mode : Mode) (start : ℕ) (regs : Regs) → Status regs → Keeps StatusAfter (comparisons.cmpa size n mode start regs)
+cmpa : (size : Size) (n : ℕ) (mode : Mode) (start : ℕ) (regs : Regs) → HasStatus regs → Keeps StatusAfter (comparisons.cmpa size n mode start regs)
 unfolding comparisons.cmpa
 cmpa size n mode start regs h = bind _ _ _ _ (load mode size _ regs h) (λ source a. give _ _ (compared Long _ _ source.regs a))
 
-cmpm : (size : Size) (x y : ℕ) (start : ℕ) (regs : Regs) → Status regs → Keeps StatusAfter (comparisons.cmpm size x y start regs)
+cmpm : (size : Size) (x y : ℕ) (start : ℕ) (regs : Regs) → HasStatus regs → Keeps StatusAfter (comparisons.cmpm size x y start regs)
 unfolding comparisons.cmpm
 cmpm size x y start regs h =
     bind _ _ _ _ (load (modes.PostInc y) size _ regs h) (λ source a. bind _ _ _ _ (load (modes.PostInc x) size _ source.regs a) (λ target b. give _ _ (compared size source.value target.value target.regs b)))
 
 -- each row waits only for such accesses, and keeps the bits of the status register
-pub row : (op : Op) (start : ℕ) (regs : Regs) → Status regs → Keeps StatusAfter (execution.row op start regs)
+pub row : (op : Op) (start : ℕ) (regs : Regs) → HasStatus regs → Keeps StatusAfter (execution.row op start regs)
 row (ops.Immediate operation size number mode) start regs h = immediate operation size number mode start regs h
 row (ops.CompareImmediate size number mode) start regs h = compare_immediate size number mode start regs h
 row (ops.ImmediateToCcr operation number) start regs h = give _ _ (immediate_to_ccr operation number regs h)

@@ -2,6 +2,7 @@
 -- definition.
 use Rattle.std.proofs.Common.{◌≡◌, ℕ, zero, suc, ◌+◌, ◌-◌, ◌%◌, ◌^◌, ◌<◌, ◌≤◌, ◌==◌, Bool, true, false, nat_lt, List, [], length, Option, Some, None, Result, Ok, Err, refl, sym, subst, arith}
 use Rattle.std.specs.Prelude.{◌≢◌, ◌||◌, if◌then◌else◌, slice_index}
+use Rattle.std.proofs.lemmas.Bool.{eqb-false}
 use Rattle.std.proofs.lemmas.Bool.Decides.{nat_tests}
 use Rattle.md_word.specs.declared.main_bus.Request68.{Request68}
 use Rattle.md_word.specs.declared.main_bus.Request68.TheVariants.{Ack}
@@ -17,10 +18,10 @@ use Rattle.m68k_exec.proofs.Bounds.Takes.{asked}
 use Rattle.m68k_exec.proofs.Bounds.TakesEntry.{enter}
 use Rattle.m68k_exec.proofs.Bounds.TakesRows.{row}
 use Rattle.m68k_exec.specs.Access.Actions as actions
-use Rattle.m68k_exec.specs.Access.Actions.{Done, go_on, is_odd}
+use Rattle.m68k_exec.specs.Access.Actions.{Done, is_odd}
 use Rattle.m68k_exec.specs.Access.Clauses.{NotOdd}
 use Rattle.m68k_exec.specs.Sample.Entries as entries
-use Rattle.m68k_exec.specs.Sample.Entries.{frame_for, number_of, pushes_of, vector_at}
+use Rattle.m68k_exec.specs.Sample.Entries.{number_of, pushes_of}
 use Rattle.m68k_exec.specs.Sample.Execution as execution
 use Rattle.m68k_exec.specs.Access.Memory.{Memory}
 use Rattle.m68k_exec.specs.Access.Outcomes.{Outcome}
@@ -42,10 +43,10 @@ pub record FromRow (op : Op) (memory : Memory) (count : ℕ) : Type 0 where
 
 -- where it ends, it names this instruction, what was spent is what that can spend, and its count is
 -- its row's; where it waits, there are fewer than 32 answers; and it is no address error
-abbrev pub Bounded : Op → Memory → Result Ended Stop → Type 0
-Bounded op memory (Ok ended) = (ended.op ≡ op) × IsSpent ended.op ended.spent × (ended.spent.cause ≡ 0 → FromRow op memory ended.spent.count)
-Bounded op memory (Err (Ask request)) = length memory.answers < 32
-Bounded op memory (Err (Odd address read used)) = ⊥
+abbrev pub IsBounded : Op → Memory → Result Ended Stop → Type 0
+IsBounded op memory (Ok ended) = (ended.op ≡ op) × IsSpent ended.op ended.spent × (ended.spent.cause ≡ 0 → FromRow op memory ended.spent.count)
+IsBounded op memory (Err (Ask request)) = length memory.answers < 32
+IsBounded op memory (Err (Odd address read used)) = ⊥
 
 -- an exception pushes words at even addresses
 place_even : (k : ℕ) → (slice_index entries.places k % 2 ≡ 0) × (slice_index entries.places k ≤ 14)
@@ -126,7 +127,7 @@ not_begun : (op : Op) (exception : Exception) (trace : Bool) (found : Regs) (ent
 not_begun op exception trace found (Some regs) done other c = other c
 not_begun op exception trace found None done other c = cc
 
-begun_bounded : (op : Op) (exception : Exception) (trace : Bool) (found regs : Regs) (memory : Memory) (before : Done) (first : Result (Option Regs × Done) Stop) → entries.enter exception regs memory before ≡ first → before.used ≤ 4 → before.used ≤ length memory.answers → number_of exception ≢ 0 → Bounded op memory (begun_by op (number_of exception) trace found first)
+begun_bounded : (op : Op) (exception : Exception) (trace : Bool) (found regs : Regs) (memory : Memory) (before : Done) (first : Result (Option Regs × Done) Stop) → entries.enter exception regs memory before ≡ first → before.used ≤ 4 → before.used ≤ length memory.answers → number_of exception ≢ 0 → IsBounded op memory (begun_by op (number_of exception) trace found first)
 begun_bounded op exception trace found regs memory before (Ok x) is few in_range other =
     let r = (enter exception regs).value memory before x.0 x.1 is in_range in
     let spent = begun_spent op exception trace found x.0 x.1 before.used few other r.0 in
@@ -139,19 +140,16 @@ begun_bounded op exception trace found regs memory before (Err (Ask request)) is
 begun_bounded op exception trace found regs memory before (Err (Odd address read used)) is few in_range other =
     absurd (subst NotOdd is (enter_even exception regs memory before))
 
-take_exception : (op : Op) (exception : Exception) (trace : Bool) (found regs : Regs) (memory : Memory) (before : Done) → before.used ≤ 4 → before.used ≤ length memory.answers → number_of exception ≢ 0 → Bounded op memory (samples.take_exception op exception trace found regs memory before)
+take_exception : (op : Op) (exception : Exception) (trace : Bool) (found regs : Regs) (memory : Memory) (before : Done) → before.used ≤ 4 → before.used ≤ length memory.answers → number_of exception ≢ 0 → IsBounded op memory (samples.take_exception op exception trace found regs memory before)
 unfolding samples.take_exception
 take_exception op exception trace found regs memory before few in_range other =
     begun_bounded op exception trace found regs memory before (entries.enter exception regs memory before) refl few in_range other
 
-choice : (op : Op) (memory : Memory) (b : Bool) (x y : Result Ended Stop) → (b ≡ true → Bounded op memory x) → (b ≡ false → Bounded op memory y) → Bounded op memory (if b then x else y)
+choice : (op : Op) (memory : Memory) (b : Bool) (x y : Result Ended Stop) → (b ≡ true → IsBounded op memory x) → (b ≡ false → IsBounded op memory y) → IsBounded op memory (if b then x else y)
 choice op memory true x y h k = h refl
 choice op memory false x y h k = k refl
 
 -- an instruction
-some_cause : (cause : ℕ) → (cause == 0) ≡ false → cause ≢ 0
-some_cause cause e z = (let t : (cause == 0) ≡ true = rw z refl in absurd (cc))
-
 finished_spent : (op : Op) (start : ℕ) (found regs : Regs) (memory : Memory) (x : Outcome) (after : Done) → execution.row op start regs memory nothing ≡ Ok (x, after) → IsSpent op (finished op found x after).spent
 finished_spent op start found regs memory x after is =
     let own = (row op start regs).value memory nothing x after is (omega arith) in
@@ -163,16 +161,16 @@ finished_spent op start found regs memory x after is =
       exception = λ c d. absurd (c refl);
     }
 
-ended_by : (op : Op) (start : ℕ) (found regs : Regs) (memory : Memory) (x : Outcome) (after : Done) → execution.row op start regs memory nothing ≡ Ok (x, after) → Bounded op memory (samples.ended_by op found x memory after)
+ended_by : (op : Op) (start : ℕ) (found regs : Regs) (memory : Memory) (x : Outcome) (after : Done) → execution.row op start regs memory nothing ≡ Ok (x, after) → IsBounded op memory (samples.ended_by op found x memory after)
 unfolding samples.ended_by
 ended_by op start found regs memory x after is =
     choice op memory (x.cause == 0) _ _ (λ c. (refl, finished_spent op start found regs memory x after is, λ none. record { start = start; regs = regs; outcome = x; after = after; is = is; same = refl }))
-    (λ c. (let other = some_cause x.cause c in
+    (λ c. (let other = eqb-false x.cause 0 c in
     let few = (early op start regs).caused memory nothing x after is other (omega arith) in
     let there = (row op start regs).value memory nothing x after is (omega arith) in
     take_exception op (Numbered x.cause) (leaves_trace found x.cause) found x.regs memory after (omega (arith, few)) there.1 other))
 
-answered : (op : Op) (start first : ℕ) (found regs : Regs) (memory : Memory) (result : Result (Outcome × Done) Stop) → execution.row op start regs memory nothing ≡ result → Bounded op memory (samples.answered_by op first found memory result)
+answered : (op : Op) (start first : ℕ) (found regs : Regs) (memory : Memory) (result : Result (Outcome × Done) Stop) → execution.row op start regs memory nothing ≡ result → IsBounded op memory (samples.answered_by op first found memory result)
 answered op start first found regs memory (Ok x) is = ended_by op start found regs memory x.0 x.1 is
 answered op start first found regs memory (Err (Ask request)) is =
     let r = (row32 op start regs).asks memory nothing request is (omega arith) in omega (arith, r)
@@ -181,14 +179,14 @@ answered op start first found regs memory (Err (Odd address read used)) is =
     let there = (row op start regs).odd memory nothing address read used is (omega arith) in
     take_exception op (AddressError first address read) false found found memory (record { used = used; writes = [] }) (omega (arith, few)) there.1 (λ z. absurd (cc))
 
-instruction : (word : Decoded) (first : ℕ) (regs : Regs) (memory : Memory) → Bounded word.op memory (samples.instruction word first regs memory)
+instruction : (word : Decoded) (first : ℕ) (regs : Regs) (memory : Memory) → IsBounded word.op memory (samples.instruction word first regs memory)
 unfolding samples.instruction
 instruction word first regs memory =
     choice word.op memory (is_odd regs.pc) _ _
     (λ c. take_exception word.op (AddressError first regs.pc true) false regs regs memory nothing (omega arith) (omega arith) (λ z. absurd (cc)))
     (λ c. answered word.op regs.pc first regs _ memory _ refl)
 
-acknowledged : (level : ℕ) (op : Op) (regs : Regs) (memory : Memory) (result : Result (ℕ × Done) Stop) → actions.asked (Ack level) memory nothing ≡ result → Bounded op memory (samples.acknowledged level op regs memory result)
+acknowledged : (level : ℕ) (op : Op) (regs : Regs) (memory : Memory) (result : Result (ℕ × Done) Stop) → actions.asked (Ack level) memory nothing ≡ result → IsBounded op memory (samples.acknowledged level op regs memory result)
 acknowledged level op regs memory (Ok x) is =
     let r = (asked (Ack level)).value memory nothing x.0 x.1 is (omega arith) in
     take_exception op (Interrupt level) false regs regs memory x.1 (omega (arith, r.0)) r.1 (λ z. omega (arith, z))
@@ -197,15 +195,15 @@ acknowledged level op regs memory (Err (Ask request)) is =
 acknowledged level op regs memory (Err (Odd address read used)) is =
     absurd (subst NotOdd is (asked_even (Ack level) memory nothing))
 
-interrupt : (level : ℕ) (op : Op) (regs : Regs) (memory : Memory) → Bounded op memory (samples.interrupt level op regs memory)
+interrupt : (level : ℕ) (op : Op) (regs : Regs) (memory : Memory) → IsBounded op memory (samples.interrupt level op regs memory)
 unfolding samples.interrupt
 interrupt level op regs memory = acknowledged level op regs memory (actions.asked (Ack level) memory nothing) refl
 
-trace : (op : Op) (regs : Regs) (memory : Memory) → Bounded op memory (samples.trace op regs memory)
+trace : (op : Op) (regs : Regs) (memory : Memory) → IsBounded op memory (samples.trace op regs memory)
 unfolding samples.trace
 trace op regs memory = take_exception op (Numbered 9) false regs regs memory nothing (omega arith) (omega arith) (λ z. absurd (cc))
 
-pub bounded : (cause : ℕ) (regs : Regs) (memory : Memory) → Bounded (named regs memory) memory (samples.sampled cause regs memory)
+pub bounded : (cause : ℕ) (regs : Regs) (memory : Memory) → IsBounded (named regs memory) memory (samples.sampled cause regs memory)
 unfolding samples.sampled
 bounded cause regs memory =
     choice _ memory (cause == 0) _ _ (λ c. instruction _ _ regs memory)
@@ -213,16 +211,16 @@ bounded cause regs memory =
 
 -- the same, clause by clause
 pub names : (cause : ℕ) (regs : Regs) (memory : Memory) (ended : Ended) → samples.sampled cause regs memory ≡ Ok ended → ended.op ≡ named regs memory
-names cause regs memory ended e = (subst (Bounded (named regs memory) memory) e (bounded cause regs memory)).0
+names cause regs memory ended e = (subst (IsBounded (named regs memory) memory) e (bounded cause regs memory)).0
 
 pub spends : (cause : ℕ) (regs : Regs) (memory : Memory) (ended : Ended) → samples.sampled cause regs memory ≡ Ok ended → IsSpent ended.op ended.spent
-spends cause regs memory ended e = (subst (Bounded (named regs memory) memory) e (bounded cause regs memory)).1
+spends cause regs memory ended e = (subst (IsBounded (named regs memory) memory) e (bounded cause regs memory)).1
 
 pub from_row : (cause : ℕ) (regs : Regs) (memory : Memory) (ended : Ended) → samples.sampled cause regs memory ≡ Ok ended → ended.spent.cause ≡ 0 → FromRow (named regs memory) memory ended.spent.count
-from_row cause regs memory ended e = (subst (Bounded (named regs memory) memory) e (bounded cause regs memory)).2
+from_row cause regs memory ended e = (subst (IsBounded (named regs memory) memory) e (bounded cause regs memory)).2
 
 pub waits : (cause : ℕ) (regs : Regs) (memory : Memory) (request : Request68) → samples.sampled cause regs memory ≡ Err (Ask request) → length memory.answers < 32
-waits cause regs memory request e = subst (Bounded (named regs memory) memory) e (bounded cause regs memory)
+waits cause regs memory request e = subst (IsBounded (named regs memory) memory) e (bounded cause regs memory)
 
 pub never_odd : (cause : ℕ) (regs : Regs) (memory : Memory) (address : ℕ) (read : Bool) (used : ℕ) → samples.sampled cause regs memory ≡ Err (Odd address read used) → ⊥
-never_odd cause regs memory address read used e = subst (Bounded (named regs memory) memory) e (bounded cause regs memory)
+never_odd cause regs memory address read used e = subst (IsBounded (named regs memory) memory) e (bounded cause regs memory)

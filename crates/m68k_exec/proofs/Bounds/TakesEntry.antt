@@ -10,16 +10,16 @@ use Rattle.m68k_exec.specs.declared.sample.exception.Exception.{Exception}
 use Rattle.m68k_exec.specs.declared.sample.exception.Exception.TheVariants.{AddressError, Interrupt, Numbered}
 
 -- so many words at most
-abbrev Within : ℕ → Option (List ℕ) → Type 0
-Within most (Some words) = length words ≤ most
-Within most None = Unit {0}
+abbrev IsAtMost : ℕ → Option (List ℕ) → Type 0
+IsAtMost most (Some words) = length words ≤ most
+IsAtMost most None = Unit {0}
 
-within : (halted long : Bool) (seven three : List ℕ) → length seven ≤ 7 → length three ≤ 3 → Within (if long then 7 else 3) (if halted then None else Some (if long then seven else three))
+within : (halted long : Bool) (seven three : List ℕ) → length seven ≤ 7 → length three ≤ 3 → IsAtMost (if long then 7 else 3) (if halted then None else Some (if long then seven else three))
 within true long seven three a b = tt
 within false true seven three a b = a
 within false false seven three a b = b
 
-framed : (exception : Exception) (vector : ℕ) (regs : Regs) → Within (pushes_of exception) (frame_for exception vector regs)
+framed : (exception : Exception) (vector : ℕ) (regs : Regs) → IsAtMost (pushes_of exception) (frame_for exception vector regs)
 framed (AddressError opcode address read) vector regs = within (halts 3 vector regs) true (address_frame regs opcode address read) (short_frame regs.pc regs) (omega arith) (omega arith)
 framed (Interrupt level) vector regs = within (halts (24 + level) vector regs) (is_address_error (24 + level)) (address_frame regs 0 0 false) (short_frame regs.pc regs) (omega arith) (omega arith)
 framed (Numbered number) vector regs = within (halts number vector regs) (is_address_error number) (address_frame regs 0 0 false) (short_frame regs.pc regs) (omega arith) (omega arith)
@@ -32,7 +32,7 @@ enter_with : (exception : Exception) (vector : ℕ) (words : List ℕ) (regs : R
 unfolding entries.enter_with
 enter_with exception vector words regs = last _ _ _ (pushed (length words) 0 words regs.ssp) (λ finished. give _)
 
-enter_by : (most : ℕ) (exception : Exception) (vector : ℕ) (words : Option (List ℕ)) (regs : Regs) → Within most words → Takes most (entries.enter_by exception vector words regs)
+enter_by : (most : ℕ) (exception : Exception) (vector : ℕ) (words : Option (List ℕ)) (regs : Regs) → IsAtMost most words → Takes most (entries.enter_by exception vector words regs)
 enter_by most exception vector (Some words) regs h = more _ _ _ h (enter_with exception vector words regs)
 enter_by most exception vector None regs h = more 0 _ _ (omega arith) (give _)
 

@@ -96,7 +96,7 @@ choose : {A : Type 0} (test : Bool) (x y z : A) → (test ≡ true → x ≡ z) 
 choose true x y z h k = h refl
 choose false x y z h k = k refl
 
-split : {A : Type 0} (P : Type 0) (test : Bool) (x y z : A) → (if test then x else y) ≡ z → (test ≡ true → x ≡ z → P) → (test ≡ false → y ≡ z → P) → P
+pub split : {A : Type 0} (P : Type 0) (test : Bool) (x y z : A) → (if test then x else y) ≡ z → (test ≡ true → x ≡ z → P) → (test ≡ false → y ≡ z → P) → P
 split P true x y z e h k = h refl e
 split P false x y z e h k = k refl e
 

@@ -47,7 +47,7 @@ Ends (Ok x) regs after meaning = meaning ≡ Ok (outcome_of x regs, after)
 Ends (Err stop) regs after meaning = meaning ≡ Err stop
 
 -- at most so many answers are taken, and at most so many bytes written
-pub record Spends (old new : Progress) (answers bytes : ℕ) : Type 0 where
+pub record SpendsAtMost (old new : Progress) (answers bytes : ℕ) : Type 0 where
   pub used : new.used ≤ old.used + answers
   pub written : array_vec_len new.writes ≤ array_vec_len old.writes + bytes
 

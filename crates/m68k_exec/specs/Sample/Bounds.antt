@@ -24,9 +24,9 @@ IsAccess (Ack level) = ⊥
 IsAccess (TransferWord value) = ⊥
 
 -- what a sample of this cause can ask for: the acknowledge of its level, or a shared access
-abbrev pub Asks : ℕ → Request68 → Type 0
-Asks cause (Ack level) = level ≡ cause
-Asks cause request = IsAccess request
+abbrev pub MayAsk : ℕ → Request68 → Type 0
+MayAsk cause (Ack level) = level ≡ cause
+MayAsk cause request = IsAccess request
 
 -- the cartridge and work RAM are bytes, and each answer is a word at most
 pub record Fits (memory : Memory) : Type 0 where

@@ -1,7 +1,7 @@
 ghost use Rattle.std.specs.Prelude.{◌≡◌, ◌+◌, ◌<◌, ◌≤◌, ◌%◌, length, slice_index};
 ghost use Rattle.arrayvec.specs.ArrayVec.{array_vec_len};
 ghost use Rattle.m68k_exec.specs.Access.Actions as actions;
-ghost use Rattle.m68k_exec.specs.Access.Clauses.{Spends, done_of, memory_of};
+ghost use Rattle.m68k_exec.specs.Access.Clauses.{SpendsAtMost, done_of, memory_of};
 ghost use Rattle.m68k_exec.specs.Access.Memory as memory;
 
 use crate::{Around, Progress};
@@ -136,7 +136,7 @@ pub fn word_seen(at: u32, around: &Around, progress: &Progress) -> u16
 pub fn put_byte(at: u32, value: u8, progress: &mut Progress)
     requires { array_vec_len progress.old.writes + 1 ≤ 80 }
     ensures value { done_of progress.new ≡ actions.with_byte at value (done_of progress.old) }
-    ensures spent { Spends progress.old progress.new 0 1 }
+    ensures spent { SpendsAtMost progress.old progress.new 0 1 }
 {
     if at >= WORK_RAM {
         progress.writes.push((at, value));
@@ -149,7 +149,7 @@ pub fn put_word(at: u32, value: u16, progress: &mut Progress)
     requires at { at < 0x100_0000 }
     requires room { array_vec_len progress.old.writes + 2 ≤ 80 }
     ensures value { done_of progress.new ≡ actions.with_word at value (done_of progress.old) }
-    ensures spent { Spends progress.old progress.new 0 2 }
+    ensures spent { SpendsAtMost progress.old progress.new 0 2 }
 {
     put_byte(at, (value / 0x100) as u8, progress);
     put_byte(at + 1, (value % 0x100) as u8, progress);

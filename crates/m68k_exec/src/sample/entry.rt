@@ -1,7 +1,7 @@
 ghost use Rattle.std.specs.Prelude.{◌≡◌, ◌+◌, ◌*◌, ◌%◌, ◌<◌, ◌≤◌, length, Some, None};
 ghost use Rattle.arrayvec.specs.ArrayVec.{array_vec_len};
 ghost use Rattle.m68k_except.specs.Frames.{words_in};
-ghost use Rattle.m68k_exec.specs.Access.Clauses.{Meets, NotOdd, Spends, done_of, memory_of};
+ghost use Rattle.m68k_exec.specs.Access.Clauses.{Meets, NotOdd, SpendsAtMost, done_of, memory_of};
 ghost use Rattle.m68k_exec.specs.Sample.Entries as entries;
 
 use crate::access::memory::word_at;
@@ -51,7 +51,7 @@ fn push_words(
     requires even { stack % 2 ≡ 0 }
     requires room { array_vec_len progress.old.writes ≤ 64 }
     ensures value { Meets result (done_of progress.new) (entries.pushed (length words.now) 0 words.now stack (memory_of around.now) (done_of progress.old)) }
-    ensures spent { Spends progress.old progress.new (length words.now) 14 }
+    ensures spent { SpendsAtMost progress.old progress.new (length words.now) 14 }
     ensures even { NotOdd result }
 {
     'words: for place in 0..words.len() {
@@ -76,7 +76,7 @@ fn enter_with(
     requires even { regs.now.ssp % 2 ≡ 0 }
     requires room { array_vec_len progress.old.writes ≤ 64 }
     ensures value { Meets result (done_of progress.new) (entries.enter_with exception vector words.now regs.now (memory_of around.now) (done_of progress.old)) }
-    ensures spent { Spends progress.old progress.new (length words.now) 14 }
+    ensures spent { SpendsAtMost progress.old progress.new (length words.now) 14 }
     ensures even { NotOdd result }
 {
     let stack = regs.ssp;
@@ -101,7 +101,7 @@ pub fn enter(
     requires exception { entries.IsException exception }
     requires room { array_vec_len progress.old.writes ≤ 64 }
     ensures value { Meets result (done_of progress.new) (entries.enter exception regs.now (memory_of around.now) (done_of progress.old)) }
-    ensures spent { Spends progress.old progress.new (entries.pushes_of exception) 14 }
+    ensures spent { SpendsAtMost progress.old progress.new (entries.pushes_of exception) 14 }
     ensures even { NotOdd result }
 {
     let vector = vector_at(exception.number(), around);

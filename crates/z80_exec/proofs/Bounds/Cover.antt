@@ -28,11 +28,11 @@ use Rattle.z80_exec.specs.declared.sample.times.Kind.TheVariants.{Register, Half
 use Rattle.z80_exec.specs.declared.sample.times.Kind.{Kind}
 
 -- its clocks cover the answers that it takes
-pub record Covers (op : Op80) (act : Act Outcome) : Type 0 where
+pub record IsCovered (op : Op80) (act : Act Outcome) : Type 0 where
   pub value : (memory : Memory) (before : Done) (x : Outcome) (after : Done) → act memory before ≡ Ok (x, after) → before.used ≤ length memory.answers → 4 + 3 * after.used ≤ time_of op x.taken + 3 * before.used
 
 -- where they do, whichever of two times it takes
-timed : (op : Op80) (most : ℕ) (act : Act Outcome) → Sound most act → ((taken : Bool) → 4 + 3 * most ≤ time_of op taken) → Covers op act
+timed : (op : Op80) (most : ℕ) (act : Act Outcome) → Sound most act → ((taken : Bool) → 4 + 3 * most ≤ time_of op taken) → IsCovered op act
 timed op most act h k = record {
   value = λ memory before x after e in_range. (let r = h.value memory before x after e in_range in let time = k x.taken in omega (arith, r.0, time));
 }
@@ -142,7 +142,7 @@ unfolding calls.return_from
 return_taken regs memory before x after e = ends_taken (pop regs) _ (λ a. refl) memory x after (pop regs memory before) e
 
 -- where a condition holds the longer time covers two accesses, and else none is made
-chosen : (op : Op80) (test : Bool) (act : Act Outcome) (other : Outcome) → Sound 2 act → ((memory : Memory) (before : Done) (x : Outcome) (after : Done) → act memory before ≡ Ok (x, after) → x.taken ≡ true) → 10 ≤ time_of op true → 4 ≤ time_of op other.taken → Covers op (λ memory done. if test then act memory done else actions.give other memory done)
+chosen : (op : Op80) (test : Bool) (act : Act Outcome) (other : Outcome) → Sound 2 act → ((memory : Memory) (before : Done) (x : Outcome) (after : Done) → act memory before ≡ Ok (x, after) → x.taken ≡ true) → 10 ≤ time_of op true → 4 ≤ time_of op other.taken → IsCovered op (λ memory done. if test then act memory done else actions.give other memory done)
 unfolding outcome_in used_in
 chosen op true act other h taken longer shorter = record {
   value = λ memory before x after e in_range. (let r = h.value memory before x after e in_range in
@@ -157,12 +157,12 @@ chosen op false act other h taken longer shorter = record {
       omega (arith, time, used));
 }
 
-call_if : (condition : Condition) (target : ℕ) (regs : Regs80) → Covers (ops.CallIf condition target) (calls.call_if condition target regs)
+call_if : (condition : Condition) (target : ℕ) (regs : Regs80) → IsCovered (ops.CallIf condition target) (calls.call_if condition target regs)
 unfolding calls.call_if
 call_if condition target regs =
     chosen (ops.CallIf condition target) (holds condition (f_of regs)) _ _ (rows.call target regs) (call_taken target regs) (omega arith) (omega arith)
 
-return_if : (condition : Condition) (regs : Regs80) → Covers (ops.ReturnIf condition) (calls.return_if condition regs)
+return_if : (condition : Condition) (regs : Regs80) → IsCovered (ops.ReturnIf condition) (calls.return_if condition regs)
 unfolding calls.return_if
 return_if condition regs =
     chosen (ops.ReturnIf condition) (holds condition (f_of regs)) _ _ (rows.return_from regs) (return_taken regs) (omega arith) (omega arith)
@@ -171,10 +171,10 @@ return_if condition regs =
 pub record IsUsual (op : Op80) : Type 0 where
   pub least : (taken : Bool) → 4 + 3 * accesses_of op ≤ time_of op taken
 
-usual : (op : Op80) → IsUsual op → (regs : Regs80) → Covers op (execution.row op regs)
+usual : (op : Op80) → IsUsual op → (regs : Regs80) → IsCovered op (execution.row op regs)
 usual op h regs = timed op (accesses_of op) (execution.row op regs) (rows.row op regs) h.least
 
-pub row : (op : Op80) (regs : Regs80) → Covers op (execution.row op regs)
+pub row : (op : Op80) (regs : Regs80) → IsCovered op (execution.row op regs)
 row (ops.Load target source) regs = usual (ops.Load target source) (record { least = λ taken. load_least (kind_of target) (kind_of source) }) regs
 row (ops.BlockLoad block) regs = usual (ops.BlockLoad block) (record { least = λ taken. least taken _ _ _ (omega arith) (omega arith) }) regs
 row (ops.BlockCompare block) regs = usual (ops.BlockCompare block) (record { least = λ taken. least taken _ _ _ (omega arith) (omega arith) }) regs
