@@ -52,12 +52,12 @@ use Rattle.m68k_laws.specs.Frames.{left_by}
 abbrev pub Leaves : ℕ → Outcome → Type 0
 Leaves stack outcome = outcome.cause ≢ 0 → outcome.regs.ssp ≡ stack
 
-abbrev pub Left : ℕ → Result (Outcome × Done) Stop → Type 0
-Left stack (Ok x) = Leaves stack x.0
-Left stack (Err stop) = Unit {0}
+abbrev pub LeavesAt : ℕ → Result (Outcome × Done) Stop → Type 0
+LeavesAt stack (Ok x) = Leaves stack x.0
+LeavesAt stack (Err stop) = Unit {0}
 
 pub record Yields (stack : ℕ) (act : Act Outcome) : Type 0 where
-  pub at : (memory : Memory) (before : Done) → Left stack (act memory before)
+  pub at : (memory : Memory) (before : Done) → LeavesAt stack (act memory before)
 
 -- no exception
 abbrev Plain : Outcome → Type 0
@@ -69,7 +69,7 @@ give stack outcome h = record { at = λ memory before. h }
 yields_plain : (stack : ℕ) (outcome : Outcome) → Plain outcome → Yields stack (actions.give outcome)
 yields_plain stack outcome h = give stack outcome (λ some. absurd (some h))
 
-then_at : {A : Type 0} (stack : ℕ) (memory : Memory) (first : Result (A × Done) Stop) (next : A → Act Outcome) → ((x : A) → Yields stack (next x)) → Left stack (go_on first (λ x middle. next x memory middle))
+then_at : {A : Type 0} (stack : ℕ) (memory : Memory) (first : Result (A × Done) Stop) (next : A → Act Outcome) → ((x : A) → Yields stack (next x)) → LeavesAt stack (go_on first (λ x middle. next x memory middle))
 then_at stack memory (Ok x) next k = (k x.0).at memory x.1
 then_at stack memory (Err stop) next k = tt
 
@@ -77,7 +77,7 @@ after : {A : Type 0} (stack : ℕ) (act : Act A) (next : A → Act Outcome) → 
 after stack act next k = record { at = λ memory before. then_at stack memory (act memory before) next k }
 
 -- an operand that was read, with the registers after it
-loaded_at : (stack : ℕ) (memory : Memory) (first : Result (ℕ × Done) Stop) (f : ℕ → Operand) (next : Operand → Act Outcome) → ((value : ℕ) → Yields stack (next (f value))) → Left stack (go_on (go_on first (λ value middle. Ok (f value, middle))) (λ operand middle. next operand memory middle))
+loaded_at : (stack : ℕ) (memory : Memory) (first : Result (ℕ × Done) Stop) (f : ℕ → Operand) (next : Operand → Act Outcome) → ((value : ℕ) → Yields stack (next (f value))) → LeavesAt stack (go_on (go_on first (λ value middle. Ok (f value, middle))) (λ operand middle. next operand memory middle))
 loaded_at stack memory (Ok x) f next k = (k x.0).at memory x.1
 loaded_at stack memory (Err stop) f next k = tt
 

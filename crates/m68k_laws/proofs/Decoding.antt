@@ -1,15 +1,17 @@
 -- What the decoder gives has its MOVEM of words or longs, with a list of 16 bits.
-use Rattle.std.proofs.Common.{◌≢◌, ℕ, ◌+◌, ◌*◌, ◌/◌, ◌<◌, ◌==◌, Bool, true, false, List, [], ◌∷◌, arith}
+use Rattle.std.proofs.Common.{◌≢◌, ℕ, ◌/◌, ◌<◌, ◌==◌, Bool, true, false, List, [], ◌∷◌}
 use Rattle.std.specs.Prelude.{if◌then◌else◌, slice_index}
 use Rattle.md_word.specs.Fields.{bit_of}
 use Rattle.md_word.specs.declared.size.Size.TheVariants.{Byte, Word, Long}
-use Rattle.m68k_decode.specs.Fields.{number_at, opcode, word_or_long}
+use Rattle.m68k_decode.specs.Fields.{opcode, word_or_long}
 use Rattle.m68k_decode.specs.Instructions.{chosen, decoded, made, unmatched}
 use Rattle.m68k_decode.specs.Lines.{rows_of}
 use Rattle.m68k_decode.specs.Rows.{Row, MovemToMemory, MovemToRegisters}
 use Rattle.m68k_decode.specs.declared.decoded.Decoded.{Decoded}
-use Rattle.m68k_exec.specs.Access.Memory.{Memory, byte_at, instruction_word, instruction_words, word_at}
+use Rattle.m68k_decode.proofs.DecodedNumbers.{second}
+use Rattle.m68k_exec.specs.Access.Memory.{Memory, instruction_words}
 use Rattle.m68k_exec.specs.Sample.Bounds.{Fits}
+use Rattle.m68k_exec.proofs.Bounds.CountsFew.{second_small}
 use Rattle.m68k_laws.specs.Footprints.{MovesWords}
 
 no_byte : (long : Bool) → (if long then Long else Word) ≢ Byte
@@ -19,10 +21,6 @@ no_byte false e = cc
 larger : (words : List ℕ) → word_or_long 64 words ≢ Byte
 unfolding word_or_long
 larger words = no_byte (bit_of (opcode words) 64)
-
-second : (words : List ℕ) → slice_index words 1 < 65536 → number_at Word 1 words < 65536
-unfolding number_at
-second words h = h
 
 made_words : (row : Row) (words : List ℕ) → slice_index words 1 < 65536 → MovesWords (made row words).op
 unfolding made
@@ -45,15 +43,6 @@ chosen_words (row ∷ more) words h = made_words row words h
 pub decoded_words : (words : List ℕ) → slice_index words 1 < 65536 → MovesWords (decoded words).op
 unfolding decoded
 decoded_words words h = chosen_words (rows_of (opcode words)) words h
-
--- a word of bytes
-word_small : (test : Bool) (memory : Memory) (at next : ℕ) → Fits memory → (if test then byte_at memory.rom memory.ram at * 0x100 + byte_at memory.rom memory.ram next else 0xffff) < 65536
-unfolding byte_at
-word_small test memory at next fits = grind (arith, fits.rom, fits.ram)
-
-second_small : (memory : Memory) (address : ℕ) → Fits memory → slice_index (instruction_words address memory) 1 < 65536
-unfolding instruction_words instruction_word word_at
-second_small memory address fits = word_small _ memory _ _ fits
 
 pub words_known : (memory : Memory) (address : ℕ) → Fits memory → MovesWords (decoded (instruction_words address memory)).op
 words_known memory address fits = decoded_words (instruction_words address memory) (second_small memory address fits)

@@ -12,39 +12,39 @@ use Rattle.m68k_exec.specs.Access.Memory.{Memory, bus_address}
 use Rattle.m68k_exec.specs.declared.access.stop.Stop.{Stop}
 use Rattle.m68k_exec.specs.declared.access.stop.Stop.TheVariants.{Ask, Odd}
 use Rattle.m68k_laws.specs.Accesses.{Access, IsEven, shared, words}
-use Rattle.m68k_laws.specs.Laws.{Completes, Faults, Leads, Waits}
+use Rattle.m68k_laws.specs.Laws.{FaultsAt, IsComplete, LeadsTo, WaitsAt}
 
 -- so many answers further on, with no more taken than there are
-pub record Ends (list : List Access) (count start after : ℕ) : Type 0 where
+pub record EndsAlong (list : List Access) (count start after : ℕ) : Type 0 where
   pub taken : ℕ
   pub used : after ≡ start + taken
   pub enough : after ≤ count
-  pub completes : Completes list taken
+  pub completes : IsComplete list taken
 
-pub record Asks (list : List Access) (count start : ℕ) (request : Request68) : Type 0 where
+pub record AsksAlong (list : List Access) (count start : ℕ) (request : Request68) : Type 0 where
   pub taken : ℕ
   pub used : count ≡ start + taken
-  pub waits : Waits list taken request
+  pub waits : WaitsAt list taken request
 
-pub record Stands (list : List Access) (count start after address : ℕ) (read : Bool) : Type 0 where
+pub record FaultsAlong (list : List Access) (count start after address : ℕ) (read : Bool) : Type 0 where
   pub taken : ℕ
   pub used : after ≡ start + taken
   pub enough : after ≤ count
-  pub faults : Faults list taken address read
+  pub faults : FaultsAt list taken address read
 
 -- what an action of these words comes to, with so many answers there and so many taken before
-abbrev pub Along : {A : Type 0} → List Access → ℕ → ℕ → Result (A × Done) Stop → Type 0
-Along list count used (Ok x) = Ends list count used x.1.used
-Along list count used (Err (Ask request)) = Asks list count used request
-Along list count used (Err (Odd address read after)) = Stands list count used after address read
+abbrev pub GoesAlong : {A : Type 0} → List Access → ℕ → ℕ → Result (A × Done) Stop → Type 0
+GoesAlong list count used (Ok x) = EndsAlong list count used x.1.used
+GoesAlong list count used (Err (Ask request)) = AsksAlong list count used request
+GoesAlong list count used (Err (Odd address read after)) = FaultsAlong list count used after address read
 
 pub record Follows {A : Type 0} (list : List Access) (act : Act A) : Type 0 where
-  pub along : (memory : Memory) (before : Done) → before.used ≤ length memory.answers → Along (words list) (length memory.answers) before.used (act memory before)
+  pub along : (memory : Memory) (before : Done) → before.used ≤ length memory.answers → GoesAlong (words list) (length memory.answers) before.used (act memory before)
 
 shared_joined : (u v : List Access) → length (shared (u ++ v)) ≡ length (shared u) + length (shared v)
 shared_joined u v = ap length (filter-append _ u v) ∙ length-append (shared u) (shared v)
 
-leads_first : (u v : List Access) (count : ℕ) (access : Access) → Leads u count access → Leads (u ++ v) count access
+leads_first : (u v : List Access) (count : ℕ) (access : Access) → LeadsTo u count access → LeadsTo (u ++ v) count access
 leads_first u v count access h = record {
   before = h.before;
   behind = h.behind ++ v;
@@ -53,7 +53,7 @@ leads_first u v count access h = record {
   counted = h.counted;
 }
 
-leads_later : (u v : List Access) (first count : ℕ) (access : Access) → Completes u first → Leads v count access → Leads (u ++ v) (first + count) access
+leads_later : (u v : List Access) (first count : ℕ) (access : Access) → IsComplete u first → LeadsTo v count access → LeadsTo (u ++ v) (first + count) access
 leads_later u v first count access made h = record {
   before = u ++ h.before;
   behind = h.behind;
@@ -74,12 +74,12 @@ shared_split : (list before : List Access) (access : Access) (behind : List Acce
 shared_split list before access behind e h =
     ap shared e ∙ (filter-append _ before (access ∷ behind) ∙ ap (λ rest. shared before ++ rest) (shared_next access behind h))
 
-pub numbered : (list : List Access) (count : ℕ) (access : Access) → Leads list count access → IsTrue (is_shared (bus_address access.address)) → slice_get (shared list) count ≡ Some access
+pub numbered : (list : List Access) (count : ℕ) (access : Access) → LeadsTo list count access → IsTrue (is_shared (bus_address access.address)) → slice_get (shared list) count ≡ Some access
 numbered list count access leads h =
     rw (leads.counted, shared_split list leads.before access leads.behind leads.split h) (after_front (shared leads.before) access (shared leads.behind))
 
 -- what stopped in the first part
-stopped : (A B : Type 0) (u v : List Access) (count used : ℕ) (stop : Stop) → Along {A = A} u count used (Err stop) → Along {A = B} (u ++ v) count used (Err stop)
+stopped : (A B : Type 0) (u v : List Access) (count used : ℕ) (stop : Stop) → GoesAlong {A = A} u count used (Err stop) → GoesAlong {A = B} (u ++ v) count used (Err stop)
 stopped A B u v count used (Ask request) h = record {
   taken = h.taken;
   used = h.used;
@@ -106,7 +106,7 @@ stopped A B u v count used (Odd address read after) h = record {
 }
 
 -- what came after the first part
-went_on : {B : Type 0} (u v : List Access) (count used middle : ℕ) (result : Result (B × Done) Stop) → Ends u count used middle → Along v count middle result → Along (u ++ v) count used result
+went_on : {B : Type 0} (u v : List Access) (count used middle : ℕ) (result : Result (B × Done) Stop) → EndsAlong u count used middle → GoesAlong v count middle result → GoesAlong (u ++ v) count used result
 went_on u v count used middle (Ok x) first h = record {
   taken = first.taken + h.taken;
   used = omega (arith, first.used, h.used);
@@ -141,14 +141,14 @@ went_on u v count used middle (Err (Odd address read after)) first h = record {
   };
 }
 
-joined : {A B : Type 0} (u v : List Access) (count used : ℕ) (first : Result (A × Done) Stop) (next : A → Done → Result (B × Done) Stop) → Along u count used first → ((x : A) (middle : Done) → middle.used ≤ count → Along v count middle.used (next x middle)) → Along (u ++ v) count used (go_on first next)
+joined : {A B : Type 0} (u v : List Access) (count used : ℕ) (first : Result (A × Done) Stop) (next : A → Done → Result (B × Done) Stop) → GoesAlong u count used first → ((x : A) (middle : Done) → middle.used ≤ count → GoesAlong v count middle.used (next x middle)) → GoesAlong (u ++ v) count used (go_on first next)
 joined {A} {B} u v count used (Ok x) next h k = went_on u v count used x.1.used (next x.0 x.1) h (k x.0 x.1 h.enough)
 joined {A} {B} u v count used (Err stop) next h k = stopped A B u v count used stop h
 
 pub bind : {A B : Type 0} (u v : List Access) (act : Act A) (next : A → Act B) → Follows u act → ((x : A) → Follows v (next x)) → Follows (u ++ v) (act >>= next)
 bind u v act next h k = record {
   along = λ memory before within.
-      subst (λ list. Along list (length memory.answers) before.used ((act >>= next) memory before)) (sym (flat_map-append _ u v))
+      subst (λ list. GoesAlong list (length memory.answers) before.used ((act >>= next) memory before)) (sym (flat_map-append _ u v))
       (joined (words u) (words v) (length memory.answers) before.used (act memory before) (λ x middle. next x memory middle) (h.along memory before within) (λ x middle enough. (k x).along memory middle enough));
 }
 
@@ -161,7 +161,7 @@ pub last : {A B : Type 0} (u : List Access) (act : Act A) (next : A → Act B) �
 last u act next h k = same (u ++ []) u _ (append-nil u) (bind u [] act next h k)
 
 -- two actions in one
-regrouped : {A B C : Type 0} (list : List Access) (count used : ℕ) (first : Result (A × Done) Stop) (f : A → B) (next : B → Done → Result (C × Done) Stop) → Along list count used (go_on first (λ x middle. next (f x) middle)) → Along list count used (go_on (go_on first (λ x middle. Ok (f x, middle))) next)
+regrouped : {A B C : Type 0} (list : List Access) (count used : ℕ) (first : Result (A × Done) Stop) (f : A → B) (next : B → Done → Result (C × Done) Stop) → GoesAlong list count used (go_on first (λ x middle. next (f x) middle)) → GoesAlong list count used (go_on (go_on first (λ x middle. Ok (f x, middle))) next)
 regrouped list count used (Ok x) f next h = h
 regrouped list count used (Err stop) f next h = h
 

@@ -11,7 +11,7 @@ use Rattle.m68k_exec.specs.Sample.Entries as entries
 use Rattle.m68k_exec.specs.Sample.Entries.{number_of, vector_at}
 use Rattle.m68k_exec.specs.declared.sample.exception.Exception.{Exception}
 use Rattle.m68k_exec.specs.declared.sample.exception.Exception.TheVariants.{AddressError, Interrupt, Numbered}
-use Rattle.m68k_laws.proofs.Follows.{Along, Follows, bind, give, last}
+use Rattle.m68k_laws.proofs.Follows.{Follows, GoesAlong, bind, give, last}
 use Rattle.m68k_laws.proofs.Single.{write_word}
 use Rattle.m68k_laws.specs.Accesses.{Access, Write, one, words}
 use Rattle.m68k_laws.specs.Footprints.{above, below}
@@ -43,7 +43,7 @@ long_words stack = rw (low_word stack, low_address stack) refl
 
 same_words : {A : Type 0} (u v : List Access) (act : Act A) → words u ≡ words v → Follows u act → Follows v act
 same_words u v act e h = record {
-  along = λ memory before within. subst (λ list. Along list (length memory.answers) before.used (act memory before)) e (h.along memory before within);
+  along = λ memory before within. subst (λ list. GoesAlong list (length memory.answers) before.used (act memory before)) e (h.along memory before within);
 }
 
 -- a frame of three words, or of seven
@@ -71,6 +71,6 @@ by_kind (AddressError opcode address read) vector regs = by_number (AddressError
 by_kind (Interrupt level) vector regs = by_number (Interrupt level) (24 + level) vector 0 0 false regs
 by_kind (Numbered number) vector regs = by_number (Numbered number) number vector 0 0 false regs
 
-pub entered : (exception : Exception) (regs : Regs) (memory : Memory) (before : Done) → before.used ≤ length memory.answers → Along (words (frame (number_of exception) regs memory)) (length memory.answers) before.used (entries.enter exception regs memory before)
+pub entered : (exception : Exception) (regs : Regs) (memory : Memory) (before : Done) → before.used ≤ length memory.answers → GoesAlong (words (frame (number_of exception) regs memory)) (length memory.answers) before.used (entries.enter exception regs memory before)
 unfolding entries.enter
 entered exception regs memory before within = (by_kind exception (vector_at (number_of exception) memory) regs).along memory before within

@@ -11,32 +11,32 @@ use Rattle.m68k_exec.specs.Sample.Samples.{nothing}
 use Rattle.m68k_exec.specs.declared.access.stop.Stop.{Stop}
 use Rattle.m68k_exec.specs.declared.access.stop.Stop.TheVariants.{Ask, Odd}
 use Rattle.m68k_laws.proofs.Decoding.{decoded_words}
-use Rattle.m68k_laws.proofs.Follows.{Along, Asks, Ends, Stands}
+use Rattle.m68k_laws.proofs.Follows.{AsksAlong, EndsAlong, FaultsAlong, GoesAlong}
 use Rattle.m68k_laws.proofs.Rows.{row}
 use Rattle.m68k_laws.specs.Accesses.{Access, words}
 use Rattle.m68k_laws.specs.Footprints.{MovesWords, footprint}
-use Rattle.m68k_laws.specs.Laws.{Completes, Faults, InstructionsFollowFootprints, Waits}
+use Rattle.m68k_laws.specs.Laws.{FaultsAt, InstructionsFollowFootprints, IsComplete, WaitsAt}
 
 -- counted from the start
-pub waited : (list : List Access) (count : ℕ) (request : Request68) → Asks list count 0 request → Waits list count request
+pub waited : (list : List Access) (count : ℕ) (request : Request68) → AsksAlong list count 0 request → WaitsAt list count request
 waited list count request h =
-    let whole : h.taken ≡ count = omega (arith, h.used) in subst (λ taken. Waits list taken request) whole h.waits
+    let whole : h.taken ≡ count = omega (arith, h.used) in subst (λ taken. WaitsAt list taken request) whole h.waits
 
-pub completed : (list : List Access) (count after : ℕ) → Ends list count 0 after → Completes list after
+pub completed : (list : List Access) (count after : ℕ) → EndsAlong list count 0 after → IsComplete list after
 completed list count after h =
-    let whole : h.taken ≡ after = omega (arith, h.used) in subst (λ taken. Completes list taken) whole h.completes
+    let whole : h.taken ≡ after = omega (arith, h.used) in subst (λ taken. IsComplete list taken) whole h.completes
 
-pub faulted : (list : List Access) (count after address : ℕ) (read : Bool) → Stands list count 0 after address read → Faults list after address read
+pub faulted : (list : List Access) (count after address : ℕ) (read : Bool) → FaultsAlong list count 0 after address read → FaultsAt list after address read
 faulted list count after address read h =
-    let whole : h.taken ≡ after = omega (arith, h.used) in subst (λ taken. Faults list taken address read) whole h.faults
+    let whole : h.taken ≡ after = omega (arith, h.used) in subst (λ taken. FaultsAt list taken address read) whole h.faults
 
 -- what a row comes to
-pub row_along : (op : Op) (start : ℕ) (regs : Regs) (memory : Memory) → MovesWords op → Along (words (footprint op start regs)) (length memory.answers) 0 (execution.row op start regs memory nothing)
+pub row_along : (op : Op) (start : ℕ) (regs : Regs) (memory : Memory) → MovesWords op → GoesAlong (words (footprint op start regs)) (length memory.answers) 0 (execution.row op start regs memory nothing)
 row_along op start regs memory moves = (row op start regs moves).along memory nothing (omega arith)
 
-found : (op : Op) (start : ℕ) (regs : Regs) (memory : Memory) (result : Result (Outcome × Done) Stop) → MovesWords op → execution.row op start regs memory nothing ≡ result → Along (words (footprint op start regs)) (length memory.answers) 0 result
+found : (op : Op) (start : ℕ) (regs : Regs) (memory : Memory) (result : Result (Outcome × Done) Stop) → MovesWords op → execution.row op start regs memory nothing ≡ result → GoesAlong (words (footprint op start regs)) (length memory.answers) 0 result
 found op start regs memory result moves e =
-    subst (λ result. Along (words (footprint op start regs)) (length memory.answers) 0 result) e (row_along op start regs memory moves)
+    subst (λ result. GoesAlong (words (footprint op start regs)) (length memory.answers) 0 result) e (row_along op start regs memory moves)
 
 pub instructions : InstructionsFollowFootprints
 instructions = record {

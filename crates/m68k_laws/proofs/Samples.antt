@@ -19,15 +19,15 @@ use Rattle.m68k_exec.specs.declared.access.stop.Stop.{Stop}
 use Rattle.m68k_exec.specs.declared.access.stop.Stop.TheVariants.{Ask, Odd}
 use Rattle.m68k_exec.specs.declared.sample.exception.Exception.TheVariants.{AddressError, Numbered}
 use Rattle.m68k_laws.proofs.Causes as causes
-use Rattle.m68k_laws.proofs.Causes.{Left}
+use Rattle.m68k_laws.proofs.Causes.{LeavesAt}
 use Rattle.m68k_laws.proofs.Decoding.{words_known}
-use Rattle.m68k_laws.proofs.Exceptions.{Caused, Comes, Other, exception, exception_caused, exception_other}
-use Rattle.m68k_laws.proofs.Follows.{Along, Asks, Ends}
+use Rattle.m68k_laws.proofs.Exceptions.{Caused, ComesTo, Other, exception, exception_caused, exception_other}
+use Rattle.m68k_laws.proofs.Follows.{AsksAlong, EndsAlong, GoesAlong}
 use Rattle.m68k_laws.proofs.Instructions.{row_along, completed, faulted, waited}
 use Rattle.m68k_laws.specs.Accesses.{Access, IsEven, is_odd, shared, words}
 use Rattle.m68k_laws.specs.Frames.{frame, left_by}
-use Rattle.m68k_laws.specs.Laws.{Completes, Faults, Waits}
-use Rattle.m68k_laws.specs.Samples.{AfterAll, AfterFault, Behind, SamplesFollowFootprints, started, words_at}
+use Rattle.m68k_laws.specs.Laws.{FaultsAt, IsComplete, WaitsAt}
+use Rattle.m68k_laws.specs.Samples.{AfterAll, AfterFault, ReachesFrame, SamplesFollowFootprints, started, words_at}
 
 -- what its row comes to
 abbrev result_at : Regs → Memory → Result (Outcome × Done) Stop
@@ -45,8 +45,8 @@ even_start at h = rw h refl
 
 -- what is known of its result
 pub record Known (regs : Regs) (memory : Memory) (result : Result (Outcome × Done) Stop) : Type 0 where
-  pub along : Along (words_at regs memory) (length memory.answers) 0 result
-  pub left : Left (left_by (named regs memory) (started regs memory)).ssp result
+  pub along : GoesAlong (words_at regs memory) (length memory.answers) 0 result
+  pub left : LeavesAt (left_by (named regs memory) (started regs memory)).ssp result
 
 result_known : (regs : Regs) (memory : Memory) → Fits memory → Known regs memory (result_at regs memory)
 result_known regs memory fits = record {
@@ -59,14 +59,14 @@ middle_even : (before : List Access) (access : Access) (behind : List Access) �
 middle_even [] access behind h = All-head IsEven access behind h
 middle_even (first ∷ more) access behind h = middle_even more access behind (All-tail IsEven first (more ++ access ∷ behind) h)
 
-no_fault : (list : List Access) (taken address : ℕ) (read : Bool) → All IsEven list → Faults list taken address read → ⊥
+no_fault : (list : List Access) (taken address : ℕ) (read : Bool) → All IsEven list → FaultsAt list taken address read → ⊥
 no_fault list taken address read even h =
     let aligned : IsEven h.access = middle_even h.leads.before h.access h.leads.behind (subst (λ list. All IsEven list) h.leads.split even) in
     let odd : IsTrue (is_odd h.access) = h.odd in
     cc
 
 -- it waits for the next shared word
-waits_by : (regs : Regs) (memory : Memory) (result : Result (Outcome × Done) Stop) → Known regs memory result → All IsEven (words_at regs memory) → length memory.answers < length (shared (words_at regs memory)) → (request : Request68) × (sample_after regs memory result ≡ Err (Ask request)) × Waits (words_at regs memory) (length memory.answers) request
+waits_by : (regs : Regs) (memory : Memory) (result : Result (Outcome × Done) Stop) → Known regs memory result → All IsEven (words_at regs memory) → length memory.answers < length (shared (words_at regs memory)) → (request : Request68) × (sample_after regs memory result ≡ Err (Ask request)) × WaitsAt (words_at regs memory) (length memory.answers) request
 waits_by regs memory (Ok x) h even fewer = absurd (omega (arith, h.along.used, h.along.enough, h.along.completes.counted, fewer))
 waits_by regs memory (Err (Ask request)) h even fewer = (request, refl, waited _ _ request h.along)
 waits_by regs memory (Err (Odd address read used)) h even fewer = absurd (no_fault _ _ address read even h.along.faults)
@@ -91,13 +91,13 @@ after_fault regs memory address read used h = record {
 }
 
 -- where it waits
-asks_all : (regs : Regs) (memory : Memory) (outcome : Outcome) (done : Done) (request : Request68) (test : Bool) → Known regs memory (Ok (outcome, done)) → (outcome.cause == 0) ≡ test → samples.ended_by (named regs memory) regs outcome memory done ≡ Err (Ask request) → (number : ℕ) × Behind regs memory (length memory.answers) number (λ list pushed. Waits list pushed request)
+asks_all : (regs : Regs) (memory : Memory) (outcome : Outcome) (done : Done) (request : Request68) (test : Bool) → Known regs memory (Ok (outcome, done)) → (outcome.cause == 0) ≡ test → samples.ended_by (named regs memory) regs outcome memory done ≡ Err (Ask request) → (number : ℕ) × ReachesFrame regs memory (length memory.answers) number (λ list pushed. WaitsAt list pushed request)
 unfolding samples.ended_by
 asks_all regs memory outcome done request true h is e = absurd (let wrong = rw is at e in cc)
 asks_all regs memory outcome done request false h is e =
     let some : outcome.cause ≢ 0 = grind (arith, nat_tests) in
     let list = words (frame outcome.cause outcome.regs memory) in
-    let asks : Asks list (length memory.answers) done.used request = subst (λ sample. Comes list (length memory.answers) done.used sample) (rw is at e) (exception (named regs memory) (Numbered outcome.cause) (samples.leaves_trace regs outcome.cause) regs outcome.regs memory done h.along.enough) in (
+    let asks : AsksAlong list (length memory.answers) done.used request = subst (λ sample. ComesTo list (length memory.answers) done.used sample) (rw is at e) (exception (named regs memory) (Numbered outcome.cause) (samples.leaves_trace regs outcome.cause) regs outcome.regs memory done h.along.enough) in (
       outcome.cause,
       record {
         taken = done.used;
@@ -109,13 +109,13 @@ asks_all regs memory outcome done request false h is e =
       },
     )
 
-asks_by : (regs : Regs) (memory : Memory) (result : Result (Outcome × Done) Stop) (request : Request68) → Known regs memory result → sample_after regs memory result ≡ Err (Ask request) → Waits (words_at regs memory) (length memory.answers) request ⊎ ((number : ℕ) × Behind regs memory (length memory.answers) number (λ list pushed. Waits list pushed request))
+asks_by : (regs : Regs) (memory : Memory) (result : Result (Outcome × Done) Stop) (request : Request68) → Known regs memory result → sample_after regs memory result ≡ Err (Ask request) → WaitsAt (words_at regs memory) (length memory.answers) request ⊎ ((number : ℕ) × ReachesFrame regs memory (length memory.answers) number (λ list pushed. WaitsAt list pushed request))
 asks_by regs memory (Ok x) request h e = inr (asks_all regs memory x.0 x.1 request (x.0.cause == 0) h refl e)
 asks_by regs memory (Err (Ask asked)) request h e =
-    let is : asked ≡ request = cc in inl (subst (λ asked. Waits (words_at regs memory) (length memory.answers) asked) is (waited _ _ asked h.along))
+    let is : asked ≡ request = cc in inl (subst (λ asked. WaitsAt (words_at regs memory) (length memory.answers) asked) is (waited _ _ asked h.along))
 asks_by regs memory (Err (Odd address read used)) request h e =
     let list = words (frame 3 regs memory) in
-    let asks : Asks list (length memory.answers) used request = subst (λ sample. Comes list (length memory.answers) used sample) e (exception (named regs memory) (AddressError (opcode (instruction_words regs.pc memory)) address read) false regs regs memory (record { used = used; writes = [] }) h.along.enough) in
+    let asks : AsksAlong list (length memory.answers) used request = subst (λ sample. ComesTo list (length memory.answers) used sample) e (exception (named regs memory) (AddressError (opcode (instruction_words regs.pc memory)) address read) false regs regs memory (record { used = used; writes = [] }) h.along.enough) in
     inr (
       3,
       record {
@@ -145,23 +145,23 @@ completes_all regs memory outcome done ended false is e none =
     let not_0 : ended.spent.cause ≢ 0 = subst Other (rw is at e) (exception_other (named regs memory) (Numbered outcome.cause) (samples.leaves_trace regs outcome.cause) regs outcome.regs memory done some) in
     absurd (not_0 none)
 
-completes_by : (regs : Regs) (memory : Memory) (result : Result (Outcome × Done) Stop) (ended : Ended) → Known regs memory result → sample_after regs memory result ≡ Ok ended → ended.spent.cause ≡ 0 → Completes (words_at regs memory) ended.spent.accesses
+completes_by : (regs : Regs) (memory : Memory) (result : Result (Outcome × Done) Stop) (ended : Ended) → Known regs memory result → sample_after regs memory result ≡ Ok ended → ended.spent.cause ≡ 0 → IsComplete (words_at regs memory) ended.spent.accesses
 completes_by regs memory (Ok x) ended h e none =
     let used = completes_all regs memory x.0 x.1 ended (x.0.cause == 0) refl e none in
-    subst (λ taken. Completes (words_at regs memory) taken) used (completed _ (length memory.answers) x.1.used h.along)
+    subst (λ taken. IsComplete (words_at regs memory) taken) used (completed _ (length memory.answers) x.1.used h.along)
 completes_by regs memory (Err (Ask request)) ended h e none = absurd (cc)
 completes_by regs memory (Err (Odd address read used)) ended h e none =
     let not_0 : ended.spent.cause ≢ 0 = subst Other e (exception_other (named regs memory) (AddressError (opcode (instruction_words regs.pc memory)) address read) false regs regs memory (record { used = used; writes = [] }) (omega arith)) in
     absurd (not_0 none)
 
-ends_all : (regs : Regs) (memory : Memory) (outcome : Outcome) (done : Done) (ended : Ended) (test : Bool) → Known regs memory (Ok (outcome, done)) → (outcome.cause == 0) ≡ test → samples.ended_by (named regs memory) regs outcome memory done ≡ Ok ended → ended.spent.cause ≢ 0 → (number : ℕ) × Behind regs memory ended.spent.accesses number Completes × (IsFalse ended.halted → ended.spent.cause ≡ number)
+ends_all : (regs : Regs) (memory : Memory) (outcome : Outcome) (done : Done) (ended : Ended) (test : Bool) → Known regs memory (Ok (outcome, done)) → (outcome.cause == 0) ≡ test → samples.ended_by (named regs memory) regs outcome memory done ≡ Ok ended → ended.spent.cause ≢ 0 → (number : ℕ) × ReachesFrame regs memory ended.spent.accesses number IsComplete × (IsFalse ended.halted → ended.spent.cause ≡ number)
 unfolding samples.ended_by cause_of
 ends_all regs memory outcome done ended true h is e other_ = absurd (other_ (sym (ap cause_of (rw is at e))))
 ends_all regs memory outcome done ended false h is e other_ =
     let some : outcome.cause ≢ 0 = grind (arith, nat_tests) in
     let list = words (frame outcome.cause outcome.regs memory) in
     let trace = samples.leaves_trace regs outcome.cause in
-    let ends : Ends list (length memory.answers) done.used ended.spent.accesses = subst (λ sample. Comes list (length memory.answers) done.used sample) (rw is at e) (exception (named regs memory) (Numbered outcome.cause) trace regs outcome.regs memory done h.along.enough) in (
+    let ends : EndsAlong list (length memory.answers) done.used ended.spent.accesses = subst (λ sample. ComesTo list (length memory.answers) done.used sample) (rw is at e) (exception (named regs memory) (Numbered outcome.cause) trace regs outcome.regs memory done h.along.enough) in (
       outcome.cause,
       record {
         taken = done.used;
@@ -174,14 +174,14 @@ ends_all regs memory outcome done ended false h is e other_ =
       subst (Caused outcome.cause) (rw is at e) (exception_caused (named regs memory) (Numbered outcome.cause) trace regs outcome.regs memory done),
     )
 
-ends_by : (regs : Regs) (memory : Memory) (result : Result (Outcome × Done) Stop) (ended : Ended) → Known regs memory result → sample_after regs memory result ≡ Ok ended → ended.spent.cause ≢ 0 → (number : ℕ) × Behind regs memory ended.spent.accesses number Completes × (IsFalse ended.halted → ended.spent.cause ≡ number)
+ends_by : (regs : Regs) (memory : Memory) (result : Result (Outcome × Done) Stop) (ended : Ended) → Known regs memory result → sample_after regs memory result ≡ Ok ended → ended.spent.cause ≢ 0 → (number : ℕ) × ReachesFrame regs memory ended.spent.accesses number IsComplete × (IsFalse ended.halted → ended.spent.cause ≡ number)
 ends_by regs memory (Ok x) ended h e some = ends_all regs memory x.0 x.1 ended (x.0.cause == 0) h refl e some
 ends_by regs memory (Err (Ask request)) ended h e some = absurd (cc)
 ends_by regs memory (Err (Odd address read used)) ended h e some =
     let list = words (frame 3 regs memory) in
     let kind = AddressError (opcode (instruction_words regs.pc memory)) address read in
     let before : Done = record { used = used; writes = [] } in
-    let ends : Ends list (length memory.answers) used ended.spent.accesses = subst (λ sample. Comes list (length memory.answers) used sample) e (exception (named regs memory) kind false regs regs memory before h.along.enough) in (
+    let ends : EndsAlong list (length memory.answers) used ended.spent.accesses = subst (λ sample. ComesTo list (length memory.answers) used sample) e (exception (named regs memory) kind false regs regs memory before h.along.enough) in (
       3,
       record {
         taken = used;
@@ -197,7 +197,7 @@ ends_by regs memory (Err (Odd address read used)) ended h e some =
 pub samples_follow : SamplesFollowFootprints
 samples_follow = record {
   waits = λ regs memory fits even aligned fewer.
-      subst (λ sample. (request : Request68) × (sample ≡ Err (Ask request)) × Waits (words_at regs memory) (length memory.answers) request) (sym (sample_is regs memory (even_start regs.pc even)))
+      subst (λ sample. (request : Request68) × (sample ≡ Err (Ask request)) × WaitsAt (words_at regs memory) (length memory.answers) request) (sym (sample_is regs memory (even_start regs.pc even)))
       (waits_by regs memory (result_at regs memory) (result_known regs memory fits) aligned fewer);
   asks = λ regs memory request fits even e. asks_by regs memory (result_at regs memory) request (result_known regs memory fits) (sym (sample_is regs memory (even_start regs.pc even)) ∙ e);
   completes = λ regs memory ended fits even e none. completes_by regs memory (result_at regs memory) ended (result_known regs memory fits) (sym (sample_is regs memory (even_start regs.pc even)) ∙ e) none;

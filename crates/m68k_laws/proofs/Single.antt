@@ -12,9 +12,9 @@ use Rattle.m68k_exec.proofs.Taken.{answered, unanswered, with_byte-used, with_wo
 use Rattle.m68k_exec.specs.Access.Actions as actions
 use Rattle.m68k_exec.specs.Access.Actions.{Act, Done}
 use Rattle.m68k_exec.specs.Access.Memory.{Memory, bus_address}
-use Rattle.m68k_laws.proofs.Follows.{Along, Asks, Ends, Follows, Stands, bind, give, last, numbered}
+use Rattle.m68k_laws.proofs.Follows.{AsksAlong, EndsAlong, FaultsAlong, Follows, GoesAlong, bind, give, last, numbered}
 use Rattle.m68k_laws.specs.Accesses.{Access, IsEven, Kind, Read, Write, is_odd, is_read, one, shared, words}
-use Rattle.m68k_laws.specs.Laws.{Leads, Requests}
+use Rattle.m68k_laws.specs.Laws.{LeadsTo, Requests}
 
 -- by a test, with what it tells
 pub split : {A : Type 0} (list : List Access) (test : Bool) (one other : Act A) → (test ≡ true → Follows list one) → (test ≡ false → Follows list other) → Follows list (λ memory done. if test then one memory done else other memory done)
@@ -22,7 +22,7 @@ split list true one other h k = h refl
 split list false one other h k = k refl
 
 -- one word of a list that has no other
-alone : (access : Access) → Leads (access ∷ []) 0 access
+alone : (access : Access) → LeadsTo (access ∷ []) 0 access
 alone access = record { before = []; behind = []; split = refl; even = All-nil IsEven; counted = refl }
 
 alone_even : (access : Access) → IsEven access → All IsEven (access ∷ [])
@@ -35,32 +35,32 @@ private_alone : (access : Access) → IsFalse (is_shared (bus_address access.add
 private_alone access h = rw h refl
 
 -- a shared access waits for its answer, and takes it
-asked_by : (access : Access) (request : Request68) (memory : Memory) (before : Done) (test : Bool) → nat_lt before.used (length memory.answers) ≡ test → IsEven access → IsTrue (is_shared (bus_address access.address)) → Requests access.kind access.size access.address request → before.used ≤ length memory.answers → Along (access ∷ []) (length memory.answers) before.used (actions.asked request memory before)
+asked_by : (access : Access) (request : Request68) (memory : Memory) (before : Done) (test : Bool) → nat_lt before.used (length memory.answers) ≡ test → IsEven access → IsTrue (is_shared (bus_address access.address)) → Requests access.kind access.size access.address request → before.used ≤ length memory.answers → GoesAlong (access ∷ []) (length memory.answers) before.used (actions.asked request memory before)
 asked_by access request memory before true is even h r within =
-    let ends : Ends (access ∷ []) (length memory.answers) before.used (before.used + 1) = record {
+    let ends : EndsAlong (access ∷ []) (length memory.answers) before.used (before.used + 1) = record {
       taken = 1;
       used = refl;
       enough = grind (arith, nat_tests);
       completes = record { even = alone_even access even; counted = shared_alone access h };
     } in
-    subst (λ result. Along (access ∷ []) (length memory.answers) before.used result) (sym (answered request memory before is)) ends
+    subst (λ result. GoesAlong (access ∷ []) (length memory.answers) before.used result) (sym (answered request memory before is)) ends
 asked_by access request memory before false is even h r within =
-    let asks : Asks (access ∷ []) (length memory.answers) before.used request = record {
+    let asks : AsksAlong (access ∷ []) (length memory.answers) before.used request = record {
       taken = 0;
       used = grind (arith, nat_tests);
       waits = record { access = access; numbered = numbered (access ∷ []) 0 access (alone access) h; leads = alone access; even = even; shared = h; request = r };
     } in
-    subst (λ result. Along (access ∷ []) (length memory.answers) before.used result) (sym (unanswered request memory before is)) asks
+    subst (λ result. GoesAlong (access ∷ []) (length memory.answers) before.used result) (sym (unanswered request memory before is)) asks
 
 asked : (access : Access) (request : Request68) → words (access ∷ []) ≡ access ∷ [] → IsEven access → IsTrue (is_shared (bus_address access.address)) → Requests access.kind access.size access.address request → Follows (access ∷ []) (actions.asked request)
 asked access request whole even h r = record {
   along = λ memory before within.
-      subst (λ list. Along list (length memory.answers) before.used (actions.asked request memory before)) (sym whole)
+      subst (λ list. GoesAlong list (length memory.answers) before.used (actions.asked request memory before)) (sym whole)
       (asked_by access request memory before (nat_lt before.used (length memory.answers)) refl even h r within);
 }
 
 -- a private access takes none
-private_by : {A : Type 0} (access : Access) (f : Memory → Done → A) (g : Done → Done) (memory : Memory) (before : Done) → (g before).used ≡ before.used → IsEven access → IsFalse (is_shared (bus_address access.address)) → before.used ≤ length memory.answers → Ends (access ∷ []) (length memory.answers) before.used (g before).used
+private_by : {A : Type 0} (access : Access) (f : Memory → Done → A) (g : Done → Done) (memory : Memory) (before : Done) → (g before).used ≡ before.used → IsEven access → IsFalse (is_shared (bus_address access.address)) → before.used ≤ length memory.answers → EndsAlong (access ∷ []) (length memory.answers) before.used (g before).used
 private_by access f g memory before kept even h within = record {
   taken = 0;
   used = omega (arith, kept);
@@ -71,7 +71,7 @@ private_by access f g memory before kept even h within = record {
 private : {A : Type 0} (access : Access) (f : Memory → Done → A) (g : Done → Done) → ((done : Done) → (g done).used ≡ done.used) → words (access ∷ []) ≡ access ∷ [] → IsEven access → IsFalse (is_shared (bus_address access.address)) → Follows (access ∷ []) (λ memory done. Ok (f memory done, g done))
 private access f g kept whole even h = record {
   along = λ memory before within.
-      subst (λ list. Ends list (length memory.answers) before.used (g before).used) (sym whole)
+      subst (λ list. EndsAlong list (length memory.answers) before.used (g before).used) (sym whole)
       (private_by access f g memory before (kept before) even h within);
 }
 
@@ -79,7 +79,7 @@ private access f g kept whole even h = record {
 pub odd_first : {A : Type 0} (list : List Access) (first : Access) (rest : List Access) → words list ≡ first ∷ rest → IsTrue (is_odd first) → Follows list (actions.odd {A = A} first.address (is_read first.kind))
 odd_first list first rest is odd = record {
   along = λ memory before within.
-      subst (λ list. Stands list (length memory.answers) before.used before.used first.address (is_read first.kind)) (sym is) (record {
+      subst (λ list. FaultsAlong list (length memory.answers) before.used before.used first.address (is_read first.kind)) (sym is) (record {
         taken = 0;
         used = omega arith;
         enough = within;

@@ -26,7 +26,7 @@ Requests Write Word address request = (value : ℕ) × (request ≡ Write16 (bus
 Requests kind Long address request = ⊥
 
 -- it is one of these accesses, with so many shared ones before it, none of which is an address error
-pub record Leads (list : List Access) (count : ℕ) (access : Access) : Type 0 where
+pub record LeadsTo (list : List Access) (count : ℕ) (access : Access) : Type 0 where
   pub before : List Access
   pub behind : List Access
   pub split : list ≡ before ++ access ∷ behind
@@ -34,24 +34,24 @@ pub record Leads (list : List Access) (count : ℕ) (access : Access) : Type 0 w
   pub counted : count ≡ length (shared before)
 
 -- the request is that of the shared one of this number, counted from 0
-pub record Waits (list : List Access) (count : ℕ) (asked : Request68) : Type 0 where
+pub record WaitsAt (list : List Access) (count : ℕ) (asked : Request68) : Type 0 where
   pub access : Access
   pub numbered : slice_get (shared list) count ≡ Some access
-  pub leads : Leads list count access
+  pub leads : LeadsTo list count access
   pub even : IsEven access
   pub shared : IsTrue (is_shared (bus_address access.address))
   pub request : Requests access.kind access.size access.address asked
 
 -- the address error is the first odd one, and so many shared ones come before it
-pub record Faults (list : List Access) (count at : ℕ) (reading : Bool) : Type 0 where
+pub record FaultsAt (list : List Access) (count at : ℕ) (reading : Bool) : Type 0 where
   pub access : Access
-  pub leads : Leads list count access
+  pub leads : LeadsTo list count access
   pub odd : IsTrue (is_odd access)
   pub address : access.address ≡ at
   pub read : is_read access.kind ≡ reading
 
 -- all were made: none is odd, and so many are shared
-pub record Completes (list : List Access) (count : ℕ) : Type 0 where
+pub record IsComplete (list : List Access) (count : ℕ) : Type 0 where
   pub even : All IsEven list
   pub counted : count ≡ length (shared list)
 
@@ -61,6 +61,6 @@ pub record Completes (list : List Access) (count : ℕ) : Type 0 where
 -- shared word; an address error is the first odd word. What words of 16 bits decode to meets the premise.
 pub record InstructionsFollowFootprints : Type 0 where
   pub decodes : (list : List ℕ) → slice_index list 1 < 65536 → MovesWords (decoded list).op
-  pub waits : (op : Op) (start : ℕ) (regs : Regs) (memory : Memory) (request : Request68) → MovesWords op → row op start regs memory nothing ≡ Err (Ask request) → Waits (words (footprint op start regs)) (length memory.answers) request
-  pub completes : (op : Op) (start : ℕ) (regs : Regs) (memory : Memory) (outcome : Outcome) (after : Done) → MovesWords op → row op start regs memory nothing ≡ Ok (outcome, after) → Completes (words (footprint op start regs)) after.used
-  pub faults : (op : Op) (start : ℕ) (regs : Regs) (memory : Memory) (address : ℕ) (read : Bool) (used : ℕ) → MovesWords op → row op start regs memory nothing ≡ Err (Odd address read used) → Faults (words (footprint op start regs)) used address read
+  pub waits : (op : Op) (start : ℕ) (regs : Regs) (memory : Memory) (request : Request68) → MovesWords op → row op start regs memory nothing ≡ Err (Ask request) → WaitsAt (words (footprint op start regs)) (length memory.answers) request
+  pub completes : (op : Op) (start : ℕ) (regs : Regs) (memory : Memory) (outcome : Outcome) (after : Done) → MovesWords op → row op start regs memory nothing ≡ Ok (outcome, after) → IsComplete (words (footprint op start regs)) after.used
+  pub faults : (op : Op) (start : ℕ) (regs : Regs) (memory : Memory) (address : ℕ) (read : Bool) (used : ℕ) → MovesWords op → row op start regs memory nothing ≡ Err (Odd address read used) → FaultsAt (words (footprint op start regs)) used address read
