@@ -1,2 +1,3 @@
 pub mod HeldFiles
 pub mod Places
+pub mod WrittenFiles
