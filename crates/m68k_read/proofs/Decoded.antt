@@ -1,22 +1,22 @@
 -- What words decode to is read again from its text: for the instructions of this crate's table.
-use Rattle.std.proofs.Common.{◌≡◌, ℕ, zero, suc, ◌+◌, ◌*◌, ◌/◌, ◌%◌, ◌<◌, ◌≤◌, ◌==◌, Bool, true, false, List, [], ◌∷◌, ◌++◌, Option, Some, None, refl, ap, ◌∙◌, sym, arith, if◌then◌else◌}
+use Rattle.std.proofs.Common.{◌≡◌, ℕ, zero, suc, ◌+◌, ◌%◌, ◌<◌, ◌≤◌, ◌==◌, Bool, true, false, List, refl, arith, if◌then◌else◌}
 use Rattle.std.specs.Prelude.{slice_index}
 use Rattle.std.proofs.lemmas.Bool.Decides.{nat_tests}
-use Rattle.md_word.specs.declared.mode.Mode.{Mode}
 use Rattle.md_word.specs.declared.mode.Mode.TheVariants as modes
 use Rattle.md_word.specs.declared.size.Size.{Size}
 use Rattle.md_word.specs.declared.size.Size.TheVariants.{Byte, Word, Long}
 use Rattle.md_word.specs.declared.task.Task.TheVariants as tasks
-use Rattle.m68k_decode.specs.declared.displacement.Displacement.{Displacement}
 use Rattle.m68k_decode.specs.declared.displacement.Displacement.TheVariants as displacements
-use Rattle.m68k_decode.specs.Fields.{high_register, low_register, paired, shift_of, low_mode, high_mode, mode_of, number_at, quick, displacement_of, size_of, words_of_mode, words_of_number}
+use Rattle.m68k_decode.specs.Fields.{high_register, low_register, paired, shift_of, low_mode, high_mode, mode_of, number_at, quick, displacement_of}
 use Rattle.m68k_decode.specs.Instructions.{made}
 use Rattle.m68k_decode.specs.Rows as rows
+use Rattle.m68k_decode.proofs.Classes.{loads-below}
+use Rattle.m68k_decode.proofs.DecodedModes.{low-number}
 use Rattle.m68k_decode.specs.Rows.{Row}
 use Rattle.m68k_read.specs.Table.{AreWords, IsEntered, IsShift}
 use Rattle.md_word.specs.Fields.{bit_of}
-use Rattle.m68k_decode.specs.Addressing.{control_or_postincrement, low_mode_number, memory_alterable, mode_number}
-use Rattle.m68k_decode.specs.Operands.{IsOf, number_of}
+use Rattle.m68k_decode.specs.Addressing.{control_or_postincrement, low_mode_number, memory_alterable}
+use Rattle.m68k_decode.specs.Operands.{IsOf}
 use Rattle.m68k_read.proofs.Instructions.{IsDisplacement, IsRead, again, bcc_again, bit_number_again, bit_register_again, bra_again, bsr_again, ccr_again, chk_again, cmp_again, cmpa_again, cmpm_again, compare_again, dbcc_again, decimal_again, divs_again, divu_again, eor_again, exg_again, ext_again, extended_again, from_sr_again, from_usp_again, immediate_again, jmp_again, jsr_again, lea_again, link_again, load_again, move_again, movea_again, movep_load_again, movep_store_again, moveq_again, muls_again, mulu_again, nbcd_again, nop_again, pea_again, quick_again, reset_again, rte_again, rtr_again, rts_again, scc_again, shift_memory_again, shift_number_again, shift_register_again, sr_again, stop_again, store_again, swap_again, tas_again, to_address_again, to_ccr_again, to_memory_again, to_register_again, to_sr_again, to_usp_again, trap_again, trapv_again, tst_again, unary_again, unlk_again}
 
 number_below : (size : Size) (k : ℕ) (words : List ℕ) → AreWords words → IsRead size (modes.Immediate (number_at size k words))
@@ -107,39 +107,14 @@ shift_is : (kind : ℕ) (left : Bool) → IsShift (shift_of kind left)
 unfolding shift_of
 shift_is kind left = shift_by (kind == 0) (kind == 1) (kind == 2) left
 
--- the number of a mode is that of its bits
-mode_number_is : (m r : ℕ) (size : Size) (k : ℕ) (words : List ℕ) → m < 8 → mode_number m r < 12 → number_of (mode_of m r size k words) ≡ mode_number m r
-unfolding mode_of
-mode_number_is zero r size k words g h = refl
-mode_number_is (suc zero) r size k words g h = refl
-mode_number_is (suc (suc zero)) r size k words g h = refl
-mode_number_is (suc (suc (suc zero))) r size k words g h = refl
-mode_number_is (suc (suc (suc (suc zero)))) r size k words g h = refl
-mode_number_is (suc (suc (suc (suc (suc zero))))) r size k words g h = refl
-mode_number_is (suc (suc (suc (suc (suc (suc zero)))))) r size k words g h = refl
-mode_number_is (suc (suc (suc (suc (suc (suc (suc zero))))))) zero size k words g h = refl
-mode_number_is (suc (suc (suc (suc (suc (suc (suc zero))))))) (suc zero) size k words g h = refl
-mode_number_is (suc (suc (suc (suc (suc (suc (suc zero))))))) (suc (suc zero)) size k words g h = refl
-mode_number_is (suc (suc (suc (suc (suc (suc (suc zero))))))) (suc (suc (suc zero))) size k words g h = refl
-mode_number_is (suc (suc (suc (suc (suc (suc (suc zero))))))) (suc (suc (suc (suc zero)))) size k words g h = refl
-mode_number_is (suc (suc (suc (suc (suc (suc (suc zero))))))) (suc (suc (suc (suc (suc r))))) size k words g h = absurd (omega arith)
-mode_number_is (suc (suc (suc (suc (suc (suc (suc (suc m)))))))) r size k words g h = absurd (omega arith)
-
-low_number_is : (size : Size) (k : ℕ) (words : List ℕ) → low_mode_number (slice_index words 0) < 12 → number_of (low_mode size k words) ≡ low_mode_number (slice_index words 0)
-unfolding low_mode
-low_number_is size k words h = mode_number_is (slice_index words 0 / 8 % 8) (slice_index words 0 % 8) size k words (omega arith) h
-
 memory-below : (n : ℕ) → memory_alterable n ≡ true → n < 12
 memory-below n is = grind (arith, nat_tests)
 
-loads-below : (n : ℕ) → control_or_postincrement n ≡ true → n < 12
-loads-below n is = grind (arith, nat_tests)
-
 low_is_memory : (size : Size) (k : ℕ) (words : List ℕ) → memory_alterable (low_mode_number (slice_index words 0)) ≡ true → IsOf memory_alterable (low_mode size k words)
-low_is_memory size k words is = rw (low_number_is size k words (memory-below _ is)) is
+low_is_memory size k words is = rw (low-number size k words (memory-below _ is)) is
 
 low_is_load : (size : Size) (k : ℕ) (words : List ℕ) → control_or_postincrement (low_mode_number (slice_index words 0)) ≡ true → IsOf control_or_postincrement (low_mode size k words)
-low_is_load size k words is = rw (low_number_is size k words (loads-below _ is)) is
+low_is_load size k words is = rw (low-number size k words (loads-below _ is)) is
 
 pub row_again : (row : Row) (words : List ℕ) (at : ℕ) → IsEntered row (slice_index words 0) → AreWords words → at < 4294967296 → again (made row words).op at ≡ (made row words).op
 unfolding made

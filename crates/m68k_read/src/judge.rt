@@ -45,8 +45,8 @@ fn meant(pieces: &[Piece<'_>], at: u32) -> Op
 }
 
 /// Whether words say the pieces at an address.
-fn says(alloc: Global, words: &[u16], pieces: &[Piece<'_>], at: u32) -> Result<bool, NoMemory>
-    ensures { IfOk result (λ says. IsTrue says ↔ (texts.pieces (text_of (decoded (judged.padded words.now)) at) ≡ map shown pieces.now)) }
+fn is_said(alloc: Global, words: &[u16], pieces: &[Piece<'_>], at: u32) -> Result<bool, NoMemory>
+    ensures { IfOk result (λ said. IsTrue said ↔ (texts.pieces (text_of (decoded (judged.padded words.now)) at) ≡ map shown pieces.now)) }
 {
     let decoded = decode(&padded(words));
     let text = text68(alloc, &decoded, at)?;
@@ -65,7 +65,7 @@ pub fn words_of(
     ensures none { IfOk result (λ found. IfNone found (texts.pieces (text_of (decoded (judged.padded (judged.tried (map shown pieces.now) at))) at) ≡ map shown pieces.now → ⊥)) }
 {
     let words = encode(&meant(pieces, at));
-    if says(alloc, words.as_slice(), pieces, at)? {
+    if is_said(alloc, words.as_slice(), pieces, at)? {
         Ok(Some(words))
     } else {
         Ok(None)

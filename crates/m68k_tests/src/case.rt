@@ -284,27 +284,25 @@ impl Case {
             accesses: (self.accesses.len() % 0x100) as u8,
             ..self.spent
         };
-        if regs.d != self.after.d {
-            Some("data registers")
-        } else if regs.a != self.after.a {
-            Some("address registers")
-        } else if regs.usp != self.after.usp || regs.ssp != self.after.ssp {
-            Some("stack pointers")
-        } else if regs.pc != self.after.pc {
-            Some("program counter")
-        } else if regs.sr != self.after.sr {
-            Some("status register")
-        } else if writes != self.writes.as_slice() {
-            Some("private writes")
-        } else if finish.spent != spent {
-            Some("what was spent")
-        } else if finish.stopped != self.stopped || finish.halted != self.halted {
-            Some("stopped or halted")
-        } else if finish.trace != self.trace {
-            Some("trace")
-        } else {
-            None
+        let parts = [
+            (regs.d == self.after.d, "data registers"),
+            (regs.a == self.after.a, "address registers"),
+            (regs.usp == self.after.usp, "user stack pointer"),
+            (regs.ssp == self.after.ssp, "supervisor stack pointer"),
+            (regs.pc == self.after.pc, "program counter"),
+            (regs.sr == self.after.sr, "status register"),
+            (writes == self.writes.as_slice(), "private writes"),
+            (finish.spent == spent, "what was spent"),
+            (finish.stopped == self.stopped, "stopped"),
+            (finish.halted == self.halted, "halted"),
+            (finish.trace == self.trace, "trace"),
+        ];
+        for (same, part) in parts {
+            if !same {
+                return Some(part);
+            }
         }
+        None
     }
 }
 

@@ -1,7 +1,7 @@
 // The 68000 as a chip: the places of its events, as the clocks of the M68000 User's Manual, section
 // 8, and this project's profile give them, at 7 master cycles a clock.
 use crate::kept::take;
-use crate::spelling::powered_on;
+use crate::spelling::{powered_on, put};
 use m68k_chip::Chip68;
 use md_word::{Pins68, Request68};
 use rom_header::Cart;
@@ -12,20 +12,35 @@ use std::test::Fail;
 /// The address of the first instruction.
 const CODE: usize = 0x1c0;
 
-/// An event at a cycle: a sample at this interrupt level, or an access.
-type Event = (u64, u8, Option<Request68>);
+/// An event, or what is seen of the 68000 between events.
+#[derive(Clone, Copy)]
+enum Event {
+    /// A sample at a cycle, at this interrupt level.
+    Sample(u64, u8),
+    /// An access at a cycle.
+    Access(u64, Request68),
+    /// The address of the instruction that the next sample begins, if it begins one.
+    Begins(Option<u32>),
+    /// Since when it is halted, if it is.
+    Halted(Option<u64>),
+    /// The program counter and the status register.
+    Stands(u32, u16),
+    /// What stands on a stack of six bytes.
+    Stacked([u8; 6]),
+}
 
 /// The 68000 at power-on, with a cartridge of 512 bytes that has this program at CODE.
 fn with_program(alloc: Global, stack: u32, pc: u32, program: &[u16]) -> Result<Chip68, Fail> {
     let mut image = [0; 512];
-    image[..4].copy_from_slice(&stack.to_be_bytes());
-    image[4..8].copy_from_slice(&pc.to_be_bytes());
-    image[0x100..0x104].copy_from_slice(b"SEGA");
-    for (place, word) in image[CODE..].chunks_exact_mut(2).zip(program) {
-        if let [high, low] = place {
-            *high = (*word >> 8) as u8;
-            *low = (*word & 0xff) as u8;
-        }
+    put(&mut image, 0, &stack.to_be_bytes());
+    put(&mut image, 4, &pc.to_be_bytes());
+    put(&mut image, 0x100, b"SEGA");
+    for (number, word) in program.iter().enumerate() {
+        put(
+            &mut image,
+            CODE.wrapping_add(number.wrapping_mul(2)),
+            &word.to_be_bytes(),
+        );
     }
     let cart = Cart::accept(alloc, image.to_vec(alloc)?)?;
     let cart = Arc::new(alloc, cart)?;
@@ -40,36 +55,20 @@ fn pins(level: u8) -> Pins68 {
     }
 }
 
-/// Carries out the next event, where it is this one.
+/// Takes the sample that is next, where it is next at this cycle.
 #[tactic(auto, unfolding(m68k_chip::specs::States::next_of))]
-fn carries_out(chip: &mut Chip68, event: &Event) -> bool {
-    let (cycle, level, request) = *event;
+fn samples(chip: &mut Chip68, cycle: u64, level: u8) -> bool {
     let next = chip.next();
-    if next.key.cycle != cycle || cycle >= 1 << 50 {
+    if !next.sample || next.key.cycle != cycle || cycle >= 1 << 50 {
         return false;
     }
-    match request {
-        Some(request) => take(chip) == Some(request),
-        None if next.sample => {
-            chip.sample(pins(level));
-            true
-        }
-        None => false,
-    }
+    chip.sample(pins(level));
+    true
 }
 
-/// Carries out a list of events, and tells the first that is not next.
-fn follow(alloc: Global, chip: &mut Chip68, events: &[Event]) -> Result<(), Fail> {
-    for event in events {
-        if !carries_out(chip, event) {
-            let next = chip.next();
-            return Err(Fail::from(format!(in alloc;
-                "{event:?}: at {} a sample: {}",
-                next.key.cycle, next.sample
-            )?));
-        }
-    }
-    Ok(())
+/// Answers the access that is next, where it is this one.
+fn answers(chip: &mut Chip68, cycle: u64, request: Request68) -> bool {
+    chip.next().key.cycle == cycle && take(chip) == Some(request)
 }
 
 /// The address of the instruction that the next event begins, where it is a sample; its level is 0.
@@ -82,17 +81,35 @@ fn begins(chip: &Chip68) -> Option<u32> {
     }
 }
 
-fn sample(cycle: u64, level: u8) -> Event {
-    (cycle, level, None)
+/// Carries out the next event, where it is this one; or whether this is seen.
+fn carries_out(chip: &mut Chip68, event: &Event) -> bool {
+    match *event {
+        Event::Sample(cycle, level) => samples(chip, cycle, level),
+        Event::Access(cycle, request) => answers(chip, cycle, request),
+        Event::Begins(address) => begins(chip) == address,
+        Event::Halted(since) => chip.halted() == since,
+        Event::Stands(pc, sr) => chip.regs().pc == pc && chip.regs().sr == sr,
+        Event::Stacked(frame) => chip.ram().get(0xeffa..0xf000) == Some(frame.as_slice()),
+    }
 }
 
-fn access(cycle: u64, request: Request68) -> Event {
-    (cycle, 0, Some(request))
+/// Carries out a list of events, and tells the first that is not next.
+fn follow(alloc: Global, chip: &mut Chip68, events: &[Event]) -> Result<(), Fail> {
+    for (number, event) in events.iter().enumerate() {
+        if !carries_out(chip, event) {
+            return Err(Fail::from(format!(in alloc; "event {number}")?));
+        }
+    }
+    Ok(())
 }
+
+/// The stack pointer and the program counter at power-on, a program, and what comes of it.
+type Run = (u32, u32, &'static [u16], &'static [Event]);
 
 /// Follows a program at power-on.
-fn runs(alloc: Global, program: &[u16], events: &[Event]) -> Result<(), Fail> {
-    let mut chip = with_program(alloc, 0xff_f000, 0x1c0, program)?;
+fn runs(alloc: Global, run: &Run) -> Result<(), Fail> {
+    let &(stack, pc, program, events) = run;
+    let mut chip = with_program(alloc, stack, pc, program)?;
     follow(alloc, &mut chip, events)
 }
 
@@ -110,50 +127,78 @@ const TIMES: [([u16; 2], u64); 5] = [
 #[test]
 fn times_of_instructions(rt: HostRuntime) -> Result<(), Fail> {
     for ([first, second], cycles) in TIMES {
-        let events = [sample(0, 0), sample(28, 0), sample(28 + cycles, 0)];
-        runs(rt.alloc(), &[0x72ff, first, second], &events)?;
+        let mut chip = with_program(rt.alloc(), 0xff_f000, 0x1c0, &[0x72ff, first, second])?;
+        let events = [
+            Event::Sample(0, 0),
+            Event::Sample(28, 0),
+            Event::Sample(28 + cycles, 0),
+        ];
+        follow(rt.alloc(), &mut chip, &events)?;
     }
     Ok(())
 }
 
-/// Whether an interrupt was taken whose status register and program counter stand on the stack.
-fn is_taken(chip: &Chip68) -> bool {
-    let frame = [0x23, 0, 0, 0, 0x01, 0xc4];
-    chip.regs().pc == 0
-        && chip.regs().sr == 0x2600
-        && chip.ram().get(0xeffa..0xf000) == Some(frame.as_slice())
-}
-
 // Level 6 is not above the mask of 7, and is above 3: it is acknowledged 28 cycles after the sample,
-// and takes 44 clocks.
-#[test]
-fn an_interrupt_above_the_mask(rt: HostRuntime) -> Result<(), Fail> {
-    let mut chip = with_program(rt.alloc(), 0xff_f000, 0x1c0, &[0x46fc, 0x2300])?;
-    let events = [sample(0, 6), sample(112, 6), access(140, Request68::Ack(6))];
-    follow(rt.alloc(), &mut chip, &events)?;
-    assert!(rt; is_taken(&chip));
-    follow(rt.alloc(), &mut chip, &[sample(420, 0)])
-}
+// and takes 44 clocks. The status register and the program counter stand on the stack.
+const INTERRUPT: [Event; 6] = [
+    Event::Sample(0, 6),
+    Event::Sample(112, 6),
+    Event::Access(140, Request68::Ack(6)),
+    Event::Stands(0, 0x2600),
+    Event::Stacked([0x23, 0, 0, 0, 0x01, 0xc4]),
+    Event::Sample(420, 0),
+];
 
 // STOP #$2700 begins under T: the trace comes at the next sample, and ends the stop.
-#[test]
-fn a_stop_that_a_trace_ends(rt: HostRuntime) -> Result<(), Fail> {
-    let program = [0x46fc, 0xa700, 0x4e72, 0x2700];
-    let mut chip = with_program(rt.alloc(), 0xff_f000, 0x1c0, &program)?;
-    let events = [sample(0, 0), sample(112, 0), sample(140, 0)];
-    follow(rt.alloc(), &mut chip, &events)?;
-    assert!(rt; begins(&chip) == Some(0));
-    follow(rt.alloc(), &mut chip, &[sample(378, 0)])
-}
+const STOP_UNDER_TRACE: [Event; 5] = [
+    Event::Sample(0, 0),
+    Event::Sample(112, 0),
+    Event::Sample(140, 0),
+    Event::Begins(Some(0)),
+    Event::Sample(378, 0),
+];
 
 // Without T it samples every 28 cycles, until an interrupt above its mask.
+const STOP: [Event; 6] = [
+    Event::Sample(0, 0),
+    Event::Sample(28, 0),
+    Event::Begins(None),
+    Event::Sample(56, 4),
+    Event::Access(84, Request68::Ack(4)),
+    Event::Sample(364, 0),
+];
+
+// Stack pointer and program counter are odd: 50 clocks, and then it does nothing, and stays halted with
+// what it had at power-on.
+const HALT: [Event; 8] = [
+    Event::Halted(None),
+    Event::Sample(0, 0),
+    Event::Halted(Some(0)),
+    Event::Sample(350, 6),
+    Event::Sample(378, 6),
+    Event::Sample(406, 0),
+    Event::Halted(Some(0)),
+    Event::Stands(0x1fd, 0x2700),
+];
+
+const RUNS: [Run; 4] = [
+    (0xff_f000, 0x1c0, &[0x46fc, 0x2300], &INTERRUPT),
+    (
+        0xff_f000,
+        0x1c0,
+        &[0x46fc, 0xa700, 0x4e72, 0x2700],
+        &STOP_UNDER_TRACE,
+    ),
+    (0xff_f000, 0x1c0, &[0x4e72, 0x2300], &STOP),
+    (0xff_f001, 0x1fd, &[], &HALT),
+];
+
 #[test]
-fn a_stop_that_an_interrupt_ends(rt: HostRuntime) -> Result<(), Fail> {
-    let mut chip = with_program(rt.alloc(), 0xff_f000, 0x1c0, &[0x4e72, 0x2300])?;
-    follow(rt.alloc(), &mut chip, &[sample(0, 0), sample(28, 0)])?;
-    assert!(rt; begins(&chip).is_none());
-    let events = [sample(56, 4), access(84, Request68::Ack(4)), sample(364, 0)];
-    follow(rt.alloc(), &mut chip, &events)
+fn interrupts_stops_and_a_halt(rt: HostRuntime) -> Result<(), Fail> {
+    for run in &RUNS {
+        runs(rt.alloc(), run)?;
+    }
+    Ok(())
 }
 
 /// Takes the samples that are next at an interrupt level, below `end`: the cycle of the event behind them,
@@ -176,8 +221,7 @@ fn samples_up_to_an_access(rt: HostRuntime) -> Result<(), Fail> {
     let mut chip = with_program(rt.alloc(), 0xff_f000, 0x1c0, &[0x4e72, 0x2300])?;
     let stopped = ahead(&mut chip, 0, 1_000);
     let interrupted = ahead(&mut chip, 4, 100_000);
-    let expected = (Some((1_008, true)), Some((1_036, false)));
-    assert_eq!(rt; (stopped, interrupted), expected);
+    assert!(rt; stopped == Some((1_008, true)) && interrupted == Some((1_036, false)));
     Ok(())
 }
 
@@ -190,7 +234,7 @@ fn written(k: u32) -> Event {
         _ => 0,
     };
     let address = 0xa0_0000_u32.wrapping_add(k.wrapping_mul(2));
-    access(112 + 28 * u64::from(k), Request68::Write16(address, value))
+    Event::Access(112 + 28 * u64::from(k), Request68::Write16(address, value))
 }
 
 // MOVEM.L D0-D7/A0-A7,(A1) with A1 = A00000h: 32 accesses, and 8 + 8 · 16 clocks.
@@ -198,27 +242,13 @@ fn written(k: u32) -> Event {
 fn thirty_two_accesses(rt: HostRuntime) -> Result<(), Fail> {
     let program = [0x43f9, 0x00a0, 0x0000, 0x48d1, 0xffff];
     let mut chip = with_program(rt.alloc(), 0xff_f000, 0x1c0, &program)?;
-    follow(rt.alloc(), &mut chip, &[sample(0, 0), sample(84, 0)])?;
+    follow(
+        rt.alloc(),
+        &mut chip,
+        &[Event::Sample(0, 0), Event::Sample(84, 0)],
+    )?;
     for k in 0..32u32 {
         follow(rt.alloc(), &mut chip, &[written(k)])?;
     }
-    follow(rt.alloc(), &mut chip, &[sample(1_036, 0)])
-}
-
-/// Whether it stays halted since cycle 0, with what it had at power-on.
-fn is_halted(chip: &Chip68) -> bool {
-    chip.halted() == Some(0) && chip.regs().pc == 0x1fd && chip.regs().sr == 0x2700
-}
-
-// Stack pointer and program counter are odd: 50 clocks, and then it does nothing.
-#[test]
-fn a_halt(rt: HostRuntime) -> Result<(), Fail> {
-    let mut chip = with_program(rt.alloc(), 0xff_f001, 0x1fd, &[])?;
-    let before = chip.halted();
-    follow(rt.alloc(), &mut chip, &[sample(0, 0)])?;
-    let behind = chip.halted();
-    let events = [sample(350, 6), sample(378, 6), sample(406, 0)];
-    follow(rt.alloc(), &mut chip, &events)?;
-    assert!(rt; before.is_none() && behind == Some(0) && is_halted(&chip));
-    Ok(())
+    follow(rt.alloc(), &mut chip, &[Event::Sample(1_036, 0)])
 }

@@ -36,14 +36,15 @@ const NO_INSTRUCTIONS: [([u16; 5], &str); 16] = [
     ([0xf000, 0, 0, 0, 0], "line F"),
 ];
 
+/// Whether words are what is no instruction, of one word, and of this kind.
+fn is_none(words: &[u16; 5], kind: &str) -> bool {
+    told(words) == (kind, words[0], 2)
+}
+
 #[test]
 fn no_instructions(rt: HostRuntime) {
-    for (words, kind) in NO_INSTRUCTIONS {
-        let (found, word, length) = told(&words);
-        assert!(rt;
-            found == kind && word == words[0] && length == 2,
-            "{words:?}"
-        );
+    for (number, (words, kind)) in NO_INSTRUCTIONS.iter().enumerate() {
+        assert!(rt; is_none(words, kind), "row {number}");
     }
 }
 

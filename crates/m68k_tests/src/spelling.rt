@@ -40,7 +40,7 @@ pub fn cartridge(alloc: Global) -> Result<Arc<Cart>, Fail> {
 }
 
 /// Puts bytes at a place, where all have room.
-fn put(bytes: &mut [u8], place: usize, values: &[u8]) {
+pub fn put(bytes: &mut [u8], place: usize, values: &[u8]) {
     if let Some(rest) = bytes.get_mut(place..)
         && let Some(part) = rest.get_mut(..values.len())
     {
@@ -137,44 +137,50 @@ fn refused_access(alloc: Global, changes: &[(usize, &[u8])]) -> Result<Option<u6
     refused(alloc, at_access(alloc, &LOAD_BYTE, &[])?, 1001, changes)
 }
 
-// Each rule broken once at a sample: the byte that is changed, its value, and the place of the refusal.
-const BROKEN: [(usize, u8, u64); 15] = [
-    (4, 1, 0),
-    (8, 3, 8),
-    (16, 0xe9, 9),
-    (89, 0x67, 89),
-    (90, 0x20, 89),
-    (91, 2, 91),
-    (92, 2, 92),
-    (93, 2, 93),
-    (101, 1, 94),
-    (102, 4, 102),
-    (103, 1, 103),
-    (167, 1, 103),
-    (171, 2, 172),
-    (175, 1, 172),
-    (177, 34, 176),
+/// Whether it stands at an access, not at a sample; the byte that is changed, its value, and the place of
+/// the refusal.
+type Broken = (bool, usize, u8, u64);
+
+// Each rule broken once.
+const BROKEN: [Broken; 21] = [
+    (false, 4, 1, 0),
+    (false, 8, 3, 8),
+    (false, 16, 0xe9, 9),
+    (false, 89, 0x67, 89),
+    (false, 90, 0x20, 89),
+    (false, 91, 2, 91),
+    (false, 92, 2, 92),
+    (false, 93, 2, 93),
+    (false, 101, 1, 94),
+    (false, 102, 4, 102),
+    (false, 103, 1, 103),
+    (false, 167, 1, 103),
+    (false, 171, 2, 172),
+    (false, 175, 1, 172),
+    (false, 177, 34, 176),
+    (true, 7, 0x05, 103),
+    (true, 92, 1, 92),
+    (true, 102, 5, 102),
+    (true, 102, 8, 178),
+    (true, 103, 32, 103),
+    (true, 179, 0x3c, 178),
 ];
 
-// The same at an access.
-const BROKEN_AMID: [(usize, u8, u64); 6] = [
-    (7, 0x05, 103),
-    (92, 1, 92),
-    (102, 5, 102),
-    (102, 8, 178),
-    (103, 32, 103),
-    (179, 0x3c, 178),
-];
+/// Whether a broken rule is refused at its place.
+fn is_refused(alloc: Global, row: &Broken) -> Result<bool, Fail> {
+    let (amid, offset, value, place) = *row;
+    let found = if amid {
+        refused_access(alloc, &[(offset, &[value])])?
+    } else {
+        refused_sample(alloc, 1000, &[(offset, &[value])])?
+    };
+    Ok(found == Some(place))
+}
 
 #[test]
 fn each_rule_is_looked_at(rt: HostRuntime) -> Result<(), Fail> {
-    for (offset, value, place) in BROKEN {
-        let found = refused_sample(rt.alloc(), 1000, &[(offset, &[value])])?;
-        assert!(rt; found == Some(place), "{offset}");
-    }
-    for (offset, value, place) in BROKEN_AMID {
-        let found = refused_access(rt.alloc(), &[(offset, &[value])])?;
-        assert!(rt; found == Some(place), "{offset}");
+    for (number, row) in BROKEN.iter().enumerate() {
+        assert!(rt; is_refused(rt.alloc(), row)?, "row {number}");
     }
     Ok(())
 }
@@ -249,25 +255,25 @@ fn place_amid(
     place_of(alloc, &at_access(alloc, instruction, answers)?, at)
 }
 
-// An instruction, its answers, and the place of the refusal. An instruction is to wait for one answer
-// more. A byte was answered by a byte, a write by 0.
-const ANSWERED: [(&[u8], &[u8], Option<u64>); 8] = [
-    (&NOTHING, &[], Some(178)),
-    (&LOAD_BYTE, &[], None),
-    (&LOAD_BYTE, &[0x00, 0x12], Some(178)),
-    (&LOAD_LONG, &[0xff, 0xff], None),
-    (&LOAD_BYTES, &[0x00, 0xff], None),
-    (&LOAD_BYTES, &[0x01, 0x00], Some(178)),
-    (&STORE_LONG, &[0x00, 0x00], None),
-    (&STORE_LONG, &[0x00, 0x01], Some(178)),
+// An instruction, its answers, the cycle, and the place of the refusal. An instruction is to wait for one
+// answer more. A byte was answered by a byte, a write by 0. It began below the cycle.
+const ANSWERED: [(&[u8], &[u8], u64, Option<u64>); 9] = [
+    (&NOTHING, &[], 1001, Some(178)),
+    (&LOAD_BYTE, &[], 1001, None),
+    (&LOAD_BYTE, &[0x00, 0x12], 1001, Some(178)),
+    (&LOAD_LONG, &[0xff, 0xff], 1001, None),
+    (&LOAD_BYTES, &[0x00, 0xff], 1001, None),
+    (&LOAD_BYTES, &[0x01, 0x00], 1001, Some(178)),
+    (&STORE_LONG, &[0x00, 0x00], 1001, None),
+    (&STORE_LONG, &[0x00, 0x01], 1001, Some(178)),
+    (&LOAD_BYTE, &[], 1000, Some(9)),
 ];
 
 #[test]
 fn answers_fit_their_accesses(rt: HostRuntime) -> Result<(), Fail> {
-    for (instruction, answers, place) in ANSWERED {
-        assert!(rt; place_amid(rt.alloc(), instruction, answers, 1001)? == place);
+    for (instruction, answers, at, place) in ANSWERED {
+        assert!(rt; place_amid(rt.alloc(), instruction, answers, at)? == place);
     }
-    assert!(rt; place_amid(rt.alloc(), &LOAD_BYTE, &[], 1000)? == Some(9));
     Ok(())
 }
 

@@ -12,6 +12,9 @@ const PLAIN: Spent = Spent {
     accesses: 0,
 };
 
+/// An instruction, what it spends beside accesses, and its clocks.
+type Row = (Op, Spent, u32);
+
 const IMMEDIATES_AND_BITS: [(Op, u32); 22] = [
     (Op::Immediate(Task::Or, Size::Byte, 1, Mode::Data(0)), 8),
     (Op::Immediate(Task::Or, Size::Long, 1, Mode::Data(0)), 16),
@@ -176,9 +179,130 @@ const TWO_OPERANDS: [(Op, u32); 34] = [
     (Op::ShiftMemory(Task::Asl, Mode::Indirect(0)), 12),
 ];
 
+// The instruction, what it spends, and its clocks.
+// MULU by 5 has two ones; MULS by FFFFh has one pair of unlike neighbours, the last with the 0.
+const COUNTS: [Row; 8] = [
+    (
+        Op::Mulu(0, Mode::Immediate(5)),
+        Spent { count: 2, ..PLAIN },
+        46,
+    ),
+    (Op::Muls(0, Mode::Data(1)), Spent { count: 1, ..PLAIN }, 40),
+    (
+        Op::MovemToMemory(Size::Long, 0xffff, Mode::AbsLong(0x1_0000)),
+        Spent { count: 16, ..PLAIN },
+        144,
+    ),
+    (
+        Op::MovemToMemory(Size::Word, 1, Mode::PreDec(0)),
+        Spent { count: 1, ..PLAIN },
+        12,
+    ),
+    (
+        Op::MovemToRegisters(Size::Word, 7, Mode::PostInc(0)),
+        Spent { count: 3, ..PLAIN },
+        24,
+    ),
+    (
+        Op::MovemToRegisters(Size::Long, 1, Mode::PcDisplaced(4)),
+        Spent { count: 1, ..PLAIN },
+        24,
+    ),
+    (
+        Op::ShiftByNumber(Task::Lsl, Size::Word, 3, 0),
+        Spent { count: 3, ..PLAIN },
+        12,
+    ),
+    (
+        Op::ShiftByRegister(Task::Ror, Size::Long, 1, 0),
+        Spent { count: 63, ..PLAIN },
+        134,
+    ),
+];
+
+// Whether a branch is taken, and whether a count expires.
+const CONDITIONS: [Row; 9] = [
+    (
+        Op::Bcc(Condition::Equal, Displacement::Byte(2)),
+        Spent {
+            taken: true,
+            ..PLAIN
+        },
+        10,
+    ),
+    (Op::Bcc(Condition::Equal, Displacement::Byte(2)), PLAIN, 8),
+    (
+        Op::Bcc(Condition::Equal, Displacement::Word(2)),
+        Spent {
+            taken: true,
+            ..PLAIN
+        },
+        10,
+    ),
+    (Op::Bcc(Condition::Equal, Displacement::Word(2)), PLAIN, 12),
+    (Op::Dbcc(Condition::Equal, 0, 2), PLAIN, 12),
+    (
+        Op::Dbcc(Condition::Equal, 0, 2),
+        Spent {
+            taken: true,
+            ..PLAIN
+        },
+        10,
+    ),
+    (
+        Op::Dbcc(Condition::Equal, 0, 2),
+        Spent {
+            expired: true,
+            ..PLAIN
+        },
+        14,
+    ),
+    (Op::Scc(Condition::Equal, Mode::Data(0)), PLAIN, 4),
+    (
+        Op::Scc(Condition::Equal, Mode::Data(0)),
+        Spent {
+            taken: true,
+            ..PLAIN
+        },
+        6,
+    ),
+];
+
+// What ends in an exception, with its cause.
+const EXCEPTIONS: [Row; 14] = [
+    (Op::Nop, Spent { cause: 3, ..PLAIN }, 50),
+    (Op::Illegal(0x4afc), Spent { cause: 4, ..PLAIN }, 34),
+    (
+        Op::Divu(0, Mode::Indirect(0)),
+        Spent { cause: 5, ..PLAIN },
+        42,
+    ),
+    (Op::Divs(0, Mode::Data(0)), Spent { cause: 5, ..PLAIN }, 38),
+    (
+        Op::Chk(0, Mode::Displaced(0, 4)),
+        Spent { cause: 6, ..PLAIN },
+        48,
+    ),
+    (Op::Trapv, Spent { cause: 7, ..PLAIN }, 34),
+    (Op::Reset, Spent { cause: 8, ..PLAIN }, 34),
+    (Op::Nop, Spent { cause: 9, ..PLAIN }, 34),
+    (Op::LineA(0xa000), Spent { cause: 10, ..PLAIN }, 34),
+    (Op::LineF(0xf000), Spent { cause: 11, ..PLAIN }, 34),
+    (Op::Nop, Spent { cause: 25, ..PLAIN }, 44),
+    (Op::Nop, Spent { cause: 31, ..PLAIN }, 44),
+    (Op::Trap(0), Spent { cause: 32, ..PLAIN }, 34),
+    (Op::Trap(15), Spent { cause: 47, ..PLAIN }, 34),
+];
+
 fn take(rt: &impl Abort, rows: &[(Op, u32)]) {
     for (number, (op, want)) in rows.iter().enumerate() {
         assert!(rt; clocks(op, PLAIN) == *want, "row {number}");
+    }
+}
+
+fn spend(rt: &impl Abort, rows: &[Row]) {
+    for (number, (op, spent, want)) in rows.iter().enumerate() {
+        assert!(rt; clocks(op, *spent) == *want, "row {number}");
     }
 }
 
@@ -190,100 +314,9 @@ fn each_row_of_the_tables(rt: HostRuntime) {
     take(&rt, &TWO_OPERANDS);
 }
 
-// The instruction, what it counts, and its clocks.
-// MULU by 5 has two ones; MULS by FFFFh has one pair of unlike neighbours, the last with the 0.
-const COUNTS: [(Op, u8, u32); 8] = [
-    (Op::Mulu(0, Mode::Immediate(5)), 2, 46),
-    (Op::Muls(0, Mode::Data(1)), 1, 40),
-    (
-        Op::MovemToMemory(Size::Long, 0xffff, Mode::AbsLong(0x1_0000)),
-        16,
-        144,
-    ),
-    (Op::MovemToMemory(Size::Word, 1, Mode::PreDec(0)), 1, 12),
-    (Op::MovemToRegisters(Size::Word, 7, Mode::PostInc(0)), 3, 24),
-    (
-        Op::MovemToRegisters(Size::Long, 1, Mode::PcDisplaced(4)),
-        1,
-        24,
-    ),
-    (Op::ShiftByNumber(Task::Lsl, Size::Word, 3, 0), 3, 12),
-    (Op::ShiftByRegister(Task::Ror, Size::Long, 1, 0), 63, 134),
-];
-
 #[test]
-fn counts(rt: HostRuntime) {
-    for (op, count, want) in COUNTS {
-        assert!(rt; clocks(&op, Spent { count, ..PLAIN }) == want, "{want}");
-    }
-}
-
-// The instruction, whether its branch is taken and its count expires, and its clocks.
-const CONDITIONS: [(Op, bool, bool, u32); 9] = [
-    (
-        Op::Bcc(Condition::Equal, Displacement::Byte(2)),
-        true,
-        false,
-        10,
-    ),
-    (
-        Op::Bcc(Condition::Equal, Displacement::Byte(2)),
-        false,
-        false,
-        8,
-    ),
-    (
-        Op::Bcc(Condition::Equal, Displacement::Word(2)),
-        true,
-        false,
-        10,
-    ),
-    (
-        Op::Bcc(Condition::Equal, Displacement::Word(2)),
-        false,
-        false,
-        12,
-    ),
-    (Op::Dbcc(Condition::Equal, 0, 2), false, false, 12),
-    (Op::Dbcc(Condition::Equal, 0, 2), true, false, 10),
-    (Op::Dbcc(Condition::Equal, 0, 2), false, true, 14),
-    (Op::Scc(Condition::Equal, Mode::Data(0)), false, false, 4),
-    (Op::Scc(Condition::Equal, Mode::Data(0)), true, false, 6),
-];
-
-#[test]
-fn conditions(rt: HostRuntime) {
-    for (op, taken, expired, want) in CONDITIONS {
-        let spent = Spent {
-            taken,
-            expired,
-            ..PLAIN
-        };
-        assert!(rt; clocks(&op, spent) == want, "{want}");
-    }
-}
-
-// The instruction, the cause, and its clocks.
-const EXCEPTIONS: [(Op, u8, u32); 14] = [
-    (Op::Nop, 3, 50),
-    (Op::Illegal(0x4afc), 4, 34),
-    (Op::Divu(0, Mode::Indirect(0)), 5, 42),
-    (Op::Divs(0, Mode::Data(0)), 5, 38),
-    (Op::Chk(0, Mode::Displaced(0, 4)), 6, 48),
-    (Op::Trapv, 7, 34),
-    (Op::Reset, 8, 34),
-    (Op::Nop, 9, 34),
-    (Op::LineA(0xa000), 10, 34),
-    (Op::LineF(0xf000), 11, 34),
-    (Op::Nop, 25, 44),
-    (Op::Nop, 31, 44),
-    (Op::Trap(0), 32, 34),
-    (Op::Trap(15), 47, 34),
-];
-
-#[test]
-fn exceptions(rt: HostRuntime) {
-    for (op, cause, want) in EXCEPTIONS {
-        assert!(rt; clocks(&op, Spent { cause, ..PLAIN }) == want, "{cause}");
-    }
+fn counts_conditions_and_exceptions(rt: HostRuntime) {
+    spend(&rt, &COUNTS);
+    spend(&rt, &CONDITIONS);
+    spend(&rt, &EXCEPTIONS);
 }
