@@ -40,8 +40,8 @@ fn meant(pieces: &[Piece<'_>], at: u16) -> Op80
 }
 
 /// Whether bytes say the pieces at an address.
-fn says(alloc: Global, bytes: &[u8], pieces: &[Piece<'_>], at: u16) -> Result<bool, NoMemory>
-    ensures { IfOk result (λ says. IsTrue says ↔ (texts.pieces (text_of (decoded (judged.padded bytes.now)) at) ≡ map shown pieces.now)) }
+fn is_said(alloc: Global, bytes: &[u8], pieces: &[Piece<'_>], at: u16) -> Result<bool, NoMemory>
+    ensures { IfOk result (λ said. IsTrue said ↔ (texts.pieces (text_of (decoded (judged.padded bytes.now)) at) ≡ map shown pieces.now)) }
 {
     let decoded = decode(&padded(bytes));
     let text = text80(alloc, &decoded, at)?;
@@ -57,7 +57,7 @@ pub fn bytes_of(alloc: Global, pieces: &[Piece<'_>], at: u16) -> Result<Option<B
     ensures none { IfOk result (λ found. IfNone found (texts.pieces (text_of (decoded (judged.padded (judged.tried (map shown pieces.now) at))) at) ≡ map shown pieces.now → ⊥)) }
 {
     let bytes = encode(&meant(pieces, at));
-    if says(alloc, bytes.as_slice(), pieces, at)? {
+    if is_said(alloc, bytes.as_slice(), pieces, at)? {
         Ok(Some(bytes))
     } else {
         Ok(None)
