@@ -5,7 +5,6 @@ use Rattle.std.specs.Prelude.{slice_index}
 use Rattle.std.proofs.Math.Nat.{eq-or-lt_of_le}
 use Rattle.std.proofs.lemmas.Bool.Decides.{nat_tests}
 use Rattle.md_word.specs.Fields.{bit_of}
-use Rattle.md_word.specs.declared.mode.Mode.{Mode}
 use Rattle.md_word.specs.declared.mode.Mode.TheVariants as modes
 use Rattle.md_word.specs.declared.size.Size.{Size}
 use Rattle.md_word.specs.declared.size.Size.TheVariants.{Byte, Word, Long}
@@ -17,6 +16,7 @@ use Rattle.m68k_decode.specs.Rows as rows
 use Rattle.m68k_decode.specs.Rows.{Row}
 use Rattle.m68k_decode.proofs.Table.{decoded_is_picked}
 use Rattle.m68k_encode.specs.Encoding.{brief, displacement_words, encoded, extension, mode_words, number_words}
+use Rattle.m68k_encode.proofs.Again.{words_counted}
 use Rattle.m68k_encode.proofs.FirstWord.{first_again}
 use Rattle.m68k_read.specs.Table.{AreWords}
 use Rattle.asm_laws.specs.Chosen.{IsBefore}
@@ -79,23 +79,6 @@ high_below : (size : Size) (k w : ℕ) (tail : List ℕ) → AreWords (w ∷ tai
 unfolding high_mode
 high_below size k w tail all = mode_below (w / 64 % 8) (w / 512 % 8) size k (w ∷ tail) (omega arith) (omega arith) all
 
-counted : (size : Size) (mode : Mode) → length (mode_words size mode) ≡ words_of_mode size mode
-unfolding mode_words
-counted size (modes.Data n) = refl
-counted size (modes.Address n) = refl
-counted size (modes.Indirect n) = refl
-counted size (modes.PostInc n) = refl
-counted size (modes.PreDec n) = refl
-counted size (modes.Displaced n by) = refl
-counted size (modes.Indexed n index long by) = refl
-counted size (modes.AbsShort at) = refl
-counted size (modes.AbsLong at) = refl
-counted size (modes.PcDisplaced by) = refl
-counted size (modes.PcIndexed index long by) = refl
-counted Byte (modes.Immediate value) = refl
-counted Word (modes.Immediate value) = refl
-counted Long (modes.Immediate value) = refl
-
 -- ---- rows
 
 -- as many words, none of them greater
@@ -127,12 +110,12 @@ one_word value d words low long are = code_of d words (value ∷ []) 1 long refl
 with_low : (size : Size) (d : Decoded) (w : ℕ) (tail : List ℕ) → AreWords (w ∷ tail) → d.length ≡ 2 * (1 + words_of_mode size (low_mode size 1 (w ∷ tail)))
     → extension d.op ≡ mode_words size (low_mode size 1 (w ∷ tail)) → IsCode d (w ∷ tail)
 with_low size d w tail all long are =
-    code_of d (w ∷ tail) (mode_words size (low_mode size 1 (w ∷ tail))) (words_of_mode size (low_mode size 1 (w ∷ tail))) long (counted size (low_mode size 1 (w ∷ tail))) are (low_below size 1 w tail all)
+    code_of d (w ∷ tail) (mode_words size (low_mode size 1 (w ∷ tail))) (words_of_mode size (low_mode size 1 (w ∷ tail))) long (words_counted size (low_mode size 1 (w ∷ tail))) are (low_below size 1 w tail all)
 
 word_and_low : (value : ℕ) (size : Size) (d : Decoded) (w : ℕ) (tail : List ℕ) → AreWords (w ∷ tail) → value ≤ slice_index (w ∷ tail) 1
     → d.length ≡ 2 * (2 + words_of_mode size (low_mode size 2 (w ∷ tail))) → extension d.op ≡ value ∷ mode_words size (low_mode size 2 (w ∷ tail)) → IsCode d (w ∷ tail)
 word_and_low value size d w tail all low long are =
-    let size_is = counted size (low_mode size 2 (w ∷ tail)) in
+    let size_is = words_counted size (low_mode size 2 (w ∷ tail)) in
     code_of d (w ∷ tail) (value ∷ mode_words size (low_mode size 2 (w ∷ tail))) (1 + words_of_mode size (low_mode size 2 (w ∷ tail))) (omega (arith, long)) (omega (arith, size_is)) are
     (low, low_below size 2 w tail all)
 
@@ -147,7 +130,7 @@ number_mode Word d w tail all long are =
     word_and_low (number_at Word 1 (w ∷ tail)) Word d w tail all first.0 long are
 number_mode Long d w tail all long are =
     let first = number_below Long 1 (w ∷ tail) all in
-    let size_is = counted Long (low_mode Long 3 (w ∷ tail)) in
+    let size_is = words_counted Long (low_mode Long 3 (w ∷ tail)) in
     code_of d (w ∷ tail) (number_words Long (number_at Long 1 (w ∷ tail)) ++ mode_words Long (low_mode Long 3 (w ∷ tail))) (2 + words_of_mode Long (low_mode Long 3 (w ∷ tail)))
     (omega (arith, long)) (omega (arith, size_is)) are (first.0, (first.1.0, low_below Long 3 w tail all))
 
@@ -157,8 +140,8 @@ both_modes : (size : Size) (d : Decoded) (w : ℕ) (tail : List ℕ) → AreWord
 both_modes size d w tail all long are =
     let source = low_mode size 1 (w ∷ tail) in
     let target = high_mode size (1 + words_of_mode size (low_mode size 1 (w ∷ tail))) (w ∷ tail) in
-    let es = counted size (low_mode size 1 (w ∷ tail)) in
-    let et = counted size (high_mode size (1 + words_of_mode size (low_mode size 1 (w ∷ tail))) (w ∷ tail)) in
+    let es = words_counted size (low_mode size 1 (w ∷ tail)) in
+    let et = words_counted size (high_mode size (1 + words_of_mode size (low_mode size 1 (w ∷ tail))) (w ∷ tail)) in
     code_of d (w ∷ tail) (mode_words size source ++ mode_words size target) (words_of_mode size source + words_of_mode size target)
     (omega (arith, long)) (omega (arith, es, et, length-append (mode_words size source) (mode_words size target))) are
     (below_append (mode_words size source) (mode_words size target) 1 (1 + words_of_mode size source) (w ∷ tail) (omega (arith, es))
