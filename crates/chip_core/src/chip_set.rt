@@ -97,9 +97,9 @@ pub trait ChipSet: Send + Sync {
     fn writes(writer: u8, chip: u8) -> bool
         ensures { result ≡ rules.writes writer chip };
 
-    /// Whether the chip's private work is worth being handed to another thread, where there is one: how
-    /// several workers share their work hangs on it, and nothing else.
-    fn is_dear(_chip: u8) -> bool {
+    /// Whether the private work after the chip's next event is worth being handed to another thread, where
+    /// there is one: how several workers share their work hangs on it, and nothing else.
+    fn is_dear(_chip: &Self::Chip) -> bool {
         true
     }
 

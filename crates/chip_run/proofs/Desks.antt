@@ -7,22 +7,33 @@ use Rattle.chip_core.specs.Chips.{Rules}
 use Rattle.chip_core.specs.Equations.{same_or}
 use Rattle.chip_run.specs.Held.{HeldValue}
 use Rattle.chip_run.specs.Places.{AllFree, FreeBut, Places, place}
+use Rattle.chip_run.specs.Desks.{IsTurned, IsTurnedPlace}
 use Rattle.chip_run.specs.Rounds.{Made, SettlesAt}
+use Rattle.chip_run.specs.declared.leading.Turned.{Turned}
+use Rattle.chip_run.specs.declared.leading.Turned.TheVariants as Turns
 use Rattle.chip_run.specs.declared.held.Due.TheVariants.{Nothing}
 use Rattle.chip_run.proofs.Rounds.{at-free, set-free, settled-free}
 
 module _ {Chip Pins : Type 0} where
-  -- a place written with a chip of which no work is due
-  pub turned-free : (n : ℕ) (hs0 hs : Places Chip Pins) → hs0 ≡ hs → AllFree hs → (k : HeldValue Chip Pins) → k.due ≡ Nothing → (hs2 : Places Chip Pins) → hs2 ≡ slice_set hs0 n (Some k) → AllFree hs2
-  turned-free n hs0 hs e free k done hs2 is = set-free hs0 hs2 n (Some k) (subst (λ (xs : Places Chip Pins). AllFree xs) (sym e) free) done is
-
-  -- the same of none
+  -- nothing is changed
   pub same-free : (hs hs2 : Places Chip Pins) → hs2 ≡ hs → AllFree hs → AllFree hs2
   same-free hs hs2 e free = subst (λ (xs : Places Chip Pins). AllFree xs) (sym e) free
 
   -- a place written anyhow
   pub set-but : (k : ℕ) (hs hs2 : Places Chip Pins) (o : Option (HeldValue Chip Pins)) → AllFree hs → hs2 ≡ slice_set hs k o → FreeBut k hs2
   set-but k hs hs2 o free is i h ne there = free i h (sym (get_or-set_other hs k i o None ne) ∙ ap (λ xs. place xs i) (sym is) ∙ there)
+
+  -- a place written by the turn of the chip there
+  turned-at : (n : ℕ) (hs0 hs : Places Chip Pins) → hs0 ≡ hs → AllFree hs → (r : Turned) (o : Option (HeldValue Chip Pins)) → IsTurnedPlace r o → (hs2 : Places Chip Pins) → hs2 ≡ slice_set hs0 n o
+      → IsTurned n r hs2
+  turned-at n hs0 hs e free Turns.Dear o due hs2 is = set-but n hs0 hs2 o (same-free hs hs0 e free) is
+  turned-at n hs0 hs e free Turns.Taken o done hs2 is = set-free hs0 hs2 n o (same-free hs hs0 e free) done is
+  turned-at n hs0 hs e free Turns.Away o done hs2 is = set-free hs0 hs2 n o (same-free hs hs0 e free) done is
+
+  -- the same where the code has the number of the place
+  pub turned-place : (chip n : ℕ) → chip ≡ n → (hs0 hs : Places Chip Pins) → hs0 ≡ hs → AllFree hs → (r : Turned) (o : Option (HeldValue Chip Pins)) → IsTurnedPlace r o → (hs2 : Places Chip Pins) → hs2 ≡ slice_set hs0 n o
+      → IsTurned chip r hs2
+  turned-place chip n at hs0 hs e free r o due hs2 is = subst (λ k. IsTurned k r hs2) (sym at) (turned-at n hs0 hs e free r o due hs2 is)
 
   -- the chip is laid down
   pub laid-free : (k : ℕ) (hs hs2 : Places Chip Pins) → FreeBut k hs → hs2 ≡ slice_set hs k None → AllFree hs2

@@ -354,7 +354,7 @@ module _ {Chip Shared Pins : Type 0} (rules : Rules Chip Shared Pins) (chip_ok :
       pub place-here : HasPlaceFor rules p i h.chip
       place-here turn access = place base t told paid_counts kept-told numbered inside-count path-here inside-told booked-told (turn-told turn) access
 
-      pub kept-performed : (q : PartsValue Shared) (d : Chip) → IsStep rules false p i h.chip Performed q d → (n : ℕ) → n ≡ h.amount + 1 → IsLocked rules chip_ok shared_ok base t q (slice_set counts i n)
+      pub kept-performed : (q : PartsValue Shared) (d : Chip) → IsStep rules p i h.chip Performed q d → (n : ℕ) → n ≡ h.amount + 1 → IsLocked rules chip_ok shared_ok base t q (slice_set counts i n)
       kept-performed q d is n e =
           subst (λ (x : PartsValue Shared). IsLocked rules chip_ok shared_ok base t x (slice_set counts i n)) (sym is.2)
           (subst (λ k. IsLocked rules chip_ok shared_ok base t (after_access rules p i h.chip) (slice_set counts i k)) (sym e)
@@ -362,7 +362,7 @@ module _ {Chip Shared Pins : Type 0} (rules : Rules Chip Shared Pins) (chip_ok :
           (subst (λ bs. IsLocked rules chip_ok shared_ok base t (record (after_access rules p i h.chip) { bounds = bs }) (slice_set paid_counts i (h.amount + 1))) raised-told
           (kept-access base t told paid_counts kept-told numbered inside-count path-here inside-told booked-told (turn-told is.0) is.1))))
 
-      pub kept-sampled : (q : PartsValue Shared) (d : Chip) (pins : Pins) (end : Key) → IsStep rules false p i h.chip (Sampled pins end) q d → (n : ℕ) → n ≡ h.amount + 1 → IsLocked rules chip_ok shared_ok base t q (slice_set counts i n)
+      pub kept-sampled : (q : PartsValue Shared) (d : Chip) (pins : Pins) (end : Key) → IsStep rules p i h.chip (Sampled pins end) q d → (n : ℕ) → n ≡ h.amount + 1 → IsLocked rules chip_ok shared_ok base t q (slice_set counts i n)
       kept-sampled q d pins end is n e =
           subst (λ (x : PartsValue Shared). IsLocked rules chip_ok shared_ok base t x (slice_set counts i n)) (sym is.3)
           (subst (λ k. IsLocked rules chip_ok shared_ok base t (record p { bounds = raised rules i h.chip p.bounds }) (slice_set counts i k)) (sym e)
@@ -375,14 +375,14 @@ module _ {Chip Shared Pins : Type 0} (rules : Rules Chip Shared Pins) (chip_ok :
           subst (λ (x : PartsValue Shared). IsLocked rules chip_ok shared_ok base t x (slice_set counts i n)) (sym is)
           (subst (λ k. IsLocked rules chip_ok shared_ok base t told (slice_set counts i k)) (sym e) kept-told)
 
-      pub held-performed : (q : PartsValue Shared) (d : Chip) → IsStep rules false p i h.chip Performed q d → (n : ℕ) → n ≡ h.amount + 1 → IsHeld rules chip_ok shared_ok base t (record h { chip = d; due = Advance; amount = n })
+      pub held-performed : (q : PartsValue Shared) (d : Chip) → IsStep rules p i h.chip Performed q d → (n : ℕ) → n ≡ h.amount + 1 → IsHeld rules chip_ok shared_ok base t (record h { chip = d; due = Advance; amount = n })
       held-performed q d is n e =
           subst (λ (x : Chip). IsHeld rules chip_ok shared_ok base t (record h { chip = x; due = Advance; amount = n })) (sym is.3)
           (subst (λ k. IsHeld rules chip_ok shared_ok base t (record h { chip = (rules.perform h.chip p.shared).chip; due = Advance; amount = k })) (sym e)
           (subst (λ (x : HeldValue Chip Pins). IsHeld rules chip_ok shared_ok base t (performed rules p x)) same-held
           (held-access base t told paid_counts kept-told numbered inside-count path-here inside-told booked-told (turn-told is.0) is.1)))
 
-      pub held-sampled : (q : PartsValue Shared) (d : Chip) (pins : Pins) (end : Key) → IsStep rules false p i h.chip (Sampled pins end) q d → (n : ℕ) → n ≡ h.amount + 1
+      pub held-sampled : (q : PartsValue Shared) (d : Chip) (pins : Pins) (end : Key) → IsStep rules p i h.chip (Sampled pins end) q d → (n : ℕ) → n ≡ h.amount + 1
           → IsHeld rules chip_ok shared_ok base t (record h { chip = d; due = Dues.Sample pins end; amount = n })
       held-sampled q d pins end is n e =
           subst (λ (x : Chip). IsHeld rules chip_ok shared_ok base t (record h { chip = x; due = Dues.Sample pins end; amount = n })) (sym is.4)
@@ -410,9 +410,9 @@ module _ {Chip Shared Pins : Type 0} (rules : Rules Chip Shared Pins) (chip_ok :
             booked = omega (arith, all);
           })
 
-      pub held-performed-at : (q : PartsValue Shared) (d : Chip) → IsStep rules false p i h.chip Performed q d → (n : ℕ) → n ≡ h.amount + 1 → IsHeld rules chip_ok shared_ok base t (record h { chip = d; due = Advance; amount = n })
+      pub held-performed-at : (q : PartsValue Shared) (d : Chip) → IsStep rules p i h.chip Performed q d → (n : ℕ) → n ≡ h.amount + 1 → IsHeld rules chip_ok shared_ok base t (record h { chip = d; due = Advance; amount = n })
       held-performed-at = held-performed at.counts at.inside at.booked at.locked
 
-      pub held-sampled-at : (q : PartsValue Shared) (d : Chip) (pins : Pins) (end : Key) → IsStep rules false p i h.chip (Sampled pins end) q d → (n : ℕ) → n ≡ h.amount + 1
+      pub held-sampled-at : (q : PartsValue Shared) (d : Chip) (pins : Pins) (end : Key) → IsStep rules p i h.chip (Sampled pins end) q d → (n : ℕ) → n ≡ h.amount + 1
           → IsHeld rules chip_ok shared_ok base t (record h { chip = d; due = Dues.Sample pins end; amount = n })
       held-sampled-at = held-sampled at.counts at.inside at.booked at.locked

@@ -1,11 +1,28 @@
 -- What the chips that go between the workers have of due work.
+use Rattle.std.specs.Prelude.{◌≡◌, ℕ, Option, IfSome}
+use Rattle.chip_run.specs.Held.{HeldValue}
 use Rattle.chip_run.specs.Places.{AllFree, FreeBut, Places}
 use Rattle.chip_run.specs.declared.desk.Found.{Found}
 use Rattle.chip_run.specs.declared.desk.Found.TheVariants as Founds
 use Rattle.chip_run.specs.declared.leading.Led.{Led}
 use Rattle.chip_run.specs.declared.leading.Led.TheVariants as Leds
+use Rattle.chip_run.specs.declared.leading.Turned.{Turned}
+use Rattle.chip_run.specs.declared.leading.Turned.TheVariants as Turns
+use Rattle.chip_run.specs.declared.held.Due.TheVariants.{Nothing}
 
 module _ {Chip Pins : Type 0} where
+  -- of the chip in a place, if one is there, work may be due where it is dear
+  abbrev pub IsTurnedPlace : Turned → Option (HeldValue Chip Pins) → Type 0
+  IsTurnedPlace Turns.Dear o = Unit {0}
+  IsTurnedPlace Turns.Taken o = IfSome o (λ h. h.due ≡ Nothing)
+  IsTurnedPlace Turns.Away o = IfSome o (λ h. h.due ≡ Nothing)
+
+  -- the same of the chip of this number, and of no other held chip
+  abbrev pub IsTurned : ℕ → Turned → Places Chip Pins → Type 0
+  IsTurned k Turns.Dear hs = FreeBut k hs
+  IsTurned k Turns.Taken hs = AllFree hs
+  IsTurned k Turns.Away hs = AllFree hs
+
   -- the held chips, of which private work may be due where it is dear
   abbrev pub IsLed : Led → Places Chip Pins → Type 0
   IsLed (Leds.Dear k) hs = FreeBut k hs

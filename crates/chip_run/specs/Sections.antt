@@ -87,3 +87,9 @@ pub record IsLockedAt {Chip Shared Pins : Type 0} (rules : Rules Chip Shared Pin
   pub inside : i < length counts
   pub booked : count_of counts i ≡ total
   pub locked : IsLocked rules chip_ok shared_ok base t p counts
+
+-- locked parts stay so, whatever is booked of other chips, where so many moves of this one were booked before
+-- and so many after
+abbrev pub KeepsLocked : {Chip Shared Pins : Type 0} → Rules Chip Shared Pins → (Chip → Type 0) → (Shared → Type 0) → CoreValue Chip Shared → ℕ → ℕ → PartsValue Shared → ℕ → PartsValue Shared → ℕ → Type 0
+KeepsLocked rules chip_ok shared_ok base t i p paid q later =
+    (counts : List ℕ) → i < length counts → count_of counts i ≡ paid → IsLocked rules chip_ok shared_ok base t p counts → IsLocked rules chip_ok shared_ok base t q (slice_set counts i later)

@@ -1,5 +1,5 @@
 -- What the turn of a chip does under the lock.
-use Rattle.std.specs.Prelude.{◌≡◌, ◌≢◌, ℕ, Bool, ◌+◌, ◌<◌, ◌≤◌, true, false, List, [], ◌∷◌, ◌++◌, length, slice_set}
+use Rattle.std.specs.Prelude.{◌≡◌, ◌≢◌, ℕ, ◌+◌, ◌<◌, ◌≤◌, true, false, Option, Some, None, List, [], ◌∷◌, ◌++◌, length, slice_set}
 use Rattle.md_word.specs.declared.event.Next.{Next}
 use Rattle.md_word.specs.declared.key.Key.{Key}
 use Rattle.md_word.specs.Keys.{key_lt}
@@ -63,19 +63,23 @@ module _ {Chip Shared Pins : Type 0} (rules : Rules Chip Shared Pins) where
     journal = p.journal ++ (rules.perform c p.shared).entry ∷ [];
   }
 
-  -- the chip that the locked part of an access left, with its private work done where the whole access
-  -- is made at once
-  abbrev pub left : Bool → Chip → Chip
-  left false c = c
-  left true c = rules.advance c
-
-  -- the locked part of a turn, or of an access the whole, by its answer
-  abbrev pub IsStep : Bool → PartsValue Shared → ℕ → Chip → Step Pins → PartsValue Shared → Chip → Type 0
-  IsStep whole p i c Performed q d =
-      HasTurn p i c × ((rules.next c).sample ≡ false) × (q ≡ after_access p i c) × (d ≡ left whole (rules.perform c p.shared).chip)
-  IsStep whole p i c (Sampled pins end) q d =
+  -- the locked part of a turn, by its answer
+  abbrev pub IsStep : PartsValue Shared → ℕ → Chip → Step Pins → PartsValue Shared → Chip → Type 0
+  IsStep p i c Performed q d =
+      HasTurn p i c × ((rules.next c).sample ≡ false) × (q ≡ after_access p i c) × (d ≡ (rules.perform c p.shared).chip)
+  IsStep p i c (Sampled pins end) q d =
       HasTurn p i c × ((rules.next c).sample ≡ true) × (pins ≡ rules.pins p.shared i) × (q ≡ record p { bounds = raised i c p.bounds }) × (d ≡ c) × IsLeaseEnd q i end
-  IsStep whole p i c (Blocked other bound) q d =
+  IsStep p i c (Blocked other bound) q d =
       ((rules.next c).key.cycle < p.end) × FindsOther (rules.next c) p.bounds i other × (bound ≡ bound_in p.bounds other)
       × (q ≡ record p { bounds = announced i c p.bounds }) × (d ≡ c)
-  IsStep whole p i c Finished q d = (p.end ≤ (rules.next c).key.cycle) × (q ≡ record p { bounds = announced i c p.bounds }) × (d ≡ c)
+  IsStep p i c Finished q d = (p.end ≤ (rules.next c).key.cycle) × (q ≡ record p { bounds = announced i c p.bounds }) × (d ≡ c)
+
+  -- the whole of an access
+  abbrev pub IsAccess : PartsValue Shared → ℕ → Chip → PartsValue Shared → Chip → Type 0
+  IsAccess p i c q d = HasTurn p i c × ((rules.next c).sample ≡ false) × (q ≡ after_access p i c) × (d ≡ rules.advance (rules.perform c p.shared).chip)
+
+  -- the locked parts once the chip is announced, and raised where it has a lease up to this end
+  abbrev pub HasLease : PartsValue Shared → ℕ → Chip → Option Key → PartsValue Shared → Type 0
+  HasLease p i c None q = q ≡ record p { bounds = announced i c p.bounds }
+  HasLease p i c (Some end) q =
+      HasTurn p i c × ((rules.next c).sample ≡ true) × (q ≡ record p { bounds = raised i c p.bounds }) × IsLeaseEnd q i end

@@ -128,7 +128,7 @@ impl<C: ChipSet, N: Named, L0: Ledger, L1: Ledger, L2: Ledger, L3: Ledger, L4: L
 /// Where the worker that takes the turns of all chips, the leader, lays chips whose private work is dear, and
 /// from where helpers take them and lay them back once that work is done.
 ///
-/// The leader sleeps nowhere: he does work that nobody has begun himself. Of the helpers one at most looks for
+/// The leader sleeps nowhere: it does work that nobody has begun itself. Of the helpers one at most looks for
 /// work, and the others sleep.
 #[derive(Drop)]
 pub(crate) struct Desk<

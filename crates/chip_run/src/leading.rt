@@ -1,14 +1,15 @@
-ghost use Rattle.std.specs.Prelude.{◌≡◌, true, false};
-ghost use Rattle.chip_run.specs.Desks.{IsLed};
-ghost use Rattle.chip_run.specs.Places.{AllFree, FreeBut, IsFree};
+ghost use Rattle.std.specs.Prelude.{◌≡◌, IfSome};
+ghost use Rattle.chip_run.specs.Desks.{IsLed, IsTurned, IsTurnedPlace};
+ghost use Rattle.chip_run.specs.Places.{AllFree, HasNumber};
+ghost use Rattle.chip_run.specs.Sections.{IsLockedAt, KeepsLocked};
 ghost use Rattle.chip_run.specs.Steps.{IsLeastBound};
 
-use crate::sweep::turn_of;
-use crate::whole::turn_on;
-use crate::{Helds, Locked, Named, Turn};
+use crate::sections::step_held;
+use crate::whole::turn_held;
+use crate::{Due, Held, Helds, Locked, Named, Parts, Turn};
 use chip_core::ChipSet;
 use std::sync::Wait;
-use std::sync::ledger::Ledger;
+use std::sync::ledger::{Book, Ledger};
 
 /// Why the turns of the held chips stop.
 #[derive(Clone, Copy)]
@@ -21,27 +22,66 @@ pub(crate) enum Led {
     Ended,
 }
 
-/// A section on a held chip, and its private work unless that is dear; answers whether such work is due.
-fn turn<C: ChipSet, N: Named, L0: Ledger, L1: Ledger, L2: Ledger, L3: Ledger, L4: Ledger>(
+/// What became of the turn of the chip of least bound.
+#[derive(Clone, Copy)]
+pub(crate) enum Turned {
+    /// It was taken.
+    Taken,
+    /// It was taken, but for the private work, which is dear.
+    Dear,
+    /// The chip is not held.
+    Away,
+}
+
+/// The turn of the chip in a place, if one is held there.
+fn turn_place<C: ChipSet, N: Named, L: Ledger>(
+    parts: &mut Parts<C>,
+    book: &mut Book<L>,
+    place: &mut Option<Held<C, N, L>>,
+    number: u8,
+) -> Turned
+    requires number { HasNumber number place.old }
+    requires free { IfSome place.old (λ h. h.due ≡ Due.Nothing) }
+    requires whole { L.parts ≡ 1 }
+    requires locked { IsLockedAt C.rules C.chip_ok C.shared_ok (C.core_of N.base) N.end parts.old number book.old.total }
+    requires least { IsLeastBound parts.old number }
+    ensures locked { KeepsLocked C.rules C.chip_ok C.shared_ok (C.core_of N.base) N.end number parts.old book.old.total parts.new book.new.total }
+    ensures room { parts.new.room ≡ parts.old.room }
+    ensures number { HasNumber number place.new }
+    ensures free { IsTurnedPlace result place.new }
+{
+    let Some(held) = place else {
+        return Turned::Away;
+    };
+    if !C::is_dear(&held.chip) {
+        turn_held(parts, book, held, number);
+        return Turned::Taken;
+    }
+    match step_held(parts, book, held, number) {
+        Turn::Moved => return Turned::Dear,
+        Turn::Blocked { other: _, bound: _ } => return Turned::Taken,
+        Turn::Finished => return Turned::Taken,
+    }
+}
+
+/// The turn of the chip of this number, which has the least bound.
+fn turn_on<C: ChipSet, N: Named, L0: Ledger, L1: Ledger, L2: Ledger, L3: Ledger, L4: Ledger>(
     locked: &mut Locked<C, N, L0, L1, L2, L3, L4>,
     helds: &mut Helds<C, N, L0, L1, L2, L3, L4>,
     chip: u8,
-) -> bool
-    requires held { IsFree helds.old chip }
+) -> Turned
     requires free { AllFree helds.old }
     requires least { IsLeastBound locked.old.parts chip }
     requires whole { (L0.parts ≡ 1) × (L1.parts ≡ 1) × (L2.parts ≡ 1) × (L3.parts ≡ 1) × (L4.parts ≡ 1) }
-    ensures due { result ≡ true → FreeBut chip helds.new }
-    ensures free { result ≡ false → AllFree helds.new }
+    ensures { IsTurned chip result helds.new }
 {
-    if !C::is_dear(chip) {
-        turn_on(locked, helds, chip);
-        return false;
-    }
-    match turn_of(locked, helds, chip) {
-        Turn::Moved => return true,
-        Turn::Blocked { other: _, bound: _ } => return false,
-        Turn::Finished => return false,
+    match chip {
+        0 => turn_place(&mut locked.parts, &mut locked.book0, &mut helds.place0, 0),
+        1 => turn_place(&mut locked.parts, &mut locked.book1, &mut helds.place1, 1),
+        2 => turn_place(&mut locked.parts, &mut locked.book2, &mut helds.place2, 2),
+        3 => turn_place(&mut locked.parts, &mut locked.book3, &mut helds.place3, 3),
+        4 => turn_place(&mut locked.parts, &mut locked.book4, &mut helds.place4, 4),
+        _ => Turned::Away,
     }
 }
 
@@ -69,11 +109,10 @@ pub(crate) fn lead<
         let Some(chip) = locked.first() else {
             return Led::Ended;
         };
-        if !helds.has(chip) {
-            return Led::Away;
-        }
-        if turn(locked, helds, chip) {
-            return Led::Dear(chip);
+        match turn_on(locked, helds, chip) {
+            Turned::Taken => {}
+            Turned::Dear => return Led::Dear(chip),
+            Turned::Away => return Led::Away,
         }
     }
     unreachable!()

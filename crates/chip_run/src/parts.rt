@@ -2,7 +2,7 @@ ghost use Rattle.std.specs.Prelude.{◌≡◌, ℕ, ◌+◌, ◌^◌, ◌<◌, �
 ghost use Rattle.md_word.specs.Keys.{key_lt};
 ghost use Rattle.chip_core.specs.Cores.{bound_in, no_key};
 ghost use Rattle.chip_run.specs.Parts.{PartsValue};
-ghost use Rattle.chip_run.specs.Steps.{FindsOther, HasPlaceFor, IsFirst, IsStep, LooksAt, announced, left};
+ghost use Rattle.chip_run.specs.Steps.{FindsOther, HasLease, HasPlaceFor, HasTurn, IsAccess, IsFirst, IsStep, LooksAt, announced};
 
 use crate::step::Step;
 use chip_core::{ChipSet, limit_of};
@@ -57,19 +57,6 @@ fn find_other<C: ChipSet>(next: &Next, bounds: &[Key], number: u8) -> Option<u8>
     None
 }
 
-/// The same where it may be known that there is none.
-#[inline(always)]
-fn blocker<C: ChipSet>(next: &Next, bounds: &[Key], number: u8, first: bool) -> Option<u8>
-    requires few { length bounds.now ≤ 5 }
-    requires first { first ≡ true → IsFirst C.rules next.now bounds.now number }
-    ensures { MatchOption result (IsFirst C.rules next.now bounds.now number) (λ other. FindsOther C.rules next.now bounds.now number other) }
-{
-    if first {
-        return None;
-    }
-    find_other::<C>(next, bounds, number)
-}
-
 /// Whether the chip of this number has announced its next event already.
 #[inline(always)]
 fn is_told(bounds: &[Key], number: u8, key: &Key) -> bool
@@ -78,24 +65,6 @@ fn is_told(bounds: &[Key], number: u8, key: &Key) -> bool
 {
     let bound = &bounds[number as usize];
     bound.cycle == key.cycle && bound.chip == key.chip
-}
-
-/// The locked part of an access, or the whole of it.
-#[inline(always)]
-fn access_of<C: ChipSet>(chip: &mut C::Chip, shared: &mut C::Shared, whole: bool) -> Entry
-    requires access { (C.rules.next chip.old).sample ≡ false }
-    requires cycle { (C.rules.next chip.old).key.cycle < 2 ^ 50 }
-    requires shared { whole ≡ true → C.shared_ok shared.old }
-    ensures chip { chip.new ≡ left C.rules whole (C.rules.perform chip.old shared.old).chip }
-    ensures shared { shared.new ≡ (C.rules.perform chip.old shared.old).shared }
-    ensures entry { result ≡ (C.rules.perform chip.old shared.old).entry }
-{
-    let _known = C::next(chip);
-    if whole {
-        C::access(chip, shared)
-    } else {
-        C::perform(chip, shared)
-    }
 }
 
 impl<C: ChipSet> Parts<C> {
@@ -109,26 +78,22 @@ impl<C: ChipSet> Parts<C> {
         self.bounds[number as usize] = next.key;
     }
 
-    /// Announces the chip, and then makes the locked part of its access, or the whole of it, or reads
-    /// the pins of its sample, where that is its turn.
-    #[inline(always)]
-    pub(crate) fn step(&mut self, chip: &mut C::Chip, number: u8, whole: bool) -> Step<C::Pins>
+    /// Announces the chip, and then makes the locked part of its access, or reads the pins of its sample, where
+    /// that is its turn.
+    pub(crate) fn step(&mut self, chip: &mut C::Chip, number: u8) -> Step<C::Pins>
         requires bounds { length self.old.bounds ≡ C.rules.count }
         requires number { number < C.rules.count }
         requires time { self.old.end ≤ 2 ^ 50 }
         requires place { HasPlaceFor C.rules self.old number chip.old }
-        requires shared { whole ≡ true → C.shared_ok self.old.shared }
-        requires first { whole ≡ true → bound_in self.old.bounds number ≡ (C.rules.next chip.old).key → IsFirst C.rules (C.rules.next chip.old) self.old.bounds number }
-        ensures { IsStep C.rules whole self.old number chip.old result self.new chip.new }
+        ensures { IsStep C.rules self.old number chip.old result self.new chip.new }
     {
         let next = C::next(chip);
         let i = number as usize;
-        let first = whole && is_told(&self.bounds, number, &next.key);
         self.bounds[i] = next.key;
         if next.key.cycle >= self.end {
             return Step::Finished;
         }
-        if let Some(other) = blocker::<C>(&next, &self.bounds, number, first) {
+        if let Some(other) = find_other::<C>(&next, &self.bounds, number) {
             return Step::Blocked {
                 other,
                 bound: self.bounds[other as usize],
@@ -144,8 +109,75 @@ impl<C: ChipSet> Parts<C> {
                 end: limit_of::<C>(&self.bounds, self.end, number),
             };
         }
-        let entry = access_of::<C>(chip, &mut self.shared, whole);
+        let entry = C::perform(chip, &mut self.shared);
         self.journal.push_reserved(entry);
         Step::Performed
+    }
+
+    /// Announces the chip, whose bound is the least, and then makes the whole of its access, where it had
+    /// announced that before; answers whether it did.
+    #[inline(always)]
+    pub(crate) fn access(&mut self, chip: &mut C::Chip, number: u8) -> bool
+        requires bounds { length self.old.bounds ≡ C.rules.count }
+        requires number { number < C.rules.count }
+        requires time { self.old.end ≤ 2 ^ 50 }
+        requires place { HasPlaceFor C.rules self.old number chip.old }
+        requires shared { C.shared_ok self.old.shared }
+        requires turn { bound_in self.old.bounds number ≡ (C.rules.next chip.old).key → HasTurn C.rules self.old number chip.old }
+        ensures made { result ≡ true → IsAccess C.rules self.old number chip.old self.new chip.new }
+        ensures bounds { result ≡ false → self.new ≡ record self.old { bounds = announced C.rules number chip.old self.old.bounds } }
+        ensures chip { result ≡ false → chip.new ≡ chip.old }
+    {
+        let next = C::next(chip);
+        let i = number as usize;
+        let told = is_told(&self.bounds, number, &next.key);
+        self.bounds[i] = next.key;
+        if !told {
+            return false;
+        }
+        if next.sample {
+            return false;
+        }
+        self.bounds[i] = Key {
+            cycle: next.key.cycle + C::gap(number),
+            chip: number,
+        };
+        let entry = C::access(chip, &mut self.shared);
+        self.journal.push_reserved(entry);
+        true
+    }
+
+    /// The input pins of the chip of this number.
+    #[inline(always)]
+    pub(crate) fn pins(&self, number: u8) -> C::Pins
+        ensures { result ≡ C.rules.pins self.now.shared number }
+    {
+        C::pins(&self.shared, number)
+    }
+
+    /// Announces the chip, and raises its bound where its next event is a sample before the end of its lease;
+    /// answers that end.
+    #[inline(always)]
+    pub(crate) fn lease(&mut self, chip: &C::Chip, number: u8) -> Option<Key>
+        requires bounds { length self.old.bounds ≡ C.rules.count }
+        requires number { number < C.rules.count }
+        requires time { self.old.end ≤ 2 ^ 50 }
+        ensures { HasLease C.rules self.old number chip.now result self.new }
+    {
+        let next = C::next(chip);
+        let i = number as usize;
+        self.bounds[i] = next.key;
+        if !next.sample {
+            return None;
+        }
+        let end = limit_of::<C>(&self.bounds, self.end, number);
+        if !next.key.is_below(&end) {
+            return None;
+        }
+        self.bounds[i] = Key {
+            cycle: next.key.cycle + C::gap(number),
+            chip: number,
+        };
+        Some(end)
     }
 }

@@ -1,7 +1,6 @@
-ghost use Rattle.std.specs.Prelude.{◌≡◌, ℕ, ◌<◌, List, length, slice_index_or, slice_set};
-ghost use Rattle.chip_run.specs.Locked.{IsLocked};
+ghost use Rattle.std.specs.Prelude.{◌≡◌};
 ghost use Rattle.chip_run.specs.Places.{IsFree};
-ghost use Rattle.chip_run.specs.Sections.{IsFound, IsLockedAt, IsSection, IsTurn};
+ghost use Rattle.chip_run.specs.Sections.{IsFound, IsLockedAt, IsSection, IsTurn, KeepsLocked};
 
 use crate::step::Step;
 use crate::{Due, Held, Helds, Locked, Named, Parts, Turn};
@@ -20,9 +19,7 @@ pub(crate) fn step_held<C: ChipSet, N: Named, L: Ledger>(
     requires free { held.old.due ≡ Due.Nothing }
     requires whole { L.parts ≡ 1 }
     requires locked { IsLockedAt C.rules C.chip_ok C.shared_ok (C.core_of N.base) N.end parts.old number book.old.total }
-    ensures locked { (counts : List ℕ) → number < length counts → slice_index_or counts number 0 ≡ book.old.total
-        → IsLocked C.rules C.chip_ok C.shared_ok (C.core_of N.base) N.end parts.old counts
-        → IsLocked C.rules C.chip_ok C.shared_ok (C.core_of N.base) N.end parts.new (slice_set counts number book.new.total) }
+    ensures locked { KeepsLocked C.rules C.chip_ok C.shared_ok (C.core_of N.base) N.end number parts.old book.old.total parts.new book.new.total }
     ensures total { book.new.total ≡ held.new.amount }
     ensures found { IsFound C.rules number parts.old held.old book.old.total }
     ensures turn { IsTurn C.rules number parts.old held.old result parts.new held.new }
@@ -30,7 +27,7 @@ pub(crate) fn step_held<C: ChipSet, N: Named, L: Ledger>(
     book.audit(&mut held.share);
     book.add(&mut held.share, held.ahead);
     held.ahead = 0;
-    match parts.step(&mut held.chip, number, false) {
+    match parts.step(&mut held.chip, number) {
         Step::Performed => {
             book.add(&mut held.share, 1);
             held.due = Due::Advance;

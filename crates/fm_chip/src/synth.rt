@@ -159,7 +159,7 @@ impl FmSynth {
     }
 
     /// Whether nothing is heard while nothing is written.
-    fn is_idle(&self) -> bool
+    pub fn is_idle(&self) -> bool
         ensures { result ≡ true → IsIdle self.now }
     {
         if self.registers[CONVERTER] >= 128 {

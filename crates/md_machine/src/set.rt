@@ -113,11 +113,14 @@ impl ChipSet for MdChips {
         writer == 0 || writer == 2
     }
 
-    /// A batch of the FM chip: some microseconds, which nobody waits for before the next one. Between two
-    /// events the others do less than a hand-over takes, and a line to be drawn elsewhere would want a copy of
-    /// the video memory.
-    fn is_dear(chip: u8) -> bool {
-        chip == 3
+    /// A batch of an FM chip that sounds: some microseconds, which nobody waits for before the next one. Between
+    /// two events the others do less than a hand-over takes, and a line to be drawn elsewhere would want a copy
+    /// of the video memory.
+    fn is_dear(chip: &Chip) -> bool {
+        match chip {
+            Chip::Fm(fm) => fm.is_dear(),
+            Chip::Main(_) | Chip::Sub(_) | Chip::Draw(_) | Chip::Psg(_) => false,
+        }
     }
 
     fn gap(chip: u8) -> u64 {

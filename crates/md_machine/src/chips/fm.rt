@@ -102,6 +102,11 @@ impl FmChip {
         self.cycle += BATCH;
     }
 
+    /// Whether the next batch is heard, or may be: it takes many times as long as a silent one.
+    pub(crate) fn is_dear(&self) -> bool {
+        !self.synth.is_idle()
+    }
+
     /// The sums that were made since they were last drained.
     pub(crate) fn samples(&self) -> &[(i32, i32)]
         ensures value { result.now ≡ self.now.samples }
