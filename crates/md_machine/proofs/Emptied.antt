@@ -1,7 +1,6 @@
 -- The machine after its frame, or the samples of a sound chip, were drained.
 use Rattle.std.proofs.Common.{◌≡◌, ℕ, ◌<◌, ◌≤◌, ◌==◌, cond, Bool, true, false, [], length, Some, refl, sym, ap, ◌∙◌, arith, subst, lit<, lit≤, eqb-true}
 use Rattle.std.proofs.lemmas.Bool.{eqb-false}
-use Rattle.std.proofs.lemmas.Bool.Decides.{nat_tests}
 use Rattle.std.specs.Prelude.{slice_set}
 use Rattle.std.proofs.lemmas.List.{get_or-set_other, get_or-set_same}
 use Rattle.md_word.specs.declared.key.Key.{Key}

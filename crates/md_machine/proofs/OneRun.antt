@@ -1,5 +1,5 @@
 -- Two runs from one machine to one cycle are equal.
-use Rattle.std.proofs.Common.{◌≡◌, ℕ, ◌<◌, ◌≤◌, ◌⊎◌, inl, inr, List, sym, ap, ◌∙◌, subst, arith}
+use Rattle.std.proofs.Common.{◌≡◌, ℕ, ◌<◌, ◌≤◌, inl, inr, List, sym, ap, ◌∙◌, subst, arith}
 use Rattle.std.proofs.lemmas.Bool.{cases_lt}
 use Rattle.md_word.specs.declared.event.Entry.{Entry}
 use Rattle.md_machine.specs.Console.{AllBelow, Console, IsRunTo, journal, key_in, media, mover, ran}

@@ -1,8 +1,6 @@
 -- The pads show the recording's words of the frame of which the line behind the picture began last.
 use Rattle.std.proofs.Common.{◌≡◌, ℕ, zero, suc, ◌+◌, ◌-◌, ◌*◌, ◌/◌, ◌%◌, ◌<◌, ◌≤◌, ◌==◌, cond, Bool, true, false, List, refl, sym, ap, ◌∙◌, arith, if◌then◌else◌, ◌⊎◌, inl, inr, eqb-true, le-leb}
-use Rattle.std.specs.Prelude.{nat_le}
 use Rattle.std.proofs.lemmas.Bool.{cases_lt, eqb-false, lt-leb}
-use Rattle.std.proofs.lemmas.Bool.Decides.{nat_tests}
 use Rattle.md_pads.specs.Recording.{Frame, pads_of, Recorded}
 use Rattle.md_word.specs.Clock.{line}
 use Rattle.md_word.specs.Region.{finished_at, frame_cycles, lines, rows}

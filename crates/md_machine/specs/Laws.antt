@@ -1,7 +1,6 @@
 -- What the scheduler asks of the five chips.
 use Rattle.std.specs.Prelude.{◌≡◌, ℕ, ◌^◌, ◌<◌, ◌≤◌, nat_le, Bool, true, false, ◌==◌, refl, List, ◌++◌, length, cond, ◌+◌, ◌||◌, Option, Some, None}
 use Rattle.std.proofs.Common.{arith, sym, length-append, lit<, lit≤, ap, subst, Result, Ok, Err, IfSome, IsTrue, leb-true, true≢false}
-use Rattle.std.proofs.lemmas.Bool.Decides.{nat_tests}
 use Rattle.chip_core.specs.Chips.{Follows, IsDue, Lawful}
 use Rattle.md_word.specs.declared.key.Key.{Key}
 use Rattle.md_word.specs.declared.main_bus.Request68.{Request68}

@@ -1,5 +1,5 @@
 -- The buttons that the pads show during a run.
-use Rattle.std.specs.Prelude.{◌≡◌, ℕ, ◌+◌, ◌-◌, ◌*◌, ◌/◌, List, nat_le, if◌then◌else◌, Bool}
+use Rattle.std.specs.Prelude.{◌≡◌, ℕ, ◌+◌, ◌-◌, ◌*◌, ◌/◌, nat_le, if◌then◌else◌, Bool}
 use Rattle.md_word.specs.Region.{lines, rows}
 use Rattle.md_pads.specs.Recording.{Frame, pads_of, Recorded}
 use Rattle.md_word.specs.Clock.{line}

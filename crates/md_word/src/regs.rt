@@ -49,6 +49,7 @@ impl Regs {
     }
 
     /// Sets the condition codes, and leaves the rest of the status register.
+    #[inline(always)]
     #[tactic(auto, unfolding(crate::specs::Fields::with_flags))]
     pub fn set_flags(&mut self, flags: Flags)
         ensures { self.new ≡ with_flags self.old flags }

@@ -49,6 +49,7 @@ impl MainChip {
         ensures shared { shared.new ≡ (rules.main_perform self.old shared.old).shared }
         ensures entry { result ≡ (rules.main_perform self.old shared.old).entry }
     {
+        shared.known();
         let key = self.chip.next().key;
         let (answer, entry) = shared.carry_out_main(key, self.chip.request());
         self.answer = None;

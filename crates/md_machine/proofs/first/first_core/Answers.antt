@@ -1,4 +1,4 @@
-use Rattle.std.proofs.Common.{◌≡◌, ℕ, Bool, List, [], sym, subst}
+use Rattle.std.proofs.Common.{◌≡◌, ℕ, Bool, List, sym, subst}
 use Rattle.std.specs.Arc.{arc_value}
 use Rattle.md_pads.specs.Recording.{no_frames}
 use Rattle.md_word.specs.declared.key.Key.{Key}
