@@ -93,19 +93,7 @@ module _ {Chip Pins : Type 0} where
   pub keeps-free : (hs hs2 : Places Chip Pins) → Keeps hs hs2 → (i : ℕ) → IsFree hs i → IsFree hs2 i
   keeps-free hs hs2 keep i f = free-at hs2 i keep.free (keeps-some hs hs2 keep i (free-some hs i f))
 
-  -- what is taken out is one place alone
-
-  pub taken-free : (hs one : Places Chip Pins) (w : ℕ) → AllFree hs → place one w ≡ place hs w → ((i : ℕ) → i ≢ w → place one i ≡ None) → AllFree one
-  taken-free hs one w free taken alone i h there = go (same_or i w)
-    where
-      go : (i ≡ w) ⊎ (i ≢ w) → h.due ≡ Nothing
-      go (inl same) = free w h (sym taken ∙ ap (place one) (sym same) ∙ there)
-      go (inr ne) = absurd (none-some h (sym (alone i ne) ∙ there))
-
-  pub taken-held : (hs one : Places Chip Pins) (w : ℕ) → AllFree hs → IsSome (place hs w) → place one w ≡ place hs w → ((i : ℕ) → i ≢ w → place one i ≡ None) → IsFree one w
-  taken-held hs one w free some taken alone = free-at one w (taken-free hs one w free taken alone) (subst (λ (o : Option (HeldValue Chip Pins)). IsSome o) (sym taken) some)
-
-  -- the rest, with a place written
+  -- a place written, where no work is due
   pub set-free : (hs hs2 : Places Chip Pins) (w : ℕ) (o : Option (HeldValue Chip Pins)) → AllFree hs → IfSome o (λ h. h.due ≡ Nothing) → hs2 ≡ slice_set hs w o → AllFree hs2
   set-free hs hs2 w o free ok is i h there = go (same_or i w) (cases_lt w (length hs))
     where
@@ -119,16 +107,6 @@ module _ {Chip Pins : Type 0} where
 
   pub rest-some : (hs hs2 : Places Chip Pins) (w : ℕ) (o : Option (HeldValue Chip Pins)) → hs2 ≡ slice_set hs w o → (i : ℕ) → i ≢ w → IsSome (place hs i) → IsSome (place hs2 i)
   rest-some hs hs2 w o is i ne some = subst (λ (x : Option (HeldValue Chip Pins)). IsSome x) (sym (get_or-set_other hs w i o None ne) ∙ ap (λ xs. place xs i) (sym is)) some
-
-  -- taken out, the rest kept, and put back
-  pub put-keeps : (hs hs1 hs2 hs3 one : Places Chip Pins) (w : ℕ) → IsSome (place hs w) → hs1 ≡ slice_set hs w None → Keeps hs1 hs2 → IsFree one w → hs3 ≡ slice_set hs2 w (place one w) → Keeps hs hs3
-  put-keeps hs hs1 hs2 hs3 one w some left keep f back =
-      let put : hs3 ≡ slice_set hs2 w (Some f.held) = back ∙ ap (slice_set hs2 w) f.there in
-      record {
-        same = ap occupied put ∙ map-set is_there hs2 w (Some f.held) ∙ ap (λ bs. slice_set bs w true) (keep.same ∙ ap occupied left ∙ map-set is_there hs w None)
-            ∙ set-set (occupied hs) w false true ∙ sym (map-set is_there hs w (Some f.held)) ∙ map-set_same is_there hs w (Some f.held) None (sym (some-there (place hs w) some));
-        free = set-free hs2 hs3 w (Some f.held) keep.free f.free put;
-      }
 
 module _ {Chip Shared Pins : Type 0} (rules : Rules Chip Shared Pins) where
   pub round-keeps-moved : (t k : ℕ) (hs hs2 : Places Chip Pins) → Made rules t k (bares hs) (bares hs2) → AllFree hs2 → Keeps hs hs2

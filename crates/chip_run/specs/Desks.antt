@@ -26,7 +26,7 @@ module _ {Chip Pins : Type 0} where
   -- the held chips, of which private work may be due where it is dear
   abbrev pub IsLed : Led → Places Chip Pins → Type 0
   IsLed (Leds.Dear k) hs = FreeBut k hs
-  IsLed Leds.Away hs = AllFree hs
+  IsLed (Leds.Away k) hs = AllFree hs
   IsLed Leds.Ended hs = AllFree hs
 
   -- the held chips with the one that was found on the desk, of which work is due

@@ -139,20 +139,38 @@ impl<C: ChipSet, N: Named, L0: Ledger, L1: Ledger, L2: Ledger, L3: Ledger, L4: L
         // A worker waits for a bound in the first turn of its chip alone, which it then lays on the desk.
         let mut met = false;
         for _ in rt.forever() {
-            met = met || helds.has_all();
+            if !met && helds.has_all() {
+                met = true;
+                desk.close_without(rt, helds);
+            }
             helds.pass_all(self.end, gate);
             match self.turns(rt, helds, !met) {
                 Led::Dear(chip) => desk.lay_due(rt, helds, chip),
-                Led::Away => desk.fetch(rt, helds),
-                Led::Ended => {
-                    if helds.has_all() {
-                        return;
-                    }
-                    desk.fetch(rt, helds);
-                }
+                Led::Away(chip) => desk.fetch(rt, helds, chip),
+                Led::Ended => match helds.missing() {
+                    Some(chip) => desk.fetch(rt, helds, chip),
+                    None => return,
+                },
             }
         }
         unreachable!()
+    }
+
+    /// Makes the next event of a worker's chip, with its private work, unless another has taken that chip.
+    pub(crate) fn begin<R: Wait, G: Gate>(
+        &self,
+        rt: &R,
+        desk: &Desk<C, N, L0, L1, L2, L3, L4>,
+        worker: u8,
+        gate: &G,
+    )
+        requires whole { (L0.parts ≡ 1) × (L1.parts ≡ 1) × (L2.parts ≡ 1) × (L3.parts ≡ 1) × (L4.parts ≡ 1) }
+    {
+        let mut one = Helds::none();
+        if desk.take_waiting(rt, &mut one, worker) {
+            self.wait_turn(rt, &mut one, gate);
+            desk.lay_done(rt, &mut one, worker);
+        }
     }
 
     /// Takes turns until all held chips are finished.

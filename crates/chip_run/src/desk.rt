@@ -16,6 +16,9 @@ const LOOKS: u32 = 20_000;
 /// How often the leader looks for a chip before it lets other threads run.
 const GLANCES: u32 = 1_000;
 
+/// How often it lets them run before it does work of another chip.
+const YIELDS: u32 = 100;
+
 /// What a worker finds on the desk.
 #[derive(Clone, Copy)]
 pub(crate) enum Found {
@@ -33,9 +36,12 @@ struct Laid<C: ChipSet, N: Named, L0: Ledger, L1: Ledger, L2: Ledger, L3: Ledger
     due: Helds<C, N, L0, L1, L2, L3, L4>,
     /// Chips of which none is.
     done: Helds<C, N, L0, L1, L2, L3, L4>,
+    /// Chips of workers that have not begun.
+    waiting: Helds<C, N, L0, L1, L2, L3, L4>,
     /// No more work comes.
     over: bool,
     ghost free: { AllFree done },
+    ghost ready: { AllFree waiting },
 }
 
 impl<C: ChipSet, N: Named, L0: Ledger, L1: Ledger, L2: Ledger, L3: Ledger, L4: Ledger> Laid<
@@ -60,7 +66,7 @@ impl<C: ChipSet, N: Named, L0: Ledger, L1: Ledger, L2: Ledger, L3: Ledger, L4: L
         requires { AllFree helds.old }
         ensures { AllFree helds.new }
     {
-        helds.move_to(&mut self.done, chip);
+        helds.move_free(&mut self.done, chip);
     }
 
     /// Takes the chip of this number, if it lies here and no work of it is due.
@@ -71,7 +77,7 @@ impl<C: ChipSet, N: Named, L0: Ledger, L1: Ledger, L2: Ledger, L3: Ledger, L4: L
         if !self.done.has(chip) {
             return false;
         }
-        self.done.move_to(helds, chip);
+        self.done.move_free(helds, chip);
         true
     }
 
@@ -85,6 +91,26 @@ impl<C: ChipSet, N: Named, L0: Ledger, L1: Ledger, L2: Ledger, L3: Ledger, L4: L
             return false;
         }
         self.due.move_to(helds, chip);
+        true
+    }
+
+    /// Lays down the chip of a worker that has not begun.
+    fn lay_waiting(&mut self, helds: &mut Helds<C, N, L0, L1, L2, L3, L4>, chip: u8)
+        requires { AllFree helds.old }
+        ensures { AllFree helds.new }
+    {
+        helds.move_free(&mut self.waiting, chip);
+    }
+
+    /// Takes the chip of this number, if its worker has not begun.
+    fn take_waiting(&mut self, helds: &mut Helds<C, N, L0, L1, L2, L3, L4>, chip: u8) -> bool
+        requires { AllFree helds.old }
+        ensures { AllFree helds.new }
+    {
+        if !self.waiting.has(chip) {
+            return false;
+        }
+        self.waiting.move_free(helds, chip);
         true
     }
 
@@ -163,6 +189,7 @@ impl<C: ChipSet, N: Named, L0: Ledger, L1: Ledger, L2: Ledger, L3: Ledger, L4: L
             lock: Mutex::new(Laid {
                 due: Helds::none(),
                 done: Helds::none(),
+                waiting: Helds::none(),
                 over: false,
             }),
             work: Condvar::new(),
@@ -239,9 +266,60 @@ impl<C: ChipSet, N: Named, L0: Ledger, L1: Ledger, L2: Ledger, L3: Ledger, L4: L
         laid.take_first(helds)
     }
 
-    /// Takes all chips of which no work is due, or else the first of which work is due, and does it. Where no
-    /// chip lies here, it waits for a moment.
-    pub(crate) fn fetch<R: Wait>(&self, rt: &R, helds: &mut Helds<C, N, L0, L1, L2, L3, L4>)
+    /// Lays down the chip of a worker that has not begun.
+    pub(crate) fn lay_waiting<R: Wait>(
+        &self,
+        rt: &R,
+        helds: &mut Helds<C, N, L0, L1, L2, L3, L4>,
+        chip: u8,
+    )
+        requires { AllFree helds.old }
+        ensures { AllFree helds.new }
+    {
+        let mut guard = self.lock.lock(rt);
+        let laid = &mut *guard;
+        laid.lay_waiting(helds, chip);
+    }
+
+    /// Takes the chip of this number, if its worker has not begun.
+    pub(crate) fn take_waiting<R: Wait>(
+        &self,
+        rt: &R,
+        helds: &mut Helds<C, N, L0, L1, L2, L3, L4>,
+        chip: u8,
+    ) -> bool
+        requires { AllFree helds.old }
+        ensures { AllFree helds.new }
+    {
+        let mut guard = self.lock.lock(rt);
+        let laid = &mut *guard;
+        laid.take_waiting(helds, chip)
+    }
+
+    fn take_due<R: Wait>(
+        &self,
+        rt: &R,
+        helds: &mut Helds<C, N, L0, L1, L2, L3, L4>,
+        chip: u8,
+    ) -> bool
+        requires { AllFree helds.old }
+        ensures found { result ≡ true → FreeBut chip helds.new }
+        ensures none { result ≡ false → AllFree helds.new }
+    {
+        let mut guard = self.lock.lock(rt);
+        let laid = &mut *guard;
+        laid.take_due(helds, chip)
+    }
+
+    /// Takes all chips of which no work is due, or else the chip of this number, whose work is then done, or
+    /// which waits for its worker. Where it does not lie here, it waits for a while, and then does work of
+    /// another chip.
+    pub(crate) fn fetch<R: Wait>(
+        &self,
+        rt: &R,
+        helds: &mut Helds<C, N, L0, L1, L2, L3, L4>,
+        chip: u8,
+    )
         requires { AllFree helds.old }
         ensures { AllFree helds.new }
     {
@@ -249,22 +327,44 @@ impl<C: ChipSet, N: Named, L0: Ledger, L1: Ledger, L2: Ledger, L3: Ledger, L4: L
         if self.take_all(rt, helds) {
             return;
         }
+        if self.take_due(rt, helds, chip) {
+            helds.settle(chip);
+            return;
+        }
+        if self.take_waiting(rt, helds, chip) {
+            return;
+        }
+        if self.glance(seen) {
+            return;
+        }
         match self.take_first(rt, helds) {
-            Found::Chip(chip) => helds.settle(chip),
-            Found::Nothing => self.glance(seen),
-            Found::Over => self.glance(seen),
+            Found::Chip(other) => helds.settle(other),
+            Found::Nothing => {}
+            Found::Over => {}
         }
     }
 
-    /// Looks for a change after so many for a moment, and then lets other threads run.
-    fn glance(&self, seen: u64) {
+    /// Looks for a change after so many for a while, and lets other threads run meanwhile; answers whether one
+    /// came.
+    fn glance(&self, seen: u64) -> bool {
         for _ in 0..GLANCES {
             if self.changes.load(Ordering::SeqCst) != seen {
-                return;
+                return true;
             }
             spin_loop();
         }
-        yield_now();
+        self.give_way(seen)
+    }
+
+    /// Lets other threads run, again and again, until a change comes after so many; answers whether one came.
+    fn give_way(&self, seen: u64) -> bool {
+        for _ in 0..YIELDS {
+            yield_now();
+            if self.changes.load(Ordering::SeqCst) != seen {
+                return true;
+            }
+        }
+        false
     }
 
     /// Does due private work until no more comes.
@@ -305,6 +405,13 @@ impl<C: ChipSet, N: Named, L0: Ledger, L1: Ledger, L2: Ledger, L3: Ledger, L4: L
                 return;
             }
             spin_loop();
+        }
+    }
+
+    /// Tells all helpers that no more work comes, where the work of no held chip is dear.
+    pub(crate) fn close_without<R: Wait>(&self, rt: &R, helds: &Helds<C, N, L0, L1, L2, L3, L4>) {
+        if helds.dear() == 0 {
+            self.close(rt);
         }
     }
 

@@ -1,7 +1,7 @@
 ghost use Rattle.std.specs.Option.{option_map};
-ghost use Rattle.std.specs.Prelude.{◌≡◌, ◌≢◌, ℕ, ◌<◌, ◌↔◌, IsTrue, IsSome, IfSome, List, [], ◌∷◌, Option, None, length, slice_set};
+ghost use Rattle.std.specs.Prelude.{◌≡◌, ℕ, ◌<◌, ◌≤◌, ◌↔◌, IsTrue, IsSome, IfNone, IfSome, List, [], ◌∷◌, Option, None, length, slice_set};
 ghost use Rattle.chip_run.specs.Held.{HeldValue, IsHeld};
-ghost use Rattle.chip_run.specs.Places.{AreOnPaths, HasNumber, place};
+ghost use Rattle.chip_run.specs.Places.{AllFree, AreOnPaths, HasNumber, place};
 ghost use Rattle.chip_run.specs.Rounds.{SettlesAt, bare, bares};
 
 use crate::{Held, Named};
@@ -9,7 +9,6 @@ use chip_core::ChipSet;
 use md_outer::Gate;
 use md_word::Key;
 use std::marker::Model;
-use std::mem::swap;
 use std::sync::ledger::Ledger;
 
 /// The chips of one run that one worker holds, at most one per number.
@@ -79,43 +78,32 @@ impl<C: ChipSet, N: Named, L0: Ledger, L1: Ledger, L2: Ledger, L3: Ledger, L4: L
         }
     }
 
-    /// Whether all chips of the set are held.
-    pub(crate) fn has_all(&self) -> bool
-        ensures { IsTrue result ↔ ((i : ℕ) → i < C.rules.count → IsSome (place self.now i)) }
+    /// The first number of a chip that is not held.
+    pub(crate) fn missing(&self) -> Option<u8>
+        ensures { IfNone result ((i : ℕ) → i < C.rules.count → IsSome (place self.now i)) }
     {
         for chip in 0..C::count() {
             if !self.has(chip) {
-                return false;
+                return Some(chip);
             }
         }
-        true
+        None
     }
 
-    /// Swaps the places of this number.
-    fn swap_places(&mut self, other: &mut Self, chip: u8)
-        ensures here { self.new ≡ slice_set self.old chip (place other.old chip) }
-        ensures there { other.new ≡ slice_set other.old chip (place self.old chip) }
-    {
-        match chip {
-            0 => swap(&mut self.place0, &mut other.place0),
-            1 => swap(&mut self.place1, &mut other.place1),
-            2 => swap(&mut self.place2, &mut other.place2),
-            3 => swap(&mut self.place3, &mut other.place3),
-            4 => swap(&mut self.place4, &mut other.place4),
-            _ => {}
-        }
+    /// Whether all chips of the set are held.
+    pub(crate) fn has_all(&self) -> bool {
+        self.missing().is_none()
     }
 
-    /// Takes out the chip of this number, to be held alone.
-    pub(crate) fn take_out(&mut self, chip: u8) -> Self
-        ensures left { self.new ≡ slice_set self.old chip None }
-        ensures taken { place result chip ≡ place self.old chip }
-        ensures alone { (i : ℕ) → i ≢ chip → place result i ≡ None }
+    /// Of how many held chips the next private work is dear.
+    pub(crate) fn dear(&self) -> u8
+        ensures { result ≤ 5 }
     {
-        let _places = self.places();
-        let mut one = Helds::none();
-        self.swap_places(&mut one, chip);
-        one
+        dear_in(&self.place0)
+            + dear_in(&self.place1)
+            + dear_in(&self.place2)
+            + dear_in(&self.place3)
+            + dear_in(&self.place4)
     }
 
     /// Moves the chip of this number to the same place of another holder.
@@ -133,11 +121,14 @@ impl<C: ChipSet, N: Named, L0: Ledger, L1: Ledger, L2: Ledger, L3: Ledger, L4: L
         }
     }
 
-    /// Puts back the chip of this number.
-    pub(crate) fn put_back(&mut self, chip: u8, mut one: Self)
-        ensures { self.new ≡ slice_set self.old chip (place one chip) }
+    /// The same between two of whose chips no work is due.
+    pub(crate) fn move_free(&mut self, other: &mut Self, chip: u8)
+        requires here { AllFree self.old }
+        requires there { AllFree other.old }
+        ensures left { AllFree self.new }
+        ensures moved { AllFree other.new }
     {
-        self.swap_places(&mut one, chip);
+        self.move_to(other, chip);
     }
 
     /// Tells where the held chips are.
@@ -190,6 +181,17 @@ impl<C: ChipSet, N: Named, L0: Ledger, L1: Ledger, L2: Ledger, L3: Ledger, L4: L
         pass_place(&mut self.place3, end, gate);
         pass_place(&mut self.place4, end, gate);
     }
+}
+
+fn dear_in<C: ChipSet, N: Named, L: Ledger>(held: &Option<Held<C, N, L>>) -> u8
+    ensures { result ≤ 1 }
+{
+    if let Some(held) = held
+        && C::is_dear(&held.chip)
+    {
+        return 1;
+    }
+    0
 }
 
 fn know_place<C: ChipSet, N: Named, L: Ledger>(held: &Option<Held<C, N, L>>)

@@ -16,8 +16,8 @@ use std::sync::ledger::{Book, Ledger};
 pub(crate) enum Led {
     /// The chip of this number made its event, but for its private work, which is dear.
     Dear(u8),
-    /// The chip of least bound is not held.
-    Away,
+    /// The chip of this number, that of least bound, is not held.
+    Away(u8),
     /// No bound lies below the run's end.
     Ended,
 }
@@ -112,7 +112,7 @@ pub(crate) fn lead<
         match turn_on(locked, helds, chip) {
             Turned::Taken => {}
             Turned::Dear => return Led::Dear(chip),
-            Turned::Away => return Led::Away,
+            Turned::Away => return Led::Away(chip),
         }
     }
     unreachable!()

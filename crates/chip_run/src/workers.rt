@@ -11,23 +11,14 @@ use std::sync::Wait;
 use std::sync::atomic::{AtomicBool, Ordering};
 use std::sync::ledger::Ledger;
 use std::thread;
-use std::thread::{Promise, Scope, Threads};
+use std::thread::{Scope, Threads};
 
-/// The promise that of no chip that comes back work is due.
-#[derive(Clone, Copy, Drop)]
-struct GivesBack;
-
-impl<C: ChipSet, N: Named, L0: Ledger, L1: Ledger, L2: Ledger, L3: Ledger, L4: Ledger> Promise<
-    Helds<C, N, L0, L1, L2, L3, L4>,
-> for GivesBack {
-    ghost kept_by = { λ p h. AllFree h };
-}
-
-/// Starts a thread for each worker below the last, with the chip of its number, and takes the turns of the
-/// other chips, and of each thread's chip once it lies on the desk: a thread makes its chip's next event with
-/// its private work, and then helps.
+/// Starts a thread for each worker below the last, whose chip lies on the desk until it begins, and takes the
+/// turns of the other chips, and of each thread's chip once it lies on the desk: a thread makes its chip's next
+/// event with its private work, and then helps.
 ///
-/// The chip of a thread that is refused comes back unserved, and is served with the others.
+/// A chip that comes to be the next before its thread has begun is taken from the desk, so that nobody waits for
+/// a thread to start. So is that of a thread that is refused.
 fn spread<
     's,
     E,
@@ -62,39 +53,52 @@ fn spread<
         desk.close(rt);
         return;
     }
-    let one = helds.take_out(worker);
+    desk.lay_waiting(rt, helds, worker);
     let alone = &refused[worker as usize];
-    let job = move || -> Helds<C, N, L0, L1, L2, L3, L4>
-        requires { (L0.parts ≡ 1) × (L1.parts ≡ 1) × (L2.parts ≡ 1) × (L3.parts ≡ 1) × (L4.parts ≡ 1) × AllFree one }
-        ensures { AllFree result }
+    let job = move || -> ()
+        requires { (L0.parts ≡ 1) × (L1.parts ≡ 1) × (L2.parts ≡ 1) × (L3.parts ≡ 1) × (L4.parts ≡ 1) }
     {
-        let mut one = one;
+        let _ = &worker;
         if !alone.load(Ordering::SeqCst) {
-            bus.wait_turn(rt, &mut one, gate);
-            desk.lay_done(rt, &mut one, worker);
+            bus.begin(rt, desk, worker, gate);
             desk.help(rt);
         }
-        one
     };
-    match scope.spawn_with(GivesBack, job) {
+    match scope.spawn(job) {
         Ok(child) => {
             spread(scope, rt, bus, desk, gate, refused, helds, worker + 1, last);
-            let _none = child.join(rt);
+            child.join(rt);
         }
         Err(back) => {
             alone.store(true, Ordering::SeqCst);
-            helds.put_back(worker, (back.value)());
+            (back.value)();
             spread(scope, rt, bus, desk, gate, refused, helds, worker + 1, last);
         }
     }
 }
 
+/// How many threads help: no more than there are chips whose work is dear, but one at least.
+fn threads(workers: u32, dear: u8) -> u8
+    requires few { workers ≤ 5 }
+    requires some { 1 ≤ workers }
+    ensures { result < workers }
+{
+    let others = (workers - 1) as u8;
+    if others < dear {
+        return others;
+    }
+    if dear == 0 && others > 0 {
+        return 1;
+    }
+    dear
+}
+
 /// Runs all chips to the run's end with so many workers, of which the caller is the last.
 ///
-/// Each other worker is a thread of its own, and begins with the chip of its number, as the caller does with
-/// the rest, and with the chip of each thread that the system refuses to start. Once a thread has made its
-/// chip's next event, the caller takes that chip's turns too, and the thread helps him with private work that
-/// is dear.
+/// The others are threads of their own, of which no more start than there are chips whose work is dear, but one
+/// at least. Each begins with the chip of its number, as the caller does with the rest, unless the caller comes
+/// to that chip first. From there the caller takes that chip's turns too, and the thread helps it with private
+/// work that is dear.
 pub fn work<
     C: ChipSet,
     N: Named,
@@ -130,7 +134,7 @@ pub fn work<
         AtomicBool::new(false),
     ];
     let refused = flags.as_slice();
-    let last = (workers - 1) as u8;
+    let last = threads(workers, helds.dear());
     let all = replace(helds, Helds::none());
     *helds = thread::scope(
         thread::scope_env(),
