@@ -332,10 +332,10 @@ fn writes_to_the_psg(rt: HostRuntime) -> Result<(), Fail> {
 }
 
 /// The kind, the address and the value of an entry.
-type Told = (u8, u32, u16);
+type EntryParts = (u8, u32, u16);
 
 // How the journal tells each kind of access.
-const TOLD: [(Request68, Told); 7] = [
+const TOLD: [(Request68, EntryParts); 7] = [
     (Request68::Read8(0xa1_0001), (0, 0xa1_0001, 0xa0)),
     (Request68::Read16(0xa1_0000), (1, 0xa1_0000, 0xa0a0)),
     (Request68::Read16(0xc0_0018), (1, 0xc0_0018, 0xffff)),
@@ -346,7 +346,7 @@ const TOLD: [(Request68, Told); 7] = [
 ];
 
 /// The first access that is told otherwise.
-fn first_told_wrong(shared: &mut Shared) -> Option<Told> {
+fn first_told_wrong(shared: &mut Shared) -> Option<EntryParts> {
     for (request, want) in TOLD {
         let (_, entry) = main(shared, 28, request);
         if (entry.kind, entry.address, entry.value) != want {

@@ -106,10 +106,10 @@ fn the_chip_stands_behind_the_grant(rt: HostRuntime) -> Result<(), Fail> {
 
 /// A write that a batch of the FM synthesis was handed: its cycle, its chip, and its port, register and
 /// value.
-type Write = (u64, u8, u8, u8, u8);
+type HandedWrite = (u64, u8, u8, u8, u8);
 
 /// The fields of the writes of a list.
-fn writes_of(alloc: Global, list: &FmList) -> Result<Vec<Write>, Fail> {
+fn writes_of(alloc: Global, list: &FmList) -> Result<Vec<HandedWrite>, Fail> {
     let mut writes = Vec::new(alloc);
     for write in list.as_slice() {
         let key = write.key;
@@ -119,7 +119,12 @@ fn writes_of(alloc: Global, list: &FmList) -> Result<Vec<Write>, Fail> {
 }
 
 /// Whether the batch at a cycle is handed these writes, and its entry tells their number.
-fn is_handed(shared: &mut Shared, alloc: Global, cycle: u32, want: &[Write]) -> Result<bool, Fail> {
+fn is_handed(
+    shared: &mut Shared,
+    alloc: Global,
+    cycle: u32,
+    want: &[HandedWrite],
+) -> Result<bool, Fail> {
     let list = Request::Fm(Box::new(alloc, FmList::new())?);
     let (answer, entry) = carry_out(shared, key_of(cycle, 3), list);
     let told = usize::from(entry.value) == want.len() && entry.address == cycle / 16_128;
@@ -141,14 +146,14 @@ fn write_all(shared: &mut Shared) {
     write(shared, 16_128, 1, 0x12);
 }
 
-const FIRST_BATCH: [Write; 4] = [
+const FIRST_BATCH: [HandedWrite; 4] = [
     (1_028, 0, 0, 0x30, 0x71),
     (1_145, 1, 1, 0xb4, 0xc0),
     (1_228, 0, 1, 0xb6, 0x80),
     (1_300, 0, 2, 0, 0),
 ];
 
-const SECOND_BATCH: [Write; 1] = [(16_128, 0, 0, 0, 0x12)];
+const SECOND_BATCH: [HandedWrite; 1] = [(16_128, 0, 0, 0, 0x12)];
 
 // Addresses 0 and 2 latch a register of port 0 and 1; 1 and 3 write it. A word is written by its upper
 // byte. The batch takes what is stamped below it; a reset is a write of port 2.

@@ -84,7 +84,7 @@ fn taken_back(shared: &mut Shared, cycle: u32) -> Option<Moved> {
 }
 
 /// What comes of a yield and a take while the line is set, and of a take while it is clear.
-fn moved(shared: &mut Shared, parcel: Parcel) -> [Option<Moved>; 3] {
+fn all_moved(shared: &mut Shared, parcel: Parcel) -> [Option<Moved>; 3] {
     main(shared, 84, Request68::Write8(0xa1_1100, 1));
     let (_, kept) = yielded(shared, 120, parcel);
     let none = taken_back(shared, 225);
@@ -102,7 +102,7 @@ fn ram_moves_where_the_line_says_so(rt: HostRuntime) -> Result<(), Fail> {
         return Err(Fail::from("the RAM was kept"));
     };
     let want = [Some((false, 8, 1)), Some((false, 9, 0)), Some((true, 9, 1))];
-    assert!(rt; moved(&mut shared, parcel) == want);
+    assert!(rt; all_moved(&mut shared, parcel) == want);
     Ok(())
 }
 
