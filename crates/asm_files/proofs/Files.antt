@@ -1,10 +1,10 @@
 -- Two files that are begun and then written.
-use Rattle.std.proofs.Common.{◌≡◌, ◌∙◌, ◌≤◌, List, ℕ, [], ◌++◌, ◌⊎◌, inl, inr, Bool, true, false, cond, Option, Some, None, ap, refl, sym, subst, length, append-nil, append_assoc}
+use Rattle.std.proofs.Common.{◌≡◌, ◌∙◌, ◌≤◌, List, ℕ, [], ◌++◌, ◌⊎◌, inl, inr, true, false, Option, Some, None, ap, refl, sym, subst, length, append_assoc}
 use Rattle.std.specs.Prelude.{IsSome}
 use Rattle.std.specs.Str.{bytes_eq}
-use Rattle.std.proofs.lemmas.Slice.Eq.{bytes_eq-Decides}
 use Rattle.std.proofs.lemmas.Bool.{not-true}
 use Rattle.md_outer.specs.Outside.{DepotState, Files, GoesOn, IsPrefix, bytes_of, with_file}
+use Rattle.md_outer.proofs.WrittenFiles.{bytes_of-with_file, file-longer, with_file-comm, with_file-with_file}
 use Rattle.md_args.specs.Words.{Assembling, differ}
 use Rattle.md_asm.specs.Assembly.{Done, assembly}
 use Rattle.md_asm.specs.declared.placed.Placed.{Placed}
@@ -15,68 +15,32 @@ use Rattle.asm_files.specs.Lists.{list_of}
 use Rattle.asm_files.specs.declared.comes.Comes.{Comes}
 use Rattle.asm_files.specs.declared.comes.Comes.TheVariants.{Made, Unread, TooLong, Refused, Unwritten, Unlisted, NoMemory}
 
--- ---- one file
-
-cond-cond : {A : Type 0} (b : Bool) (x y z : A) → cond b x (cond b y z) ≡ cond b x z
-cond-cond true x y z = refl
-cond-cond false x y z = refl
-
-twice : (files : Files) (name first second : List ℕ) → with_file (with_file files name first) name second ≡ with_file files name second
-twice files name first second i other = cond-cond (bytes_eq name other) (Some second) (Some first) (files other) i
-
-held : (files : Files) (name bytes : List ℕ) → bytes_of (with_file files name bytes) name ≡ bytes
-held files name bytes = rw ((bytes_eq-Decides name name).1 refl) refl
-
 -- ---- two files
-
-both_not : (a b other : List ℕ) → bytes_eq a b ≡ false → bytes_eq a other ≡ true → bytes_eq b other ≡ true → ⊥
-both_not a b other differ is is' =
-    let first = (bytes_eq-Decides a other).0 is in
-    let second = (bytes_eq-Decides b other).0 is' in
-    let same : bytes_eq a b ≡ true = (bytes_eq-Decides a b).1 (first ∙ sym second) in
-    cc
-
-cond-comm : {A : Type 0} (p q : Bool) (x y z : A) → (p ≡ true → q ≡ true → ⊥) → cond q y (cond p x z) ≡ cond p x (cond q y z)
-cond-comm true true x y z apart = absurd (apart refl refl)
-cond-comm true false x y z apart = refl
-cond-comm false true x y z apart = refl
-cond-comm false false x y z apart = refl
-
-swapped : (files : Files) (a b x y : List ℕ) → bytes_eq a b ≡ false → with_file (with_file files a x) b y ≡ with_file (with_file files b y) a x
-swapped files a b x y differ i other =
-    cond-comm (bytes_eq a other) (bytes_eq b other) (Some x) (Some y) (files other) (both_not a b other differ) i
 
 -- the output holds what was begun, whatever list was begun behind it
 output_kept : (files : Files) (a b x y : List ℕ) → bytes_eq a b ≡ false → bytes_of (with_file (with_file files a x) b y) a ≡ x
-output_kept files a b x y differ = ap (λ (f : Files). bytes_of f a) (swapped files a b x y differ) ∙ held (with_file files b y) a x
+output_kept files a b x y differ = ap (λ (f : Files). bytes_of f a) (with_file-comm files a b x y differ) ∙ bytes_of-with_file (with_file files b y) a x
 
 -- a piece is appended to the output, behind which the list was begun
 pub output_more : (files begun new : Files) (output : List ℕ) (list : Option (List ℕ)) (piece : List ℕ) → differ (Some output) list ≡ true
     → begun ≡ with_list list (with_file files output []) [] → new ≡ with_file begun output (bytes_of begun output ++ piece)
     → new ≡ with_list list (with_file files output piece) []
-output_more files begun new output None piece differ is more =
-    more ∙ ap (λ (f : Files). with_file f output (bytes_of f output ++ piece)) is
-    ∙ ap (λ (l : List ℕ). with_file (with_file files output []) output (l ++ piece)) (held files output []) ∙ twice files output [] piece
+output_more files begun new output None piece differ is more = file-longer files begun new output [] piece is more
 output_more files begun new output (Some name) piece differ is more =
     let apart = not-true (bytes_eq output name) differ in
     more ∙ ap (λ (f : Files). with_file f output (bytes_of f output ++ piece)) is
     ∙ ap (λ (l : List ℕ). with_file (with_file (with_file files output []) name []) output (l ++ piece)) (output_kept files output name [] [] apart)
-    ∙ ap (λ (f : Files). with_file f output piece) (swapped files output name [] [] apart)
-    ∙ twice (with_file files name []) output [] piece ∙ sym (swapped files output name piece [] apart)
+    ∙ ap (λ (f : Files). with_file f output piece) (with_file-comm files output name [] [] apart)
+    ∙ with_file-with_file (with_file files name []) output [] piece ∙ sym (with_file-comm files output name piece [] apart)
 
 -- a piece is appended to the list
 pub list_more : (files written new : Files) (list : Option (List ℕ)) (piece : List ℕ)
     → written ≡ with_list list files [] → new ≡ with_more list written piece → new ≡ with_list list files piece
 list_more files written new None piece is more = more ∙ is
-list_more files written new (Some name) piece is more =
-    more ∙ ap (λ (f : Files). with_file f name (bytes_of f name ++ piece)) is
-    ∙ ap (λ (l : List ℕ). with_file (with_file files name []) name (l ++ piece)) (held files name []) ∙ twice files name [] piece
+list_more files written new (Some name) piece is more = file-longer files written new name [] piece is more
 
 pub front : (whole : List ℕ) → IsPrefix [] whole
 front whole = (whole, refl)
-
-pub all_of : (whole : List ℕ) → IsPrefix whole whole
-all_of whole = ([], append-nil whole)
 
 -- ---- what is begun
 

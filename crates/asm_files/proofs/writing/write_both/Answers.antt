@@ -1,7 +1,8 @@
-use Rattle.std.proofs.Common.{◌≡◌, ◌∙◌, ap, sym, inl, inr, rules}
+use Rattle.std.proofs.Common.{inr}
 use Rattle.std.specs.Option.{option_copied}
 use Rattle.md_args.specs.Shown.{shown_assembling}
-use Rattle.asm_files.proofs.Files.{all_of, begun_on, first_on, image_part, list_piece}
+use Rattle.md_outer.proofs.WrittenFiles.{prefix-self}
+use Rattle.asm_files.proofs.Files.{begun_on, first_on, image_part, list_piece}
 use Rattle.asm_files.proofs.writing.write_both.Goals as goal
 
 pub append_list-requires : goal.append_list-requires
@@ -36,7 +37,7 @@ returns-in-Err-append_list-clause-files g c = λ t.
     (inr (
       c.args.image.now,
       part.0,
-      all_of c.args.image.now,
+      prefix-self c.args.image.now,
       part.1,
       list_piece words (g.D.Depot.state c.args.depot.now).files (g.D.Depot.state c.begin.new.self).files (g.D.Depot.state c.begin_list.new.depot).files
           (g.D.Depot.state c.append.new.self).files (g.D.Depot.state c.append_list.new.depot).files c.args.image.now part.0
