@@ -3,7 +3,8 @@ use Rattle.std.proofs.Common.{◌≡◌, ℕ, ℤ, pos, negsuc, ◌+◌, ◌-◌
 use Rattle.std.proofs.lemmas.Bool.Decides.{nat_tests}
 use Rattle.std.proofs.lemmas.Int.{ints}
 use Rattle.md_word.proofs.Below.{bit_below}
-use Rattle.md_word.specs.Width.{bit, word_of}
+use Rattle.md_word.specs.Coding.{flag_number}
+use Rattle.md_word.specs.Width.{word_of}
 use Rattle.md_word.specs.declared.flags.Flags.{Flags}
 use Rattle.m68k_alu.specs.declared.out.Out.{Out}
 use Rattle.m68k_alu.specs.Decimal.{AddsDecimals, IsDecimal, SubtractsDecimals, decimal, decimal_added, decimal_difference, decimal_subtracted, decimal_value, digit_difference, digit_sum, low_difference, low_sum}
@@ -22,7 +23,7 @@ sum_by : (a b x t s : ℕ) (low high : Bool) → x ≤ 1 → IsDecimal a → IsD
     → s ≡ a % 16 + b % 16 + x → Below low 9 s
     → t ≡ a - a % 16 + (b - b % 16) + (if low then s + 6 else s) → Below high 0x9f t
     → IsDecimal ((if high then t + 0x60 else t) % 0x100)
-    × (decimal_value ((if high then t + 0x60 else t) % 0x100) + 100 * bit high ≡ decimal_value a + decimal_value b + x)
+    × (decimal_value ((if high then t + 0x60 else t) % 0x100) + 100 * flag_number high ≡ decimal_value a + decimal_value b + x)
 sum_by a b x t s false false h p q d l e u = (record { upper = omega arith; lower = omega arith }, omega arith)
 sum_by a b x t s true false h p q d l e u = (record { upper = omega arith; lower = omega arith }, omega arith)
 sum_by a b x t s false true h p q d l e u = (record { upper = omega arith; lower = omega arith }, omega arith)
@@ -32,9 +33,9 @@ pub adds : (source target : ℕ) (flags : Flags) (out : Out) → out ≡ decimal
     → IsDecimal source → IsDecimal target → AddsDecimals source target flags.x out
 unfolding decimal_added decimal digit_sum low_sum
 adds source target flags out e p q =
-    let s : ℕ = target % 16 + source % 16 + bit flags.x in
+    let s : ℕ = target % 16 + source % 16 + flag_number flags.x in
     let t : ℕ = digit_sum source target flags.x in
-    let both = sum_by target source (bit flags.x) t s (nat_lt 9 s) (nat_lt 0x9f t) (bit_below flags.x) q p refl (below_by 9 s _ refl) refl (below_by 0x9f t _ refl) in
+    let both = sum_by target source (flag_number flags.x) t s (nat_lt 9 s) (nat_lt 0x9f t) (bit_below flags.x) q p refl (below_by 9 s _ refl) refl (below_by 0x9f t _ refl) in
     rw e (record { digits = both.0; sum = both.1 })
 
 not_below : (s : ℕ) → nat_lt s 0 ≡ false
@@ -43,7 +44,7 @@ not_below s = grind (arith, nat_tests)
 -- a byte of so much less, 6 less where the lower digits borrow, 160 more where the whole does
 difference_is : (a b x v : ℕ) (low high : Bool) → x ≤ 1 → IsDecimal a → IsDecimal b → Below low (a % 16) (b % 16 + x) → Below high a (b + x)
     → v + b + x + (if low then 6 else 0) ≡ a + (if high then 160 else 0)
-    → IsDecimal v × (decimal_value v + decimal_value b + x ≡ decimal_value a + 100 * bit high)
+    → IsDecimal v × (decimal_value v + decimal_value b + x ≡ decimal_value a + 100 * flag_number high)
 difference_is a b x v false false h p q l u e = (record { upper = omega arith; lower = omega arith }, omega arith)
 difference_is a b x v true false h p q l u e = (record { upper = omega arith; lower = omega arith }, omega arith)
 difference_is a b x v false true h p q l u e = (record { upper = omega arith; lower = omega arith }, omega arith)
@@ -56,7 +57,7 @@ difference_by : (a b x : ℕ) (s z : ℤ) (high : Bool) → x ≤ 1 → IsDecima
     if high then pos (a - a % 16) -ℤ pos (b - b % 16) +ℤ (if int_lt s (pos 0) then s -ℤ pos 6 else s) -ℤ pos 0x60
     else pos (a - a % 16) -ℤ pos (b - b % 16) +ℤ (if int_lt s (pos 0) then s -ℤ pos 6 else s)
     )
-    → IsDecimal (word_of 0x100 z) × (decimal_value (word_of 0x100 z) + decimal_value b + x ≡ decimal_value a + 100 * bit high)
+    → IsDecimal (word_of 0x100 z) × (decimal_value (word_of 0x100 z) + decimal_value b + x ≡ decimal_value a + 100 * flag_number high)
 difference_by a b x (pos s) (pos z) true h p q d u e = absurd (let f = rw (not_below s) at e in omega (arith, ints))
 difference_by a b x (pos s) (negsuc z) true h p q d u e = difference_is a b x _ false true h p q (omega (arith, ints)) u (let f = rw (not_below s) at e in omega (arith, ints))
 difference_by a b x (negsuc s) (pos z) true h p q d u e = absurd (omega (arith, ints))
@@ -70,9 +71,9 @@ pub subtracts : (source target : ℕ) (flags : Flags) (out : Out) → out ≡ de
     → IsDecimal source → IsDecimal target → SubtractsDecimals source target flags.x out
 unfolding decimal_subtracted decimal decimal_difference digit_difference low_difference
 subtracts source target flags out e p q =
-    let s : ℤ = pos (target % 16) -ℤ pos (source % 16) -ℤ pos (bit flags.x) in
+    let s : ℤ = pos (target % 16) -ℤ pos (source % 16) -ℤ pos (flag_number flags.x) in
     let t : ℤ = digit_difference source target flags.x in
-    let both = difference_by target source (bit flags.x) s (if nat_lt target (source + bit flags.x) then t -ℤ pos 0x60 else t) (nat_lt target (source + bit flags.x)) (bit_below flags.x) q p refl (below_by target (source + bit flags.x) _ refl) refl in
+    let both = difference_by target source (flag_number flags.x) s (if nat_lt target (source + flag_number flags.x) then t -ℤ pos 0x60 else t) (nat_lt target (source + flag_number flags.x)) (bit_below flags.x) q p refl (below_by target (source + flag_number flags.x) _ refl) refl in
     rw e (record { digits = both.0; difference = both.1 })
 
 pub negates : (target : ℕ) (flags : Flags) (out : Out) → out ≡ decimal_subtracted target 0 flags

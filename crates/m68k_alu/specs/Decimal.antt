@@ -2,7 +2,8 @@
 -- M68000 Programmer's Reference Manual, section 4: ABCD, SBCD, NBCD; for bytes that are no digits,
 -- this project's profile.
 use Rattle.std.specs.Prelude.{◌≡◌, ℕ, ℤ, pos, ◌+◌, ◌-◌, ◌*◌, ◌/◌, ◌%◌, ◌<◌, ◌+ℤ◌, ◌-ℤ◌, Bool, nat_lt, int_lt, ◌==◌, ◌&&◌, if◌then◌else◌}
-use Rattle.md_word.specs.Width.{bit, word_of}
+use Rattle.md_word.specs.Coding.{flag_number}
+use Rattle.md_word.specs.Width.{word_of}
 use Rattle.md_word.specs.declared.flags.Flags.{Flags}
 use Rattle.m68k_alu.specs.declared.out.Out.{Out}
 
@@ -16,7 +17,7 @@ decimal value carry flags = record {
 -- the low digits' sum, 6 more where it is no digit
 unfoldable pub low_sum : ℕ → ℕ → Bool → ℕ
 low_sum source target carry =
-    let s = target % 16 + source % 16 + bit carry in
+    let s = target % 16 + source % 16 + flag_number carry in
     if nat_lt 9 s then s + 6 else s
 
 -- with the upper digits, before they are corrected
@@ -33,7 +34,7 @@ decimal_added source target flags =
 -- the low digits' difference, 6 less where it is below 0
 unfoldable pub low_difference : ℕ → ℕ → Bool → ℤ
 low_difference source target borrow =
-    let s = pos (target % 16) -ℤ pos (source % 16) -ℤ pos (bit borrow) in
+    let s = pos (target % 16) -ℤ pos (source % 16) -ℤ pos (flag_number borrow) in
     if int_lt s (pos 0) then s -ℤ pos 6 else s
 
 -- with the upper digits, before they are corrected
@@ -45,12 +46,12 @@ digit_difference source target borrow =
 unfoldable pub decimal_difference : ℕ → ℕ → Bool → ℕ
 decimal_difference source target borrow =
     let t = digit_difference source target borrow in
-    word_of 0x100 (if nat_lt target (source + bit borrow) then t -ℤ pos 0x60 else t)
+    word_of 0x100 (if nat_lt target (source + flag_number borrow) then t -ℤ pos 0x60 else t)
 
 -- SBCD, and NBCD from 0: X and C where the bytes' difference is below 0
 unfoldable pub decimal_subtracted : ℕ → ℕ → Flags → Out
 decimal_subtracted source target flags =
-    decimal (decimal_difference source target flags.x) (nat_lt target (source + bit flags.x)) flags
+    decimal (decimal_difference source target flags.x) (nat_lt target (source + flag_number flags.x)) flags
 
 -- the number that a byte of two decimal digits spells
 abbrev pub decimal_value : ℕ → ℕ
@@ -64,9 +65,9 @@ pub record IsDecimal (n : ℕ) : Type 0 where
 -- of two digits each: the sum of the numbers, and a hundred carried
 pub record AddsDecimals (source target : ℕ) (carry : Bool) (out : Out) : Type 0 where
   pub digits : IsDecimal out.value
-  pub sum : decimal_value out.value + 100 * bit out.flags.c ≡ decimal_value target + decimal_value source + bit carry
+  pub sum : decimal_value out.value + 100 * flag_number out.flags.c ≡ decimal_value target + decimal_value source + flag_number carry
 
 -- the difference of the numbers, and a hundred borrowed
 pub record SubtractsDecimals (source target : ℕ) (borrow : Bool) (out : Out) : Type 0 where
   pub digits : IsDecimal out.value
-  pub difference : decimal_value out.value + decimal_value source + bit borrow ≡ decimal_value target + 100 * bit out.flags.c
+  pub difference : decimal_value out.value + decimal_value source + flag_number borrow ≡ decimal_value target + 100 * flag_number out.flags.c

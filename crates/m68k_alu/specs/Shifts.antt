@@ -1,7 +1,8 @@
 -- Shifts and rotations.
 -- M68000 Programmer's Reference Manual, section 4: ASL, ASR, LSL, LSR, ROL, ROR, ROXL, ROXR.
 use Rattle.std.specs.Prelude.{◌≡◌, ◌≤◌, ℕ, ℤ, pos, negsuc, ◌+◌, ◌-◌, ◌*◌, ◌/◌, ◌%◌, ◌^◌, ◌*ℤ◌, Bool, false, not, nat_le, ◌==◌, if◌then◌else◌}
-use Rattle.md_word.specs.Width.{bit, fits, half_of, modulus_of, signed_of, width_of, word_of}
+use Rattle.md_word.specs.Coding.{flag_number}
+use Rattle.md_word.specs.Width.{fits, half_of, modulus_of, signed_of, width_of, word_of}
 use Rattle.md_word.specs.declared.flags.Flags.{Flags}
 use Rattle.md_word.specs.declared.size.Size.{Size}
 use Rattle.m68k_alu.specs.declared.out.Out.{Out}
@@ -58,7 +59,7 @@ rotated_right size count target flags =
 -- ROXL and ROXR rotate the number with X above it, one bit more: `by` places to the left
 unfoldable pub rotated_with_extend : Size → ℕ → ℕ → Flags → Out
 rotated_with_extend size by target flags =
-    let number = rotated (width_of size + 1) by (bit flags.x * modulus_of size + target) in
+    let number = rotated (width_of size + 1) by (flag_number flags.x * modulus_of size + target) in
     let out = number / modulus_of size == 1 in
     shown size (number % modulus_of size) out false out
 

@@ -2,7 +2,7 @@
 -- M68000 Programmer's Reference Manual, section 8, table 8-2, and section 2.1. Bits that the processor
 -- does not look at are 0: the upper byte of a byte's word, and bits 10 to 8 of a brief extension word.
 use Rattle.std.specs.Prelude.{ℕ, ◌+◌, ◌-◌, ◌*◌, ◌/◌, ◌%◌, Bool, true, false, nat_lt, if◌then◌else◌, List, [], ◌∷◌, ◌++◌}
-use Rattle.md_word.specs.Width.{bit}
+use Rattle.md_word.specs.Coding.{flag_number}
 use Rattle.md_word.specs.declared.mode.Mode.{Mode}
 use Rattle.md_word.specs.declared.mode.Mode.TheVariants as modes
 use Rattle.md_word.specs.declared.size.Size.{Size}
@@ -205,7 +205,7 @@ number_words Long n = n / 65536 ∷ n % 65536 ∷ []
 
 -- a brief extension word
 abbrev pub brief : ℕ → Bool → ℕ → ℕ
-brief index long by = 4096 * index + 2048 * bit long + by
+brief index long by = 4096 * index + 2048 * flag_number long + by
 
 -- the extension words of a mode; the size is that of a number
 unfoldable pub mode_words : Size → Mode → List ℕ

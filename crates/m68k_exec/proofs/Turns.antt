@@ -3,7 +3,8 @@ use Rattle.std.proofs.Common.{◌≡◌, ℕ, zero, suc, ◌+◌, ◌-◌, ◌*�
 use Rattle.std.specs.Int.RustNames.{count_ones}
 use Rattle.std.specs.Int.Count.{ones_step}
 use Rattle.md_word.specs.Fields.{register_of, with_register}
-use Rattle.md_word.specs.Width.{bit, extended, modulus_of}
+use Rattle.md_word.specs.Coding.{flag_number}
+use Rattle.md_word.specs.Width.{extended, modulus_of}
 use Rattle.md_word.specs.declared.regs.Regs.{Regs}
 use Rattle.md_word.specs.declared.size.Size.{Size}
 use Rattle.m68k_exec.specs.Access.Actions.{Done, go_on, read, write}
@@ -37,17 +38,17 @@ pub store_step : (order : Order) (size : Size) (list n at : ℕ) (regs : Regs) (
 store_step order size list n at regs memory done h =
     rw (next-count n h) (store-turn order size n at (places (16 - (n + 1)) (list / 2) (n + 1)) regs memory done (list % 2 == 1))
 
-low-bit : (k : ℕ) → k < 2 → k ≡ bit (k == 1)
+low-bit : (k : ℕ) → k < 2 → k ≡ flag_number (k == 1)
 low-bit zero h = refl
 low-bit (suc zero) h = refl
 low-bit (suc (suc k)) h = absurd (omega arith)
 
 -- the bits that are set: the lowest, and those of the rest
-pub ones_turn : (list times : ℕ) → count_ones list * times ≡ bit (list % 2 == 1) * times + count_ones (list / 2) * times
+pub ones_turn : (list times : ℕ) → count_ones list * times ≡ flag_number (list % 2 == 1) * times + count_ones (list / 2) * times
 ones_turn list times =
     let step = ones_step list in
     let low = low-bit (list % 2) (omega arith) in
-    let sum : count_ones list ≡ bit (list % 2 == 1) + count_ones (list / 2) = cc in
+    let sum : count_ones list ≡ flag_number (list % 2 == 1) + count_ones (list / 2) = cc in
     rw (sum, add-mul) refl
 
 load-turn : (size : Size) (n at : ℕ) (rest : List ℕ) (regs : Regs) (memory : Memory) (done : Done) (chosen : Bool) → load_each size (if chosen then n ∷ rest else rest) at regs memory done ≡ go_on (load_turn size chosen n at regs memory done) (λ next after. load_each size rest next.address next.regs memory after)

@@ -5,7 +5,7 @@ use Rattle.std.proofs.lemmas.Bool.Decides.{nat_tests}
 use Rattle.std.proofs.lemmas.Grind.{pow_more}
 use Rattle.std.proofs.lemmas.Nat.{ones-le}
 use Rattle.md_word.specs.Fields.{address_of}
-use Rattle.md_word.specs.Width.{bit}
+use Rattle.md_word.specs.Coding.{flag_number}
 use Rattle.md_word.specs.declared.mode.Mode.{Mode}
 use Rattle.md_word.specs.declared.mode.Mode.TheVariants as modes
 use Rattle.md_word.specs.declared.regs.Regs.{Regs}
@@ -25,7 +25,7 @@ use Rattle.m68k_laws.proofs.Single.{read, split, write}
 use Rattle.m68k_laws.specs.Accesses.{Kind, Read, Write, is_read, one}
 use Rattle.m68k_laws.specs.Footprints.{above, ascending, below, descending, footprint, stores}
 
-chosen_length : (test : Bool) (n : ℕ) (rest : List ℕ) → length (if test then n ∷ rest else rest) ≡ bit test + length rest
+chosen_length : (test : Bool) (n : ℕ) (rest : List ℕ) → length (if test then n ∷ rest else rest) ≡ flag_number test + length rest
 chosen_length true n rest = omega arith
 chosen_length false n rest = omega arith
 

@@ -1,7 +1,8 @@
 -- How large a flag and what the bitwise operations give can be.
 use Rattle.std.proofs.Common.{ℕ, ◌<◌, ◌≤◌, Bool, true, false, bit_and, bit_or, bit_xor, arith}
 use Rattle.std.specs.Int.Bits.{and_lt, or_lt, xor_lt}
-use Rattle.md_word.specs.Width.{bit, modulus_of}
+use Rattle.md_word.specs.Coding.{flag_number}
+use Rattle.md_word.specs.Width.{modulus_of}
 use Rattle.md_word.specs.declared.size.Size.{Size}
 use Rattle.md_word.specs.declared.size.Size.TheVariants.{Byte, Word, Long}
 
@@ -20,6 +21,6 @@ xor_below Byte a b h k = xor_lt 8 a b h k
 xor_below Word a b h k = xor_lt 16 a b h k
 xor_below Long a b h k = xor_lt 32 a b h k
 
-pub bit_below : (flag : Bool) → bit flag ≤ 1
+pub bit_below : (flag : Bool) → flag_number flag ≤ 1
 bit_below true = omega arith
 bit_below false = omega arith

@@ -1,7 +1,8 @@
 -- The parts of the 68000's registers.
 -- M68000 Programmer's Reference Manual, sections 1.1 and 1.3.
 use Rattle.std.specs.Prelude.{ℕ, ◌+◌, ◌-◌, ◌*◌, ◌/◌, ◌%◌, Bool, nat_lt, ◌==◌, if◌then◌else◌, slice_index, slice_set}
-use Rattle.md_word.specs.Width.{bit, modulus_of}
+use Rattle.md_word.specs.Coding.{flag_number}
+use Rattle.md_word.specs.Width.{modulus_of}
 use Rattle.md_word.specs.declared.flags.Flags.{Flags}
 use Rattle.md_word.specs.declared.regs.Regs.{Regs}
 use Rattle.md_word.specs.declared.size.Size.{Size}
@@ -27,7 +28,7 @@ flags_of regs = record {
 -- the registers with these flags
 unfoldable pub with_flags : Regs → Flags → Regs
 with_flags regs flags = record regs {
-  sr = regs.sr / 32 * 32 + bit flags.x * 16 + bit flags.n * 8 + bit flags.z * 4 + bit flags.v * 2 + bit flags.c;
+  sr = regs.sr / 32 * 32 + flag_number flags.x * 16 + flag_number flags.n * 8 + flag_number flags.z * 4 + flag_number flags.v * 2 + flag_number flags.c;
 }
 
 -- address register n, of which 7 is the active stack pointer

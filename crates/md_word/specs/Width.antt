@@ -1,6 +1,7 @@
 -- The sizes of the 68000's operands: widths, and values in two's complement.
 -- M68000 Programmer's Reference Manual, section 1.3.
 use Rattle.std.specs.Prelude.{ℕ, ℤ, pos, negsuc, ◌+ℤ◌, ◌-ℤ◌, ◌-◌, ◌%◌, ◌^◌, Bool, true, false, not, ◌&&◌, nat_lt, int_le, int_lt, if◌then◌else◌}
+use Rattle.md_word.specs.Coding.{flag_number}
 use Rattle.md_word.specs.declared.size.Size.{Size}
 use Rattle.md_word.specs.declared.size.Size.TheVariants.{Byte, Word, Long}
 
@@ -35,19 +36,14 @@ word_of m (negsuc n) = m - 1 - n % m
 unfoldable pub extended : Size → ℕ → ℕ
 extended size n = word_of (2 ^ 32) (signed_of size (n % modulus_of size))
 
--- a flag as a number
-abbrev pub bit : Bool → ℕ
-bit true = 1
-bit false = 0
-
 -- whether a signed number is within the size's range in two's complement
 unfoldable pub fits : Size → ℤ → Bool
 fits size z = int_le (pos 0 -ℤ pos (half_of size)) z && int_lt z (pos (half_of size))
 
 -- whether a + b + carry, in two's complement, passes the size's range
 unfoldable pub sum_overflows : Size → ℕ → ℕ → Bool → Bool
-sum_overflows size a b carry = not (fits size (signed_of size a +ℤ signed_of size b +ℤ pos (bit carry)))
+sum_overflows size a b carry = not (fits size (signed_of size a +ℤ signed_of size b +ℤ pos (flag_number carry)))
 
 -- whether a − b − borrow, in two's complement, passes the size's range
 unfoldable pub difference_overflows : Size → ℕ → ℕ → Bool → Bool
-difference_overflows size a b borrow = not (fits size (signed_of size a -ℤ signed_of size b -ℤ pos (bit borrow)))
+difference_overflows size a b borrow = not (fits size (signed_of size a -ℤ signed_of size b -ℤ pos (flag_number borrow)))

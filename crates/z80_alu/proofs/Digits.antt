@@ -7,7 +7,8 @@ use Rattle.std.proofs.lemmas.Bool.Decides.{nat_tests}
 use Rattle.std.proofs.lemmas.Int.{ints}
 use Rattle.md_word.proofs.Below.{bit_below}
 use Rattle.md_word.proofs.Agree.{range, same_at}
-use Rattle.md_word.specs.Width.{bit, difference_overflows, sum_overflows, word_of}
+use Rattle.md_word.specs.Coding.{flag_number}
+use Rattle.md_word.specs.Width.{difference_overflows, sum_overflows, word_of}
 use Rattle.md_word.specs.declared.size.Size.TheVariants.{Byte}
 use Rattle.z80_alu.specs.declared.flags80.Flags80.{Flags80}
 use Rattle.z80_alu.specs.declared.out80.Out80.{Out80}
@@ -23,7 +24,7 @@ summed s z pv u v = record { s = s; z = z; h = nat_le 16 v; pv = pv; n = false; 
 
 -- DAA gives two digits, and with a hundred for C this number
 abbrev is_spelling : Out80 → ℕ → Bool
-is_spelling out n = nat_lt (out.value / 16) 10 && nat_lt (out.value % 16) 10 && (decimal_value out.value + 100 * bit (flags_of out.f).c == n)
+is_spelling out n = nat_lt (out.value / 16) 10 && nat_lt (out.value % 16) 10 && (decimal_value out.value + 100 * flag_number (flags_of out.f).c == n)
 
 -- of u, the sum of the upper digits, and v, the sum of the lower ones and the carry
 abbrev sum_spelt : Bool → Bool → Bool → ℕ → ℕ → Bool
@@ -42,11 +43,11 @@ sum_at s z pv u v h k =
 -- what it means that a result spells a number
 pub record Spells (out : Out80) (n : ℕ) : Type 0 where
   pub digits : IsDecimal out.value
-  pub number : decimal_value out.value + 100 * bit (flags_of out.f).c ≡ n
+  pub number : decimal_value out.value + 100 * flag_number (flags_of out.f).c ≡ n
 
 spelt : (out : Out80) (n : ℕ) → is_spelling out n ≡ true → Spells out n
 spelt out n e =
-    let parts = and_parts (nat_lt (out.value / 16) 10 && nat_lt (out.value % 16) 10) (decimal_value out.value + 100 * bit (flags_of out.f).c == n) e in
+    let parts = and_parts (nat_lt (out.value / 16) 10 && nat_lt (out.value % 16) 10) (decimal_value out.value + 100 * flag_number (flags_of out.f).c == n) e in
     let halves = and_parts (nat_lt (out.value / 16) 10) (nat_lt (out.value % 16) 10) parts.0 in
     record { digits = record { upper = grind (arith, nat_tests); lower = grind (arith, nat_tests) }; number = grind (arith, nat_tests) }
 
@@ -57,16 +58,16 @@ sum_spells s z pv whole u v e h k = rw e (spelt (adjusted ((16 * u + v) % 0x100)
 
 -- what ADD and ADC leave to DAA
 after_sum : (x y : ℕ) (carry : Bool) → then_adjusted (added x y carry)
-    ≡ adjusted ((x + y + bit carry) % 0x100) (record { s = sign ((x + y + bit carry) % 0x100); z = (x + y + bit carry) % 0x100 == 0; h = nat_le 16 (x % 16 + y % 16 + bit carry); pv = sum_overflows Byte x y carry; n = false; c = nat_le 0x100 (x + y + bit carry) })
+    ≡ adjusted ((x + y + flag_number carry) % 0x100) (record { s = sign ((x + y + flag_number carry) % 0x100); z = (x + y + flag_number carry) % 0x100 == 0; h = nat_le 16 (x % 16 + y % 16 + flag_number carry); pv = sum_overflows Byte x y carry; n = false; c = nat_le 0x100 (x + y + flag_number carry) })
 unfolding added shown told
-after_sum x y carry = ap (adjusted ((x + y + bit carry) % 0x100)) (flags_of-byte _)
+after_sum x y carry = ap (adjusted ((x + y + flag_number carry) % 0x100)) (flags_of-byte _)
 
 adds : (x y : ℕ) (carry : Bool) → IsDecimal x → IsDecimal y → AddsDecimals x y carry (then_adjusted (added x y carry))
 adds x y carry dx dy =
     let one = bit_below carry in
     let u : ℕ = x / 16 + y / 16 in
-    let v : ℕ = x % 16 + y % 16 + bit carry in
-    let sum : Spells (then_adjusted (added x y carry)) (10 * u + v) = rw (after_sum x y carry) (sum_spells _ _ _ (x + y + bit carry) u v (omega arith) (omega arith) (omega arith)) in
+    let v : ℕ = x % 16 + y % 16 + flag_number carry in
+    let sum : Spells (then_adjusted (added x y carry)) (10 * u + v) = rw (after_sum x y carry) (sum_spells _ _ _ (x + y + flag_number carry) u v (omega arith) (omega arith) (omega arith)) in
     record { digits = sum.digits; sum = omega (arith, sum.number) }
 
 pub adds_digits : AddsDigits
@@ -81,7 +82,7 @@ differing s z pv u v = record { s = s; z = z; h = nat_lt v 10; pv = pv; n = true
 abbrev difference_spelt : Bool → Bool → Bool → ℕ → ℕ → Bool
 difference_spelt s z pv u v =
     let out = adjusted ((16 * u + v + 102) % 0x100) (differing s z pv u v) in
-    nat_lt (out.value / 16) 10 && nat_lt (out.value % 16) 10 && (decimal_value out.value + 100 == 10 * u + v + 100 * bit (flags_of out.f).c)
+    nat_lt (out.value / 16) 10 && nat_lt (out.value % 16) 10 && (decimal_value out.value + 100 == 10 * u + v + 100 * flag_number (flags_of out.f).c)
 
 differences_spelt : (s z pv : Bool) → map (λ k. difference_spelt s z pv (k / 20) (k % 20)) (range 380 0) ≡ map (λ k. true) (range 380 0)
 unfolding range adjusted corrected correction corrects_upper shown told byte_of flags_of lib.Count.ones
@@ -96,11 +97,11 @@ difference_at s z pv u v h k =
 -- what it means that a result and its borrow spell a difference, 100 above it
 pub record SpellsDifference (out : Out80) (n : ℕ) : Type 0 where
   pub digits : IsDecimal out.value
-  pub number : decimal_value out.value + 100 ≡ n + 100 * bit (flags_of out.f).c
+  pub number : decimal_value out.value + 100 ≡ n + 100 * flag_number (flags_of out.f).c
 
-difference_told : (out : Out80) (n : ℕ) → (nat_lt (out.value / 16) 10 && nat_lt (out.value % 16) 10 && (decimal_value out.value + 100 == n + 100 * bit (flags_of out.f).c)) ≡ true → SpellsDifference out n
+difference_told : (out : Out80) (n : ℕ) → (nat_lt (out.value / 16) 10 && nat_lt (out.value % 16) 10 && (decimal_value out.value + 100 == n + 100 * flag_number (flags_of out.f).c)) ≡ true → SpellsDifference out n
 difference_told out n e =
-    let parts = and_parts (nat_lt (out.value / 16) 10 && nat_lt (out.value % 16) 10) (decimal_value out.value + 100 == n + 100 * bit (flags_of out.f).c) e in
+    let parts = and_parts (nat_lt (out.value / 16) 10 && nat_lt (out.value % 16) 10) (decimal_value out.value + 100 == n + 100 * flag_number (flags_of out.f).c) e in
     let halves = and_parts (nat_lt (out.value / 16) 10) (nat_lt (out.value % 16) 10) parts.0 in
     record { digits = record { upper = grind (arith, nat_tests); lower = grind (arith, nat_tests) }; number = grind (arith, nat_tests) }
 
@@ -111,9 +112,9 @@ difference_spells s z pv value half below u v e f g h k =
 
 -- what SUB and SBC leave to DAA
 after_difference : (x y : ℕ) (borrow : Bool) → then_adjusted (subtracted x y borrow)
-    ≡ adjusted (word_of 0x100 (pos x -ℤ pos y -ℤ pos (bit borrow))) (record { s = sign (word_of 0x100 (pos x -ℤ pos y -ℤ pos (bit borrow))); z = word_of 0x100 (pos x -ℤ pos y -ℤ pos (bit borrow)) == 0; h = nat_lt (x % 16) (y % 16 + bit borrow); pv = difference_overflows Byte x y borrow; n = true; c = nat_lt x (y + bit borrow) })
+    ≡ adjusted (word_of 0x100 (pos x -ℤ pos y -ℤ pos (flag_number borrow))) (record { s = sign (word_of 0x100 (pos x -ℤ pos y -ℤ pos (flag_number borrow))); z = word_of 0x100 (pos x -ℤ pos y -ℤ pos (flag_number borrow)) == 0; h = nat_lt (x % 16) (y % 16 + flag_number borrow); pv = difference_overflows Byte x y borrow; n = true; c = nat_lt x (y + flag_number borrow) })
 unfolding subtracted shown told
-after_difference x y borrow = ap (adjusted (word_of 0x100 (pos x -ℤ pos y -ℤ pos (bit borrow)))) (flags_of-byte _)
+after_difference x y borrow = ap (adjusted (word_of 0x100 (pos x -ℤ pos y -ℤ pos (flag_number borrow)))) (flags_of-byte _)
 
 within_byte : (x y b whole : ℕ) → x < 0x100 → y < 0x100 → b ≤ 1 → whole + y + b ≡ x + 154 → word_of 0x100 (pos x -ℤ pos y -ℤ pos b) ≡ (whole + 102) % 0x100
 within_byte x y b whole h k one e = grind (arith, ints)
@@ -125,10 +126,10 @@ subtracts : (x y : ℕ) (borrow : Bool) → IsDecimal x → IsDecimal y → Subt
 subtracts x y borrow dx dy =
     let one = bit_below borrow in
     let u : ℕ = x / 16 + 9 - y / 16 in
-    let v : ℕ = x % 16 + 10 - (y % 16 + bit borrow) in
-    let value : word_of 0x100 (pos x -ℤ pos y -ℤ pos (bit borrow)) ≡ (16 * u + v + 102) % 0x100 = within_byte x y (bit borrow) (16 * u + v) (omega arith) (omega arith) one (omega arith) in
-    let half : nat_lt (x % 16) (y % 16 + bit borrow) ≡ nat_lt v 10 = same_test _ _ _ _ (omega arith) in
-    let below : nat_lt x (y + bit borrow) ≡ nat_lt (16 * u + v) 154 = same_test _ _ _ _ (omega arith) in
+    let v : ℕ = x % 16 + 10 - (y % 16 + flag_number borrow) in
+    let value : word_of 0x100 (pos x -ℤ pos y -ℤ pos (flag_number borrow)) ≡ (16 * u + v + 102) % 0x100 = within_byte x y (flag_number borrow) (16 * u + v) (omega arith) (omega arith) one (omega arith) in
+    let half : nat_lt (x % 16) (y % 16 + flag_number borrow) ≡ nat_lt v 10 = same_test _ _ _ _ (omega arith) in
+    let below : nat_lt x (y + flag_number borrow) ≡ nat_lt (16 * u + v) 154 = same_test _ _ _ _ (omega arith) in
     let difference : SpellsDifference (then_adjusted (subtracted x y borrow)) (10 * u + v) = rw (after_difference x y borrow) (difference_spells _ _ _ _ _ _ u v value half below (omega arith) (omega arith)) in
     record { digits = difference.digits; difference = omega (arith, difference.number) }
 

@@ -4,7 +4,8 @@ use Rattle.std.proofs.Common.{◌≡◌, ℕ, pos, ◌+◌, ◌*◌, ◌%◌, �
 use Rattle.std.proofs.lemmas.Bool.Decides.{nat_tests}
 use Rattle.std.proofs.lemmas.Int.{ints}
 use Rattle.md_word.proofs.Below.{bit_below}
-use Rattle.md_word.specs.Width.{bit, difference_overflows, fits, signed_of, sum_overflows, word_of}
+use Rattle.md_word.specs.Coding.{flag_number}
+use Rattle.md_word.specs.Width.{difference_overflows, fits, signed_of, sum_overflows, word_of}
 use Rattle.md_word.specs.declared.size.Size.TheVariants.{Byte}
 use Rattle.z80_alu.specs.declared.flags80.Flags80.{Flags80}
 use Rattle.z80_alu.specs.Arithmetic.{added, subtracted}
@@ -12,17 +13,17 @@ use Rattle.z80_alu.specs.Flags.{flags_of, shown, told}
 use Rattle.z80_alu.specs.Laws.{AddsNumbers, IsDifference, IsSum, SubtractsNumbers}
 use Rattle.z80_alu.proofs.FlagBits.{flags_of-byte}
 
-whole_sum : (n : ℕ) → n < 0x200 → n % 0x100 + 0x100 * bit (nat_le 0x100 n) ≡ n
+whole_sum : (n : ℕ) → n < 0x200 → n % 0x100 + 0x100 * flag_number (nat_le 0x100 n) ≡ n
 whole_sum n below = grind (arith, nat_tests)
 
 signed_sum : (a b : ℕ) (carry : Bool) → a < 0x100 → b < 0x100 → sum_overflows Byte a b carry ≡ false
-    → signed_of Byte ((a + b + bit carry) % 0x100) ≡ signed_of Byte a +ℤ signed_of Byte b +ℤ pos (bit carry)
+    → signed_of Byte ((a + b + flag_number carry) % 0x100) ≡ signed_of Byte a +ℤ signed_of Byte b +ℤ pos (flag_number carry)
 unfolding sum_overflows fits signed_of
 signed_sum a b true h k e = grind (arith, ints, nat_tests)
 signed_sum a b false h k e = grind (arith, ints, nat_tests)
 
 -- C and P/V of a sum
-carry_of_sum : (a b : ℕ) (carry : Bool) → (flags_of (added a b carry).f).c ≡ nat_le 0x100 (a + b + bit carry)
+carry_of_sum : (a b : ℕ) (carry : Bool) → (flags_of (added a b carry).f).c ≡ nat_le 0x100 (a + b + flag_number carry)
 unfolding added shown told
 carry_of_sum a b carry = ap (λ (flags : Flags80). flags.c) (flags_of-byte _)
 
@@ -30,7 +31,7 @@ overflow_of_sum : (a b : ℕ) (carry : Bool) → (flags_of (added a b carry).f).
 unfolding added shown told
 overflow_of_sum a b carry = ap (λ (flags : Flags80). flags.pv) (flags_of-byte _)
 
-value_of_sum : (a b : ℕ) (carry : Bool) → (added a b carry).value ≡ (a + b + bit carry) % 0x100
+value_of_sum : (a b : ℕ) (carry : Bool) → (added a b carry).value ≡ (a + b + flag_number carry) % 0x100
 unfolding added shown told
 value_of_sum a b carry = refl
 
@@ -38,7 +39,7 @@ sum : (a b : ℕ) (carry : Bool) → a < 0x100 → b < 0x100 → IsSum a b carry
 sum a b carry h k =
     let one = bit_below carry in
     record {
-      whole = rw (carry_of_sum a b carry, value_of_sum a b carry) (whole_sum (a + b + bit carry) (omega arith));
+      whole = rw (carry_of_sum a b carry, value_of_sum a b carry) (whole_sum (a + b + flag_number carry) (omega arith));
       signed = λ e. rw (value_of_sum a b carry) (signed_sum a b carry h k (rw (overflow_of_sum a b carry) at e));
     }
 
@@ -46,7 +47,7 @@ pub adds_numbers : AddsNumbers
 adds_numbers a b f h k = (sum a b false h k, sum a b (flags_of f).c h k)
 
 -- C and P/V of a difference
-borrow_of_difference : (a b : ℕ) (borrow : Bool) → (flags_of (subtracted a b borrow).f).c ≡ nat_lt a (b + bit borrow)
+borrow_of_difference : (a b : ℕ) (borrow : Bool) → (flags_of (subtracted a b borrow).f).c ≡ nat_lt a (b + flag_number borrow)
 unfolding subtracted shown told
 borrow_of_difference a b borrow = ap (λ (flags : Flags80). flags.c) (flags_of-byte _)
 
@@ -54,17 +55,17 @@ overflow_of_difference : (a b : ℕ) (borrow : Bool) → (flags_of (subtracted a
 unfolding subtracted shown told
 overflow_of_difference a b borrow = ap (λ (flags : Flags80). flags.pv) (flags_of-byte _)
 
-value_of_difference : (a b : ℕ) (borrow : Bool) → (subtracted a b borrow).value ≡ word_of 0x100 (pos a -ℤ pos b -ℤ pos (bit borrow))
+value_of_difference : (a b : ℕ) (borrow : Bool) → (subtracted a b borrow).value ≡ word_of 0x100 (pos a -ℤ pos b -ℤ pos (flag_number borrow))
 unfolding subtracted shown told
 value_of_difference a b borrow = refl
 
 whole_difference : (a b : ℕ) (borrow : Bool) → a < 0x100 → b < 0x100
-    → word_of 0x100 (pos a -ℤ pos b -ℤ pos (bit borrow)) + b + bit borrow ≡ a + 0x100 * bit (nat_lt a (b + bit borrow))
+    → word_of 0x100 (pos a -ℤ pos b -ℤ pos (flag_number borrow)) + b + flag_number borrow ≡ a + 0x100 * flag_number (nat_lt a (b + flag_number borrow))
 whole_difference a b true h k = grind (arith, ints, nat_tests)
 whole_difference a b false h k = grind (arith, ints, nat_tests)
 
 signed_difference : (a b : ℕ) (borrow : Bool) → a < 0x100 → b < 0x100 → difference_overflows Byte a b borrow ≡ false
-    → signed_of Byte (word_of 0x100 (pos a -ℤ pos b -ℤ pos (bit borrow))) ≡ signed_of Byte a -ℤ signed_of Byte b -ℤ pos (bit borrow)
+    → signed_of Byte (word_of 0x100 (pos a -ℤ pos b -ℤ pos (flag_number borrow))) ≡ signed_of Byte a -ℤ signed_of Byte b -ℤ pos (flag_number borrow)
 unfolding difference_overflows fits signed_of
 signed_difference a b true h k e = grind (arith, ints, nat_tests)
 signed_difference a b false h k e = grind (arith, ints, nat_tests)

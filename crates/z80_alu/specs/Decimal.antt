@@ -1,7 +1,7 @@
 -- The decimal correction of the accumulator after a sum or a difference.
 -- Zilog UM0080, DAA; for bytes that are no sums of digits, this project's profile.
 use Rattle.std.specs.Prelude.{◌≡◌, ℕ, ◌+◌, ◌-◌, ◌*◌, ◌/◌, ◌%◌, ◌<◌, Bool, ◌||◌, ◌==◌, nat_lt, if◌then◌else◌, bit_xor}
-use Rattle.md_word.specs.Width.{bit}
+use Rattle.md_word.specs.Coding.{flag_number}
 use Rattle.z80_alu.specs.declared.flags80.Flags80.{Flags80}
 use Rattle.z80_alu.specs.declared.out80.Out80.{Out80}
 use Rattle.z80_alu.specs.Flags.{flags_of, parity, shown}
@@ -37,9 +37,9 @@ decimal_value n = n / 16 * 10 + n % 16
 -- of two digits each: the sum of the numbers, and a hundred carried
 pub record AddsDecimals (x y : ℕ) (carry : Bool) (out : Out80) : Type 0 where
   pub digits : IsDecimal out.value
-  pub sum : decimal_value out.value + 100 * bit (flags_of out.f).c ≡ decimal_value x + decimal_value y + bit carry
+  pub sum : decimal_value out.value + 100 * flag_number (flags_of out.f).c ≡ decimal_value x + decimal_value y + flag_number carry
 
 -- the difference of the numbers, and a hundred borrowed
 pub record SubtractsDecimals (x y : ℕ) (borrow : Bool) (out : Out80) : Type 0 where
   pub digits : IsDecimal out.value
-  pub difference : decimal_value out.value + decimal_value y + bit borrow ≡ decimal_value x + 100 * bit (flags_of out.f).c
+  pub difference : decimal_value out.value + decimal_value y + flag_number borrow ≡ decimal_value x + 100 * flag_number (flags_of out.f).c

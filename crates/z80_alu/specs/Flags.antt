@@ -1,7 +1,7 @@
 -- The flags as bits of F. Bits 5 and 3 are 0 in what is computed.
 -- Zilog UM0080, "Flag Register"; for bits 5 and 3, this project's profile.
 use Rattle.std.specs.Prelude.{ℕ, ◌+◌, ◌*◌, ◌/◌, ◌%◌, Bool, ◌==◌, nat_le, count_ones}
-use Rattle.md_word.specs.Width.{bit}
+use Rattle.md_word.specs.Coding.{flag_number}
 use Rattle.z80_alu.specs.declared.flags80.Flags80.{Flags80}
 use Rattle.z80_alu.specs.declared.out80.Out80.{Out80}
 
@@ -19,7 +19,7 @@ flags_of f = record {
 -- the byte of these flags
 unfoldable pub byte_of : Flags80 → ℕ
 byte_of flags =
-    128 * bit flags.s + 64 * bit flags.z + 16 * bit flags.h + 4 * bit flags.pv + 2 * bit flags.n + bit flags.c
+    128 * flag_number flags.s + 64 * flag_number flags.z + 16 * flag_number flags.h + 4 * flag_number flags.pv + 2 * flag_number flags.n + flag_number flags.c
 
 -- whether the number of ones is even
 abbrev pub parity : ℕ → Bool

@@ -1,6 +1,7 @@
 -- What the operations mean for numbers.
 use Rattle.std.specs.Prelude.{◌≡◌, ℕ, pos, ◌+◌, ◌*◌, ◌<◌, ◌+ℤ◌, ◌-ℤ◌, Bool, false}
-use Rattle.md_word.specs.Width.{bit, signed_of}
+use Rattle.md_word.specs.Coding.{flag_number}
+use Rattle.md_word.specs.Width.{signed_of}
 use Rattle.md_word.specs.declared.size.Size.TheVariants.{Byte}
 use Rattle.md_word.specs.declared.task80.Task80.{Task80}
 use Rattle.md_word.specs.declared.task80.Task80.TheVariants as tasks
@@ -25,13 +26,13 @@ SubtractsDigits = (x y f : ℕ) → IsDecimal x → IsDecimal y →
 
 -- a sum as whole numbers with its carry, and in two's complement where P/V is clear
 pub record IsSum (a b : ℕ) (carry : Bool) (out : Out80) : Type 0 where
-  pub whole : out.value + 0x100 * bit (flags_of out.f).c ≡ a + b + bit carry
-  pub signed : (flags_of out.f).pv ≡ false → signed_of Byte out.value ≡ signed_of Byte a +ℤ signed_of Byte b +ℤ pos (bit carry)
+  pub whole : out.value + 0x100 * flag_number (flags_of out.f).c ≡ a + b + flag_number carry
+  pub signed : (flags_of out.f).pv ≡ false → signed_of Byte out.value ≡ signed_of Byte a +ℤ signed_of Byte b +ℤ pos (flag_number carry)
 
 -- a difference as whole numbers with its borrow, and in two's complement where P/V is clear
 pub record IsDifference (a b : ℕ) (borrow : Bool) (out : Out80) : Type 0 where
-  pub whole : out.value + b + bit borrow ≡ a + 0x100 * bit (flags_of out.f).c
-  pub signed : (flags_of out.f).pv ≡ false → signed_of Byte out.value ≡ signed_of Byte a -ℤ signed_of Byte b -ℤ pos (bit borrow)
+  pub whole : out.value + b + flag_number borrow ≡ a + 0x100 * flag_number (flags_of out.f).c
+  pub signed : (flags_of out.f).pv ≡ false → signed_of Byte out.value ≡ signed_of Byte a -ℤ signed_of Byte b -ℤ pos (flag_number borrow)
 
 -- ADD is a sum of bytes, and ADC one with the carry
 abbrev pub AddsNumbers : Type 0

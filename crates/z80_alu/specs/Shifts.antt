@@ -1,18 +1,18 @@
 -- Rotates and shifts: the value, and the bit that goes out, which is C.
 -- Zilog UM0080, "Rotate and Shift Group"; for SLL, this project's profile.
 use Rattle.std.specs.Prelude.{ℕ, ◌+◌, ◌*◌, ◌/◌, ◌%◌, Bool, false, ◌==◌}
-use Rattle.md_word.specs.Width.{bit}
+use Rattle.md_word.specs.Coding.{flag_number}
 use Rattle.z80_alu.specs.declared.flags80.Flags80.{Flags80}
 use Rattle.z80_alu.specs.declared.out80.Out80.{Out80}
 use Rattle.z80_alu.specs.Flags.{parity, shown, told}
 
 -- to the left, with this bit coming in on the right; bit 7 goes out
 abbrev pub left : ℕ → Bool → ℕ
-left value incoming = value * 2 % 0x100 + bit incoming
+left value incoming = value * 2 % 0x100 + flag_number incoming
 
 -- to the right, with this bit coming in on the left; bit 0 goes out
 abbrev pub right : ℕ → Bool → ℕ
-right value incoming = value / 2 + 0x80 * bit incoming
+right value incoming = value / 2 + 0x80 * flag_number incoming
 
 -- bit 0
 abbrev pub odd : ℕ → Bool

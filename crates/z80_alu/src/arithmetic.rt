@@ -1,5 +1,6 @@
 ghost use Rattle.std.specs.Prelude.{◌≡◌, ◌-ℤ◌, pos};
-ghost use Rattle.md_word.specs.Width.{bit, word_of};
+ghost use Rattle.md_word.specs.Coding.{flag_number};
+ghost use Rattle.md_word.specs.Width.{word_of};
 ghost use Rattle.z80_alu.specs.Arithmetic as arithmetic;
 ghost use Rattle.z80_alu.specs.Flags as flags;
 
@@ -41,7 +42,7 @@ pub fn added(a: u8, b: u8, carry: bool) -> Out80
 #[inline(always)]
 #[tactic(auto, using(std::proofs::lemmas::Int::ints, std::proofs::lemmas::Bool::Decides::nat_tests))]
 fn difference(a: u8, b: u8, borrow: bool) -> u8
-    ensures { result ≡ word_of 0x100 (pos a -ℤ pos b -ℤ pos (bit borrow)) }
+    ensures { result ≡ word_of 0x100 (pos a -ℤ pos b -ℤ pos (flag_number borrow)) }
 {
     ((0x100 + u16::from(a) - u16::from(b) - u16::from(borrow)) & 0xff) as u8
 }

@@ -1,5 +1,6 @@
 ghost use Rattle.std.specs.Prelude.{◌≡◌, ◌-ℤ◌, pos};
-ghost use Rattle.md_word.specs.Width.{bit, word_of};
+ghost use Rattle.md_word.specs.Coding.{flag_number};
+ghost use Rattle.md_word.specs.Width.{word_of};
 ghost use Rattle.z80_alu.specs.Flags.{flags_of};
 ghost use Rattle.z80_alu.specs.Pairs as pairs;
 
@@ -61,7 +62,7 @@ pub fn add_pair_with_carry(left: u16, right: u16, f: u8) -> Out16
 #[inline(always)]
 #[tactic(auto, using(std::proofs::lemmas::Int::ints, std::proofs::lemmas::Bool::Decides::nat_tests))]
 fn difference(left: u16, right: u16, borrow: bool) -> u16
-    ensures { result ≡ word_of 0x1_0000 (pos left -ℤ pos right -ℤ pos (bit borrow)) }
+    ensures { result ≡ word_of 0x1_0000 (pos left -ℤ pos right -ℤ pos (flag_number borrow)) }
 {
     ((0x1_0000 + u32::from(left) - u32::from(right) - u32::from(borrow)) & 0xffff) as u16
 }

@@ -3,7 +3,8 @@ use Rattle.std.proofs.Common.{◌≡◌, ℕ, pos, ◌+◌, ◌-◌, ◌%◌, �
 use Rattle.std.specs.Prelude.{not}
 use Rattle.std.proofs.lemmas.Bool.Decides.{nat_tests}
 use Rattle.std.proofs.lemmas.Int.{ints}
-use Rattle.md_word.specs.Width.{bit, word_of}
+use Rattle.md_word.specs.Coding.{flag_number}
+use Rattle.md_word.specs.Width.{word_of}
 use Rattle.z80_alu.proofs.FlagBits.{flags_of-byte}
 use Rattle.z80_alu.specs.Arithmetic.{compared, subtracted}
 use Rattle.z80_alu.specs.Flags.{flags_of, shown, sign, told}
@@ -13,7 +14,7 @@ use Rattle.z80_exec.specs.Laws.{ConditionsCompare, f_after}
 
 -- the difference within a byte
 abbrev difference : ℕ → ℕ → ℕ
-difference a b = word_of 0x100 (pos a -ℤ pos b -ℤ pos (bit false))
+difference a b = word_of 0x100 (pos a -ℤ pos b -ℤ pos (flag_number false))
 
 differs : (a b : ℕ) → a < 0x100 → b < 0x100 → difference a b ≡ (a + 0x100 - b) % 0x100
 differs a b h k = grind (arith, ints, nat_tests)
@@ -21,7 +22,7 @@ differs a b h k = grind (arith, ints, nat_tests)
 same : (a b : ℕ) → a < 0x100 → b < 0x100 → ((a + 0x100 - b) % 0x100 == 0) ≡ (a == b)
 same a b h k = grind (arith, nat_tests)
 
-less : (a b : ℕ) → nat_lt a (b + bit false) ≡ nat_lt a b
+less : (a b : ℕ) → nat_lt a (b + flag_number false) ≡ nat_lt a b
 less a b = grind (arith, nat_tests)
 
 not_less : (a b : ℕ) → not (nat_lt a b) ≡ nat_le b a
@@ -35,7 +36,7 @@ zero : (a b f : ℕ) → (flags a b f).z ≡ (difference a b == 0)
 unfolding flags compared subtracted shown told
 zero a b f = ap (λ (flags : Flags80). flags.z) (flags_of-byte _)
 
-carry : (a b f : ℕ) → (flags a b f).c ≡ nat_lt a (b + bit false)
+carry : (a b f : ℕ) → (flags a b f).c ≡ nat_lt a (b + flag_number false)
 unfolding flags compared subtracted shown told
 carry a b f = ap (λ (flags : Flags80). flags.c) (flags_of-byte _)
 

@@ -9,7 +9,7 @@ use Rattle.std.proofs.lemmas.Nat.{and_assoc, and_comm, and_le_r, and_mask, and_s
 use Rattle.std.proofs.lemmas.Nat.Bits.{and_high_mask}
 use Rattle.md_word.proofs.Below.{bit_below}
 use Rattle.md_word.specs.Fields.{is_supervisor, with_address, with_flags, with_register}
-use Rattle.md_word.specs.Width.{bit}
+use Rattle.md_word.specs.Coding.{flag_number}
 use Rattle.md_word.specs.declared.flags.Flags.{Flags}
 use Rattle.md_word.specs.declared.mode.Mode.{Mode}
 use Rattle.md_word.specs.declared.mode.Mode.TheVariants.{PostInc, PreDec}
@@ -55,9 +55,9 @@ replaced sr f k within h below g =
 pub flags : (regs : Regs) (f : Flags) → IsStatus regs.sr → IsStatus (with_flags regs f).sr
 unfolding with_flags
 flags regs f h =
-    let low = bit f.x * 16 + bit f.n * 8 + bit f.z * 4 + bit f.v * 2 + bit f.c in
+    let low = flag_number f.x * 16 + flag_number f.n * 8 + flag_number f.z * 4 + flag_number f.v * 2 + flag_number f.c in
     let below : low < 2 ^ 5 = omega (arith, bit_below f.x, bit_below f.n, bit_below f.z, bit_below f.v, bit_below f.c) in
-    let e : regs.sr / 2 ^ 5 * 2 ^ 5 + low ≡ regs.sr / 32 * 32 + bit f.x * 16 + bit f.n * 8 + bit f.z * 4 + bit f.v * 2 + bit f.c = omega arith in
+    let e : regs.sr / 2 ^ 5 * 2 ^ 5 + low ≡ regs.sr / 32 * 32 + flag_number f.x * 16 + flag_number f.n * 8 + flag_number f.z * 4 + flag_number f.v * 2 + flag_number f.c = omega arith in
     subst IsStatus e (replaced regs.sr low 5 (omega arith) h below (low_within 0xa71f low 5 below refl))
 
 pub ccr : (value : ℕ) (regs : Regs) → IsStatus regs.sr → IsStatus (with_ccr value regs).sr

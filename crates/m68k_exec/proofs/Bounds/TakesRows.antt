@@ -3,7 +3,7 @@ use Rattle.std.proofs.Common.{◌≡◌, ℕ, zero, suc, ◌+◌, ◌*◌, ◌�
 use Rattle.std.specs.Int.RustNames.{count_ones}
 use Rattle.std.specs.Prelude.{if◌then◌else◌}
 use Rattle.md_word.specs.Fields.{is_supervisor}
-use Rattle.md_word.specs.Width.{bit}
+use Rattle.md_word.specs.Coding.{flag_number}
 use Rattle.md_word.specs.declared.mode.Mode.{Mode}
 use Rattle.md_word.specs.declared.mode.Mode.TheVariants as modes
 use Rattle.md_word.specs.declared.regs.Regs.{Regs}
@@ -113,7 +113,7 @@ unfolding control.chk
 chk n mode start regs = last _ _ _ (load mode Word _ regs) (λ bound. give _)
 
 -- MOVEM
-chosen : (b : Bool) (n : ℕ) (rest : List ℕ) (size : Size) → length (if b then n ∷ rest else rest) * moves_of size ≡ bit b * moves_of size + length rest * moves_of size
+chosen : (b : Bool) (n : ℕ) (rest : List ℕ) (size : Size) → length (if b then n ∷ rest else rest) * moves_of size ≡ flag_number b * moves_of size + length rest * moves_of size
 chosen true n rest size = omega arith
 chosen false n rest size = omega arith
 

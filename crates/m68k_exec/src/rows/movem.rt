@@ -2,7 +2,7 @@ ghost use Rattle.std.specs.Prelude.{◌≡◌, ◌+◌, ◌%◌, ◌<◌, ◌≤
 ghost use Rattle.std.specs.Int.RustNames.{count_ones};
 ghost use Rattle.arrayvec.specs.ArrayVec.{array_vec_len};
 ghost use Rattle.md_word.specs.Modes.{IsMode};
-ghost use Rattle.md_word.specs.Width.{bit};
+ghost use Rattle.md_word.specs.Coding.{flag_number};
 ghost use Rattle.m68k_exec.specs.Access.Clauses.{Ends, Meets, Reaches, done_of, memory_of};
 ghost use Rattle.m68k_exec.specs.Access.Outcomes.{told_nothing};
 ghost use Rattle.m68k_exec.specs.Rows.Movem as movem;
