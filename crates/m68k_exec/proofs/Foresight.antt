@@ -11,6 +11,7 @@ use Rattle.md_word.specs.declared.size.Size.{Size}
 use Rattle.md_word.specs.declared.size.Size.TheVariants.{Byte, Word, Long}
 use Rattle.md_word.specs.declared.task.Task.TheVariants as tasks
 use Rattle.md_word.specs.Map.{is_shared}
+use Rattle.md_word.proofs.Choices.{split}
 use Rattle.m68k_alu.specs.Tasks.{computed}
 use Rattle.m68k_decode.specs.Fields.{opcode}
 use Rattle.m68k_decode.specs.Instructions.{decoded}
@@ -40,7 +41,6 @@ use Rattle.m68k_exec.specs.declared.sample.step.Foreseen.{Foreseen}
 use Rattle.m68k_exec.specs.declared.sample.step.Step.{Step}
 use Rattle.m68k_exec.specs.declared.sample.step.Step.TheVariants as steps
 use Rattle.m68k_exec.proofs.Later.Accesses as later
-use Rattle.m68k_exec.proofs.Later.Samples.{split}
 use Rattle.m68k_exec.proofs.Taken.{answered, with_word-used}
 
 -- where nothing is known nothing is foreseen

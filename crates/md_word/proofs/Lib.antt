@@ -1,3 +1,4 @@
 pub mod Agree
 pub mod Below
+pub mod Choices
 pub mod Regions

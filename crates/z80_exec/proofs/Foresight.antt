@@ -2,6 +2,7 @@
 use Rattle.std.proofs.Common.{◌≡◌, ℕ, ◌+◌, ◌≤◌, ◌∙◌, true, false, nat_lt, List, [], ◌∷◌, length, length-append, slice_index, Result, Ok, Err, refl, sym, ap, arith}
 use Rattle.std.proofs.lemmas.Bool.Decides.{nat_tests}
 use Rattle.std.proofs.lemmas.List.{get_or_append_left}
+use Rattle.md_word.proofs.Choices.{split}
 use Rattle.md_word.specs.declared.sub_bus.Request80.{Request80}
 use Rattle.md_word.specs.declared.sub_bus.Request80.TheVariants.{Write}
 use Rattle.z80_decode.specs.Instructions.{decoded}
@@ -23,7 +24,6 @@ use Rattle.z80_exec.specs.declared.sample.step.Step80.{Step80}
 use Rattle.z80_exec.specs.declared.sample.step.Step80.TheVariants as steps
 use Rattle.z80_exec.proofs.Bounds.Accesses.{answered}
 use Rattle.z80_exec.proofs.Bounds.Rows as rows
-use Rattle.z80_exec.proofs.Bounds.Samples.{split}
 
 -- where nothing is known nothing is foreseen
 pub nothing_foreseen : {A : Type 0} (result : Result A Waiting) (foreseen : Foreseen80) (act : Act Outcome) (memory : Memory) (done : Done) → foreseen.known ≡ false → Foresees result foreseen act memory done

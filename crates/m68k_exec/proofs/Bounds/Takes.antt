@@ -141,7 +141,7 @@ byte_seen at = more 0 1 _ (omega arith) (private (actions.byte_seen at) (λ done
 word_seen : (at : ℕ) → Takes 1 (λ memory done. Ok (actions.word_seen at memory done, done))
 word_seen at = more 0 1 _ (omega arith) (private (actions.word_seen at) (λ done. done) (λ done. refl))
 
-read_byte : (address : ℕ) → Takes 1 (actions.read_byte address)
+pub read_byte : (address : ℕ) → Takes 1 (actions.read_byte address)
 unfolding actions.read_byte
 read_byte address = choice 1 (is_shared (bus_address address)) _ _ (asked_byte (bus_address address)) (byte_seen (bus_address address))
 
@@ -188,7 +188,7 @@ told : (request : Request68) → Takes 1 (actions.told request)
 unfolding actions.told
 told request = bind 1 0 (actions.asked request) (λ answer. actions.give tt) (asked request) (λ answer. give tt)
 
-write_byte : (address value : ℕ) → Takes 1 (actions.write_byte address value)
+pub write_byte : (address value : ℕ) → Takes 1 (actions.write_byte address value)
 unfolding actions.write_byte
 write_byte address value = choice 1 (is_shared (bus_address address)) _ _ (told (Write8 (bus_address address) value)) (byte_put (bus_address address) value)
 

@@ -15,7 +15,7 @@ use Rattle.m68k_decode.specs.Ops.{accesses_of, bit_touches, moves_of, touches_of
 use Rattle.m68k_decode.specs.declared.op.Op.{Op}
 use Rattle.m68k_decode.specs.declared.op.Op.TheVariants as ops
 use Rattle.m68k_ea.specs.Places.{place_of}
-use Rattle.m68k_exec.proofs.Bounds.Takes.{Takes, bind, change_operand, change_register, choice, extended, fetch, give, last, load, more, move_operand, odd, pull, push, put, quotient_by, read, test_operand, write}
+use Rattle.m68k_exec.proofs.Bounds.Takes.{Takes, bind, change_operand, change_register, choice, extended, fetch, give, last, load, more, move_operand, odd, pull, push, put, quotient_by, read, read_byte, test_operand, write, write_byte}
 use Rattle.m68k_exec.proofs.Touches.{touched}
 use Rattle.m68k_exec.proofs.Turns.{ones_turn}
 use Rattle.m68k_exec.specs.Access.Actions as actions
@@ -154,14 +154,6 @@ unfolding movem.movem_to_registers
 movem_to_registers most size list mode start regs h = last _ _ _ (load_list most size list _ regs h) (λ last. give _)
 
 -- MOVEP
-read_byte : (at : ℕ) → Takes 1 (actions.read_byte at)
-unfolding actions.read
-read_byte at = read Byte at
-
-write_byte : (at value : ℕ) → Takes 1 (actions.write_byte at value)
-unfolding actions.write
-write_byte at value = write Byte at value
-
 spread_word : (at : ℕ) → Takes 2 (movep.spread_word at)
 unfolding movep.spread_word
 spread_word at = bind 1 1 _ _ (read_byte at) (λ high. last 1 _ _ (read_byte _) (λ low. give _))

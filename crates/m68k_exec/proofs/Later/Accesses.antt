@@ -159,7 +159,7 @@ word_put : (at value : ℕ) → IgnoresLaterAnswers {A = Unit {0}} (λ memory do
 word_put at value = private (λ rom ram done. tt) (actions.with_word at value) (with_word-used at value)
 
 -- reads
-read_byte : (address : ℕ) → IgnoresLaterAnswers (actions.read_byte address)
+pub read_byte : (address : ℕ) → IgnoresLaterAnswers (actions.read_byte address)
 unfolding actions.read_byte
 read_byte address = choice (is_shared (bus_address address)) _ _ (asked_byte (bus_address address)) (byte_seen (bus_address address))
 
@@ -185,7 +185,7 @@ read Word address = read_word address
 read Long address = read_long address
 
 -- writes
-write_byte : (address value : ℕ) → IgnoresLaterAnswers (actions.write_byte address value)
+pub write_byte : (address value : ℕ) → IgnoresLaterAnswers (actions.write_byte address value)
 unfolding actions.write_byte
 write_byte address value = choice (is_shared (bus_address address)) _ _ (told (Write8 (bus_address address) value)) (byte_put (bus_address address) value)
 

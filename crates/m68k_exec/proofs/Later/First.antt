@@ -9,7 +9,7 @@ use Rattle.md_word.specs.declared.size.Size.{Size}
 use Rattle.md_word.specs.declared.size.Size.TheVariants.{Byte, Word, Long}
 use Rattle.md_word.specs.declared.task.Task.{Task}
 use Rattle.md_word.specs.declared.task.Task.TheVariants as tasks
-use Rattle.m68k_exec.proofs.Later.Accesses.{bind, choice, fetch, give, load, odd, pull, push, put, read, store, write}
+use Rattle.m68k_exec.proofs.Later.Accesses.{bind, choice, fetch, give, load, odd, pull, push, put, read, read_byte, store, write, write_byte}
 use Rattle.m68k_exec.proofs.Later.Shapes.{change_operand, test_operand}
 use Rattle.m68k_exec.specs.Access.Actions as actions
 use Rattle.m68k_exec.specs.Rows.Bits as bits
@@ -50,14 +50,6 @@ unfolding bits.bit_by_number
 bit_by_number operation number mode start regs = bit operation number mode _ regs
 
 -- MOVEP
-read_byte : (at : ℕ) → IgnoresLaterAnswers (actions.read_byte at)
-unfolding actions.read
-read_byte at = read Byte at
-
-write_byte : (at value : ℕ) → IgnoresLaterAnswers (actions.write_byte at value)
-unfolding actions.write
-write_byte at value = write Byte at value
-
 spread_word : (at : ℕ) → IgnoresLaterAnswers (movep.spread_word at)
 unfolding movep.spread_word
 spread_word at = bind _ _ (read_byte at) (λ high. bind _ _ (read_byte _) (λ low. give _))

@@ -1,6 +1,7 @@
 -- Answers beyond those that it takes change nothing: of an exception, and of a sample that comes to
 -- its end.
 use Rattle.std.proofs.Common.{◌≡◌, ℕ, zero, suc, ◌+◌, ◌%◌, ◌^◌, ◌≤◌, ◌==◌, Bool, true, false, nat_lt, List, [], length, Option, Some, None, Result, Ok, Err, refl, ap, sym, ◌∙◌, arith, if◌then◌else◌}
+use Rattle.md_word.proofs.Choices.{split}
 use Rattle.md_word.specs.declared.main_bus.Request68.TheVariants.{Ack}
 use Rattle.md_word.specs.declared.regs.Regs.{Regs}
 use Rattle.m68k_decode.specs.declared.decoded.Decoded.{Decoded}
@@ -95,10 +96,6 @@ exception-taken op exception trace found regs one before ended e =
 choose : {A : Type 0} (test : Bool) (x y z : A) → (test ≡ true → x ≡ z) → (test ≡ false → y ≡ z) → (if test then x else y) ≡ z
 choose true x y z h k = h refl
 choose false x y z h k = k refl
-
-pub split : {A : Type 0} (P : Type 0) (test : Bool) (x y z : A) → (if test then x else y) ≡ z → (test ≡ true → x ≡ z → P) → (test ≡ false → y ≡ z → P) → P
-split P true x y z e h k = h refl e
-split P false x y z e h k = k refl e
 
 ended_by : (op : Op) (found : Regs) (outcome : Outcome) (one other : Memory) (before : Done) (ended : Ended) → samples.ended_by op found outcome one before ≡ Ok ended → SameBelow ended.spent.accesses one other → samples.ended_by op found outcome other before ≡ Ok ended
 unfolding samples.ended_by

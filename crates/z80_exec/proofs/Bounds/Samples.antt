@@ -2,6 +2,7 @@
 -- cover its accesses, and that later answers change nothing.
 use Rattle.std.proofs.Common.{◌≡◌, ℕ, ◌+◌, ◌*◌, ◌<◌, ◌≤◌, ◌==◌, Bool, true, false, length, Result, Ok, Err, refl, ap, subst, arith}
 use Rattle.std.specs.Prelude.{if◌then◌else◌}
+use Rattle.md_word.proofs.Choices.{split}
 use Rattle.md_word.specs.declared.sub_bus.Request80.{Request80}
 use Rattle.z80_decode.specs.declared.decoded80.Decoded80.{Decoded80}
 use Rattle.z80_decode.specs.declared.interrupt_mode.InterruptMode.TheVariants.{Mode0}
@@ -126,10 +127,6 @@ interrupt_same regs one other ended e same = entered_same _ regs one other ended
 same_bytes : (at count : ℕ) (one other : Memory) → SameBelow count one other → instruction_bytes at other ≡ instruction_bytes at one
 unfolding instruction_bytes instruction_byte
 same_bytes at count one other same = rw (same.rom, same.ram, same.bank) refl
-
-pub split : {A : Type 0} (P : Type 0) (test : Bool) (x y z : A) → (if test then x else y) ≡ z → (test ≡ true → x ≡ z → P) → (test ≡ false → y ≡ z → P) → P
-split P true x y z e h k = h refl e
-split P false x y z e h k = k refl e
 
 pub same_sample : (cause : ℕ) (regs : Regs80) (one other : Memory) (ended : Ended) → samples.sampled cause regs one ≡ Ok ended → SameBelow ended.used one other → samples.sampled cause regs other ≡ Ok ended
 unfolding samples.sampled
