@@ -1,7 +1,7 @@
 -- The words of an instruction: the first word from the fields of its row, then its extension words.
 -- M68000 Programmer's Reference Manual, section 8, table 8-2, and section 2.1. Bits that the processor
 -- does not look at are 0: the upper byte of a byte's word, and bits 10 to 8 of a brief extension word.
-use Rattle.std.specs.Prelude.{ℕ, ◌+◌, ◌-◌, ◌*◌, ◌/◌, ◌%◌, Bool, true, false, nat_lt, if◌then◌else◌, List, [], ◌∷◌, ◌++◌}
+use Rattle.std.specs.Prelude.{ℕ, ◌+◌, ◌-◌, ◌*◌, ◌/◌, ◌%◌, Bool, nat_lt, if◌then◌else◌, List, [], ◌∷◌, ◌++◌}
 use Rattle.md_word.specs.Coding.{flag_number}
 use Rattle.md_word.specs.declared.mode.Mode.{Mode}
 use Rattle.md_word.specs.declared.mode.Mode.TheVariants as modes

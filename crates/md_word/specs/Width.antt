@@ -1,6 +1,6 @@
 -- The sizes of the 68000's operands: widths, and values in two's complement.
 -- M68000 Programmer's Reference Manual, section 1.3.
-use Rattle.std.specs.Prelude.{ℕ, ℤ, pos, negsuc, ◌+ℤ◌, ◌-ℤ◌, ◌-◌, ◌%◌, ◌^◌, Bool, true, false, not, ◌&&◌, nat_lt, int_le, int_lt, if◌then◌else◌}
+use Rattle.std.specs.Prelude.{ℕ, ℤ, pos, negsuc, ◌+ℤ◌, ◌-ℤ◌, ◌-◌, ◌%◌, ◌^◌, Bool, not, ◌&&◌, nat_lt, int_le, int_lt, if◌then◌else◌}
 use Rattle.md_word.specs.Coding.{flag_number}
 use Rattle.md_word.specs.declared.size.Size.{Size}
 use Rattle.md_word.specs.declared.size.Size.TheVariants.{Byte, Word, Long}

@@ -1,4 +1,4 @@
-use Rattle.std.proofs.Common.{◌≡◌, ◌∙◌, ap, sym, subst, length, rules, ℕ, List}
+use Rattle.std.proofs.Common.{◌≡◌, ◌∙◌, subst, ℕ, List}
 use Rattle.md_args.specs.Shown.{shown_assembling}
 use Rattle.md_asm.specs.Assembly.{Done, assembly}
 use Rattle.md_asm.specs.Seen.{image_seen, lines_seen}

@@ -1,4 +1,4 @@
-use Rattle.std.proofs.Common.{◌≡◌, ◌++◌, List, ℕ, codes, string_bytes, sym, ap, ◌∙◌}
+use Rattle.std.proofs.Common.{◌++◌, List, ℕ, codes, string_bytes, ap, ◌∙◌}
 use Rattle.md_disasm.specs.Digits.{eight_digits, marked_long}
 use Rattle.assembly_laws.specs.Places.{text_at}
 use Rattle.asm_files.proofs.Files.{line_more}
