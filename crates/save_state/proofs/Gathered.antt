@@ -14,7 +14,7 @@ pub zero_one : (has : Bool) (holder : ℕ) → holder ≡ (if has then 1 else 0)
 zero_one true holder e = (ap (λ (n : ℕ). eqb n 0) e, ap (λ (n : ℕ). eqb n 1) e)
 zero_one false holder e = (ap (λ (n : ℕ). eqb n 0) e, ap (λ (n : ℕ). eqb n 1) e)
 
-nothing : (store : Option Store) → is_some store ≡ false → store_bytes store ≡ []
+pub nothing : (store : Option Store) → is_some store ≡ false → store_bytes store ≡ []
 unfolding spelling
 nothing None e = refl
 nothing (Some store) e = absurd cc

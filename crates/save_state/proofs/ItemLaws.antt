@@ -1,5 +1,5 @@
 -- Each item as its reader reads it.
-use Rattle.std.proofs.Common.{◌≡◌, ◌≢◌, ℕ, ◌<◌, ◌≤◌, leb, eqb, arith, Bool, true, false, ◌==◌, List, [], ◌∷◌, refl, sym, ap, subst, ◌∙◌, inl, inr, Result, Ok}
+use Rattle.std.proofs.Common.{◌≡◌, ◌≢◌, ℕ, ◌<◌, ◌≤◌, leb, eqb, arith, Bool, true, false, ◌==◌, List, [], ◌∷◌, length, refl, sym, ap, subst, ◌∙◌, inl, inr, Result, Ok}
 use Rattle.std.specs.Result.{IfOk}
 use Rattle.md_word.specs.declared.unspell.Unspell.{Unspell}
 use Rattle.md_word.specs.declared.unspell.Unspell.TheVariants.{Rule, NoMemory}
@@ -10,7 +10,9 @@ use Rattle.z80_chip.specs.Validity.{Chip80Value}
 use Rattle.z80_chip.specs.Spelling as sub
 use Rattle.z80_chip.specs.States.{State80}
 use Rattle.save_state.specs.declared.layout.Part.{Part}
-use Rattle.md_fields.specs.Places.{number_at}
+use Rattle.md_fields.specs.Places.{Stand, number_at}
+use Rattle.md_fields.proofs.Standing.{stand}
+use Rattle.sound_writes.specs.Keys.{is_before_next}
 use Rattle.md_machine.specs.Starts.{first_batch}
 use Rattle.md_pads.specs.Recording.{Recorded}
 use Rattle.bus_shared.specs.Board.{Board}
@@ -23,6 +25,7 @@ use Rattle.psg_sound.specs.Synth as psg_synths
 use Rattle.psg_sound.specs.SynthSpelling as psg
 use Rattle.fm_port.specs.Port.{Port}
 use Rattle.fm_port.specs.PortSpelling as fm_port
+use Rattle.fm_port.specs.declared.write.FmWrite.{FmWrite}
 use Rattle.fm_port.proofs.PortBytes.{spelled_once as fm_once}
 use Rattle.psg_sound.specs.PortSpelling as psg_port
 use Rattle.psg_sound.specs.declared.write.PsgWrite.{PsgWrite}
@@ -31,7 +34,8 @@ use Rattle.save_state.specs.Items.{at_of, region_of, main_next, sub_next, holder
 use Rattle.save_state.specs.Joining.{Reads, FailsIn, placed, with_rule, Either}
 use Rattle.save_state.specs.Layout.{main_part, holder_part, drawing_part, fm_port_part, fm_part, fm_next_part, psg_part, psg_next_part, psg_port_part, part_of, sub_parts, shared_parts, gathered, are_ordered}
 use Rattle.save_state.specs.States.{is_holder, are_fm_early, are_psg_early}
-use Rattle.std.specs.Int.{w64}
+use Rattle.std.specs.Int.{w16, w64}
+use Rattle.std.specs.List.{list_all}
 use Rattle.std.proofs.lemmas.Bool.{leb-false, eqb-false, lt-leb, ne_eqb}
 use Rattle.save_state.proofs.Places.{yes}
 use Rattle.md_fields.proofs.Refusals.{failed}
@@ -227,3 +231,33 @@ psg_none bytes at part answer fault e f r only h =
     let there = subst (λ (l : List ℕ). psg_port.SpellsPort at l h.port) (sym f) (subst (λ (a : ℕ). psg_port.SpellsPort a (part_of psg_port_part bytes) h.port) (sym e) h.spells) in
     let ok : answer ≡ Ok h.port = only h.port there in
     absurd cc
+
+-- a port holds as many writes as its bytes count
+fm_counted : (at : ℕ) (part : List ℕ) (port : Port) → fm_port.SpellsPort at part port → length port.writes ≡ number_at w16 26 part
+unfolding Stand
+fm_counted at part port p = (stand (fm_port.port_fields at (fm_port.saved_port port)) part p.keeps.within (sym p.keeps.all)).1.1.1.1.1.1.1.1.1.1.1.1.0
+
+psg_counted : (at : ℕ) (part : List ℕ) (port : List PsgWrite) → psg_port.SpellsPort at part port → length port ≡ number_at w16 0 part
+unfolding Stand
+psg_counted at part port p = (stand (psg_port.port_fields at (psg_port.saved_port port)) part p.keeps.within (sym p.keeps.all)).0
+
+-- no write is late where there is none
+no_fm_late : (main sub : ℕ) (port : Port) → length port.writes ≡ 0 → are_fm_early main sub port ≡ true
+no_fm_late main sub port few = by port.writes few where
+  by : (writes : List FmWrite) → length writes ≡ 0 → list_all (λ (w : FmWrite). is_before_next main sub w.key) writes ≡ true
+  by [] e = refl
+  by (w ∷ ws) e = absurd (omega (arith, e))
+
+no_psg_late : (main sub : ℕ) (port : List PsgWrite) → length port ≡ 0 → are_psg_early main sub port ≡ true
+no_psg_late main sub [] e = refl
+no_psg_late main sub (w ∷ ws) e = absurd (omega (arith, e))
+
+pub fm_few : (bytes : List ℕ) (at : ℕ) (part : List ℕ) (count : ℕ) → at ≡ at_of bytes → part ≡ part_of fm_port_part bytes → count ≡ number_at w16 26 part → count ≡ 0 → HasLateFm bytes → true ≡ false
+fm_few bytes at part count e f n none h =
+    let spelled = subst (λ (l : List ℕ). fm_port.SpellsPort (at_of bytes) l h.port) (sym f) h.spells in
+    sym (no_fm_late (main_next bytes) (sub_next bytes) h.port (fm_counted (at_of bytes) part h.port spelled ∙ sym n ∙ none)) ∙ h.late
+
+pub psg_few : (bytes : List ℕ) (at : ℕ) (part : List ℕ) (count : ℕ) → at ≡ at_of bytes → part ≡ part_of psg_port_part bytes → count ≡ number_at w16 0 part → count ≡ 0 → HasLatePsg bytes → true ≡ false
+psg_few bytes at part count e f n none h =
+    let spelled = subst (λ (l : List ℕ). psg_port.SpellsPort (at_of bytes) l h.port) (sym f) h.spells in
+    sym (no_psg_late (main_next bytes) (sub_next bytes) h.port (psg_counted (at_of bytes) part h.port spelled ∙ sym n ∙ none)) ∙ h.late

@@ -68,8 +68,8 @@ shared_cut cart recording bytes m long is =
     cut_shared bytes (shared.store_bytes b.store) (vdp_bytes b.vdp) (fm_port.port_bytes b.fm) (psg_port.port_bytes b.psg) (shared.lines_bytes (lines_of b)) (holder_in bytes == 1) long
     (vdp_long (at_of bytes) (region_of bytes) (vdp_bytes b.vdp) b.vdp s.vdp) (fm_port_long (at_of bytes) (fm_port.port_bytes b.fm) b.fm s.fm) (psg_port_long (at_of bytes) (psg_port.port_bytes b.psg) b.psg s.psg) (lines_long (at_of bytes) (region_of bytes) (shared_bytes bytes) b s) s.all
 
-owners : (cart : List ℕ) (recording : Recorded) (bytes : List ℕ) (m : MachineValue) → length bytes ≡ 393620 → IsMachineOf cart recording bytes m → Owners bytes m.console
-owners cart recording bytes m long is =
+owned_by : (cart : List ℕ) (recording : Recorded) (bytes : List ℕ) (m : MachineValue) → length bytes ≡ 393620 → IsMachineOf cart recording bytes m → Owners bytes m.console
+owned_by cart recording bytes m long is =
     let h = holder_in bytes in
     let s = m.console.sub.state in
     let b = m.console.shared in
@@ -88,7 +88,7 @@ owners cart recording bytes m long is =
 
 pub machine_parts : (cart : List ℕ) (recording : Recorded) (bytes digest : List ℕ) (m : MachineValue) → HasForm bytes → part_of digest_part bytes ≡ digest → IsMachineOf cart recording bytes m → AreParts digest m.at m.console bytes
 machine_parts cart recording bytes digest m form d is =
-    let o = owners cart recording bytes m form.long is in
+    let o = owned_by cart recording bytes m form.long is in
     let rest = (shared_cut cart recording bytes m form.long is).2 in
     record {
       long = form.long;
@@ -115,7 +115,7 @@ pub saved_there : (cart : List ℕ) (recording : Recorded) (bytes digest : List 
 saved_there cart recording bytes digest m form d is =
     let c = m.console in
     let p = machine_parts cart recording bytes digest m form d is in
-    let o = owners cart recording bytes m form.long is in
+    let o = owned_by cart recording bytes m form.long is in
     let at = sym is.at in
     let main_kept : main.Spells cart m.at (main.chip_bytes c.main) c.main = subst (λ (a : ℕ). main.Spells cart a (main.chip_bytes c.main) c.main) at (subst (λ (l : List ℕ). main.Spells cart (at_of bytes) l c.main) p.main is.main.spells) in
     let sub_kept : sub.Spells cart m.at (sub.chip_bytes c.sub.state) c.sub.state = subst (λ (a : ℕ). sub.Spells cart a (sub.chip_bytes c.sub.state) c.sub.state) at (subst (λ (l : List ℕ). sub.Spells cart (at_of bytes) l c.sub.state) (sub_own cart (at_of bytes) (sub_bytes bytes) c.sub.state is.sub.spells) is.sub.spells) in

@@ -30,7 +30,7 @@ use Rattle.bus_shared.specs.Board.{Board}
 use Rattle.md_machine.specs.Console.{Console, drawing_in, key_in, IsQuiet}
 use Rattle.md_machine.specs.Machines.{MachineValue}
 use Rattle.md_machine.specs.Starts.{IsStart, first_batch, first_line}
-use Rattle.save_state.specs.Faults.{FailsAt, at_fails, region_fails, main_fails, sub_fails, shared_fails, drawing_fails, fm_fails, psg_fails, IsMachineOf}
+use Rattle.save_state.specs.Faults.{FailsAt, at_is_wrong, region_is_wrong, main_is_wrong, sub_is_wrong, shared_is_wrong, drawing_is_wrong, fm_is_wrong, psg_is_wrong, IsMachineOf}
 use Rattle.save_state.specs.declared.layout.Part.{Part}
 use Rattle.save_state.specs.Items.{at_of, region_of, holder_in, main_bytes, sub_bytes, shared_bytes, drawing_bytes, IsMain, MainFails, IsSub, SubFails, chip_fails, holder_fails, IsShared, SharedFails, board_fails, resets_fail, IsPicture, DrawingFails, IsFm, FmFails, synth_fails, next_fails, writes_fail, IsPsg, PsgFails, psg_synth_fails, psg_next_fails, psg_writes_fail}
 use Rattle.save_state.specs.Layout.{are_ordered, main_part, sub_parts, shared_parts, drawing_part, fm_part, psg_part, part_of}
@@ -60,19 +60,19 @@ IsAtRight bytes = ((1 ≤ at_of bytes) × (at_of bytes ≤ last_cycle)) × (slic
 to_fails : (cart bytes : List ℕ) (p : ℕ) → Fails cart bytes p → FailsAt cart bytes p
 to_fails cart bytes p w =
     elim w [
-      | inl q ↦ (elim q [ inl r ↦ main_fails r | inr r ↦ sub_fails r ])
-      | inr q ↦ (elim q [ inl r ↦ (elim r [ inl s ↦ shared_fails s | inr s ↦ drawing_fails s ]) | inr r ↦ (elim r [ inl s ↦ fm_fails s | inr s ↦ psg_fails s ]) ])
+      | inl q ↦ (elim q [ inl r ↦ main_is_wrong r | inr r ↦ sub_is_wrong r ])
+      | inr q ↦ (elim q [ inl r ↦ (elim r [ inl s ↦ shared_is_wrong s | inr s ↦ drawing_is_wrong s ]) | inr r ↦ (elim r [ inl s ↦ fm_is_wrong s | inr s ↦ psg_is_wrong s ]) ])
     ]
 
 from_fails : (cart bytes : List ℕ) (p : ℕ) → IsAtRight bytes → FailsAt cart bytes p → Fails cart bytes p
-from_fails cart bytes p right (at_fails e h) = absurd (h right.0)
-from_fails cart bytes p right (region_fails e h) = absurd (h right.1)
-from_fails cart bytes p right (main_fails h) = inl (inl h)
-from_fails cart bytes p right (sub_fails h) = inl (inr h)
-from_fails cart bytes p right (shared_fails h) = inr (inl (inl h))
-from_fails cart bytes p right (drawing_fails h) = inr (inl (inr h))
-from_fails cart bytes p right (fm_fails h) = inr (inr (inl h))
-from_fails cart bytes p right (psg_fails h) = inr (inr (inr h))
+from_fails cart bytes p right (at_is_wrong e h) = absurd (h right.0)
+from_fails cart bytes p right (region_is_wrong e h) = absurd (h right.1)
+from_fails cart bytes p right (main_is_wrong h) = inl (inl h)
+from_fails cart bytes p right (sub_is_wrong h) = inl (inr h)
+from_fails cart bytes p right (shared_is_wrong h) = inr (inl (inl h))
+from_fails cart bytes p right (drawing_is_wrong h) = inr (inl (inr h))
+from_fails cart bytes p right (fm_is_wrong h) = inr (inr (inl h))
+from_fails cart bytes p right (psg_is_wrong h) = inr (inr (inr h))
 
 -- ---- the machine of the items
 
@@ -269,25 +269,25 @@ in_psg bytes p (psg_next_fails e h) = omega (arith, e)
 in_psg bytes p (psg_writes_fail e h) = omega (arith, e)
 
 from_48 : (cart bytes : List ℕ) (p : ℕ) → (1 ≤ at_of bytes) × (at_of bytes ≤ last_cycle) → FailsAt cart bytes p → 48 ≤ p
-from_48 cart bytes p right (at_fails e h) = absurd (h right)
-from_48 cart bytes p right (region_fails e h) = omega (arith, e)
-from_48 cart bytes p right (main_fails h) = from_49 (main_part ∷ []) (main.GoesWrongAt cart (at_of bytes) (main_bytes bytes)) p refl (omega arith) h
-from_48 cart bytes p right (sub_fails h) = in_sub cart bytes p h
-from_48 cart bytes p right (shared_fails h) = in_shared bytes p h
-from_48 cart bytes p right (drawing_fails h) = from_49 (drawing_part ∷ []) (drawing.GoesWrongAt (at_of bytes) (region_of bytes) (drawing_bytes bytes)) p refl (omega arith) h
-from_48 cart bytes p right (fm_fails h) = in_fm bytes p h
-from_48 cart bytes p right (psg_fails h) = in_psg bytes p h
+from_48 cart bytes p right (at_is_wrong e h) = absurd (h right)
+from_48 cart bytes p right (region_is_wrong e h) = omega (arith, e)
+from_48 cart bytes p right (main_is_wrong h) = from_49 (main_part ∷ []) (main.GoesWrongAt cart (at_of bytes) (main_bytes bytes)) p refl (omega arith) h
+from_48 cart bytes p right (sub_is_wrong h) = in_sub cart bytes p h
+from_48 cart bytes p right (shared_is_wrong h) = in_shared bytes p h
+from_48 cart bytes p right (drawing_is_wrong h) = from_49 (drawing_part ∷ []) (drawing.GoesWrongAt (at_of bytes) (region_of bytes) (drawing_bytes bytes)) p refl (omega arith) h
+from_48 cart bytes p right (fm_is_wrong h) = in_fm bytes p h
+from_48 cart bytes p right (psg_is_wrong h) = in_psg bytes p h
 
 -- and no place stands before the cycle
 from_40 : (cart bytes : List ℕ) (p : ℕ) → FailsAt cart bytes p → 40 ≤ p
-from_40 cart bytes p (at_fails e h) = omega (arith, e)
-from_40 cart bytes p (region_fails e h) = omega (arith, e)
-from_40 cart bytes p (main_fails h) = omega (arith, from_49 (main_part ∷ []) (main.GoesWrongAt cart (at_of bytes) (main_bytes bytes)) p refl (omega arith) h)
-from_40 cart bytes p (sub_fails h) = omega (arith, in_sub cart bytes p h)
-from_40 cart bytes p (shared_fails h) = omega (arith, in_shared bytes p h)
-from_40 cart bytes p (drawing_fails h) = omega (arith, from_49 (drawing_part ∷ []) (drawing.GoesWrongAt (at_of bytes) (region_of bytes) (drawing_bytes bytes)) p refl (omega arith) h)
-from_40 cart bytes p (fm_fails h) = omega (arith, in_fm bytes p h)
-from_40 cart bytes p (psg_fails h) = omega (arith, in_psg bytes p h)
+from_40 cart bytes p (at_is_wrong e h) = omega (arith, e)
+from_40 cart bytes p (region_is_wrong e h) = omega (arith, e)
+from_40 cart bytes p (main_is_wrong h) = omega (arith, from_49 (main_part ∷ []) (main.GoesWrongAt cart (at_of bytes) (main_bytes bytes)) p refl (omega arith) h)
+from_40 cart bytes p (sub_is_wrong h) = omega (arith, in_sub cart bytes p h)
+from_40 cart bytes p (shared_is_wrong h) = omega (arith, in_shared bytes p h)
+from_40 cart bytes p (drawing_is_wrong h) = omega (arith, from_49 (drawing_part ∷ []) (drawing.GoesWrongAt (at_of bytes) (region_of bytes) (drawing_bytes bytes)) p refl (omega arith) h)
+from_40 cart bytes p (fm_is_wrong h) = omega (arith, in_fm bytes p h)
+from_40 cart bytes p (psg_is_wrong h) = omega (arith, in_psg bytes p h)
 
 abbrev pub IsCycle : List ℕ → Type 0
 IsCycle bytes = (1 ≤ at_of bytes) × (at_of bytes ≤ last_cycle)
@@ -299,7 +299,7 @@ at_refused cart recording bytes wrong = record {
   none = tt;
   least = λ p e. (
       let same : 40 ≡ p = here p e in
-      record { fails = at_fails (sym same) wrong; least = λ q fails. omega (arith, same, from_40 cart bytes q fails) });
+      record { fails = at_is_wrong (sym same) wrong; least = λ q fails. omega (arith, same, from_40 cart bytes q fails) });
 } where
   here : (p : ℕ) → failed {T = MachineValue} (Rule 40) ≡ failed (Rule p) → 40 ≡ p
   here p e = cc
@@ -313,7 +313,7 @@ region_refused cart recording bytes right wrong = record {
   none = tt;
   least = λ p e. (
       let same : 48 ≡ p = here p e in
-      record { fails = region_fails (sym same) wrong; least = λ q fails. omega (arith, same, from_48 cart bytes q right fails) });
+      record { fails = region_is_wrong (sym same) wrong; least = λ q fails. omega (arith, same, from_48 cart bytes q right fails) });
 } where
   here : (p : ℕ) → failed {T = MachineValue} (Rule 48) ≡ failed (Rule p) → 48 ≡ p
   here p e = cc

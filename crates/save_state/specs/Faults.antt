@@ -13,14 +13,14 @@ use Rattle.save_state.specs.States.{mark}
 
 -- a field at this place breaks its rule
 pub data FailsAt (cart bytes : List ℕ) (place : ℕ) : Type 0 where
-  at_fails : place ≡ at_part.place → ¬ ((1 ≤ at_of bytes) × (at_of bytes ≤ last_cycle)) → FailsAt cart bytes place
-  region_fails : place ≡ region_part.place → ¬ (slice_index bytes region_part.place ≤ 1) → FailsAt cart bytes place
-  main_fails : MainFails cart bytes place → FailsAt cart bytes place
-  sub_fails : SubFails cart bytes place → FailsAt cart bytes place
-  shared_fails : SharedFails bytes place → FailsAt cart bytes place
-  drawing_fails : DrawingFails bytes place → FailsAt cart bytes place
-  fm_fails : FmFails bytes place → FailsAt cart bytes place
-  psg_fails : PsgFails bytes place → FailsAt cart bytes place
+  at_is_wrong : place ≡ at_part.place → ¬ ((1 ≤ at_of bytes) × (at_of bytes ≤ last_cycle)) → FailsAt cart bytes place
+  region_is_wrong : place ≡ region_part.place → ¬ (slice_index bytes region_part.place ≤ 1) → FailsAt cart bytes place
+  main_is_wrong : MainFails cart bytes place → FailsAt cart bytes place
+  sub_is_wrong : SubFails cart bytes place → FailsAt cart bytes place
+  shared_is_wrong : SharedFails bytes place → FailsAt cart bytes place
+  drawing_is_wrong : DrawingFails bytes place → FailsAt cart bytes place
+  fm_is_wrong : FmFails bytes place → FailsAt cart bytes place
+  psg_is_wrong : PsgFails bytes place → FailsAt cart bytes place
 
 -- as many bytes as a state has, with its mark before them
 pub record HasForm (bytes : List ℕ) : Type 0 where

@@ -25,76 +25,76 @@ abbrev pub state_size : ℕ
 state_size = sum layout
 
 -- a part by its number
-abbrev pub part : ℕ → Part
-part n = record { place = sum (take n layout); size = slice_index layout n }
+abbrev pub nth_part : ℕ → Part
+nth_part n = record { place = sum (take n layout); size = slice_index layout n }
 
 -- the mark that a state begins with
 abbrev pub mark_part : Part
-mark_part = part 0
+mark_part = nth_part 0
 
 -- the SHA-256 of the cartridge's image
 abbrev pub digest_part : Part
-digest_part = part 1
+digest_part = nth_part 1
 
 -- the cycle of the state
 abbrev pub at_part : Part
-at_part = part 2
+at_part = nth_part 2
 
 -- the region: 0 NTSC, 1 PAL
 abbrev pub region_part : Part
-region_part = part 3
+region_part = nth_part 3
 
 -- the 68000, with its work RAM
 abbrev pub main_part : Part
-main_part = part 4
+main_part = nth_part 4
 
 -- the Z80's numbers
 abbrev pub sub_part : Part
-sub_part = part 5
+sub_part = nth_part 5
 
 -- who has the Z80's RAM and bank register: 0 the Z80, 1 the bus
 abbrev pub holder_part : Part
-holder_part = part 6
+holder_part = nth_part 6
 
 -- the Z80's RAM and bank register
 abbrev pub store_part : Part
-store_part = part 7
+store_part = nth_part 7
 
 -- the VDP, with its memories
 abbrev pub video_part : Part
-video_part = part 8
+video_part = nth_part 8
 
 -- the VDP's drawing half, with its picture
 abbrev pub drawing_part : Part
-drawing_part = part 9
+drawing_part = nth_part 9
 
 -- the FM chip's port
 abbrev pub fm_port_part : Part
-fm_port_part = part 10
+fm_port_part = nth_part 10
 
 -- the cycle of the FM chip's next batch
 abbrev pub fm_next_part : Part
-fm_next_part = part 11
+fm_next_part = nth_part 11
 
 -- the FM chip's synthesis
 abbrev pub fm_part : Part
-fm_part = part 12
+fm_part = nth_part 12
 
 -- the cycle of the PSG's next batch
 abbrev pub psg_next_part : Part
-psg_next_part = part 13
+psg_next_part = nth_part 13
 
 -- the PSG's port
 abbrev pub psg_port_part : Part
-psg_port_part = part 14
+psg_port_part = nth_part 14
 
 -- the PSG's synthesis
 abbrev pub psg_part : Part
-psg_part = part 15
+psg_part = nth_part 15
 
 -- the board's lines and pads
 abbrev pub board_part : Part
-board_part = part 16
+board_part = nth_part 16
 
 -- the Z80 has its RAM behind its numbers, where the bus has not
 abbrev pub sub_parts : Bool → List Part
@@ -109,22 +109,19 @@ shared_parts has =
 abbrev pub numbers_there : Part
 numbers_there = record { place = 0; size = 62 }
 
--- the parts of what the bus keeps, behind RAM and bank register
-abbrev pub video_there : Part
-video_there = record { place = 0; size = 65813 }
-
+-- the parts of what the bus keeps behind the VDP
 abbrev pub fm_port_there : Part
-fm_port_there = record { place = 65813; size = 12316 }
+fm_port_there = record { place = 0; size = 12316 }
 
 abbrev pub psg_port_there : Part
-psg_port_there = record { place = 78129; size = 10242 }
+psg_port_there = record { place = 12316; size = 10242 }
 
 abbrev pub lines_there : Part
-lines_there = record { place = 88371; size = 36 }
+lines_there = record { place = 22558; size = 36 }
 
--- how many bytes the Z80 and the bus keep at most, each with RAM and bank register
+-- how many bytes do not stand in their place at once
 abbrev pub apart_size : ℕ
-apart_size = 104857
+apart_size = 22594
 
 -- the bytes of a part
 abbrev pub part_of : Part → List ℕ → List ℕ

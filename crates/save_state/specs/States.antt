@@ -1,5 +1,5 @@
 -- A saved state: the bytes of a machine at a cycle. The parts are the chips' own; this project's profile.
-use Rattle.std.specs.Prelude.{◌≡◌, ℕ, ◌≤◌, ◌==◌, ◌||◌, Bool, true, is_some, nat_le, if◌then◌else◌, codes, List, [], ◌∷◌, Option, None}
+use Rattle.std.specs.Prelude.{◌≡◌, ℕ, ◌≤◌, ◌==◌, ◌||◌, Bool, true, is_some, nat_le, if◌then◌else◌, codes, List, [], ◌∷◌, ◌++◌, Option, None}
 use Rattle.std.specs.List.{list_all}
 use Rattle.md_word.specs.Clock.{last_cycle}
 use Rattle.md_word.specs.Coding.{flag_number}
@@ -19,6 +19,7 @@ use Rattle.fm_chip.specs.SynthSpelling as fm
 use Rattle.psg_sound.specs.PortSpelling as psg_port
 use Rattle.psg_sound.specs.SynthSpelling as psg
 use Rattle.psg_sound.specs.declared.write.PsgWrite.{PsgWrite}
+use Rattle.bus_shared.specs.Board.{Board}
 use Rattle.bus_shared.specs.Saved.{lines_of}
 use Rattle.bus_shared.specs.Spelling.{settled_board}
 use Rattle.bus_shared.specs.Spelling as shared
@@ -41,6 +42,14 @@ store_of m = if is_some m.shared.store then m.shared.store else m.sub.state.stor
 -- the bytes of the Z80's numbers
 abbrev pub number_bytes : State80 → List ℕ
 number_bytes state = sub.chip_bytes (record state { store = None })
+
+-- RAM and bank register where the Z80 has them and the bus has not
+abbrev pub own_bytes : Console → List ℕ
+own_bytes m = if is_some m.shared.store then [] else shared.store_bytes m.sub.state.store
+
+-- what the bus keeps behind the VDP, as it is once it is settled to a cycle
+abbrev pub behind_video : ℕ → Board → List ℕ
+behind_video at b = fm_port.port_bytes (settled_board at b).fm ++ (psg_port.port_bytes b.psg ++ shared.lines_bytes (lines_of b))
 
 -- a whole state as a table, with the digest of the cartridge; batches come at their next multiples
 abbrev pub state_fields : List ℕ → ℕ → Console → List Field

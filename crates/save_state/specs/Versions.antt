@@ -1,7 +1,7 @@
 -- A saved state of any version: the first, of NTSC alone; the second, with the region, whose pads have eight
 -- buttons; and the one that is written, which keeps the falls of TH that pads count. Bytes of the older ones
 -- are read as those of their migration. This project's profile.
-use Rattle.std.specs.Prelude.{◌≡◌, ◌≢◌, ℕ, ◌-◌, ◌<◌, ◌≤◌, nat_le, nat_lt, min, ◌⊎◌, if◌then◌else◌, codes, List, [], ◌∷◌, ◌++◌, length, replicate, take, drop}
+use Rattle.std.specs.Prelude.{◌≡◌, ◌≢◌, ℕ, ◌-◌, ◌<◌, ◌≤◌, nat_le, nat_lt, min, ◌⊎◌, if◌then◌else◌, codes, List, [], ◌∷◌, ◌++◌, length, replicate, take, drop, Option, Some, None}
 use Rattle.sha2.specs.Sha256.{sha256}
 use Rattle.md_machine.specs.Starts.{Start}
 use Rattle.save_state.specs.Layout.{digest_part, mark_part, part_of, state_size}
@@ -44,6 +44,11 @@ unfoldable pub migrated : Version → List ℕ → List ℕ
 migrated First bytes = from_first bytes
 migrated Second bytes = from_second bytes
 migrated Third bytes = bytes
+
+-- the bytes that were made of others, or these, where none were made
+abbrev pub newest_of : Option (List ℕ) → List ℕ → List ℕ
+newest_of None bytes = bytes
+newest_of (Some newest) bytes = newest
 
 -- where a place of those stands in the bytes of the first version; what was made stands where the next byte
 -- does that was there

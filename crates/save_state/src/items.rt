@@ -17,7 +17,7 @@ use bus_shared::Shared;
 use fm_chip::FmSynth;
 use fm_port::FmPort;
 use m68k_chip::Chip68;
-use md_fields::{u8_at, u64_at};
+use md_fields::{u8_at, u16_at, u64_at};
 use md_pads::Recording;
 use md_word::Unspell;
 use md_word::clock::BATCH;
@@ -36,7 +36,12 @@ const SEEN_RESETS: usize = SUB.place + 48;
 /// Where the count of resets stands, and that of the FM chip's writes.
 const RESETS: usize = BOARD.place + 2;
 
-const FM_WRITES: usize = FM_PORT.place + 26;
+const FM_WRITES: usize = FM_PORT.place + FM_COUNT;
+
+/// Where the count of writes stands in what keeps the FM chip's port, and where in what keeps the PSG's.
+const FM_COUNT: usize = 26;
+
+const PSG_COUNT: usize = 0;
 
 /// Whether who has the Z80's RAM fits its stage: at an access and a yield the Z80 has it, and the bus
 /// at a take.
@@ -59,7 +64,7 @@ pub fn first_batch(at: u64) -> u64
 }
 
 /// Whether the FM chip's writes that the bytes keep stand well before the next events of their
-/// processors. Bytes that keep none are refused elsewhere.
+/// processors; where there is none nothing else is read. Bytes that keep no port are refused elsewhere.
 fn are_fm_writes_early(alloc: Global, bytes: &[u8], at: u64) -> bool
     requires whole { length bytes.now ≡ state_size }
     requires cycle { at ≡ at_of bytes.now }
@@ -67,7 +72,11 @@ fn are_fm_writes_early(alloc: Global, bytes: &[u8], at: u64) -> bool
     ensures late { result ≡ false → HasLateFm bytes.now }
     ensures told { HasLateFm bytes.now → result ≡ false }
 {
-    match FmPort::unspell(alloc, FM_PORT.of(bytes), at) {
+    let part = FM_PORT.of(bytes);
+    if u16_at(part, FM_COUNT) == 0 {
+        return true;
+    }
+    match FmPort::unspell(alloc, part, at) {
         Ok(port) => port.is_before_next(u64_at(bytes, MAIN.place), u64_at(bytes, SUB.place)),
         Err(_) => true,
     }
@@ -80,7 +89,11 @@ fn are_psg_writes_early(alloc: Global, bytes: &[u8], at: u64) -> bool
     ensures late { result ≡ false → HasLatePsg bytes.now }
     ensures told { HasLatePsg bytes.now → result ≡ false }
 {
-    match PsgPort::unspell(alloc, PSG_PORT.of(bytes), at) {
+    let part = PSG_PORT.of(bytes);
+    if u16_at(part, PSG_COUNT) == 0 {
+        return true;
+    }
+    match PsgPort::unspell(alloc, part, at) {
         Ok(port) => port.is_before_next(u64_at(bytes, MAIN.place), u64_at(bytes, SUB.place)),
         Err(_) => true,
     }

@@ -106,15 +106,19 @@ pub const BOARD: Part = Part {
 };
 
 /// The words of pad 1 and of pad 2 in it.
-pub const PADS1: usize = 393_598;
+pub const PADS1: usize = BOARD.place + 14;
 
-pub const PADS2: usize = 393_600;
+pub const PADS2: usize = BOARD.place + 16;
 
 /// How many bytes a saved state has.
-pub const LENGTH: usize = 393_620;
+pub const LENGTH: usize = BOARD.place + BOARD.size;
 
-/// How many bytes the Z80 and the bus keep at most, each with RAM and bank register.
-pub const APART: usize = 104_857;
+/// How many bytes of a machine do not stand in their place at once while it is written: those behind the VDP that the
+/// bus keeps.
+pub const APART: usize = FM_PORT.size + PSG_PORT.size + BOARD.size;
+
+/// How many bytes the parts of an item have at most: those of the bus.
+const GATHERED: usize = STORE.size + VIDEO.size + FM_PORT.size + PSG_PORT.size + BOARD.size;
 
 static SUB_WITH_STORE: [Part; 2] = [SUB, STORE];
 
@@ -160,7 +164,7 @@ pub fn gathered(alloc: Global, bytes: &[u8], parts: &[Part]) -> Result<Vec<u8>, 
     requires ordered { are_ordered 0 parts.now ≡ true }
     ensures { IfOk result (λ all. all.items ≡ layout.gathered parts.now bytes.now) }
 {
-    let mut all = Vec::new(alloc);
+    let mut all = Vec::with_capacity(alloc, GATHERED)?;
     let mut rest = parts;
     while let [part, after @ ..] = rest {
         all.extend_from_slice(part.of(bytes))?;

@@ -20,7 +20,7 @@ use crate::fault::StateFault;
 use crate::items::{read_drawing, read_fm, read_main, read_psg, read_shared, read_sub};
 use crate::joining::{both, with_rule};
 use crate::layout::{AT, DIGEST, PADS1, PADS2, REGION};
-use crate::version::{Version, migrated, place_back, version_of};
+use crate::version::{Version, migrated, newest_of, place_back, version_of};
 use bus_shared::Shared;
 use fm_chip::FmSynth;
 use m68k_chip::Chip68;
@@ -88,7 +88,7 @@ pub fn read_with(
         });
     }
     match migrated(alloc, version, bytes) {
-        Ok(newest) => read_newest(alloc, version, newest.as_slice(), cart, recording),
+        Ok(made) => read_newest(alloc, version, newest_of(&made, bytes), cart, recording),
         Err(NoMemory) => Err(StateFault::NoMemory),
     }
 }

@@ -1,7 +1,7 @@
-ghost use Rattle.std.specs.Prelude.{◌≡◌, IfErr, IfOk, IsTrue, ◌↔◌, ◌≤◌, ◌<◌, length};
+ghost use Rattle.std.specs.Prelude.{◌≡◌, IfErr, IfOk, IsTrue, ◌↔◌, ◌≤◌, ◌<◌, length, option_map};
 ghost use Rattle.save_state.specs.Layout.{mark_part, part_of};
 ghost use Rattle.save_state.specs.Versions as versions;
-ghost use Rattle.save_state.specs.Versions.{HasVersion, IsUnversioned, from_first, from_second, place_in_first};
+ghost use Rattle.save_state.specs.Versions.{HasVersion, IsUnversioned, from_first, from_second, newest_of, place_in_first};
 
 use crate::layout::{LENGTH, MARK, TEXT};
 use md_word::NoMemory;
@@ -93,26 +93,27 @@ fn begins_with(bytes: &[u8], mark: &[u8; 8]) -> bool
     MARK.of(bytes) == mark.as_slice()
 }
 
-/// The bytes of the form that is written, made of those of a version.
+/// The bytes of the form that is written, made of those of an older version; none where they have that form.
 #[tactic(auto, unfolding(crate::specs::Versions::migrated))]
-pub fn migrated(alloc: Global, version: Version, bytes: &[u8]) -> Result<Vec<u8>, NoMemory>
+pub fn migrated(alloc: Global, version: Version, bytes: &[u8]) -> Result<Option<Vec<u8>>, NoMemory>
     requires { HasVersion version bytes.now }
-    ensures { IfOk result (λ newest. newest.items ≡ versions.migrated version bytes.now) }
+    ensures { IfOk result (λ made. newest_of (option_map (λ v. v.items) made) bytes.now ≡ versions.migrated version bytes.now) }
 {
     match version {
-        Version::First => from_first(alloc, bytes),
-        Version::Second => from_second(alloc, bytes),
-        Version::Third => copied(alloc, bytes),
+        Version::First => Ok(Some(from_first(alloc, bytes)?)),
+        Version::Second => Ok(Some(from_second(alloc, bytes)?)),
+        Version::Third => Ok(None),
     }
 }
 
-/// The bytes as they are.
-fn copied(alloc: Global, bytes: &[u8]) -> Result<Vec<u8>, NoMemory>
-    ensures { IfOk result (λ copy. copy.items ≡ bytes.now) }
+/// The bytes that were made of others, or these, where none were made.
+pub fn newest_of<'a>(made: &'a Option<Vec<u8>>, bytes: &'a [u8]) -> &'a [u8]
+    ensures { result.now ≡ newest_of (option_map (λ v. v.items) made.now) bytes.now }
 {
-    let mut copy = Vec::with_capacity(alloc, bytes.len())?;
-    copy.extend_from_slice(bytes)?;
-    Ok(copy)
+    match made {
+        Some(newest) => newest.as_slice(),
+        None => bytes,
+    }
 }
 
 /// The bytes of the form that is written, made of those of the first version.

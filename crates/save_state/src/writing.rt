@@ -1,4 +1,4 @@
-ghost use Rattle.std.specs.Prelude.{◌≡◌, ◌≤◌, ◌+◌, ◌++◌, ◌∷◌, [], true, is_some, if◌then◌else◌, drop, take, length, vec_len, vec_capacity, IfOk};
+ghost use Rattle.std.specs.Prelude.{◌≡◌, ◌≤◌, ◌+◌, ◌-◌, ◌++◌, ◌∷◌, [], is_some, if◌then◌else◌, drop, take, length, vec_len, vec_capacity, IfOk};
 ghost use Rattle.std.specs.Int.{w64, to_be_bytes};
 ghost use Rattle.sha2.specs.Sha256.{sha256};
 ghost use Rattle.bus_shared.specs.Board.{IsBoard};
@@ -7,45 +7,44 @@ ghost use Rattle.fm_chip.specs.SynthSpelling as fm;
 ghost use Rattle.psg_sound.specs.SynthSpelling as psg;
 ghost use Rattle.z80_chip.specs.Validity.{IsChip80};
 ghost use Rattle.z80_chip.specs.Spelling as sub;
+ghost use Rattle.vdp_ports.specs.Spelling.{vdp_bytes};
 ghost use Rattle.md_machine.specs.Owners.{HasOneOwner};
 ghost use Rattle.md_machine.specs.Starts as starts;
 ghost use Rattle.save_state.specs.Layout.{apart_size, fm_port_there, lines_there, part_of, psg_port_there, state_size};
 ghost use Rattle.save_state.specs.Ready.{IsReady};
 ghost use Rattle.md_word.specs.Clock.{last_cycle};
 ghost use Rattle.md_word.specs.Coding.{flag_number};
-ghost use Rattle.save_state.specs.States.{mark, settled_console, state_bytes};
+ghost use Rattle.save_state.specs.States.{behind_video, holder_of, mark, number_bytes, own_bytes, settled_console, state_bytes};
 ghost use Rattle.save_state.specs.Versions.{IsState};
 
 use crate::items::first_batch;
 use crate::laws::kept;
-use crate::layout::{APART, LENGTH, Part, STORE, SUB, TEXT};
+use crate::layout::{APART, BOARD, FM_PORT, LENGTH, PSG_PORT, Part, SUB, TEXT};
 use md_machine::Machine;
 use md_word::NoMemory;
 use sha2::{Digest, Sha256};
 use std::alloc::Global;
 
 /// The Z80's numbers, in what it keeps.
-const NUMBERS_THERE: Part = Part { place: 0, size: 62 };
-
-/// The parts of what the bus keeps behind RAM and bank register.
-const VIDEO_THERE: Part = Part {
+const NUMBERS_THERE: Part = Part {
     place: 0,
-    size: 65_813,
+    size: SUB.size,
 };
 
+/// The parts of what the bus keeps behind the VDP.
 const FM_PORT_THERE: Part = Part {
-    place: 65_813,
-    size: 12_316,
+    place: 0,
+    size: FM_PORT.size,
 };
 
 const PSG_PORT_THERE: Part = Part {
-    place: 78_129,
-    size: 10_242,
+    place: FM_PORT_THERE.size,
+    size: PSG_PORT.size,
 };
 
 const LINES_THERE: Part = Part {
-    place: 88_371,
-    size: 36,
+    place: PSG_PORT_THERE.place + PSG_PORT_THERE.size,
+    size: BOARD.size,
 };
 
 /// The bytes of the machine at its cycle, as many as each state has where the Z80's RAM has one owner. Where
@@ -77,8 +76,8 @@ pub fn write_with(alloc: Global, machine: &Machine, digest: &[u8; 32]) -> Result
     Ok(bytes)
 }
 
-/// Appends them, for whoever has the memory: there is room for the bytes, and in `apart` for those of the Z80 and
-/// of the bus, 104,857 at most, which do not stand together.
+/// Appends them, for whoever has the memory: there is room for the bytes, and in `apart` for what does not stand in
+/// its place at once, 22,594 bytes at most.
 pub fn spell(machine: &Machine, digest: &[u8; 32], apart: &mut Vec<u8>, into: &mut Vec<u8>)
     requires cycle { machine.now.at ≤ last_cycle }
     requires digest { digest.now ≡ sha256 machine.now.console.cart }
@@ -90,18 +89,12 @@ pub fn spell(machine: &Machine, digest: &[u8; 32], apart: &mut Vec<u8>, into: &m
     ensures apart { vec_capacity apart.old ≤ vec_capacity apart.new }
 {
     let at = machine.at();
-    let has = machine.shared().has_store();
-    let middle = spell_apart(machine, apart);
-    let (sub, board) = apart.as_slice().split_at(middle);
-    let rest = behind_store(has, board);
     put_head(machine, digest, into);
     machine.main_chip().spell(at, into);
-    put_part(NUMBERS_THERE, sub, into);
-    put_bytes(&[u8::from(has)], into);
-    put_bytes(store_in(has, sub, board), into);
-    put_part(VIDEO_THERE, rest, into);
+    put_sub(machine, apart, into);
+    put_board(machine, apart, into);
     machine.draw_chip().spell(at, into);
-    put_sound(machine, rest, into);
+    put_sound(machine, apart.as_slice(), into);
 }
 
 /// Appends bytes, for which there is room.
@@ -138,68 +131,97 @@ fn put_head(machine: &Machine, digest: &[u8; 32], into: &mut Vec<u8>)
     put_bytes(&[u8::from(machine.pal())], into);
 }
 
-/// Appends the sound chips: ports, which the bus keeps, next batches and syntheses, and the lines behind them.
-fn put_sound(machine: &Machine, rest: &[u8], into: &mut Vec<u8>)
+/// Appends the Z80's numbers, who has RAM and bank register, and those where the Z80 has them and the bus has not.
+fn put_sub(machine: &Machine, apart: &mut Vec<u8>, into: &mut Vec<u8>)
+    requires apart { apart_size ≤ vec_capacity apart.old }
+    requires room { vec_len into.old + 8257 ≤ vec_capacity into.old }
+    ensures bytes { into.new.items ≡ into.old.items ++ (number_bytes machine.now.console.sub.state ++ (holder_of machine.now.console ∷ own_bytes machine.now.console)) }
+    ensures length { vec_len into.new ≡ vec_len into.old + (63 + length (own_bytes machine.now.console)) }
+    ensures few { length (own_bytes machine.now.console) ≤ 8194 }
+    ensures sub { IsChip80 machine.now.console.sub }
+    ensures room { vec_capacity into.old ≤ vec_capacity into.new }
+    ensures apart { vec_capacity apart.old ≤ vec_capacity apart.new }
+{
+    let has = machine.shared().has_store();
+    spell_sub(machine, apart);
+    put_part(NUMBERS_THERE, apart.as_slice(), into);
+    put_bytes(&[u8::from(has)], into);
+    put_bytes(own_of(has, apart.as_slice()), into);
+}
+
+/// Makes a list what the Z80 keeps.
+fn spell_sub(machine: &Machine, apart: &mut Vec<u8>)
+    requires { apart_size ≤ vec_capacity apart.old }
+    ensures bytes { apart.new.items ≡ sub.chip_bytes machine.now.console.sub.state }
+    ensures long { length apart.new.items ≡ sub.spelled_size (is_some machine.now.console.sub.state.store) }
+    ensures sub { IsChip80 machine.now.console.sub }
+    ensures apart { vec_capacity apart.old ≤ vec_capacity apart.new }
+{
+    machine.sub_chip().next();
+    apart.clear();
+    machine.sub_chip().spell(machine.at(), apart);
+}
+
+/// RAM and bank register in what the Z80 keeps, where the bus has none.
+fn own_of(has: bool, sub: &[u8]) -> &[u8]
+    requires { 62 ≤ length sub.now }
+    ensures { result.now ≡ (if has then [] else drop 62 sub.now) }
+{
+    if has { &[] } else { &sub[SUB.size..] }
+}
+
+/// Appends what the bus keeps, as it is once it is settled to the cycle, and cuts off what stands behind the VDP,
+/// which is put apart: the drawing half comes first.
+fn put_board(machine: &Machine, apart: &mut Vec<u8>, into: &mut Vec<u8>)
     requires cycle { machine.now.at ≤ last_cycle }
-    requires rest { length rest.now ≡ 88407 }
+    requires apart { apart_size ≤ vec_capacity apart.old }
+    requires room { vec_len into.old + shared.board_size (is_some machine.now.console.shared.store) ≤ vec_capacity into.old }
+    ensures bytes { into.new.items ≡ into.old.items ++ (shared.store_bytes machine.now.console.shared.store ++ vdp_bytes (shared.settled_board machine.now.at machine.now.console.shared).vdp) }
+    ensures behind { apart.new.items ≡ behind_video machine.now.at machine.now.console.shared }
+    ensures length { vec_len into.new + 22594 ≡ vec_len into.old + shared.board_size (is_some machine.now.console.shared.store) }
+    ensures board { IsBoard machine.now.console.shared }
+    ensures room { vec_capacity into.old ≤ vec_capacity into.new }
+    ensures apart { vec_capacity apart.old ≤ vec_capacity apart.new }
+{
+    machine.shared().known();
+    machine.shared().spell(machine.at(), into);
+    cut_off(into, apart);
+}
+
+/// Cuts off the last 22,594 bytes of a list, and makes another one of them.
+fn cut_off(into: &mut Vec<u8>, apart: &mut Vec<u8>)
+    requires long { 22594 ≤ vec_len into.old }
+    requires room { 22594 ≤ vec_capacity apart.old }
+    ensures front { into.new.items ≡ take (vec_len into.old - 22594) into.old.items }
+    ensures back { apart.new.items ≡ drop (vec_len into.old - 22594) into.old.items }
+    ensures length { vec_len into.new + 22594 ≡ vec_len into.old }
+    ensures room { vec_capacity into.old ≤ vec_capacity into.new }
+    ensures apart { vec_capacity apart.old ≤ vec_capacity apart.new }
+{
+    let from = into.len() - APART;
+    apart.clear();
+    put_bytes(&into[from..], apart);
+    into.truncate(from);
+}
+
+/// Appends the sound chips: ports, which the bus keeps, next batches and syntheses, and the lines behind them.
+fn put_sound(machine: &Machine, behind: &[u8], into: &mut Vec<u8>)
+    requires cycle { machine.now.at ≤ last_cycle }
+    requires behind { length behind.now ≡ 22594 }
     requires room { vec_len into.old + 23377 ≤ vec_capacity into.old }
     ensures bytes { let batch = to_be_bytes w64 (starts.first_batch machine.now.at) in
-        into.new.items ≡ into.old.items ++ (part_of fm_port_there rest.now ++ (batch ++ (fm.synth_bytes machine.now.console.fm
-        ++ (batch ++ (part_of psg_port_there rest.now ++ (psg.synth_bytes machine.now.console.psg ++ part_of lines_there rest.now)))))) }
+        into.new.items ≡ into.old.items ++ (part_of fm_port_there behind.now ++ (batch ++ (fm.synth_bytes machine.now.console.fm
+        ++ (batch ++ (part_of psg_port_there behind.now ++ (psg.synth_bytes machine.now.console.psg ++ part_of lines_there behind.now)))))) }
     ensures length { vec_len into.new ≡ vec_len into.old + 23377 }
     ensures room { vec_capacity into.old ≤ vec_capacity into.new }
 {
     let at = machine.at();
     let batch = first_batch(at).to_be_bytes();
-    put_part(FM_PORT_THERE, rest, into);
+    put_part(FM_PORT_THERE, behind, into);
     put_bytes(&batch, into);
     machine.fm().spell(at, into);
     put_bytes(&batch, into);
-    put_part(PSG_PORT_THERE, rest, into);
+    put_part(PSG_PORT_THERE, behind, into);
     machine.psg().spell(at, into);
-    put_part(LINES_THERE, rest, into);
-}
-
-/// Makes a list what the Z80 keeps and, behind it, what the bus keeps, as it is once it is settled to the cycle.
-/// The answer is where that begins.
-fn spell_apart(machine: &Machine, apart: &mut Vec<u8>) -> usize
-    requires cycle { machine.now.at ≤ last_cycle }
-    requires room { apart_size ≤ vec_capacity apart.old }
-    ensures bytes { apart.new.items ≡ sub.chip_bytes machine.now.console.sub.state ++ shared.board_bytes (shared.settled_board machine.now.at machine.now.console.shared) }
-    ensures middle { length (sub.chip_bytes machine.now.console.sub.state) ≡ result }
-    ensures sub_long { result ≡ sub.spelled_size (is_some machine.now.console.sub.state.store) }
-    ensures board_long { length (shared.board_bytes (shared.settled_board machine.now.at machine.now.console.shared)) ≡ shared.board_size (is_some machine.now.console.shared.store) }
-    ensures sub { IsChip80 machine.now.console.sub }
-    ensures board { IsBoard machine.now.console.shared }
-    ensures room { vec_capacity apart.old ≤ vec_capacity apart.new }
-{
-    let at = machine.at();
-    machine.sub_chip().next();
-    machine.shared().known();
-    apart.clear();
-    machine.sub_chip().spell(at, apart);
-    let middle = apart.len();
-    machine.shared().spell(at, apart);
-    middle
-}
-
-/// RAM and bank register, of whoever has them.
-fn store_in<'a>(has: bool, sub: &'a [u8], board: &'a [u8]) -> &'a [u8]
-    requires sub { 62 ≤ length sub.now }
-    requires board { has ≡ true → 8194 ≤ length board.now }
-    ensures { result.now ≡ (if has then take 8194 board.now else drop 62 sub.now) }
-{
-    if has {
-        &board[..STORE.size]
-    } else {
-        &sub[SUB.size..]
-    }
-}
-
-/// What the bus keeps behind RAM and bank register.
-fn behind_store(has: bool, board: &[u8]) -> &[u8]
-    requires { has ≡ true → 8194 ≤ length board.now }
-    ensures { result.now ≡ drop (shared.store_size has) board.now }
-{
-    if has { &board[STORE.size..] } else { board }
+    put_part(LINES_THERE, behind, into);
 }

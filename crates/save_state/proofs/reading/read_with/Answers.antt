@@ -25,17 +25,17 @@ returns-then-not-is_same-clause-only c = λ start s pads n.
 
 pub read_newest-requires-clause-form : goal.read_newest-requires-clause-form
 read_newest-requires-clause-form c =
-    subst HasForm (sym (c.as_slice.ensures.value ∙ c.in-Ok-migrated.ensures)) (form_of c.in-Ok.version c.args.bytes.now c.in-Ok.ensures.version)
+    subst HasForm (sym (c.newest_of.ensures ∙ c.in-Ok-migrated.ensures)) (form_of c.in-Ok.version c.args.bytes.now c.in-Ok.ensures.version)
 
 pub read_newest-requires-clause-own : goal.read_newest-requires-clause-own
 read_newest-requires-clause-own c =
-    ap (part_of digest_part) (c.as_slice.ensures.value ∙ c.in-Ok-migrated.ensures) ∙ same_digest c.in-Ok.version c.args.bytes.now c.in-Ok.ensures.version
+    ap (part_of digest_part) (c.newest_of.ensures ∙ c.in-Ok-migrated.ensures) ∙ same_digest c.in-Ok.version c.args.bytes.now c.in-Ok.ensures.version
     ∙ sym c.digest_at-kept.ensures ∙ c.is_same.ensures.0 c.if-not-is_same.false ∙ c.requires
 
 pub returns-in-Ok-migrated-clause-only : goal.returns-in-Ok-migrated-clause-only
 returns-in-Ok-migrated-clause-only c = λ start s pads n.
     let cart = arc_value c.args.cart in
-    let same : c.as_slice.result.now ≡ migrated c.in-Ok.version c.args.bytes.now = c.as_slice.ensures.value ∙ c.in-Ok-migrated.ensures in
+    let same : c.newest_of.result.now ≡ migrated c.in-Ok.version c.args.bytes.now = c.newest_of.ensures ∙ c.in-Ok-migrated.ensures in
     let newest = only_of c.in-Ok.version cart c.args.bytes.now start c.in-Ok.ensures.version s in
     c.read_newest.ensures.only start
     (subst (HasPads c.in-Ok.version) (sym same) newest.0) (subst (λ (l : List ℕ). IsNewest cart l start) (sym same) newest.1) pads n
@@ -43,13 +43,13 @@ returns-in-Ok-migrated-clause-only c = λ start s pads n.
 pub returns-in-Ok-migrated-clause-form : goal.returns-in-Ok-migrated-clause-form
 returns-in-Ok-migrated-clause-form c = λ place e.
     let cart = arc_value c.args.cart in
-    let same : c.as_slice.result.now ≡ migrated c.in-Ok.version c.args.bytes.now = c.as_slice.ensures.value ∙ c.in-Ok-migrated.ensures in
+    let same : c.newest_of.result.now ≡ migrated c.in-Ok.version c.args.bytes.now = c.newest_of.ensures ∙ c.in-Ok-migrated.ensures in
     form_wrong c.in-Ok.version cart c.args.bytes.now place c.in-Ok.ensures.version
     (subst (λ (l : List ℕ). FieldFailsBack c.in-Ok.version cart l place) same (c.read_newest.ensures.form place e))
 
 pub returns-in-Ok-migrated-clause-wrong : goal.returns-in-Ok-migrated-clause-wrong
 returns-in-Ok-migrated-clause-wrong c = λ place w n.
     let cart = arc_value c.args.cart in
-    let same : c.as_slice.result.now ≡ migrated c.in-Ok.version c.args.bytes.now = c.as_slice.ensures.value ∙ c.in-Ok-migrated.ensures in
+    let same : c.newest_of.result.now ≡ migrated c.in-Ok.version c.args.bytes.now = c.newest_of.ensures ∙ c.in-Ok-migrated.ensures in
     c.read_newest.ensures.wrong place
     (subst (λ (l : List ℕ). FieldFailsBack c.in-Ok.version cart l place) (sym same) (wrong_of c.in-Ok.version cart c.args.bytes.now place c.in-Ok.ensures.version w)) n
