@@ -1,5 +1,5 @@
 -- Parts of a state: they lie within it, and what comes first in their bytes comes first in the state.
-use Rattle.std.proofs.Common.{◌≡◌, ℕ, ◌+◌, ◌-◌, ◌<◌, ◌≤◌, leb, cond, Bool, true, false, ◌&&◌, List, [], ◌∷◌, length, get_or, refl, ap, arith, inl, inr}
+use Rattle.std.proofs.Common.{◌≡◌, ℕ, ◌+◌, ◌-◌, ◌<◌, ◌≤◌, leb, cond, Bool, true, false, List, [], ◌∷◌, length, get_or, refl, ap, arith, inl, inr}
 use Rattle.std.proofs.lemmas.Bool.{cases_lt, leb-true, lt-ltb, le-ltb, and_parts}
 use Rattle.save_state.specs.declared.layout.Part.{Part}
 use Rattle.save_state.specs.Layout.{are_ordered, place_of}

@@ -1,6 +1,6 @@
 -- What older versions of a saved state ask of the words of the pads, where the newest allows more: their
 -- pads had eight buttons. This project's profile.
-use Rattle.std.specs.Prelude.{◌≡◌, ℕ, ◌+◌, ◌^◌, ◌⊎◌, nat_lt, Bool, true, false, List}
+use Rattle.std.specs.Prelude.{◌≡◌, ℕ, ◌+◌, ◌^◌, nat_lt, Bool, true, false, List}
 use Rattle.std.specs.Int.{w16}
 use Rattle.md_fields.specs.Places.{number_at}
 use Rattle.md_pads.specs.Recording.{Recorded}

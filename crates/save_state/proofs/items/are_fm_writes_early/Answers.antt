@@ -1,4 +1,4 @@
-use Rattle.std.proofs.Common.{arith, ap, length, ◌∙◌}
+use Rattle.std.proofs.Common.{arith, ap, length}
 use Rattle.save_state.specs.Layout.{fm_port_part}
 use Rattle.save_state.proofs.ItemLaws.{fm_few, fm_is_late, fm_told, fm_none}
 use Rattle.save_state.proofs.Parts.{part_long}

@@ -1,4 +1,4 @@
-use Rattle.std.proofs.Common.{arith, ap, length, ◌∙◌}
+use Rattle.std.proofs.Common.{arith, ap, length}
 use Rattle.save_state.specs.Layout.{psg_port_part}
 use Rattle.save_state.proofs.ItemLaws.{psg_few, psg_is_late, psg_told, psg_none}
 use Rattle.save_state.proofs.Parts.{part_long}

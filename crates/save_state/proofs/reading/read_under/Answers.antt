@@ -1,10 +1,4 @@
-use Rattle.std.proofs.Common.{◌≡◌, ◌∙◌, ℕ, false, sym, subst, ap, Result}
-use Rattle.std.specs.Arc.{arc_value}
-use Rattle.std.specs.Int.{w16}
-use Rattle.md_fields.specs.Places.{number_at}
-use Rattle.md_machine.specs.Machines.{MachineValue}
-use Rattle.save_state.specs.Faults.{FailsAt, IsMachineOf}
-use Rattle.save_state.specs.OldPads.{HasOthers, has_buttons, pads1_place, pads2_place}
+use Rattle.save_state.specs.OldPads.{HasOthers, pads1_place, pads2_place}
 use Rattle.save_state.proofs.Joins.{ruled}
 use Rattle.save_state.proofs.reading.read_under.Goals as goal
 
