@@ -1,11 +1,11 @@
 -- The places of the held chips.
-use Rattle.std.proofs.Common.{◌≡◌, ◌≢◌, ℕ, zero, suc, ◌<◌, ◌≤◌, refl, sym, ◌∙◌, ap, subst, arith, ◌⊎◌, inl, inr, [], ◌∷◌, Option, Some, None, IfSome, length, length-set, slice_set, get_or-set_same, get_or-set_other}
-use Rattle.std.proofs.lemmas.Bool.{cases_lt}
+use Rattle.std.proofs.Common.{◌≡◌, ℕ, zero, suc, ◌<◌, ◌≤◌, refl, sym, ◌∙◌, subst, arith, ◌⊎◌, inl, inr, [], ◌∷◌, Option, Some, None, IfSome, length, slice_set}
 use Rattle.std.proofs.lemmas.List.{get_or_past}
 use Rattle.std.proofs.lemmas.Option.{none-some}
 use Rattle.chip_core.specs.Chips.{Rules}
 use Rattle.chip_core.specs.Cores.{CoreValue, machine_of}
 use Rattle.chip_core.specs.Machines.{OnPath}
+use Rattle.chip_core.proofs.Keys.{lt_or}
 use Rattle.chip_run.specs.Held.{HeldValue, IsHeld, settled}
 use Rattle.chip_run.specs.Locked.{LockedValue, count_of}
 use Rattle.chip_run.specs.Places.{AreOnPaths, HasNumber, Places, place}
@@ -15,7 +15,7 @@ use Rattle.chip_run.specs.declared.turn.Turn.{Turn}
 module _ {Chip Pins : Type 0} where
   -- a place that has a chip is one of the list
   pub place-in : (hs : Places Chip Pins) (i : ℕ) (h : HeldValue Chip Pins) → place hs i ≡ Some h → i < length hs
-  place-in hs i h there = go (cases_lt i (length hs))
+  place-in hs i h there = go (lt_or i (length hs))
     where
       go : (i < length hs) ⊎ (length hs ≤ i) → i < length hs
       go (inl less) = less
@@ -29,27 +29,6 @@ module _ {Chip Pins : Type 0} where
   each-place P a b c d e at0 at1 at2 at3 at4 past (suc (suc (suc zero))) = at3
   each-place P a b c d e at0 at1 at2 at3 at4 past (suc (suc (suc (suc zero)))) = at4
   each-place P a b c d e at0 at1 at2 at3 at4 past (suc (suc (suc (suc (suc i))))) = past (suc (suc (suc (suc (suc i))))) (omega arith)
-
-  -- no chip is held
-  pub no-place : (i : ℕ) → place {Chip = Chip} {Pins = Pins} (None ∷ None ∷ None ∷ None ∷ None ∷ []) i ≡ None
-  no-place i = each-place (λ n o. o ≡ None) None None None None None refl refl refl refl refl (λ n h. refl) i
-
-  -- one place of five is swapped with one of none
-  module _ (hs none one : Places Chip Pins) (w : ℕ) (five : length hs ≡ 5) (is : none ≡ None ∷ None ∷ None ∷ None ∷ None ∷ []) (put : one ≡ slice_set none w (place hs w)) where
-    empty : (i : ℕ) → place none i ≡ None
-    empty i = ap (λ xs. place xs i) is ∙ no-place i
-
-    pub swapped-taken : place one w ≡ place hs w
-    swapped-taken = go (cases_lt w (length hs))
-      where
-        go : (w < length hs) ⊎ (length hs ≤ w) → place one w ≡ place hs w
-        go (inl less) = ap (λ xs. place xs w) put ∙ get_or-set_same none w (place hs w) None (let l = ap length is in omega (arith, five))
-        go (inr past) =
-            let nothing : place hs w ≡ None = get_or_past hs w None past in
-            get_or_past one w None (let l = ap length put in let m = ap length is in let n = length-set none w (place hs w) in omega (arith, five)) ∙ sym nothing
-
-    pub swapped-alone : (i : ℕ) → i ≢ w → place one i ≡ None
-    swapped-alone i ne = ap (λ xs. place xs i) put ∙ get_or-set_other none w i (place hs w) None ne ∙ empty i
 
 module _ {Chip Shared Pins : Type 0} (rules : Rules Chip Shared Pins) (chip_ok : Chip → Type 0) (shared_ok : Shared → Type 0) (base : CoreValue Chip Shared) (t : ℕ) where
   path-at : (i : ℕ) (o : Option (HeldValue Chip Pins)) → HasNumber i o → IfSome o (λ h. IsHeld rules chip_ok shared_ok base t h) → IfSome o (λ h. OnPath rules (machine_of rules base) t i h.amount (settled rules h.due h.chip))

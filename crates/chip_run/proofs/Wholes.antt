@@ -17,10 +17,6 @@ use Rattle.chip_run.proofs.Keeping.{held-performed-at, held-sampled-at, kept-per
 use Rattle.chip_run.proofs.Settling.{ahead-run, held-advanced, held-run, ran-rest}
 
 module _ {Chip Shared Pins : Type 0} (rules : Rules Chip Shared Pins) (chip_ok : Chip → Type 0) (shared_ok : Shared → Type 0) where
-  -- the shared state is one that the laws speak of
-  pub shared-at : (base : CoreValue Chip Shared) (t : ℕ) (p : PartsValue Shared) (i paid : ℕ) → IsLockedAt rules chip_ok shared_ok base t p i paid → shared_ok p.shared
-  shared-at base t p i paid at = subst shared_ok at.locked.shared at.locked.tidy.valid.shared
-
   -- after it the parts are locked ones, with what was booked
   pub locked-next : (base : CoreValue Chip Shared) (t i : ℕ) (p : PartsValue Shared) (paid : ℕ) (q : PartsValue Shared) (later : ℕ) → IsLockedAt rules chip_ok shared_ok base t p i paid
       → KeepsLocked rules chip_ok shared_ok base t i p paid q later → IsLockedAt rules chip_ok shared_ok base t q i later
