@@ -1,11 +1,11 @@
 -- The places of the held chips.
-use Rattle.std.proofs.Common.{◌≡◌, ℕ, zero, suc, ◌<◌, ◌≤◌, refl, sym, ◌∙◌, subst, arith, ◌⊎◌, inl, inr, [], ◌∷◌, Option, Some, None, IfSome, length, slice_set}
+use Rattle.std.proofs.Common.{◌≡◌, ℕ, zero, suc, ◌<◌, ◌≤◌, sym, ◌∙◌, subst, arith, ◌⊎◌, inl, inr, [], ◌∷◌, Option, Some, None, IfSome, length, slice_set}
+use Rattle.std.proofs.lemmas.Bool.{cases_lt}
 use Rattle.std.proofs.lemmas.List.{get_or_past}
 use Rattle.std.proofs.lemmas.Option.{none-some}
 use Rattle.chip_core.specs.Chips.{Rules}
 use Rattle.chip_core.specs.Cores.{CoreValue, machine_of}
 use Rattle.chip_core.specs.Machines.{OnPath}
-use Rattle.chip_core.proofs.Keys.{lt_or}
 use Rattle.chip_run.specs.Held.{HeldValue, IsHeld, settled}
 use Rattle.chip_run.specs.Locked.{LockedValue, count_of}
 use Rattle.chip_run.specs.Places.{AreOnPaths, HasNumber, Places, place}
@@ -15,7 +15,7 @@ use Rattle.chip_run.specs.declared.turn.Turn.{Turn}
 module _ {Chip Pins : Type 0} where
   -- a place that has a chip is one of the list
   pub place-in : (hs : Places Chip Pins) (i : ℕ) (h : HeldValue Chip Pins) → place hs i ≡ Some h → i < length hs
-  place-in hs i h there = go (lt_or i (length hs))
+  place-in hs i h there = go (cases_lt i (length hs))
     where
       go : (i < length hs) ⊎ (length hs ≤ i) → i < length hs
       go (inl less) = less
