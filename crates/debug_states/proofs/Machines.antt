@@ -5,7 +5,7 @@ use Rattle.md_machine.specs.Console.{AllBelow, Console, IsQuiet, key_in, mover, 
 use Rattle.md_machine.specs.Movers.{mover-lt}
 use Rattle.md_machine.specs.Starts.{Start}
 use Rattle.page_ring.specs.Kept.{IsPushed, cost}
-use Rattle.md_debug.specs.Going.{Goes, RunsTo, Steps, StepsOnce, arrives, begun_by, ends, goes_on, stays}
+use Rattle.md_debug.specs.Going.{GoesTo, RunsTo, Steps, StepsOnce, arrives, begun_by, ends, goes_on, stays}
 
 -- ---- moves
 
@@ -20,9 +20,9 @@ few m z end n moves below quiet is = elim (cases_lt moves n) [
   | inr cases_lt ↦ cases_lt
 ]
 
-one_goes : (m w z : Console) (s t : ℕ) (first second : List ℕ) → s ≡ t → Goes m s w first → Goes m t z second → (w ≡ z) × (first ≡ second)
+one_goes : (m w z : Console) (s t : ℕ) (first second : List ℕ) → s ≡ t → GoesTo m s w first → GoesTo m t z second → (w ≡ z) × (first ≡ second)
 one_goes m w z s t first second end one two =
-    let other : Goes m s z second = subst (λ (n : ℕ). Goes m n z second) (sym end) two in
+    let other : GoesTo m s z second = subst (λ (n : ℕ). GoesTo m n z second) (sym end) two in
     let up : one.moves ≤ other.moves = few m z s one.moves other.moves one.below other.quiet other.console in
     let down : other.moves ≤ one.moves = few m w s other.moves one.moves other.below one.quiet one.console in
     let same : one.moves ≡ other.moves = omega (arith, up, down) in

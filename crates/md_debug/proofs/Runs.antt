@@ -11,7 +11,7 @@ use Rattle.circular_buffer.specs.Buffer.{Buffer}
 use Rattle.md_machine.proofs.Joined.{ran-add}
 use Rattle.md_debug.specs.Debuggees.{IsDebuggee, WentOn}
 use Rattle.md_debug.specs.declared.debuggee.Debuggee.{Debuggee}
-use Rattle.md_debug.specs.Going.{Goes, RunsTo, Steps, StepsOnce, begun_by, drained, latest, least_of}
+use Rattle.md_debug.specs.Going.{GoesTo, RunsTo, Steps, StepsOnce, begun_by, drained, latest, least_of}
 use Rattle.md_debug.specs.Going.{goes_on, ends, arrives, stays}
 use Rattle.md_debug.specs.Keeping.{KeepsMachines}
 use Rattle.md_machine.specs.Movers.{mover-lt}
@@ -36,7 +36,7 @@ split k a b below = elim (cases_lt k a) [
 ]
 
 -- a machine that goes on to a cycle, and from there to a later one, goes on to that
-pub goes_joined : (m w z : Console) (s t : ℕ) (first later : List ℕ) → s ≤ t → Goes m s w first → Goes w t z later → Goes m t z (first ++ later)
+pub goes_joined : (m w z : Console) (s t : ℕ) (first later : List ℕ) → s ≤ t → GoesTo m s w first → GoesTo w t z later → GoesTo m t z (first ++ later)
 goes_joined m w z s t first later within one two =
     let after : (j : ℕ) → j < two.moves → (key_in (ran m (one.moves + j)) (mover (ran m (one.moves + j)))).cycle < t = λ j below.
     subst (λ (x : Console). (key_in x (mover x)).cycle < t) (ap (λ (x : Console). ran x j) one.console ∙ sym (ran-add m one.moves j)) (two.below j below) in
@@ -55,7 +55,7 @@ goes_joined m w z s t first later within one two =
     }
 
 -- a machine of which no event stands below a cycle is there
-pub goes_nowhere : (m : Console) (end : ℕ) → IsQuiet end m → Goes m end m []
+pub goes_nowhere : (m : Console) (end : ℕ) → IsQuiet end m → GoesTo m end m []
 unfolding ran begun_by
 goes_nowhere m end quiet = record { moves = 0; below = λ k before. absurd (omega (arith, before)); quiet = quiet; console = refl; begins = refl }
 
@@ -65,7 +65,7 @@ unfolding ran
 nothing_moves m end zero below late = refl
 nothing_moves m end (suc n) below late = absurd (let first = below 0 (omega arith) in omega (arith, late, first))
 
-pub goes_quietly : (m z : Console) (end : ℕ) (entries : List Entry) (output : Media) → IsRunTo m end z entries output → end ≤ least_of m → Goes m end z []
+pub goes_quietly : (m z : Console) (end : ℕ) (entries : List Entry) (output : Media) → IsRunTo m end z entries output → end ≤ least_of m → GoesTo m end z []
 unfolding begun_by
 goes_quietly m z end entries output run late = record {
   moves = run.moves;
@@ -86,7 +86,7 @@ some_moves m z end (suc n) quiet same past = omega arith
 
 goes_once : (m z : Console) (end : ℕ) (entries : List Entry) (output : Media) → IsRunTo m end z entries output → end ≡ least_of m + 1
     → ((moves : ℕ) → AllBelow m (least_of m + 1) moves → 1 ≤ moves → begun_by m moves ≡ option_to_list (begins_in m))
-    → Goes m (least_of m + 1) z (option_to_list (begins_in m))
+    → GoesTo m (least_of m + 1) z (option_to_list (begins_in m))
 goes_once m z end entries output run is alone =
     let below : AllBelow m (least_of m + 1) run.moves = λ k within. let one = run.below k within in omega (arith, one, is) in
     let quiet : IsQuiet (least_of m + 1) z = λ i less. let one = run.quiet i less in omega (arith, one, is) in
@@ -122,7 +122,7 @@ went_once old mid new least begins is begin at run kept same remembered ready al
     record {
       at = ap (λ (x : MachineValue). x.at) same ∙ at ∙ next;
       begun = option_to_list (begins_in m);
-      goes = subst (λ (z : Console). Goes m (least_of m + 1) z (option_to_list (begins_in m))) (sym there) (goes_once m mid.machine.console (least + 1) run.0 run.1.0 run.1.1 next alone);
+      goes = subst (λ (z : Console). GoesTo m (least_of m + 1) z (option_to_list (begins_in m))) (sym there) (goes_once m mid.machine.console (least + 1) run.0 run.1.0 run.1.1 next alone);
       remembered = remembered ∙ (λ i. latest ((kept i).items ++ option_to_list (begin i)));
       ready = ready;
     }
@@ -168,7 +168,7 @@ went_nowhere d ready = record {
 
 module _ (is_own : MachineValue → Type 0) (read_back : MachineValue → MachineValue) (keeps : KeepsMachines is_own read_back) where
   -- a machine to which one of them goes has an image
-  own_on : (start : Start) (end : ℕ) (z : Console) (begun : List ℕ) → is_own (drained start) → start.at ≤ end → end ≤ last_cycle → Goes start.console end z begun
+  own_on : (start : Start) (end : ℕ) (z : Console) (begun : List ℕ) → is_own (drained start) → start.at ≤ end → end ≤ last_cycle → GoesTo start.console end z begun
       → is_own (drained (record { at = end; console = z }))
   own_on start end z begun own later near goes =
       keeps.runs (drained start) end z (journal start.console goes.moves) (media start.console goes.moves) own later near

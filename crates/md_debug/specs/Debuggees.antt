@@ -2,7 +2,7 @@
 use Rattle.std.specs.Prelude.{◌≡◌, ℕ, ◌≤◌, List, [], ◌++◌, length, vec_capacity}
 use Rattle.md_machine.specs.Media.{no_media}
 use Rattle.md_machine.specs.Starts.{IsStart}
-use Rattle.md_debug.specs.Going.{Goes, latest, most_begun, start_of}
+use Rattle.md_debug.specs.Going.{GoesTo, latest, most_begun, start_of}
 use Rattle.md_debug.specs.declared.debuggee.Debuggee.{Debuggee}
 
 -- the bytes of a frame's entries on PAL, which are more than those of its picture or its samples
@@ -23,6 +23,6 @@ pub record IsDebuggee (d : Debuggee) : Type 0 where
 pub record WentOn (old : Debuggee) (end : ℕ) (new : Debuggee) : Type 0 where
   pub at : new.machine.at ≡ end
   pub begun : List ℕ
-  pub goes : Goes old.machine.console end new.machine.console begun
+  pub goes : GoesTo old.machine.console end new.machine.console begun
   pub remembered : new.begun.items ≡ latest (old.begun.items ++ begun)
   pub ready : IsDebuggee new

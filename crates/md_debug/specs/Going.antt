@@ -25,7 +25,7 @@ begun_by m zero = []
 begun_by m (suc n) = begun_by m n ++ option_to_list (begins_in (ran m n))
 
 -- all events below a cycle and no other: the machine, and the instructions that they begin
-pub record Goes (m : Console) (end : ℕ) (after : Console) (begun : List ℕ) : Type 0 where
+pub record GoesTo (m : Console) (end : ℕ) (after : Console) (begun : List ℕ) : Type 0 where
   pub moves : ℕ
   pub below : AllBelow m end moves
   pub quiet : IsQuiet end after
@@ -34,7 +34,7 @@ pub record Goes (m : Console) (end : ℕ) (after : Console) (begun : List ℕ) :
 
 -- all events of the least cycle, where that is below the last one
 pub data StepsOnce (m after : Start) (begun : List ℕ) : Type 0 where
-  goes_on : least_of m.console < last_cycle → after.at ≡ least_of m.console + 1 → Goes m.console after.at after.console begun → StepsOnce m after begun
+  goes_on : least_of m.console < last_cycle → after.at ≡ least_of m.console + 1 → GoesTo m.console after.at after.console begun → StepsOnce m after begun
   ends : last_cycle ≤ least_of m.console → after ≡ m → begun ≡ [] → StepsOnce m after begun
 
 -- the same n times
@@ -45,7 +45,7 @@ Steps (suc n) m after begun =
 
 -- all events below a cycle, where the machine is not there yet
 pub data RunsTo (end : ℕ) (m after : Start) (begun : List ℕ) : Type 0 where
-  arrives : m.at < end → after.at ≡ end → Goes m.console end after.console begun → RunsTo end m after begun
+  arrives : m.at < end → after.at ≡ end → GoesTo m.console end after.console begun → RunsTo end m after begun
   stays : end ≤ m.at → after ≡ m → begun ≡ [] → RunsTo end m after begun
 
 -- how many instructions are remembered

@@ -6,7 +6,7 @@ ghost use Rattle.md_machine.specs.Media.{Media, no_media};
 ghost use Rattle.md_machine.specs.Regions.{most_entries, most_pairs};
 ghost use Rattle.md_machine.specs.Starts.{IsStart};
 ghost use Rattle.md_debug.specs.Debuggees.{IsDebuggee, WentOn, most_output};
-ghost use Rattle.md_debug.specs.Going.{Goes, RunsTo, Steps, StepsOnce, drained, latest, least_of, start_of};
+ghost use Rattle.md_debug.specs.Going.{GoesTo, RunsTo, Steps, StepsOnce, drained, latest, least_of, start_of};
 
 use crate::laws;
 use circular_buffer::HeapCircularBuffer;
