@@ -1,9 +1,8 @@
 -- What a status tells of an assembly, and the ending without a fault.
-use Rattle.std.proofs.Common.{◌≡◌, ◌≢◌, ◌⊎◌, inl, inr, ℕ, Bool, false, cond, List, length, Option, Some, None, refl, ap, ◌∙◌, arith}
-use Rattle.std.specs.Str.{bytes_eq}
-use Rattle.std.proofs.lemmas.Slice.Eq.{bytes_eq-Decides}
-use Rattle.std.proofs.lemmas.Bool.{le-ltb, false_from_ne_true}
+use Rattle.std.proofs.Common.{◌≡◌, ◌≢◌, ◌⊎◌, inl, inr, ℕ, Bool, cond, List, length, Option, Some, None, refl, ap, ◌∙◌, arith}
+use Rattle.std.proofs.lemmas.Bool.{le-ltb}
 use Rattle.md_outer.specs.Outside.{DepotState, Files, Rose, with_file}
+use Rattle.md_outer.proofs.WrittenFiles.{with_file-other}
 use Rattle.md_asm.specs.Assembly as assembly
 use Rattle.md_asm.specs.declared.placed.Placed.{Placed}
 use Rattle.md_args.specs.Words.{Assemble, Assembling, Conversion, Run}
@@ -113,23 +112,18 @@ asm_done (Some bytes) image lines found =
     ∙ ap (λ (outcome : assembly.AssemblyOutcome). status_of (as_ending (files.made_ending outcome))) found.1
 
 -- the files of other names than the outputs'
-with_other : (held : Files) (output bytes name : List ℕ) → output ≢ name → with_file held output bytes name ≡ held name
-with_other held output bytes name differ =
-    let other : bytes_eq output name ≡ false = false_from_ne_true (bytes_eq output name) (λ same. differ ((bytes_eq-Decides output name).0 same)) in
-    rw other refl
-
 list_other : (held : Files) (list : Option (List ℕ)) (bytes name : List ℕ) → list ≢ Some name → with_list list held bytes name ≡ held name
 list_other held None bytes name differ = refl
-list_other held (Some output) bytes name differ = with_other held output bytes name (λ same. differ (ap Some same))
+list_other held (Some output) bytes name differ = with_file-other held output bytes name (λ same. differ (ap Some same))
 
 both_other : (words : Assembling) (held : Files) (image list name : List ℕ) → words.output ≢ name → words.list ≢ Some name
     → with_list words.list (with_file held words.output image) list name ≡ held name
 both_other words held image list name differ apart =
-    list_other (with_file held words.output image) words.list list name apart ∙ with_other held words.output image name differ
+    list_other (with_file held words.output image) words.list list name apart ∙ with_file-other held words.output image name differ
 
 holds_other : (words : Assembling) (old new : Files) (image list : List ℕ) → HoldsParts words old new image list
     → (name : List ℕ) → words.output ≢ name → words.list ≢ Some name → new name ≡ old name
-holds_other words old new image list (inl part) name differ apart = ap (λ (held : Files). held name) part.2 ∙ with_other old words.output part.0 name differ
+holds_other words old new image list (inl part) name differ apart = ap (λ (held : Files). held name) part.2 ∙ with_file-other old words.output part.0 name differ
 holds_other words old new image list (inr parts) name differ apart =
     ap (λ (held : Files). held name) parts.4 ∙ both_other words old parts.0 parts.1 name differ apart
 

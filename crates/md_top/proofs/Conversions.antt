@@ -1,10 +1,9 @@
 -- What a status tells of a conversion, and the ending without a fault.
-use Rattle.std.proofs.Common.{◌≡◌, ◌≢◌, ◌⊎◌, inl, inr, ℕ, Bool, false, cond, List, [], length, Option, Some, None, refl, ap, ◌∙◌, arith}
+use Rattle.std.proofs.Common.{◌≡◌, ◌≢◌, ◌⊎◌, inl, inr, ℕ, Bool, cond, List, [], length, Option, Some, None, refl, ap, ◌∙◌, arith}
 use Rattle.std.specs.Prelude.{unwrap_or}
-use Rattle.std.specs.Str.{bytes_eq}
-use Rattle.std.proofs.lemmas.Slice.Eq.{bytes_eq-Decides}
-use Rattle.std.proofs.lemmas.Bool.{le-ltb, false_from_ne_true}
-use Rattle.md_outer.specs.Outside.{DepotState, Files, Rose, with_file}
+use Rattle.std.proofs.lemmas.Bool.{le-ltb}
+use Rattle.md_outer.specs.Outside.{DepotState, Files, Rose}
+use Rattle.md_outer.proofs.WrittenFiles.{with_file-other}
 use Rattle.md_vgm.specs.Outcomes.{Made, Outcome}
 use Rattle.md_args.specs.Words.{Conversion, Convert, Run}
 use Rattle.vgm_files.specs.Conversions as files
@@ -109,15 +108,10 @@ convert_done conversion (Some bytes) made found =
     ap (λ (long : Bool). status_of (as_ending (cond long converted.TooLong (converted.Made (length made))))) (le-ltb limit (length bytes) found.0)
 
 -- the files of other names than the output's
-with_other : (held : Files) (output bytes name : List ℕ) → output ≢ name → with_file held output bytes name ≡ held name
-with_other held output bytes name differ =
-    let other : bytes_eq output name ≡ false = false_from_ne_true (bytes_eq output name) (λ same. differ ((bytes_eq-Decides output name).0 same)) in
-    rw other refl
-
 pub converted_other : (conversion : Conversion) (old new : Files) (ending : Ending) → ConvertFiles conversion old new ending → (name : List ℕ) → conversion.output ≢ name → new name ≡ old name
 converted_other conversion old new (Converted size) leaves name differ =
-    ap (λ (held : Files). held name) leaves.3 ∙ with_other old conversion.output leaves.0 name differ
+    ap (λ (held : Files). held name) leaves.3 ∙ with_file-other old conversion.output leaves.0 name differ
 converted_other conversion old new OutputFault (inl same) name differ = ap (λ (held : Files). held name) same
 converted_other conversion old new OutputFault (inr part) name differ =
-    ap (λ (held : Files). held name) part.4 ∙ with_other old conversion.output part.1 name differ
+    ap (λ (held : Files). held name) part.4 ∙ with_file-other old conversion.output part.1 name differ
 converted_other conversion old new _ leaves name differ = ap (λ (held : Files). held name) leaves

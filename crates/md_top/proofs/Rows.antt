@@ -1,12 +1,10 @@
 -- The answers one by one, from the answer as a whole.
-use Rattle.std.proofs.Common.{◌≡◌, ◌≢◌, ◌⊎◌, inl, inr, ℕ, ◌≤◌, false, List, [], Option, Some, None, refl, sym, ap, ◌∙◌, arith}
+use Rattle.std.proofs.Common.{◌≡◌, ◌≢◌, ◌⊎◌, inl, inr, ℕ, ◌≤◌, List, [], Option, Some, None, refl, sym, ap, ◌∙◌, arith}
 use Rattle.std.specs.Prelude.{codes}
-use Rattle.std.specs.Str.{bytes_eq}
-use Rattle.std.proofs.lemmas.Slice.Eq.{bytes_eq-Decides}
-use Rattle.std.proofs.lemmas.Bool.{false_from_ne_true}
 use Rattle.rom_header.specs.Header.{header_lines}
 use Rattle.md_pads.specs.Recording.{no_frames}
-use Rattle.md_outer.specs.Outside.{DepotState, Files, Rose, SinkState, with_file}
+use Rattle.md_outer.specs.Outside.{DepotState, Files, Rose, SinkState}
+use Rattle.md_outer.proofs.WrittenFiles.{with_file-other}
 use Rattle.md_top.specs.Answers.{Answers, AreFindingsRight, Causes, IsRight, PutsAll, PutsPart, Reports}
 use Rattle.md_top.specs.Inputs.{IsAccepted, IsJudged, Spelled, RecordingCause, Verdict, cart_of}
 use Rattle.md_word.specs.Clock.{last_cycle}
@@ -197,15 +195,10 @@ not_out _ is = omega (arith, is)
 -- FILES OF OTHER NAMES
 
 -- an output leaves the files of other names
-with_other : (files : Files) (output bytes name : List ℕ) → output ≢ name → with_file files output bytes name ≡ files name
-with_other files output bytes name differ =
-    let other : bytes_eq output name ≡ false = false_from_ne_true (bytes_eq output name) (λ same. differ ((bytes_eq-Decides output name).0 same)) in
-    rw other refl
-
 part_other : (files : Files) (output written_bytes : Option (List ℕ)) (name : List ℕ) → output ≢ Some name → with_part files output written_bytes name ≡ files name
 part_other files output None name differ = refl
 part_other files None (Some bytes) name differ = refl
-part_other files (Some output) (Some bytes) name differ = with_other files output bytes name (λ same. differ (ap Some same))
+part_other files (Some output) (Some bytes) name differ = with_file-other files output bytes name (λ same. differ (ap Some same))
 
 written_other : (run : Run) (old : Files) (parts : Parts) (name : List ℕ) → run.frames ≢ Some name → run.sound ≢ Some name → run.journal ≢ Some name → run.save ≢ Some name
     → written run old parts name ≡ old name

@@ -1,49 +1,12 @@
 -- What the outputs hold behind a begin and an append.
-use Rattle.std.proofs.Common.{◌≡◌, ℕ, Bool, true, false, cond, List, [], ◌++◌, Option, Some, None, refl, sym, ap, subst, ◌∙◌, append-nil, append_assoc}
+use Rattle.std.proofs.Common.{◌≡◌, ℕ, true, false, List, ◌++◌, Option, Some, None, refl, sym, ap, subst, ◌∙◌, append-nil, append_assoc}
 use Rattle.std.specs.Prelude.{IsSome}
 use Rattle.std.specs.Str.{bytes_eq}
-use Rattle.std.proofs.lemmas.Slice.Eq.{bytes_eq-Decides}
 use Rattle.std.proofs.lemmas.Bool.{true≢false, not-true}
-use mathlib.Core.Path.{fun_ext}
 use Rattle.md_outer.specs.Outside.{Files, IsPrefix, bytes_of, with_file}
+use Rattle.md_outer.proofs.WrittenFiles.{file-longer, with_file-comm}
 use Rattle.md_top.specs.Outputs.{Holds, IsPartOf, LeavesParts, Pieces, all_of, lengthened, nothing, with_part, written}
 use Rattle.md_args.specs.Words.{Run, differ}
-
--- FILES
-
--- a choice within a choice by the same test
-cond-cond : {A : Type 0} (b : Bool) (x y z : A) → cond b x (cond b y z) ≡ cond b x z
-cond-cond true x y z = refl
-cond-cond false x y z = refl
-
--- the later bytes of a file count
-pub with_file-with_file : (files : Files) (name first second : List ℕ) → with_file (with_file files name first) name second ≡ with_file files name second
-with_file-with_file files name first second = fun_ext (λ other. cond-cond (bytes_eq name other) (Some second) (Some first) (files other))
-
-pub bytes_of-with_file : (files : Files) (name bytes : List ℕ) → bytes_of (with_file files name bytes) name ≡ bytes
-bytes_of-with_file files name bytes = rw ((bytes_eq-Decides name name).1 refl) refl
-
--- two choices whose tests do not both hold change places
-cond-comm : {A : Type 0} (p q : Bool) (x y z : A) → (p ≡ true → q ≡ true → ⊥) → cond q y (cond p x z) ≡ cond p x (cond q y z)
-cond-comm true true x y z apart = absurd (apart refl refl)
-cond-comm true false x y z apart = refl
-cond-comm false true x y z apart = refl
-cond-comm false false x y z apart = refl
-
--- files of two names change places
-with_file-comm : (files : Files) (a b x y : List ℕ) → bytes_eq a b ≡ false → with_file (with_file files a x) b y ≡ with_file (with_file files b y) a x
-with_file-comm files a b x y differs =
-    fun_ext (λ other. cond-comm (bytes_eq a other) (bytes_eq b other) (Some x) (Some y) (files other)
-    (λ first second. true≢false (sym ((bytes_eq-Decides a b).1 ((bytes_eq-Decides a other).0 first ∙ sym ((bytes_eq-Decides b other).0 second))) ∙ differs)))
-
--- a piece behind the bytes of a file
-file-longer : (base files new : Files) (name held piece : List ℕ) → files ≡ with_file base name held → new ≡ with_file files name (bytes_of files name ++ piece)
-    → new ≡ with_file base name (held ++ piece)
-file-longer base files new name held piece is appended =
-    let from : new ≡ with_file (with_file base name held) name (bytes_of (with_file base name held) name ++ piece) =
-    subst (λ (m : Files). new ≡ with_file m name (bytes_of m name ++ piece)) is appended in
-    let same : bytes_of (with_file base name held) name ++ piece ≡ held ++ piece = ap (λ (l : List ℕ). l ++ piece) (bytes_of-with_file base name held) in
-    from ∙ ap (λ (l : List ℕ). with_file (with_file base name held) name l) same ∙ with_file-with_file base name held (held ++ piece)
 
 -- OUTPUTS
 
@@ -152,9 +115,6 @@ pub only-state : (held : Pieces) (piece : List ℕ) → record held { state = he
 only-state held piece = λ i. record { frames = sym (append-nil held.frames) i; sound = sym (append-nil held.sound) i; journal = sym (append-nil held.journal) i; state = held.state ++ piece }
 
 -- PARTS
-
-pub prefix-self : (l : List ℕ) → IsPrefix l l
-prefix-self l = ([], append-nil l)
 
 pub prefix-append : (front l more : List ℕ) → IsPrefix l more → IsPrefix (front ++ l) (front ++ more)
 prefix-append front l more is = (is.0, append_assoc front l is.0 ∙ ap (λ (x : List ℕ). front ++ x) is.1)
