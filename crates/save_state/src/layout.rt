@@ -12,97 +12,144 @@ pub struct Part {
     pub size: usize,
 }
 
+/// How many bytes each part has, in their order; nothing stands between them.
+const MARK_SIZE: usize = 8;
+
+const DIGEST_SIZE: usize = 32;
+
+const AT_SIZE: usize = 8;
+
+const REGION_SIZE: usize = 1;
+
+const MAIN_SIZE: usize = 65_714;
+
+const SUB_SIZE: usize = 62;
+
+const HOLDER_SIZE: usize = 1;
+
+const STORE_SIZE: usize = 8_194;
+
+const VIDEO_SIZE: usize = 65_813;
+
+const DRAWING_SIZE: usize = 230_410;
+
+const FM_PORT_SIZE: usize = 12_316;
+
+const FM_NEXT_SIZE: usize = 8;
+
+const FM_SIZE: usize = 741;
+
+const PSG_NEXT_SIZE: usize = 8;
+
+const PSG_PORT_SIZE: usize = 10_242;
+
+const PSG_SIZE: usize = 26;
+
+const BOARD_SIZE: usize = 36;
+
 /// The text with which a state begins.
 pub const TEXT: [u8; 8] = *b"MDSTATE3";
 
 /// Where it stands.
-pub const MARK: Part = Part { place: 0, size: 8 };
+pub const MARK: Part = Part {
+    place: 0,
+    size: MARK_SIZE,
+};
 
 /// The SHA-256 of the cartridge's image.
-pub const DIGEST: Part = Part { place: 8, size: 32 };
+pub const DIGEST: Part = Part {
+    place: MARK.place + MARK_SIZE,
+    size: DIGEST_SIZE,
+};
 
 /// The cycle.
-pub const AT: Part = Part { place: 40, size: 8 };
+pub const AT: Part = Part {
+    place: DIGEST.place + DIGEST_SIZE,
+    size: AT_SIZE,
+};
 
 /// The region: 0 NTSC, 1 PAL.
-pub const REGION: Part = Part { place: 48, size: 1 };
+pub const REGION: Part = Part {
+    place: AT.place + AT_SIZE,
+    size: REGION_SIZE,
+};
 
 /// The 68000.
 pub const MAIN: Part = Part {
-    place: 49,
-    size: 65_714,
+    place: REGION.place + REGION_SIZE,
+    size: MAIN_SIZE,
 };
 
 /// The Z80's numbers.
 pub const SUB: Part = Part {
-    place: 65_763,
-    size: 62,
+    place: MAIN.place + MAIN_SIZE,
+    size: SUB_SIZE,
 };
 
 /// Who has the Z80's RAM: 0 the Z80, 1 the bus.
 pub const HOLDER: Part = Part {
-    place: 65_825,
-    size: 1,
+    place: SUB.place + SUB_SIZE,
+    size: HOLDER_SIZE,
 };
 
 /// RAM and bank register.
 pub const STORE: Part = Part {
-    place: 65_826,
-    size: 8_194,
+    place: HOLDER.place + HOLDER_SIZE,
+    size: STORE_SIZE,
 };
 
 /// The VDP.
 pub const VIDEO: Part = Part {
-    place: 74_020,
-    size: 65_813,
+    place: STORE.place + STORE_SIZE,
+    size: VIDEO_SIZE,
 };
 
 /// Its drawing half.
 pub const DRAWING: Part = Part {
-    place: 139_833,
-    size: 230_410,
+    place: VIDEO.place + VIDEO_SIZE,
+    size: DRAWING_SIZE,
 };
 
 /// The FM chip's port.
 pub const FM_PORT: Part = Part {
-    place: 370_243,
-    size: 12_316,
+    place: DRAWING.place + DRAWING_SIZE,
+    size: FM_PORT_SIZE,
 };
 
 /// The FM chip's next batch.
 pub const FM_NEXT: Part = Part {
-    place: 382_559,
-    size: 8,
+    place: FM_PORT.place + FM_PORT_SIZE,
+    size: FM_NEXT_SIZE,
 };
 
 /// The FM synthesis.
 pub const FM: Part = Part {
-    place: 382_567,
-    size: 741,
+    place: FM_NEXT.place + FM_NEXT_SIZE,
+    size: FM_SIZE,
 };
 
 /// The PSG's next batch.
 pub const PSG_NEXT: Part = Part {
-    place: 383_308,
-    size: 8,
+    place: FM.place + FM_SIZE,
+    size: PSG_NEXT_SIZE,
 };
 
 /// The PSG's port.
 pub const PSG_PORT: Part = Part {
-    place: 383_316,
-    size: 10_242,
+    place: PSG_NEXT.place + PSG_NEXT_SIZE,
+    size: PSG_PORT_SIZE,
 };
 
 /// The PSG's synthesis.
 pub const PSG: Part = Part {
-    place: 393_558,
-    size: 26,
+    place: PSG_PORT.place + PSG_PORT_SIZE,
+    size: PSG_SIZE,
 };
 
 /// The board's lines and pads.
 pub const BOARD: Part = Part {
-    place: 393_584,
-    size: 36,
+    place: PSG.place + PSG_SIZE,
+    size: BOARD_SIZE,
 };
 
 /// The words of pad 1 and of pad 2 in it.
