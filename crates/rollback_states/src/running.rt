@@ -25,7 +25,7 @@ pub fn run_script(alloc: Global, cart: Arc<Cart>, window: u32, script: &[u8]) ->
         Err(NoMemory) => return Comes::NoMemory,
     };
     match play(&mut session, script) {
-        Ending::Obeyed => match rolled(alloc, &session) {
+        Ending::Obeyed => match last_frame(alloc, &session) {
             Ok(rolled) => Comes::Done(rolled),
             Err(NoMemory) => Comes::NoMemory,
         },
@@ -35,7 +35,7 @@ pub fn run_script(alloc: Global, cart: Arc<Cart>, window: u32, script: &[u8]) ->
 }
 
 /// What a session has come to.
-fn rolled(alloc: Global, session: &Session<StateReplays>) -> Result<Rolled, NoMemory>
+fn last_frame(alloc: Global, session: &Session<StateReplays>) -> Result<Rolled, NoMemory>
     ensures { IfOk result (IsRolled session.now) }
 {
     let bytes = write(alloc, session.machine())?;

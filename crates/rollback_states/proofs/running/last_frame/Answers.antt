@@ -2,7 +2,7 @@ use Rattle.std.proofs.Common.{◌∙◌, ap}
 use Rattle.sha2.specs.Sha256.{sha256}
 use Rattle.md_machine.specs.Machines.{MachineValue}
 use Rattle.save_state.specs.States.{state_bytes}
-use Rattle.rollback_states.proofs.running.rolled.Goals as goal
+use Rattle.rollback_states.proofs.running.last_frame.Goals as goal
 
 pub returns : goal.returns
 returns c = record {
