@@ -51,14 +51,14 @@ pub main_verdict : (cart : List ℕ) (at : ℕ) (bytes : List ℕ) → IsBytes b
 main_verdict cart at bytes fits =
     sized main.chip_size (saved68.chip_fields cart at) (main.Spells cart at bytes) bytes fits
     (λ long. (let s = main_there bytes long in (s.0, s.1 at (main_asks_more cart (main_from s.0)))))
-    (λ long n keeps right. (main_from n, main_laws.spells cart at bytes n keeps right))
+    (λ long n keeps right. (main_from n, main_laws.spelled_by cart at bytes n keeps right))
 
 sub_read : (cart : List ℕ) (at : ℕ) (bytes : List ℕ) → IsBytes bytes → sub.IsLength bytes → Verdict (sub.Spells cart at bytes) (sub.GoesWrongAt cart at bytes)
 sub_read cart at bytes fits long =
     let n = sub_there bytes in
     let k : saved80.Kept80 = record { numbers = n.0; store = sub.store_at bytes } in
     elim (fields_judged (saved80.chip_fields cart at) bytes k fits (sub_laws.stands_by at bytes n.0 long n.1 (saved80.asks_more cart k))) [
-      | inl right ↦ inl (saved80.state_from n.0 (sub.store_at bytes), sub_laws.spells cart at bytes k right.0 right.1)
+      | inl right ↦ inl (saved80.state_from n.0 (sub.store_at bytes), sub_laws.spelled_by cart at bytes k right.0 right.1)
       | inr wrong ↦ inr (wrong.0, inr wrong.1)
     ]
 
