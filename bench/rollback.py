@@ -3,12 +3,14 @@
 
     bench/rollback.py [--frames FRAMES]
 
-Plays FRAMES frames of examples/show from power-on, 600 if not given: by `run` without an output; in a session where
+Plays FRAMES frames of examples/show from power-on, 300 if not given: by `run` without an output; in a session where
 all buttons are known before their frame; and in one where player 2 is eight frames late and was expected wrongly each
 time, so that eight frames are played again for each new one. Prints milliseconds a frame, the program's start taken
-off, and what a session's frame takes of a run's.
+off, and what a session's frame takes of a run's: the medians of seven rounds, in each of which all are timed, since a
+clock drifts from minute to minute.
 """
 import argparse
+import statistics
 import sys
 import time
 
@@ -16,6 +18,7 @@ import expected
 import hostile
 
 LATE = 8
+ROUNDS = 7
 
 
 def buttons(frame):
@@ -40,14 +43,11 @@ def late(frames):
         yield "a"
 
 
-def least(call):
-    """The seconds of a call, the least of three."""
-    taken = []
-    for _ in range(3):
-        start = time.perf_counter()
-        call()
-        taken.append(time.perf_counter() - start)
-    return min(taken)
+def seconds(call):
+    """What a call takes."""
+    start = time.perf_counter()
+    call()
+    return time.perf_counter() - start
 
 
 def session(folder, lines, frames):
@@ -59,7 +59,7 @@ def session(folder, lines, frames):
         if status != 0 or not text.startswith(f"frames {frames}\n"):
             sys.exit(f"status {status} with {text[-200:]!r}")
 
-    return least(call)
+    return seconds(call)
 
 
 def plain(folder, frames):
@@ -70,19 +70,35 @@ def plain(folder, frames):
         if status != 0:
             sys.exit(f"status {status} with {text[-200:]!r}")
 
-    return least(call)
+    return seconds(call)
+
+
+def of_run(folder, frames):
+    """The seconds of a run's frame."""
+    return (plain(folder, frames) - plain(folder, 1)) / (frames - 1)
+
+
+def of_session(folder, lines, frames):
+    """The seconds of a session's frame."""
+    return (session(folder, lines(frames), frames) - session(folder, lines(LATE), LATE)) / (frames - LATE)
 
 
 def main():
     parser = argparse.ArgumentParser(description=__doc__, formatter_class=argparse.RawTextHelpFormatter)
-    parser.add_argument("--frames", type=int, default=600)
+    parser.add_argument("--frames", type=int, default=300)
     frames = parser.parse_args().frames
     with hostile.folder_of("show") as folder:
-        each = (plain(folder, frames) - plain(folder, 1)) / (frames - 1)
-        print(f"run: {1_000 * each:.3f} ms a frame")
-        for title, lines in (("known", known), ("eight again", late)):
-            taken = (session(folder, lines(frames), frames) - session(folder, lines(LATE), LATE)) / (frames - LATE)
-            print(f"{title}: {1_000 * taken:.3f} ms a frame, {taken / each:.2f} of a run's")
+        each = [of_run(folder, frames)]
+        taken = {"known": [], "eight again": []}
+        for _ in range(ROUNDS):
+            for title, lines in (("known", known), ("eight again", late)):
+                taken[title].append(of_session(folder, lines, frames))
+            each.append(of_run(folder, frames))
+        print(f"run: {1_000 * statistics.median(each):.3f} ms a frame")
+        for title, times in taken.items():
+            parts = [2 * one / (before + after) for one, before, after in zip(times, each, each[1:])]
+            middle = statistics.median(times)
+            print(f"{title}: {1_000 * middle:.3f} ms a frame, {statistics.median(parts):.2f} of a run's")
 
 
 if __name__ == "__main__":
