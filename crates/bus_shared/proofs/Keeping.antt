@@ -3,7 +3,7 @@ use Rattle.std.proofs.Common.{◌≡◌, ℕ, ◌^◌, ◌<◌, ◌≤◌, Bool,
 use Rattle.std.proofs.lemmas.Bool.{cases_eq, eq-eqb, eqb-true, le-leb, leb-true, lt-ltb, ltb-true, ne_eqb}
 use Rattle.md_fields.specs.Fields.{AllHold, AreWithin}
 use Rattle.md_fields.specs.Items.{IsRight}
-use Rattle.md_fields.proofs.Items.{all_hold, none_wrong}
+use Rattle.md_fields.proofs.Items.{rules_hold, none_wrong}
 use Rattle.md_fields.proofs.Flags.{flag_byte, flag_small}
 use Rattle.md_pads.specs.Pad.{Port}
 use Rattle.md_pads.specs.Recording.{IsFrame}
@@ -81,7 +81,7 @@ pub spelled_lines : (at : ℕ) (pal : Bool) (bytes : List ℕ) (board : Board) �
     → (board.resets ≤ at) × IsFrame board.pads × IsCounted at board.port1 × IsCounted at board.port2
 unfolding AllHold
 spelled_lines at pal bytes board p =
-    let h0 = all_hold 0 (lines_fields at (lines_of board)) p.right in
+    let h0 = rules_hold 0 (lines_fields at (lines_of board)) p.right in
     let h3 = h0.1.1.1 in
     let h7 = h3.1.1.1.1 in
     let h9 = h7.1.1 in

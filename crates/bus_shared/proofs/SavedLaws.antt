@@ -4,7 +4,7 @@ use Rattle.std.proofs.lemmas.Bool.{cases_eq, eqb-true, leb-true, ltb-true, ne_eq
 use Rattle.md_fields.specs.Fields.{AllHold, sizes, spelling}
 use Rattle.md_fields.specs.Items.{IsRight, Keeps}
 use Rattle.md_fields.specs.Places.{Stand}
-use Rattle.md_fields.proofs.Items.{all_hold, not_both, one_place, same}
+use Rattle.md_fields.proofs.Items.{rules_hold, not_both, one_place, same}
 use Rattle.bus_shared.specs.Saved.{AreFalls, is_fall, lines_fields}
 use Rattle.bus_shared.specs.Spelling.{LinesGoWrongAt}
 use Rattle.bus_shared.specs.declared.saved_lines.SavedLines.{SavedLines}
@@ -62,7 +62,7 @@ pub record Flags (n : SavedLines) : Type 0 where
 pub flags_of : (at : ℕ) (n : SavedLines) → IsRight (lines_fields at) n → Flags n
 unfolding AllHold
 flags_of at n right =
-    let h0 = all_hold 0 (lines_fields at n) right in
+    let h0 = rules_hold 0 (lines_fields at n) right in
     let h1 = h0.1 in
     record { bus_request = leb-true n.bus_request 1 h0.0; reset = leb-true n.reset 1 h1.0 }
 
@@ -77,7 +77,7 @@ fall-few at count fall small holds =
 pub falls_of : (at : ℕ) (n : SavedLines) → at ≤ 2 ^ 50 → IsRight (lines_fields at) n → AreFalls n
 unfolding AllHold
 falls_of at n small right =
-    let h0 = all_hold 0 (lines_fields at n) right in
+    let h0 = rules_hold 0 (lines_fields at n) right in
     let h9 = h0.1.1.1.1.1.1.1.1.1 in
     record {
       count1 = leb-true n.count1 4 h9.0;

@@ -11,7 +11,7 @@ use Rattle.md_fields.specs.Places.{IsBytes, Stand, number_at}
 use Rattle.md_fields.proofs.Items.{refused_within}
 use Rattle.md_fields.proofs.Flags.{flag_again, flag_back}
 use Rattle.md_fields.proofs.Refusals.{failed}
-use Rattle.md_fields.proofs.Standing.{long_as, long_as_sized, spelled, stand}
+use Rattle.md_fields.proofs.Standing.{long_as, long_as_sized, spelled, spelled_stand}
 use Rattle.md_word.specs.Coding.{flag_number}
 use Rattle.md_word.specs.declared.unspell.Unspell.{Unspell}
 use Rattle.md_word.specs.declared.unspell.Unspell.TheVariants.{Rule, NoMemory}
@@ -153,7 +153,7 @@ unfolding Stand spelling AreWithin
 store_right None ok p wrong = absurd (omega (arith, wrong.0))
 store_right (Some store) ok p wrong =
     let fs = store_fields true (Some store) in
-    let there : Stand 0 fs (spelling fs) = stand fs (spelling fs) (ok.ram, (omega (arith, ok.bank), tt)) refl in
+    let there : Stand 0 fs (spelling fs) = spelled_stand fs (spelling fs) (ok.ram, (omega (arith, ok.bank), tt)) refl in
     absurd (omega (arith, there.1.0, wrong.1, ok.bank))
 
 none_here : (at : ℕ) (pal : Bool) (start : ℕ) (bytes : List ℕ) (board : Board) (place : ℕ) → Spells at pal bytes board → PartsGoWrongAt at pal start (own board) place → ⊥
@@ -212,8 +212,8 @@ store_same (Some s) None p q e = absurd (omega (arith, ap length e, store_long (
 store_same (Some s) (Some t) p q e =
     let fs = store_fields true (Some s) in
     let gs = store_fields true (Some t) in
-    let one : Stand 0 fs (spelling fs) = stand fs (spelling fs) (p.ram, (omega (arith, p.bank), tt)) refl in
-    let two : Stand 0 gs (spelling fs) = stand gs (spelling fs) (q.ram, (omega (arith, q.bank), tt)) (sym e) in
+    let one : Stand 0 fs (spelling fs) = spelled_stand fs (spelling fs) (p.ram, (omega (arith, p.bank), tt)) refl in
+    let two : Stand 0 gs (spelling fs) = spelled_stand gs (spelling fs) (q.ram, (omega (arith, q.bank), tt)) (sym e) in
     λ i. Some (record { ram = (one.0 ∙ sym two.0) i; bank = (one.1.0 ∙ sym two.1.0) i })
 
 flag_same : (a b : Bool) → eqb (flag_number a) 1 ≡ eqb (flag_number b) 1 → a ≡ b

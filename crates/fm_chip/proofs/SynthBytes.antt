@@ -9,7 +9,7 @@ use Rattle.md_fields.specs.Fields.{AllHold, AreWithin, Field, first_wrong, holds
 use Rattle.md_fields.specs.Items.{IsRight, Keeps}
 use Rattle.md_fields.specs.Places.{IsBytes, Stand, number_at}
 use Rattle.md_fields.proofs.Flags.{flag_again, flag_back}
-use Rattle.md_fields.proofs.Items.{all_hold, kept, not_both, one_place, same}
+use Rattle.md_fields.proofs.Items.{rules_hold, kept, not_both, one_place, same}
 use Rattle.md_fields.proofs.Tables.{first_append, within_both}
 use Rattle.fm_voice.specs.Channel.{IsLevel}
 use Rattle.fm_chip.specs.Channels.{IsChannel, channel_at}
@@ -346,7 +346,7 @@ head_within s rest w = (w.0, w.1.0, w.1.1.1.1.1)
 rules_of : (bytes : List ℕ) (s : SavedSynth) → Keeps synth_fields bytes s → IsRight synth_fields s → Rules s
 unfolding synth_fields
 rules_of bytes s keeps right =
-    let h = head_holds s (fields1 s) (all_hold 0 (synth_fields s) right) in
+    let h = head_holds s (fields1 s) (rules_hold 0 (synth_fields s) right) in
     let h1 = four_holds s.four1 (fields2 s) h.3 in
     let h2 = four_holds s.four2 (fields3 s) h1.1 in
     let h3 = four_holds s.four3 (fields4 s) h2.1 in

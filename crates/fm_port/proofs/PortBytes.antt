@@ -15,7 +15,7 @@ use Rattle.md_fields.specs.Items.{IsRight, Keeps}
 use Rattle.md_fields.specs.Padding.{are_zeros, padded}
 use Rattle.md_fields.specs.Places.{IsBytes, Stand, number_at}
 use Rattle.md_fields.proofs.Flags.{flag_again, flag_back, flag_small}
-use Rattle.md_fields.proofs.Items.{none_wrong, all_hold, kept, not_both, one_place, same}
+use Rattle.md_fields.proofs.Items.{none_wrong, rules_hold, kept, not_both, one_place, same}
 use Rattle.md_fields.proofs.Padding.{padded_back, padded_length, padded_zeros}
 use Rattle.md_fields.proofs.Standing.{IsBytes-drop, IsBytes-take}
 use Rattle.sound_writes.specs.Entries.{AreFit, entries_bytes}
@@ -235,7 +235,7 @@ record Rules (at : ℕ) (s : SavedPort) : Type 0 where
 rules_of : (at : ℕ) (s : SavedPort) → IsRight (port_fields at) s → Rules at s
 unfolding AllHold
 rules_of at s right =
-    let h0 = all_hold 0 (port_fields at s) right in
+    let h0 = rules_hold 0 (port_fields at s) right in
     let h6 = h0.1.1.1.1.1.1 in
     let h7 = h6.1 in
     let h8 = h7.1 in

@@ -8,7 +8,7 @@ use Rattle.md_fields.specs.Fields.{AllHold, first_wrong}
 use Rattle.md_fields.specs.Padding.{are_zeros}
 use Rattle.md_fields.specs.Places.{Stand}
 use Rattle.md_fields.proofs.Flags.{flag_again, flag_back}
-use Rattle.md_fields.proofs.Items.{all_hold, same_words}
+use Rattle.md_fields.proofs.Items.{rules_hold, same_words}
 use Rattle.md_fields.proofs.Padding.{padded_again, padded_back}
 use Rattle.m68k_chip.specs.Numbers.{IsRegs, Numbers68, halted_number, numbers_of, since_of, stage_number, stage_of, state_from}
 use Rattle.m68k_chip.specs.Saved.{are_answers, are_words, chip_fields, fields_by, is_cause, is_cost, is_halted, is_since, is_start}
@@ -158,7 +158,7 @@ pub record Rules (at : ℕ) (holds : Bool) (n : Numbers68) : Type 0 where
 pub rules_of : (at : ℕ) (holds : Bool) (n : Numbers68) → first_wrong 0 (fields_by at holds n) ≡ None → Rules at holds n
 unfolding AllHold
 rules_of at holds n right =
-    let h0 = all_hold 0 (fields_by at holds n) right in
+    let h0 = rules_hold 0 (fields_by at holds n) right in
     let h1 = h0.1 in
     let h2 = h1.1 in
     let h3 = h2.1 in

@@ -7,7 +7,7 @@ use Rattle.std.proofs.lemmas.Grind.{same_number_lists}
 use Rattle.md_fields.specs.Fields.{Field, byte, word, long, quad, words, block, size_of, sizes, first_wrong, holds_of, AllHold, IsWithin, AreWithin}
 use Rattle.md_fields.specs.Places.{IsBytes, number_at, WordsAt, IsAt, Stand}
 use Rattle.md_fields.specs.Items.{Keeps, IsRight, IsRefused}
-use Rattle.md_fields.proofs.Standing.{IsBytes-take, IsBytes-drop, within, spelled, stand, long_as}
+use Rattle.md_fields.proofs.Standing.{IsBytes-take, IsBytes-drop, within, spelled, spelled_stand, long_as}
 
 below_16 : (place : ℕ) (bytes : List ℕ) → IsBytes bytes → number_at w16 place bytes < 2 ^ 16
 unfolding number_at
@@ -53,7 +53,7 @@ kept fields bytes saved fits p = record { within = within_there 0 (fields saved)
 module _ {S : Type 0} (fields : S → List Field) (bytes : List ℕ) (one : (s t : S) → Stand 0 (fields s) bytes → Stand 0 (fields t) bytes → s ≡ t) where
   -- bytes keep one value
   pub same : (s t : S) → Keeps fields bytes s → Keeps fields bytes t → s ≡ t
-  same s t p q = one s t (stand (fields s) bytes p.within (sym p.all)) (stand (fields t) bytes q.within (sym q.all))
+  same s t p q = one s t (spelled_stand (fields s) bytes p.within (sym p.all)) (spelled_stand (fields t) bytes q.within (sym q.all))
 
   -- what is kept and right is not refused
   pub not_both : (size : ℕ) (s : S) (place : ℕ) → Keeps fields bytes s → IsRight fields s → sizes (fields s) ≡ size → IsRefused size fields bytes place → ⊥
@@ -83,12 +83,12 @@ one_holds true next place e = (refl, e)
 one_holds false next place e = absurd cc
 
 -- where none is wrong each rule holds
-pub all_hold : (place : ℕ) (fs : List Field) → first_wrong place fs ≡ None → AllHold fs
+pub rules_hold : (place : ℕ) (fs : List Field) → first_wrong place fs ≡ None → AllHold fs
 unfolding first_wrong AllHold
-all_hold place [] e = tt
-all_hold place (f ∷ fs) e =
+rules_hold place [] e = tt
+rules_hold place (f ∷ fs) e =
     let h = one_holds (holds_of f) (first_wrong (place + size_of f) fs) place e in
-    (h.0, all_hold (place + size_of f) fs h.1)
+    (h.0, rules_hold (place + size_of f) fs h.1)
 
 first_case : (holds : Bool) (next : Option ℕ) (place p more : ℕ) → cond holds next (Some place) ≡ Some p → (next ≡ Some p → p ≤ place + more) → p ≤ place + more
 first_case true next place p more e h = h e

@@ -111,8 +111,8 @@ pub spelled : (fs : List Field) (bytes : List ℕ) → IsBytes bytes → Stand 0
 spelled fs bytes fits p = spelled_from 0 fs bytes fits p
 
 -- fields that spell bytes stand in them
-pub stand : (fs : List Field) (bytes : List ℕ) → AreWithin fs → spelling fs ≡ bytes → Stand 0 fs bytes
-stand fs bytes w e = subst (λ (b : List ℕ). Stand 0 fs b) e (stand_behind [] fs w)
+pub spelled_stand : (fs : List Field) (bytes : List ℕ) → AreWithin fs → spelling fs ≡ bytes → Stand 0 fs bytes
+spelled_stand fs bytes w e = subst (λ (b : List ℕ). Stand 0 fs b) e (stand_behind [] fs w)
 
 -- what fields spell is as long as their sizes say, where the values fit
 pub long_as : (fs : List Field) → AreWithin fs → length (spelling fs) ≡ sizes fs

@@ -6,7 +6,7 @@ use Rattle.md_word.specs.Coding.{flag_number}
 use Rattle.md_fields.specs.Fields.{AllHold, Field, sizes}
 use Rattle.md_fields.specs.Padding.{padded}
 use Rattle.md_fields.specs.Places.{Stand}
-use Rattle.md_fields.proofs.Items.{all_hold}
+use Rattle.md_fields.proofs.Items.{rules_hold}
 use Rattle.sound_writes.specs.Entries.{AreFit, entries_bytes}
 use Rattle.sound_writes.specs.Keys.{are_kept}
 use Rattle.sound_writes.proofs.Entries as entries
@@ -72,7 +72,7 @@ fm_only place bytes w rest h =
 pub psg_kept : (at : ℕ) (bytes : List ℕ) (ws : List PsgWrite) → psg.SpellsPort at bytes ws → are_kept at (map psg.key_of ws) ≡ true
 unfolding AllHold
 psg_kept at bytes ws spells =
-    let e = and_parts _ _ (all_hold 0 (psg.port_fields at (psg.saved_port ws)) spells.right).0 in
+    let e = and_parts _ _ (rules_hold 0 (psg.port_fields at (psg.saved_port ws)) spells.right).0 in
     let again : psg.writes_at (length ws) (padded 10240 (entries_bytes psg.write_fields ws)) ≡ ws =
     entries.entries_read 10 psg.write_fields psg.write_at psg_size psg_stands psg_only ws [] (replicate (10240 - length (entries_bytes psg.write_fields ws)) 0) spells.fit in
     ap (λ (l : List PsgWrite). are_kept at (map psg.key_of l)) (sym again) ∙ (and_parts _ _ e.1).0
@@ -89,7 +89,7 @@ fm_right at p fit e =
 pub fm_kept : (at : ℕ) (bytes : List ℕ) (p : Port) → fm.SpellsPort at bytes p → fm.are_right at (map fm.saved_write p.writes) ≡ true
 unfolding AllHold
 fm_kept at bytes p spells =
-    let h0 = all_hold 0 (fm.port_fields at (fm.saved_port p)) spells.right in
+    let h0 = rules_hold 0 (fm.port_fields at (fm.saved_port p)) spells.right in
     let h12 = h0.1.1.1.1.1.1.1.1.1.1.1.1 in
     fm_right at p spells.fit h12.0
 
@@ -111,7 +111,7 @@ timer_timed at longest bit t e =
 pub fm_timed : (at : ℕ) (bytes : List ℕ) (p : Port) → fm.SpellsPort at bytes p → AreTimed at p.timers
 unfolding AllHold
 fm_timed at bytes p spells =
-    let h6 = (all_hold 0 (fm.port_fields at (fm.saved_port p)) spells.right).1.1.1.1.1.1 in
+    let h6 = (rules_hold 0 (fm.port_fields at (fm.saved_port p)) spells.right).1.1.1.1.1.1 in
     record {
       a = timer_timed at 1032192 (p.timers.control % 2) p.timers.a h6.0;
       b = timer_timed at 4128768 (p.timers.control / 2 % 2) p.timers.b h6.1.1.0;

@@ -10,7 +10,7 @@ use Rattle.md_fields.specs.Fields.{AllHold, AreWithin, Field, first_wrong, sizes
 use Rattle.md_fields.specs.Items.{IsRight, Keeps}
 use Rattle.md_fields.specs.Padding.{are_zeros, padded}
 use Rattle.md_fields.specs.Places.{IsBytes, Stand, number_at}
-use Rattle.md_fields.proofs.Items.{all_hold, kept, not_both, one_place, same}
+use Rattle.md_fields.proofs.Items.{rules_hold, kept, not_both, one_place, same}
 use Rattle.md_fields.proofs.Padding.{padded_back, padded_length, padded_zeros}
 use Rattle.md_fields.proofs.Standing.{IsBytes-drop, IsBytes-take}
 use Rattle.sound_writes.specs.Entries.{AreFit, entries_bytes}
@@ -68,7 +68,7 @@ right_by at s e = rw e refl
 
 rule_of : (at : ℕ) (s : SavedPort) → IsRight (port_fields at) s → are_writes at s ≡ true
 unfolding AllHold
-rule_of at s right = (all_hold 0 (port_fields at s) right).0
+rule_of at s right = (rules_hold 0 (port_fields at s) right).0
 
 -- the rule fails
 pub breaks_port : (at : ℕ) (bytes : List ℕ) → IsBytes bytes → length bytes ≡ 10242 → are_writes at (read_port bytes) ≡ false → PortGoesWrongAt at bytes 0

@@ -5,7 +5,7 @@ use Rattle.md_fields.specs.Fields.{AllHold, AreWithin, sizes}
 use Rattle.md_fields.specs.Items.{IsRight, Keeps}
 use Rattle.md_fields.specs.Places.{Stand}
 use Rattle.md_fields.proofs.Flags.{flag_again, flag_back}
-use Rattle.md_fields.proofs.Items.{all_hold, not_both, one_place, same}
+use Rattle.md_fields.proofs.Items.{rules_hold, not_both, one_place, same}
 use Rattle.psg_sound.specs.Synth.{IsSynth, Synth}
 use Rattle.psg_sound.specs.SynthSpelling.{SpellsSynth, SynthGoesWrongAt, is_counter, saved_synth, synth_fields, synth_from}
 use Rattle.psg_sound.specs.declared.saved_synth.SavedSynth.{SavedSynth}
@@ -79,7 +79,7 @@ record Rules (s : SavedSynth) : Type 0 where
 rules_of : (s : SavedSynth) → IsRight synth_fields s → Rules s
 unfolding AllHold
 rules_of s right =
-    let h0 = all_hold 0 (synth_fields s) right in
+    let h0 = rules_hold 0 (synth_fields s) right in
     let h1 = h0.1 in
     let h2 = h1.1 in
     let h3 = h2.1 in

@@ -6,7 +6,7 @@ use Rattle.md_word.specs.Clock.{last_cycle}
 use Rattle.md_word.specs.declared.unspell.Unspell.{Unspell}
 use Rattle.md_word.specs.declared.unspell.Unspell.TheVariants.{Rule, NoMemory}
 use Rattle.md_fields.specs.Fields.{AllHold}
-use Rattle.md_fields.proofs.Items.{all_hold}
+use Rattle.md_fields.proofs.Items.{rules_hold}
 use Rattle.md_pads.specs.Recording.{Recorded}
 use Rattle.m68k_chip.specs.Numbers.{numbers_of}
 use Rattle.m68k_chip.specs.Saved as saved68
@@ -173,13 +173,13 @@ machine_read cart recording bytes at t m all ea right e made r0 =
 main_soon : (cart : List ℕ) (at : ℕ) (bytes : List ℕ) (state : State68) → main.Spells cart at bytes state → at ≤ state.next
 unfolding AllHold
 main_soon cart at bytes state s =
-    let h = all_hold 0 (saved68.chip_fields cart at (numbers_of state)) s.right in
+    let h = rules_hold 0 (saved68.chip_fields cart at (numbers_of state)) s.right in
     leb-true at state.next (and_parts (leb at state.next) _ h.0).0
 
 sub_soon : (cart : List ℕ) (at : ℕ) (bytes : List ℕ) (state : State80) → sub.Spells cart at bytes state → at ≤ state.next
 unfolding AllHold
 sub_soon cart at bytes state s =
-    let h = all_hold 0 (saved80.chip_fields cart at (saved80.kept_of state)) s.right in
+    let h = rules_hold 0 (saved80.chip_fields cart at (saved80.kept_of state)) s.right in
     leb-true at state.next (and_parts (leb at state.next) _ h.0).0
 
 pub next_68 : (cart : List ℕ) (at : ℕ) (bytes : List ℕ) (state : State68) → main.Spells cart at bytes state → at ≤ (next_of state).key.cycle
@@ -193,7 +193,7 @@ next_80 cart at bytes state s = sub_soon cart at bytes state s
 pub is_first : (at : ℕ) (pal : Bool) (bytes : List ℕ) (d : Drawing) → drawing.Spells at pal bytes d → (at ≤ d.next) × (d.next ≡ first_line at)
 unfolding AllHold
 is_first at pal bytes d s =
-    let h = all_hold 0 (saved_drawing.drawing_fields at pal (saved_drawing.numbers_of d)) s.right in
+    let h = rules_hold 0 (saved_drawing.drawing_fields at pal (saved_drawing.numbers_of d)) s.right in
     let a = and_parts (eqb (d.next % 3420) 0) _ h.0 in
     let b = and_parts (leb at d.next) (ltb (d.next - at) 3420) a.1 in
     let whole : d.next % 3420 ≡ 0 = eqb-true _ _ a.0 in

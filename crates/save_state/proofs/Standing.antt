@@ -6,7 +6,7 @@ use Rattle.md_word.specs.Coding.{flag_number}
 use Rattle.std.proofs.lemmas.List.{get_or_append_left}
 use Rattle.md_fields.specs.Fields.{AreWithin, spelling}
 use Rattle.md_fields.specs.Places.{IsBytes, Stand, number_at}
-use Rattle.md_fields.proofs.Standing.{stand, spelled, number_inside, byte_inside}
+use Rattle.md_fields.proofs.Standing.{spelled_stand, spelled, number_inside, byte_inside}
 use Rattle.m68k_chip.specs.Numbers as numbers68
 use Rattle.m68k_chip.specs.Saved as saved68
 use Rattle.m68k_chip.specs.Spelling as main
@@ -54,7 +54,7 @@ pub record AreParts (digest : List ℕ) (at : ℕ) (m : Console) (bytes : List �
 pub parts_there : (digest : List ℕ) (at : ℕ) (m : Console) (bytes : List ℕ) → AreWithin (state_fields digest at m) → bytes ≡ spelling (state_fields digest at m) → AreParts digest at m bytes
 unfolding Stand
 parts_there digest at m bytes within e =
-    let s0 = stand (state_fields digest at m) bytes within (sym e) in
+    let s0 = spelled_stand (state_fields digest at m) bytes within (sym e) in
     let s1 = s0.1 in
     let s2 = s1.1 in
     let s3 = s2.1 in
@@ -102,7 +102,7 @@ parts_spelled digest at m bytes fits p =
 
 first_68 : (cart : List ℕ) (at : ℕ) (bytes : List ℕ) (s : State68) → main.Spells cart at bytes s → s.next ≡ number_at w64 0 bytes
 unfolding Stand
-first_68 cart at bytes s p = (stand (saved68.chip_fields cart at (numbers68.numbers_of s)) bytes p.keeps.within (sym p.keeps.all)).0
+first_68 cart at bytes s p = (spelled_stand (saved68.chip_fields cart at (numbers68.numbers_of s)) bytes p.keeps.within (sym p.keeps.all)).0
 
 -- the next event of the 68000
 pub main_next_is : (cart digest bytes : List ℕ) (at : ℕ) (m : Console) → AreParts digest at m bytes → main.Spells cart at (main.chip_bytes m.main) m.main → m.main.next ≡ main_next bytes
@@ -117,7 +117,7 @@ pub record FirstNumbers (bytes : List ℕ) (s : State80) : Type 0 where
 first_80 : (cart : List ℕ) (at : ℕ) (bytes : List ℕ) (s : State80) → sub.Spells cart at bytes s → FirstNumbers bytes s
 unfolding Stand
 first_80 cart at bytes s p =
-    let s0 = stand (saved80.chip_fields cart at (saved80.kept_of s)) bytes p.keeps.within (sym p.keeps.all) in
+    let s0 = spelled_stand (saved80.chip_fields cart at (saved80.kept_of s)) bytes p.keeps.within (sym p.keeps.all) in
     record {
       next = s0.0;
       stage = s0.1.0;
@@ -145,7 +145,7 @@ sub_numbers_are cart digest bytes at m p s =
 
 first_lines : (at : ℕ) (pal : Bool) (b : Board) (bytes : List ℕ) → shared.Spells at pal bytes b → b.resets ≡ number_at w64 2 (shared.lines_bytes (lines_of b))
 unfolding Stand
-first_lines at pal b bytes p = (stand (lines_fields at (lines_of b)) (shared.lines_bytes (lines_of b)) p.lines.within (sym p.lines.all)).1.1.0
+first_lines at pal b bytes p = (spelled_stand (lines_fields at (lines_of b)) (shared.lines_bytes (lines_of b)) p.lines.within (sym p.lines.all)).1.1.0
 
 -- the count of resets
 pub resets_are : (digest bytes : List ℕ) (at : ℕ) (pal : Bool) (m : Console) (whole : List ℕ) → AreParts digest at m bytes → shared.Spells at pal whole m.shared → m.shared.resets ≡ resets_of bytes

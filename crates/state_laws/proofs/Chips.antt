@@ -77,13 +77,13 @@ pub video_verdict : (at : ℕ) (pal : Bool) (bytes : List ℕ) → IsBytes bytes
 video_verdict at pal bytes fits =
     sized video.vdp_size (vdp_fields at pal) (video.Spells at pal bytes) bytes fits
     (λ long. (let s = video_there bytes long in (s.0, s.1 at pal)))
-    (λ long n keeps right. (vdp_of pal n, video_laws.spells at pal bytes n keeps right))
+    (λ long n keeps right. (vdp_of pal n, video_laws.read_spells at pal bytes n keeps right))
 
 pub drawing_verdict : (at : ℕ) (pal : Bool) (bytes : List ℕ) → IsBytes bytes → Verdict (drawing.Spells at pal bytes) (drawing.GoesWrongAt at pal bytes)
 drawing_verdict at pal bytes fits =
     sized drawing.drawing_size (saved_drawing.drawing_fields at pal) (drawing.Spells at pal bytes) bytes fits
     (λ long. (let s = drawing_there bytes long in (s.0, s.1 at pal)))
-    (λ long n keeps right. (saved_drawing.drawing_of pal n, drawing_laws.spells at pal bytes n keeps right))
+    (λ long n keeps right. (saved_drawing.drawing_of pal n, drawing_laws.read_spells at pal bytes n keeps right))
 
 -- ---- the sound chips
 

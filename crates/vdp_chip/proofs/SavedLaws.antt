@@ -9,7 +9,7 @@ use Rattle.md_fields.specs.Items.{IsRight, Keeps}
 use Rattle.md_fields.specs.Padding.{are_zeros}
 use Rattle.md_fields.specs.Places.{Stand}
 use Rattle.md_fields.proofs.Flags.{flag_again, flag_back, flag_byte, flag_small}
-use Rattle.md_fields.proofs.Items.{all_hold, none_wrong, not_both, one_place, same}
+use Rattle.md_fields.proofs.Items.{rules_hold, none_wrong, not_both, one_place, same}
 use Rattle.md_word.specs.Clock.{line}
 use Rattle.vdp_chip.specs.Drawing.{Drawing, IsDrawing, undrawn_from}
 use Rattle.md_word.specs.Region.{lines, rows}
@@ -63,7 +63,7 @@ drawing_again d is = λ i. record {
 numbers_back : (at : ℕ) (pal : Bool) (n : DrawingNumbers) → IsRight (drawing_fields at pal) n → numbers_of (drawing_of pal n) ≡ n
 unfolding AllHold
 numbers_back at pal n right =
-    let h = all_hold 0 (drawing_fields at pal n) right in
+    let h = rules_hold 0 (drawing_fields at pal n) right in
     let note = and_parts _ _ h.1.0 in
     λ i. record {
       next = n.next;
@@ -74,8 +74,8 @@ numbers_back at pal n right =
 
 -- ---- what bytes keep
 
-pub spells : (at : ℕ) (pal : Bool) (bytes : List ℕ) (n : DrawingNumbers) → Keeps (drawing_fields at pal) bytes n → IsRight (drawing_fields at pal) n → Spells at pal bytes (drawing_of pal n)
-spells at pal bytes n keeps right =
+pub read_spells : (at : ℕ) (pal : Bool) (bytes : List ℕ) (n : DrawingNumbers) → Keeps (drawing_fields at pal) bytes n → IsRight (drawing_fields at pal) n → Spells at pal bytes (drawing_of pal n)
+read_spells at pal bytes n keeps right =
     let e : numbers_of (drawing_of pal n) ≡ n = numbers_back at pal n right in
     record {
       keeps = subst (Keeps (drawing_fields at pal) bytes) (sym e) keeps;
@@ -119,7 +119,7 @@ zero_at k l n e from below =
 pub valid : (at : ℕ) (pal : Bool) (bytes : List ℕ) (n : DrawingNumbers) → Keeps (drawing_fields at pal) bytes n → IsRight (drawing_fields at pal) n → IsDrawing (drawing_of pal n)
 unfolding AllHold AreWithin
 valid at pal bytes n keeps right =
-    let h = all_hold 0 (drawing_fields at pal n) right in
+    let h = rules_hold 0 (drawing_fields at pal n) right in
     let first = and_parts _ _ h.0 in
     let soon = and_parts _ _ first.1 in
     let m = eqb-true (n.next % line) 0 first.0 in
@@ -181,7 +181,7 @@ spelled_drawing at pal bytes d p =
 pub spelled_ready : (at : ℕ) (pal : Bool) (bytes : List ℕ) (d : Drawing) → Spells at pal bytes d → IsReady at d
 unfolding AllHold
 spelled_ready at pal bytes d p =
-    let h = all_hold 0 (drawing_fields at pal (numbers_of d)) p.right in
+    let h = rules_hold 0 (drawing_fields at pal (numbers_of d)) p.right in
     let soon = and_parts _ _ (and_parts _ _ h.0).1 in
     let from : at ≤ d.next = leb-true at d.next soon.0 in
     let near : d.next - at < line = ltb-true (d.next - at) line soon.1 in

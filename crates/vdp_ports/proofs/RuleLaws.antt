@@ -8,7 +8,7 @@ use Rattle.std.proofs.lemmas.List.Sums.{AllPass-from_list_all, list_all-from_All
 use Rattle.md_fields.specs.Distances.{is_after}
 use Rattle.md_fields.specs.Fields.{AllHold, AreWithin}
 use Rattle.md_fields.specs.Items.{IsRight}
-use Rattle.md_fields.proofs.Items.{all_hold, none_wrong}
+use Rattle.md_fields.proofs.Items.{rules_hold, none_wrong}
 use Rattle.md_word.specs.Clock.{line}
 use Rattle.md_word.specs.Coding.{flag_number}
 pub use Rattle.md_fields.proofs.Flags.{flag_byte, flag_small}
@@ -155,7 +155,7 @@ region_to false false h = refl
 pub settled_from : (at : ℕ) (s : Vdp) → IsRight (vdp_fields at s.pal) (numbers_of s) → IsSettled at s
 unfolding AllHold
 settled_from at s right =
-    let h0 = all_hold 0 (vdp_fields at s.pal (numbers_of s)) right in
+    let h0 = rules_hold 0 (vdp_fields at s.pal (numbers_of s)) right in
     let h1 = h0.1 in
     let h2 = h1.1 in
     let h3 = h2.1 in

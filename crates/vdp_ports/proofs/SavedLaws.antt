@@ -5,7 +5,7 @@ use Rattle.md_fields.specs.Fields.{AllHold, sizes, spelling}
 use Rattle.md_fields.specs.Items.{IsRight, Keeps}
 use Rattle.md_fields.specs.Places.{Stand}
 use Rattle.md_fields.proofs.Flags.{flag_again, flag_back}
-use Rattle.md_fields.proofs.Items.{all_hold, not_both, one_place, same, same_words}
+use Rattle.md_fields.proofs.Items.{rules_hold, not_both, one_place, same, same_words}
 use Rattle.md_word.specs.Coding.{flag_number}
 use Rattle.vdp_ports.specs.Numbers.{VdpNumbers, numbers_of, vdp_of}
 use Rattle.vdp_ports.specs.Saved.{vdp_fields}
@@ -108,7 +108,7 @@ flag_below n false l = omega (arith, l)
 pub numbers_back : (at : ℕ) (pal : Bool) (n : VdpNumbers) → IsRight (vdp_fields at pal) n → numbers_of (vdp_of pal n) ≡ n
 unfolding AllHold
 numbers_back at pal n right =
-    let h0 = all_hold 0 (vdp_fields at pal n) right in
+    let h0 = rules_hold 0 (vdp_fields at pal n) right in
     let h1 = h0.1 in
     let h2 = h1.1 in
     let h3 = h2.1 in
@@ -157,8 +157,8 @@ numbers_back at pal n right =
 
 -- ---- what bytes keep
 
-pub spells : (at : ℕ) (pal : Bool) (bytes : List ℕ) (n : VdpNumbers) → Keeps (vdp_fields at pal) bytes n → IsRight (vdp_fields at pal) n → Spells at pal bytes (vdp_of pal n)
-spells at pal bytes n keeps right =
+pub read_spells : (at : ℕ) (pal : Bool) (bytes : List ℕ) (n : VdpNumbers) → Keeps (vdp_fields at pal) bytes n → IsRight (vdp_fields at pal) n → Spells at pal bytes (vdp_of pal n)
+read_spells at pal bytes n keeps right =
     let e : numbers_of (vdp_of pal n) ≡ n = numbers_back at pal n right in
     record {
       keeps = subst (Keeps (vdp_fields at pal) bytes) (sym e) keeps;

@@ -11,7 +11,7 @@ use Rattle.md_fields.specs.Padding.{are_zeros}
 use Rattle.md_fields.specs.Places.{Stand}
 use Rattle.md_fields.proofs.Distances.{after_is}
 use Rattle.md_fields.proofs.Flags.{flag_again, flag_back}
-use Rattle.md_fields.proofs.Items.{all_hold}
+use Rattle.md_fields.proofs.Items.{rules_hold}
 use Rattle.md_fields.proofs.Padding.{padded_again, padded_back}
 use Rattle.rom_header.specs.Cartridge.{IsImage}
 use Rattle.z80_decode.specs.declared.interrupt_mode.InterruptMode.{InterruptMode}
@@ -143,7 +143,7 @@ pub record Rules (at : ℕ) (holds : Bool) (k : Kept80) : Type 0 where
 pub rules_of : (at : ℕ) (holds : Bool) (k : Kept80) → first_wrong 0 (fields_by at holds k) ≡ None → Rules at holds k
 unfolding AllHold
 rules_of at holds k right =
-    let h0 = all_hold 0 (fields_by at holds k) right in
+    let h0 = rules_hold 0 (fields_by at holds k) right in
     let h1 = h0.1 in
     let h2 = h1.1 in
     let h3 = h2.1 in

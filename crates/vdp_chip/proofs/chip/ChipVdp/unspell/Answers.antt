@@ -4,7 +4,7 @@ use Rattle.md_word.specs.declared.unspell.Unspell.TheVariants.{Rule}
 use Rattle.vdp_chip.specs.Saved.{numbers_of}
 use Rattle.vdp_chip.specs.Spelling.{GoesWrongAt, Spells}
 use Rattle.md_fields.proofs.Refusals.{no_rule, same_rule}
-use Rattle.vdp_chip.proofs.SavedLaws.{no_other, only_place, right_not_refused, valid, spells}
+use Rattle.vdp_chip.proofs.SavedLaws.{no_other, only_place, right_not_refused, valid, read_spells}
 use Rattle.vdp_chip.proofs.chip.ChipVdp.unspell.Goals as goal
 
 pub chip-requires : goal.chip-requires
@@ -19,7 +19,7 @@ returns-in_err-chip-in-Ok-clause-rule c =
     )
 
 pub returns-in_ok-chip-in-Ok-clause-found : goal.returns-in_ok-chip-in-Ok-clause-found
-returns-in_ok-chip-in-Ok-clause-found c = subst (Spells c.args.at c.args.pal c.args.bytes.now) (sym c.in_ok-chip-in-Ok.ensures) (spells c.args.at c.args.pal c.args.bytes.now c.in-Ok.saved c.in-Ok.ensures.found.0 c.in-Ok.ensures.found.1)
+returns-in_ok-chip-in-Ok-clause-found c = subst (Spells c.args.at c.args.pal c.args.bytes.now) (sym c.in_ok-chip-in-Ok.ensures) (read_spells c.args.at c.args.pal c.args.bytes.now c.in-Ok.saved c.in-Ok.ensures.found.0 c.in-Ok.ensures.found.1)
 
 pub returns-in_ok-chip-in-Ok-clause-only : goal.returns-in_ok-chip-in-Ok-clause-only
 returns-in_ok-chip-in-Ok-clause-only c = λ d p n. ap (λ m. Ok m) (c.in_ok-chip-in-Ok.ensures ∙ no_other c.args.at c.args.pal c.args.bytes.now c.in-Ok.saved d c.in-Ok.ensures.found.0 p)

@@ -5,7 +5,7 @@ use Rattle.vdp_ports.specs.Numbers.{numbers_of, vdp_of}
 use Rattle.vdp_ports.specs.Spelling.{GoesWrongAt, IsSettled, Spells}
 use Rattle.md_fields.proofs.Refusals.{no_rule, same_rule}
 use Rattle.vdp_ports.proofs.RuleLaws.{settled_from}
-use Rattle.vdp_ports.proofs.SavedLaws.{no_other, only_place, right_not_refused, spells}
+use Rattle.vdp_ports.proofs.SavedLaws.{no_other, only_place, right_not_refused, read_spells}
 use Rattle.vdp_ports.proofs.state.VdpState.unspell.Goals as goal
 
 pub returns-in_err-state-in-Ok-clause-rule : goal.returns-in_err-state-in-Ok-clause-rule
@@ -17,12 +17,12 @@ returns-in_err-state-in-Ok-clause-rule c =
     )
 
 pub returns-in_ok-state-in-Ok-clause-found : goal.returns-in_ok-state-in-Ok-clause-found
-returns-in_ok-state-in-Ok-clause-found c = subst (Spells c.args.at c.args.pal c.args.bytes.now) (sym c.in_ok-state-in-Ok.ensures) (spells c.args.at c.args.pal c.args.bytes.now c.in-Ok.saved c.in-Ok.ensures.found.0 c.in-Ok.ensures.found.1)
+returns-in_ok-state-in-Ok-clause-found c = subst (Spells c.args.at c.args.pal c.args.bytes.now) (sym c.in_ok-state-in-Ok.ensures) (read_spells c.args.at c.args.pal c.args.bytes.now c.in-Ok.saved c.in-Ok.ensures.found.0 c.in-Ok.ensures.found.1)
 
 pub returns-in_ok-state-in-Ok-clause-settled : goal.returns-in_ok-state-in-Ok-clause-settled
 returns-in_ok-state-in-Ok-clause-settled c =
     subst (IsSettled c.args.at) (sym c.in_ok-state-in-Ok.ensures)
-    (settled_from c.args.at (vdp_of c.args.pal c.in-Ok.saved) (spells c.args.at c.args.pal c.args.bytes.now c.in-Ok.saved c.in-Ok.ensures.found.0 c.in-Ok.ensures.found.1).right)
+    (settled_from c.args.at (vdp_of c.args.pal c.in-Ok.saved) (read_spells c.args.at c.args.pal c.args.bytes.now c.in-Ok.saved c.in-Ok.ensures.found.0 c.in-Ok.ensures.found.1).right)
 
 pub returns-in_ok-state-in-Ok-clause-only : goal.returns-in_ok-state-in-Ok-clause-only
 returns-in_ok-state-in-Ok-clause-only c = λ s p n. ap (λ m. Ok m) (c.in_ok-state-in-Ok.ensures ∙ no_other c.args.at c.args.pal c.args.bytes.now c.in-Ok.saved s c.in-Ok.ensures.found.0 p)
