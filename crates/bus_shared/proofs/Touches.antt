@@ -11,7 +11,7 @@ use Rattle.md_word.specs.declared.main_bus.Request68.TheVariants.{Read8, Read16,
 use Rattle.vdp_ports.specs.Vdp.{Vdp}
 use Rattle.vdp_planes.specs.declared.view.SpriteNote.{SpriteNote}
 use Rattle.bus_shared.specs.Accesses.{carried, line_board, main_board, pads_board, psg_board, sub_access, taken_back, video_started, yielded}
-use Rattle.z80_parcel.specs.Requests.{RequestValue80, ReadByte, WriteByte, HandOver, TakeBack, request_value80}
+use Rattle.z80_parcel.specs.Requests.{RequestValue80, ReadByte, WriteByte, HandOver, TakeBack, request_value80_of}
 use Rattle.bus_shared.specs.Areas.{byte_written_at, byte_written_in, read_at, read_in, word_written_at, word_written_in}
 use Rattle.bus_shared.specs.Lines.{counted}
 use Rattle.vdp_ports.proofs.Regions.{accessed_region, acknowledged_region, controlled_region, status_read_region, transferred_region, written_region}
@@ -314,7 +314,7 @@ fm_batch_pins_stay board cycle = record { main = refl; sub = refl }
 pub writers : (board : Board) (key : Key) (request : Request) → WritersLaw board key request
 unfolding carried
 writers board key (requests.Main request) first third = absurd (first refl)
-writers board key (requests.Sub request) first third = sub_pins_stay board key (request_value80 request)
+writers board key (requests.Sub request) first third = sub_pins_stay board key (request_value80_of request)
 writers board key (requests.Line view note) first third = absurd (third refl)
 writers board key (requests.Fm list) first third = fm_batch_pins_stay board key.cycle
 writers board key (requests.Psg list) first third = batch_pins_stay board key.cycle

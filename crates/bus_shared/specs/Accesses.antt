@@ -25,7 +25,7 @@ use Rattle.bus_shared.specs.Fm.{chip_byte, chip_read, fm_board, is_fm, with_fm}
 use Rattle.bus_shared.specs.Video.{both_halves, line_begun, line_view, pins_by, video_acknowledged, word_cost, word_taken}
 use Rattle.bus_shared.specs.Z80Space.{is_psg80, with_psg}
 use Rattle.z80_parcel.specs.Parcels.{Store}
-use Rattle.z80_parcel.specs.Requests.{RequestValue80, ReadByte, WriteByte, HandOver, TakeBack, AnswerValue80, Byte, Nothing, Returned, request_value80, answer_value80}
+use Rattle.z80_parcel.specs.Requests.{RequestValue80, ReadByte, WriteByte, HandOver, TakeBack, AnswerValue80, Byte, Nothing, Returned, request_value80_of, answer_value80_of}
 use Rattle.bus_shared.specs.declared.request.Answer.{Answer}
 use Rattle.bus_shared.specs.declared.request.Answer.TheVariants as answers
 use Rattle.bus_shared.specs.declared.request.Request.{Request}
@@ -134,7 +134,7 @@ pub data AnswerValue : Type 0 where
 -- an answer with the values that its view, its list or its parcel has
 abbrev pub answer_value : Answer → AnswerValue
 answer_value (answers.Main answer) = Main answer
-answer_value (answers.Sub answer) = Sub (answer_value80 answer)
+answer_value (answers.Sub answer) = Sub (answer_value80_of answer)
 answer_value (answers.Line view) = Line view.value
 answer_value (answers.Fm list) = Fm list.value.items
 answer_value (answers.Psg list) = Psg list.value.items
@@ -171,7 +171,7 @@ carried board key (requests.Main request) = record {
   board = main_board board key request;
 }
 carried board key (requests.Sub request) =
-    let access = sub_access board key (request_value80 request) in
+    let access = sub_access board key (request_value80_of request) in
     record { answer = Sub access.answer; entry = access.entry; board = access.board }
 carried board key (requests.Line view note) =
     let after = line_board board key.cycle note in

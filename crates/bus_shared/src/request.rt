@@ -5,7 +5,7 @@ ghost use Rattle.md_word.specs.declared.main_bus.Answer68.{Answer68 as MainAnswe
 ghost use Rattle.fm_port.specs.declared.write.FmWrite.{FmWrite as WriteFm};
 ghost use Rattle.psg_sound.specs.declared.write.PsgWrite.{PsgWrite as Write};
 ghost use Rattle.vdp_planes.specs.declared.view.LineView.{LineView as View};
-ghost use Rattle.z80_parcel.specs.Requests.{AnswerValue80, answer_value80};
+ghost use Rattle.z80_parcel.specs.Requests.{AnswerValue80, answer_value80_of};
 
 use fm_port::FmList;
 use md_word::{Answer68, Answer80, Request68, Request80};
@@ -56,7 +56,7 @@ impl Answer {
 
     /// What it answers to the Z80, if it does.
     pub fn sub(self) -> Option<Answer80>
-        ensures { (answer : AnswerValue80) → answer_value self ≡ accesses.Sub answer → option_map answer_value80 result ≡ Some answer }
+        ensures { (answer : AnswerValue80) → answer_value self ≡ accesses.Sub answer → option_map answer_value80_of result ≡ Some answer }
     {
         match self {
             Answer::Sub(answer) => Some(answer),

@@ -15,7 +15,7 @@ ghost use Rattle.bus_shared.specs.Video as video;
 ghost use Rattle.bus_shared.specs.Z80Space as space;
 ghost use Rattle.vdp_planes.specs.View.{seen, view_of};
 ghost use Rattle.z80_parcel.specs.Parcels.{store_of};
-ghost use Rattle.z80_parcel.specs.Requests.{request_value80, answer_value80};
+ghost use Rattle.z80_parcel.specs.Requests.{request_value80_of, answer_value80_of};
 
 use crate::entries::{fm_entry, line_entry, main_entry, psg_entry, sub_entry};
 use crate::fm::is_fm;
@@ -437,7 +437,7 @@ impl Shared {
 
     /// Takes the Z80's RAM where the bus is still requested, else gives it back.
     fn yield_parcel(&mut self, key: Key, parcel: Parcel) -> (Answer80, Entry)
-        ensures answer { answer_value80 result.0 ≡ (accesses.yielded self.old.request self.old key (store_of parcel)).answer }
+        ensures answer { answer_value80_of result.0 ≡ (accesses.yielded self.old.request self.old key (store_of parcel)).answer }
         ensures entry { result.1 ≡ (accesses.yielded self.old.request self.old key (store_of parcel)).entry }
         ensures board { self.new ≡ (accesses.yielded self.old.request self.old key (store_of parcel)).board }
     {
@@ -452,7 +452,7 @@ impl Shared {
 
     /// Gives the Z80 its RAM back where the bus is no longer requested and has it.
     fn take_parcel(&mut self, key: Key) -> (Answer80, Entry)
-        ensures answer { answer_value80 result.0 ≡ (accesses.taken_back self.old.request self.old.store self.old key).answer }
+        ensures answer { answer_value80_of result.0 ≡ (accesses.taken_back self.old.request self.old.store self.old key).answer }
         ensures entry { result.1 ≡ (accesses.taken_back self.old.request self.old.store self.old key).entry }
         ensures board { self.new ≡ (accesses.taken_back self.old.request self.old.store self.old key).board }
     {
@@ -484,9 +484,9 @@ impl Shared {
     pub fn carry_out_sub(&mut self, key: Key, request: Request80) -> (Answer80, Entry)
         requires chip { key.chip < 2 }
         requires soon { key.cycle ≤ 2 ^ 50 }
-        ensures answer { answer_value80 result.0 ≡ (accesses.sub_access self.old key (request_value80 request)).answer }
-        ensures entry { result.1 ≡ (accesses.sub_access self.old key (request_value80 request)).entry }
-        ensures board { self.new ≡ (accesses.sub_access self.old key (request_value80 request)).board }
+        ensures answer { answer_value80_of result.0 ≡ (accesses.sub_access self.old key (request_value80_of request)).answer }
+        ensures entry { result.1 ≡ (accesses.sub_access self.old key (request_value80_of request)).entry }
+        ensures board { self.new ≡ (accesses.sub_access self.old key (request_value80_of request)).board }
     {
         match request {
             Request80::Read(at) => {

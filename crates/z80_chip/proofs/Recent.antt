@@ -9,7 +9,7 @@ use Rattle.md_word.specs.declared.sub_bus.Request80.{Request80}
 use Rattle.md_word.specs.declared.sub_bus.Request80.TheVariants as requests
 use Rattle.z80_exec.proofs.Bounds.Samples as samples
 use Rattle.z80_exec.specs.Sample.Samples.{Ended}
-use Rattle.z80_parcel.specs.Requests.{Byte, Fits, Nothing, Returned, AnswerValue80, request_value80, value_in}
+use Rattle.z80_parcel.specs.Requests.{Byte, Fits, Nothing, Returned, AnswerValue80, request_value80_of, value_in}
 use Rattle.z80_chip.specs.Cases.{bus_case, case_of, is_interrupted, running_case, seen}
 use Rattle.z80_chip.specs.Events.{answered, answered_at, asked_at, asked_in, asked_of, begun, begun_as, came_to, carried_out, handed, kept_at, went_on}
 use Rattle.z80_chip.specs.Rules.{AreFit, BeganBelow, HasRules}
@@ -119,7 +119,7 @@ begun_rules at v pins ok kind below =
 
 -- ---- an answer
 
-is_answered : (request : Request80) (answer : AnswerValue80) → Fits (request_value80 request) answer → is_answer (need_of (Err request)) (value_in answer) ≡ true
+is_answered : (request : Request80) (answer : AnswerValue80) → Fits (request_value80_of request) answer → is_answer (need_of (Err request)) (value_in answer) ≡ true
 is_answered (requests.Read at) answer fits = refl
 is_answered (requests.Write at value) (Byte told) fits = absurd fits
 is_answered (requests.Write at value) Nothing fits = refl

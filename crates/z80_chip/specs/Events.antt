@@ -11,7 +11,7 @@ use Rattle.z80_chip.specs.Cases.{case_of, seen}
 use Rattle.z80_chip.specs.States.{State80}
 use Rattle.z80_parcel.specs.Parcels as parcels
 use Rattle.z80_parcel.specs.Parcels.{Store, written}
-use Rattle.z80_parcel.specs.Requests.{RequestValue80, HandOver, TakeBack, AnswerValue80, request_value80, store_in, value_in}
+use Rattle.z80_parcel.specs.Requests.{RequestValue80, HandOver, TakeBack, AnswerValue80, request_value80_of, store_in, value_in}
 use Rattle.z80_chip.specs.declared.case.Case.{Case}
 use Rattle.z80_chip.specs.declared.case.Case.TheVariants as cases
 use Rattle.z80_chip.specs.declared.stage.Stage.{Stage}
@@ -154,7 +154,7 @@ answered cart state answer = answered_at state.stage cart state answer
 
 -- the request that waits for its answer
 abbrev pub asked_in : Result Ended Request80 → RequestValue80
-asked_in (Err request) = request_value80 request
+asked_in (Err request) = request_value80_of request
 asked_in (Ok ended) = TakeBack
 
 -- what a yield hands over; where there is nothing, it takes

@@ -40,7 +40,7 @@ impl Chip80 {
     ghost use Rattle.z80_chip.specs.Cases.{case_of, is_rest};
     ghost use Rattle.z80_chip.specs.Events.{WentAhead, answered, asked_of, begun, handed};
     ghost use Rattle.z80_chip.specs.Validity.{IsChip80};
-    ghost use Rattle.z80_parcel.specs.Requests.{Fits, request_value80, answer_value80};
+    ghost use Rattle.z80_parcel.specs.Requests.{Fits, request_value80_of, answer_value80_of};
     ghost use Rattle.z80_chip.specs.States.{next_of, power_on};
 
     /// The Z80 at power-on: its next event is a sample at cycle 0, and all is 0. It has its RAM. It is
@@ -77,7 +77,7 @@ impl Chip80 {
     /// take it back. What a yield hands over the Z80 has no longer.
     pub fn request(&mut self) -> Request80
         requires { (next_of self.old.state).sample ≡ false }
-        ensures request { request_value80 result ≡ asked_of self.old.cart self.old.state }
+        ensures request { request_value80_of result ≡ asked_of self.old.cart self.old.state }
         ensures chip { self.new ≡ record self.old { state = handed self.old.state } }
     {
         self.sequencer
@@ -90,8 +90,8 @@ impl Chip80 {
     pub fn answer(&mut self, answer: Answer80)
         requires asking { (next_of self.old.state).sample ≡ false }
         requires far { self.old.state.next < 2 ^ 50 }
-        requires fits { Fits (asked_of self.old.cart self.old.state) (answer_value80 answer) }
-        ensures { self.new ≡ record self.old { state = answered self.old.cart self.old.state (answer_value80 answer) } }
+        requires fits { Fits (asked_of self.old.cart self.old.state) (answer_value80_of answer) }
+        ensures { self.new ≡ record self.old { state = answered self.old.cart self.old.state (answer_value80_of answer) } }
     {
         self.sequencer
             .answer(answer, &self.cart, &mut self.parcel, &mut self.progress);

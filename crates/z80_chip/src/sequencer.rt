@@ -10,7 +10,7 @@ ghost use Rattle.z80_exec.specs.Access.Clauses.{done_of};
 ghost use Rattle.z80_chip.specs.States.{State80, no_regs, power_on, state_of};
 ghost use Rattle.z80_parcel.specs.Parcels.{Store, store_of};
 ghost use Rattle.z80_parcel.specs.Requests as requests;
-ghost use Rattle.z80_parcel.specs.Requests.{request_value80, answer_value80};
+ghost use Rattle.z80_parcel.specs.Requests.{request_value80_of, answer_value80_of};
 
 use crate::behind::Behind;
 use crate::case::Case;
@@ -21,7 +21,7 @@ use md_word::{Answer80, Parcel, Pins80, Request80};
 use rom_header::Cart;
 use z80_decode::InterruptMode;
 use z80_exec::{Finish80, Progress80, Regs80, Step80, foresee, go};
-use z80_parcel::store;
+use z80_parcel::store_bytes;
 
 /// The master cycles from a sample to the first access, to a yield and to a take, and for which a
 /// halted Z80 waits.
@@ -237,7 +237,7 @@ impl Sequencer {
         match self.step(cause, cart, parcel, progress) {
             None => self.ask(cause),
             Some(finish) => {
-                store(progress.writes.as_slice(), parcel);
+                store_bytes(progress.writes.as_slice(), parcel);
                 self.finish(&finish);
             }
         }
@@ -339,7 +339,7 @@ impl Sequencer {
     ) -> Request80
         requires access { events.Waits self.old.stage cart.now (state_of self.old parcel.old) }
         requires foreseen { IsForeseen self.old.stage cart.now (state_of self.old parcel.old) self.old.behind }
-        ensures request { request_value80 result ≡ asked_of cart.now (state_of self.old parcel.old) }
+        ensures request { request_value80_of result ≡ asked_of cart.now (state_of self.old parcel.old) }
         ensures state { state_of self.new parcel.new ≡ handed (state_of self.old parcel.old) }
         ensures foreseen { IsForeseen self.new.stage cart.now (state_of self.new parcel.new) self.new.behind }
     {
@@ -360,7 +360,7 @@ impl Sequencer {
         requires ram { IsSome parcel.now }
         requires asked { events.Asks cart.now (state_of self.old parcel.now) }
         requires foretells { Foretells self.old.behind cart.now (state_of self.old parcel.now) self.old.cause }
-        ensures request { request_value80 result ≡ events.asked_in (carried_out cart.now (state_of self.old parcel.now) self.old.cause) }
+        ensures request { request_value80_of result ≡ events.asked_in (carried_out cart.now (state_of self.old parcel.now) self.old.cause) }
         ensures state { self.new ≡ self.old }
     {
         if self.behind.end.known {
@@ -396,7 +396,7 @@ impl Sequencer {
         requires ram { events.HasRam self.old.stage (state_of self.old parcel.old) }
         requires foreseen { IsForeseen self.old.stage cart.now (state_of self.old parcel.old) self.old.behind }
         ensures foreseen { IsForeseen self.new.stage cart.now (state_of self.new parcel.new) self.new.behind }
-        ensures state { state_of self.new parcel.new ≡ answered cart.now (state_of self.old parcel.old) (answer_value80 answer) }
+        ensures state { state_of self.new parcel.new ≡ answered cart.now (state_of self.old parcel.old) (answer_value80_of answer) }
     {
         match self.stage {
             Stage::Sample => {}
@@ -448,7 +448,7 @@ impl Sequencer {
 
 /// What a yield hands over: the parcel, which the Z80 has no longer.
 fn yield_parcel(parcel: &mut Option<Parcel>) -> Request80
-    ensures request { request_value80 result ≡ events.handing (option_map store_of parcel.old) }
+    ensures request { request_value80_of result ≡ events.handing (option_map store_of parcel.old) }
     ensures none { parcel.new ≡ None }
 {
     match parcel.take() {
@@ -459,7 +459,7 @@ fn yield_parcel(parcel: &mut Option<Parcel>) -> Request80
 
 /// The value that an answer tells.
 fn value_in(answer: &Answer80) -> u8
-    ensures { result ≡ requests.value_in (answer_value80 answer.now) }
+    ensures { result ≡ requests.value_in (answer_value80_of answer.now) }
 {
     match answer {
         Answer80::Value(value) => *value,
@@ -469,7 +469,7 @@ fn value_in(answer: &Answer80) -> u8
 
 /// What an answer gives back.
 fn parcel_in(answer: Answer80) -> Option<Parcel>
-    ensures { option_map store_of result ≡ requests.store_in (answer_value80 answer) }
+    ensures { option_map store_of result ≡ requests.store_in (answer_value80_of answer) }
 {
     match answer {
         Answer80::Back(parcel) => Some(parcel),

@@ -14,11 +14,11 @@ pub data RequestValue80 : Type 0 where
   TakeBack : RequestValue80
 
 -- a request, without where a yielded parcel lies
-abbrev pub request_value80 : Request80 → RequestValue80
-request_value80 (requests.Read at) = ReadByte at
-request_value80 (requests.Write at value) = WriteByte at value
-request_value80 (requests.Yield parcel) = HandOver (store_of parcel)
-request_value80 requests.Take = TakeBack
+abbrev pub request_value80_of : Request80 → RequestValue80
+request_value80_of (requests.Read at) = ReadByte at
+request_value80_of (requests.Write at value) = WriteByte at value
+request_value80_of (requests.Yield parcel) = HandOver (store_of parcel)
+request_value80_of requests.Take = TakeBack
 
 -- the byte that was read, nothing, or RAM and bank register that come back
 pub data AnswerValue80 : Type 0 where
@@ -27,10 +27,10 @@ pub data AnswerValue80 : Type 0 where
   Returned : Store → AnswerValue80
 
 -- an answer, without where a returned parcel lies
-abbrev pub answer_value80 : Answer80 → AnswerValue80
-answer_value80 (answers.Value value) = Byte value
-answer_value80 answers.Done = Nothing
-answer_value80 (answers.Back parcel) = Returned (store_of parcel)
+abbrev pub answer_value80_of : Answer80 → AnswerValue80
+answer_value80_of (answers.Value value) = Byte value
+answer_value80_of answers.Done = Nothing
+answer_value80_of (answers.Back parcel) = Returned (store_of parcel)
 
 -- the value that an answer tells; nothing is told by the answer to a write
 abbrev pub value_in : AnswerValue80 → ℕ

@@ -52,7 +52,7 @@ pub fn store_byte(at: u16, value: u8, parcel: &mut Parcel)
 }
 
 /// Writes bytes to RAM and to the bank register, the oldest first; elsewhere they are lost.
-pub fn store(writes: &[(u16, u8)], parcel: &mut Parcel)
+pub fn store_bytes(writes: &[(u16, u8)], parcel: &mut Parcel)
     ensures ram { parcel.new.ram.value ≡ parcels.ram_after parcel.old.ram.value writes.now }
     ensures bank { parcel.new.bank ≡ parcels.bank_after parcel.old.bank writes.now }
 {

@@ -9,7 +9,7 @@ use std::alloc::Global;
 use std::test::Fail;
 use z80_decode::InterruptMode;
 use z80_exec::Regs80;
-use z80_parcel::{first, store};
+use z80_parcel::{first, store_bytes};
 
 /// Runs a line.
 fn hold_line(alloc: Global, cart: &Cart, line: &str) -> Result<(), Fail> {
@@ -329,7 +329,7 @@ static BANK_WRITES: [(u16, u8); 11] = [
 fn nine_writes_set_the_bank(rt: HostRuntime) -> Result<(), Fail> {
     let mut parcel = first(rt.alloc()).map_err(|_| Fail::from("no memory"))?;
     parcel.bank = 0x0ff;
-    store(&BANK_WRITES, &mut parcel);
+    store_bytes(&BANK_WRITES, &mut parcel);
     assert!(rt; parcel.bank == 0x155 && parcel.ram[5] == 0xa5);
     Ok(())
 }

@@ -18,12 +18,12 @@ pub struct SubChip {
 
 impl Model for SubChip {
     ghost use Rattle.std.specs.Prelude.{option_map};
-    ghost use Rattle.z80_parcel.specs.Requests.{answer_value80};
+    ghost use Rattle.z80_parcel.specs.Requests.{answer_value80_of};
     ghost use Rattle.md_machine.specs.Parts.{SubValue};
 
     ghost Value = { SubValue };
 
-    ghost view = { λ c. record { chip = c.chip; answer = option_map answer_value80 c.answer } };
+    ghost view = { λ c. record { chip = c.chip; answer = option_map answer_value80_of c.answer } };
 }
 
 impl SubChip {

@@ -30,15 +30,15 @@ returns-in-Some-clause-state c =
       halted = c.in-Some.finish.halted;
       after_ei = c.in-Some.finish.after_ei;
     } in
-    let ram : c.store.new.parcel.ram.value ≡ ram_after c.args.parcel.now.ram.value writes =
-    c.store.ensures.ram ∙ ap (ram_after c.args.parcel.now.ram.value) c.as_slice.ensures.value in
-    let bank : c.store.new.parcel.bank ≡ bank_after c.args.parcel.now.bank writes =
-    c.store.ensures.bank ∙ ap (bank_after c.args.parcel.now.bank) c.as_slice.ensures.value in
-    let stored : store_of c.store.new.parcel ≡ written writes (store_of c.args.parcel.now) =
-    ap (λ (l : List ℕ). record { ram = l; bank = c.store.new.parcel.bank }) ram
+    let ram : c.store_bytes.new.parcel.ram.value ≡ ram_after c.args.parcel.now.ram.value writes =
+    c.store_bytes.ensures.ram ∙ ap (ram_after c.args.parcel.now.ram.value) c.as_slice.ensures.value in
+    let bank : c.store_bytes.new.parcel.bank ≡ bank_after c.args.parcel.now.bank writes =
+    c.store_bytes.ensures.bank ∙ ap (bank_after c.args.parcel.now.bank) c.as_slice.ensures.value in
+    let stored : store_of c.store_bytes.new.parcel ≡ written writes (store_of c.args.parcel.now) =
+    ap (λ (l : List ℕ). record { ram = l; bank = c.store_bytes.new.parcel.bank }) ram
     ∙ ap (λ (n : ℕ). record { ram = ram_after c.args.parcel.now.ram.value writes; bank = n }) bank in
-    c.finish.ensures.state (Some c.store.new.parcel)
-    ∙ ap (λ (s : Sequencer). ended_at (state_of s (Some c.store.new.parcel)) c.in-Some.finish) c.step.ensures.others
+    c.finish.ensures.state (Some c.store_bytes.new.parcel)
+    ∙ ap (λ (s : Sequencer). ended_at (state_of s (Some c.store_bytes.new.parcel)) c.in-Some.finish) c.step.ensures.others
     ∙ ap (λ (s : Store). ended_at (record old { regs = c.step.new.self.regs; store = Some s }) c.in-Some.finish) stored
     ∙ ends old c.args.cause (carried_out c.args.cart.now old c.args.cause) ended (sym (ap (λ r. ended_by r c.step.new.self.regs (done_of c.step.new.progress)) c.in-Some.is) ∙ c.step.ensures.value)
 

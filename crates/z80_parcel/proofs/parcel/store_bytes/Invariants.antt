@@ -1,6 +1,6 @@
 use Rattle.std.proofs.Common.{◌≡◌, take}
 use Rattle.z80_parcel.specs.Parcels.{bank_after, ram_after}
-use Rattle.z80_parcel.proofs.parcel.store.Given as goal
+use Rattle.z80_parcel.proofs.parcel.store_bytes.Given as goal
 
 -- the memories are as the writes so far have left them
 abbrev pub invariant-writes : goal.invariant-writes
