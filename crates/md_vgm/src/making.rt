@@ -19,7 +19,7 @@ use crate::command::{Command, put_command, put_waits};
 use crate::fault::VgmFault;
 use crate::head::{put_head, set_length};
 use crate::journal::{ENTRY, entry_at, right_bytes};
-use journal_sound::{Hearing, Told};
+use journal_sound::{Hearing, SoundAccess};
 use md_word::{Entry, NoMemory};
 use std::alloc::Global;
 
@@ -34,15 +34,15 @@ fn low(value: u16) -> u8
 }
 
 /// The command for what an entry tells the sound chips, where it is one.
-fn command_of(told: Told, hearing: &Hearing) -> Option<Command>
+fn command_of(told: SoundAccess, hearing: &Hearing) -> Option<Command>
     ensures { (key : Stamp) → sounds_of key told hearing.now ≡ map (command_at key.cycle) (option_to_list result) }
 {
     match told {
-        Told::Psg(value) => Some(Command::Psg(low(value))),
-        Told::Fm(0, _) | Told::Fm(2, _) => None,
-        Told::Fm(1, value) => Some(Command::First(low(hearing.first), low(value))),
-        Told::Fm(_, value) => Some(Command::Second(low(hearing.second), low(value))),
-        Told::Reset | Told::Nothing => None,
+        SoundAccess::Psg(value) => Some(Command::Psg(low(value))),
+        SoundAccess::Fm(0, _) | SoundAccess::Fm(2, _) => None,
+        SoundAccess::Fm(1, value) => Some(Command::First(low(hearing.first), low(value))),
+        SoundAccess::Fm(_, value) => Some(Command::Second(low(hearing.second), low(value))),
+        SoundAccess::Reset | SoundAccess::Nothing => None,
     }
 }
 
