@@ -140,8 +140,8 @@ pub power_on_bytes : (pal : Bool) → AreBytes (at_power_on pal).registers
 power_on_bytes pal = All-replicate (λ (value : ℕ). value < 0x100) 24 0 (lit< tt)
 
 -- a register is a byte, also one that there is not
-byte-at : (registers : List ℕ) (n : ℕ) → AreBytes registers → slice_index registers n < 0x100
-byte-at registers n h = elim (cases_lt n (length registers)) [
+register-byte : (registers : List ℕ) (n : ℕ) → AreBytes registers → slice_index registers n < 0x100
+register-byte registers n h = elim (cases_lt n (length registers)) [
   | inl less ↦ All-get_or (λ (value : ℕ). value < 0x100) registers n 0 less h
   | inr more ↦ (rw (get_or-eq_default registers 0 more) (lit< tt))
 ]
@@ -153,7 +153,7 @@ source-even s = omega arith
 
 source-on-bus : (s : Vdp) → AreBytes s.registers → source_of s < 2 ^ 24
 unfolding source_of
-source-on-bus s h = omega (arith, byte-at s.registers 21 h, byte-at s.registers 22 h)
+source-on-bus s h = omega (arith, register-byte s.registers 21 h, register-byte s.registers 22 h)
 
 length-some : (s : Vdp) → 1 ≤ length_of s
 unfolding length_of
@@ -163,9 +163,9 @@ cost-by : (b : Bool) → IsWordCost (if b then 34 else 380)
 cost-by true = inl refl
 cost-by false = inr refl
 
-pub word-cost : (cycle : ℕ) (s : Vdp) → IsWordCost (word_cost cycle s)
+pub cost-of-word : (cycle : ℕ) (s : Vdp) → IsWordCost (word_cost cycle s)
 unfolding word_cost
-word-cost cycle s = cost-by (v_blank cycle (is_shown s) s.pal s.tall)
+cost-of-word cycle s = cost-by (v_blank cycle (is_shown s) s.pal s.tall)
 
 transfer-by : (b : Bool) (cost : ℕ) (s : Vdp) → IsWordCost cost → AreBytes s.registers
     → IfSome (with_cost cost (if b then Some (source_of s, length_of s) else None)) IsTransfer
@@ -181,7 +181,7 @@ second-by false cost word s known h = tt
 pub transfer-sound : (port : VideoPort) (cycle word : ℕ) (s : Vdp) → AreBytes s.registers → IfSome (port_transfer port cycle word s) IsTransfer
 unfolding port_transfer started_by
 transfer-sound Data cycle word s h = tt
-transfer-sound Control cycle word s h = second-by (settled cycle s).pending (word_cost cycle s) word (settled cycle s) (word-cost cycle s) (settled-bytes cycle s h)
+transfer-sound Control cycle word s h = second-by (settled cycle s).pending (word_cost cycle s) word (settled cycle s) (cost-of-word cycle s) (settled-bytes cycle s h)
 transfer-sound Counter cycle word s h = tt
 transfer-sound Sound cycle word s h = tt
 transfer-sound Unused cycle word s h = tt

@@ -30,7 +30,7 @@ use Rattle.bus_shared.specs.declared.port.VideoPort.{VideoPort}
 use Rattle.bus_shared.specs.declared.port.VideoPort.TheVariants.{Data, Control, Counter, Sound, Unused as NoPort}
 use Rattle.bus_shared.specs.declared.register.Register.{Register}
 use Rattle.bus_shared.specs.declared.register.Register.TheVariants.{Version, Data1, Data2, DataExpansion, Control1, Control2, Unused}
-use Rattle.bus_shared.proofs.Touches.{sub_leaves}
+use Rattle.bus_shared.proofs.Touches.{left_by_sub}
 
 -- ---- the VDP
 
@@ -152,7 +152,7 @@ main_ruled at board key (Word value) below ok = transferred_kept at value (settl
 
 -- an access of the Z80
 pub sub_ruled : (at : ℕ) (board : Board) (key : Key) (asks : RequestValue80) → HasRules at board.vdp → HasRules at (sub_access board key asks).board.vdp
-sub_ruled at board key asks ok = subst (λ (vdp : Vdp). HasRules at vdp) (sym (sub_leaves board key asks).vdp) ok
+sub_ruled at board key asks ok = subst (λ (vdp : Vdp). HasRules at vdp) (sym (left_by_sub board key asks).vdp) ok
 
 -- the start of a line
 pub line_ruled : (at : ℕ) (board : Board) (cycle : ℕ) (note : SpriteNote) → cycle < at → cycle % line ≡ 0 → HasRules at board.vdp → HasRules at (line_board board cycle note).vdp

@@ -124,8 +124,8 @@ length_by : (store : Option Store) (n : ℕ) → n ≡ store_size (is_some store
 length_by None n e = inl e
 length_by (Some store) n e = inr e
 
-is_length : (at : ℕ) (pal : Bool) (bytes : List ℕ) (board : Board) → Spells at pal bytes board → IsLength bytes
-is_length at pal bytes board p =
+spelled_length : (at : ℕ) (pal : Bool) (bytes : List ℕ) (board : Board) → Spells at pal bytes board → IsLength bytes
+spelled_length at pal bytes board p =
     let a = store_bytes board.store in
     let b = vdp_spelling.vdp_bytes board.vdp in
     let c = fm_spelling.port_bytes board.fm in
@@ -168,7 +168,7 @@ none_here at pal start bytes board place p (inr (none, inr (no_vdp, inr (no_fm, 
 none_here at pal start bytes board place p (inr (none, inr (no_vdp, inr (no_fm, inr (no_psg, inr w))))) = w.1
 
 pub right_nowhere : (at : ℕ) (pal : Bool) (bytes : List ℕ) (board : Board) → Spells at pal bytes board → (place : ℕ) → GoesWrongAt at pal bytes place → ⊥
-right_nowhere at pal bytes board p place (inl w) = w.0 (is_length at pal bytes board p)
+right_nowhere at pal bytes board p place (inl w) = w.0 (spelled_length at pal bytes board p)
 right_nowhere at pal bytes board p place (inr w) =
     none_here at pal (store_length bytes) bytes board place p (subst (λ (parts : Parts). PartsGoWrongAt at pal (store_length bytes) parts place) (cut_is at pal bytes board p) w.1)
 

@@ -178,9 +178,9 @@ read-beside (Some BusRequest) board key address other away = refl
 read-beside (Some Z80Reset) board key address other away = refl
 read-beside (Some VideoPorts) board key address other away = absurd (other refl)
 
-pub main_leaves : (board : Board) (key : Key) → MainLeaves board key
+pub left_by_main : (board : Board) (key : Key) → MainLeaves board key
 unfolding main_board
-main_leaves board key = record {
+left_by_main board key = record {
   recording = λ request. (main-same board key request).recording;
   pads = λ request. (main-same board key request).pads;
   region = λ request. (main-same board key request).region;
@@ -210,9 +210,9 @@ pub begun_region : (cycle : ℕ) (note : SpriteNote) (vdp : Vdp) → (line_begun
 unfolding line_begun
 begun_region cycle note vdp = started_region cycle (joined note (settled cycle vdp)) ∙ settled_region cycle vdp
 
-pub line_leaves : (board : Board) (cycle : ℕ) (note : SpriteNote) → LineLeaves board cycle note
+pub left_by_line : (board : Board) (cycle : ℕ) (note : SpriteNote) → LineLeaves board cycle note
 unfolding line_board pads_board
-line_leaves board cycle note =
+left_by_line board cycle note =
     let pal = (video_started board cycle note).vdp.pal in
     let beside = pads-beside (cycle % frame_cycles pal == finished_at pal) (video_started board cycle note) (pads_of board.recording (cycle / frame_cycles pal)) in
     record {
@@ -228,13 +228,13 @@ line_leaves board cycle note =
       region = ap (λ (vdp : Vdp). vdp.pal) beside.vdp ∙ begun_region cycle note board.vdp;
     }
 
-pub batch_leaves : (board : Board) (cycle : ℕ) → BatchLeaves board cycle
+pub left_by_batch : (board : Board) (cycle : ℕ) → BatchLeaves board cycle
 unfolding psg_board
-batch_leaves board cycle = record { recording = refl; pads = refl; port1 = refl; port2 = refl; vdp = refl; fm = refl }
+left_by_batch board cycle = record { recording = refl; pads = refl; port1 = refl; port2 = refl; vdp = refl; fm = refl }
 
-pub fm_batch_leaves : (board : Board) (cycle : ℕ) → FmBatchLeaves board cycle
+pub left_by_fm_batch : (board : Board) (cycle : ℕ) → FmBatchLeaves board cycle
 unfolding fm_board
-fm_batch_leaves board cycle = refl
+left_by_fm_batch board cycle = refl
 
 -- the Z80
 record Alike (old new : Board) : Type 0 where
@@ -276,8 +276,8 @@ access-alike board key (WriteByte at value) = written-alike (is_psg80 at) (is_fm
 access-alike board key (HandOver store) = yielded-alike board.request board key store
 access-alike board key TakeBack = taken-alike board.request board.store board key
 
-pub sub_leaves : (board : Board) (key : Key) (request : RequestValue80) → SubLeaves board key request
-sub_leaves board key request =
+pub left_by_sub : (board : Board) (key : Key) (request : RequestValue80) → SubLeaves board key request
+left_by_sub board key request =
     let same = access-alike board key request in
     record {
       recording = same.recording;

@@ -18,7 +18,7 @@ use Rattle.bus_shared.specs.Registers.{register_at, register_read}
 use Rattle.bus_shared.specs.Video.{both_halves, port_at, port_word}
 use Rattle.bus_shared.specs.Fm.{is_fm}
 use Rattle.bus_shared.specs.Z80Space.{granted, space_byte, z80_address}
-use Rattle.bus_shared.proofs.Ports.{half-below, port-below, transfer-sound, word-cost}
+use Rattle.bus_shared.proofs.Ports.{half-below, port-below, transfer-sound, cost-of-word}
 use Rattle.fm_port.specs.Timers.{both_settled}
 use Rattle.bus_shared.proofs.Keeps.{status-below}
 use Rattle.z80_parcel.specs.Parcels.{Store, is_ram, ram_place}
@@ -110,21 +110,21 @@ word-below (Some Z80Reset) board key address ok = lit< tt
 word-below (Some VideoPorts) board key address ok = port-below (port_at address) key.cycle board.vdp
 
 -- a transfer starts with its words, at an even address on the bus
-transfer-in : (area : Option Area) (board : Board) (key : Key) (address word : ℕ) → IsBoard board → IfSome (transfer_at area board key address word) IsTransfer
+area-transfer : (area : Option Area) (board : Board) (key : Key) (address word : ℕ) → IsBoard board → IfSome (transfer_at area board key address word) IsTransfer
 unfolding transfer_in
-transfer-in None board key address word ok = tt
-transfer-in (Some Z80Space) board key address word ok = tt
-transfer-in (Some InputOutput) board key address word ok = tt
-transfer-in (Some BusRequest) board key address word ok = tt
-transfer-in (Some Z80Reset) board key address word ok = tt
-transfer-in (Some VideoPorts) board key address word ok = transfer-sound (port_at address) key.cycle word board.vdp ok.registers
+area-transfer None board key address word ok = tt
+area-transfer (Some Z80Space) board key address word ok = tt
+area-transfer (Some InputOutput) board key address word ok = tt
+area-transfer (Some BusRequest) board key address word ok = tt
+area-transfer (Some Z80Reset) board key address word ok = tt
+area-transfer (Some VideoPorts) board key address word ok = transfer-sound (port_at address) key.cycle word board.vdp ok.registers
 
 transfer-ok : (board : Board) (key : Key) (request : Request68) → IsBoard board → IfSome (main_transfer board key request) IsTransfer
 unfolding main_transfer
 transfer-ok board key (Read8 address) ok = tt
 transfer-ok board key (Read16 address) ok = tt
-transfer-ok board key (Write8 address value) ok = transfer-in (area_of address) board key address (both_halves value) ok
-transfer-ok board key (Write16 address value) ok = transfer-in (area_of address) board key address value ok
+transfer-ok board key (Write8 address value) ok = area-transfer (area_of address) board key address (both_halves value) ok
+transfer-ok board key (Write16 address value) ok = area-transfer (area_of address) board key address value ok
 transfer-ok board key (Ack level) ok = tt
 transfer-ok board key (Word value) ok = tt
 
@@ -135,5 +135,5 @@ tells board key ok = record {
   byte = λ address. byte-below (area_of address) board key address ok;
   word = λ address. word-below (area_of address) board key address ok;
   transfer = λ request. transfer-ok board key request ok;
-  cost = λ word. word-cost key.cycle board.vdp;
+  cost = λ word. cost-of-word key.cycle board.vdp;
 }

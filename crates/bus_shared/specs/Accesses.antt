@@ -70,18 +70,18 @@ main_board board key (Ack level) = video_acknowledged board level
 main_board board key (Word value) = word_taken board key value
 
 -- an access of the Z80: what it is told, its entry, and the board after it
-pub record SubAccess : Type 0 where
+pub record SubOutcome : Type 0 where
   pub answer : AnswerValue80
   pub entry : Entry
   pub board : Board
 
 -- it hands its RAM over where the bus is still requested
-abbrev pub yielded : Bool → Board → Key → Store → SubAccess
+abbrev pub yielded : Bool → Board → Key → Store → SubOutcome
 yielded true board key store = record { answer = Nothing; entry = sub_entry key 8 0 1; board = record board { store = Some store } }
 yielded false board key store = record { answer = Returned store; entry = sub_entry key 8 0 0; board = board }
 
 -- it takes its RAM back where the bus is no longer requested and has it
-abbrev pub taken_back : Bool → Option Store → Board → Key → SubAccess
+abbrev pub taken_back : Bool → Option Store → Board → Key → SubOutcome
 taken_back false (Some store) board key = record { answer = Returned store; entry = sub_entry key 9 0 1; board = record board { store = None } }
 taken_back request store board key = record { answer = Nothing; entry = sub_entry key 9 0 0; board = board }
 
@@ -91,7 +91,7 @@ sub_written board key at value =
     if is_psg80 at then with_psg board key value else (if is_fm at then with_fm board key at value else board)
 
 -- an access of the Z80
-unfoldable pub sub_access : Board → Key → RequestValue80 → SubAccess
+unfoldable pub sub_access : Board → Key → RequestValue80 → SubOutcome
 sub_access board key (ReadByte at) = record {
   answer = Byte (chip_byte board key.cycle at);
   entry = sub_entry key 6 at (chip_byte board key.cycle at);
@@ -132,15 +132,15 @@ pub data AnswerValue : Type 0 where
   Psg : List PsgWrite → AnswerValue
 
 -- an answer with the values that its view, its list or its parcel has
-abbrev pub answer_value : Answer → AnswerValue
-answer_value (answers.Main answer) = Main answer
-answer_value (answers.Sub answer) = Sub (answer_value80_of answer)
-answer_value (answers.Line view) = Line view.value
-answer_value (answers.Fm list) = Fm list.value.items
-answer_value (answers.Psg list) = Psg list.value.items
+abbrev pub answer_value_of : Answer → AnswerValue
+answer_value_of (answers.Main answer) = Main answer
+answer_value_of (answers.Sub answer) = Sub (answer_value80_of answer)
+answer_value_of (answers.Line view) = Line view.value
+answer_value_of (answers.Fm list) = Fm list.value.items
+answer_value_of (answers.Psg list) = Psg list.value.items
 
 -- what an access comes to: the answer, the entry in the journal, and the board after it
-pub record Carried : Type 0 where
+pub record AccessOutcome : Type 0 where
   pub answer : AnswerValue
   pub entry : Entry
   pub board : Board
@@ -164,7 +164,7 @@ sub_pins board = record {
 }
 
 -- an access of the chip whose key it is
-unfoldable pub carried : Board → Key → Request → Carried
+unfoldable pub carried : Board → Key → Request → AccessOutcome
 carried board key (requests.Main request) = record {
   answer = Main (main_answer board key request);
   entry = main_told board key request;

@@ -16,7 +16,7 @@ ghost use Rattle.z80_parcel.specs.Requests.{RequestValue80};
 /// but the VDP and the FM chip's timers where it reads; the Z80's these, the pads' latches, its own
 /// lines and the VDP; a line's all but the buttons and the VDP; a batch's all but the writes that the
 /// port of its chip holds.
-#[tactic(auto, using(crate::proofs::Touches::main_leaves, crate::proofs::Touches::sub_leaves, crate::proofs::Touches::line_leaves, crate::proofs::Touches::batch_leaves, crate::proofs::Touches::fm_batch_leaves))]
+#[tactic(auto, using(crate::proofs::Touches::left_by_main, crate::proofs::Touches::left_by_sub, crate::proofs::Touches::left_by_line, crate::proofs::Touches::left_by_batch, crate::proofs::Touches::left_by_fm_batch))]
 pub fn each_chip_touches_its_part()
     ensures main { (board : Board) (key : Key) → MainLeaves board key }
     ensures sub { (board : Board) (key : Key) (request : RequestValue80) → SubLeaves board key request }

@@ -1,6 +1,6 @@
 ghost use Rattle.std.specs.Prelude.{◌≡◌, List, Some, option_map};
 ghost use Rattle.bus_shared.specs.Accesses as accesses;
-ghost use Rattle.bus_shared.specs.Accesses.{answer_value};
+ghost use Rattle.bus_shared.specs.Accesses.{answer_value_of};
 ghost use Rattle.md_word.specs.declared.main_bus.Answer68.{Answer68 as MainAnswer};
 ghost use Rattle.fm_port.specs.declared.write.FmWrite.{FmWrite as WriteFm};
 ghost use Rattle.psg_sound.specs.declared.write.PsgWrite.{PsgWrite as Write};
@@ -46,7 +46,7 @@ pub enum Answer {
 impl Answer {
     /// What it answers to the 68000, if it does.
     pub fn main(self) -> Option<Answer68>
-        ensures { (answer : MainAnswer) → answer_value self ≡ accesses.Main answer → result ≡ Some answer }
+        ensures { (answer : MainAnswer) → answer_value_of self ≡ accesses.Main answer → result ≡ Some answer }
     {
         match self {
             Answer::Main(answer) => Some(answer),
@@ -56,7 +56,7 @@ impl Answer {
 
     /// What it answers to the Z80, if it does.
     pub fn sub(self) -> Option<Answer80>
-        ensures { (answer : AnswerValue80) → answer_value self ≡ accesses.Sub answer → option_map answer_value80_of result ≡ Some answer }
+        ensures { (answer : AnswerValue80) → answer_value_of self ≡ accesses.Sub answer → option_map answer_value80_of result ≡ Some answer }
     {
         match self {
             Answer::Sub(answer) => Some(answer),
@@ -66,7 +66,7 @@ impl Answer {
 
     /// The view that it hands to the drawing half of the VDP, if it does.
     pub fn line_view(self) -> Option<Box<LineView>>
-        ensures { (view : View) → answer_value self ≡ accesses.Line view → option_map (λ held. held.value) result ≡ Some view }
+        ensures { (view : View) → answer_value_of self ≡ accesses.Line view → option_map (λ held. held.value) result ≡ Some view }
     {
         match self {
             Answer::Line(view) => Some(view),
@@ -76,7 +76,7 @@ impl Answer {
 
     /// The writes that it hands to the FM synthesis, if it does.
     pub fn fm_list(self) -> Option<Box<FmList>>
-        ensures { (writes : List WriteFm) → answer_value self ≡ accesses.Fm writes → option_map (λ list. list.value.items) result ≡ Some writes }
+        ensures { (writes : List WriteFm) → answer_value_of self ≡ accesses.Fm writes → option_map (λ list. list.value.items) result ≡ Some writes }
     {
         match self {
             Answer::Fm(list) => Some(list),
@@ -86,7 +86,7 @@ impl Answer {
 
     /// The writes that it hands to the PSG synthesis, if it does.
     pub fn psg_list(self) -> Option<Box<PsgList>>
-        ensures { (writes : List Write) → answer_value self ≡ accesses.Psg writes → option_map (λ list. list.value.items) result ≡ Some writes }
+        ensures { (writes : List Write) → answer_value_of self ≡ accesses.Psg writes → option_map (λ list. list.value.items) result ≡ Some writes }
     {
         match self {
             Answer::Psg(list) => Some(list),

@@ -3,7 +3,7 @@ ghost use Rattle.std.specs.Arc.{arc_value};
 ghost use Rattle.md_word.specs.Map.{area_of};
 ghost use Rattle.fm_port.specs.Port as fm_ports;
 ghost use Rattle.psg_sound.specs.Port.{taken_below};
-ghost use Rattle.bus_shared.specs.Accesses.{carried, chip_of, answer_value};
+ghost use Rattle.bus_shared.specs.Accesses.{carried, chip_of, answer_value_of};
 ghost use Rattle.bus_shared.specs.Accesses as accesses;
 ghost use Rattle.bus_shared.specs.Areas as areas;
 ghost use Rattle.bus_shared.specs.Board as boards;
@@ -581,7 +581,7 @@ fn costing(cost: u16) -> Answer68
 pub fn carry_out(shared: &mut Shared, key: Key, request: Request) -> (Answer, Entry)
     requires chip { key.chip ≡ chip_of request }
     requires soon { key.cycle ≤ 2 ^ 50 }
-    ensures answer { answer_value result.0 ≡ (carried shared.old key request).answer }
+    ensures answer { answer_value_of result.0 ≡ (carried shared.old key request).answer }
     ensures entry { result.1 ≡ (carried shared.old key request).entry }
     ensures board { shared.new ≡ (carried shared.old key request).board }
 {

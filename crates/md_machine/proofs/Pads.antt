@@ -10,7 +10,7 @@ use Rattle.m68k_chip.specs.Events.{request_of}
 use Rattle.m68k_chip.specs.States.{next_of}
 use Rattle.z80_chip.specs.Events.{asked_of}
 use Rattle.z80_chip.specs.States.{next_of as sub_next_of}
-use Rattle.bus_shared.proofs.Touches.{batch_leaves, begun_region, main_leaves, sub_leaves}
+use Rattle.bus_shared.proofs.Touches.{left_by_batch, begun_region, left_by_main, left_by_sub}
 use Rattle.bus_shared.specs.Fm.{fm_board}
 use Rattle.bus_shared.specs.Accesses.{line_board, pads_board, video_started}
 use Rattle.bus_shared.specs.Board.{Board}
@@ -41,7 +41,7 @@ one_of false old x y first second = second
 main_leaves_pads : (z : Console) → Leaves z (main_moved z)
 unfolding main_moved
 main_leaves_pads z =
-    let leaves = main_leaves z.shared (next_of z.main).key in
+    let leaves = left_by_main z.shared (next_of z.main).key in
     let request = request_of z.cart z.main in
     one_of (next_of z.main).sample z _ _ (record { line_is = refl; recording_is = refl; pads_are = refl; region_is = refl })
     (record { line_is = refl; recording_is = leaves.recording request; pads_are = leaves.pads request; region_is = leaves.region request })
@@ -49,7 +49,7 @@ main_leaves_pads z =
 sub_leaves_pads : (z : Console) → Leaves z (sub_moved z)
 unfolding sub_moved
 sub_leaves_pads z =
-    let leaves = sub_leaves z.shared (sub_next_of z.sub.state).key (asked_of z.sub.cart z.sub.state) in
+    let leaves = left_by_sub z.shared (sub_next_of z.sub.state).key (asked_of z.sub.cart z.sub.state) in
     one_of (sub_next_of z.sub.state).sample z _ _ (record { line_is = refl; recording_is = refl; pads_are = refl; region_is = refl })
     (record { line_is = refl; recording_is = leaves.recording; pads_are = leaves.pads; region_is = ap (λ (vdp : Vdp). vdp.pal) leaves.vdp })
 
@@ -60,7 +60,7 @@ fm_leaves_pads z = record { line_is = refl; recording_is = refl; pads_are = refl
 psg_leaves_pads : (z : Console) → Leaves z (psg_moved z)
 unfolding psg_moved
 psg_leaves_pads z =
-    let leaves = batch_leaves z.shared z.psg_cycle in
+    let leaves = left_by_batch z.shared z.psg_cycle in
     record { line_is = refl; recording_is = leaves.recording; pads_are = leaves.pads; region_is = ap (λ (vdp : Vdp). vdp.pal) leaves.vdp }
 
 shown_low : (pal : Bool) (recording : Recorded) (n : ℕ) → n ≤ rows pal → pads_shown pal recording n ≡ (0, 0)

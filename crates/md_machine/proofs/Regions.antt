@@ -6,7 +6,7 @@ use Rattle.m68k_chip.specs.States.{next_of}
 use Rattle.vdp_ports.specs.Vdp.{Vdp}
 use Rattle.z80_chip.specs.Events.{asked_of}
 use Rattle.z80_chip.specs.States.{next_of as sub_next_of}
-use Rattle.bus_shared.proofs.Touches.{batch_leaves, line_leaves, main_leaves, sub_leaves}
+use Rattle.bus_shared.proofs.Touches.{left_by_batch, left_by_line, left_by_main, left_by_sub}
 use Rattle.bus_shared.specs.Fm.{fm_board}
 use Rattle.md_machine.specs.Console.{Console, IsRunTo, fm_moved, line_moved, main_moved, moved, mover, psg_moved, ran, sub_moved}
 use Rattle.md_machine.specs.Media.{Media}
@@ -22,18 +22,18 @@ pub main_stays : (z : Console) → Stays z (main_moved z)
 unfolding main_moved
 main_stays z =
     one_of (next_of z.main).sample z _ _ (record { pal = refl; region = refl })
-    (record { pal = refl; region = (main_leaves z.shared (next_of z.main).key).region (request_of z.cart z.main) })
+    (record { pal = refl; region = (left_by_main z.shared (next_of z.main).key).region (request_of z.cart z.main) })
 
 pub sub_stays : (z : Console) → Stays z (sub_moved z)
 unfolding sub_moved
 sub_stays z =
-    let leaves = sub_leaves z.shared (sub_next_of z.sub.state).key (asked_of z.sub.cart z.sub.state) in
+    let leaves = left_by_sub z.shared (sub_next_of z.sub.state).key (asked_of z.sub.cart z.sub.state) in
     one_of (sub_next_of z.sub.state).sample z _ _ (record { pal = refl; region = refl })
     (record { pal = refl; region = ap (λ (vdp : Vdp). vdp.pal) leaves.vdp })
 
 pub line_stays : (z : Console) → Stays z (line_moved z)
 unfolding line_moved
-line_stays z = record { pal = refl; region = (line_leaves z.shared z.line z.note).region }
+line_stays z = record { pal = refl; region = (left_by_line z.shared z.line z.note).region }
 
 pub fm_stays : (z : Console) → Stays z (fm_moved z)
 unfolding fm_moved fm_board
@@ -41,7 +41,7 @@ fm_stays z = record { pal = refl; region = refl }
 
 pub psg_stays : (z : Console) → Stays z (psg_moved z)
 unfolding psg_moved
-psg_stays z = record { pal = refl; region = ap (λ (vdp : Vdp). vdp.pal) (batch_leaves z.shared z.psg_cycle).vdp }
+psg_stays z = record { pal = refl; region = ap (λ (vdp : Vdp). vdp.pal) (left_by_batch z.shared z.psg_cycle).vdp }
 
 moved-stays : (z : Console) (i : ℕ) → i < 5 → Stays z (moved z i)
 unfolding moved

@@ -21,7 +21,7 @@ use Rattle.psg_sound.specs.Batches.{after_batch, samples}
 use Rattle.psg_sound.specs.Port.{taken_below}
 use Rattle.psg_sound.specs.Synth.{Synth, at_power_on}
 use Rattle.bus_shared.specs.Fm.{fm_board}
-use Rattle.bus_shared.specs.Accesses.{SubAccess, level_of, line_board, main_answer, main_board, main_told, psg_board, sub_access, sub_pins}
+use Rattle.bus_shared.specs.Accesses.{SubOutcome, level_of, line_board, main_answer, main_board, main_told, psg_board, sub_access, sub_pins}
 use Rattle.bus_shared.specs.Board.{Board}
 use Rattle.bus_shared.specs.Board as boards
 use Rattle.bus_shared.specs.Entries.{batch_entry, line_entry}
@@ -95,7 +95,7 @@ main_moved m =
     })
 
 -- what an access of the Z80 comes to on the board
-abbrev pub sub_accessed : Console → SubAccess
+abbrev pub sub_accessed : Console → SubOutcome
 sub_accessed m = sub_access m.shared (sub_next_of m.sub.state).key (asked_of m.sub.cart m.sub.state)
 
 -- the Z80: a sample looks at its pins, and an access goes on with what it is told

@@ -12,8 +12,8 @@ use Rattle.vdp_planes.specs.declared.view.SpriteNote.{SpriteNote}
 use Rattle.z80_parcel.specs.Parcels.{Store}
 use Rattle.z80_parcel.specs.Requests.{RequestValue80, ReadByte, WriteByte, HandOver, TakeBack}
 use Rattle.vdp_ports.specs.Vdp.{Vdp}
-use Rattle.bus_shared.proofs.Touches.{line_leaves}
-use Rattle.bus_shared.specs.Accesses.{SubAccess, line_board, main_answer, main_board, main_cost, main_told, main_transfer, main_value, pads_board, psg_board, sub_access, taken_back, video_started, yielded}
+use Rattle.bus_shared.proofs.Touches.{left_by_line}
+use Rattle.bus_shared.specs.Accesses.{SubOutcome, line_board, main_answer, main_board, main_cost, main_told, main_transfer, main_value, pads_board, psg_board, sub_access, taken_back, video_started, yielded}
 use Rattle.bus_shared.specs.Areas.{byte_at, byte_in, byte_written_at, byte_written_in, read_at, read_in, transfer_at, transfer_in, word_at, word_in, word_written_at, word_written_in}
 use Rattle.bus_shared.specs.Board.{Board}
 use Rattle.bus_shared.specs.Entries.{main_entry}
@@ -190,7 +190,7 @@ main-with s b key (Word value) = refl
 -- ---- the Z80
 
 -- what it is told, its entry, and the board
-pub record IsSame (s : List Frame) (one other : SubAccess) : Type 0 where
+pub record IsSame (s : List Frame) (one other : SubOutcome) : Type 0 where
   pub answer : other.answer ≡ one.answer
   pub entry : other.entry ≡ one.entry
   pub board : board_with s one.board ≡ other.board
@@ -246,7 +246,7 @@ line-vdp c b note =
 
 -- it leaves the region
 pub line-region : (c : ℕ) (b : Board) (note : SpriteNote) → line_pal c note b ≡ b.vdp.pal
-line-region c b note = ap (λ (v : Vdp). v.pal) (sym (line-vdp c b note)) ∙ (line_leaves b c note).region
+line-region c b note = ap (λ (v : Vdp). v.pal) (sym (line-vdp c b note)) ∙ (left_by_line b c note).region
 
 pub fm-with : (s : List Frame) (c : ℕ) (b : Board) → board_with s (fm_board b c) ≡ fm_board (board_with s b) c
 unfolding fm_board
