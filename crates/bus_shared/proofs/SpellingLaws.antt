@@ -64,11 +64,11 @@ vdp_long at pal bytes s p = ap length p.keeps.all ∙ long_as (vdp_fields at pal
 
 fm_long : (at : ℕ) (bytes : List ℕ) (p : fm_ports.Port) → fm_spelling.SpellsPort at bytes p → length bytes ≡ 12316
 fm_long at bytes p spells =
-    ap length spells.keeps.all ∙ long_as (fm_spelling.port_fields at (fm_spelling.saved_port p)) spells.keeps.within ∙ fm_laws.port_size at (fm_spelling.saved_port p)
+    ap length spells.keeps.all ∙ long_as (fm_spelling.port_fields at (fm_spelling.saved_port_of p)) spells.keeps.within ∙ fm_laws.port_size at (fm_spelling.saved_port_of p)
 
 psg_long : (at : ℕ) (bytes : List ℕ) (ws : List PsgWrite) → psg_spelling.SpellsPort at bytes ws → length bytes ≡ 10242
 psg_long at bytes ws spells =
-    ap length spells.keeps.all ∙ long_as (psg_spelling.port_fields at (psg_spelling.saved_port ws)) spells.keeps.within ∙ psg_laws.port_size at (psg_spelling.saved_port ws)
+    ap length spells.keeps.all ∙ long_as (psg_spelling.port_fields at (psg_spelling.saved_port_of ws)) spells.keeps.within ∙ psg_laws.port_size at (psg_spelling.saved_port_of ws)
 
 lines_long : (at : ℕ) (bytes : List ℕ) (n : SavedLines) → Keeps (lines_fields at) bytes n → length bytes ≡ 36
 lines_long at bytes n keeps = ap length keeps.all ∙ long_as (lines_fields at n) keeps.within ∙ lines_laws.lines_size at n

@@ -74,7 +74,7 @@ pub record IsCounted (at : ℕ) (port : Port) : Type 0 where
 pub record IsReady (at : ℕ) (board : Board) : Type 0 where
   pub vdp : HasRules at board.vdp
   pub timers : AreTimed at board.fm.timers
-  pub fm : fm_spelling.are_right at (map fm_spelling.saved_write board.fm.writes) ≡ true
+  pub fm : fm_spelling.are_right at (map fm_spelling.saved_write_of board.fm.writes) ≡ true
   pub psg : are_kept at (map psg_spelling.key_of board.psg) ≡ true
   pub resets : board.resets ≤ at
   pub pads : IsFrame board.pads

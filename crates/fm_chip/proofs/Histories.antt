@@ -11,7 +11,7 @@ use Rattle.fm_port.specs.declared.write.FmWrite.{FmWrite}
 use Rattle.fm_port.specs.Stamp.{stamp_of}
 use Rattle.fm_port.specs.Port.{IsInOrder}
 use Rattle.fm_chip.specs.Synth.{Synth, written, sampled, sides}
-use Rattle.fm_chip.specs.Batches.{Course, written_all, made_below, due, course, sample, samples, after_batch}
+use Rattle.fm_chip.specs.Batches.{Course, written_all, made_below, due, course_after, sample, samples, after_batch}
 use Rattle.fm_chip.specs.History.{stamped, chip_before, sides_at, Continues, sixteen, IsNextBatch}
 
 -- later writes change no chip before them
@@ -31,8 +31,8 @@ next_chip history ws k = refl
 
 -- a batch's course at a sample is the history with the batch's writes as it is heard there
 due-heard : (history ws : List FmWrite) (first : ℕ) (s : Synth) → Continues history ws first → s ≡ chip_before history first → (n : ℕ)
-    → due (first + n) (course first s ws n) ≡ record { chip = chip_before (history ++ ws) (first + n); rest = filter (is_from stamp_of (1008 * (first + n))) ws }
-unfolding course
+    → due (first + n) (course_after first s ws n) ≡ record { chip = chip_before (history ++ ws) (first + n); rest = filter (is_from stamp_of (1008 * (first + n))) ws }
+unfolding course_after
 due-heard history ws first s h e zero =
     let cut = 1008 * first in
     let high = 1008 * (first + 16) in
@@ -81,7 +81,7 @@ unfolding after_batch
 after_batch-heard history ws first s h e =
     let end = 1008 * (first + 16) in
     let cut = 1008 * first in
-    let c = course first s ws 16 in
+    let c = course_after first s ws 16 in
     let none : filter (is_from stamp_of end) ws ≡ [] = filter-none stamp_of (is_from stamp_of end) cut end ws h.span (λ v i j. lt-leb end v.key.cycle j) in
     sym (finished-made_below stamp_of written end c.chip c.rest)
     ∙ ap (λ (d : Course). written_all d.rest d.chip) (due-heard history ws first s h e 16)

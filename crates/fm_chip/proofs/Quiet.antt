@@ -14,17 +14,17 @@ weak-operator : (registers : List ℕ) (tremolo c n v : ℕ) → 832 ≤ v → 8
 unfolding attenuation
 weak-operator registers tremolo c n v h = weak v _ _ h
 
-are-silent : (registers : List ℕ) (tremolo c : ℕ) (ch : Channel) → IsQuiet ch → AreSilent (attenuations registers tremolo c ch)
+quiet-silent : (registers : List ℕ) (tremolo c : ℕ) (ch : Channel) → IsQuiet ch → AreSilent (attenuations registers tremolo c ch)
 unfolding attenuations
-are-silent registers tremolo c ch quiet zero below = weak-operator registers tremolo c 0 ch.one.v quiet.one
-are-silent registers tremolo c ch quiet (suc zero) below = weak-operator registers tremolo c 1 ch.two.v quiet.two
-are-silent registers tremolo c ch quiet (suc (suc zero)) below = weak-operator registers tremolo c 2 ch.three.v quiet.three
-are-silent registers tremolo c ch quiet (suc (suc (suc zero))) below = weak-operator registers tremolo c 3 ch.four.v quiet.four
-are-silent registers tremolo c ch quiet (suc (suc (suc (suc n)))) below = absurd (omega (arith, below))
+quiet-silent registers tremolo c ch quiet zero below = weak-operator registers tremolo c 0 ch.one.v quiet.one
+quiet-silent registers tremolo c ch quiet (suc zero) below = weak-operator registers tremolo c 1 ch.two.v quiet.two
+quiet-silent registers tremolo c ch quiet (suc (suc zero)) below = weak-operator registers tremolo c 2 ch.three.v quiet.three
+quiet-silent registers tremolo c ch quiet (suc (suc (suc zero))) below = weak-operator registers tremolo c 3 ch.four.v quiet.four
+quiet-silent registers tremolo c ch quiet (suc (suc (suc (suc n)))) below = absurd (omega (arith, below))
 
 pub quiet-heard : (registers : List ℕ) (t c : ℕ) (ch : Channel) → IsQuiet ch → pos 0 ≡ heard (voice_of registers t c ch)
 unfolding voice_of
-quiet-heard registers t c ch quiet = heard-quiet _ (are-silent registers _ c ch quiet)
+quiet-heard registers t c ch quiet = heard-quiet _ (quiet-silent registers _ c ch quiet)
 
 -- the channel with these last outputs
 abbrev pub with_last : Channel → List ℤ → Channel
@@ -32,4 +32,4 @@ with_last ch last = record { one = ch.one; two = ch.two; three = ch.three; four 
 
 pub quiet-sounded : (registers : List ℕ) (t c : ℕ) (ch : Channel) (b : ℤ) → IsQuiet ch → b ≡ last_at ch.last 1 → with_last ch (b ∷ pos 0 ∷ []) ≡ sounded registers t c ch
 unfolding sounded voice_of
-quiet-sounded registers t c ch b quiet e = ap (with_last ch) (last-quiet _ b (are-silent registers _ c ch quiet) e)
+quiet-sounded registers t c ch b quiet e = ap (with_last ch) (last-quiet _ b (quiet-silent registers _ c ch quiet) e)

@@ -15,7 +15,7 @@ use Rattle.fm_voice.specs.Channel.{IsLevel}
 use Rattle.fm_chip.specs.Channels.{IsChannel, channel_at}
 use Rattle.fm_chip.specs.Operators.{IsOperator}
 use Rattle.fm_chip.specs.Synth.{IsSynth, Synth}
-use Rattle.fm_chip.specs.SynthSpelling.{SpellsSynth, SynthGoesWrongAt, channel_from, fields1, fields2, fields3, fields4, fields5, fields6, four_at, four_fields, head_fields, is_output, last_at, last_before, last_fields, last_from, operator_at, operator_before, operator_from, output_of, saved_four, saved_last, saved_synth, state_again, state_number, state_of, synth_at, synth_fields, synth_from, word_of}
+use Rattle.fm_chip.specs.SynthSpelling.{SpellsSynth, SynthGoesWrongAt, channel_from, fields1, fields2, fields3, fields4, fields5, fields6, four_at, four_fields, head_fields, is_output, last_at, last_before, last_fields, last_from, operator_at, operator_before, operator_from, output_of, saved_four_of, saved_last_of, saved_synth_of, state_again, state_number, state_of, synth_at, synth_fields, synth_from, word_of}
 use Rattle.fm_chip.specs.declared.channels.Channel.{Channel}
 use Rattle.fm_chip.specs.declared.saved_operator.SavedFour.{SavedFour}
 use Rattle.fm_chip.specs.declared.saved_operator.SavedOperator.{SavedOperator}
@@ -227,8 +227,8 @@ level_again (negsuc n) h =
     let high : nat_lt (0xffff - n) 0x8000 ≡ false = le-ltb (0xffff - n) 0x8000 (omega (arith, few)) in
     rw high (ap negsuc (omega (arith, few)))
 
-is_level : (n : ℕ) → n < 2 ^ 16 → is_output n ≡ true → IsLevel (output_of n)
-is_level n fits e = grind (arith, ints, fits, e)
+level_within : (n : ℕ) → n < 2 ^ 16 → is_output n ≡ true → IsLevel (output_of n)
+level_within n fits e = grind (arith, ints, fits, e)
 
 -- ---- the first rule that fails, part by part
 
@@ -287,7 +287,7 @@ state_back (suc (suc zero)) few = refl
 state_back (suc (suc (suc zero))) few = refl
 state_back (suc (suc (suc (suc n)))) few = absurd (omega (arith, few))
 
-four_back : (s : SavedFour) (l : SavedLast) → Four s → saved_four (channel_from s l) ≡ s
+four_back : (s : SavedFour) (l : SavedLast) → Four s → saved_four_of (channel_from s l) ≡ s
 four_back s l f = λ i. record {
   one = record { phase = s.one.phase; v = s.one.v; state = state_back s.one.state f.state1 i; on = flag_back s.one.on f.on1 i };
   two = record { phase = s.two.phase; v = s.two.v; state = state_back s.two.state f.state2 i; on = flag_back s.two.on f.on2 i };
@@ -300,7 +300,7 @@ record Last (s : SavedLast) : Type 0 where
   newer : s.newer < 2 ^ 16
   outputs : (is_output s.older && is_output s.newer) ≡ true
 
-last_back : (s : SavedLast) → Last s → saved_last (last_from s) ≡ s
+last_back : (s : SavedLast) → Last s → saved_last_of (last_from s) ≡ s
 last_back s l = λ i. record { older = output_again s.older l.older i; newer = output_again s.newer l.newer i }
 
 channel_sound : (s : SavedFour) (l : SavedLast) → Four s → Last l → IsChannel (channel_from s l)
@@ -311,7 +311,7 @@ channel_sound s l f g =
       two = f.two;
       three = f.three;
       four = f.four;
-      last = All-cons IsLevel (output_of l.older) (output_of l.newer ∷ []) (is_level l.older g.older p.0) (All-cons IsLevel (output_of l.newer) [] (is_level l.newer g.newer p.1) (All-nil IsLevel));
+      last = All-cons IsLevel (output_of l.older) (output_of l.newer ∷ []) (level_within l.older g.older p.0) (All-cons IsLevel (output_of l.newer) [] (level_within l.newer g.newer p.1) (All-nil IsLevel));
       pair = refl;
     }
 
@@ -397,7 +397,7 @@ rules_of bytes s keeps right =
       last6 = record { older = m6.0; newer = m6.1; outputs = l6.0 };
     }
 
-saved_back : (s : SavedSynth) → Rules s → saved_synth (synth_from s) ≡ s
+saved_back : (s : SavedSynth) → Rules s → saved_synth_of (synth_from s) ≡ s
 saved_back s r = λ i. record {
   registers = s.registers;
   latches = s.latches;
@@ -453,7 +453,7 @@ read_spells bytes s keeps right =
       synth = read_sound bytes s keeps right;
     }
 
-last_again : (l : List ℤ) → length l ≡ 2 → All IsLevel l → last_from (saved_last l) ≡ l
+last_again : (l : List ℤ) → length l ≡ 2 → All IsLevel l → last_from (saved_last_of l) ≡ l
 last_again [] two h = absurd (omega (arith, two))
 last_again (x ∷ []) two h = absurd (omega (arith, two))
 last_again (x ∷ y ∷ []) two h =
@@ -462,7 +462,7 @@ last_again (x ∷ y ∷ []) two h =
     λ i. level_again x first i ∷ level_again y second i ∷ []
 last_again (x ∷ y ∷ z ∷ l) two h = absurd (omega (arith, two))
 
-channel_again : (ch : Channel) → IsChannel ch → channel_from (saved_four ch) (saved_last ch.last) ≡ ch
+channel_again : (ch : Channel) → IsChannel ch → channel_from (saved_four_of ch) (saved_last_of ch.last) ≡ ch
 channel_again ch h = λ i. record {
   one = record { phase = ch.one.phase; v = ch.one.v; state = state_again ch.one.state i; on = flag_again ch.one.on i };
   two = record { phase = ch.two.phase; v = ch.two.v; state = state_again ch.two.state i; on = flag_again ch.two.on i };
@@ -473,12 +473,12 @@ channel_again ch h = λ i. record {
 
 abbrev six : List Channel → List Channel
 six cs =
-    channel_from (saved_four (channel_at cs 0)) (saved_last (channel_at cs 0).last)
-    ∷ channel_from (saved_four (channel_at cs 1)) (saved_last (channel_at cs 1).last)
-    ∷ channel_from (saved_four (channel_at cs 2)) (saved_last (channel_at cs 2).last)
-    ∷ channel_from (saved_four (channel_at cs 3)) (saved_last (channel_at cs 3).last)
-    ∷ channel_from (saved_four (channel_at cs 4)) (saved_last (channel_at cs 4).last)
-    ∷ channel_from (saved_four (channel_at cs 5)) (saved_last (channel_at cs 5).last)
+    channel_from (saved_four_of (channel_at cs 0)) (saved_last_of (channel_at cs 0).last)
+    ∷ channel_from (saved_four_of (channel_at cs 1)) (saved_last_of (channel_at cs 1).last)
+    ∷ channel_from (saved_four_of (channel_at cs 2)) (saved_last_of (channel_at cs 2).last)
+    ∷ channel_from (saved_four_of (channel_at cs 3)) (saved_last_of (channel_at cs 3).last)
+    ∷ channel_from (saved_four_of (channel_at cs 4)) (saved_last_of (channel_at cs 4).last)
+    ∷ channel_from (saved_four_of (channel_at cs 5)) (saved_last_of (channel_at cs 5).last)
     ∷ []
 
 channels_again : (cs : List Channel) → length cs ≡ 6 → All IsChannel cs → six cs ≡ cs
@@ -499,7 +499,7 @@ channels_again (a ∷ b ∷ c ∷ d ∷ e ∷ f ∷ []) n h =
     λ i. channel_again a ha i ∷ channel_again b hb i ∷ channel_again c hc i ∷ channel_again d hd i ∷ channel_again e he i ∷ channel_again f hf i ∷ []
 channels_again (a ∷ b ∷ c ∷ d ∷ e ∷ f ∷ g ∷ rest) n h = absurd (omega (arith, n))
 
-synth_again : (s : Synth) → IsSynth s → synth_from (saved_synth s) ≡ s
+synth_again : (s : Synth) → IsSynth s → synth_from (saved_synth_of s) ≡ s
 synth_again s h = λ i. record {
   registers = s.registers;
   latches = s.latches;
@@ -511,7 +511,7 @@ synth_again s h = λ i. record {
 -- what is spelled so is read
 pub read_only : (bytes : List ℕ) (s : SavedSynth) (synth : Synth) → Keeps synth_fields bytes s → SpellsSynth bytes synth → synth_from s ≡ synth
 read_only bytes s synth keeps spells =
-    ap synth_from (same synth_fields bytes (only_one bytes) s (saved_synth synth) keeps spells.keeps) ∙ synth_again synth spells.synth
+    ap synth_from (same synth_fields bytes (only_one bytes) s (saved_synth_of synth) keeps spells.keeps) ∙ synth_again synth spells.synth
 
 -- what is right is refused nowhere, and there is one place of a refusal
 pub right_nowhere : (bytes : List ℕ) (s : SavedSynth) → Keeps synth_fields bytes s → IsRight synth_fields s → (place : ℕ) → SynthGoesWrongAt bytes place → ⊥

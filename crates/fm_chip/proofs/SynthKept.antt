@@ -13,7 +13,7 @@ use Rattle.fm_voice.specs.Channel.{IsLevel}
 use Rattle.fm_chip.specs.Channels.{IsChannel, blank, channel_at}
 use Rattle.fm_chip.specs.Operators.{IsOperator}
 use Rattle.fm_chip.specs.Synth.{IsSynth, Synth}
-use Rattle.fm_chip.specs.SynthSpelling.{SpellsSynth, fields1, fields2, fields3, fields4, fields5, fields6, four_fields, head_fields, is_output, last_before, last_fields, operator_before, saved_four, saved_last, saved_operator, saved_synth, state_number, synth_bytes, synth_fields, word_of}
+use Rattle.fm_chip.specs.SynthSpelling.{SpellsSynth, fields1, fields2, fields3, fields4, fields5, fields6, four_fields, head_fields, is_output, last_before, last_fields, operator_before, saved_four_of, saved_last_of, saved_operator_of, saved_synth_of, state_number, synth_bytes, synth_fields, word_of}
 use Rattle.fm_chip.specs.declared.channels.Channel.{Channel}
 use Rattle.fm_chip.specs.declared.operator.Operator.{Operator}
 
@@ -28,18 +28,18 @@ state_few Decay = omega arith
 state_few Sustain = omega arith
 state_few Release = omega arith
 
-operator_ready : (o : Operator) (rest : List Field) → IsOperator o → AreReady rest → AreReady (operator_before (saved_operator o) rest)
+operator_ready : (o : Operator) (rest : List Field) → IsOperator o → AreReady rest → AreReady (operator_before (saved_operator_of o) rest)
 unfolding AllHold AreWithin
 operator_ready o rest ok ready = (
   (lt-ltb o.phase 0x10_0000 ok.phase, (le-leb o.v 1023 ok.v, (le-leb (state_number o.state) 3 (state_few o.state), (flag_small o.on, ready.0)))),
   (omega (arith, ok.phase), (omega (arith, ok.v), (omega (arith, state_few o.state), (flag_byte o.on, ready.1)))),
 )
 
-channel_ready : (ch : Channel) (rest : List Field) → IsChannel ch → AreReady rest → AreReady (four_fields (saved_four ch) ++ rest)
+channel_ready : (ch : Channel) (rest : List Field) → IsChannel ch → AreReady rest → AreReady (four_fields (saved_four_of ch) ++ rest)
 channel_ready ch rest ok ready =
-    let r3 = operator_before (saved_operator ch.four) rest in
-    let r2 = operator_before (saved_operator ch.three) r3 in
-    let r1 = operator_before (saved_operator ch.two) r2 in
+    let r3 = operator_before (saved_operator_of ch.four) rest in
+    let r2 = operator_before (saved_operator_of ch.three) r3 in
+    let r1 = operator_before (saved_operator_of ch.two) r2 in
     operator_ready ch.one r1 ok.one
     (operator_ready ch.two r2 ok.two
     (operator_ready ch.three r3 ok.three
@@ -59,7 +59,7 @@ output_holds (negsuc n) h =
     let above : nat_le 0xe000 (0xffff - n) ≡ true = le-leb 0xe000 (0xffff - n) (omega (arith, few)) in
     rw high above
 
-last_ready : (last : List ℤ) (rest : List Field) → All IsLevel last → length last ≡ 2 → AreReady rest → AreReady (last_before (saved_last last) rest)
+last_ready : (last : List ℤ) (rest : List Field) → All IsLevel last → length last ≡ 2 → AreReady rest → AreReady (last_before (saved_last_of last) rest)
 unfolding AllHold AreWithin
 last_ready last rest levels two ready =
     let older : IsLevel (slice_index_or last 0 (pos 0)) = All-get_or IsLevel last 0 (pos 0) (omega (arith, two)) levels in
@@ -77,9 +77,9 @@ none_ready : AreReady []
 unfolding AllHold AreWithin
 none_ready = (tt, tt)
 
-lasts_ready : (s : Synth) → IsSynth s → AreReady (last_fields (saved_synth s))
+lasts_ready : (s : Synth) → IsSynth s → AreReady (last_fields (saved_synth_of s))
 lasts_ready s ok =
-    let saved = saved_synth s in
+    let saved = saved_synth_of s in
     let c0 = channel_ok s 0 ok (omega arith) in
     let c1 = channel_ok s 1 ok (omega arith) in
     let c2 = channel_ok s 2 ok (omega arith) in
@@ -98,9 +98,9 @@ lasts_ready s ok =
     (last_ready _ r5 c4.last c4.pair
     (last_ready _ [] c5.last c5.pair none_ready)))))
 
-channels_ready : (s : Synth) → IsSynth s → AreReady (fields1 (saved_synth s))
+channels_ready : (s : Synth) → IsSynth s → AreReady (fields1 (saved_synth_of s))
 channels_ready s ok =
-    let saved = saved_synth s in
+    let saved = saved_synth_of s in
     channel_ready _ (fields2 saved) (channel_ok s 0 ok (omega arith))
     (channel_ready _ (fields3 saved) (channel_ok s 1 ok (omega arith))
     (channel_ready _ (fields4 saved) (channel_ok s 2 ok (omega arith))
@@ -108,20 +108,20 @@ channels_ready s ok =
     (channel_ready _ (fields6 saved) (channel_ok s 4 ok (omega arith))
     (channel_ready _ (last_fields saved) (channel_ok s 5 ok (omega arith)) (lasts_ready s ok))))))
 
-head_ready : (s : Synth) (rest : List Field) → IsSynth s → AreReady rest → AreReady (head_fields (saved_synth s) ++ rest)
+head_ready : (s : Synth) (rest : List Field) → IsSynth s → AreReady rest → AreReady (head_fields (saved_synth_of s) ++ rest)
 unfolding AllHold AreWithin
 head_ready s rest ok ready = (
   (refl, (refl, (lt-ltb s.lfo.t 128 ok.t, (lt-ltb s.lfo.count 108 ok.count, (lt-ltb s.counter 4096 ok.counter, ready.0))))),
   (ok.registers, (ok.latches, (omega (arith, ok.t), (omega (arith, ok.count), (omega (arith, ok.counter), ready.1))))),
 )
 
-synth_ready : (s : Synth) → IsSynth s → AreReady (synth_fields (saved_synth s))
+synth_ready : (s : Synth) → IsSynth s → AreReady (synth_fields (saved_synth_of s))
 unfolding synth_fields
-synth_ready s ok = head_ready s (fields1 (saved_synth s)) ok (channels_ready s ok)
+synth_ready s ok = head_ready s (fields1 (saved_synth_of s)) ok (channels_ready s ok)
 
 pub synth_spelled : (s : Synth) → IsSynth s → SpellsSynth (synth_bytes s) s
 synth_spelled s ok = record {
   keeps = record { within = (synth_ready s ok).1; all = refl };
-  right = none_wrong 0 (synth_fields (saved_synth s)) (synth_ready s ok).0;
+  right = none_wrong 0 (synth_fields (saved_synth_of s)) (synth_ready s ok).0;
   synth = ok;
 }

@@ -24,14 +24,14 @@ abbrev pub due : ℕ → Course → Course
 due k c = made_below (1008 * k) c.chip c.rest
 
 -- the course after n samples from number `first`
-unfoldable pub course : ℕ → Synth → List FmWrite → ℕ → Course
-course first s ws zero = record { chip = s; rest = ws }
-course first s ws (suc n) =
-    let c = due (first + n) (course first s ws n) in record { chip = sampled (first + n) c.chip; rest = c.rest }
+unfoldable pub course_after : ℕ → Synth → List FmWrite → ℕ → Course
+course_after first s ws zero = record { chip = s; rest = ws }
+course_after first s ws (suc n) =
+    let c = due (first + n) (course_after first s ws n) in record { chip = sampled (first + n) c.chip; rest = c.rest }
 
 -- sample number first + n
 unfoldable pub sample : ℕ → Synth → List FmWrite → ℕ → ℤ × ℤ
-sample first s ws n = sides (first + n) (due (first + n) (course first s ws n)).chip
+sample first s ws n = sides (first + n) (due (first + n) (course_after first s ws n)).chip
 
 -- the samples of a batch
 unfoldable pub samples : ℕ → Synth → List FmWrite → List (ℤ × ℤ)
@@ -39,4 +39,4 @@ samples first s ws = map (sample first s ws) (range_with_len 0 16)
 
 -- the chip after a batch: after sixteen samples and all writes
 unfoldable pub after_batch : ℕ → Synth → List FmWrite → Synth
-after_batch first s ws = written_all (course first s ws 16).rest (course first s ws 16).chip
+after_batch first s ws = written_all (course_after first s ws 16).rest (course_after first s ws 16).chip

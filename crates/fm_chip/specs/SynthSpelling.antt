@@ -38,8 +38,8 @@ state_again Sustain = refl
 state_again Release = refl
 
 -- what is kept of an operator
-abbrev pub saved_operator : Operator → SavedOperator
-saved_operator o = record { phase = o.phase; v = o.v; state = state_number o.state; on = flag_number o.on }
+abbrev pub saved_operator_of : Operator → SavedOperator
+saved_operator_of o = record { phase = o.phase; v = o.v; state = state_number o.state; on = flag_number o.on }
 
 -- the operator of which this is kept
 abbrev pub operator_from : SavedOperator → Operator
@@ -100,8 +100,8 @@ abbrev pub output_of : ℕ → ℤ
 output_of n = if nat_lt n 0x8000 then pos n else negsuc (0xffff - n)
 
 -- what is kept of the last outputs
-abbrev pub saved_last : List ℤ → SavedLast
-saved_last last = record { older = word_of (slice_index_or last 0 (pos 0)); newer = word_of (slice_index_or last 1 (pos 0)) }
+abbrev pub saved_last_of : List ℤ → SavedLast
+saved_last_of last = record { older = word_of (slice_index_or last 0 (pos 0)); newer = word_of (slice_index_or last 1 (pos 0)) }
 
 -- the last outputs of which this is kept, the older one first
 abbrev pub last_from : SavedLast → List ℤ
@@ -110,8 +110,8 @@ last_from s = output_of s.older ∷ output_of s.newer ∷ []
 -- ---- the chip
 
 -- what is kept of a channel's operators
-abbrev pub saved_four : Channel → SavedFour
-saved_four ch = record { one = saved_operator ch.one; two = saved_operator ch.two; three = saved_operator ch.three; four = saved_operator ch.four }
+abbrev pub saved_four_of : Channel → SavedFour
+saved_four_of ch = record { one = saved_operator_of ch.one; two = saved_operator_of ch.two; three = saved_operator_of ch.three; four = saved_operator_of ch.four }
 
 -- the channel of which this is kept
 abbrev pub channel_from : SavedFour → SavedLast → Channel
@@ -124,25 +124,25 @@ channel_from s last = record {
 }
 
 -- what is kept of a chip
-abbrev pub saved_synth : Synth → SavedSynth
-saved_synth s = record {
+abbrev pub saved_synth_of : Synth → SavedSynth
+saved_synth_of s = record {
   registers = s.registers;
   latches = s.latches;
   t = s.lfo.t;
   count = s.lfo.count;
   counter = s.counter;
-  four1 = saved_four (channel_at s.channels 0);
-  four2 = saved_four (channel_at s.channels 1);
-  four3 = saved_four (channel_at s.channels 2);
-  four4 = saved_four (channel_at s.channels 3);
-  four5 = saved_four (channel_at s.channels 4);
-  four6 = saved_four (channel_at s.channels 5);
-  last1 = saved_last (channel_at s.channels 0).last;
-  last2 = saved_last (channel_at s.channels 1).last;
-  last3 = saved_last (channel_at s.channels 2).last;
-  last4 = saved_last (channel_at s.channels 3).last;
-  last5 = saved_last (channel_at s.channels 4).last;
-  last6 = saved_last (channel_at s.channels 5).last;
+  four1 = saved_four_of (channel_at s.channels 0);
+  four2 = saved_four_of (channel_at s.channels 1);
+  four3 = saved_four_of (channel_at s.channels 2);
+  four4 = saved_four_of (channel_at s.channels 3);
+  four5 = saved_four_of (channel_at s.channels 4);
+  four6 = saved_four_of (channel_at s.channels 5);
+  last1 = saved_last_of (channel_at s.channels 0).last;
+  last2 = saved_last_of (channel_at s.channels 1).last;
+  last3 = saved_last_of (channel_at s.channels 2).last;
+  last4 = saved_last_of (channel_at s.channels 3).last;
+  last5 = saved_last_of (channel_at s.channels 4).last;
+  last6 = saved_last_of (channel_at s.channels 5).last;
 }
 
 -- the six channels of which this is kept
@@ -233,12 +233,12 @@ synth_fields s = head_fields s ++ fields1 s
 
 -- the bytes that keep a chip
 abbrev pub synth_bytes : Synth → List ℕ
-synth_bytes s = spelling (synth_fields (saved_synth s))
+synth_bytes s = spelling (synth_fields (saved_synth_of s))
 
 -- the bytes keep the chip, whose rules hold
 pub record SpellsSynth (bytes : List ℕ) (s : Synth) : Type 0 where
-  pub keeps : Keeps synth_fields bytes (saved_synth s)
-  pub right : IsRight synth_fields (saved_synth s)
+  pub keeps : Keeps synth_fields bytes (saved_synth_of s)
+  pub right : IsRight synth_fields (saved_synth_of s)
   pub synth : IsSynth s
 
 -- bytes that keep no chip are refused at this place

@@ -22,7 +22,7 @@ pub struct SavedOperator {
 impl SavedOperator {
     /// What is kept of an operator.
     pub fn of(operator: &Operator) -> SavedOperator
-        ensures { result ≡ meaning.saved_operator operator.now }
+        ensures { result ≡ meaning.saved_operator_of operator.now }
     {
         SavedOperator {
             phase: operator.phase,
@@ -94,7 +94,7 @@ pub struct SavedFour {
 impl SavedFour {
     /// What is kept of a channel's operators.
     pub fn of(channel: &Channel) -> SavedFour
-        ensures { result ≡ meaning.saved_four channel.now }
+        ensures { result ≡ meaning.saved_four_of channel.now }
     {
         SavedFour {
             one: SavedOperator::of(&channel.one),

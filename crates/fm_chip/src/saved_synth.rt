@@ -42,7 +42,7 @@ impl SavedLast {
     /// What is kept of two outputs.
     pub fn of(channel: &Channel) -> SavedLast
         requires { IsChannel channel.now }
-        ensures { result ≡ meaning.saved_last channel.now.last }
+        ensures { result ≡ meaning.saved_last_of channel.now.last }
     {
         let [older, newer] = channel.last;
         SavedLast {

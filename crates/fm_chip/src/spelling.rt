@@ -1,7 +1,7 @@
 ghost use Rattle.std.specs.Prelude.{◌≡◌, ◌≢◌, ◌↔◌, ◌+◌, ◌≤◌, ◌++◌, ℕ, vec_len, vec_capacity, IfErr, IfOk, IsErrOf, Ok, Err};
 ghost use Rattle.md_fields.specs.Items.{IsRight, Keeps};
 ghost use Rattle.fm_chip.specs.Synth.{IsSynth, Synth};
-ghost use Rattle.fm_chip.specs.SynthSpelling.{SpellsSynth, SynthGoesWrongAt, saved_synth, synth_bytes, synth_fields, synth_from};
+ghost use Rattle.fm_chip.specs.SynthSpelling.{SpellsSynth, SynthGoesWrongAt, saved_synth_of, synth_bytes, synth_fields, synth_from};
 
 use crate::kept::Kept;
 use crate::lfo::Lfo;
@@ -36,7 +36,7 @@ impl FmSynth {
     }
 
     fn saved(&self) -> SavedSynth
-        ensures { result ≡ saved_synth self.now }
+        ensures { result ≡ saved_synth_of self.now }
     {
         SavedSynth {
             registers: self.registers,

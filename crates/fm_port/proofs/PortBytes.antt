@@ -23,7 +23,7 @@ use Rattle.sound_writes.specs.Keys.{is_kept}
 use Rattle.sound_writes.proofs.Entries as entries
 use Rattle.md_fields.proofs.Tables.{within_append, first_behind, first_front, spelling_append}
 use Rattle.fm_port.specs.Port.{IsPort, Port}
-use Rattle.fm_port.specs.PortSpelling.{are_timed, PortGoesWrongAt, SavedPort, SpellsPort, are_right, at_most_2, are_writes, is_next, is_write, key_of, list_fields, number_fields, port_bytes, port_fields, port_from, port_with, saved_numbers, saved_port, saved_write, write_at, write_fields, write_from, writes_at, writes_from}
+use Rattle.fm_port.specs.PortSpelling.{are_saved_timers, PortGoesWrongAt, SavedPort, SpellsPort, are_right, at_most_2, are_writes, is_next, is_write, key_of, list_fields, number_fields, port_bytes, port_fields, port_from, port_with, saved_numbers, saved_port_of, saved_write_of, write_at, write_fields, write_from, writes_at, writes_from}
 use Rattle.fm_port.specs.declared.saved_port.SavedPort.{SavedPort as Numbers}
 use Rattle.fm_port.specs.declared.saved_write.SavedWrite.{SavedWrite}
 use Rattle.fm_port.specs.declared.write.FmWrite.{FmWrite}
@@ -75,10 +75,10 @@ same_port key register value m n p q e =
 pub write_is : (w : SavedWrite) (p : min w.port 2 ≤ 2) → made (key_of w) (min w.port 2) w.register w.value p ≡ write_from w
 write_is w p = same_port (key_of w) w.register w.value (min w.port 2) (min w.port 2) p (at_most_2 w.port) refl
 
-write_again : (w : FmWrite) → write_from (saved_write w) ≡ w
+write_again : (w : FmWrite) → write_from (saved_write_of w) ≡ w
 write_again w = same_port w.key w.register w.value (min w.port 2) w.port (at_most_2 w.port) w.port_in_range (min-eq_left w.port_in_range)
 
-writes_again : (ws : List FmWrite) → map write_from (map saved_write ws) ≡ ws
+writes_again : (ws : List FmWrite) → map write_from (map saved_write_of ws) ≡ ws
 writes_again [] = refl
 writes_again (w ∷ ws) = λ i. write_again w i ∷ writes_again ws i
 
@@ -87,12 +87,12 @@ few_by true port rest is e = omega (arith, ltb-true port 2 is)
 few_by false port rest is e = omega (arith, eqb-true port 2 (and_parts _ _ e).0)
 
 -- the numbers of what can be a write are those of the write
-saved_again : (w : SavedWrite) → is_write w ≡ true → saved_write (write_from w) ≡ w
+saved_again : (w : SavedWrite) → is_write w ≡ true → saved_write_of (write_from w) ≡ w
 saved_again w e =
     let few : min w.port 2 ≡ w.port = min-eq_left (few_by (nat_lt w.port 2) w.port _ refl e) in
     λ i. record { cycle = w.cycle; chip = w.chip; port = few i; register = w.register; value = w.value }
 
-all_again : (ws : List SavedWrite) → list_all is_write ws ≡ true → map saved_write (map write_from ws) ≡ ws
+all_again : (ws : List SavedWrite) → list_all is_write ws ≡ true → map saved_write_of (map write_from ws) ≡ ws
 all_again [] e = refl
 all_again (w ∷ ws) e = let p = and_parts _ _ e in λ i. saved_again w p.0 i ∷ all_again ws p.1 i
 
@@ -258,7 +258,7 @@ rules_of at s right =
     }
 
 -- what is kept, whose rules hold, is that of its port
-saved_back : (at : ℕ) (s : SavedPort) → length s.entries ≡ 12288 → IsBytes s.entries → Rules at s → saved_port (port_from s) ≡ s
+saved_back : (at : ℕ) (s : SavedPort) → length s.entries ≡ 12288 → IsBytes s.entries → Rules at s → saved_port_of (port_from s) ≡ s
 saved_back at s long fits rules =
     let n : Numbers = s.numbers in
     let parts = and_parts _ _ rules.writes in
@@ -266,7 +266,7 @@ saved_back at s long fits rules =
     let few : s.count ≤ 1024 = leb-true s.count 1024 parts.0 in
     let room : 0 + 12 * s.count ≤ length s.entries = omega (arith, long, few) in
     let ws = writes_at s.count s.entries in
-    let again : map saved_write (map write_from ws) ≡ ws = all_again ws (and_parts _ _ more.0).0 in
+    let again : map saved_write_of (map write_from ws) ≡ ws = all_again ws (and_parts _ _ more.0).0 in
     let counted : length ws ≡ s.count = entries.entries_count 12 write_fields write_at write_size write_stands write_only s.count 0 s.entries in
     let count : length (map write_from ws) ≡ s.count = length-map ws write_from ∙ counted in
     let fit : AreFit write_fields ws = entries.all_fit_there 12 write_fields write_at write_size write_stands write_only s.count 0 s.entries fits room in
@@ -276,7 +276,7 @@ saved_back at s long fits rules =
     entries.entries_spelled 12 write_fields write_at write_size write_stands write_only s.count 0 s.entries fits room in
     let front : entries_bytes write_fields ws ≡ take (12 * s.count) s.entries =
     sym (take_at (entries_bytes write_fields ws) (drop (0 + 12 * s.count) s.entries) (12 * s.count) size) ∙ ap (take (12 * s.count)) whole in
-    let back : padded 12288 (entries_bytes write_fields (map saved_write (map write_from ws))) ≡ s.entries =
+    let back : padded 12288 (entries_bytes write_fields (map saved_write_of (map write_from ws))) ≡ s.entries =
     ap (λ (l : List SavedWrite). padded 12288 (entries_bytes write_fields l)) again
     ∙ ap (padded 12288) front ∙ padded_back 12288 (12 * s.count) s.entries long (omega (arith, few)) more.1 in
     λ i. record {
@@ -298,15 +298,15 @@ saved_back at s long fits rules =
       entries = back i;
     }
 
-list_again : (ws : List FmWrite) → AreFit write_fields (map saved_write ws) → writes_from (length ws) (padded 12288 (entries_bytes write_fields (map saved_write ws))) ≡ ws
+list_again : (ws : List FmWrite) → AreFit write_fields (map saved_write_of ws) → writes_from (length ws) (padded 12288 (entries_bytes write_fields (map saved_write_of ws))) ≡ ws
 list_again ws fit =
-    let es = map saved_write ws in
-    ap (λ (n : ℕ). writes_from n (padded 12288 (entries_bytes write_fields es))) (sym (length-map ws saved_write))
+    let es = map saved_write_of ws in
+    ap (λ (n : ℕ). writes_from n (padded 12288 (entries_bytes write_fields es))) (sym (length-map ws saved_write_of))
     ∙ ap (map write_from) (entries.entries_read 12 write_fields write_at write_size write_stands write_only es [] (replicate (12288 - length (entries_bytes write_fields es)) 0) fit)
     ∙ writes_again ws
 
 -- a port is that of what is kept of it
-port_again : (p : Port) → AreFit write_fields (map saved_write p.writes) → port_from (saved_port p) ≡ p
+port_again : (p : Port) → AreFit write_fields (map saved_write_of p.writes) → port_from (saved_port_of p) ≡ p
 port_again p fit = λ i. record {
   first = p.first;
   second = p.second;
@@ -348,7 +348,7 @@ next_by false at longest next far few e = omega (arith, eqb-true next 0 e)
 next_few : (at longest run next : ℕ) → at ≤ 2 ^ 50 → longest ≤ 4128768 → is_next at longest run next ≡ true → next ≤ 2 ^ 51
 next_few at longest run next far few e = next_by (eqb run 1) at longest next far few e
 
-chips_kept : (at : ℕ) (ws : List FmWrite) → list_all (is_kept at) (map key_of (map saved_write ws)) ≡ true → All (λ w. w.key.chip < 2) ws
+chips_kept : (at : ℕ) (ws : List FmWrite) → list_all (is_kept at) (map key_of (map saved_write_of ws)) ≡ true → All (λ w. w.key.chip < 2) ws
 chips_kept at [] e = All-nil (λ (w : FmWrite). w.key.chip < 2)
 chips_kept at (w ∷ ws) e =
     let p = and_parts _ _ e in
@@ -357,11 +357,11 @@ chips_kept at (w ∷ ws) e =
 -- what is spelled is a port
 pub port_sound : (at : ℕ) (bytes : List ℕ) (p : Port) → at ≤ 2 ^ 50 → SpellsPort at bytes p → IsPort p
 port_sound at bytes p far spells =
-    let rules = rules_of at (saved_port p) spells.right in
+    let rules = rules_of at (saved_port_of p) spells.right in
     let e = and_parts _ _ rules.writes in
-    let es = map saved_write p.writes in
+    let es = map saved_write_of p.writes in
     let again : writes_at (length p.writes) (padded 12288 (entries_bytes write_fields es)) ≡ es =
-    ap (λ (n : ℕ). writes_at n (padded 12288 (entries_bytes write_fields es))) (sym (length-map p.writes saved_write))
+    ap (λ (n : ℕ). writes_at n (padded 12288 (entries_bytes write_fields es))) (sym (length-map p.writes saved_write_of))
     ∙ entries.entries_read 12 write_fields write_at write_size write_stands write_only es [] (replicate (12288 - length (entries_bytes write_fields es)) 0) spells.fit in
     let right : are_right at es ≡ true = ap (are_right at) (sym again) ∙ (and_parts _ _ e.1).0 in
     record {
@@ -376,38 +376,38 @@ port_sound at bytes p far spells =
 -- bytes spell one port
 pub spelled_once : (at : ℕ) (bytes : List ℕ) (p q : Port) → SpellsPort at bytes p → SpellsPort at bytes q → p ≡ q
 spelled_once at bytes p q a b =
-    sym (port_again p a.fit) ∙ ap port_from (same (port_fields at) bytes (only_one at bytes) (saved_port p) (saved_port q) a.keeps b.keeps) ∙ port_again q b.fit
+    sym (port_again p a.fit) ∙ ap port_from (same (port_fields at) bytes (only_one at bytes) (saved_port_of p) (saved_port_of q) a.keeps b.keeps) ∙ port_again q b.fit
 
 -- what is spelled is refused nowhere, and there is one place of a refusal
 pub right_nowhere : (at : ℕ) (bytes : List ℕ) (p : Port) → SpellsPort at bytes p → (place : ℕ) → PortGoesWrongAt at bytes place → ⊥
 right_nowhere at bytes p spells place wrong =
-    not_both (port_fields at) bytes (only_one at bytes) 12316 (saved_port p) place spells.keeps spells.right (port_size at (saved_port p)) wrong
+    not_both (port_fields at) bytes (only_one at bytes) 12316 (saved_port_of p) place spells.keeps spells.right (port_size at (saved_port_of p)) wrong
 
 pub wrong_once : (at : ℕ) (bytes : List ℕ) (p q : ℕ) → PortGoesWrongAt at bytes p → PortGoesWrongAt at bytes q → p ≡ q
 wrong_once at bytes p q a b = one_place (port_fields at) bytes (only_one at bytes) 12316 (port_size at) p q a b
 
 -- ---- the bytes of a port
 
-pub entries_size : (ws : List FmWrite) → length (entries_bytes write_fields (map saved_write ws)) ≡ 12 * length ws
+pub entries_size : (ws : List FmWrite) → length (entries_bytes write_fields (map saved_write_of ws)) ≡ 12 * length ws
 unfolding spelling
 entries_size [] = omega arith
-entries_size (w ∷ ws) = omega (arith, entries_size ws, length-append (spelling (write_fields (saved_write w))) (entries_bytes write_fields (map saved_write ws)))
+entries_size (w ∷ ws) = omega (arith, entries_size ws, length-append (spelling (write_fields (saved_write_of w))) (entries_bytes write_fields (map saved_write_of ws)))
 
-pub list_are : (ws : List FmWrite) → to_be_bytes w16 (length ws) ++ (entries_bytes write_fields (map saved_write ws) ++ replicate (12 * (1024 - length ws)) 0)
-    ≡ to_be_bytes w16 (length ws) ++ (padded 12288 (entries_bytes write_fields (map saved_write ws)) ++ [])
+pub list_are : (ws : List FmWrite) → to_be_bytes w16 (length ws) ++ (entries_bytes write_fields (map saved_write_of ws) ++ replicate (12 * (1024 - length ws)) 0)
+    ≡ to_be_bytes w16 (length ws) ++ (padded 12288 (entries_bytes write_fields (map saved_write_of ws)) ++ [])
 list_are ws =
     ap (λ (l : List ℕ). to_be_bytes w16 (length ws) ++ l)
-    (ap (λ (n : ℕ). entries_bytes write_fields (map saved_write ws) ++ replicate n 0) (omega (arith, entries_size ws))
-    ∙ sym (append-nil (padded 12288 (entries_bytes write_fields (map saved_write ws)))))
+    (ap (λ (n : ℕ). entries_bytes write_fields (map saved_write_of ws) ++ replicate n 0) (omega (arith, entries_size ws))
+    ∙ sym (append-nil (padded 12288 (entries_bytes write_fields (map saved_write_of ws)))))
 
 -- numbers, count, writes and zeros are its bytes
 pub parts_are : (at : ℕ) (p : Port)
-    → spelling (number_fields at (saved_numbers p)) ++ (to_be_bytes w16 (length p.writes) ++ (entries_bytes write_fields (map saved_write p.writes) ++ replicate (12 * (1024 - length p.writes)) 0))
+    → spelling (number_fields at (saved_numbers p)) ++ (to_be_bytes w16 (length p.writes) ++ (entries_bytes write_fields (map saved_write_of p.writes) ++ replicate (12 * (1024 - length p.writes)) 0))
     ≡ port_bytes p
 unfolding spelling
 parts_are at p =
     ap (λ (l : List ℕ). spelling (number_fields at (saved_numbers p)) ++ l) (list_are p.writes)
-    ∙ sym (spelling_append (number_fields 0 (saved_numbers p)) (list_fields 0 (saved_port p)))
+    ∙ sym (spelling_append (number_fields 0 (saved_numbers p)) (list_fields 0 (saved_port_of p)))
 
 -- ---- a port whose rules hold is kept by its bytes
 
@@ -430,34 +430,34 @@ port_within at p n is h0 h1 h2 h3 h4 h5 h7 h9 =
     (subst (λ (k : Numbers). k.run_a ≤ 1) (sym is) (flag_few p.timers.a.run)) (subst (λ (k : Numbers). k.run_b ≤ 1) (sym is) (flag_few p.timers.b.run))
     (subst (λ (k : Numbers). k.flag_a ≤ 1) (sym is) (flag_few p.timers.a.flag)) (subst (λ (k : Numbers). k.flag_b ≤ 1) (sym is) (flag_few p.timers.b.flag)))
 
-numbers_right : (at : ℕ) (p : Port) → are_timed at p.timers ≡ true → first_wrong 0 (number_fields at (saved_numbers p)) ≡ None
+numbers_right : (at : ℕ) (p : Port) → are_saved_timers at p.timers ≡ true → first_wrong 0 (number_fields at (saved_numbers p)) ≡ None
 unfolding AllHold
 numbers_right at p timed =
     let parts = and_parts _ _ timed in
     none_wrong 0 (number_fields at (saved_numbers p))
     (refl, (refl, (refl, (refl, (refl, (refl, (parts.0, (refl, (parts.1, (refl, (flag_small p.timers.a.flag, (flag_small p.timers.b.flag, tt))))))))))))
 
-keeps_own : (at : ℕ) (p : Port) → length p.writes ≤ 1024 → AreWithin (number_fields at (saved_numbers p)) → Keeps (port_fields at) (port_bytes p) (saved_port p)
+keeps_own : (at : ℕ) (p : Port) → length p.writes ≤ 1024 → AreWithin (number_fields at (saved_numbers p)) → Keeps (port_fields at) (port_bytes p) (saved_port_of p)
 unfolding AreWithin spelling
 keeps_own at p few within = record {
   within =
-      within_append (number_fields at (saved_numbers p)) (list_fields at (saved_port p)) within
-      (omega (arith, few), (padded_length 12288 (entries_bytes write_fields (map saved_write p.writes)) (omega (arith, entries_size p.writes, few)), tt));
+      within_append (number_fields at (saved_numbers p)) (list_fields at (saved_port_of p)) within
+      (omega (arith, few), (padded_length 12288 (entries_bytes write_fields (map saved_write_of p.writes)) (omega (arith, entries_size p.writes, few)), tt));
   all = refl;
 }
 
-pub port_kept : (at : ℕ) (p : Port) → length p.writes ≤ 1024 → AreWithin (number_fields at (saved_numbers p)) → AreFit write_fields (map saved_write p.writes)
-    → are_timed at p.timers ≡ true → are_right at (map saved_write p.writes) ≡ true → SpellsPort at (port_bytes p) p
+pub port_kept : (at : ℕ) (p : Port) → length p.writes ≤ 1024 → AreWithin (number_fields at (saved_numbers p)) → AreFit write_fields (map saved_write_of p.writes)
+    → are_saved_timers at p.timers ≡ true → are_right at (map saved_write_of p.writes) ≡ true → SpellsPort at (port_bytes p) p
 port_kept at p few within fit timed right =
-    let es : List SavedWrite = map saved_write p.writes in
+    let es : List SavedWrite = map saved_write_of p.writes in
     let padding : List ℕ = padded 12288 (entries_bytes write_fields es) in
     let again : writes_at (length p.writes) padding ≡ es =
-    ap (λ (n : ℕ). writes_at n padding) (sym (length-map p.writes saved_write))
+    ap (λ (n : ℕ). writes_at n padding) (sym (length-map p.writes saved_write_of))
     ∙ entries.entries_read 12 write_fields write_at write_size write_stands write_only es [] (replicate (12288 - length (entries_bytes write_fields es)) 0) fit in
     record {
       keeps = keeps_own at p few within;
-      right = behind at (saved_port p) (numbers_right at p timed)
-          ∙ none_by at (saved_port p) (all_right at (length p.writes) padding few (ap (are_right at) again ∙ right)
+      right = behind at (saved_port_of p) (numbers_right at p timed)
+          ∙ none_by at (saved_port_of p) (all_right at (length p.writes) padding few (ap (are_right at) again ∙ right)
           (ap (λ (n : ℕ). are_zeros (drop n padding)) (sym (entries_size p.writes)) ∙ padded_zeros 12288 (entries_bytes write_fields es)));
       fit = fit;
     }

@@ -41,8 +41,8 @@ abbrev pub writes_at : ℕ → List ℕ → List SavedWrite
 writes_at count entries = entries_from 12 write_at count 0 entries
 
 -- what is kept of a write
-abbrev pub saved_write : FmWrite → SavedWrite
-saved_write w = record { cycle = w.key.cycle; chip = w.key.chip; port = w.port; register = w.register; value = w.value }
+abbrev pub saved_write_of : FmWrite → SavedWrite
+saved_write_of w = record { cycle = w.key.cycle; chip = w.key.chip; port = w.port; register = w.register; value = w.value }
 
 -- the cycle of a write, and the chip that made it
 abbrev pub key_of : SavedWrite → Key
@@ -75,13 +75,13 @@ abbrev pub is_next : ℕ → ℕ → ℕ → ℕ → Bool
 is_next at longest run next = if run == 1 then nat_le at next && nat_lt (next - at) longest else (next == 0)
 
 -- a timer runs where its bit of register 27 is set
-abbrev pub is_timer : ℕ → ℕ → ℕ → ℕ → ℕ → Bool
-is_timer at longest bit run next = (run == bit) && is_next at longest run next
+abbrev pub is_saved_timer : ℕ → ℕ → ℕ → ℕ → ℕ → Bool
+is_saved_timer at longest bit run next = (run == bit) && is_next at longest run next
 
 -- both timers of a port are so at a cycle
-abbrev pub are_timed : ℕ → Timers → Bool
-are_timed at t =
-    is_timer at 1032192 (t.control % 2) (flag_number t.a.run) t.a.next && is_timer at 4128768 (t.control / 2 % 2) (flag_number t.b.run) t.b.next
+abbrev pub are_saved_timers : ℕ → Timers → Bool
+are_saved_timers at t =
+    is_saved_timer at 1032192 (t.control % 2) (flag_number t.a.run) t.a.next && is_saved_timer at 4128768 (t.control / 2 % 2) (flag_number t.b.run) t.b.next
 
 -- each is a write, and their keys are such as a port holds at the cycle
 abbrev pub are_right : ℕ → List SavedWrite → Bool
@@ -102,9 +102,9 @@ number_fields at s =
     ∷ byte s.low_a true
     ∷ byte s.number_b true
     ∷ byte s.control true
-    ∷ byte s.run_a (is_timer at 1032192 (s.control % 2) s.run_a s.next_a)
+    ∷ byte s.run_a (is_saved_timer at 1032192 (s.control % 2) s.run_a s.next_a)
     ∷ quad s.next_a true
-    ∷ byte s.run_b (is_timer at 4128768 (s.control / 2 % 2) s.run_b s.next_b)
+    ∷ byte s.run_b (is_saved_timer at 4128768 (s.control / 2 % 2) s.run_b s.next_b)
     ∷ quad s.next_b true
     ∷ byte s.flag_a (nat_le s.flag_a 1)
     ∷ byte s.flag_b (nat_le s.flag_b 1)
@@ -136,11 +136,11 @@ saved_numbers p = record {
 }
 
 -- what is kept of a port
-abbrev pub saved_port : Port → SavedPort
-saved_port p = record {
+abbrev pub saved_port_of : Port → SavedPort
+saved_port_of p = record {
   numbers = saved_numbers p;
   count = length p.writes;
-  entries = padded 12288 (entries_bytes write_fields (map saved_write p.writes));
+  entries = padded 12288 (entries_bytes write_fields (map saved_write_of p.writes));
 }
 
 -- the timer of which these numbers are kept
@@ -176,13 +176,13 @@ settled_port at p = record p { timers = both_settled at p.timers }
 
 -- the bytes that keep a port; the rules, and so the cycle, have no part in them
 abbrev pub port_bytes : Port → List ℕ
-port_bytes p = spelling (port_fields 0 (saved_port p))
+port_bytes p = spelling (port_fields 0 (saved_port_of p))
 
 -- the bytes of a state at a cycle keep the port, whose rules hold
 pub record SpellsPort (at : ℕ) (bytes : List ℕ) (p : Port) : Type 0 where
-  pub keeps : Keeps (port_fields at) bytes (saved_port p)
-  pub right : IsRight (port_fields at) (saved_port p)
-  pub fit : AreFit write_fields (map saved_write p.writes)
+  pub keeps : Keeps (port_fields at) bytes (saved_port_of p)
+  pub right : IsRight (port_fields at) (saved_port_of p)
+  pub fit : AreFit write_fields (map saved_write_of p.writes)
 
 -- bytes that keep no port are refused at this place
 abbrev pub PortGoesWrongAt : ℕ → List ℕ → ℕ → Type 0

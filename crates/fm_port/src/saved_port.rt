@@ -75,13 +75,13 @@ impl SavedPort {
     }
 
     fn is_timer_a(&self, at: u64) -> bool
-        ensures { result ≡ meaning.is_timer at 1032192 (self.now.control % 2) self.now.run_a self.now.next_a }
+        ensures { result ≡ meaning.is_saved_timer at 1032192 (self.now.control % 2) self.now.run_a self.now.next_a }
     {
         self.run_a == self.control % 2 && is_next(at, LONGEST_A, self.run_a, self.next_a)
     }
 
     fn is_timer_b(&self, at: u64) -> bool
-        ensures { result ≡ meaning.is_timer at 4128768 (self.now.control / 2 % 2) self.now.run_b self.now.next_b }
+        ensures { result ≡ meaning.is_saved_timer at 4128768 (self.now.control / 2 % 2) self.now.run_b self.now.next_b }
     {
         self.run_b == self.control / 2 % 2 && is_next(at, LONGEST_B, self.run_b, self.next_b)
     }

@@ -34,7 +34,7 @@ impl Default for SavedWrite {
 impl SavedWrite {
     /// What is kept of a write.
     pub fn of(write: &FmWrite) -> SavedWrite
-        ensures { result ≡ meaning.saved_write write.now }
+        ensures { result ≡ meaning.saved_write_of write.now }
     {
         SavedWrite {
             cycle: write.key.cycle,

@@ -40,7 +40,7 @@ impl FmPort {
         ensures bytes { into.new.items ≡ into.old.items ++ port_bytes (settled_port at self.now) }
         ensures length { vec_len into.new ≡ vec_len into.old + 12316 }
         ensures room { vec_capacity into.old ≤ vec_capacity into.new }
-        ensures kept { AreTimed at self.now.timers → meaning.are_right at (map meaning.saved_write self.now.writes) ≡ true
+        ensures kept { AreTimed at self.now.timers → meaning.are_right at (map meaning.saved_write_of self.now.writes) ≡ true
             → SpellsPort at (port_bytes (settled_port at self.now)) (settled_port at self.now) }
     {
         self.is_read_again(at);
@@ -58,7 +58,7 @@ impl FmPort {
     /// hold there.
     pub fn is_read_again(&self, at: u64)
         requires { at ≤ 2 ^ 50 }
-        ensures { AreTimed at self.now.timers → meaning.are_right at (map meaning.saved_write self.now.writes) ≡ true
+        ensures { AreTimed at self.now.timers → meaning.are_right at (map meaning.saved_write_of self.now.writes) ≡ true
             → SpellsPort at (port_bytes (settled_port at self.now)) (settled_port at self.now) }
     {
         let mut timers = self.timers;
@@ -232,7 +232,7 @@ fn known_numbers(numbers: &SavedPort)
 /// Each number of a write fits its field.
 #[tactic(auto, unfolding(md_fields::specs::Fields::AreWithin))]
 fn known_write(write: &FmWrite)
-    ensures { AreWithin (meaning.write_fields (meaning.saved_write write.now)) }
+    ensures { AreWithin (meaning.write_fields (meaning.saved_write_of write.now)) }
 {
     let _cycle = write.key.cycle;
     let _chip = write.key.chip;
@@ -243,7 +243,7 @@ fn known_write(write: &FmWrite)
 
 /// Each number of each write fits its field.
 fn known_writes(writes: &[FmWrite])
-    ensures { AreFit meaning.write_fields (map meaning.saved_write writes.now) }
+    ensures { AreFit meaning.write_fields (map meaning.saved_write_of writes.now) }
 {
     let mut rest = writes;
     while let [write, after @ ..] = rest {
@@ -255,7 +255,7 @@ fn known_writes(writes: &[FmWrite])
 #[tactic(auto, unfolding(md_fields::specs::Fields::spelling))]
 fn put_write(write: &FmWrite, into: &mut Vec<u8>)
     requires { vec_len into.old + 12 ≤ vec_capacity into.old }
-    ensures bytes { into.new.items ≡ into.old.items ++ spelling (meaning.write_fields (meaning.saved_write write.now)) }
+    ensures bytes { into.new.items ≡ into.old.items ++ spelling (meaning.write_fields (meaning.saved_write_of write.now)) }
     ensures length { vec_len into.new ≡ vec_len into.old + 12 }
     ensures room { vec_capacity into.old ≤ vec_capacity into.new }
 {
@@ -265,7 +265,7 @@ fn put_write(write: &FmWrite, into: &mut Vec<u8>)
 /// Appends the bytes of writes.
 fn put_writes(writes: &[FmWrite], into: &mut Vec<u8>)
     requires { vec_len into.old + 12 * length writes.now ≤ vec_capacity into.old }
-    ensures bytes { into.new.items ≡ into.old.items ++ entries_bytes meaning.write_fields (map meaning.saved_write writes.now) }
+    ensures bytes { into.new.items ≡ into.old.items ++ entries_bytes meaning.write_fields (map meaning.saved_write_of writes.now) }
     ensures length { vec_len into.new ≡ vec_len into.old + 12 * length writes.now }
     ensures room { vec_capacity into.old ≤ vec_capacity into.new }
 {

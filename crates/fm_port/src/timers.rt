@@ -2,7 +2,7 @@ ghost use Rattle.std.specs.Prelude.{◌≡◌, ◌+◌, ◌*◌, ◌^◌, ◌<�
 ghost use Rattle.fm_port.specs.Timers as meaning;
 ghost use Rattle.fm_port.specs.Timers.{IsTimers};
 ghost use Rattle.fm_port.specs.Timed.{AreTimed};
-ghost use Rattle.fm_port.specs.PortSpelling.{are_timed};
+ghost use Rattle.fm_port.specs.PortSpelling.{are_saved_timers};
 
 use crate::timer::Timer;
 
@@ -67,7 +67,7 @@ impl Timers {
         ensures timers { IsTimers self.new }
         ensures later { (later : ℕ) → cycle ≤ later
             → meaning.both_settled later self.new ≡ meaning.both_settled later self.old }
-        ensures timed { AreTimed cycle self.old → are_timed cycle self.new ≡ true }
+        ensures timed { AreTimed cycle self.old → are_saved_timers cycle self.new ≡ true }
     {
         let (period_a, period_b) = (self.period_a(), self.period_b());
         self.a.settle(cycle, period_a, self.control / 4 % 2 == 1);

@@ -72,24 +72,24 @@ fm_only place bytes w rest h =
 pub psg_kept : (at : ℕ) (bytes : List ℕ) (ws : List PsgWrite) → psg.SpellsPort at bytes ws → are_kept at (map psg.key_of ws) ≡ true
 unfolding AllHold
 psg_kept at bytes ws spells =
-    let e = and_parts _ _ (rules_hold 0 (psg.port_fields at (psg.saved_port ws)) spells.right).0 in
+    let e = and_parts _ _ (rules_hold 0 (psg.port_fields at (psg.saved_port_of ws)) spells.right).0 in
     let again : psg.writes_at (length ws) (padded 10240 (entries_bytes psg.write_fields ws)) ≡ ws =
     entries.entries_read 10 psg.write_fields psg.write_at psg_size psg_stands psg_only ws [] (replicate (10240 - length (entries_bytes psg.write_fields ws)) 0) spells.fit in
     ap (λ (l : List PsgWrite). are_kept at (map psg.key_of l)) (sym again) ∙ (and_parts _ _ e.1).0
 
-fm_right : (at : ℕ) (p : Port) → AreFit fm.write_fields (map fm.saved_write p.writes) → fm.are_writes at (length p.writes) (fm.saved_port p).entries ≡ true
-    → fm.are_right at (map fm.saved_write p.writes) ≡ true
+fm_right : (at : ℕ) (p : Port) → AreFit fm.write_fields (map fm.saved_write_of p.writes) → fm.are_writes at (length p.writes) (fm.saved_port_of p).entries ≡ true
+    → fm.are_right at (map fm.saved_write_of p.writes) ≡ true
 fm_right at p fit e =
-    let es : List SavedWrite = map fm.saved_write p.writes in
+    let es : List SavedWrite = map fm.saved_write_of p.writes in
     let again : fm.writes_at (length p.writes) (padded 12288 (entries_bytes fm.write_fields es)) ≡ es =
-    ap (λ (n : ℕ). fm.writes_at n (padded 12288 (entries_bytes fm.write_fields es))) (sym (length-map p.writes fm.saved_write))
+    ap (λ (n : ℕ). fm.writes_at n (padded 12288 (entries_bytes fm.write_fields es))) (sym (length-map p.writes fm.saved_write_of))
     ∙ entries.entries_read 12 fm.write_fields fm.write_at fm_size fm_stands fm_only es [] (replicate (12288 - length (entries_bytes fm.write_fields es)) 0) fit in
     ap (fm.are_right at) (sym again) ∙ (and_parts _ _ (and_parts _ _ e).1).0
 
-pub fm_kept : (at : ℕ) (bytes : List ℕ) (p : Port) → fm.SpellsPort at bytes p → fm.are_right at (map fm.saved_write p.writes) ≡ true
+pub fm_kept : (at : ℕ) (bytes : List ℕ) (p : Port) → fm.SpellsPort at bytes p → fm.are_right at (map fm.saved_write_of p.writes) ≡ true
 unfolding AllHold
 fm_kept at bytes p spells =
-    let h0 = rules_hold 0 (fm.port_fields at (fm.saved_port p)) spells.right in
+    let h0 = rules_hold 0 (fm.port_fields at (fm.saved_port_of p)) spells.right in
     let h12 = h0.1.1.1.1.1.1.1.1.1.1.1.1 in
     fm_right at p spells.fit h12.0
 
@@ -103,7 +103,7 @@ stands_still : (at longest next : ℕ) (run : Bool) → fm.is_next at longest (f
 stands_still at longest next true e r = absurd cc
 stands_still at longest next false e r = eqb-true next 0 e
 
-timer_timed : (at longest bit : ℕ) (t : Timer) → fm.is_timer at longest bit (flag_number t.run) t.next ≡ true → IsTimed at longest bit t
+timer_timed : (at longest bit : ℕ) (t : Timer) → fm.is_saved_timer at longest bit (flag_number t.run) t.next ≡ true → IsTimed at longest bit t
 timer_timed at longest bit t e =
     let p = and_parts _ _ e in
     record { run = eqb-true (flag_number t.run) bit p.0; runs = runs_near at longest t.next t.run p.1; stands = stands_still at longest t.next t.run p.1 }
@@ -111,7 +111,7 @@ timer_timed at longest bit t e =
 pub fm_timed : (at : ℕ) (bytes : List ℕ) (p : Port) → fm.SpellsPort at bytes p → AreTimed at p.timers
 unfolding AllHold
 fm_timed at bytes p spells =
-    let h6 = (rules_hold 0 (fm.port_fields at (fm.saved_port p)) spells.right).1.1.1.1.1.1 in
+    let h6 = (rules_hold 0 (fm.port_fields at (fm.saved_port_of p)) spells.right).1.1.1.1.1.1 in
     record {
       a = timer_timed at 1032192 (p.timers.control % 2) p.timers.a h6.0;
       b = timer_timed at 4128768 (p.timers.control / 2 % 2) p.timers.b h6.1.1.0;

@@ -17,7 +17,7 @@ use Rattle.sound_writes.specs.Entries.{AreFit, entries_bytes}
 use Rattle.sound_writes.specs.Keys.{are_kept, is_kept}
 use Rattle.sound_writes.proofs.Entries as entries
 use Rattle.psg_sound.specs.Port.{IsPort}
-use Rattle.psg_sound.specs.PortSpelling.{PortGoesWrongAt, SavedPort, SpellsPort, are_writes, key_of, port_bytes, port_fields, saved_port, write_at, write_fields, writes_at}
+use Rattle.psg_sound.specs.PortSpelling.{PortGoesWrongAt, SavedPort, SpellsPort, are_writes, key_of, port_bytes, port_fields, saved_port_of, write_at, write_fields, writes_at}
 use Rattle.psg_sound.specs.declared.write.PsgWrite.{PsgWrite}
 
 -- ---- a write
@@ -98,7 +98,7 @@ pub all_right : (at : ℕ) (s : SavedPort) → s.count ≤ 1024 → are_kept at 
 all_right at s few kept zeros = rw (le-leb s.count 1024 few, kept, zeros) refl
 
 -- the writes of what is kept, whose rule holds, are kept so
-saved_back : (at : ℕ) (s : SavedPort) → length s.entries ≡ 10240 → IsBytes s.entries → are_writes at s ≡ true → saved_port (writes_at s.count s.entries) ≡ s
+saved_back : (at : ℕ) (s : SavedPort) → length s.entries ≡ 10240 → IsBytes s.entries → are_writes at s ≡ true → saved_port_of (writes_at s.count s.entries) ≡ s
 saved_back at s long fits e =
     let parts = and_parts _ _ e in
     let few : s.count ≤ 1024 = leb-true s.count 1024 parts.0 in
@@ -145,7 +145,7 @@ read_spells at bytes fits long e =
 -- what is spelled is a port
 pub port_sound : (at : ℕ) (bytes : List ℕ) (ws : List PsgWrite) → SpellsPort at bytes ws → IsPort ws
 port_sound at bytes ws spells =
-    let e = and_parts _ _ (rule_of at (saved_port ws) spells.right) in
+    let e = and_parts _ _ (rule_of at (saved_port_of ws) spells.right) in
     let kept : are_kept at (map key_of ws) ≡ true =
     ap (λ (l : List PsgWrite). are_kept at (map key_of l)) (sym (writes_again ws spells.fit)) ∙ (and_parts _ _ e.1).0 in
     record { most = leb-true (length ws) 1024 e.0; chips = chips_kept at ws (and_parts _ _ kept).0 }
@@ -154,13 +154,13 @@ port_sound at bytes ws spells =
 pub spelled_once : (at : ℕ) (bytes : List ℕ) (ws vs : List PsgWrite) → SpellsPort at bytes ws → SpellsPort at bytes vs → ws ≡ vs
 spelled_once at bytes ws vs p q =
     sym (writes_again ws p.fit)
-    ∙ ap (λ (s : SavedPort). writes_at s.count s.entries) (same (port_fields at) bytes (only_one at bytes) (saved_port ws) (saved_port vs) p.keeps q.keeps)
+    ∙ ap (λ (s : SavedPort). writes_at s.count s.entries) (same (port_fields at) bytes (only_one at bytes) (saved_port_of ws) (saved_port_of vs) p.keeps q.keeps)
     ∙ writes_again vs q.fit
 
 -- what is spelled is refused nowhere, and there is one place of a refusal
 pub right_nowhere : (at : ℕ) (bytes : List ℕ) (ws : List PsgWrite) → SpellsPort at bytes ws → (place : ℕ) → PortGoesWrongAt at bytes place → ⊥
 right_nowhere at bytes ws spells place wrong =
-    not_both (port_fields at) bytes (only_one at bytes) 10242 (saved_port ws) place spells.keeps spells.right (port_size at (saved_port ws)) wrong
+    not_both (port_fields at) bytes (only_one at bytes) 10242 (saved_port_of ws) place spells.keeps spells.right (port_size at (saved_port_of ws)) wrong
 
 pub wrong_once : (at : ℕ) (bytes : List ℕ) (p q : ℕ) → PortGoesWrongAt at bytes p → PortGoesWrongAt at bytes q → p ≡ q
 wrong_once at bytes p q a b = one_place (port_fields at) bytes (only_one at bytes) 10242 (port_size at) p q a b
@@ -188,7 +188,7 @@ left_there count size bytes long same =
     (omega (arith, same, long, length-drop (10 * count) (take 10240 (drop 2 bytes)), length-take 10240 (drop 2 bytes), length-drop 2 bytes))
 
 -- a port whose rules hold is kept by its bytes
-keeps_own : (at : ℕ) (ws : List PsgWrite) → length ws ≤ 1024 → Keeps (port_fields at) (port_bytes ws) (saved_port ws)
+keeps_own : (at : ℕ) (ws : List PsgWrite) → length ws ≤ 1024 → Keeps (port_fields at) (port_bytes ws) (saved_port_of ws)
 unfolding AreWithin spelling
 keeps_own at ws few = record {
   within = (omega (arith, few), (padded_length 10240 (entries_bytes write_fields ws) (omega (arith, entries_size ws, few)), tt));
@@ -200,7 +200,7 @@ port_kept at ws port fit kept =
     let padding : List ℕ = padded 10240 (entries_bytes write_fields ws) in
     record {
       keeps = keeps_own at ws port.most;
-      right = right_by at (saved_port ws) (all_right at (saved_port ws) port.most
+      right = right_by at (saved_port_of ws) (all_right at (saved_port_of ws) port.most
           (ap (λ (l : List PsgWrite). are_kept at (map key_of l)) (writes_again ws fit) ∙ kept)
           (ap (λ (n : ℕ). are_zeros (drop n padding)) (sym (entries_size ws)) ∙ padded_zeros 10240 (entries_bytes write_fields ws)));
       fit = fit;

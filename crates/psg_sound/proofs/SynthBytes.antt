@@ -7,7 +7,7 @@ use Rattle.md_fields.specs.Places.{Stand}
 use Rattle.md_fields.proofs.Flags.{flag_again, flag_back}
 use Rattle.md_fields.proofs.Items.{rules_hold, not_both, one_place, same}
 use Rattle.psg_sound.specs.Synth.{IsSynth, Synth}
-use Rattle.psg_sound.specs.SynthSpelling.{SpellsSynth, SynthGoesWrongAt, is_counter, saved_synth, synth_fields, synth_from}
+use Rattle.psg_sound.specs.SynthSpelling.{SpellsSynth, SynthGoesWrongAt, is_counter, saved_synth_of, synth_fields, synth_from}
 use Rattle.psg_sound.specs.declared.saved_synth.SavedSynth.{SavedSynth}
 
 pub synth_size : (s : SavedSynth) → sizes (synth_fields s) ≡ 26
@@ -117,7 +117,7 @@ rules_of s right =
     }
 
 -- the numbers that are right are those of their chip
-saved_back : (s : SavedSynth) → Rules s → saved_synth (synth_from s) ≡ s
+saved_back : (s : SavedSynth) → Rules s → saved_synth_of (synth_from s) ≡ s
 saved_back s rules = λ i. record {
   latch = s.latch;
   period1 = s.period1;
@@ -140,7 +140,7 @@ saved_back s rules = λ i. record {
 }
 
 -- a chip is that of its numbers
-synth_again : (s : Synth) → synth_from (saved_synth s) ≡ s
+synth_again : (s : Synth) → synth_from (saved_synth_of s) ≡ s
 synth_again s = λ i. record {
   latch = s.latch;
   tone1 = record { period = s.tone1.period; volume = s.tone1.volume; divider = record { counter = s.tone1.divider.counter; bit = flag_again s.tone1.divider.bit i } };
@@ -185,7 +185,7 @@ read_spells bytes s keeps right =
 
 -- what is spelled so is read
 pub read_only : (bytes : List ℕ) (s : SavedSynth) (synth : Synth) → Keeps synth_fields bytes s → SpellsSynth bytes synth → synth_from s ≡ synth
-read_only bytes s synth keeps spells = ap synth_from (same synth_fields bytes (only_one bytes) s (saved_synth synth) keeps spells.keeps) ∙ synth_again synth
+read_only bytes s synth keeps spells = ap synth_from (same synth_fields bytes (only_one bytes) s (saved_synth_of synth) keeps spells.keeps) ∙ synth_again synth
 
 -- what is right is refused nowhere, and there is one place of a refusal
 pub right_nowhere : (bytes : List ℕ) (s : SavedSynth) → Keeps synth_fields bytes s → IsRight synth_fields s → (place : ℕ) → SynthGoesWrongAt bytes place → ⊥

@@ -6,12 +6,12 @@ use Rattle.md_fields.specs.Fields.{AllHold, AreWithin}
 use Rattle.md_fields.proofs.Items.{none_wrong}
 use Rattle.md_fields.proofs.Flags.{flag_byte, flag_small}
 use Rattle.psg_sound.specs.Synth.{IsSynth, Synth}
-use Rattle.psg_sound.specs.SynthSpelling.{SpellsSynth, is_counter, saved_synth, synth_bytes, synth_fields}
+use Rattle.psg_sound.specs.SynthSpelling.{SpellsSynth, is_counter, saved_synth_of, synth_bytes, synth_fields}
 
 counter : (n : ℕ) → 1 ≤ n → n < 1024 → is_counter n ≡ true
 counter n low high = and_from (nat_le 1 n) (nat_lt n 1024) (le-leb 1 n low) (lt-ltb n 1024 high)
 
-rules_hold : (s : Synth) → IsSynth s → AllHold (synth_fields (saved_synth s))
+rules_hold : (s : Synth) → IsSynth s → AllHold (synth_fields (saved_synth_of s))
 unfolding AllHold
 rules_hold s ok = (
   lt-ltb s.latch 8 ok.latch,
@@ -57,7 +57,7 @@ rules_hold s ok = (
   ),
 )
 
-within : (s : Synth) → IsSynth s → AreWithin (synth_fields (saved_synth s))
+within : (s : Synth) → IsSynth s → AreWithin (synth_fields (saved_synth_of s))
 unfolding AreWithin
 within s ok = (
   omega (arith, ok.latch),
@@ -106,5 +106,5 @@ within s ok = (
 pub synth_spelled : (s : Synth) → IsSynth s → SpellsSynth (synth_bytes s) s
 synth_spelled s ok = record {
   keeps = record { within = within s ok; all = refl };
-  right = none_wrong 0 (synth_fields (saved_synth s)) (rules_hold s ok);
+  right = none_wrong 0 (synth_fields (saved_synth_of s)) (rules_hold s ok);
 }

@@ -45,17 +45,17 @@ abbrev pub port_fields : ℕ → SavedPort → List Field
 port_fields at s = word s.count (are_writes at s) ∷ block 10240 s.entries true ∷ []
 
 -- what is kept of a port
-abbrev pub saved_port : List PsgWrite → SavedPort
-saved_port writes = record { count = length writes; entries = padded 10240 (entries_bytes write_fields writes) }
+abbrev pub saved_port_of : List PsgWrite → SavedPort
+saved_port_of writes = record { count = length writes; entries = padded 10240 (entries_bytes write_fields writes) }
 
 -- the bytes that keep a port; the rules, and so the cycle, have no part in them
 abbrev pub port_bytes : List PsgWrite → List ℕ
-port_bytes writes = spelling (port_fields 0 (saved_port writes))
+port_bytes writes = spelling (port_fields 0 (saved_port_of writes))
 
 -- the bytes of a state at a cycle keep the port, whose rules hold
 pub record SpellsPort (at : ℕ) (bytes : List ℕ) (writes : List PsgWrite) : Type 0 where
-  pub keeps : Keeps (port_fields at) bytes (saved_port writes)
-  pub right : IsRight (port_fields at) (saved_port writes)
+  pub keeps : Keeps (port_fields at) bytes (saved_port_of writes)
+  pub right : IsRight (port_fields at) (saved_port_of writes)
   pub fit : AreFit write_fields writes
 
 -- bytes that keep no port are refused at this place

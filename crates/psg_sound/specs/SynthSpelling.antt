@@ -8,8 +8,8 @@ use Rattle.psg_sound.specs.declared.saved_synth.SavedSynth.{SavedSynth}
 use Rattle.psg_sound.specs.declared.tone.Tone.{Tone}
 
 -- what is kept of a chip
-abbrev pub saved_synth : Synth → SavedSynth
-saved_synth s = record {
+abbrev pub saved_synth_of : Synth → SavedSynth
+saved_synth_of s = record {
   latch = s.latch;
   period1 = s.tone1.period;
   period2 = s.tone2.period;
@@ -78,12 +78,12 @@ synth_fields s =
 
 -- the bytes that keep a chip
 abbrev pub synth_bytes : Synth → List ℕ
-synth_bytes s = spelling (synth_fields (saved_synth s))
+synth_bytes s = spelling (synth_fields (saved_synth_of s))
 
 -- the bytes keep the chip, whose rules hold
 pub record SpellsSynth (bytes : List ℕ) (s : Synth) : Type 0 where
-  pub keeps : Keeps synth_fields bytes (saved_synth s)
-  pub right : IsRight synth_fields (saved_synth s)
+  pub keeps : Keeps synth_fields bytes (saved_synth_of s)
+  pub right : IsRight synth_fields (saved_synth_of s)
 
 -- bytes that keep no chip are refused at this place
 abbrev pub SynthGoesWrongAt : List ℕ → ℕ → Type 0

@@ -2,7 +2,7 @@ ghost use Rattle.std.specs.Prelude.{◌≡◌, ◌≢◌, ◌↔◌, ◌+◌, �
 ghost use Rattle.md_fields.specs.Items.{IsRight, Keeps};
 ghost use Rattle.sound_writes.specs.Keys.{are_kept};
 ghost use Rattle.psg_sound.specs.PortSpelling.{PortGoesWrongAt, SpellsPort, key_of, port_bytes};
-ghost use Rattle.psg_sound.specs.SynthSpelling.{SpellsSynth, SynthGoesWrongAt, saved_synth, synth_bytes, synth_fields};
+ghost use Rattle.psg_sound.specs.SynthSpelling.{SpellsSynth, SynthGoesWrongAt, saved_synth_of, synth_bytes, synth_fields};
 ghost use Rattle.psg_sound.specs.Synth.{Synth};
 ghost use Rattle.psg_sound.specs.declared.write.PsgWrite.{PsgWrite as Write};
 
@@ -108,7 +108,7 @@ impl PsgSynth {
     }
 
     fn saved(&self) -> SavedSynth
-        ensures { result ≡ saved_synth self.now }
+        ensures { result ≡ saved_synth_of self.now }
     {
         SavedSynth {
             latch: self.latch,

@@ -235,11 +235,11 @@ psg_none bytes at part answer fault e f r only h =
 -- a port holds as many writes as its bytes count
 fm_counted : (at : ℕ) (part : List ℕ) (port : Port) → fm_port.SpellsPort at part port → length port.writes ≡ number_at w16 26 part
 unfolding Stand
-fm_counted at part port p = (spelled_stand (fm_port.port_fields at (fm_port.saved_port port)) part p.keeps.within (sym p.keeps.all)).1.1.1.1.1.1.1.1.1.1.1.1.0
+fm_counted at part port p = (spelled_stand (fm_port.port_fields at (fm_port.saved_port_of port)) part p.keeps.within (sym p.keeps.all)).1.1.1.1.1.1.1.1.1.1.1.1.0
 
 psg_counted : (at : ℕ) (part : List ℕ) (port : List PsgWrite) → psg_port.SpellsPort at part port → length port ≡ number_at w16 0 part
 unfolding Stand
-psg_counted at part port p = (spelled_stand (psg_port.port_fields at (psg_port.saved_port port)) part p.keeps.within (sym p.keeps.all)).0
+psg_counted at part port p = (spelled_stand (psg_port.port_fields at (psg_port.saved_port_of port)) part p.keeps.within (sym p.keeps.all)).0
 
 -- no write is late where there is none
 no_fm_late : (main sub : ℕ) (port : Port) → length port.writes ≡ 0 → are_fm_early main sub port ≡ true

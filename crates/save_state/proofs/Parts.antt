@@ -75,16 +75,16 @@ pub drawing_long : (at : ℕ) (pal : Bool) (bytes : List ℕ) (d : Drawing) → 
 drawing_long at pal bytes d p = ap length p.keeps.all ∙ long_as (saved_drawing.drawing_fields at pal (saved_drawing.numbers_of d)) p.keeps.within ∙ drawing_laws.fields_size at pal (saved_drawing.numbers_of d)
 
 pub fm_port_long : (at : ℕ) (bytes : List ℕ) (p : Port) → fm_port.SpellsPort at bytes p → length bytes ≡ 12316
-fm_port_long at bytes p s = ap length s.keeps.all ∙ long_as (fm_port.port_fields at (fm_port.saved_port p)) s.keeps.within ∙ fm_port_laws.port_size at (fm_port.saved_port p)
+fm_port_long at bytes p s = ap length s.keeps.all ∙ long_as (fm_port.port_fields at (fm_port.saved_port_of p)) s.keeps.within ∙ fm_port_laws.port_size at (fm_port.saved_port_of p)
 
 pub psg_port_long : (at : ℕ) (bytes : List ℕ) (ws : List PsgWrite) → psg_port.SpellsPort at bytes ws → length bytes ≡ 10242
-psg_port_long at bytes ws s = ap length s.keeps.all ∙ long_as (psg_port.port_fields at (psg_port.saved_port ws)) s.keeps.within ∙ psg_port_laws.port_size at (psg_port.saved_port ws)
+psg_port_long at bytes ws s = ap length s.keeps.all ∙ long_as (psg_port.port_fields at (psg_port.saved_port_of ws)) s.keeps.within ∙ psg_port_laws.port_size at (psg_port.saved_port_of ws)
 
 pub fm_long : (bytes : List ℕ) (s : fm_synths.Synth) → fm.SpellsSynth bytes s → length bytes ≡ 741
-fm_long bytes s p = ap length p.keeps.all ∙ long_as (fm.synth_fields (fm.saved_synth s)) p.keeps.within ∙ fm_laws.synth_size (fm.saved_synth s)
+fm_long bytes s p = ap length p.keeps.all ∙ long_as (fm.synth_fields (fm.saved_synth_of s)) p.keeps.within ∙ fm_laws.synth_size (fm.saved_synth_of s)
 
 pub psg_long : (bytes : List ℕ) (s : psg_synths.Synth) → psg.SpellsSynth bytes s → length bytes ≡ 26
-psg_long bytes s p = ap length p.keeps.all ∙ long_as (psg.synth_fields (psg.saved_synth s)) p.keeps.within ∙ psg_laws.synth_size (psg.saved_synth s)
+psg_long bytes s p = ap length p.keeps.all ∙ long_as (psg.synth_fields (psg.saved_synth_of s)) p.keeps.within ∙ psg_laws.synth_size (psg.saved_synth_of s)
 
 pub lines_long : (at : ℕ) (pal : Bool) (bytes : List ℕ) (b : Board) → shared.Spells at pal bytes b → length (shared.lines_bytes (lines_of b)) ≡ 36
 lines_long at pal bytes b p = ap length p.lines.all ∙ long_as (lines_fields at (lines_of b)) p.lines.within ∙ lines_laws.lines_size at (lines_of b)

@@ -48,15 +48,15 @@ filled size ns few = omega (arith, few, length-append ns (replicate (size - leng
 fm_port_full : (at : ℕ) (p : Port) → length p.writes ≤ 1024 → length (fm_port.port_bytes (fm_port.settled_port at p)) ≡ 12316
 unfolding AreSized
 fm_port_full at p few =
-    long_as_sized (fm_port.port_fields 0 (fm_port.saved_port (fm_port.settled_port at p)))
-    (tt, (tt, (tt, (tt, (tt, (tt, (tt, (tt, (tt, (tt, (tt, (tt, (tt, (filled 12288 (entries_bytes fm_port.write_fields (map fm_port.saved_write p.writes)) (omega (arith, few, fm_port_laws.entries_size p.writes)), tt))))))))))))))
-    ∙ fm_port_laws.port_size 0 (fm_port.saved_port (fm_port.settled_port at p))
+    long_as_sized (fm_port.port_fields 0 (fm_port.saved_port_of (fm_port.settled_port at p)))
+    (tt, (tt, (tt, (tt, (tt, (tt, (tt, (tt, (tt, (tt, (tt, (tt, (tt, (filled 12288 (entries_bytes fm_port.write_fields (map fm_port.saved_write_of p.writes)) (omega (arith, few, fm_port_laws.entries_size p.writes)), tt))))))))))))))
+    ∙ fm_port_laws.port_size 0 (fm_port.saved_port_of (fm_port.settled_port at p))
 
 psg_port_full : (ws : List PsgWrite) → length ws ≤ 1024 → length (psg_port.port_bytes ws) ≡ 10242
 unfolding AreSized
 psg_port_full ws few =
-    long_as_sized (psg_port.port_fields 0 (psg_port.saved_port ws)) (tt, (filled 10240 (entries_bytes psg_port.write_fields ws) (omega (arith, few, psg_port_laws.entries_size ws)), tt))
-    ∙ psg_port_laws.port_size 0 (psg_port.saved_port ws)
+    long_as_sized (psg_port.port_fields 0 (psg_port.saved_port_of ws)) (tt, (filled 10240 (entries_bytes psg_port.write_fields ws) (omega (arith, few, psg_port_laws.entries_size ws)), tt))
+    ∙ psg_port_laws.port_size 0 (psg_port.saved_port_of ws)
 
 lines_full : (n : SavedLines) → length (shared.lines_bytes n) ≡ 36
 unfolding AreSized

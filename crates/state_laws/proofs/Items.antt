@@ -164,8 +164,8 @@ early_of (inr none) = (true, (λ e. absurd cc, λ l. absurd (none l)))
 fm_decided : (bytes : List ℕ) → Verdict (fm.SpellsSynth bytes) (fm.SynthGoesWrongAt bytes) → Decided (fm.SpellsSynth bytes) (fm.SynthGoesWrongAt bytes)
 fm_decided bytes v =
     decided_by (fm.SpellsSynth bytes) (fm.SynthGoesWrongAt bytes)
-    (λ x y p q. sym (fm_laws.read_only bytes (fm.saved_synth x) x p.keeps p) ∙ fm_laws.read_only bytes (fm.saved_synth x) y p.keeps q)
-    (λ x p place wrong. fm_laws.right_nowhere bytes (fm.saved_synth x) p.keeps p.right place wrong)
+    (λ x y p q. sym (fm_laws.read_only bytes (fm.saved_synth_of x) x p.keeps p) ∙ fm_laws.read_only bytes (fm.saved_synth_of x) y p.keeps q)
+    (λ x p place wrong. fm_laws.right_nowhere bytes (fm.saved_synth_of x) p.keeps p.right place wrong)
     (fm_laws.wrong_once bytes) v
 
 pub fm_answered : (bytes : List ℕ) → Verdict (fm.SpellsSynth (part_of fm_part bytes)) (fm.SynthGoesWrongAt (part_of fm_part bytes)) → HasLateFm bytes ⊎ (HasLateFm bytes → ⊥) → Answered (IsFm bytes) (FmFails bytes)
@@ -186,8 +186,8 @@ fm_answered bytes v late =
 psg_decided : (bytes : List ℕ) → Verdict (psg.SpellsSynth bytes) (psg.SynthGoesWrongAt bytes) → Decided (psg.SpellsSynth bytes) (psg.SynthGoesWrongAt bytes)
 psg_decided bytes v =
     decided_by (psg.SpellsSynth bytes) (psg.SynthGoesWrongAt bytes)
-    (λ x y p q. sym (psg_laws.read_only bytes (psg.saved_synth x) x p.keeps p) ∙ psg_laws.read_only bytes (psg.saved_synth x) y p.keeps q)
-    (λ x p place wrong. psg_laws.right_nowhere bytes (psg.saved_synth x) p.keeps p.right place wrong)
+    (λ x y p q. sym (psg_laws.read_only bytes (psg.saved_synth_of x) x p.keeps p) ∙ psg_laws.read_only bytes (psg.saved_synth_of x) y p.keeps q)
+    (λ x p place wrong. psg_laws.right_nowhere bytes (psg.saved_synth_of x) p.keeps p.right place wrong)
     (psg_laws.wrong_once bytes) v
 
 pub psg_answered : (bytes : List ℕ) → Verdict (psg.SpellsSynth (part_of psg_part bytes)) (psg.SynthGoesWrongAt (part_of psg_part bytes)) → HasLatePsg bytes ⊎ (HasLatePsg bytes → ⊥) → Answered (IsPsg bytes) (PsgFails bytes)

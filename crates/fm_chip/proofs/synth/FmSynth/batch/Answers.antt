@@ -2,7 +2,7 @@ use Rattle.std.proofs.Common.{◌≡◌, ◌≢◌, ◌∙◌, rules, arith, ap,
 use Rattle.std.proofs.lemmas.List.Elements.{All-from_get_or}
 use Rattle.std.proofs.lemmas.List.FromFn.{fill_by_all}
 use Rattle.fm_chip.specs.Synth.{IsSides}
-use Rattle.fm_chip.specs.Batches.{Course, course, sample, samples}
+use Rattle.fm_chip.specs.Batches.{Course, course_after, sample, samples}
 use Rattle.fm_chip.proofs.Courses.{course-first, course-more, none-below, sample-is, after_batch-is}
 use Rattle.fm_chip.proofs.Histories.{IsNextBatch-is}
 use Rattle.fm_chip.proofs.synth.FmSynth.batch.Goals as goal
@@ -41,7 +41,7 @@ loop-k-preserved c =
 pub returns-clause-chip : goal.returns-clause-chip
 returns-clause-chip c =
     let all : c.loop-k.k ≡ 16 = omega arith in
-    after_batch-is c.args.first c.args.self.now c.args.list.now.items _ _ (c.loop-k.invariant.course ∙ ap (course c.args.first c.args.self.now c.args.list.now.items) all) c.write_all.ensures
+    after_batch-is c.args.first c.args.self.now c.args.list.now.items _ _ (c.loop-k.invariant.course ∙ ap (course_after c.args.first c.args.self.now c.args.list.now.items) all) c.write_all.ensures
 
 pub returns-clause-samples : goal.returns-clause-samples
 unfolding samples

@@ -1,11 +1,11 @@
 use Rattle.std.proofs.Common.{◌≡◌, ◌<◌, ℕ, pos, get_or, length, true, []}
 use Rattle.fm_chip.specs.Synth.{IsIdle, IsSides}
-use Rattle.fm_chip.specs.Batches.{course, sample}
+use Rattle.fm_chip.specs.Batches.{course_after, sample}
 use Rattle.fm_chip.proofs.synth.FmSynth.batch.Given as goal
 
 abbrev pub invariant-loop-k : goal.invariant-loop-k
 invariant-loop-k l = record {
-  course : (record { chip = l.self; rest = l.rest }) ≡ course l.first l.fn.self l.list.items l.k;
+  course : (record { chip = l.self; rest = l.rest }) ≡ course_after l.first l.fn.self l.list.items l.k;
   idle : l.idle ≡ true → IsIdle l.self;
   none : l.idle ≡ true → l.rest ≡ [];
   sixteen : length l.out ≡ 16;

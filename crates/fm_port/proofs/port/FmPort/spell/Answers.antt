@@ -5,7 +5,7 @@ use Rattle.md_fields.proofs.Standing.{long_as_sized}
 use Rattle.sound_writes.specs.Entries.{AreFit, entries_bytes}
 use Rattle.fm_port.specs.Port.{Port}
 use Rattle.fm_port.specs.Timed.{AreTimed}
-use Rattle.fm_port.specs.PortSpelling.{SpellsPort, are_right, number_fields, port_bytes, saved_numbers, saved_write, settled_port, write_fields}
+use Rattle.fm_port.specs.PortSpelling.{SpellsPort, are_right, number_fields, port_bytes, saved_numbers, saved_write_of, settled_port, write_fields}
 use Rattle.fm_port.specs.declared.saved_port.SavedPort.{SavedPort as Numbers}
 use Rattle.fm_port.specs.declared.timers.Timers.{Timers}
 use Rattle.fm_port.specs.declared.write.FmWrite.{FmWrite}
@@ -79,11 +79,11 @@ returns-clause-bytes c =
     let settled : p ≡ settled_port c.args.at c.args.self.now =
     ap (λ (t : Timers). record { first = c.self.inside.first; second = c.self.inside.second; timers = t; writes = ws }) c.settle.ensures.value
     ∙ ap (settled_port c.args.at) c.self.view_is in
-    parts c.args.into.now.items _ _ _ _ _ (spelling (number_fields c.args.at (saved_numbers p))) (to_be_bytes w16 (length ws)) (entries_bytes write_fields (map saved_write ws)) (replicate (12 * (1024 - length ws)) 0)
+    parts c.args.into.now.items _ _ _ _ _ (spelling (number_fields c.args.at (saved_numbers p))) (to_be_bytes w16 (length ws)) (entries_bytes write_fields (map saved_write_of ws)) (replicate (12 * (1024 - length ws)) 0)
     (c.put.ensures.bytes ∙ ap (λ (l : List ℕ). c.args.into.now.items ++ l)
     (ap spelling c.fields.ensures.fields ∙ ap (λ (s : Numbers). spelling (number_fields c.args.at s)) (c.numbers_of-numbers.ensures ws)))
     (c.put_count.ensures.bytes ∙ ap (λ (n : ℕ). c.put.new.into.items ++ to_be_bytes w16 n) c.len-count.ensures.value)
-    (c.put_writes.ensures.bytes ∙ ap (λ (l : List FmWrite). c.put_count.new.into.items ++ entries_bytes write_fields (map saved_write l)) c.as_slice.ensures.value)
+    (c.put_writes.ensures.bytes ∙ ap (λ (l : List FmWrite). c.put_count.new.into.items ++ entries_bytes write_fields (map saved_write_of l)) c.as_slice.ensures.value)
     (c.put_zeros.ensures.bytes ∙ ap (λ (n : ℕ). c.put_writes.new.into.items ++ replicate (12 * (1024 - n)) 0) c.len-count.ensures.value)
     (parts_are c.args.at p ∙ ap port_bytes settled)
 
