@@ -20,7 +20,7 @@ use Rattle.m68k_exec.proofs.Bounds.Spends.{never_odd, waits}
 use Rattle.m68k_exec.proofs.Later.Samples as later
 use Rattle.m68k_chip.specs.Cases.{case_of, cause_of, mask_of}
 use Rattle.m68k_chip.specs.Events.{answered, answered_at, at_sample, at_word, begun, begun_with, came_to, carried_out, end_of, left_by, next_source, request_at, request_in, request_of, waited, went_on, with_started}
-use Rattle.m68k_chip.specs.Validity.{AreFit, Asks, Chip68Value, Fits, FitsValue, IsAsking, IsAt, IsBetween, IsCause, IsChip68, IsCost, IsStarted, IsTransfer}
+use Rattle.m68k_chip.specs.Validity.{AreFit, Asks, Chip68Value, Fits, FitsValue, IsAsking, IsAt, IsBetween, IsKnownCause, IsChip68, IsWordCost, IsStarted, IsTransfer}
 use Rattle.m68k_chip.specs.States.{State68, is_sample, next_of, none_left, power_on}
 use Rattle.m68k_chip.specs.declared.case.Case.TheVariants.{Halted, Trace, Interrupt, Stopped, Instruction}
 use Rattle.m68k_chip.specs.declared.stage.Stage.{Stage}
@@ -36,13 +36,13 @@ of cart state = record { cart = cart; state = state }
 abbrev pub IsLevel : ℕ → Type 0
 IsLevel level = IsTrue (level == 0 || level == 4 || level == 6)
 
-level-cause : (level : ℕ) → IsLevel level → IsCause level
+level-cause : (level : ℕ) → IsLevel level → IsKnownCause level
 level-cause level known = grind (arith, nat_tests)
 
 -- what a sample carries out is a cause, and the processor is not halted
 abbrev pub IsChosen : State68 → Option ℕ → Type 0
 IsChosen state None = Unit {0}
-IsChosen state (Some cause) = IsCause cause × (state.halted ≡ None)
+IsChosen state (Some cause) = IsKnownCause cause × (state.halted ≡ None)
 
 pick : (state : State68) (level : ℕ) → IsLevel level → (halted : Option ℕ) (trace above stopped : Bool) → state.halted ≡ halted
     → IsChosen state (cause_of (if is_some halted then Halted else (if trace then Trace else (if above then Interrupt level else (if stopped then Stopped else Instruction)))))
@@ -63,7 +63,7 @@ pub record Ready (cart : List ℕ) (state : State68) (cause : ℕ) (answers : Li
   pub status : IsStatus state.regs.sr
   pub transfer : IsTransfer state.transfer
   pub running : state.halted ≡ None
-  pub known : IsCause cause
+  pub known : IsKnownCause cause
   pub fit : AreFit cart state cause answers
 
 ram-length : (ram : List ℕ) (writes : List (ℕ × ℕ)) → length (ram_after ram writes) ≡ length ram
@@ -106,10 +106,10 @@ unfolding went_on
 went-ok cart state cause answers ready = came-ok cart state cause answers ready (carried_out cart state cause answers) refl
 
 -- at a sample nothing is carried out, and no word is left
-pub at-sample : (stage : Stage) (cart : List ℕ) (state : State68) → is_sample stage ≡ true → IsAt stage cart state → IsBetween state × (state.transfer ≡ none_left)
-at-sample Sample cart state e is = is
-at-sample Access cart state e is = cc
-at-sample Word cart state e is = cc
+pub sample-between : (stage : Stage) (cart : List ℕ) (state : State68) → is_sample stage ≡ true → IsAt stage cart state → IsBetween state × (state.transfer ≡ none_left)
+sample-between Sample cart state e is = is
+sample-between Access cart state e is = cc
+sample-between Word cart state e is = cc
 
 pub none-before : (cart : List ℕ) (state : State68) (cause : ℕ) → AreFit cart state cause []
 none-before cart state cause k h = absurd (omega (arith, h))
@@ -139,7 +139,7 @@ begun-by v ok between none (Some cause) chosen = went-ok v.cart v.state cause []
 pub begun-ok : (v : Chip68Value) (level : ℕ) → IsLevel level → IsChip68 v → (next_of v.state).sample ≡ true → IsChip68 (of v.cart (begun v.cart v.state level))
 unfolding begun next_of
 begun-ok v level known ok kind =
-    let at = at-sample v.state.stage v.cart v.state kind ok.stands in
+    let at = sample-between v.state.stage v.cart v.state kind ok.stands in
     begun-by v ok at.0 at.1 (cause_of (case_of v.state level)) (chosen v.state level known)
 
 came-later : (cart : List ℕ) (state : State68) (cause : ℕ) (answers : List ℕ) (r : Result Ended Stop) → carried_out cart state cause answers ≡ r
@@ -163,7 +163,7 @@ begun-late v between (Some cause) =
 pub begun-later : (v : Chip68Value) (level : ℕ) → IsChip68 v → (next_of v.state).sample ≡ true → v.state.next + 28 ≤ (begun v.cart v.state level).next
 unfolding begun next_of
 begun-later v level ok kind =
-    let at = at-sample v.state.stage v.cart v.state kind ok.stands in
+    let at = sample-between v.state.stage v.cart v.state kind ok.stands in
     begun-late v at.0 (cause_of (case_of v.state level))
 
 -- never more than 31 answers are kept
@@ -226,7 +226,7 @@ ready-more v answer ok a fits =
 next-even : (source : ℕ) → source % 2 ≡ 0 → source < 2 ^ 24 → (next_source source % 2 ≡ 0) × (next_source source < 2 ^ 24)
 next-even source even below = (omega (arith, even), omega (arith, below))
 
-one-more : (transfer : Transfer) (cost : ℕ) → nat_le transfer.words 1 ≡ false → IsTransfer transfer → IsCost cost
+one-more : (transfer : Transfer) (cost : ℕ) → nat_le transfer.words 1 ≡ false → IsTransfer transfer → IsWordCost cost
     → IsTransfer (record { source = next_source transfer.source; words = transfer.words - 1; cost = cost })
 one-more transfer cost more (inl none) is = let zero : transfer.words ≡ 0 = ap (λ (t : Transfer). t.words) none in absurd (grind (arith, nat_tests))
 one-more transfer cost more (inr started) is =
@@ -234,7 +234,7 @@ one-more transfer cost more (inr started) is =
     let next = next-even transfer.source started.even started.on_bus in
     inr (record { some = grind (arith, nat_tests); most = omega (arith, most); even = next.0; on_bus = next.1; cost = is })
 
-moved-by : (b : Bool) (v : Chip68Value) (cost : ℕ) → nat_le v.state.transfer.words 1 ≡ b → IsChip68 v → IsBetween v.state → IsCost cost
+moved-by : (b : Bool) (v : Chip68Value) (cost : ℕ) → nat_le v.state.transfer.words 1 ≡ b → IsChip68 v → IsBetween v.state → IsWordCost cost
     → IsChip68 (of v.cart (if b then at_sample (record v.state { transfer = none_left }) (v.state.next + 28) else at_word (record v.state { transfer = record { source = next_source v.state.transfer.source; words = v.state.transfer.words - 1; cost = cost } }) (v.state.next + cost)))
 moved-by true v cost e ok between is = record {
   image = ok.image;
@@ -264,9 +264,9 @@ unfolding answered next_of request_of
 answered-ok v answer ok kind fits = answered-by v.state.stage v answer ok ok.stands kind fits
 
 -- what waited takes more than the answers that it had: with no more it would wait again
-same-below : (cart ram answers : List ℕ) (x count : ℕ) → count ≤ length answers
+answers-same : (cart ram answers : List ℕ) (x count : ℕ) → count ≤ length answers
     → SameBelow count (record { rom = cart; ram = ram; answers = answers ++ x ∷ [] }) (record { rom = cart; ram = ram; answers = answers })
-same-below cart ram answers x count few = record { rom = refl; ram = refl; enough = few; answers = λ k less. sym (get_or_append_left answers (x ∷ []) 0 k (omega (arith, less, few))) }
+answers-same cart ram answers x count few = record { rom = refl; ram = refl; enough = few; answers = λ k less. sym (get_or_append_left answers (x ∷ []) 0 k (omega (arith, less, few))) }
 
 different : (ended : Ended) (stop : Stop) → Ok ended ≡ Err stop → ⊥
 different ended stop e = cc
@@ -276,7 +276,7 @@ takes-more : (cart : List ℕ) (state : State68) (cause : ℕ) (answers : List �
 takes-more cart state cause answers x request ended asks e =
     elim (cases_lt (length answers) ended.spent.accesses) [
       | inl more ↦ omega (arith, more)
-      | inr less ↦ absurd (different ended (Ask request) (sym (later.sampled cause state.regs _ _ ended e (same-below cart state.ram answers x ended.spent.accesses less)) ∙ asks))
+      | inr less ↦ absurd (different ended (Ask request) (sym (later.sampled cause state.regs _ _ ended e (answers-same cart state.ram answers x ended.spent.accesses less)) ∙ asks))
     ]
 
 asked-late : (v : Chip68Value) (answer : Answer68) → IsAsking v.cart v.state → v.state.next + 28 ≤ (went_on v.cart (with_started v.state answer.transfer) v.state.cause (v.state.answers ++ answer.value ∷ [])).next
@@ -290,11 +290,11 @@ asked-late v answer a =
     (λ ended is. (let more = takes-more v.cart v.state v.state.cause v.state.answers answer.value a.request ended a.asked (sym (started-same v.cart v.state answer.transfer v.state.cause (v.state.answers ++ answer.value ∷ [])) ∙ is) in omega (arith, more, counted))) in
     omega (arith, place, late, counted, start)
 
-cost-late : (cost : ℕ) → IsCost cost → 28 ≤ cost
+cost-late : (cost : ℕ) → IsWordCost cost → 28 ≤ cost
 cost-late cost (inl is) = omega (arith, is)
 cost-late cost (inr is) = omega (arith, is)
 
-moved-late : (b : Bool) (state : State68) (cost : ℕ) → IsCost cost
+moved-late : (b : Bool) (state : State68) (cost : ℕ) → IsWordCost cost
     → state.next + 28 ≤ (if b then at_sample (record state { transfer = none_left }) (state.next + 28) else at_word (record state { transfer = record { source = next_source state.transfer.source; words = state.transfer.words - 1; cost = cost } }) (state.next + cost)).next
 moved-late true state cost is = omega arith
 moved-late false state cost is = let least = cost-late cost is in omega (arith, least)

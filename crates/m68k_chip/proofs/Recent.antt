@@ -18,11 +18,11 @@ use Rattle.m68k_chip.specs.Cases.{case_of, cause_of}
 use Rattle.m68k_chip.specs.Events.{answered, answered_at, at_sample, at_word, begun, begun_with, came_to, carried_out, end_of, left_by, next_source, request_at, request_of, went_on, with_started}
 use Rattle.m68k_chip.specs.Rules as spec
 use Rattle.m68k_chip.specs.Rules.{HasRules}
-use Rattle.m68k_chip.specs.Validity.{AreFit, Chip68Value, Fits, FitsValue, IsAt, IsChip68, IsCost, IsTransfer}
+use Rattle.m68k_chip.specs.Validity.{AreFit, Chip68Value, Fits, FitsValue, IsAt, IsChip68, IsWordCost, IsTransfer}
 use Rattle.m68k_chip.specs.States.{State68, is_sample, next_of, none_left, power_on}
 use Rattle.m68k_chip.specs.declared.stage.Stage.{Stage}
 use Rattle.m68k_chip.specs.declared.stage.Stage.TheVariants.{Sample, Access, Word}
-use Rattle.m68k_chip.proofs.Laws.{IsChosen, IsLevel, Ready, at-sample, chosen, halts-early, none-before, ready-more, started-rest}
+use Rattle.m68k_chip.proofs.Laws.{IsChosen, IsLevel, Ready, sample-between, chosen, halts-early, none-before, ready-more, started-rest}
 use Rattle.m68k_chip.proofs.Resting.{raised}
 use Rattle.m68k_chip.proofs.SampleTimes.{short}
 
@@ -69,7 +69,7 @@ pub transfer_cost : (transfer : Transfer) → IsTransfer transfer → transfer.c
 transfer_cost transfer (inl none) = let zero = ap (λ (t : Transfer). t.cost) none in omega (arith, zero)
 transfer_cost transfer (inr started) = cost_small transfer.cost started.cost
   where
-    cost_small : (cost : ℕ) → IsCost cost → cost ≤ 380
+    cost_small : (cost : ℕ) → IsWordCost cost → cost ≤ 380
     cost_small cost (inl is) = omega (arith, is)
     cost_small cost (inr is) = omega (arith, is)
 
@@ -103,9 +103,9 @@ went_recent : (at : ℕ) (cart : List ℕ) (state : State68) (cause : ℕ) (answ
 unfolding went_on
 went_recent at cart state cause answers ready image ram below = came_recent at cart state cause answers ready image ram below (carried_out cart state cause answers) refl
 
-begun_by : (at : ℕ) (v : Chip68Value) → IsChip68 v → IsBytes v.cart → v.state.start < at → HasRules at v.state → (c : Option ℕ) → IsChosen v.state c → HasRules at (begun_with v.cart v.state c)
-begun_by at v ok image below rules None is = record { ram = rules.ram; recent = record { soon = omega (arith, below); begun = tt; since = rules.recent.since } }
-begun_by at v ok image below rules (Some cause) is =
+begun_ruled : (at : ℕ) (v : Chip68Value) → IsChip68 v → IsBytes v.cart → v.state.start < at → HasRules at v.state → (c : Option ℕ) → IsChosen v.state c → HasRules at (begun_with v.cart v.state c)
+begun_ruled at v ok image below rules None is = record { ram = rules.ram; recent = record { soon = omega (arith, below); begun = tt; since = rules.recent.since } }
+begun_ruled at v ok image below rules (Some cause) is =
     went_recent at v.cart v.state cause [] (record {
       image = ok.image;
       ram = ok.ram;
@@ -121,33 +121,33 @@ pub begun_rules : (at : ℕ) (v : Chip68Value) (level : ℕ) → IsLevel level �
     → HasRules at (begun v.cart v.state level)
 unfolding begun next_of
 begun_rules at v level known ok image kind below rules =
-    let between = at-sample v.state.stage v.cart v.state kind ok.stands in
+    let between = sample-between v.state.stage v.cart v.state kind ok.stands in
     let start = between.0.start in
-    begun_by at v ok image (omega (arith, start, below)) rules (cause_of (case_of v.state level)) (chosen v.state level known)
+    begun_ruled at v ok image (omega (arith, start, below)) rules (cause_of (case_of v.state level)) (chosen v.state level known)
 
 -- a word of a transfer
-moved_rules : (b : Bool) (at : ℕ) (state : State68) (cost : ℕ) → IsCost cost → state.next < at → HasRules at state
+moved_rules : (b : Bool) (at : ℕ) (state : State68) (cost : ℕ) → IsWordCost cost → state.next < at → HasRules at state
     → HasRules at (if b then at_sample (record state { transfer = none_left }) (state.next + 28) else at_word (record state { transfer = record { source = next_source state.transfer.source; words = state.transfer.words - 1; cost = cost } }) (state.next + cost))
 moved_rules true at state cost is below rules = record { ram = rules.ram; recent = record { soon = omega (arith, below); begun = tt; since = rules.recent.since } }
 moved_rules false at state cost (inl is) below rules = record { ram = rules.ram; recent = record { soon = omega (arith, below, is); begun = tt; since = rules.recent.since } }
 moved_rules false at state cost (inr is) below rules = record { ram = rules.ram; recent = record { soon = omega (arith, below, is); begun = tt; since = rules.recent.since } }
 
-answered_by : (stage : Stage) (at : ℕ) (v : Chip68Value) (answer : Answer68) → v.state.stage ≡ stage → IsChip68 v → IsAt stage v.cart v.state → IsBytes v.cart → is_sample stage ≡ false
+answered_ruled : (stage : Stage) (at : ℕ) (v : Chip68Value) (answer : Answer68) → v.state.stage ≡ stage → IsChip68 v → IsAt stage v.cart v.state → IsBytes v.cart → is_sample stage ≡ false
     → Fits (request_at stage v.cart v.state) answer → v.state.next < at → HasRules at v.state → HasRules at (answered_at stage v.cart v.state answer)
-answered_by Sample at v answer is ok stands image kind fits below rules = absurd cc
-answered_by Access at v answer is ok stands image kind fits below rules =
+answered_ruled Sample at v answer is ok stands image kind fits below rules = absurd cc
+answered_ruled Access at v answer is ok stands image kind fits below rules =
     let rest = started-rest v.state answer.transfer in
     let place = stands.place in
     let start = rest.3 in
     went_recent at v.cart (with_started v.state answer.transfer) v.state.cause _ (ready-more v answer ok stands fits) image
     (subst IsBytes (sym rest.0) rules.ram) (omega (arith, place, start, below))
-answered_by Word at v answer is ok stands image kind fits below rules = moved_rules (nat_le v.state.transfer.words 1) at v.state answer.cost fits.cost below rules
+answered_ruled Word at v answer is ok stands image kind fits below rules = moved_rules (nat_le v.state.transfer.words 1) at v.state answer.cost fits.cost below rules
 
 -- an answer to an access below the cycle keeps them
 pub answered_rules : (at : ℕ) (v : Chip68Value) (answer : Answer68) → IsChip68 v → IsBytes v.cart → (next_of v.state).sample ≡ false → Fits (request_of v.cart v.state) answer
     → v.state.next < at → HasRules at v.state → HasRules at (answered v.cart v.state answer)
 unfolding answered next_of request_of
-answered_rules at v answer ok image kind fits below rules = answered_by v.state.stage at v answer refl ok ok.stands image kind fits below rules
+answered_rules at v answer ok image kind fits below rules = answered_ruled v.state.stage at v answer refl ok ok.stands image kind fits below rules
 
 -- ---- from power-on on
 
@@ -155,10 +155,10 @@ pub power_on_rules : (at : ℕ) (image : List ℕ) → HasRules at (power_on ima
 unfolding power_on
 power_on_rules at image = record { ram = λ k. zero_byte 0x1_0000 k; recent = record { soon = omega arith; begun = tt; since = tt } }
 
-begun_later : (stage : Stage) (at later start : ℕ) → at ≤ later → spec.BeganBelow stage at start → spec.BeganBelow stage later start
-begun_later Sample at later start le h = tt
-begun_later Access at later start le h = omega (arith, h, le)
-begun_later Word at later start le h = tt
+began_below_later : (stage : Stage) (at later start : ℕ) → at ≤ later → spec.BeganBelow stage at start → spec.BeganBelow stage later start
+began_below_later Sample at later start le h = tt
+began_below_later Access at later start le h = omega (arith, h, le)
+began_below_later Word at later start le h = tt
 
 -- what holds at a cycle holds at each later one
 pub later_rules : (at later : ℕ) (state : State68) → at ≤ later → HasRules at state → HasRules later state
@@ -166,7 +166,7 @@ later_rules at later state le h = record {
   ram = h.ram;
   recent = record {
     soon = let soon = h.recent.soon in omega (arith, soon, le);
-    begun = begun_later state.stage at later state.start le h.recent.begun;
+    begun = began_below_later state.stage at later state.start le h.recent.begun;
     since = raised state.halted at later le h.recent.since;
   };
 }

@@ -18,10 +18,10 @@ use Rattle.md_word.specs.declared.main_bus.Request68.TheVariants.{Read8, Read16,
 use Rattle.md_word.specs.declared.main_bus.Transfer.{Transfer}
 use Rattle.m68k_chip.specs.Events.{carried_out, step}
 use Rattle.m68k_chip.specs.Numbers.{IsRegs, halted_number, numbers_of, since_of, stage_number, state_from}
-use Rattle.m68k_chip.specs.Resuming.{are_answered, asked_in, asks_at, asks_more, fits_value, is_answer}
+use Rattle.m68k_chip.specs.Resuming.{are_answered, asked_in, asks_at, asks_more, is_answer_to, is_answer}
 use Rattle.m68k_chip.specs.Rules.{BeganBelow, HasRules, IsRecent}
 use Rattle.m68k_chip.specs.Saved.{chip_fields, fields_by}
-use Rattle.m68k_chip.specs.Validity.{AreFit, Chip68Value, FitsValue, IsAt, IsCause, IsChip68, IsCost, IsTransfer}
+use Rattle.m68k_chip.specs.Validity.{AreFit, Chip68Value, FitsValue, IsAt, IsKnownCause, IsChip68, IsWordCost, IsTransfer}
 use Rattle.m68k_chip.specs.Spelling.{Spells, chip_bytes}
 use Rattle.m68k_chip.specs.States.{State68, none_left}
 use Rattle.m68k_chip.specs.declared.stage.Stage.{Stage}
@@ -34,7 +34,7 @@ use Rattle.m68k_chip.proofs.SpellingLaws.{same_bytes}
 
 -- ---- the answers
 
-fits_to : (request : Request68) (value : ℕ) → FitsValue request value → fits_value request value ≡ true
+fits_to : (request : Request68) (value : ℕ) → FitsValue request value → is_answer_to request value ≡ true
 fits_to (Read8 at) value fits = lt-ltb value 0x100 fits
 fits_to (Read16 at) value fits = lt-ltb value 0x1_0000 fits
 fits_to (Write8 at written) value fits = eq-eqb value 0 fits
@@ -61,7 +61,7 @@ asks_to Word cart state at = refl
 
 -- ---- what depends on the stage
 
-cause_to : (cause : ℕ) → IsCause cause → (eqb cause 0 || (eqb cause 4 || (eqb cause 6 || eqb cause 8))) ≡ true
+cause_to : (cause : ℕ) → IsKnownCause cause → (eqb cause 0 || (eqb cause 4 || (eqb cause 6 || eqb cause 8))) ≡ true
 cause_to cause (inl is) = or_left (eqb cause 0) _ (eq-eqb cause 0 is)
 cause_to cause (inr (inl is)) = or_right (eqb cause 0) _ (or_left (eqb cause 4) _ (eq-eqb cause 4 is))
 cause_to cause (inr (inr (inl is))) = or_right (eqb cause 0) _ (or_right (eqb cause 4) _ (or_left (eqb cause 6) _ (eq-eqb cause 6 is)))
@@ -81,8 +81,8 @@ halted_late : (halted : Option ℕ) → (leb (halted_number halted) 1 && (eqb (h
 halted_late None = refl
 halted_late (Some since) = refl
 
-at_stage : (stage : Stage) (at : ℕ) (cart : List ℕ) (state : State68) → IsAt stage cart state → BeganBelow stage at state.start → AtStage at (stage_number stage) state
-at_stage Sample at cart state is below =
+rules_at_stage : (stage : Stage) (at : ℕ) (cart : List ℕ) (state : State68) → IsAt stage cart state → BeganBelow stage at state.start → AtStage at (stage_number stage) state
+rules_at_stage Sample at cart state is below =
     let between = is.0 in
     record {
       known = refl;
@@ -93,7 +93,7 @@ at_stage Sample at cart state is below =
       sampling = λ _. is.1;
       moving = λ other. absurd (omega (arith, other));
     }
-at_stage Access at cart state is below = record {
+rules_at_stage Access at cart state is below = record {
   known = refl;
   start = lt-ltb state.start at below;
   halted = subst (λ (h : Option ℕ). (leb (halted_number h) 1 && (eqb (halted_number h) 0 || false)) ≡ true) (sym is.running) refl;
@@ -102,7 +102,7 @@ at_stage Access at cart state is below = record {
   sampling = λ other. absurd (omega (arith, other));
   moving = λ other. absurd (omega (arith, other));
 }
-at_stage Word at cart state is below =
+rules_at_stage Word at cart state is below =
     let between = is.0 in
     record {
       known = refl;
@@ -136,7 +136,7 @@ left_by_stage m t (inr started) sampling moving =
     (is_not m 0 (λ zero. (let words = ap (λ (x : Transfer). x.words) (sampling zero) in omega (arith, words, some)))))
     (and_from _ _ (eq-eqb (t.source % 2) 0 started.even) (lt-ltb t.source 0x100_0000 started.on_bus)))
 
-cost_to : (cost : ℕ) → IsCost cost → (eqb cost 34 || eqb cost 380) ≡ true
+cost_to : (cost : ℕ) → IsWordCost cost → (eqb cost 34 || eqb cost 380) ≡ true
 cost_to cost (inl is) = or_left (eqb cost 34) _ (eq-eqb cost 34 is)
 cost_to cost (inr is) = or_right (eqb cost 34) _ (eq-eqb cost 380 is)
 
@@ -156,7 +156,7 @@ holding : (at : ℕ) (v : Chip68Value) → IsChip68 v → HasRules at v.state �
 unfolding AllHold
 holding at v ok rules late =
     let state : State68 = v.state in
-    let s = at_stage state.stage at v.cart state ok.stands rules.recent.begun in
+    let s = rules_at_stage state.stage at v.cart state ok.stands rules.recent.begun in
     let soon = rules.recent.soon in
     let few = few-answers v ok in (
       and_from _ _ (le-leb at state.next late) (le-leb (state.next - at) 0x10_0000 (omega (arith, soon))),
@@ -295,7 +295,7 @@ start_long Sample at cart state h next is below = let same = is.0.start in omega
 start_long Access at cart state h next is below = omega (arith, h, below)
 start_long Word at cart state h next is below = let same = is.0.start in omega (arith, same, next)
 
-cause_byte : (cause : ℕ) → IsCause cause → cause < 2 ^ 8
+cause_byte : (cause : ℕ) → IsKnownCause cause → cause < 2 ^ 8
 cause_byte cause (inl is) = omega (arith, is)
 cause_byte cause (inr (inl is)) = omega (arith, is)
 cause_byte cause (inr (inr (inl is))) = omega (arith, is)

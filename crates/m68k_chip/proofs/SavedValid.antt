@@ -13,18 +13,18 @@ use Rattle.m68k_exec.specs.declared.access.stop.Stop.{Stop}
 use Rattle.m68k_exec.specs.declared.access.stop.Stop.TheVariants.{Ask, Odd}
 use Rattle.m68k_chip.specs.Events.{carried_out, step}
 use Rattle.m68k_chip.specs.Numbers.{Numbers68, stage_of, state_from}
-use Rattle.m68k_chip.specs.Resuming.{are_answered, asked_after, asked_in, asks_at, asks_more, fits_value, is_answer}
+use Rattle.m68k_chip.specs.Resuming.{are_answered, asked_after, asked_in, asks_at, asks_more, is_answer_to, is_answer}
 use Rattle.md_fields.specs.Distances.{is_after}
 use Rattle.md_fields.proofs.Distances.{after_is}
 use Rattle.m68k_chip.specs.Saved.{is_source}
-use Rattle.m68k_chip.specs.Validity.{FitsValue, IsAt, IsCause, IsChip68, IsCost, IsStarted, IsTransfer}
+use Rattle.m68k_chip.specs.Validity.{FitsValue, IsAt, IsKnownCause, IsChip68, IsWordCost, IsStarted, IsTransfer}
 use Rattle.m68k_chip.specs.States.{State68, none_left}
 use Rattle.m68k_chip.proofs.Laws.{of}
 use Rattle.m68k_chip.proofs.SavedLaws.{Rules, count_few}
 
 -- ---- the answers
 
-fits_from : (request : Request68) (value : ℕ) → fits_value request value ≡ true → FitsValue request value
+fits_from : (request : Request68) (value : ℕ) → is_answer_to request value ≡ true → FitsValue request value
 fits_from (Read8 at) value e = ltb-true value 0x100 e
 fits_from (Read16 at) value e = ltb-true value 0x1_0000 e
 fits_from (Write8 at written) value e = eqb-true value 0 e
@@ -120,7 +120,7 @@ some_by m s w at e =
       | inr some ↦ some
     ]
 
-cost_by : (c : ℕ) → (eqb c 34 || eqb c 380) ≡ true → IsCost c
+cost_by : (c : ℕ) → (eqb c 34 || eqb c 380) ≡ true → IsWordCost c
 cost_by c e =
     elim (or_cases (eqb c 34) (eqb c 380) e) [
       | inl few ↦ inl (eqb-true c 34 few)
@@ -147,14 +147,14 @@ transfer_by m s w c e f =
 
 -- ---- the stages
 
-no_cause : (c : ℕ) → (eqb c 0 || false) ≡ true → c ≡ 0
-no_cause c e =
+cause_none : (c : ℕ) → (eqb c 0 || false) ≡ true → c ≡ 0
+cause_none c e =
     elim (or_cases (eqb c 0) false e) [
       | inl none ↦ eqb-true c 0 none
       | inr other ↦ absurd cc
     ]
 
-some_cause : (c : ℕ) → (eqb c 0 || (eqb c 4 || (eqb c 6 || eqb c 8))) ≡ true → IsCause c
+some_cause : (c : ℕ) → (eqb c 0 || (eqb c 4 || (eqb c 6 || eqb c 8))) ≡ true → IsKnownCause c
 some_cause c e =
     elim (or_cases (eqb c 0) _ e) [
       | inl none ↦ inl (eqb-true c 0 none)
@@ -177,7 +177,7 @@ stands_at : (cart : List ℕ) (at m : ℕ) (state : State68) → m ≤ 2
     → asks_at (stage_of m) cart state ≡ true
     → IsAt (stage_of m) cart state
 stands_at cart at zero state le start cause count running none some asks =
-    (record { start = eqb-true state.start state.next start; cause = no_cause state.cause cause; answers = nil_from_length state.answers (eqb-true (length state.answers) 0 count) }, none refl)
+    (record { start = eqb-true state.start state.next start; cause = cause_none state.cause cause; answers = nil_from_length state.answers (eqb-true (length state.answers) 0 count) }, none refl)
 stands_at cart at (suc zero) state le start cause count running none some asks =
     let place = after_is state.next state.start (step * (length state.answers + 1)) count in
     let p = and_parts _ _ asks in
@@ -191,7 +191,7 @@ stands_at cart at (suc zero) state le start cause count running none some asks =
       fit = λ k lt. fit_for (carried_out cart state state.cause (take k state.answers)) (slice_index state.answers k) (each_answered cart state (length state.answers) k p.1 lt);
     }
 stands_at cart at (suc (suc zero)) state le start cause count running none some asks =
-    (record { start = eqb-true state.start state.next start; cause = no_cause state.cause cause; answers = nil_from_length state.answers (eqb-true (length state.answers) 0 count) }, some refl)
+    (record { start = eqb-true state.start state.next start; cause = cause_none state.cause cause; answers = nil_from_length state.answers (eqb-true (length state.answers) 0 count) }, some refl)
 stands_at cart at (suc (suc (suc m))) state le start cause count running none some asks = absurd (omega (arith, le))
 
 running_by : (m h since : ℕ) → (eqb h 0 || not (eqb m 1)) ≡ true → eqb m 1 ≡ true → cond (eqb h 1) (Some since) None ≡ None

@@ -11,10 +11,10 @@ use Rattle.m68k_chip.specs.declared.stage.Stage.{Stage}
 use Rattle.m68k_chip.specs.declared.stage.Stage.TheVariants.{Sample, Access, Word}
 
 -- at an access the processor waits for the answer to this request
-abbrev pub IsWaiting : Stage → List ℕ → State68 → Request68 → Type 0
-IsWaiting Sample cart state request = Unit {0}
-IsWaiting Access cart state request = Asks cart state state.cause state.answers request
-IsWaiting Word cart state request = Unit {0}
+abbrev pub WaitsFor : Stage → List ℕ → State68 → Request68 → Type 0
+WaitsFor Sample cart state request = Unit {0}
+WaitsFor Access cart state request = Asks cart state state.cause state.answers request
+WaitsFor Word cart state request = Unit {0}
 
 -- what is carried out ends as it is foreseen, whatever it is answered behind these answers
 abbrev pub Foretells : Foreseen → List ℕ → State68 → ℕ → List ℕ → Type 0
@@ -30,5 +30,5 @@ IsForeseen Word cart state foreseen = Unit {0}
 -- the chip is valid, and at an access waits for the answer to this request, and foresees what comes
 pub record IsHeld (value : Chip68Value) (request : Request68) (foreseen : Foreseen) : Type 0 where
   pub valid : IsChip68 value
-  pub waiting : IsWaiting value.state.stage value.cart value.state request
+  pub waiting : WaitsFor value.state.stage value.cart value.state request
   pub foresees : IsForeseen value.state.stage value.cart value.state foreseen

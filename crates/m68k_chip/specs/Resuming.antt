@@ -21,18 +21,18 @@ abbrev pub asked_after : List ℕ → State68 → ℕ → Option Request68
 asked_after cart state count = asked_in (carried_out cart state state.cause (take count state.answers))
 
 -- a byte and a word are answered by a value of theirs, a write and an acknowledge by 0
-abbrev pub fits_value : Request68 → ℕ → Bool
-fits_value (Read8 at) value = nat_lt value 0x100
-fits_value (Read16 at) value = nat_lt value 0x1_0000
-fits_value (Write8 at written) value = value == 0
-fits_value (Write16 at written) value = value == 0
-fits_value (Ack level) value = value == 0
-fits_value (TransferWord word) value = value == 0
+abbrev pub is_answer_to : Request68 → ℕ → Bool
+is_answer_to (Read8 at) value = nat_lt value 0x100
+is_answer_to (Read16 at) value = nat_lt value 0x1_0000
+is_answer_to (Write8 at written) value = value == 0
+is_answer_to (Write16 at written) value = value == 0
+is_answer_to (Ack level) value = value == 0
+is_answer_to (TransferWord word) value = value == 0
 
 -- a request waits, and the value can answer it
 abbrev pub is_answer : Option Request68 → ℕ → Bool
 is_answer None value = false
-is_answer (Some request) value = fits_value request value
+is_answer (Some request) value = is_answer_to request value
 
 -- each of the first answers is one to the access that waited for it
 unfoldable pub are_answered : List ℕ → State68 → ℕ → Bool

@@ -4,7 +4,7 @@ use Rattle.md_fields.specs.Fields.{spelling}
 use Rattle.md_fields.specs.Items.{IsRefused, IsRight, Keeps}
 use Rattle.md_word.specs.declared.main_bus.Request68.{Request68}
 use Rattle.m68k_exec.specs.declared.sample.step.Foreseen.{Foreseen}
-use Rattle.m68k_chip.specs.Held.{IsWaiting}
+use Rattle.m68k_chip.specs.Held.{WaitsFor}
 use Rattle.m68k_chip.specs.Numbers.{IsRegs, numbers_of}
 use Rattle.m68k_chip.specs.Saved.{chip_fields, fields_by}
 use Rattle.m68k_chip.specs.States.{State68}
@@ -35,5 +35,5 @@ ram_in bytes = take 0x1_0000 (drop 178 bytes)
 -- the bytes keep the 68000, and at an access this request waits; nothing is foreseen
 pub record IsKept (cart : List ℕ) (at : ℕ) (bytes : List ℕ) (state : State68) (request : Request68) (foreseen : Foreseen) : Type 0 where
   pub spelled : Spells cart at bytes state
-  pub waits : IsWaiting state.stage cart state request
+  pub waits : WaitsFor state.stage cart state request
   pub unknown : foreseen.known ≡ false

@@ -28,8 +28,8 @@ FitsValue (Ack level) value = value ≡ 0
 FitsValue (TransferWord word) value = value ≡ 0
 
 -- the cycles that a word of a transfer costs: 380 while the display is drawn, else 34
-abbrev pub IsCost : ℕ → Type 0
-IsCost cost = (cost ≡ 34) ⊎ (cost ≡ 380)
+abbrev pub IsWordCost : ℕ → Type 0
+IsWordCost cost = (cost ≡ 34) ⊎ (cost ≡ 380)
 
 -- a transfer of which words are left
 pub record IsStarted (transfer : Transfer) : Type 0 where
@@ -37,7 +37,7 @@ pub record IsStarted (transfer : Transfer) : Type 0 where
   pub most : transfer.words ≤ 65536
   pub even : transfer.source % 2 ≡ 0
   pub on_bus : transfer.source < 2 ^ 24
-  pub cost : IsCost transfer.cost
+  pub cost : IsWordCost transfer.cost
 
 -- no transfer, or one of which words are left
 abbrev pub IsTransfer : Transfer → Type 0
@@ -45,7 +45,7 @@ IsTransfer transfer = (transfer ≡ none_left) ⊎ IsStarted transfer
 
 -- a transferred word is told the cost of the next; other accesses may start a transfer
 abbrev pub FitsCost : Request68 → ℕ → Type 0
-FitsCost (TransferWord word) cost = IsCost cost
+FitsCost (TransferWord word) cost = IsWordCost cost
 FitsCost request cost = Unit {0}
 
 -- an answer that the board can give to a request
@@ -59,8 +59,8 @@ abbrev pub Asks : List ℕ → State68 → ℕ → List ℕ → Request68 → Ty
 Asks cart state cause answers request = carried_out cart state cause answers ≡ Err (Ask request)
 
 -- an instruction, an interrupt of level 4 or 6, or a trace
-abbrev pub IsCause : ℕ → Type 0
-IsCause cause = (cause ≡ 0) ⊎ (cause ≡ 4) ⊎ (cause ≡ 6) ⊎ (cause ≡ 8)
+abbrev pub IsKnownCause : ℕ → Type 0
+IsKnownCause cause = (cause ≡ 0) ⊎ (cause ≡ 4) ⊎ (cause ≡ 6) ⊎ (cause ≡ 8)
 
 -- each answer so far fits the request that it answered
 abbrev pub AreFit : List ℕ → State68 → ℕ → List ℕ → Type 0
@@ -70,7 +70,7 @@ AreFit cart state cause answers =
 -- at an access: its place, and that it is the one which is asked for
 pub record IsAsking (cart : List ℕ) (state : State68) : Type 0 where
   pub place : state.next ≡ state.start + step * (length state.answers + 1)
-  pub cause : IsCause state.cause
+  pub cause : IsKnownCause state.cause
   pub running : state.halted ≡ None
   pub request : Request68
   pub asked : Asks cart state state.cause state.answers request

@@ -1,6 +1,6 @@
 ghost use Rattle.std.specs.Prelude.{◌≡◌, ◌≤◌, ℕ, List, length, take, IsTrue};
 ghost use Rattle.arrayvec.specs.ArrayVec.{array_vec_len};
-ghost use Rattle.m68k_chip.specs.Held.{IsWaiting};
+ghost use Rattle.m68k_chip.specs.Held.{WaitsFor};
 ghost use Rattle.m68k_chip.specs.Resuming as rules;
 ghost use Rattle.m68k_chip.specs.Validity.{Asks};
 ghost use Rattle.m68k_chip.specs.States.{state_of};
@@ -27,7 +27,7 @@ pub fn first_answers(answers: &[u16], count: usize) -> ArrayVec<u16, 32>
 
 /// Whether a value answers a request.
 fn fits_value(request: Request68, value: u16) -> bool
-    ensures { result ≡ rules.fits_value request value }
+    ensures { result ≡ rules.is_answer_to request value }
 {
     match request {
         Request68::Read8(_) => value < 0x100,
@@ -108,7 +108,7 @@ impl Sequencer {
         ensures value { result ≡ rules.asks_more cart.now (state_of self.old ram.now) }
         ensures state { (held : List ℕ) → state_of self.new held ≡ state_of self.old held }
         ensures foreseen { self.new.foreseen ≡ self.old.foreseen }
-        ensures waiting { IsTrue result → IsWaiting self.new.stage cart.now (state_of self.new ram.now) self.new.request }
+        ensures waiting { IsTrue result → WaitsFor self.new.stage cart.now (state_of self.new ram.now) self.new.request }
     {
         match self.stage {
             Stage::Sample | Stage::Word => true,

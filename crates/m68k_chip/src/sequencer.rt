@@ -8,7 +8,7 @@ ghost use Rattle.m68k_chip.specs.Cases as cases;
 ghost use Rattle.m68k_chip.specs.Events as events;
 ghost use Rattle.m68k_chip.specs.Events.{answered, answered_at, begun, carried_out, end_of, request_at, went_on};
 ghost use Rattle.m68k_exec.specs.declared.sample.step.Foreseen.{Foreseen};
-ghost use Rattle.m68k_chip.specs.Held.{IsForeseen, IsWaiting};
+ghost use Rattle.m68k_chip.specs.Held.{IsForeseen, WaitsFor};
 ghost use Rattle.m68k_chip.specs.Steps.{IsForetold, IsTold, ended_by};
 ghost use Rattle.m68k_chip.specs.States.{long_in, none_left, power_on, state_of};
 ghost use Rattle.m68k_chip.specs.declared.stage.Stage.TheVariants.{Access};
@@ -328,7 +328,7 @@ impl Sequencer {
         requires cache { IsCacheOf cart.now cache.old }
         ensures cache { IsCacheOf cart.now cache.new }
         ensures state { state_of self.new ram.new ≡ begun cart.now (state_of self.old ram.old) level }
-        ensures waiting { IsWaiting self.new.stage cart.now (state_of self.new ram.new) self.new.request }
+        ensures waiting { WaitsFor self.new.stage cart.now (state_of self.new ram.new) self.new.request }
         ensures foreseen { IsForeseen self.new.stage cart.now (state_of self.new ram.new) self.new.foreseen }
     {
         match self.case_at(level).cause() {
@@ -352,7 +352,7 @@ impl Sequencer {
         requires cache { IsCacheOf cart.now cache.old }
         ensures cache { IsCacheOf cart.now cache.new }
         ensures state { state_of self.new ram.new ≡ answered_at Access cart.now (state_of self.old ram.old) answer.now }
-        ensures waiting { IsWaiting self.new.stage cart.now (state_of self.new ram.new) self.new.request }
+        ensures waiting { WaitsFor self.new.stage cart.now (state_of self.new ram.new) self.new.request }
         ensures foreseen { IsForeseen self.new.stage cart.now (state_of self.new ram.new) self.new.foreseen }
     {
         self.start_transfer(answer.transfer);
@@ -367,7 +367,7 @@ impl Sequencer {
 
     /// The request that waits for its answer at the next event, which is an access.
     pub fn asked(&self, cart: &Cart, ram: &[u8; 65536]) -> Request68
-        requires waiting { IsWaiting self.now.stage cart.now (state_of self.now ram.now) self.now.request }
+        requires waiting { WaitsFor self.now.stage cart.now (state_of self.now ram.now) self.now.request }
         requires source { self.now.transfer.source < 2 ^ 24 }
         ensures { result ≡ request_at self.now.stage cart.now (state_of self.now ram.now) }
     {
@@ -396,7 +396,7 @@ impl Sequencer {
         requires cache { IsCacheOf cart.now cache.old }
         ensures cache { IsCacheOf cart.now cache.new }
         ensures state { state_of self.new ram.new ≡ answered cart.now (state_of self.old ram.old) answer.now }
-        ensures waiting { IsWaiting self.new.stage cart.now (state_of self.new ram.new) self.new.request }
+        ensures waiting { WaitsFor self.new.stage cart.now (state_of self.new ram.new) self.new.request }
         ensures foreseen { IsForeseen self.new.stage cart.now (state_of self.new ram.new) self.new.foreseen }
     {
         match self.stage {

@@ -23,8 +23,8 @@ clear_colours x below = subst (λ (dot : Dot). dot.colour < 64) (sym (clear_at x
 pub all_clear : (d : Dot) → d ≡ clear → (x : ℕ) → x < 320 → dot_at (replicate 320 d) x ≡ clear
 all_clear d e x below = get_or-replicate 320 x d clear below ∙ e
 
-pub all_colours : (d : Dot) → d ≡ clear → AllColours (replicate 320 d)
-all_colours d e x below = subst (λ (dot : Dot). dot.colour < 64) (sym (all_clear d e x below)) (lit< tt)
+pub row_colours : (d : Dot) → d ≡ clear → AllColours (replicate 320 d)
+row_colours d e x below = subst (λ (dot : Dot). dot.colour < 64) (sym (all_clear d e x below)) (lit< tt)
 
 -- a byte of a line reads the dots of the line alone
 line_byte_same : (view : LineView) (a b c d s : List Dot) (n : ℕ) → n < 960

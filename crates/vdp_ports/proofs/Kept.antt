@@ -69,9 +69,9 @@ unfolding second
 second-kept at word s h = record { code = omega arith; interval = h.interval; region = h.region; cram = h.cram; vsram = h.vsram; going = h.going }
 
 -- the fields of a fill or copy, the code and the two tables are all that the rules look at
-accessed-kept : (at : ℕ) (s : Vdp) → HasRules at s → HasRules at (accessed s)
+pub accessed_kept : (at : ℕ) (s : Vdp) → HasRules at s → HasRules at (accessed s)
 unfolding accessed
-accessed-kept at s h = record { code = h.code; interval = h.interval; region = h.region; cram = h.cram; vsram = h.vsram; going = h.going }
+accessed_kept at s h = record { code = h.code; interval = h.interval; region = h.region; cram = h.cram; vsram = h.vsram; going = h.going }
 
 -- a choice keeps the rules where both of its sides do
 pub kept_if : (b : Bool) (at : ℕ) (s t : Vdp) → (b ≡ true → HasRules at s) → (b ≡ false → HasRules at t) → HasRules at (if b then s else t)
@@ -113,10 +113,7 @@ put-kept at word s h =
 
 pub transferred_kept : (at word : ℕ) (s : Vdp) → HasRules at s → HasRules at (transferred word s)
 unfolding transferred
-transferred_kept at word s h = accessed-kept at (put word s) (put-kept at word s h)
-
-pub accessed_kept : (at : ℕ) (s : Vdp) → HasRules at s → HasRules at (accessed s)
-accessed_kept at s h = accessed-kept at s h
+transferred_kept at word s h = accessed_kept at (put word s) (put-kept at word s h)
 
 pub status_read_kept : (at : ℕ) (s : Vdp) → HasRules at s → HasRules at (status_read s)
 unfolding status_read

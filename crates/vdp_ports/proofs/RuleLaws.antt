@@ -14,7 +14,7 @@ use Rattle.md_word.specs.Coding.{flag_number}
 pub use Rattle.md_fields.proofs.Flags.{flag_byte, flag_small}
 use Rattle.vdp_ports.specs.Numbers.{numbers_of}
 use Rattle.vdp_ports.specs.Ranges.{IsInRange}
-use Rattle.vdp_ports.specs.Rules.{IsGoing, IsInterval}
+use Rattle.vdp_ports.specs.Rules.{IsGoing, IsInterruptInterval}
 use Rattle.vdp_ports.specs.Saved.{have_only, vdp_fields}
 use Rattle.vdp_ports.specs.Spelling.{IsSettled, Spells, vdp_bytes}
 use Rattle.vdp_ports.specs.Vdp.{Vdp}
@@ -116,7 +116,7 @@ goes_to at (suc (suc (suc kind))) byte source address left next g settled = absu
 abbrev interval : ℕ → ℕ → ℕ → Bool
 interval at from to = (eqb from 0 && eqb to 0) || (eqb (from % line) 0 && (ltb from at && is_after to from line))
 
-interval_from : (at from to : ℕ) → interval at from to ≡ true → IsInterval at from to
+interval_from : (at from to : ℕ) → interval at from to ≡ true → IsInterruptInterval at from to
 interval_from at from to e =
     elim (or_cases (eqb from 0 && eqb to 0) _ e) [
       | inl none ↦ (let p = and_parts _ _ none in inl (eqb-true _ _ p.0, eqb-true _ _ p.1))
@@ -129,7 +129,7 @@ interval_from at from to e =
           inr (eqb-true _ _ p.0, ltb-true from at q.0, omega (arith, le, far)))
     ]
 
-interval_to : (at from to : ℕ) → IsInterval at from to → interval at from to ≡ true
+interval_to : (at from to : ℕ) → IsInterruptInterval at from to → interval at from to ≡ true
 interval_to at from to (inl none) = or_left (eqb from 0 && eqb to 0) _ (and_from _ _ (eq-eqb _ _ none.0) (eq-eqb _ _ none.1))
 interval_to at from to (inr some) =
     or_right (eqb from 0 && eqb to 0) _

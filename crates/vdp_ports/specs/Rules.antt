@@ -12,8 +12,8 @@ pub record IsGoing (at kind byte source address left next : ℕ) : Type 0 where
   pub copy : kind ≡ 2 → (byte ≡ 0) × (0 < left) × (left ≤ 0x1_0000) × (next < at + 34)
 
 -- the Z80's interrupt is asked for during the line behind the display: none came yet, or the last began below the cycle
-abbrev pub IsInterval : ℕ → ℕ → ℕ → Type 0
-IsInterval at from to = ((from ≡ 0) × (to ≡ 0)) ⊎ ((from % line ≡ 0) × (from < at) × (to ≡ from + line))
+abbrev pub IsInterruptInterval : ℕ → ℕ → ℕ → Type 0
+IsInterruptInterval at from to = ((from ≡ 0) × (to ≡ 0)) ⊎ ((from % line ≡ 0) × (from < at) × (to ≡ from + line))
 
 -- the code is CD5 to CD0, colours and scrolls have only their bits, and only on PAL the display is tall
 pub record HasRules (at : ℕ) (s : Vdp) : Type 0 where
@@ -21,5 +21,5 @@ pub record HasRules (at : ℕ) (s : Vdp) : Type 0 where
   pub cram : All (λ w. bit_and w 0x0eee ≡ w) s.cram
   pub vsram : All (λ w. bit_and w 0x07ff ≡ w) s.vsram
   pub going : IsGoing at s.dma_kind s.byte s.source s.address s.left s.next_stamp
-  pub interval : IsInterval at s.int_from s.int_to
+  pub interval : IsInterruptInterval at s.int_from s.int_to
   pub region : s.tall ≡ true → s.pal ≡ true

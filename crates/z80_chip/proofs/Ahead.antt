@@ -7,15 +7,15 @@ use Rattle.z80_chip.specs.States.{State80, is_sample, next_of}
 use Rattle.z80_chip.specs.declared.stage.Stage.{Stage}
 use Rattle.z80_chip.specs.declared.stage.Stage.TheVariants.{Sample, Access, Yield, Take}
 
-at-sample : (stage : Stage) → is_sample stage ≡ true → stage ≡ Sample
-at-sample Sample e = refl
-at-sample Access e = cc
-at-sample Yield e = cc
-at-sample Take e = cc
+sample-stage : (stage : Stage) → is_sample stage ≡ true → stage ≡ Sample
+sample-stage Sample e = refl
+sample-stage Access e = cc
+sample-stage Yield e = cc
+sample-stage Take e = cc
 
 pub sampling : (state : State80) → (next_of state).sample ≡ true → state.stage ≡ Sample
 unfolding next_of
-sampling state e = at-sample state.stage e
+sampling state e = sample-stage state.stage e
 
 -- and one more sample, which lies below the cycle
 suc-ahead : (cart : List ℕ) (state : State80) (pins : Pins80) (end n : ℕ) (now after : State80) → WentAhead n end cart pins state now → (next_of now).sample ≡ true → now.next < end

@@ -26,7 +26,7 @@ abbrev pub of : List ℕ → State80 → Chip80Value
 of cart state = record { cart = cart; state = state }
 
 -- what holds of a state at a sample
-pub record AtSample (cart : List ℕ) (state : State80) : Type 0 where
+pub record StandsAtSample (cart : List ℕ) (state : State80) : Type 0 where
   pub image : IsImage cart
   pub store : IfSome state.store IsStore
   pub cause : state.cause ≡ 0
@@ -62,8 +62,8 @@ unfolding went_on
 went-ok cart state cause ready = came-ok cart state cause ready (carried_out cart state cause) refl
 
 -- the reset leaves all but the registers, the halt and the count
-seen-by : (b : Bool) (cart : List ℕ) (state : State80) (resets : ℕ) → AtSample cart state
-    → AtSample cart (if b then record state { regs = after_reset; halted = false; resets = resets } else state)
+seen-by : (b : Bool) (cart : List ℕ) (state : State80) (resets : ℕ) → StandsAtSample cart state
+    → StandsAtSample cart (if b then record state { regs = after_reset; halted = false; resets = resets } else state)
 seen-by true cart state resets at = record { image = at.image; store = at.store; cause = at.cause; answers = at.answers; start = at.start }
 seen-by false cart state resets at = at
 
@@ -71,7 +71,7 @@ seen-next : (b : Bool) (state : State80) (resets : ℕ) → (if b then record st
 seen-next true state resets = refl
 seen-next false state resets = refl
 
-pub seen-at : (cart : List ℕ) (state : State80) (pins : Pins80) → AtSample cart state → AtSample cart (seen state pins)
+pub seen-at : (cart : List ℕ) (state : State80) (pins : Pins80) → StandsAtSample cart state → StandsAtSample cart (seen state pins)
 unfolding seen
 seen-at cart state pins at = seen-by (is_reset state pins) cart state pins.resets at
 
@@ -79,16 +79,16 @@ pub seen-stays : (state : State80) (pins : Pins80) → (seen state pins).next �
 unfolding seen
 seen-stays state pins = seen-next (is_reset state pins) state pins.resets
 
-at-sample : (stage : Stage) (cart : List ℕ) (state : State80) → is_sample stage ≡ true → IsAt stage cart state → IsBetween state × (state.start ≡ state.next)
-at-sample Sample cart state e is = is
-at-sample Access cart state e is = cc
-at-sample Yield cart state e is = cc
-at-sample Take cart state e is = cc
+sample-between : (stage : Stage) (cart : List ℕ) (state : State80) → is_sample stage ≡ true → IsAt stage cart state → IsBetween state × (state.start ≡ state.next)
+sample-between Sample cart state e is = is
+sample-between Access cart state e is = cc
+sample-between Yield cart state e is = cc
+sample-between Take cart state e is = cc
 
-pub sampling : (v : Chip80Value) → IsChip80 v → (next_of v.state).sample ≡ true → AtSample v.cart v.state
+pub sampling : (v : Chip80Value) → IsChip80 v → (next_of v.state).sample ≡ true → StandsAtSample v.cart v.state
 unfolding next_of
 sampling v ok kind =
-    let at = at-sample v.state.stage v.cart v.state kind ok.stands in
+    let at = sample-between v.state.stage v.cart v.state kind ok.stands in
     record { image = ok.image; store = ok.store; cause = at.0.cause; answers = at.0.answers; start = at.1 }
 
 -- what is carried out has RAM
@@ -111,14 +111,14 @@ runs : (state : State80) (pins : Pins80) → RunsWithRam (case_of state pins) (i
 unfolding case_of
 runs state pins = runs-by pins.request (is_some state.store) (running_case state pins)
 
-waited-ok : (cart : List ℕ) (state : State80) (cycles : ℕ) → AtSample cart state → IsChip80 (of cart (waited state cycles))
+waited-ok : (cart : List ℕ) (state : State80) (cycles : ℕ) → StandsAtSample cart state → IsChip80 (of cart (waited state cycles))
 waited-ok cart state cycles at = record {
   image = at.image;
   store = at.store;
   stands = (record { cause = at.cause; answers = at.answers }, refl);
 }
 
-moving-ok : (cart : List ℕ) (state : State80) → AtSample cart state → (stage : Stage) → (stage ≡ Yield) ⊎ (stage ≡ Take) → IsChip80 (of cart (moving state stage))
+moving-ok : (cart : List ℕ) (state : State80) → StandsAtSample cart state → (stage : Stage) → (stage ≡ Yield) ⊎ (stage ≡ Take) → IsChip80 (of cart (moving state stage))
 moving-ok cart state at Sample (inl e) = cc
 moving-ok cart state at Sample (inr e) = cc
 moving-ok cart state at Access (inl e) = cc
@@ -126,7 +126,7 @@ moving-ok cart state at Access (inr e) = cc
 moving-ok cart state at Yield either = record { image = at.image; store = at.store; stands = (record { cause = at.cause; answers = at.answers }, refl) }
 moving-ok cart state at Take either = record { image = at.image; store = at.store; stands = (record { cause = at.cause; answers = at.answers }, refl) }
 
-begun-case : (case : Case) (cart : List ℕ) (state : State80) → AtSample cart state → RunsWithRam case (is_some state.store) → IsChip80 (of cart (begun_as case cart state))
+begun-case : (case : Case) (cart : List ℕ) (state : State80) → StandsAtSample cart state → RunsWithRam case (is_some state.store) → IsChip80 (of cart (begun_as case cart state))
 begun-case cases.Yield cart state at runs = moving-ok cart state at Yield (inl refl)
 begun-case cases.Take cart state at runs = moving-ok cart state at Take (inr refl)
 begun-case cases.Suspended cart state at runs = waited-ok cart state 45 at
@@ -157,7 +157,7 @@ went-later cart state cause none =
     let late = came-later cart state cause (carried_out cart state cause) refl (λ ended is. omega (arith, zero)) in
     omega (arith, late)
 
-begun-late : (case : Case) (cart : List ℕ) (state : State80) → AtSample cart state → state.next + 45 ≤ (begun_as case cart state).next
+begun-late : (case : Case) (cart : List ℕ) (state : State80) → StandsAtSample cart state → state.next + 45 ≤ (begun_as case cart state).next
 begun-late cases.Yield cart state at = let e = at.start in omega (arith, e)
 begun-late cases.Take cart state at = let e = at.start in omega (arith, e)
 begun-late cases.Suspended cart state at = let e = at.start in omega (arith, e)
@@ -217,9 +217,9 @@ unfolding answered next_of asked_of
 answered-ok v answer ok kind fits = answered-by v.state.stage v answer ok ok.stands kind fits
 
 -- what waited takes more than the answers that it had: with no more it would wait again
-same-below : (cart ram : List ℕ) (bank : ℕ) (answers : List ℕ) (x count : ℕ) → count ≤ length answers
+answers-same : (cart ram : List ℕ) (bank : ℕ) (answers : List ℕ) (x count : ℕ) → count ≤ length answers
     → SameBelow count (record { rom = cart; ram = ram; bank = bank; answers = answers ++ x ∷ [] }) (record { rom = cart; ram = ram; bank = bank; answers = answers })
-same-below cart ram bank answers x count few = record {
+answers-same cart ram bank answers x count few = record {
   rom = refl;
   ram = refl;
   bank = refl;
@@ -238,7 +238,7 @@ takes-more : (cart : List ℕ) (state : State80) (x : ℕ) (request : Request80)
 takes-more cart state x request ended asks e =
     elim (fewer ended.used (length state.answers)) [
       | inl more ↦ more
-      | inr less ↦ absurd (different ended request (sym (samples.same_sample state.cause state.regs _ _ ended e (same-below cart (held state.store).ram (held state.store).bank state.answers x ended.used less)) ∙ asks))
+      | inr less ↦ absurd (different ended request (sym (samples.same_sample state.cause state.regs _ _ ended e (answers-same cart (held state.store).ram (held state.store).bank state.answers x ended.used less)) ∙ asks))
     ]
 
 asked-late : (v : Chip80Value) (answer : AnswerValue80) → IsAsking v.cart v.state → v.state.next + 45 ≤ (went_on_with v.cart v.state (value_in answer)).next

@@ -20,7 +20,7 @@ use Rattle.z80_chip.specs.declared.case.Case.{Case}
 use Rattle.z80_chip.specs.declared.case.Case.TheVariants as cases
 use Rattle.z80_chip.specs.declared.stage.Stage.{Stage}
 use Rattle.z80_chip.specs.declared.stage.Stage.TheVariants.{Sample, Access, Yield, Take}
-use Rattle.z80_chip.proofs.Laws.{AtSample, sampling, seen-at, seen-stays}
+use Rattle.z80_chip.proofs.Laws.{StandsAtSample, sampling, seen-at, seen-stays}
 
 -- where there are no answers
 none_below : (answers : List ℕ) (k : ℕ) → answers ≡ [] → k < length answers → ⊥
@@ -81,31 +81,31 @@ unfolding case_of running_case
 has_at state pins =
     has_by pins.request (is_some state.store) (running_case state pins) (has_running pins.reset (is_interrupted state pins) state.halted)
 
-begun_case : (case : Case) (at : ℕ) (cart : List ℕ) (state : State80) → AtSample cart state → state.next < at → HasWhereNeeded case (is_some state.store) → HasRules cart at (begun_as case cart state)
-begun_case cases.Yield at cart state is below has =
+begun_case_ruled : (case : Case) (at : ℕ) (cart : List ℕ) (state : State80) → StandsAtSample cart state → state.next < at → HasWhereNeeded case (is_some state.store) → HasRules cart at (begun_as case cart state)
+begun_case_ruled cases.Yield at cart state is below has =
     let start = is.start in
     let none = is.cause in
     record { recent = record { soon = omega (arith, start, below); begun = tt }; cause = omega (arith, none); holder = has; fit = λ k less. absurd (none_below state.answers k is.answers less) }
-begun_case cases.Take at cart state is below has =
+begun_case_ruled cases.Take at cart state is below has =
     let start = is.start in
     let none = is.cause in
     record { recent = record { soon = omega (arith, start, below); begun = tt }; cause = omega (arith, none); holder = has; fit = λ k less. absurd (none_below state.answers k is.answers less) }
-begun_case cases.Suspended at cart state is below has =
+begun_case_ruled cases.Suspended at cart state is below has =
     let start = is.start in
     let none = is.cause in
     record { recent = record { soon = omega (arith, start, below); begun = tt }; cause = omega (arith, none); holder = tt; fit = λ k less. absurd (none_below state.answers k is.answers less) }
-begun_case cases.InReset at cart state is below has =
+begun_case_ruled cases.InReset at cart state is below has =
     let start = is.start in
     let none = is.cause in
     record { recent = record { soon = omega (arith, start, below); begun = tt }; cause = omega (arith, none); holder = tt; fit = λ k less. absurd (none_below state.answers k is.answers less) }
-begun_case cases.Interrupt at cart state is below has =
+begun_case_ruled cases.Interrupt at cart state is below has =
     let start = is.start in
     went_rules at cart state 1 (omega (arith, start, below)) (omega arith) has (λ k less. absurd (none_below state.answers k is.answers less))
-begun_case cases.Halted at cart state is below has =
+begun_case_ruled cases.Halted at cart state is below has =
     let start = is.start in
     let none = is.cause in
     record { recent = record { soon = omega (arith, start, below); begun = tt }; cause = omega (arith, none); holder = tt; fit = λ k less. absurd (none_below state.answers k is.answers less) }
-begun_case cases.Instruction at cart state is below has =
+begun_case_ruled cases.Instruction at cart state is below has =
     let start = is.start in
     went_rules at cart state 0 (omega (arith, start, below)) (omega arith) has (λ k less. absurd (none_below state.answers k is.answers less))
 
@@ -115,7 +115,7 @@ unfolding begun
 begun_rules at v pins ok kind below =
     let after : State80 = seen v.state pins in
     let same = seen-stays v.state pins in
-    begun_case (case_of after pins) at v.cart after (seen-at v.cart v.state pins (sampling v ok kind)) (omega (arith, same, below)) (has_at after pins)
+    begun_case_ruled (case_of after pins) at v.cart after (seen-at v.cart v.state pins (sampling v ok kind)) (omega (arith, same, below)) (has_at after pins)
 
 -- ---- an answer
 
@@ -147,19 +147,19 @@ fit_more cart state answer is fits fit k less =
           (is_answered is.request answer (subst (λ (r : Result Ended Request80). Fits (asked_in r) answer) is.asked fits)))))
     ]
 
-answered_by : (stage : Stage) (at : ℕ) (v : Chip80Value) (answer : AnswerValue80) → v.state.stage ≡ stage → IsAt stage v.cart v.state → is_sample stage ≡ false
+answered_ruled : (stage : Stage) (at : ℕ) (v : Chip80Value) (answer : AnswerValue80) → v.state.stage ≡ stage → IsAt stage v.cart v.state → is_sample stage ≡ false
     → Fits (asked_at stage v.cart (record v.state { store = kept_at stage v.state.store })) answer → v.state.next < at → HasRules v.cart at v.state
     → HasRules v.cart at (answered_at stage v.cart (record v.state { store = kept_at stage v.state.store }) answer)
-answered_by Sample at v answer same is kind fits below rules = absurd cc
-answered_by Access at v answer same is kind fits below rules =
+answered_ruled Sample at v answer same is kind fits below rules = absurd cc
+answered_ruled Access at v answer same is kind fits below rules =
     let began : v.state.start < at = subst (λ (s : Stage). BeganBelow s at v.state.start) same rules.recent.begun in
     went_rules at v.cart (record v.state { answers = v.state.answers ++ value_in answer ∷ [] }) v.state.cause began rules.cause is.store
     (fit_more v.cart v.state answer is fits rules.fit)
-answered_by Yield at v answer same is kind fits below rules =
+answered_ruled Yield at v answer same is kind fits below rules =
     let start = is.1 in
     let none = is.0.cause in
     record { recent = record { soon = omega (arith, start, below); begun = tt }; cause = omega (arith, none); holder = tt; fit = λ k less. absurd (none_below v.state.answers k is.0.answers less) }
-answered_by Take at v answer same is kind fits below rules =
+answered_ruled Take at v answer same is kind fits below rules =
     let start = is.1 in
     let none = is.0.cause in
     record { recent = record { soon = omega (arith, start, below); begun = tt }; cause = omega (arith, none); holder = tt; fit = λ k less. absurd (none_below v.state.answers k is.0.answers less) }
@@ -168,7 +168,7 @@ answered_by Take at v answer same is kind fits below rules =
 pub answered_rules : (at : ℕ) (v : Chip80Value) (answer : AnswerValue80) → IsChip80 v → (next_of v.state).sample ≡ false → Fits (asked_of v.cart (handed v.state)) answer
     → v.state.next < at → HasRules v.cart at v.state → HasRules v.cart at (answered v.cart (handed v.state) answer)
 unfolding answered next_of asked_of handed
-answered_rules at v answer ok kind fits below rules = answered_by v.state.stage at v answer refl ok.stands kind fits below rules
+answered_rules at v answer ok kind fits below rules = answered_ruled v.state.stage at v answer refl ok.stands kind fits below rules
 
 -- ---- from power-on on
 
@@ -176,16 +176,16 @@ pub power_on_rules : (at : ℕ) (cart : List ℕ) → HasRules cart at power_on
 unfolding power_on
 power_on_rules at cart = record { recent = record { soon = omega arith; begun = tt }; cause = omega arith; holder = tt; fit = λ k less. absurd (omega (arith, less)) }
 
-begun_later : (stage : Stage) (at later start : ℕ) → at ≤ later → BeganBelow stage at start → BeganBelow stage later start
-begun_later Sample at later start le h = tt
-begun_later Access at later start le h = omega (arith, h, le)
-begun_later Yield at later start le h = tt
-begun_later Take at later start le h = tt
+began_below_later : (stage : Stage) (at later start : ℕ) → at ≤ later → BeganBelow stage at start → BeganBelow stage later start
+began_below_later Sample at later start le h = tt
+began_below_later Access at later start le h = omega (arith, h, le)
+began_below_later Yield at later start le h = tt
+began_below_later Take at later start le h = tt
 
 -- what holds at a cycle holds at each later one
 pub later_rules : (cart : List ℕ) (at later : ℕ) (state : State80) → at ≤ later → HasRules cart at state → HasRules cart later state
 later_rules cart at later state le h = record {
-  recent = record { soon = let soon = h.recent.soon in omega (arith, soon, le); begun = begun_later state.stage at later state.start le h.recent.begun };
+  recent = record { soon = let soon = h.recent.soon in omega (arith, soon, le); begun = began_below_later state.stage at later state.start le h.recent.begun };
   cause = h.cause;
   holder = h.holder;
   fit = h.fit;

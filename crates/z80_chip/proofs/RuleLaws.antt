@@ -20,7 +20,7 @@ use Rattle.z80_exec.specs.declared.regs80.Regs80.{Regs80}
 use Rattle.z80_parcel.specs.Parcels.{IsStore, Store}
 use Rattle.z80_parcel.specs.Spelling.{store_fields}
 use Rattle.z80_chip.specs.Events.{carried_out, first_step, step}
-use Rattle.z80_chip.specs.Rules.{AreFit, BeganBelow, HasRules, IsHolder}
+use Rattle.z80_chip.specs.Rules.{AreFit, BeganBelow, HasRules, FitsHolder}
 use Rattle.z80_chip.specs.Saved.{Kept80, are_answered, asks_more, chip_fields, fields_by, is_access, is_answer, is_bank_right, is_waiting, kept_of, mode_number, need_after, need_of, numbers_of, stage_number, state_from}
 use Rattle.z80_chip.specs.Validity.{Chip80Value, IsAt, IsChip80}
 use Rattle.z80_chip.specs.Spelling.{Spells, chip_bytes}
@@ -80,30 +80,30 @@ record AtStage (at m : ℕ) (has : Bool) (state : State80) : Type 0 where
 none_caused : (cause : ℕ) (b : Bool) → cause ≡ 0 → (leb cause 1 && (eqb cause 0 || b)) ≡ true
 none_caused cause b e = and_from _ _ (le-leb cause 1 (omega (arith, e))) (or_left (eqb cause 0) b (eq-eqb cause 0 e))
 
-at_stage : (stage : Stage) (at : ℕ) (cart : List ℕ) (state : State80) → IsAt stage cart state → BeganBelow stage at state.start → IsHolder stage state → state.cause ≤ 1
+rules_at_stage : (stage : Stage) (at : ℕ) (cart : List ℕ) (state : State80) → IsAt stage cart state → BeganBelow stage at state.start → FitsHolder stage state → state.cause ≤ 1
     → AtStage at (stage_number stage) (is_some state.store) state
-at_stage Sample at cart state is below holds small = record {
+rules_at_stage Sample at cart state is below holds small = record {
   known = refl;
   start = eq-eqb state.start state.next is.1;
   cause = none_caused state.cause false is.0.cause;
   follows = eq-eqb (length state.answers) 0 (ap length is.0.answers);
   holder = refl;
 }
-at_stage Access at cart state is below holds small = record {
+rules_at_stage Access at cart state is below holds small = record {
   known = refl;
   start = lt-ltb state.start at below;
   cause = and_from _ _ (le-leb state.cause 1 small) (or_right (eqb state.cause 0) true refl);
   follows = (let place = is.place in is_after_by state.next state.start (first_step + step * length state.answers) (omega (arith, place)));
   holder = holds;
 }
-at_stage Yield at cart state is below holds small = record {
+rules_at_stage Yield at cart state is below holds small = record {
   known = refl;
   start = is_after_by state.next state.start first_step is.1;
   cause = none_caused state.cause false is.0.cause;
   follows = eq-eqb (length state.answers) 0 (ap length is.0.answers);
   holder = holds;
 }
-at_stage Take at cart state is below holds small = record {
+rules_at_stage Take at cart state is below holds small = record {
   known = refl;
   start = is_after_by state.next state.start first_step is.1;
   cause = none_caused state.cause false is.0.cause;
@@ -127,7 +127,7 @@ holding : (at : ℕ) (v : Chip80Value) → IsChip80 v → HasRules v.cart at v.s
 unfolding AllHold
 holding at v ok rules late =
     let state : State80 = v.state in
-    let s = at_stage state.stage at v.cart state ok.stands rules.recent.begun rules.holder rules.cause in
+    let s = rules_at_stage state.stage at v.cart state ok.stands rules.recent.begun rules.holder rules.cause in
     let soon = rules.recent.soon in
     let few = few-answers v ok in (
       and_from _ _ (le-leb at state.next late) (le-leb (state.next - at) 0x10_0000 (omega (arith, soon))),
@@ -367,7 +367,7 @@ begun_from Yield at start next e = tt
 begun_from Take at start next e = tt
 
 holder_from : (stage : Stage) (state : State80) → cond (eqb (stage_number stage) 1 || eqb (stage_number stage) 2) (is_some state.store) (cond (eqb (stage_number stage) 3) (not (is_some state.store)) true) ≡ true
-    → IsHolder stage state
+    → FitsHolder stage state
 holder_from Sample state e = tt
 holder_from Access state e = e
 holder_from Yield state e = e

@@ -19,11 +19,11 @@ pub record IsRecent (at : ℕ) (state : State80) : Type 0 where
   pub begun : BeganBelow state.stage at state.start
 
 -- at an access and a yield the Z80 has its RAM, at a take it has none
-abbrev pub IsHolder : Stage → State80 → Type 0
-IsHolder Sample state = Unit {0}
-IsHolder Access state = is_some state.store ≡ true
-IsHolder Yield state = is_some state.store ≡ true
-IsHolder Take state = is_some state.store ≡ false
+abbrev pub FitsHolder : Stage → State80 → Type 0
+FitsHolder Sample state = Unit {0}
+FitsHolder Access state = is_some state.store ≡ true
+FitsHolder Yield state = is_some state.store ≡ true
+FitsHolder Take state = is_some state.store ≡ false
 
 -- each answer so far is one to the access that waited for it
 abbrev pub AreFit : List ℕ → State80 → Type 0
@@ -33,5 +33,5 @@ AreFit cart state = (k : ℕ) → k < length state.answers → is_answer (need_a
 pub record HasRules (cart : List ℕ) (at : ℕ) (state : State80) : Type 0 where
   pub recent : IsRecent at state
   pub cause : state.cause ≤ 1
-  pub holder : IsHolder state.stage state
+  pub holder : FitsHolder state.stage state
   pub fit : AreFit cart state

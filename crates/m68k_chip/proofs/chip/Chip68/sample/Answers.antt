@@ -3,13 +3,13 @@ use Rattle.m68k_exec.specs.Sample.Caches.{IsCacheOf}
 use Rattle.m68k_chip.specs.Validity.{Chip68Value}
 use Rattle.m68k_chip.specs.States.{next_of, state_of}
 use Rattle.m68k_chip.proofs.Kept.{after_sample}
-use Rattle.m68k_chip.proofs.Laws.{at-sample}
+use Rattle.m68k_chip.proofs.Laws.{sample-between}
 use Rattle.m68k_chip.proofs.chip.Chip68.sample.Goals as goal
 
 pub begin-requires-clause-answers : goal.begin-requires-clause-answers
 unfolding next_of
 begin-requires-clause-answers c =
-    (at-sample c.self.inside.sequencer.stage _ (state_of c.self.inside.sequencer c.self.inside.ram.value) (ap (λ (v : Chip68Value). (next_of v.state).sample) c.self.view_is ∙ c.requires.sampling) c.self.invariant.0.valid.stands).0.answers
+    (sample-between c.self.inside.sequencer.stage _ (state_of c.self.inside.sequencer c.self.inside.ram.value) (ap (λ (v : Chip68Value). (next_of v.state).sample) c.self.view_is ∙ c.requires.sampling) c.self.invariant.0.valid.stands).0.answers
 
 pub begin-requires-clause-cache : goal.begin-requires-clause-cache
 begin-requires-clause-cache c = subst (λ (image : List ℕ). IsCacheOf image c.self.inside.cache) (sym c.deref.ensures) c.self.invariant.1

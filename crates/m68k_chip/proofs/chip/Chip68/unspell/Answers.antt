@@ -3,7 +3,7 @@ use Rattle.std.specs.Arc.{arc_value}
 use Rattle.std.proofs.lemmas.Result.{err_from_is_err_and}
 use Rattle.md_word.specs.declared.unspell.Unspell.TheVariants.{Rule}
 use Rattle.rom_header.specs.Cartridge.{IsImage}
-use Rattle.m68k_chip.specs.Held.{IsWaiting}
+use Rattle.m68k_chip.specs.Held.{WaitsFor}
 use Rattle.m68k_chip.specs.Rules.{HasRules}
 use Rattle.m68k_chip.specs.Validity.{IsChip68}
 use Rattle.m68k_chip.specs.Spelling.{GoesWrongAt, IsKept, Spells, ram_in}
@@ -41,7 +41,7 @@ invariant_of-result c = (
   record {
     valid = subst (λ (s : State68). IsChip68 (of (arc_value c.args.cart) s)) (sym (made c))
         (spelled_valid (arc_value c.args.cart) c.args.at c.args.bytes.now _ (subst (λ (image : List ℕ). IsImage image) c.deref.ensures c.bytes.ensures.image) (kept c).spelled);
-    waiting = subst (λ (s : State68). IsWaiting s.stage (arc_value c.args.cart) s c.in-Ok.sequencer.request) (sym (made c)) (kept c).waits;
+    waiting = subst (λ (s : State68). WaitsFor s.stage (arc_value c.args.cart) s c.in-Ok.sequencer.request) (sym (made c)) (kept c).waits;
     foresees = unknown-foreseen _ (arc_value c.args.cart) _ c.in-Ok.sequencer.foreseen (kept c).unknown;
   },
   c.in_ok-cache-in-Ok.ensures (arc_value c.args.cart),

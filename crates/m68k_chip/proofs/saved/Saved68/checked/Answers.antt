@@ -1,7 +1,7 @@
 use Rattle.std.proofs.Common.{◌≡◌, ℕ, true, List, None, subst, sym, ap, ◌∙◌, arith}
 use Rattle.md_fields.specs.Fields.{sizes, first_wrong}
 use Rattle.m68k_exec.specs.declared.sample.step.Foreseen.{Foreseen}
-use Rattle.m68k_chip.specs.Held.{IsWaiting}
+use Rattle.m68k_chip.specs.Held.{WaitsFor}
 use Rattle.m68k_chip.specs.Numbers.{Numbers68, state_from}
 use Rattle.m68k_chip.specs.Resuming.{asks_more}
 use Rattle.m68k_chip.specs.Saved.{fields_by}
@@ -38,7 +38,7 @@ returns-then-resumes-clause-found c =
           (spelled_by c.args.cart.now c.args.at c.args.bytes.now n
           (keeps c.args.cart.now c.args.at c.args.bytes.now n (λ i. omega (arith, c.type_inv.bytes i)) c.read-saved.ensures.stands)
           (right c.args.cart.now c.args.at c.args.bytes.now n (λ i. omega (arith, c.type_inv.bytes i)) c.read-saved.ensures.stands none asks));
-      waits = subst (λ (r : List ℕ). IsWaiting c.resumes.new.self.stage c.args.cart.now (state_of c.resumes.new.self r) c.resumes.new.self.request) (ram ∙ c.read-saved.ensures.ram)
+      waits = subst (λ (r : List ℕ). WaitsFor c.resumes.new.self.stage c.args.cart.now (state_of c.resumes.new.self r) c.resumes.new.self.request) (ram ∙ c.read-saved.ensures.ram)
           (c.resumes.ensures.waiting c.if-resumes.true);
       unknown = ap (λ (f : Foreseen). f.known) c.resumes.ensures.foreseen ∙ c.sequencer-sequencer.ensures.unknown;
     }
