@@ -15,11 +15,11 @@ use Rattle.md_machine.specs.Media.{Media}
 use Rattle.md_debug.specs.Keeping.{KeepsMachines}
 use Rattle.state_images.specs.Images.{HasImage, ImagesValue, Keeps, drained, first_of, image_of, settled_of, size_of}
 
-pub keeps_machines : (images : ImagesValue)
+pub machines_kept : (images : ImagesValue)
     → ((images : ImagesValue) (m : MachineValue) (z : Console) (end : ℕ) (entries : List Entry) (output : Media) → HasImage images m → m.at ≤ end → end ≤ last_cycle
     → IsRunTo m.console end z entries output → HasImage images (drained end z))
     → KeepsMachines (HasImage images) (settled_of images)
-keeps_machines images runs = record {
+machines_kept images runs = record {
   start = λ m has. has.reached.start;
   near = λ m has. has.near;
   entries = λ m has. has.entries;

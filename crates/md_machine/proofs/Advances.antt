@@ -16,22 +16,22 @@ use Rattle.md_machine.specs.declared.chips.Chip.{Chip}
 use Rattle.md_machine.specs.declared.chips.Chip.TheVariants.{Main, Sub, Draw, Fm, Psg}
 use Rattle.md_machine.specs.declared.chips.main.MainChip.{MainChip}
 
-abbrev AnswerFits : MainChip → Type 0
-AnswerFits c = IfSome c.answer (Fits (request_of c.chip.cart c.chip.state))
+abbrev MainAnswerFits : MainChip → Type 0
+MainAnswerFits c = IfSome c.answer (Fits (request_of c.chip.cart c.chip.state))
 
 pub performed-fits : (before : Chip) (s : Board) → IsBoard s → (c : MainChip) → Main c ≡ (perform before s).chip → IfSome c.answer (Fits (request_of c.chip.cart c.chip.state))
-performed-fits (Main b) s ok c is = subst AnswerFits (sym (ap main_of is)) (answer-fits s (main_next_of b.chip.state).key (request_of b.chip.cart b.chip.state) ok)
+performed-fits (Main b) s ok c is = subst MainAnswerFits (sym (ap main_of is)) (answer-fits s (main_next_of b.chip.state).key (request_of b.chip.cart b.chip.state) ok)
 performed-fits (Sub b) s ok c is = cc
 performed-fits (Draw b) s ok c is = cc
 performed-fits (Fm b) s ok c is = cc
 performed-fits (Psg b) s ok c is = cc
 
-abbrev ToldFits : SubValue → Type 0
-ToldFits c = IfSome c.answer (told80.Fits (asked_of c.chip.cart c.chip.state))
+abbrev SubAnswerFits : SubValue → Type 0
+SubAnswerFits c = IfSome c.answer (told80.Fits (asked_of c.chip.cart c.chip.state))
 
 pub performed-told : (before : Chip) (s : Board) → IsChip before → IsBoard s → (c : SubValue) → Sub c ≡ (perform before s).chip → IfSome c.answer (told80.Fits (asked_of c.chip.cart c.chip.state))
 performed-told (Main b) s valid ok c is = cc
-performed-told (Sub b) s valid ok c is = subst ToldFits (sym (ap sub_of is)) (told-fits b s valid ok)
+performed-told (Sub b) s valid ok c is = subst SubAnswerFits (sym (ap sub_of is)) (told-fits b s valid ok)
 performed-told (Draw b) s valid ok c is = cc
 performed-told (Fm b) s valid ok c is = cc
 performed-told (Psg b) s valid ok c is = cc

@@ -34,9 +34,9 @@ frames-long : (z : Console) → length (frames_of (line_done z).frame) ≡ cond 
 unfolding drawn_from line_drawn finished
 frames-long z = one_by (line_of z.line z.pal == rows z.pal) _
 
-line-move : (z : Console) (i : ℕ) → i < 5 → LineMove z i
+move-by-line : (z : Console) (i : ℕ) → i < 5 → LineMove z i
 unfolding key_in moved rendered main_moved sub_moved line_moved fm_moved psg_moved
-line-move z =
+move-by-line z =
     five-each (LineMove z) (none (line-leaves (next_of z.main).sample _ _ z.line refl refl) refl) (none (line-leaves (sub_next_of z.sub.state).sample _ _ z.line refl refl) refl)
     (made refl refl (frames-long z)) (none refl refl) (none refl refl)
 
@@ -110,7 +110,7 @@ unfolding ran media
 lines-to start end zero is below = record { lines = lines_below start.at; later = omega arith; next = is.line; count = plus_none (finishes start.console.pal (lines_below start.at)); last = inl refl }
 lines-to start end (suc n) is below =
     line-more start end n (lines-to start end n is (λ k earlier. below k (omega arith))) (below n (omega arith))
-    (line-move (ran start.console n) (mover (ran start.console n)) (mover-lt (ran start.console n)))
+    (move-by-line (ran start.console n) (mover (ran start.console n)) (mover-lt (ran start.console n)))
 
 -- more lines have no fewer ends of a frame
 finishes-rise : (pal : Bool) (n m : ℕ) → n ≤ m → finishes pal n ≤ finishes pal m

@@ -26,8 +26,8 @@ use Rattle.md_machine.proofs.Moves.{five-each, kind2, move-access}
 use Rattle.md_machine.proofs.Samples.{other_by}
 
 -- the drawing half of a machine
-abbrev drawing : Machine Chip Board → Drawing
-drawing m = (draw_of (m.chip 2)).chip
+abbrev drawing_of : Machine Chip Board → Drawing
+drawing_of m = (draw_of (m.chip 2)).chip
 
 -- a frame was finished at a line behind a cycle, and before the next line
 record Finished (pal : Bool) (from next : ℕ) : Type 0 where
@@ -66,10 +66,10 @@ once_by false pal old picture from next line whole behind (inr f) =
 
 -- the first stages of a run, seen from a cycle on
 record Framed (pal : Bool) (m : Machine Chip Board) (frames : List (List ℕ)) (from : ℕ) : Type 0 where
-  region : (drawing m).pal ≡ pal
-  same : frames_of (drawing m).frame ≡ frames
-  behind : from ≤ (drawing m).next
-  once : Once pal from (drawing m).next (drawing m).frame
+  region : (drawing_of m).pal ≡ pal
+  same : frames_of (drawing_of m).frame ≡ frames
+  behind : from ≤ (drawing_of m).next
+  once : Once pal from (drawing_of m).next (drawing_of m).frame
 
 -- the event of a line: the picture that it leaves, the frame, and the next line
 abbrev view_on : DrawValue → Board → LineView
@@ -104,22 +104,22 @@ unfolding rendered console
 line-made m v is =
     ap (λ (c : Chip). frames_of (drawn_from (view_on (draw_of c) m.shared) (unframed (draw_of c).chip)).frame) is ∙ frames-made v m.shared
 
-line-left : (m : Machine Chip Board) (v : DrawValue) → m.chip 2 ≡ Draw v → drawing (move five m 2) ≡ (draw_advance (draw_perform v m.shared).chip).chip
+line-left : (m : Machine Chip Board) (v : DrawValue) → m.chip 2 ≡ Draw v → drawing_of (move five m 2) ≡ (draw_advance (draw_perform v m.shared).chip).chip
 unfolding put
 line-left m v is =
-    ap drawing (move-access m 2 (ap (λ (c : Chip). (next c).sample) is)) ∙ ap (λ (c : Chip). (draw_of (advance (perform c m.shared).chip)).chip) is
+    ap drawing_of (move-access m 2 (ap (λ (c : Chip). (next c).sample) is)) ∙ ap (λ (c : Chip). (draw_of (advance (perform c m.shared).chip)).chip) is
 
 -- a line's event with the frame of the first lines kept
 line-framed : (pal : Bool) (m : Machine Chip Board) (v : DrawValue) (frames : List (List ℕ)) (from : ℕ) → m.chip 2 ≡ Draw v → IsDraw v → v.chip.next < from + frame_cycles pal
     → Framed pal m frames from → Framed pal (move five m 2) (frames ++ (rendered (console m) 2).frames) from
 line-framed pal m v frames from is ok near before =
-    let here : drawing m ≡ v.chip = ap (λ (c : Chip). (draw_of c).chip) is in
-    let left : drawing (move five m 2) ≡ (draw_advance (draw_perform v m.shared).chip).chip = line-left m v is in
-    let frame : (drawing (move five m 2)).frame ≡ cond (line_of v.chip.next v.chip.pal == rows v.chip.pal) (Some (picture_on v m.shared)) v.chip.frame =
+    let here : drawing_of m ≡ v.chip = ap (λ (c : Chip). (draw_of c).chip) is in
+    let left : drawing_of (move five m 2) ≡ (draw_advance (draw_perform v m.shared).chip).chip = line-left m v is in
+    let frame : (drawing_of (move five m 2)).frame ≡ cond (line_of v.chip.next v.chip.pal == rows v.chip.pal) (Some (picture_on v m.shared)) v.chip.frame =
     ap (λ (d : Drawing). d.frame) left ∙ frame-after v m.shared in
     let region : (draw_advance (draw_perform v m.shared).chip).chip.pal ≡ v.chip.pal = region-after v m.shared in
     let its : v.chip.pal ≡ pal = subst (λ (d : Drawing). d.pal ≡ pal) here before.region in
-    let later : (drawing (move five m 2)).next ≡ v.chip.next + 3420 = ap (λ (d : Drawing). d.next) left ∙ next-after v m.shared in
+    let later : (drawing_of (move five m 2)).next ≡ v.chip.next + 3420 = ap (λ (d : Drawing). d.next) left ∙ next-after v m.shared in
     let behind : from ≤ v.chip.next = subst (λ (d : Drawing). from ≤ d.next) here before.behind in
     let once : Once pal from v.chip.next v.chip.frame = subst (λ (d : Drawing). Once pal from d.next d.frame) here before.once in
     let on_line : (line_of v.chip.next v.chip.pal == rows v.chip.pal) ≡ true → line_of v.chip.next pal ≡ rows pal =
@@ -133,7 +133,7 @@ line-framed pal m v frames from is ok near before =
           (λ e. none-before pal from v.chip.next v.chip.frame once (on_line e) ok.chip.at_line near)
           ∙ ap (λ (l : List (List ℕ)). frames ++ l) (sym (line-made m v is));
       behind = omega (arith, later, behind);
-      once = subst (λ (n : ℕ). Once pal from n (drawing (move five m 2)).frame) (sym later)
+      once = subst (λ (n : ℕ). Once pal from n (drawing_of (move five m 2)).frame) (sym later)
           (subst (λ (f : Option (List ℕ)). Once pal from (v.chip.next + 3420) f) (sym frame)
           (once_by (line_of v.chip.next v.chip.pal == rows v.chip.pal) pal v.chip.frame (picture_on v m.shared) from v.chip.next on_line ok.chip.at_line behind once));
     }
@@ -142,7 +142,7 @@ line-framed pal m v frames from is ok near before =
 other-framed : (pal : Bool) (m : Machine Chip Board) (i : ℕ) (frames : List (List ℕ)) (from : ℕ) → (2 == i) ≡ false → (rendered (console m) i).frames ≡ []
     → Framed pal m frames from → Framed pal (move five m i) (frames ++ (rendered (console m) i).frames) from
 other-framed pal m i frames from away none before =
-    let left : drawing (move five m i) ≡ drawing m = ap (λ (c : Chip). (draw_of c).chip) (other_by (is_sample five m i) m i 2 refl away) in
+    let left : drawing_of (move five m i) ≡ drawing_of m = ap (λ (c : Chip). (draw_of c).chip) (other_by (is_sample five m i) m i 2 refl away) in
     record {
       region = ap (λ (d : Drawing). d.pal) left ∙ before.region;
       same = ap (λ (d : Drawing). frames_of d.frame) left ∙ before.same ∙ sym (append-nil frames) ∙ ap (λ (l : List (List ℕ)). frames ++ l) (sym none);
@@ -163,7 +163,7 @@ frames-more pal m frames from valid =
     (λ near before. other-framed pal m 4 frames from refl refl before)
 
 -- the first moves of a segment, from a machine that keeps no frame
-frames-framed : (pal : Bool) (m : Machine Chip Board) (from to n : ℕ) → ValidTo m n → Movers → frames_of (drawing m).frame ≡ [] → machines.IsQuiet five m from
+frames-framed : (pal : Bool) (m : Machine Chip Board) (from to n : ℕ) → ValidTo m n → Movers → frames_of (drawing_of m).frame ≡ [] → machines.IsQuiet five m from
     → to ≤ from + frame_cycles pal → AllBelow five m to n → Framed pal m [] from → Framed pal (run five m n) (media (console m) n).frames from
 unfolding run media
 frames-framed pal m from to zero valid movers none quiet near below first = first
@@ -179,7 +179,7 @@ frames-framed pal m from to (suc n) valid movers none quiet near below first =
     subst (λ (output : Media). Framed pal (run five m (suc n)) ((media (console m) n).frames ++ output.frames) from) same
     (frames-more pal (run five m n) (media (console m) n).frames from stage (machines.mover five (run five m n)) (movers (run five m n)) here before)
 
-first-framed : (m : Machine Chip Board) (from : ℕ) → IsValid five IsChip IsBoard m → frames_of (drawing m).frame ≡ [] → machines.IsQuiet five m from → Framed (drawing m).pal m [] from
+first-framed : (m : Machine Chip Board) (from : ℕ) → IsValid five IsChip IsBoard m → frames_of (drawing_of m).frame ≡ [] → machines.IsQuiet five m from → Framed (drawing_of m).pal m [] from
 first-framed m from valid none quiet =
     let k2 = kind2 (m.chip 2) (valid.number 2 (lit< tt)) in
     let late : from ≤ k2.0.chip.next = subst (λ (c : Chip). from ≤ (next c).key.cycle) k2.1 (quiet 2 (lit< tt)) in
@@ -190,10 +190,10 @@ first-framed m from valid none quiet =
       once = inl none;
     }
 
-pub frames-kept : (m : Machine Chip Board) (from to n : ℕ) → ValidTo m n → IsValid five IsChip IsBoard m → Movers → frames_of (drawing m).frame ≡ [] → machines.IsQuiet five m from
-    → to ≤ from + frame_cycles (drawing m).pal → AllBelow five m to n → frames_of (draw_of ((run five m n).chip 2)).chip.frame ≡ (media (console m) n).frames
+pub frames-kept : (m : Machine Chip Board) (from to n : ℕ) → ValidTo m n → IsValid five IsChip IsBoard m → Movers → frames_of (drawing_of m).frame ≡ [] → machines.IsQuiet five m from
+    → to ≤ from + frame_cycles (drawing_of m).pal → AllBelow five m to n → frames_of (draw_of ((run five m n).chip 2)).chip.frame ≡ (media (console m) n).frames
 frames-kept m from to n valid here movers none quiet near below =
-    (frames-framed (drawing m).pal m from to n valid movers none quiet near below (first-framed m from here none quiet)).same
+    (frames-framed (drawing_of m).pal m from to n valid movers none quiet near below (first-framed m from here none quiet)).same
 
 -- there is one at most
 pub one-frame : (frame : Option (List ℕ)) → length (frames_of frame) ≤ 1

@@ -8,7 +8,7 @@ use Rattle.bus_shared.specs.Board.{Board, IsBoard}
 use Rattle.md_machine.specs.Refinement.{console}
 use Rattle.md_machine.specs.Rules.{IsChip, five}
 use Rattle.md_machine.specs.declared.chips.Chip.{Chip}
-use Rattle.md_machine.proofs.Moves.{key-same, move-same, told-same}
+use Rattle.md_machine.proofs.Moves.{key-same, move-same, entries-told}
 
 -- the same chip moves
 pub mover-same : (m : Machine Chip Board) → IsValid five IsChip IsBoard m → machines.mover five m ≡ mover (console m)
@@ -40,7 +40,7 @@ journal-same m (suc n) valid movers =
     let stage : IsValid five IsChip IsBoard (run five m n) = valid n (omega arith) in
     let before : console (run five m n) ≡ ran (console m) n = ran-same m n (λ k below. valid k (omega arith)) movers in
     let entry : machines.entries five (run five m n) (machines.mover five (run five m n)) ≡ told (ran (console m) n) (mover (ran (console m) n)) =
-    told-same (run five m n) stage (machines.mover five (run five m n)) (movers (run five m n))
+    entries-told (run five m n) stage (machines.mover five (run five m n)) (movers (run five m n))
     ∙ ap (λ (i : ℕ). told (console (run five m n)) i) (mover-same (run five m n) stage)
     ∙ ap (λ (z : Console). told z (mover z)) before in
     rw (journal-same m n (λ k below. valid k (omega arith)) movers, entry) refl

@@ -170,9 +170,9 @@ key-same m valid =
     (at-kind read (λ c. record { cycle = (psg_of c).cycle; chip = 4 }) (m.chip 4) (Psg k4.0) k4.1 refl)
 
 -- the entries
-pub told-same : (m : Machine Chip Board) → IsValid five IsChip IsBoard m → (i : ℕ) → i < 5 → entries five m i ≡ told (console m) i
+pub entries-told : (m : Machine Chip Board) → IsValid five IsChip IsBoard m → (i : ℕ) → i < 5 → entries five m i ≡ told (console m) i
 unfolding console told entries
-told-same m valid =
+entries-told m valid =
     let k0 = kind0 (m.chip 0) (valid.number 0 (lit< tt)) in
     let k1 = kind1 (m.chip 1) (valid.number 1 (lit< tt)) in
     let k2 = kind2 (m.chip 2) (valid.number 2 (lit< tt)) in

@@ -133,9 +133,9 @@ pub record KeepsMore {A : Type 0} (p : Part A) (z : Machine Chip Board) (i : ℕ
   pub samples_are : p.of (kept_in (move five z i)) ≡ old ++ p.of (rendered (console z) i)
   pub long : length (p.of (kept_in (move five z i))) ≡ 16 * (count + cond (i == p.number) 1 0)
 
-keeps-more : {A : Type 0} (p : Part A) (z : Machine Chip Board) (i : ℕ) (old : List A) (count : ℕ) → IsValid five IsChip IsBoard z → i < 5
+move-keeps : {A : Type 0} (p : Part A) (z : Machine Chip Board) (i : ℕ) (old : List A) (count : ℕ) → IsValid five IsChip IsBoard z → i < 5
     → p.of (kept_in z) ≡ old → length (p.of (kept_in z)) ≡ 16 * count → count + cond (i == p.number) 1 0 ≤ 67 → KeepsMore p z i old count
-keeps-more p z i old count valid below is long few =
+move-keeps p z i old count valid below is long few =
     let moved : p.of (kept_in (move five z i)) ≡ p.of (kept_in z) ++ p.of (rendered (console z) i) =
     p.grows z valid i below (λ same. subst (λ (n : ℕ). n ≤ 1056) (sym long) (has_room p.number i count few (own p.number) same)) in
     record {
@@ -157,7 +157,7 @@ samples-kept p m (suc n) valid movers none few =
     let i : ℕ = machines.mover five (run five m n) in
     let rest : KeepsAll p m n = samples-kept p m n valid' movers none (fewer (made five m p.number n) (cond (i == p.number) 1 0) few) in
     let more : KeepsMore p (run five m n) i (p.of (media (console m) n)) (made five m p.number n) =
-    keeps-more p (run five m n) i (p.of (media (console m) n)) (made five m p.number n) stage (movers (run five m n)) rest.samples_are rest.long few in
+    move-keeps p (run five m n) i (p.of (media (console m) n)) (made five m p.number n) stage (movers (run five m n)) rest.samples_are rest.long few in
     let same : rendered (console (run five m n)) i ≡ rendered (ran (console m) n) (mover (ran (console m) n)) =
     ap (λ (j : ℕ). rendered (console (run five m n)) j) (mover-same (run five m n) stage)
     ∙ ap (λ (z : Console). rendered z (mover z)) (ran-same m n valid' movers) in

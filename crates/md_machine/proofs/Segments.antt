@@ -140,13 +140,13 @@ below-lift m to (suc n) valid movers below =
     }
 
 -- each move is one chip's
-one-of : (i : ℕ) → i < 5 → cond (i == 0) 1 0 + cond (i == 1) 1 0 + cond (i == 2) 1 0 + cond (i == 3) 1 0 + cond (i == 4) 1 0 ≡ 1
-one-of = five-each (λ i. cond (i == 0) 1 0 + cond (i == 1) 1 0 + cond (i == 2) 1 0 + cond (i == 3) 1 0 + cond (i == 4) 1 0 ≡ 1) refl refl refl refl refl
+one-mover : (i : ℕ) → i < 5 → cond (i == 0) 1 0 + cond (i == 1) 1 0 + cond (i == 2) 1 0 + cond (i == 3) 1 0 + cond (i == 4) 1 0 ≡ 1
+one-mover = five-each (λ i. cond (i == 0) 1 0 + cond (i == 1) 1 0 + cond (i == 2) 1 0 + cond (i == 3) 1 0 + cond (i == 4) 1 0 ≡ 1) refl refl refl refl refl
 
 each-made : (m : Machine Chip Board) (n : ℕ) → Movers → made five m 0 n + made five m 1 n + made five m 2 n + made five m 3 n + made five m 4 n ≡ n
 unfolding made
 each-made m zero movers = refl
-each-made m (suc n) movers = omega (arith, each-made m n movers, one-of (machines.mover five (run five m n)) (movers (run five m n)))
+each-made m (suc n) movers = omega (arith, each-made m n movers, one-mover (machines.mover five (run five m n)) (movers (run five m n)))
 
 pub moves-few : (m : Machine Chip Board) (from to n : ℕ) → Movers → ((i : ℕ) → i < 5 → made five m i n ≤ moves_left five to m i)
     → all_moves_left five to m ≤ moves_within five (to - from) → n ≤ to - from + 5

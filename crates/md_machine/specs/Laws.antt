@@ -85,9 +85,9 @@ hands-at stages80.Yield cart state ok = handing-valid state.store ok
 hands-at stages80.Take cart state ok = tt
 
 -- a valid Z80 hands over only RAM and bank register of their sizes
-pub hands-over : (c : SubValue) → IsSub c → HandsOver (asked_of c.chip.cart c.chip.state)
+pub handed-board : (c : SubValue) → IsSub c → HandsOver (asked_of c.chip.cart c.chip.state)
 unfolding asked_of
-hands-over c ok = hands-at c.chip.state.stage c.chip.cart c.chip.state ok.store
+handed-board c ok = hands-at c.chip.state.stage c.chip.cart c.chip.state ok.store
 
 -- what fits what it asked for fits once that is handed over
 handed-fits : (store : Option Store) (told : AnswerValue80) → fits80.Fits (handing store) told → fits80.Fits TakeBack told
@@ -228,7 +228,7 @@ main-low state = lit< tt
 
 access-shared : (c : Chip) (s : Board) (i : ℕ) → IsDue five IsChip IsBoard c s i false → IsBoard (perform c s).shared
 access-shared (Main c) s i d = main-ok s (next_of c.chip.state).key _ (main-low c.chip.state) d.shared
-access-shared (Sub c) s i d = keeps.sub-ok s (sub_next_of c.chip.state).key _ (sub-low c.chip.state) (hands-over c d.chip) d.shared
+access-shared (Sub c) s i d = keeps.sub-ok s (sub_next_of c.chip.state).key _ (sub-low c.chip.state) (handed-board c d.chip) d.shared
 access-shared (Draw c) s i d = line-ok s c.chip.next c.chip.note d.shared
 access-shared (Fm c) s i d = fm_board-ok s c.cycle d.shared
 access-shared (Psg c) s i d = psg_board-ok s c.cycle d.shared
@@ -262,12 +262,12 @@ unfolding next_of
 main-number c i is = is
 
 -- pins change only by those that write them
-leaves-pins : (c : Chip) (s : Board) (i j : ℕ) → IsDue five IsChip IsBoard c s i false → writes i j ≡ false → pins_of (perform c s).shared j ≡ pins_of s j
-leaves-pins (Main c) s i j d other = absurd (true≢false (subst (λ (n : ℕ). writes n j ≡ false) (sym (main-number c i d.number)) other))
-leaves-pins (Sub c) s i j d other = pins-same (j == 1) s _ (sub_pins_stay s (sub_next_of c.chip.state).key (asked_of c.chip.cart c.chip.state))
-leaves-pins (Draw c) s i j d other = absurd (true≢false (subst (λ (n : ℕ). writes n j ≡ false) (sym d.number) other))
-leaves-pins (Fm c) s i j d other = pins-same (j == 1) s _ (fm_batch_pins_stay s c.cycle)
-leaves-pins (Psg c) s i j d other = pins-same (j == 1) s _ (batch_pins_stay s c.cycle)
+pins-left : (c : Chip) (s : Board) (i j : ℕ) → IsDue five IsChip IsBoard c s i false → writes i j ≡ false → pins_of (perform c s).shared j ≡ pins_of s j
+pins-left (Main c) s i j d other = absurd (true≢false (subst (λ (n : ℕ). writes n j ≡ false) (sym (main-number c i d.number)) other))
+pins-left (Sub c) s i j d other = pins-same (j == 1) s _ (sub_pins_stay s (sub_next_of c.chip.state).key (asked_of c.chip.cart c.chip.state))
+pins-left (Draw c) s i j d other = absurd (true≢false (subst (λ (n : ℕ). writes n j ≡ false) (sym d.number) other))
+pins-left (Fm c) s i j d other = pins-same (j == 1) s _ (fm_batch_pins_stay s c.cycle)
+pins-left (Psg c) s i j d other = pins-same (j == 1) s _ (batch_pins_stay s c.cycle)
 
 -- the laws
 pub lawful : Lawful five IsChip IsBoard
@@ -282,5 +282,5 @@ lawful = record {
   sample_chip = sample-chip;
   sample_next = sample-next;
   entry = access-entry;
-  leaves = leaves-pins;
+  leaves = pins-left;
 }

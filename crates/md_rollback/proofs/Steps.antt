@@ -19,7 +19,7 @@ use Rattle.md_reached.specs.Processors.{IsValid}
 use Rattle.md_reached.specs.Reached.{IsReached}
 use Rattle.md_reached.specs.Settling.{GoesOn}
 use Rattle.replays.specs.declared.fault.ReplayFault.{ReplayFault}
-use Rattle.recording_laws.specs.Recorded.{AreAlikeBelow, recorded, with_frames}
+use Rattle.recording_laws.specs.Recorded.{AreAlikeBelow, with_recording, with_frames}
 use Rattle.save_state.specs.States.{settled_console}
 use Rattle.rollback_images.specs.Images.{Kept}
 use Rattle.md_rollback.specs.Played.{AreImagesOf, AreMade, IsImageOf, IsKept, IsPlayed, IsRunAt, KeepsReached}
@@ -111,26 +111,26 @@ last-first cart recording at last entries output run =
     ap (λ (x : Console). x.shared.recording.version) run.console
     ∙ ap (λ (r : Recorded). r.version) (pads-recorded cart (recording_of recording) false run.moves).recording_is
 
-frames-with : (frames : List Frame) (z : Console) → z.shared.recording.version ≡ First → with_frames frames z ≡ recorded (recording_of frames) z
-frames-with frames z first = ap (λ (v : Version). recorded (record { version = v; frames = frames }) z) first
+frames-with : (frames : List Frame) (z : Console) → z.shared.recording.version ≡ First → with_frames frames z ≡ with_recording (recording_of frames) z
+frames-with frames z first = ap (λ (v : Version). with_recording (record { version = v; frames = frames }) z) first
 
 -- the machine that an image keeps, with another recording
 pub resumed : (cart : List ℕ) (spelling : ℕ → Console → List ℕ) (is_own : ℕ → Console → Type 0) (recording : List Frame) (frames : ℕ) (bytes : List ℕ)
     → (is : IsImageOf cart spelling is_own recording frames bytes)
     → ((z : Console) (entries : List Entry) (output : Media) → IsRunTo (power_on cart (recording_of is.made_with) false) (frame * frames) z entries output → IsRunTo (power_on cart (recording_of recording) false) (frame * frames) (with_frames recording z) entries output)
-    → IsReached (frame * frames) (recorded (recording_of recording) (settled_console (frame * frames) is.kept))
-    → IsPlayed cart recording frames (record { at = frame * frames; console = recorded (recording_of recording) (settled_console (frame * frames) is.kept); entries = []; media = no_media })
+    → IsReached (frame * frames) (with_recording (recording_of recording) (settled_console (frame * frames) is.kept))
+    → IsPlayed cart recording frames (record { at = frame * frames; console = with_recording (recording_of recording) (settled_console (frame * frames) is.kept); entries = []; media = no_media })
 resumed cart spelling is_own recording frames bytes is later reached = record {
   machine_is = record {
     at = refl;
     run = record {
-      last = recorded (recording_of recording) is.run.last;
+      last = with_recording (recording_of recording) is.run.last;
       entries = is.run.entries;
       output = is.run.output;
       run = subst (λ (x : Console). IsRunTo (power_on cart (recording_of recording) false) (frame * frames) x is.run.entries is.run.output)
           (frames-with recording is.run.last (last-first cart is.made_with (frame * frames) is.run.last is.run.entries is.run.output is.run.run))
           (later is.run.last is.run.entries is.run.output is.run.run);
-      same = ap (recorded (recording_of recording)) (console-again (frame * frames) is.kept ∙ is.run.same);
+      same = ap (with_recording (recording_of recording)) (console-again (frame * frames) is.kept ∙ is.run.same);
     };
   };
   cart_is = is.cart_is;
@@ -145,11 +145,11 @@ LaterLaw = (m z : Console) (one other : List Frame) (end : ℕ) (entries : List 
 
 abbrev pub SettledLaw : Type 0
 SettledLaw = (at : ℕ) (m : Console) (recording : Recorded) → IsReached at m → All IsFrame recording.frames
-    → HasValidParts (recorded recording (settled_console at m)) → IsValid (recorded recording (settled_console at m)) → IsReached at (recorded recording (settled_console at m))
+    → HasValidParts (with_recording recording (settled_console at m)) → IsValid (with_recording recording (settled_console at m)) → IsReached at (with_recording recording (settled_console at m))
 
 pub resumed-machine : (cart : List ℕ) (spelling : ℕ → Console → List ℕ) (is_own : ℕ → Console → Type 0) (recording : List Frame) (frames : ℕ) (bytes : List ℕ) (m : MachineValue)
     → (is : IsImageOf cart spelling is_own recording frames bytes)
-    → m ≡ record { at = frame * frames; console = recorded (recording_of recording) (settled_console (frame * frames) is.kept); entries = []; media = no_media }
+    → m ≡ record { at = frame * frames; console = with_recording (recording_of recording) (settled_console (frame * frames) is.kept); entries = []; media = no_media }
     → All IsFrame recording → HasValidParts m.console → IsValid m.console → LaterLaw → SettledLaw → IsPlayed cart recording frames m
 resumed-machine cart spelling is_own recording frames bytes m is same buttons parts sound later settled =
     subst (IsPlayed cart recording frames) (sym same)

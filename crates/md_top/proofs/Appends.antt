@@ -4,7 +4,7 @@ use Rattle.std.specs.Prelude.{IsSome}
 use Rattle.md_outer.specs.Outside.{Files, IsPrefix, bytes_of, with_file}
 use Rattle.md_top.specs.Outputs.{Adds, AddsParts, Holds, LeavesParts, Pieces, lengthened, nothing, with_part}
 use Rattle.md_args.specs.Words.{Run}
-use Rattle.md_top.proofs.Writes.{Apart, AreFront, but_state, frames-longer, journal-longer, named, only-frames, only-journal, only-sound, only-state, part-unasked, leaves_parts, parts-longer, prefix-append, prefix-more, sound-longer, state-longer}
+use Rattle.md_top.proofs.Writes.{Apart, AreFront, but_state, frames-longer, journal-longer, named, only-frames, only-journal, only-sound, only-state, part-unasked, parts_left, parts-longer, prefix-append, prefix-front, sound-longer, state-longer}
 
 -- APPENDS
 
@@ -28,9 +28,9 @@ pub parts-frames : (run : Run) → Apart run → (begun : ℕ → Option (List �
 parts-frames run apart begun file old new piece (some, is) appended first held holds =
     let name = named run.frames some in
     let part = appended name.0 (is ∙ name.1) in
-    leaves_parts run first new (record held { frames = held.frames ++ part.0 }) (lengthened held (record nothing { frames = piece }))
+    parts_left run first new (record held { frames = held.frames ++ part.0 }) (lengthened held (record nothing { frames = piece }))
     (frames-longer run apart first old new held name.0 part.0 name.1 holds part.2)
-    (record { frames = prefix-append held.frames part.0 piece part.1; sound = prefix-more held.sound []; journal = prefix-more held.journal []; state = prefix-more held.state [] })
+    (record { frames = prefix-append held.frames part.0 piece part.1; sound = prefix-front held.sound []; journal = prefix-front held.journal []; state = prefix-front held.state [] })
 
 pub adds-no_frames : (run : Run) (files : Files) (piece : List ℕ) → run.frames ≡ None → Adds run files files (record nothing { frames = piece })
 adds-no_frames run files piece is first held holds =
@@ -50,9 +50,9 @@ pub parts-sound : (run : Run) → Apart run → (begun : ℕ → Option (List �
 parts-sound run apart begun file old new piece (some, is) appended first held holds =
     let name = named run.sound some in
     let part = appended name.0 (is ∙ name.1) in
-    leaves_parts run first new (record held { sound = held.sound ++ part.0 }) (lengthened held (record nothing { sound = piece }))
+    parts_left run first new (record held { sound = held.sound ++ part.0 }) (lengthened held (record nothing { sound = piece }))
     (sound-longer run apart first old new held name.0 part.0 name.1 holds part.2)
-    (record { frames = prefix-more held.frames []; sound = prefix-append held.sound part.0 piece part.1; journal = prefix-more held.journal []; state = prefix-more held.state [] })
+    (record { frames = prefix-front held.frames []; sound = prefix-append held.sound part.0 piece part.1; journal = prefix-front held.journal []; state = prefix-front held.state [] })
 
 pub adds-no_sound : (run : Run) (files : Files) (piece : List ℕ) → run.sound ≡ None → Adds run files files (record nothing { sound = piece })
 adds-no_sound run files piece is first held holds =
@@ -72,9 +72,9 @@ pub parts-journal : (run : Run) → Apart run → (begun : ℕ → Option (List 
 parts-journal run apart begun file old new piece (some, is) appended first held holds =
     let name = named run.journal some in
     let part = appended name.0 (is ∙ name.1) in
-    leaves_parts run first new (record held { journal = held.journal ++ part.0 }) (lengthened held (record nothing { journal = piece }))
+    parts_left run first new (record held { journal = held.journal ++ part.0 }) (lengthened held (record nothing { journal = piece }))
     (journal-longer run apart first old new held name.0 part.0 name.1 holds part.2)
-    (record { frames = prefix-more held.frames []; sound = prefix-more held.sound []; journal = prefix-append held.journal part.0 piece part.1; state = prefix-more held.state [] })
+    (record { frames = prefix-front held.frames []; sound = prefix-front held.sound []; journal = prefix-append held.journal part.0 piece part.1; state = prefix-front held.state [] })
 
 pub adds-no_journal : (run : Run) (files : Files) (piece : List ℕ) → run.journal ≡ None → Adds run files files (record nothing { journal = piece })
 adds-no_journal run files piece is first held holds =
@@ -94,9 +94,9 @@ pub parts-state : (run : Run) (begun : ℕ → Option (List ℕ)) (file : ℕ) (
 parts-state run begun file old new piece (some, is) appended first held holds =
     let name = named run.save some in
     let part = appended name.0 (is ∙ name.1) in
-    leaves_parts run first new (record held { state = held.state ++ part.0 }) (lengthened held (record nothing { state = piece }))
+    parts_left run first new (record held { state = held.state ++ part.0 }) (lengthened held (record nothing { state = piece }))
     (state-longer run first old new held name.0 part.0 name.1 holds part.2)
-    (record { frames = prefix-more held.frames []; sound = prefix-more held.sound []; journal = prefix-more held.journal []; state = prefix-append held.state part.0 piece part.1 })
+    (record { frames = prefix-front held.frames []; sound = prefix-front held.sound []; journal = prefix-front held.journal []; state = prefix-append held.state part.0 piece part.1 })
 
 pub adds-no_state : (run : Run) (files : Files) (piece : List ℕ) → run.save ≡ None → Adds run files files (record nothing { state = piece })
 adds-no_state run files piece is first held holds =
@@ -123,7 +123,7 @@ parts-on run old mid new more rest one two first held holds =
     subst (LeavesParts run first new) (lengthened-assoc held more rest) (two first (lengthened held more) (one first held holds))
 
 front-longer : (more rest : Pieces) → AreFront more (lengthened more rest)
-front-longer more rest = record { frames = prefix-more more.frames rest.frames; sound = prefix-more more.sound rest.sound; journal = prefix-more more.journal rest.journal; state = prefix-more more.state rest.state }
+front-longer more rest = record { frames = prefix-front more.frames rest.frames; sound = prefix-front more.sound rest.sound; journal = prefix-front more.journal rest.journal; state = prefix-front more.state rest.state }
 
 -- no second piece behind a part of one
 pub parts-stop : (run : Run) (old new : Files) (more rest : Pieces) → AddsParts run old new more → AddsParts run old new (lengthened more rest)

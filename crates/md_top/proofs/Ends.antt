@@ -176,31 +176,31 @@ refused-leaves told run old new Memory cause same = untouched run old.files new.
 refused-leaves told run old new _ cause same = same
 
 -- a run that found its start
-pub run-ends : (told : Type 0) (run : Run) (start : Start) (old mid new : DepotState) (ending : Ending) → IsEnd run.cycles → MayBeginAt run start.at
+pub end-of-run : (told : Type 0) (run : Run) (start : Start) (old mid new : DepotState) (ending : Ending) → IsEnd run.cycles → MayBeginAt run start.at
     → (told → Begins run old.files start) → start.at < run.cycles → GoesOn old mid → RunCause start run mid new ending → RunEnds told run old new ending
-run-ends told run start old mid new (Done from frames accesses halted) end may begins ahead on cause =
+end-of-run told run start old mid new (Done from frames accesses halted) end may begins ahead on cause =
     (end, (λ none. cause.from ∙ may none), λ t. (start, begins t, ahead, cause))
-run-ends told run start old mid new Memory end may begins ahead on cause = tt
-run-ends told run start old mid new FramesFault end may begins ahead on cause =
+end-of-run told run start old mid new Memory end may begins ahead on cause = tt
+end-of-run told run start old mid new FramesFault end may begins ahead on cause =
     (end, λ t. (start, begins t, ahead), cause-before start run old mid new FramesFault on cause)
-run-ends told run start old mid new SoundFault end may begins ahead on cause =
+end-of-run told run start old mid new SoundFault end may begins ahead on cause =
     (end, λ t. (start, begins t, ahead), cause-before start run old mid new SoundFault on cause)
-run-ends told run start old mid new JournalFault end may begins ahead on cause =
+end-of-run told run start old mid new JournalFault end may begins ahead on cause =
     (end, λ t. (start, begins t, ahead), cause-before start run old mid new JournalFault on cause)
-run-ends told run start old mid new SaveFault end may begins ahead on cause =
+end-of-run told run start old mid new SaveFault end may begins ahead on cause =
     (end, λ t. (start, begins t, ahead), cause-before start run old mid new SaveFault on cause)
-run-ends told run start old mid new Unsaved end may begins ahead on cause = (end, λ t. (start, begins t, ahead), cause)
-run-ends told run start old mid new _ end may begins ahead on cause = absurd cause
+end-of-run told run start old mid new Unsaved end may begins ahead on cause = (end, λ t. (start, begins t, ahead), cause)
+end-of-run told run start old mid new _ end may begins ahead on cause = absurd cause
 
-pub run-leaves : (run : Run) (start : Start) (old new : Files) (ending : Ending) → Begins run old start → RunLeaves start run old new ending → RunFiles run old new ending
-run-leaves run start old new (Done from frames accesses halted) begins leaves = (start, begins, leaves)
-run-leaves run start old new FramesFault begins leaves = (start, begins, leaves)
-run-leaves run start old new SoundFault begins leaves = (start, begins, leaves)
-run-leaves run start old new JournalFault begins leaves = (start, begins, leaves)
-run-leaves run start old new SaveFault begins leaves = (start, begins, leaves)
-run-leaves run start old new Unsaved begins leaves = (start, begins, leaves)
-run-leaves run start old new Memory begins leaves = leaves
-run-leaves run start old new _ begins leaves = leaves
+pub files-of-run : (run : Run) (start : Start) (old new : Files) (ending : Ending) → Begins run old start → RunLeaves start run old new ending → RunFiles run old new ending
+files-of-run run start old new (Done from frames accesses halted) begins leaves = (start, begins, leaves)
+files-of-run run start old new FramesFault begins leaves = (start, begins, leaves)
+files-of-run run start old new SoundFault begins leaves = (start, begins, leaves)
+files-of-run run start old new JournalFault begins leaves = (start, begins, leaves)
+files-of-run run start old new SaveFault begins leaves = (start, begins, leaves)
+files-of-run run start old new Unsaved begins leaves = (start, begins, leaves)
+files-of-run run start old new Memory begins leaves = leaves
+files-of-run run start old new _ begins leaves = leaves
 
 -- a run that found no machine
 pub load-ends : (told : Type 0) (run : Run) (old new : DepotState) (ending : Ending) → run.cycles ≤ last_cycle → LoadCause told run old new ending → RunEnds told run old new ending

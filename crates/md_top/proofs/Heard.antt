@@ -12,9 +12,9 @@ use Rattle.md_top.specs.Heard.{HearsRuns}
 abbrev AreSo : List ℕ → (ℕ → List Entry → Media → Type 0) → Type 0
 AreSo cart So = (recording : Recorded) (pal : Bool) (z : Console) (end : ℕ) (entries : List Entry) (output : Media) → end ≤ 2 ^ 50 → IsRunTo (power_on cart recording pal) end z entries output → So end entries output
 
-pub hears-runs : (start : Start) (one other : List ℕ) → one ≡ start.console.cart → other ≡ start.console.cart
+pub runs-heard : (start : Start) (one other : List ℕ) → one ≡ start.console.cart → other ≡ start.console.cart
     → AreSo one (λ end entries output. HearsLevels end entries output.levels) → AreSo other (λ end entries output. HearsSides end entries output.sides) → HearsRuns start
-hears-runs start one other first second levels sides = λ inputs z end entries output same small run.
+runs-heard start one other first second levels sides = λ inputs z end entries output same small run.
     let from : (cart : List ℕ) → cart ≡ start.console.cart → start.console ≡ power_on cart inputs.recording inputs.pal = λ cart is.
     ap (λ (s : Start). s.console) same ∙ ap (λ (c : List ℕ). power_on c inputs.recording inputs.pal) (sym (is ∙ ap (λ (s : Start). s.console.cart) same)) in (
       levels inputs.recording inputs.pal z end entries output small (subst (λ (m : Console). IsRunTo m end z entries output) (from one first) run),

@@ -3,9 +3,7 @@ use Rattle.std.proofs.Common.{◌≡◌, ℕ, ◌≤◌, List, [], ◌++◌, Res
 use Rattle.std.specs.Prelude.{OnErr, OnOk}
 use Rattle.md_top.specs.Answers.{PutsAll, PutsOutput, PutsPart}
 use Rattle.md_outer.specs.Outside.{IsPrefix, PutsText, Rose, SinkState}
-
-prefix_more : (front first second : List ℕ) → IsPrefix front second → IsPrefix (first ++ front) (first ++ second)
-prefix_more front first second (rest, is) = (rest, append_assoc first front rest ∙ ap (λ (l : List ℕ). first ++ l) is)
+use Rattle.md_top.proofs.Writes.{prefix-append}
 
 prefix_longer : (front first second : List ℕ) → IsPrefix front first → IsPrefix front (first ++ second)
 prefix_longer front first second (rest, is) = (rest ++ second, sym (append_assoc front rest second) ∙ ap (λ (l : List ℕ). l ++ second) is)
@@ -28,7 +26,7 @@ puts_on told first second old mid new (Err fault) one two = record {
   failed = rose_later old.faults mid.faults new.faults one.later two.failed;
   part = λ t. (
     first ++ (two.part t).0,
-    prefix_more (two.part t).0 first second (two.part t).1,
+    prefix-append first (two.part t).0 second (two.part t).1,
     (two.part t).2 ∙ ap (λ (l : List ℕ). l ++ (two.part t).0) (one.whole t) ∙ append_assoc old.bytes first (two.part t).0,
   );
 }
@@ -54,7 +52,7 @@ put_or_part told text old new (Ok done) puts = inl (record { later = puts.later;
 put_or_part told text old new (Err fault) puts = inr (record { rose = puts.failed; bytes = puts.part })
 
 -- the status of a command that ended well
-pub puts_output : {E : Type 0} (told : Type 0) (text : List ℕ) (old new : SinkState) (put : Result (Unit {0}) E) (status : ℕ) → PutsText told text old new put
+pub output_put : {E : Type 0} (told : Type 0) (text : List ℕ) (old new : SinkState) (put : Result (Unit {0}) E) (status : ℕ) → PutsText told text old new put
     → OnOk put (status ≡ 0) → OnErr put (status ≡ 13) → PutsOutput told text old new status
-puts_output told text old new (Ok done) status puts zero thirteen = inl (zero, record { later = puts.later; bytes = puts.whole })
-puts_output told text old new (Err fault) status puts zero thirteen = inr (thirteen, record { rose = puts.failed; bytes = puts.part })
+output_put told text old new (Ok done) status puts zero thirteen = inl (zero, record { later = puts.later; bytes = puts.whole })
+output_put told text old new (Err fault) status puts zero thirteen = inr (thirteen, record { rose = puts.failed; bytes = puts.part })

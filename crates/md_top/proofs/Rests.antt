@@ -21,9 +21,9 @@ use Rattle.md_top.proofs.Counts.{frames-counted, pairs-counted}
 use Rattle.md_top.proofs.LeastRuns.{Found, Later, later_run, run-found, run-made}
 
 -- the saved state goes on as the run
-goes-on : (start : Start) (at : ℕ) → RunLaws start → StateLaws → IsReached at (run_from start at) → GoesOnFrom start at
+rest-goes-on : (start : Start) (at : ℕ) → RunLaws start → StateLaws → IsReached at (run_from start at) → GoesOnFrom start at
 unfolding state_to
-goes-on start at laws states reached = λ end after entries output within near run.
+rest-goes-on start at laws states reached = λ end after entries output within near run.
     let more : Later start at end = later_run start at end laws (omega (arith, near)) within in
     let on : GoesOn end (settled_console at (run_from start at)) (run_from start end) more.entries more.output =
     states.goes_on (run_from start at) (run_from start end) at end more.entries more.output reached.parts reached.start.quiet within (omega (arith, near)) more.run in
@@ -64,7 +64,7 @@ ends-here start machine accesses finished came told states lists end saved =
       halted = ap (λ (m : Console). m.main.halted) found.console;
       heard = λ inputs same. came.heard inputs machine.console machine.at (entries_from start machine.at) (media_from start machine.at) same small came.run;
       kept = kept start machine.at machine.console found.console (saved (states.ready machine.at machine.console end.0 end.1 reached));
-      rest = goes-on start machine.at came.laws states (subst (IsReached machine.at) found.console reached);
+      rest = rest-goes-on start machine.at came.laws states (subst (IsReached machine.at) found.console reached);
     }
 
 pub ends-well : (start : Start) (end : ℕ) (machine : MachineValue) (accesses finished : ℕ) → machine.at ≡ end → CameTo start machine accesses → finished ≡ frames_between start.console.pal start.at end → StateLaws → ListsEndAsRun start.at start.console → IsEnd end

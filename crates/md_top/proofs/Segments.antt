@@ -155,10 +155,10 @@ at-start start is laws heard reached small = record {
 }
 
 -- behind a segment
-pub came-to : (start : Start) (at to accesses : ℕ) (after machine : MachineValue) → IsStart start → RunLaws start → HearsRuns start → IsReached start.at start.console → start.at ≤ to → Segment start at to after
+pub segment-came : (start : Start) (at to accesses : ℕ) (after machine : MachineValue) → IsStart start → RunLaws start → HearsRuns start → IsReached start.at start.console → start.at ≤ to → Segment start at to after
     → machine ≡ record { at = to; console = after.console; entries = []; media = no_media } → accesses ≡ length (entries_from start to)
     → CameTo start machine accesses
-came-to start at to accesses after machine is laws heard reached later made same counted =
+segment-came start at to accesses after machine is laws heard reached later made same counted =
     subst (λ (m : MachineValue). CameTo start m accesses) (sym same)
     (record { from = is; laws = laws; later = later; run = made.run; entries = refl; media = refl; counted = counted; heard = heard; reached = reached })
 

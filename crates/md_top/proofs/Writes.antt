@@ -119,8 +119,8 @@ only-state held piece = λ i. record { frames = sym (append-nil held.frames) i; 
 pub prefix-append : (front l more : List ℕ) → IsPrefix l more → IsPrefix (front ++ l) (front ++ more)
 prefix-append front l more is = (is.0, append_assoc front l is.0 ∙ ap (λ (x : List ℕ). front ++ x) is.1)
 
-pub prefix-more : (l more : List ℕ) → IsPrefix l (l ++ more)
-prefix-more l more = (more, refl)
+pub prefix-front : (l more : List ℕ) → IsPrefix l (l ++ more)
+prefix-front l more = (more, refl)
 
 pub prefix-trans : (a b c : List ℕ) → IsPrefix a b → IsPrefix b c → IsPrefix a c
 prefix-trans a b c first second =
@@ -138,8 +138,8 @@ nothing-front whole =
     record { frames = (whole.frames, refl); sound = (whole.sound, refl); journal = (whole.journal, refl); state = (whole.state, refl) }
 
 -- the outputs hold their bytes, and so parts of longer ones
-pub leaves_parts : (run : Run) (first files : Files) (held whole : Pieces) → Holds run first files held → AreFront held whole → LeavesParts run first files whole
-leaves_parts run first files held whole holds front = record {
+pub parts_left : (run : Run) (first files : Files) (held whole : Pieces) → Holds run first files held → AreFront held whole → LeavesParts run first files whole
+parts_left run first files held whole holds front = record {
   parts = all_of held;
   frames = front.frames;
   sound = front.sound;

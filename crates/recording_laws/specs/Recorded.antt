@@ -14,8 +14,8 @@ abbrev pub with_frames : List Frame → Console → Console
 with_frames frames m = record m { shared = board_with frames m.shared }
 
 -- the machine with another recording
-abbrev pub recorded : Recorded → Console → Console
-recorded recording m = record m { shared = record m.shared { recording = recording } }
+abbrev pub with_recording : Recorded → Console → Console
+with_recording recording m = record m { shared = record m.shared { recording = recording } }
 
 -- the words of both pads in a frame of a list: none is pressed past its end
 abbrev pub frame_at : List Frame → ℕ → Frame

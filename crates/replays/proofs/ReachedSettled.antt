@@ -13,7 +13,7 @@ use Rattle.md_machine.specs.ValidParts.{HasValidParts}
 use Rattle.save_state.specs.States.{settled_console}
 use Rattle.md_reached.specs.Processors.{IsValid}
 use Rattle.md_reached.specs.Reached.{IsReached}
-use Rattle.recording_laws.specs.Recorded.{recorded}
+use Rattle.recording_laws.specs.Recorded.{with_recording}
 
 -- ---- the timers
 
@@ -46,13 +46,13 @@ both-timed end t is = record {
 
 -- ---- all
 
-quiet-settled : (at : ℕ) (m : Console) (recording : Recorded) → IsQuiet at m → IsQuiet at (recorded recording (settled_console at m))
+quiet-settled : (at : ℕ) (m : Console) (recording : Recorded) → IsQuiet at m → IsQuiet at (with_recording recording (settled_console at m))
 unfolding key_in
 quiet-settled at m recording quiet = quiet
 
 pub reached-settled : (at : ℕ) (m : Console) (recording : Recorded) → IsReached at m → All IsFrame recording.frames
-    → HasValidParts (recorded recording (settled_console at m)) → IsValid (recorded recording (settled_console at m))
-    → IsReached at (recorded recording (settled_console at m))
+    → HasValidParts (with_recording recording (settled_console at m)) → IsValid (with_recording recording (settled_console at m))
+    → IsReached at (with_recording recording (settled_console at m))
 reached-settled at m recording reached buttons parts valid = record {
   start = record { quiet = quiet-settled at m recording reached.start.quiet; line = reached.start.line; fm = reached.start.fm; psg = reached.start.psg };
   parts = parts;

@@ -3,7 +3,7 @@ ghost use Rattle.std.specs.Arc.{arc_value};
 ghost use Rattle.md_word.specs.Clock.{last_cycle};
 ghost use Rattle.md_machine.specs.Media.{no_media};
 ghost use Rattle.save_state.specs.States.{settled_console};
-ghost use Rattle.recording_laws.specs.Recorded.{recorded};
+ghost use Rattle.recording_laws.specs.Recorded.{with_recording};
 
 use crate::fault::ReplayFault;
 use md_machine::Machine;
@@ -61,5 +61,5 @@ pub trait Replays: Drop {
             × (m.console.shared.recording ≡ arc_value recording) × (m.entries ≡ []) × (m.media ≡ no_media)) }
         // What an image keeps is read, unless memory runs out.
         ensures only { (at : ℕ) (m : Console) → is_own self.now at m → bytes.now ≡ spelling self.now at m → result ≢ Err ReplayFault.NoMemory
-            → result ≡ Ok (record { at = at; console = recorded (arc_value recording) m; entries = []; media = no_media }) };
+            → result ≡ Ok (record { at = at; console = with_recording (arc_value recording) m; entries = []; media = no_media }) };
 }

@@ -11,7 +11,7 @@ ghost use Rattle.save_state.specs.States.{settled_console};
 ghost use Rattle.md_reached.specs.Processors.{IsValid};
 ghost use Rattle.md_reached.specs.Reached.{IsReached};
 ghost use Rattle.md_reached.specs.Settling.{GoesOn};
-ghost use Rattle.recording_laws.specs.Recorded.{recorded};
+ghost use Rattle.recording_laws.specs.Recorded.{with_recording};
 
 use md_machine::laws;
 
@@ -27,6 +27,6 @@ pub fn alike_machines_go_on()
 /// What holds of each machine that a run reaches holds of it too once it is settled, with any recording of
 /// buttons.
 pub fn settled_machines_are_reached()
-    ensures { (at : ℕ) (m : Console) (recording : Recorded) → let w = recorded recording (settled_console at m) in
+    ensures { (at : ℕ) (m : Console) (recording : Recorded) → let w = with_recording recording (settled_console at m) in
         IsReached at m → All IsFrame recording.frames → HasValidParts w → IsValid w → IsReached at w }
 {}

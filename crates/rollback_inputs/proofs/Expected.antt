@@ -38,12 +38,12 @@ pub frames-long : (l r : Words) (n : ℕ) → length (expected_frames l r n) ≡
 unfolding expected_frames
 frames-long l r n = length-map-range_with_len (expected_frame l r) 0 n
 
-frame-at : (l r : Words) (n f : ℕ) (d : Frame) → f < n → get_or (expected_frames l r n) f d ≡ expected_frame l r f
+frame-expected : (l r : Words) (n f : ℕ) (d : Frame) → f < n → get_or (expected_frames l r n) f d ≡ expected_frame l r f
 unfolding expected_frames
-frame-at l r n f d less = get_or-map-range_with_len (expected_frame l r) 0 n f f d less (omega arith)
+frame-expected l r n f d less = get_or-map-range_with_len (expected_frame l r) 0 n f f d less (omega arith)
 
 pub pads-at : (l r : Words) (n f : ℕ) → f < n → frame_at (expected_frames l r n) f ≡ expected_frame l r f
-pads-at l r n f less = unwrap_or-slice_get (expected_frames l r n) f (0, 0) ∙ frame-at l r n f (0, 0) less
+pads-at l r n f less = unwrap_or-slice_get (expected_frames l r n) f (0, 0) ∙ frame-expected l r n f (0, 0) less
 
 -- a word that was given is expected
 pub given-expected : (w : Words) (f word : ℕ) → given w f ≡ Some word → expected w f ≡ word
@@ -65,7 +65,7 @@ frames-stay l r ml mr confirmed n is within more_l more_r =
     fill_by_all (expected_frame l r) (expected_frames ml mr n) n (0, 0) (frames-long ml mr n)
     (λ k less.
     let both : AreGiven l r k = is.below k (omega arith) in
-    frame-at ml mr n k (0, 0) less
+    frame-expected ml mr n k (0, 0) less
     ∙ ap₂ (λ (a b : ℕ). (a, b)) (more-same l ml k both.0 more_l) (more-same r mr k both.1 more_r))
 
 -- ---- the latest word

@@ -39,7 +39,7 @@ use Rattle.std.specs.List.{list_all}
 use Rattle.std.proofs.lemmas.Bool.{leb-false, eqb-false, lt-leb, ne_eqb}
 use Rattle.save_state.proofs.Places.{yes}
 use Rattle.md_fields.proofs.Refusals.{failed}
-use Rattle.save_state.proofs.Joins.{item, said, ruled, Ruled, Breaks}
+use Rattle.save_state.proofs.Joins.{item, said, reads_ruled, Ruled, Breaks}
 
 no : (b : Bool) → b ≡ true → ¬ (b ≡ false)
 no b t f = cc
@@ -84,7 +84,7 @@ sub_read cart bytes at parts part has holds answer chip read r s h b e g f found
     (λ x k. ((k.image, k.spells), no (is_holder (holder_in bytes) (stage_of bytes)) k.holder))
     (λ p w. elim w [ inl q ↦ chip_fails q | inr q ↦ holder_fails q.0 q.1 ])
     (λ p w. elim w [ chip_fails q ↦ inl q | holder_fails q t ↦ inr (q, t) ])
-    (ruled (SubKept cart (at_of bytes) (sub_bytes bytes)) (FailsIn (sub_parts (holder_in bytes == 0)) (sub.GoesWrongAt cart (at_of bytes) (sub_bytes bytes))) (placed parts answer) holds holder_part.place Broken (λ q. sym b ∙ q) (λ q. b ∙ q)
+    (reads_ruled (SubKept cart (at_of bytes) (sub_bytes bytes)) (FailsIn (sub_parts (holder_in bytes == 0)) (sub.GoesWrongAt cart (at_of bytes) (sub_bytes bytes))) (placed parts answer) holds holder_part.place Broken (λ q. sym b ∙ q) (λ q. b ∙ q)
     (item (SubKept cart) (sub.GoesWrongAt cart) (sub_parts (holder_in bytes == 0)) parts at (at_of bytes) part (sub_bytes bytes) answer whole (sub_ordered (holder_in bytes == 0)) e (f ∙ ap (λ (ps : List Part). gathered ps bytes) whole) found
     (λ x k n. only x.state k.1 n ∙ (λ i. Ok (record { cart = sym k.0 i; state = x.state }))) rule wrong))) where
       Broken : Type 0
@@ -111,7 +111,7 @@ shared_read_in recording bytes at parts part has seen resets answer board read r
     (λ x k. ((k.spells, k.pads), λ t. omega (arith, t, k.resets)))
     (λ p w. elim w [ inl q ↦ board_fails q | inr q ↦ resets_fail q.0 q.1 ])
     (λ p w. elim w [ board_fails q ↦ inl q | resets_fail q t ↦ inr (q, t) ])
-    (ruled (SharedKept recording (region_of bytes) (at_of bytes) (shared_bytes bytes)) (FailsIn (shared_parts (holder_in bytes == 1)) (shared.GoesWrongAt (at_of bytes) (region_of bytes) (shared_bytes bytes))) (placed parts answer) (leb seen resets) resets_place Broken (λ q. omega (arith, a, b, leb-false seen resets q)) (λ q. lt-leb seen resets (omega (arith, a, b, q)))
+    (reads_ruled (SharedKept recording (region_of bytes) (at_of bytes) (shared_bytes bytes)) (FailsIn (shared_parts (holder_in bytes == 1)) (shared.GoesWrongAt (at_of bytes) (region_of bytes) (shared_bytes bytes))) (placed parts answer) (leb seen resets) resets_place Broken (λ q. omega (arith, a, b, leb-false seen resets q)) (λ q. lt-leb seen resets (omega (arith, a, b, q)))
     (item (SharedKept recording (region_of bytes)) (λ (n : ℕ). shared.GoesWrongAt n (region_of bytes)) (shared_parts (holder_in bytes == 1)) parts at (at_of bytes) part (shared_bytes bytes) answer whole (shared_ordered (holder_in bytes == 1)) e (f ∙ ap (λ (ps : List Part). gathered ps bytes) whole) found
     (λ x k n. only x k.0 k.1 n) rule wrong))) where
       Broken : Type 0
@@ -164,8 +164,8 @@ fm_read bytes at part next batch early answer synth timed read r s t e f n b lat
     (λ x k. ((k.spells, λ q. q k.next), k.writes))
     (λ p w. elim w [ inl q ↦ (elim q [ inl u ↦ synth_fails u | inr u ↦ next_fails u.0 u.1 ]) | inr q ↦ writes_fail q.0 q.1 ])
     (λ p w. elim w [ synth_fails q ↦ inl (inl q) | next_fails q u ↦ inl (inr (q, u)) | writes_fail q u ↦ inr (q, u) ])
-    (ruled (Ruled (fm.SpellsSynth (part_of fm_part bytes)) Broken) (Either (FailsIn (fm_part ∷ []) (fm.SynthGoesWrongAt (part_of fm_part bytes))) (Breaks fm_next_part.place Broken)) (with_rule (placed (fm_part ∷ []) answer) (eqb next batch) fm_next_part.place) early fm_writes_place (HasLateFm bytes) late told
-    (ruled (fm.SpellsSynth (part_of fm_part bytes)) (FailsIn (fm_part ∷ []) (fm.SynthGoesWrongAt (part_of fm_part bytes))) (placed (fm_part ∷ []) answer) (eqb next batch) fm_next_part.place Broken
+    (reads_ruled (Ruled (fm.SpellsSynth (part_of fm_part bytes)) Broken) (Either (FailsIn (fm_part ∷ []) (fm.SynthGoesWrongAt (part_of fm_part bytes))) (Breaks fm_next_part.place Broken)) (with_rule (placed (fm_part ∷ []) answer) (eqb next batch) fm_next_part.place) early fm_writes_place (HasLateFm bytes) late told
+    (reads_ruled (fm.SpellsSynth (part_of fm_part bytes)) (FailsIn (fm_part ∷ []) (fm.SynthGoesWrongAt (part_of fm_part bytes))) (placed (fm_part ∷ []) answer) (eqb next batch) fm_next_part.place Broken
     (λ q u. eqb-false next batch q (n ∙ u ∙ sym there)) (λ q. ne_eqb next batch (λ u. q (sym n ∙ u ∙ there)))
     (item (λ a. fm.SpellsSynth) (λ a. fm.SynthGoesWrongAt) (fm_part ∷ []) (fm_part ∷ []) at (at_of bytes) part (part_of fm_part bytes) answer refl refl e f found (λ x k m. only x k) rule (λ p h m. wrong p h))))) where
       Broken : Type 0
@@ -184,8 +184,8 @@ psg_read bytes at part next batch early answer synth timed read r s t e f n b la
     (λ x k. ((k.spells, λ q. q k.next), k.writes))
     (λ p w. elim w [ inl q ↦ (elim q [ inl u ↦ psg_synth_fails u | inr u ↦ psg_next_fails u.0 u.1 ]) | inr q ↦ psg_writes_fail q.0 q.1 ])
     (λ p w. elim w [ psg_synth_fails q ↦ inl (inl q) | psg_next_fails q u ↦ inl (inr (q, u)) | psg_writes_fail q u ↦ inr (q, u) ])
-    (ruled (Ruled (psg.SpellsSynth (part_of psg_part bytes)) Broken) (Either (FailsIn (psg_part ∷ []) (psg.SynthGoesWrongAt (part_of psg_part bytes))) (Breaks psg_next_part.place Broken)) (with_rule (placed (psg_part ∷ []) answer) (eqb next batch) psg_next_part.place) early psg_port_part.place (HasLatePsg bytes) late told
-    (ruled (psg.SpellsSynth (part_of psg_part bytes)) (FailsIn (psg_part ∷ []) (psg.SynthGoesWrongAt (part_of psg_part bytes))) (placed (psg_part ∷ []) answer) (eqb next batch) psg_next_part.place Broken
+    (reads_ruled (Ruled (psg.SpellsSynth (part_of psg_part bytes)) Broken) (Either (FailsIn (psg_part ∷ []) (psg.SynthGoesWrongAt (part_of psg_part bytes))) (Breaks psg_next_part.place Broken)) (with_rule (placed (psg_part ∷ []) answer) (eqb next batch) psg_next_part.place) early psg_port_part.place (HasLatePsg bytes) late told
+    (reads_ruled (psg.SpellsSynth (part_of psg_part bytes)) (FailsIn (psg_part ∷ []) (psg.SynthGoesWrongAt (part_of psg_part bytes))) (placed (psg_part ∷ []) answer) (eqb next batch) psg_next_part.place Broken
     (λ q u. eqb-false next batch q (n ∙ u ∙ sym there)) (λ q. ne_eqb next batch (λ u. q (sym n ∙ u ∙ there)))
     (item (λ a. psg.SpellsSynth) (λ a. psg.SynthGoesWrongAt) (psg_part ∷ []) (psg_part ∷ []) at (at_of bytes) part (part_of psg_part bytes) answer refl refl e f found (λ x k m. only x k) rule (λ p h m. wrong p h))))) where
       Broken : Type 0

@@ -211,9 +211,9 @@ rule_broken {T} K F (Err (Rule n)) place Broken broken r = record {
 }
 rule_broken {T} K F (Err NoMemory) place Broken broken r = no_memory {A = T} (Ruled K Broken) (Either F (Breaks place Broken))
 
-pub ruled : {T : Type 0} (K : T → Type 0) (F : ℕ → Type 0) (answer : Result T Unspell) (holds : Bool) (place : ℕ) (Broken : Type 0) → (holds ≡ false → Broken) → (Broken → holds ≡ false) → Reads K F answer → Reads (Ruled K Broken) (Either F (Breaks place Broken)) (with_rule answer holds place)
-ruled {T} K F answer true place Broken fails told r = rule_holds {T = T} K F answer place Broken (λ broken. (let e = told broken in absurd cc)) r
-ruled {T} K F answer false place Broken fails told r = rule_broken {T = T} K F answer place Broken (fails refl) r
+pub reads_ruled : {T : Type 0} (K : T → Type 0) (F : ℕ → Type 0) (answer : Result T Unspell) (holds : Bool) (place : ℕ) (Broken : Type 0) → (holds ≡ false → Broken) → (Broken → holds ≡ false) → Reads K F answer → Reads (Ruled K Broken) (Either F (Breaks place Broken)) (with_rule answer holds place)
+reads_ruled {T} K F answer true place Broken fails told r = rule_holds {T = T} K F answer place Broken (λ broken. (let e = told broken in absurd cc)) r
+reads_ruled {T} K F answer false place Broken fails told r = rule_broken {T = T} K F answer place Broken (fails refl) r
 
 -- an item of these bytes at this cycle, read over parts
 pub item : {T : Type 0} (Keeps : ℕ → List ℕ → T → Type 0) (Wrong : ℕ → List ℕ → ℕ → Type 0) (parts whole : List Part) (at cycle : ℕ) (bytes kept : List ℕ) (answer : Result T Unspell) → whole ≡ parts → are_ordered 0 parts ≡ true → at ≡ cycle → bytes ≡ kept → IfOk answer (Keeps at bytes) → ((x : T) → Keeps at bytes x → answer ≢ failed NoMemory → answer ≡ Ok x) → ((p : ℕ) → answer ≡ failed (Rule p) → Wrong at bytes p) → ((p : ℕ) → Wrong at bytes p → answer ≢ failed NoMemory → answer ≡ failed (Rule p)) → Reads (Keeps cycle kept) (FailsIn parts (Wrong cycle kept)) (placed whole answer)

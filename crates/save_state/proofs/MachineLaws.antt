@@ -215,8 +215,8 @@ quiet at m a b c d e (suc (suc (suc zero))) lt = d
 quiet at m a b c d e (suc (suc (suc (suc zero)))) lt = e
 quiet at m a b c d e (suc (suc (suc (suc (suc i))))) lt = absurd (omega (arith, lt))
 
-pub is_start : (cart : List ℕ) (recording : Recorded) (bytes : List ℕ) (m : MachineValue) → IsMachineOf cart recording bytes m → IsStart (record { at = m.at; console = m.console })
-is_start cart recording bytes m is =
+pub start_there : (cart : List ℕ) (recording : Recorded) (bytes : List ℕ) (m : MachineValue) → IsMachineOf cart recording bytes m → IsStart (record { at = m.at; console = m.console })
+start_there cart recording bytes m is =
     let main_at = main_soon cart (at_of bytes) _ m.console.main is.main.spells in
     let sub_at = sub_soon cart (at_of bytes) _ m.console.sub.state is.sub.spells in
     let line_at = is_first (at_of bytes) (region_of bytes) _ (drawing_in m.console) is.drawing in

@@ -22,7 +22,7 @@ use Rattle.save_state.specs.declared.version.Version.{Version}
 use Rattle.md_fields.proofs.Refusals.{failed}
 use Rattle.save_state.proofs.Joins.{fine}
 use Rattle.save_state.proofs.KeptLaws.{state_there}
-use Rattle.save_state.proofs.MachineLaws.{is_start}
+use Rattle.save_state.proofs.MachineLaws.{start_there}
 use Rattle.save_state.proofs.Standing.{AreParts}
 use Rattle.save_state.proofs.WholeLaws.{state_parts, machine_there}
 
@@ -105,4 +105,4 @@ pub read_pads : (v : Version) (cart : List ℕ) (recording : Recorded) (bytes : 
 read_pads v cart recording bytes m r = (r.found.0.1, r.found.1)
 
 pub read_start : (v : Version) (cart : List ℕ) (recording : Recorded) (bytes : List ℕ) (m : MachineValue) → Reads {T = MachineValue} (IsMachineUnder v cart recording bytes) (FailsUnder v cart bytes) (fine m) → IsStart (record { at = m.at; console = m.console })
-read_start v cart recording bytes m r = is_start cart recording bytes m r.found.0.0
+read_start v cart recording bytes m r = start_there cart recording bytes m r.found.0.0

@@ -52,8 +52,8 @@ unfolding key_in sub_next_of
 sub_from at m start = start.quiet 1 (lit< tt)
 
 -- a drawing half that shows line, note and picture of a machine
-pub drawing_kept : (at : ℕ) (d : Drawing) (m : Console) → d.next ≡ m.line → d.note ≡ m.note → d.picture ≡ m.picture → d.pal ≡ m.pal → DrawingKept at d → DrawingKept at (drawing_in m)
-drawing_kept at d m line note picture pal kept ready =
+pub drawing_in-kept : (at : ℕ) (d : Drawing) (m : Console) → d.next ≡ m.line → d.note ≡ m.note → d.picture ≡ m.picture → d.pal ≡ m.pal → DrawingKept at d → DrawingKept at (drawing_in m)
+drawing_in-kept at d m line note picture pal kept ready =
     let own : drawing.IsReady at d = record {
       from = subst (λ (n : ℕ). at ≤ n) (sym line) ready.from;
       near = subst (λ (n : ℕ). n < at + 3420) (sym line) ready.near;

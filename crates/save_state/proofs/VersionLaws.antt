@@ -70,25 +70,25 @@ unfolding migrated from_first
 migrated-first bytes = refl
 
 -- what stands behind the picture's rows of the first version
-behind-long : (bytes : List ℕ) → length bytes ≡ 378240 → length (replicate 15360 0 ++ (drop 354881 bytes ++ replicate 18 0)) ≡ 38737
-behind-long bytes long =
+rows-behind-long : (bytes : List ℕ) → length bytes ≡ 378240 → length (replicate 15360 0 ++ (drop 354881 bytes ++ replicate 18 0)) ≡ 38737
+rows-behind-long bytes long =
     let rows = length-append (replicate 15360 0) (drop 354881 bytes ++ replicate 18 0) in
     let rest = length-append (drop 354881 bytes) (replicate 18 0) in
     let cut = length-drop 354881 bytes in
     omega (arith, long, rows, rest, cut, length-replicate {A = ℕ} 15360 0, length-replicate {A = ℕ} 18 0)
 
 -- from the drawing on
-drawing-long : (bytes : List ℕ) → length bytes ≡ 378240 → length (take 215050 (drop 139831 bytes) ++ (replicate 15360 0 ++ (drop 354881 bytes ++ replicate 18 0))) ≡ 253787
-drawing-long bytes long =
+old-drawing-long : (bytes : List ℕ) → length bytes ≡ 378240 → length (take 215050 (drop 139831 bytes) ++ (replicate 15360 0 ++ (drop 354881 bytes ++ replicate 18 0))) ≡ 253787
+old-drawing-long bytes long =
     let all = length-append (take 215050 (drop 139831 bytes)) (replicate 15360 0 ++ (drop 354881 bytes ++ replicate 18 0)) in
-    omega (arith, long, all, behind-long bytes long, length-take 215050 (drop 139831 bytes), length-drop 139831 bytes)
+    omega (arith, long, all, rows-behind-long bytes long, length-take 215050 (drop 139831 bytes), length-drop 139831 bytes)
 
 -- and from the region on
 rest-long : (bytes : List ℕ) → length bytes ≡ 378240 → length (first-rest bytes) ≡ 393572
 rest-long bytes long =
     let drawing = take 215050 (drop 139831 bytes) ++ (replicate 15360 0 ++ (drop 354881 bytes ++ replicate 18 0)) in
     let all = length-append (take 139783 (drop 48 bytes)) ((0 ∷ []) ++ drawing) in
-    omega (arith, long, all, drawing-long bytes long, length-take 139783 (drop 48 bytes), length-drop 48 bytes)
+    omega (arith, long, all, old-drawing-long bytes long, length-take 139783 (drop 48 bytes), length-drop 48 bytes)
 
 migrated-long : (bytes : List ℕ) → length bytes ≡ 378240 → length (migrated First bytes) ≡ 393620
 migrated-long bytes long =

@@ -30,13 +30,13 @@ words_long : (count place : ℕ) (bytes : List ℕ) → length (words_in count p
 words_long zero place bytes = refl
 words_long (suc count) place bytes = ap suc (words_long count (place + 2) bytes)
 
-words_at : (count place : ℕ) (bytes : List ℕ) → WordsAt (words_in count place bytes) place bytes
-words_at zero place bytes k lt = absurd (omega (arith, lt))
-words_at (suc count) place bytes zero lt = ap (λ (i : ℕ). number_at w16 i bytes) (omega arith)
-words_at (suc count) place bytes (suc k) lt = words_at count (place + 2) bytes k (omega (arith, lt)) ∙ ap (λ (i : ℕ). number_at w16 i bytes) (omega arith)
+words_read : (count place : ℕ) (bytes : List ℕ) → WordsAt (words_in count place bytes) place bytes
+words_read zero place bytes k lt = absurd (omega (arith, lt))
+words_read (suc count) place bytes zero lt = ap (λ (i : ℕ). number_at w16 i bytes) (omega arith)
+words_read (suc count) place bytes (suc k) lt = words_read count (place + 2) bytes k (omega (arith, lt)) ∙ ap (λ (i : ℕ). number_at w16 i bytes) (omega arith)
 
 words_there : (count place : ℕ) (bytes : List ℕ) → (length (words_in count place bytes) ≡ count) × WordsAt (words_in count place bytes) place bytes
-words_there count place bytes = (words_long count place bytes, words_at count place bytes)
+words_there count place bytes = (words_long count place bytes, words_read count place bytes)
 
 -- the 68000
 pub main_there : (bytes : List ℕ) → length bytes ≡ main.chip_size → (n : Numbers68) × ((at : ℕ) (holds : Bool) → Stand 0 (saved68.fields_by at holds n) bytes)

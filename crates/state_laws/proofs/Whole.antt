@@ -40,7 +40,7 @@ use Rattle.save_state.specs.Layout.{digest_part, drawing_part, fm_part, fm_port_
 use Rattle.save_state.specs.Pieces.{Fails, Kept, Pieces, built}
 use Rattle.save_state.specs.States.{IsNewest, are_fm_early, are_psg_early, mark}
 use Rattle.save_state.specs.Versions.{HasVersion, IsOtherCart, IsState, IsWrongAt, from_first, from_second, mark_of, migrated, other_size, place_back, size_of, strange, unmarked}
-use Rattle.save_state.proofs.Joins.{fine, ruled}
+use Rattle.save_state.proofs.Joins.{fine, reads_ruled}
 use Rattle.save_state.proofs.MachineLaws.{IsAtRight, IsCycle, at_refused, machine_read, machine_refused, region_refused}
 use Rattle.save_state.proofs.ReadLaws.{from_start, parts_of_state, read_found, read_only, read_pads, read_wrong}
 use Rattle.save_state.proofs.VersionLaws.{form_of, form_wrong, found_of, only_of, same_cart, same_digest, state_own, wrong_of, wrong_own, wrong_unversioned}
@@ -185,7 +185,7 @@ answered_under v cart recording bytes j =
     let second = has_buttons v (number_at w16 pads2_place bytes) in
     record {
       answer = with_rule (with_rule a.answer first pads1_place) second pads2_place;
-      reads = ruled _ _ _ second pads2_place (HasOthers v pads2_place bytes) (λ e. e) (λ e. e) (ruled _ _ _ first pads1_place (HasOthers v pads1_place bytes) (λ e. e) (λ e. e) a.reads);
+      reads = reads_ruled _ _ _ second pads2_place (HasOthers v pads2_place bytes) (λ e. e) (λ e. e) (reads_ruled _ _ _ first pads1_place (HasOthers v pads1_place bytes) (λ e. e) (λ e. e) a.reads);
       memory = ruled_memory (with_rule a.answer first pads1_place) second pads2_place (ruled_memory a.answer first pads1_place a.memory);
     }
 

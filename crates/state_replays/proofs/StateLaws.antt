@@ -10,7 +10,7 @@ use Rattle.md_machine.specs.Owners.{HasOneOwner}
 use Rattle.md_machine.specs.Starts.{Start}
 use Rattle.replays.specs.declared.fault.ReplayFault.{ReplayFault}
 use Rattle.replays.specs.declared.fault.ReplayFault.TheVariants.{NoMemory}
-use Rattle.recording_laws.specs.Recorded.{recorded}
+use Rattle.recording_laws.specs.Recorded.{with_recording}
 use Rattle.save_state.specs.declared.fault.StateFault.{StateFault}
 use Rattle.save_state.specs.declared.fault.StateFault.TheVariants as faults
 use Rattle.save_state.specs.declared.version.Version.{Version}
@@ -25,7 +25,7 @@ use Rattle.save_state.proofs.VersionLaws.{newest_state}
 use Rattle.state_replays.specs.Kept.{IsFirst, IsKept, MayBeKept}
 
 -- a saved machine with another recording
-pub saved-with : (cart : List ℕ) (at : ℕ) (m : Console) (recording : Recorded) → IsSaved cart (record { at = at; console = m }) → IsSaved cart (record { at = at; console = recorded recording m })
+pub saved-with : (cart : List ℕ) (at : ℕ) (m : Console) (recording : Recorded) → IsSaved cart (record { at = at; console = m }) → IsSaved cart (record { at = at; console = with_recording recording m })
 saved-with cart at m recording is = record {
   begun = is.begun;
   near = is.near;
@@ -48,7 +48,7 @@ saved-with cart at m recording is = record {
 
 -- a state of a machine with another recording
 pub state-with : (cart : List ℕ) (at : ℕ) (m : Console) (recording : Recorded) (bytes : List ℕ) → IsSaved cart (record { at = at; console = m }) → bytes ≡ kept_bytes at m
-    → IsNewest cart bytes (record { at = at; console = recorded recording m })
+    → IsNewest cart bytes (record { at = at; console = with_recording recording m })
 state-with cart at m recording bytes is all = record { saved = saved-with cart at m recording is; all = all }
 
 -- what is long enough is of the form that is written
@@ -95,7 +95,7 @@ no-first cart bytes start is at m first all =
 
 -- the machine of an image, with a recording
 abbrev pub read-with : Recorded → ℕ → Console → MachineValue
-read-with recording at m = record { at = at; console = recorded recording m; entries = []; media = no_media }
+read-with recording at m = record { at = at; console = with_recording recording m; entries = []; media = no_media }
 
 -- that of power-on
 pub only-first : (cart : List ℕ) (recording : Recorded) (bytes : List ℕ) (r : Result MachineValue ReplayFault)
@@ -112,7 +112,7 @@ pub only-refused : (cart : List ℕ) (recording : Recorded) (bytes : List ℕ) (
     → (at : ℕ) (m : Console) → IsKept cart at m → bytes ≡ kept_bytes at m → r ≢ Err NoMemory → r ≡ Ok (read-with recording at m)
 only-refused cart recording bytes fault r state only at m (inl first) all memory = only-first cart recording bytes r only at m first all memory
 only-refused cart recording bytes fault r state only at m (inr saved) all memory =
-    absurd (refused-read fault _ (state (record { at = at; console = recorded recording m }) (newest_state cart bytes _ (state-with cart at m recording bytes saved all)) refl)) where
+    absurd (refused-read fault _ (state (record { at = at; console = with_recording recording m }) (newest_state cart bytes _ (state-with cart at m recording bytes saved all)) refl)) where
       refused-read : (fault : StateFault) (m : MachineValue) → ◌≡◌ {A = Result MachineValue StateFault} (Err fault) (Ok m) → ⊥
       refused-read fault m same = cc
 
@@ -123,7 +123,7 @@ pub only-read : (cart : List ℕ) (recording : Recorded) (bytes : List ℕ) (mac
     → (at : ℕ) (m : Console) → IsKept cart at m → bytes ≡ kept_bytes at m → machine ≡ read-with recording at m
 only-read cart recording bytes machine is state at m (inl first) all = absurd (no-first cart bytes _ is at m first all)
 only-read cart recording bytes machine is state at m (inr saved) all =
-    state (record { at = at; console = recorded recording m }) (newest_state cart bytes _ (state-with cart at m recording bytes saved all)) refl
+    state (record { at = at; console = with_recording recording m }) (newest_state cart bytes _ (state-with cart at m recording bytes saved all)) refl
 
 -- what images keep has their size
 pub only-long : (cart : List ℕ) (bytes : List ℕ) (start : Start) → IsState cart bytes start → (at : ℕ) (m : Console) → IsKept cart at m → bytes ≡ kept_bytes at m → length bytes ≡ state_size

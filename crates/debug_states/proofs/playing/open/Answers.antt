@@ -1,8 +1,8 @@
-use Rattle.debug_states.proofs.Opening.{keeps_machines, opened_is}
+use Rattle.debug_states.proofs.Opening.{machines_kept, opened_is}
 use Rattle.debug_states.proofs.playing.open.Goals as goal
 
 pub make-requires-clause-keeps : goal.make-requires-clause-keeps
-make-requires-clause-keeps c = keeps_machines c.args.images c.runs_have_images.ensures
+make-requires-clause-keeps c = machines_kept c.args.images c.runs_have_images.ensures
 
 pub returns : goal.returns
 returns c =

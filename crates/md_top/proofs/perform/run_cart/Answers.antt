@@ -5,7 +5,7 @@ use Rattle.md_top.specs.Courses.{start_at, start_in}
 use Rattle.md_top.specs.Endings.{RunFiles}
 use Rattle.md_top.specs.Loads.{Begins, BeginsWith, LoadCause}
 use Rattle.md_args.specs.Shown.{shown_run}
-use Rattle.md_top.proofs.Ends.{goes-far, load-ends, load-leaves, refused-leaves, run-ends, run-leaves, untouched}
+use Rattle.md_top.proofs.Ends.{goes-far, load-ends, load-leaves, refused-leaves, end-of-run, files-of-run, untouched}
 use Rattle.md_top.proofs.Kept.{state-cause-before}
 use Rattle.md_top.proofs.perform.run_cart.Goals as goal
 
@@ -55,7 +55,7 @@ returns-then-run-from-clause-cause g c = (
 pub returns-in-Ok-begin-clause-cause : goal.returns-in-Ok-begin-clause-cause
 returns-in-Ok-begin-clause-cause g c =
     let machine = c.in-Ok-first_machine.machine in
-    run-ends g.D.Depot.told (shown_run c.args.run.now) (start_in c.in-Ok-begin.course) (g.D.Depot.state c.args.depot.now) (g.D.Depot.state c.first_machine.new.depot)
+    end-of-run g.D.Depot.told (shown_run c.args.run.now) (start_in c.in-Ok-begin.course) (g.D.Depot.state c.args.depot.now) (g.D.Depot.state c.first_machine.new.depot)
     (g.D.Depot.state c.write_all.new.depot) c.write_all.result (omega (arith, c.if-run-from.false), omega (arith, c.if-run-gt-LAST_CYCLE.false))
     (λ none. ap (λ (s : Start). s.at) c.in-Ok-begin.ensures.start ∙ c.in-Ok-first_machine.ensures.at none)
     (λ t. subst (Begins (shown_run c.args.run.now) (g.D.Depot.state c.args.depot.now).files) (sym c.in-Ok-begin.ensures.start)
@@ -79,7 +79,7 @@ returns-in-Ok-begin-clause-files g c = λ t.
       with = subst (λ (files : Files). BeginsWith (shown_run c.args.run.now).load files c.in-Ok.inputs (start_at machine)) (c.in-Ok.ensures.files t) (c.in-Ok-first_machine.ensures.begins t);
     } in
     subst (λ (old : Files). RunFiles (shown_run c.args.run.now) old (g.D.Depot.state c.write_all.new.depot).files c.write_all.result) same
-    (run-leaves (shown_run c.args.run.now) (start_in c.in-Ok-begin.course) (g.D.Depot.state c.first_machine.new.depot).files (g.D.Depot.state c.write_all.new.depot).files c.write_all.result
+    (files-of-run (shown_run c.args.run.now) (start_in c.in-Ok-begin.course) (g.D.Depot.state c.first_machine.new.depot).files (g.D.Depot.state c.write_all.new.depot).files c.write_all.result
     (subst (λ (old : Files). Begins (shown_run c.args.run.now) old (start_in c.in-Ok-begin.course)) (sym same)
     (subst (Begins (shown_run c.args.run.now) (g.D.Depot.state c.args.depot.now).files) (sym c.in-Ok-begin.ensures.start) begins))
     (c.write_all.ensures.files t))

@@ -9,7 +9,7 @@ use Rattle.md_top.specs.Courses.{CameFrom, cycle_of}
 use Rattle.md_top.specs.Runs.{entries_from, media_from}
 use Rattle.md_top.specs.Workers.{WentOn}
 use Rattle.md_machine.proofs.Regions.{run_stays}
-use Rattle.md_top.proofs.Segments.{Segment, came-to, few-entries, frame-room, frames_bytes-append, journal_bytes-append, paired, segment_made, sound_bytes-append}
+use Rattle.md_top.proofs.Segments.{Segment, segment-came, few-entries, frame-room, frames_bytes-append, journal_bytes-append, paired, segment_made, sound_bytes-append}
 use Rattle.md_top.proofs.segment.advance.Goals as goal
 
 pub drain_frames-requires : goal.drain_frames-requires
@@ -86,7 +86,7 @@ returns-clause-underway g c = λ start came.
     let more : length (entries_from start c.args.to)
     ≡ length (entries_from start (cycle_of c.args.course.now)) + length c.go_on.new.arg2.entries =
     ap length made.entries ∙ length-append (entries_from start (cycle_of c.args.course.now)) c.go_on.new.arg2.entries in
-    came-to start (cycle_of c.args.course.now) c.args.to (c.args.course.now.accesses + c.len.result / 16) c.go_on.new.arg2 c.drain_entries.new.self
+    segment-came start (cycle_of c.args.course.now) c.args.to (c.args.course.now.accesses + c.len.result / 16) c.go_on.new.arg2 c.drain_entries.new.self
     came.from came.laws came.heard came.reached (omega (arith, came.later, c.requires.later)) made after
     (omega (
       arith,

@@ -2,7 +2,7 @@ use Rattle.std.proofs.Common.{◌≡◌, [], sym, subst, arith}
 use Rattle.md_machine.specs.Machines.{MachineValue}
 use Rattle.md_machine.specs.Media.{no_media}
 use Rattle.md_top.specs.Courses.{CameTo, start_at}
-use Rattle.md_top.proofs.Heard.{hears-runs}
+use Rattle.md_top.proofs.Heard.{runs-heard}
 use Rattle.md_top.proofs.Segments.{at-start}
 use Rattle.md_top.proofs.segment.begin.Goals as goal
 
@@ -13,6 +13,6 @@ returns-clause-underway c =
     λ i. record { at = machine.at; console = machine.console; entries = c.requires.fresh.entries i; media = c.requires.fresh.media i } in
     subst (λ (m : MachineValue). CameTo (start_at machine) m 0) (sym drained)
     (at-start (start_at machine) c.requires.fresh.from c.runs_keep_laws.ensures
-    (hears-runs (start_at machine) c.cart.result.now c.cart-2.result.now c.cart.ensures c.cart-2.ensures c.levels_are_heard.ensures c.sides_are_heard.ensures)
+    (runs-heard (start_at machine) c.cart.result.now c.cart-2.result.now c.cart.ensures c.cart-2.ensures c.levels_are_heard.ensures c.sides_are_heard.ensures)
     c.requires.fresh.reached
     (omega (arith, c.requires.near)))
