@@ -7,7 +7,7 @@ use Rattle.m68k_time.proofs.Covers.{covers-modes}
 use Rattle.m68k_time.proofs.Most.{few}
 use Rattle.m68k_time.specs.Clocks.{clocks_of}
 use Rattle.m68k_exec.specs.Sample.Bounds.{Fits}
-use Rattle.m68k_exec.proofs.Bounds.CountsFew.{few_counted}
+use Rattle.m68k_exec.proofs.Bounds.CountsFew.{row_counted}
 use Rattle.m68k_exec.proofs.Bounds.Spends.{names, spends}
 use Rattle.m68k_exec.specs.Access.Memory.{Memory, instruction_words}
 use Rattle.m68k_exec.specs.Sample.Samples.{Ended, sampled}
@@ -20,4 +20,4 @@ suffices cause regs memory ended e =
 
 -- no sample is long
 pub short : (cause : ℕ) (regs : Regs) (memory : Memory) (ended : Ended) → Fits memory → sampled cause regs memory ≡ Ok ended → clocks_of ended.op ended.spent ≤ 692
-short cause regs memory ended fits e = few ended.op ended.spent (few_counted cause regs memory ended fits e)
+short cause regs memory ended fits e = few ended.op ended.spent (row_counted cause regs memory ended fits e)

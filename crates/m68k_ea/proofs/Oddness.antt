@@ -67,8 +67,8 @@ elsewhere mode size regs pc place outside other = record {
   only = λ at h. let memory : IsTrue (is_memory mode) = h.memory in absurd (cc);
 }
 
-pub odd_exactly : (mode : Mode) (size : Size) (regs : Regs) (pc : ℕ) (place : Place) → place ≡ place_of mode size regs pc → OddExactly mode size regs pc place
-odd_exactly (Data n) size regs pc place e = elsewhere (Data n) size regs pc place refl (λ at h. cc)
-odd_exactly (Address n) size regs pc place e = elsewhere (Address n) size regs pc place refl (λ at h. cc)
-odd_exactly (Immediate value) size regs pc place e = elsewhere (Immediate value) size regs pc place refl (λ at h. cc)
-odd_exactly mode size regs pc place e = in_memory mode size regs pc place refl e (is_misaligned size (effective_address mode size regs pc)) refl
+pub oddness : (mode : Mode) (size : Size) (regs : Regs) (pc : ℕ) (place : Place) → place ≡ place_of mode size regs pc → OddExactly mode size regs pc place
+oddness (Data n) size regs pc place e = elsewhere (Data n) size regs pc place refl (λ at h. cc)
+oddness (Address n) size regs pc place e = elsewhere (Address n) size regs pc place refl (λ at h. cc)
+oddness (Immediate value) size regs pc place e = elsewhere (Immediate value) size regs pc place refl (λ at h. cc)
+oddness mode size regs pc place e = in_memory mode size regs pc place refl e (is_misaligned size (effective_address mode size regs pc)) refl

@@ -27,8 +27,8 @@ sum_up : (base by : ℕ) → address_sum (pos base) (pos 0) (pos by) ≡ (addres
 unfolding address_sum
 sum_up base by = grind (arith, ints)
 
-pub points_beside : (mode : Mode) (size : Size) (old new : Regs) → length old.a ≡ 7 → new ≡ stepped mode size old → PointsBeside mode size old new
-points_beside mode size old new l e = record {
+pub stepped_beside : (mode : Mode) (size : Size) (old new : Regs) → length old.a ≡ 7 → new ≡ stepped mode size old → PointsBeside mode size old new
+stepped_beside mode size old new l e = record {
   past = λ n pc is.
       let this : new ≡ moved old n (pos (step_of size n)) = rw is at e in
       let holds = moved_holds old n (pos (step_of size n)) l in

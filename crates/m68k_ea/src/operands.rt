@@ -41,7 +41,7 @@ fn standing(size: Size, address: u32) -> Place
 ///
 /// Source: M68000 Programmer's Reference Manual, section 2.2.
 #[inline(always)]
-#[tactic(auto, using(crate::proofs::Oddness::odd_exactly, crate::proofs::Sums::base_alone))]
+#[tactic(auto, using(crate::proofs::Oddness::oddness, crate::proofs::Sums::base_alone))]
 pub fn place(mode: Mode, size: Size, regs: &Regs, pc: u32) -> Place
     requires { IsMode mode }
     ensures place { result ≡ place_of mode size regs.now pc }

@@ -10,7 +10,7 @@ use md_word::{Mode, Regs, Size};
 ///
 /// A7 is the active stack pointer, and a byte moves it by 2. Addresses are modulo 2^32.
 /// Source: M68000 Programmer's Reference Manual, sections 2.2.4 and 2.2.5.
-#[tactic(auto, using(crate::proofs::Stepping::points_beside), unfolding(crate::specs::Steps::moved))]
+#[tactic(auto, using(crate::proofs::Stepping::stepped_beside), unfolding(crate::specs::Steps::moved))]
 pub fn stepped(mode: Mode, size: Size, regs: &Regs) -> Regs
     requires { IsMode mode }
     ensures stepped { result ≡ steps.stepped mode size regs.now }
@@ -32,7 +32,7 @@ pub fn stepped(mode: Mode, size: Size, regs: &Regs) -> Regs
 }
 
 /// Moves the register of (An)+ up and that of −(An) down, by the bytes of the operand.
-#[tactic(auto, using(crate::proofs::Stepping::points_beside), unfolding(crate::specs::Steps::moved))]
+#[tactic(auto, using(crate::proofs::Stepping::stepped_beside), unfolding(crate::specs::Steps::moved))]
 pub fn step(mode: Mode, size: Size, regs: &mut Regs)
     requires { IsMode mode }
     ensures stepped { regs.new ≡ steps.stepped mode size regs.old }

@@ -60,8 +60,8 @@ one-longer : (value : ℕ) (memory : Memory) → length (answered_with value mem
 one-longer value memory = length-append memory.answers (value ∷ [])
 
 -- what was taken is the same
-same-below : (count value : ℕ) (memory : Memory) → count ≤ length memory.answers → SameBelow count memory (answered_with value memory)
-same-below count value memory few = record {
+answered-same : (count value : ℕ) (memory : Memory) → count ≤ length memory.answers → SameBelow count memory (answered_with value memory)
+answered-same count value memory few = record {
   rom = refl;
   ram = refl;
   enough = (let e = one-longer value memory in omega (arith, e, few));
@@ -145,7 +145,7 @@ long-by address written memory done request value (Ok x) e g last =
       | one is ↦
           let used : x.1.used ≡ done.used + 1 = ap (λ (d : Done). d.used) is in
           let all : x.1.used ≡ length memory.answers = omega (arith, used, last) in
-          let again = (later.write_word address (written / 0x1_0000)).value memory (answered_with value memory) done x.0 x.1 e (same-below x.1.used value memory (omega (arith, all))) in
+          let again = (later.write_word address (written / 0x1_0000)).value memory (answered_with value memory) done x.0 x.1 e (answered-same x.1.used value memory (omega (arith, all))) in
           let behind = word-behind ((address + 2) % 2 ^ 32) (written % 0x1_0000) memory x.1 request value g all in
           rw again (rw behind (ap (λ (d : Done). Ok (tt, record d { used = length memory.answers + 1 })) is))
       | none same ↦ absurd (omega (arith, same, late, last))
@@ -183,7 +183,7 @@ pub move-behind : (size : Size) (source target : Mode) (start : ℕ) (regs : Reg
     ≡ Ok (plain (with_flags (stepped target size from.regs) (computed tasks.Move size from.value from.value (flags_of regs)).flags), all_answered memory)
 unfolding moves.move_operand
 move-behind size source target start regs memory done from mid value loaded few stored =
-    let again = (later.load source size (behind start 2) regs).value memory (answered_with value memory) done from mid loaded (same-below mid.used value memory few) in
+    let again = (later.load source size (behind start 2) regs).value memory (answered_with value memory) done from mid loaded (answered-same mid.used value memory few) in
     rw again (rw stored refl)
 
 -- ---- the sample
@@ -229,13 +229,13 @@ instruction-foresees A word first regs memory foreseen new stop request pc done 
     let ends = subst (λ (n : ℕ). row word.op regs.pc (record regs { pc = n }) (answered_with value memory) nothing ≡ Ok (plain foreseen.regs, all_answered memory)) after there in
     instruction-behind word first regs memory new value even (ends ∙ ap (λ (r : Regs). Ok (plain r, all_answered memory)) (sym kept)) (finishes was)
 
-same-words : (address value : ℕ) (memory : Memory) → instruction_words address (answered_with value memory) ≡ instruction_words address memory
+words-answered : (address value : ℕ) (memory : Memory) → instruction_words address (answered_with value memory) ≡ instruction_words address memory
 unfolding instruction_words instruction_word
-same-words address value memory = refl
+words-answered address value memory = refl
 
 pub sample-foresees : (step : Step) (foreseen : Foreseen) (cause : ℕ) (regs : Regs) (memory : Memory) (found : Decoded) (first : ℕ) → found ≡ decoded (instruction_words regs.pc memory) → first ≡ opcode (instruction_words regs.pc memory)
     → EndsForeseen step foreseen (samples.sample_of cause found first regs) memory → EndsForeseen step foreseen (samples.sampled cause regs) memory
 unfolding samples.sampled
 sample-foresees (steps.Need request) foreseen cause regs memory found first names begins ends = λ known value.
-    rw (same-words regs.pc value memory) (rw (sym names, sym begins) (ends known value))
+    rw (words-answered regs.pc value memory) (rw (sym names, sym begins) (ends known value))
 sample-foresees (steps.Done finish) foreseen cause regs memory found first names begins ends = tt

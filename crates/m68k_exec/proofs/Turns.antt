@@ -28,15 +28,15 @@ loaded-on : {C : Type 0} (w : Result (ℕ × Done) Stop) (next : ℕ) (change : 
 loaded-on (Ok w) next change f = refl
 loaded-on (Err stop) next change f = refl
 
-store-turn : (order : Order) (size : Size) (n at : ℕ) (rest : List ℕ) (regs : Regs) (memory : Memory) (done : Done) (chosen : Bool) → store_each order size (if chosen then n ∷ rest else rest) at regs memory done ≡ go_on (store_turn order size chosen n at regs memory done) (λ next after. store_each order size rest next regs memory after)
+store_each-turn : (order : Order) (size : Size) (n at : ℕ) (rest : List ℕ) (regs : Regs) (memory : Memory) (done : Done) (chosen : Bool) → store_each order size (if chosen then n ∷ rest else rest) at regs memory done ≡ go_on (store_turn order size chosen n at regs memory done) (λ next after. store_each order size rest next regs memory after)
 unfolding store_one
-store-turn order size n at rest regs memory done true =
+store_each-turn order size n at rest regs memory done true =
     handed-on (write size (place_at order size at) (register_of regs (named order n) % modulus_of size) memory done) (next_address order size at) (λ next after. store_each order size rest next regs memory after)
-store-turn order size n at rest regs memory done false = refl
+store_each-turn order size n at rest regs memory done false = refl
 
 pub store_step : (order : Order) (size : Size) (list n at : ℕ) (regs : Regs) (memory : Memory) (done : Done) → n < 16 → store_each order size (places (16 - n) list n) at regs memory done ≡ go_on (store_turn order size (list % 2 == 1) n at regs memory done) (λ next after. store_each order size (places (16 - (n + 1)) (list / 2) (n + 1)) next regs memory after)
 store_step order size list n at regs memory done h =
-    rw (next-count n h) (store-turn order size n at (places (16 - (n + 1)) (list / 2) (n + 1)) regs memory done (list % 2 == 1))
+    rw (next-count n h) (store_each-turn order size n at (places (16 - (n + 1)) (list / 2) (n + 1)) regs memory done (list % 2 == 1))
 
 low-bit : (k : ℕ) → k < 2 → k ≡ flag_number (k == 1)
 low-bit zero h = refl
@@ -51,12 +51,12 @@ ones_turn list times =
     let sum : count_ones list ≡ flag_number (list % 2 == 1) + count_ones (list / 2) = cc in
     rw (sum, add-mul) refl
 
-load-turn : (size : Size) (n at : ℕ) (rest : List ℕ) (regs : Regs) (memory : Memory) (done : Done) (chosen : Bool) → load_each size (if chosen then n ∷ rest else rest) at regs memory done ≡ go_on (load_turn size chosen n at regs memory done) (λ next after. load_each size rest next.address next.regs memory after)
+load_each-turn : (size : Size) (n at : ℕ) (rest : List ℕ) (regs : Regs) (memory : Memory) (done : Done) (chosen : Bool) → load_each size (if chosen then n ∷ rest else rest) at regs memory done ≡ go_on (load_turn size chosen n at regs memory done) (λ next after. load_each size rest next.address next.regs memory after)
 unfolding load_one
-load-turn size n at rest regs memory done true =
+load_each-turn size n at rest regs memory done true =
     loaded-on (read size at memory done) (next_address Rising size at) (λ value. with_register regs n (extended size value)) (λ next after. load_each size rest next.address next.regs memory after)
-load-turn size n at rest regs memory done false = refl
+load_each-turn size n at rest regs memory done false = refl
 
 pub load_step : (size : Size) (list n at : ℕ) (regs : Regs) (memory : Memory) (done : Done) → n < 16 → load_each size (places (16 - n) list n) at regs memory done ≡ go_on (load_turn size (list % 2 == 1) n at regs memory done) (λ next after. load_each size (places (16 - (n + 1)) (list / 2) (n + 1)) next.address next.regs memory after)
 load_step size list n at regs memory done h =
-    rw (next-count n h) (load-turn size n at (places (16 - (n + 1)) (list / 2) (n + 1)) regs memory done (list % 2 == 1))
+    rw (next-count n h) (load_each-turn size n at (places (16 - (n + 1)) (list / 2) (n + 1)) regs memory done (list % 2 == 1))

@@ -75,14 +75,14 @@ waits_by regs memory (Err (Odd address read used)) h even fewer = absurd (no_fau
 frame_same : (number : ℕ) (memory : Memory) (one two : Regs) → one.ssp ≡ two.ssp → frame number one memory ≡ frame number two memory
 frame_same number memory one two e = ap (λ stack. frame number (record one { ssp = stack }) memory) e
 
-after_all : (regs : Regs) (memory : Memory) (outcome : Outcome) (done : Done) → Known regs memory (Ok (outcome, done)) → outcome.cause ≢ 0 → AfterAll regs memory done.used outcome.cause (words (frame outcome.cause outcome.regs memory))
-after_all regs memory outcome done h some = record {
+known_after_all : (regs : Regs) (memory : Memory) (outcome : Outcome) (done : Done) → Known regs memory (Ok (outcome, done)) → outcome.cause ≢ 0 → AfterAll regs memory done.used outcome.cause (words (frame outcome.cause outcome.regs memory))
+known_after_all regs memory outcome done h some = record {
   completes = completed _ (length memory.answers) done.used h.along;
   pushes = ap words (frame_same outcome.cause memory outcome.regs (left_by (named regs memory) (started regs memory)) (h.left some));
 }
 
-after_fault : (regs : Regs) (memory : Memory) (address : ℕ) (read : Bool) (used : ℕ) → Known regs memory (Err (Odd address read used)) → AfterFault regs memory used 3 (words (frame 3 regs memory))
-after_fault regs memory address read used h = record {
+known_after_fault : (regs : Regs) (memory : Memory) (address : ℕ) (read : Bool) (used : ℕ) → Known regs memory (Err (Odd address read used)) → AfterFault regs memory used 3 (words (frame 3 regs memory))
+known_after_fault regs memory address read used h = record {
   address = address;
   read = read;
   faults = faulted _ _ used address read h.along;
@@ -104,7 +104,7 @@ asks_all regs memory outcome done request false h is e =
         pushed = asks.taken;
         list = list;
         counted = asks.used;
-        comes = inr (after_all regs memory outcome done h some);
+        comes = inr (known_after_all regs memory outcome done h some);
         holds = asks.waits;
       },
     )
@@ -123,7 +123,7 @@ asks_by regs memory (Err (Odd address read used)) request h e =
         pushed = asks.taken;
         list = list;
         counted = asks.used;
-        comes = inl (after_fault regs memory address read used h);
+        comes = inl (known_after_fault regs memory address read used h);
         holds = asks.waits;
       },
     )
@@ -168,7 +168,7 @@ ends_all regs memory outcome done ended false h is e other_ =
         pushed = ends.taken;
         list = list;
         counted = ends.used;
-        comes = inr (after_all regs memory outcome done h some);
+        comes = inr (known_after_all regs memory outcome done h some);
         holds = ends.completes;
       },
       subst (Caused outcome.cause) (rw is at e) (exception_caused (named regs memory) (Numbered outcome.cause) trace regs outcome.regs memory done),
@@ -188,7 +188,7 @@ ends_by regs memory (Err (Odd address read used)) ended h e some =
         pushed = ends.taken;
         list = list;
         counted = ends.used;
-        comes = inl (after_fault regs memory address read used h);
+        comes = inl (known_after_fault regs memory address read used h);
         holds = ends.completes;
       },
       subst (Caused 3) e (exception_caused (named regs memory) kind false regs regs memory before),

@@ -17,7 +17,7 @@ use Rattle.m68k_decode.specs.declared.displacement.Displacement.{Displacement}
 use Rattle.m68k_decode.specs.declared.displacement.Displacement.TheVariants as displacements
 use Rattle.m68k_decode.specs.declared.op.Op.{Op}
 use Rattle.m68k_decode.specs.declared.op.Op.TheVariants as ops
-use Rattle.m68k_time.specs.Addresses.{address_time, by_size, by_source, control_times, placed, target_time}
+use Rattle.m68k_time.specs.Addresses.{address_time, by_size, by_source, control_times_of, placed, target_time}
 use Rattle.m68k_time.specs.Clocks.{bit_time, clocks_of, passed_time, quick_time, row_time}
 use Rattle.m68k_time.specs.Exceptions.{exception_time, operand_time}
 
@@ -128,7 +128,7 @@ quicks size (Address n) = omega arith
 quicks size mode = changed size mode 4 8 8 12 (omega arith) (omega arith) (omega arith) (omega arith)
 
 -- the modes of the control instructions
-peas : (mode : Mode) → IsOf control mode → 12 ≤ (control_times mode).pea
+peas : (mode : Mode) → IsOf control mode → 12 ≤ (control_times_of mode).pea
 peas (Indirect n) is = omega arith
 peas (Displaced n by) is = omega arith
 peas (Indexed n index long by) is = omega arith
@@ -138,7 +138,7 @@ peas (PcDisplaced by) is = omega arith
 peas (PcIndexed index long by) is = omega arith
 peas _ is = absurd (false≢true is)
 
-jsrs : (mode : Mode) → IsOf control mode → 12 ≤ (control_times mode).jsr
+jsrs : (mode : Mode) → IsOf control mode → 12 ≤ (control_times_of mode).jsr
 jsrs (Indirect n) is = omega arith
 jsrs (Displaced n by) is = omega arith
 jsrs (Indexed n index long by) is = omega arith
@@ -148,7 +148,7 @@ jsrs (PcDisplaced by) is = omega arith
 jsrs (PcIndexed index long by) is = omega arith
 jsrs _ is = absurd (false≢true is)
 
-jmps : (mode : Mode) → IsOf control mode → 4 ≤ (control_times mode).jmp
+jmps : (mode : Mode) → IsOf control mode → 4 ≤ (control_times_of mode).jmp
 jmps (Indirect n) is = omega arith
 jmps (Displaced n by) is = omega arith
 jmps (Indexed n index long by) is = omega arith
@@ -158,7 +158,7 @@ jmps (PcDisplaced by) is = omega arith
 jmps (PcIndexed index long by) is = omega arith
 jmps _ is = absurd (false≢true is)
 
-leas : (mode : Mode) → IsOf control mode → 4 ≤ (control_times mode).lea
+leas : (mode : Mode) → IsOf control mode → 4 ≤ (control_times_of mode).lea
 leas (Indirect n) is = omega arith
 leas (Displaced n by) is = omega arith
 leas (Indexed n index long by) is = omega arith
@@ -168,7 +168,7 @@ leas (PcDisplaced by) is = omega arith
 leas (PcIndexed index long by) is = omega arith
 leas _ is = absurd (false≢true is)
 
-stores : (mode : Mode) → IsOf control_alterable_or_predecrement mode → 4 ≤ (control_times mode).to_memory
+stores : (mode : Mode) → IsOf control_alterable_or_predecrement mode → 4 ≤ (control_times_of mode).to_memory
 stores (Indirect n) is = omega arith
 stores (PreDec n) is = omega arith
 stores (Displaced n by) is = omega arith
@@ -177,7 +177,7 @@ stores (AbsShort at) is = omega arith
 stores (AbsLong at) is = omega arith
 stores _ is = absurd (false≢true is)
 
-loads : (mode : Mode) → IsOf control_or_postincrement mode → 4 ≤ (control_times mode).to_registers
+loads : (mode : Mode) → IsOf control_or_postincrement mode → 4 ≤ (control_times_of mode).to_registers
 loads (Indirect n) is = omega arith
 loads (PostInc n) is = omega arith
 loads (Displaced n by) is = omega arith
@@ -264,8 +264,8 @@ row-covers-modes (ops.MoveToCcr mode) spent is counted = omega (arith, read Word
 row-covers-modes (ops.MoveToSr mode) spent is counted = omega (arith, read Word mode)
 row-covers-modes (ops.Nbcd mode) spent is counted = changed Byte mode 6 6 8 12 (omega arith) (omega arith) (omega arith) (omega arith)
 row-covers-modes (ops.Pea mode) spent is counted = omega (arith, peas mode is)
-row-covers-modes (ops.MovemToMemory size list mode) spent is counted = listed size (count_ones list) spent.count (control_times mode).to_memory counted (stores mode is)
-row-covers-modes (ops.MovemToRegisters size list mode) spent is counted = listed size (count_ones list) spent.count (control_times mode).to_registers counted (loads mode is)
+row-covers-modes (ops.MovemToMemory size list mode) spent is counted = listed size (count_ones list) spent.count (control_times_of mode).to_memory counted (stores mode is)
+row-covers-modes (ops.MovemToRegisters size list mode) spent is counted = listed size (count_ones list) spent.count (control_times_of mode).to_registers counted (loads mode is)
 row-covers-modes (ops.Tst size mode) spent is counted = omega (arith, read size mode)
 row-covers-modes (ops.Tas mode) spent is counted = tested Byte mode 4 4 10 10 (omega arith) (omega arith) (omega arith) (omega arith)
 row-covers-modes (ops.Jsr mode) spent is counted = omega (arith, jsrs mode is)

@@ -14,7 +14,7 @@ use Rattle.m68k_decode.specs.declared.displacement.Displacement.{Displacement}
 use Rattle.m68k_decode.specs.declared.displacement.Displacement.TheVariants as displacements
 use Rattle.m68k_decode.specs.declared.op.Op.{Op}
 use Rattle.m68k_decode.specs.declared.op.Op.TheVariants as ops
-use Rattle.m68k_time.specs.Addresses.{address_time, by_size, by_source, control_times, placed, target_time}
+use Rattle.m68k_time.specs.Addresses.{address_time, by_size, by_source, control_times_of, placed, target_time}
 use Rattle.m68k_time.specs.Clocks.{bit_time, clocks_of, passed_time, quick_time, row_time}
 use Rattle.m68k_time.specs.Exceptions.{exception_time, operand_time}
 
@@ -79,7 +79,7 @@ bits tasks.Btst mode = at mode 100 6 _ (omega arith) (omega (arith, read Byte mo
 bits tasks.Bclr mode = at mode 100 10 _ (omega arith) (omega (arith, read Byte mode))
 bits _ mode = at mode 100 8 _ (omega arith) (omega (arith, read Byte mode))
 
-controls : (mode : Mode) → ((control_times mode).lea ≤ 22) × ((control_times mode).pea ≤ 22) × ((control_times mode).jmp ≤ 22) × ((control_times mode).jsr ≤ 22) × ((control_times mode).to_memory ≤ 22) × ((control_times mode).to_registers ≤ 22)
+controls : (mode : Mode) → ((control_times_of mode).lea ≤ 22) × ((control_times_of mode).pea ≤ 22) × ((control_times_of mode).jmp ≤ 22) × ((control_times_of mode).jsr ≤ 22) × ((control_times_of mode).to_memory ≤ 22) × ((control_times_of mode).to_registers ≤ 22)
 controls (Data n) = (omega arith, omega arith, omega arith, omega arith, omega arith, omega arith)
 controls (Address n) = (omega arith, omega arith, omega arith, omega arith, omega arith, omega arith)
 controls (Indirect n) = (omega arith, omega arith, omega arith, omega arith, omega arith, omega arith)

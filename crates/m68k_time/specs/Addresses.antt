@@ -46,17 +46,17 @@ abbrev pub row : ℕ → ℕ → ℕ → ℕ → ℕ → ℕ → ControlTimes
 row lea pea jmp jsr to_memory to_registers = record { lea = lea; pea = pea; jmp = jmp; jsr = jsr; to_memory = to_memory; to_registers = to_registers }
 
 -- the times of each mode
-abbrev pub control_times : Mode → ControlTimes
-control_times (Indirect _) = row 4 12 8 16 8 12
-control_times (PostInc _) = row 0 0 0 0 0 12
-control_times (PreDec _) = row 0 0 0 0 8 0
-control_times (Displaced _ _) = row 8 16 10 18 12 16
-control_times (AbsShort _) = row 8 16 10 18 12 16
-control_times (PcDisplaced _) = row 8 16 10 18 0 16
-control_times (Indexed _ _ _ _) = row 12 20 14 22 14 18
-control_times (PcIndexed _ _ _) = row 12 20 14 22 0 18
-control_times (AbsLong _) = row 12 20 12 20 16 20
-control_times _ = row 0 0 0 0 0 0
+abbrev pub control_times_of : Mode → ControlTimes
+control_times_of (Indirect _) = row 4 12 8 16 8 12
+control_times_of (PostInc _) = row 0 0 0 0 0 12
+control_times_of (PreDec _) = row 0 0 0 0 8 0
+control_times_of (Displaced _ _) = row 8 16 10 18 12 16
+control_times_of (AbsShort _) = row 8 16 10 18 12 16
+control_times_of (PcDisplaced _) = row 8 16 10 18 0 16
+control_times_of (Indexed _ _ _ _) = row 12 20 14 22 14 18
+control_times_of (PcIndexed _ _ _) = row 12 20 14 22 0 18
+control_times_of (AbsLong _) = row 12 20 12 20 16 20
+control_times_of _ = row 0 0 0 0 0 0
 
 -- an operand in a register or in memory
 abbrev pub placed : Mode → ℕ → ℕ → ℕ

@@ -11,7 +11,7 @@ use Rattle.m68k_decode.specs.declared.displacement.Displacement.{Displacement}
 use Rattle.m68k_decode.specs.declared.displacement.Displacement.TheVariants as displacements
 use Rattle.m68k_decode.specs.declared.op.Op.{Op}
 use Rattle.m68k_decode.specs.declared.op.Op.TheVariants as ops
-use Rattle.m68k_time.specs.Addresses.{address_time, by_size, by_source, control_times, placed, target_time}
+use Rattle.m68k_time.specs.Addresses.{address_time, by_size, by_source, control_times_of, placed, target_time}
 use Rattle.m68k_time.specs.Exceptions.{exception_time}
 
 -- BTST, BCHG, BCLR and BSET by a data register: in a register, and in memory
@@ -49,9 +49,9 @@ row_time (ops.MoveToSr mode) spent = 12 + address_time Word mode
 row_time (ops.Nbcd mode) spent = placed mode 6 (8 + address_time Byte mode)
 row_time (ops.Swap _) spent = 4
 row_time (ops.Ext _ _) spent = 4
-row_time (ops.Pea mode) spent = (control_times mode).pea
-row_time (ops.MovemToMemory size _ mode) spent = (control_times mode).to_memory + by_size size 4 8 * spent.count
-row_time (ops.MovemToRegisters size _ mode) spent = (control_times mode).to_registers + by_size size 4 8 * spent.count
+row_time (ops.Pea mode) spent = (control_times_of mode).pea
+row_time (ops.MovemToMemory size _ mode) spent = (control_times_of mode).to_memory + by_size size 4 8 * spent.count
+row_time (ops.MovemToRegisters size _ mode) spent = (control_times_of mode).to_registers + by_size size 4 8 * spent.count
 row_time (ops.Tst size mode) spent = 4 + address_time size mode
 row_time (ops.Tas mode) spent = placed mode 4 (10 + address_time Byte mode)
 row_time (ops.Trap _) spent = 34
@@ -66,9 +66,9 @@ row_time ops.Rte spent = 20
 row_time ops.Rts spent = 16
 row_time ops.Trapv spent = 4
 row_time ops.Rtr spent = 20
-row_time (ops.Jsr mode) spent = (control_times mode).jsr
-row_time (ops.Jmp mode) spent = (control_times mode).jmp
-row_time (ops.Lea _ mode) spent = (control_times mode).lea
+row_time (ops.Jsr mode) spent = (control_times_of mode).jsr
+row_time (ops.Jmp mode) spent = (control_times_of mode).jmp
+row_time (ops.Lea _ mode) spent = (control_times_of mode).lea
 row_time (ops.Chk _ mode) spent = 10 + address_time Word mode
 row_time (ops.Quick _ size _ mode) spent = quick_time size mode
 row_time (ops.Scc _ mode) spent = placed mode (cond spent.taken 6 4) (8 + address_time Byte mode)

@@ -1,11 +1,11 @@
 ghost use Rattle.std.specs.Prelude.{◌≡◌, ◌≤◌};
-ghost use Rattle.m68k_time.specs.Addresses.{control_times};
+ghost use Rattle.m68k_time.specs.Addresses.{control_times_of};
 
 use md_word::Mode;
 
 /// LEA.
 pub(crate) fn lea_time(mode: Mode) -> u32
-    ensures value { result ≡ (control_times mode).lea }
+    ensures value { result ≡ (control_times_of mode).lea }
     ensures most { result ≤ 12 }
 {
     match mode {
@@ -18,7 +18,7 @@ pub(crate) fn lea_time(mode: Mode) -> u32
 
 /// JMP.
 pub(crate) fn jmp_time(mode: Mode) -> u32
-    ensures value { result ≡ (control_times mode).jmp }
+    ensures value { result ≡ (control_times_of mode).jmp }
     ensures most { result ≤ 14 }
 {
     match mode {
@@ -32,7 +32,7 @@ pub(crate) fn jmp_time(mode: Mode) -> u32
 
 /// PEA, which pushes what LEA calculates.
 pub(crate) fn pea_time(mode: Mode) -> u32
-    ensures { result ≡ (control_times mode).pea }
+    ensures { result ≡ (control_times_of mode).pea }
 {
     match lea_time(mode) {
         0 => 0,
@@ -42,7 +42,7 @@ pub(crate) fn pea_time(mode: Mode) -> u32
 
 /// JSR, which pushes and then goes as JMP does.
 pub(crate) fn jsr_time(mode: Mode) -> u32
-    ensures { result ≡ (control_times mode).jsr }
+    ensures { result ≡ (control_times_of mode).jsr }
 {
     match jmp_time(mode) {
         0 => 0,
@@ -52,7 +52,7 @@ pub(crate) fn jsr_time(mode: Mode) -> u32
 
 /// MOVEM to memory, without its registers.
 pub(crate) fn store_time(mode: Mode) -> u32
-    ensures value { result ≡ (control_times mode).to_memory }
+    ensures value { result ≡ (control_times_of mode).to_memory }
     ensures most { result ≤ 16 }
 {
     match mode {
@@ -66,7 +66,7 @@ pub(crate) fn store_time(mode: Mode) -> u32
 
 /// MOVEM to registers, without them.
 pub(crate) fn load_time(mode: Mode) -> u32
-    ensures value { result ≡ (control_times mode).to_registers }
+    ensures value { result ≡ (control_times_of mode).to_registers }
     ensures most { result ≤ 20 }
 {
     match mode {

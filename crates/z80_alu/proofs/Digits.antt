@@ -70,8 +70,8 @@ adds x y carry dx dy =
     let sum : Spells (then_adjusted (added x y carry)) (10 * u + v) = rw (after_sum x y carry) (sum_spells _ _ _ (x + y + flag_number carry) u v (omega arith) (omega arith) (omega arith)) in
     record { digits = sum.digits; sum = omega (arith, sum.number) }
 
-pub adds_digits : AddsDigits
-adds_digits x y f dx dy = (adds x y false dx dy, adds x y (flags_of f).c dx dy)
+pub digits_added : AddsDigits
+digits_added x y f dx dy = (adds x y false dx dy, adds x y (flags_of f).c dx dy)
 
 -- the flags after a difference of 16·u + v less 16·9 + 10, whatever S, Z and P/V are
 abbrev differing : Bool → Bool → Bool → ℕ → ℕ → Flags80
@@ -133,5 +133,5 @@ subtracts x y borrow dx dy =
     let difference : SpellsDifference (then_adjusted (subtracted x y borrow)) (10 * u + v) = rw (after_difference x y borrow) (difference_spells _ _ _ _ _ _ u v value half below (omega arith) (omega arith)) in
     record { digits = difference.digits; difference = omega (arith, difference.number) }
 
-pub subtracts_digits : SubtractsDigits
-subtracts_digits x y f dx dy = (subtracts x y false dx dy, subtracts x y (flags_of f).c dx dy)
+pub digits_subtracted : SubtractsDigits
+digits_subtracted x y f dx dy = (subtracts x y false dx dy, subtracts x y (flags_of f).c dx dy)

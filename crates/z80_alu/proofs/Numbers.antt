@@ -43,8 +43,8 @@ sum a b carry h k =
       signed = λ e. rw (value_of_sum a b carry) (signed_sum a b carry h k (rw (overflow_of_sum a b carry) at e));
     }
 
-pub adds_numbers : AddsNumbers
-adds_numbers a b f h k = (sum a b false h k, sum a b (flags_of f).c h k)
+pub numbers_added : AddsNumbers
+numbers_added a b f h k = (sum a b false h k, sum a b (flags_of f).c h k)
 
 -- C and P/V of a difference
 borrow_of_difference : (a b : ℕ) (borrow : Bool) → (flags_of (subtracted a b borrow).f).c ≡ nat_lt a (b + flag_number borrow)
@@ -76,5 +76,5 @@ difference a b borrow h k = record {
   signed = λ e. rw (value_of_difference a b borrow) (signed_difference a b borrow h k (rw (overflow_of_difference a b borrow) at e));
 }
 
-pub subtracts_numbers : SubtractsNumbers
-subtracts_numbers a b f h k = (difference a b false h k, difference a b (flags_of f).c h k)
+pub numbers_subtracted : SubtractsNumbers
+numbers_subtracted a b f h k = (difference a b false h k, difference a b (flags_of f).c h k)

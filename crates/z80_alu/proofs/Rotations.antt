@@ -14,8 +14,8 @@ back_right : (f : ℕ) → map (λ b. four_times tasks.Rrc (four_times tasks.Rrc
 unfolding range shifted shown told
 back_right f = refl
 
-pub rotates_back : RotatesBack
-rotates_back b f below = (
+pub rotated_back : RotatesBack
+rotated_back b f below = (
   same_at (λ b. four_times tasks.Rlc (four_times tasks.Rlc b f) f) (λ b. b) 256 0 (back_left f) b (omega arith) (omega arith),
   same_at (λ b. four_times tasks.Rrc (four_times tasks.Rrc b f) f) (λ b. b) 256 0 (back_right f) b (omega arith) (omega arith),
 )

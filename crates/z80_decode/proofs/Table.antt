@@ -115,57 +115,57 @@ rows_counted IndexedBits count e = grind (arith, nat_tests)
 pub one_row : (bytes : List ℕ) → slice_index bytes 0 < 256 → slice_index bytes 1 < 256 → slice_index bytes 3 < 256 → AtMostOneRow bytes
 one_row bytes h k l = rows_counted _ _ (ap (λ (t : Decoded80 × Bool). t.1) (of_bytes_told bytes h k l))
 
-abbrev is_instruction : Decoded80 → Bool
-is_instruction d = is_op d.op && nat_le 1 d.length && nat_le d.length 4
+abbrev decoded_is : Decoded80 → Bool
+decoded_is d = is_op d.op && nat_le 1 d.length && nat_le d.length 4
 
-kinds_plain : (first second : ℕ) → map (λ w. is_instruction (by_opcode indexes.Hl w first second)) (range 256 0) ≡ map (λ w. true) (range 256 0)
+kinds_plain : (first second : ℕ) → map (λ w. decoded_is (by_opcode indexes.Hl w first second)) (range 256 0) ≡ map (λ w. true) (range 256 0)
 unfolding range place_of pair_of stacked_of condition_of arithmetic accumulator relative_jumps pair_loads memory_loads pair_steps step number_loads low_group loads returns jumps calls control by_opcode
 kinds_plain first second = refl
 
-kinds_bits : map (λ w. is_instruction (of_bytes 2 (bits w (place_of indexes.Hl (lower w) 0)))) (range 256 0) ≡ map (λ w. true) (range 256 0)
+kinds_bits : map (λ w. decoded_is (of_bytes 2 (bits w (place_of indexes.Hl (lower w) 0)))) (range 256 0) ≡ map (λ w. true) (range 256 0)
 unfolding range place_of bits shift
 kinds_bits = refl
 
-kinds_indexed_bits : (index : Index) (displacement : ℕ) → map (λ w. is_instruction (of_bytes 4 (bits w (memory_of index displacement)))) (range 256 0) ≡ map (λ w. true) (range 256 0)
+kinds_indexed_bits : (index : Index) (displacement : ℕ) → map (λ w. decoded_is (of_bytes 4 (bits w (memory_of index displacement)))) (range 256 0) ≡ map (λ w. true) (range 256 0)
 unfolding range bits shift
 kinds_indexed_bits indexes.Hl displacement = refl
 kinds_indexed_bits indexes.Ix displacement = refl
 kinds_indexed_bits indexes.Iy displacement = refl
 
-kinds_extended : (first second : ℕ) → map (λ w. is_instruction (extended w first second)) (range 256 0) ≡ map (λ w. true) (range 256 0)
+kinds_extended : (first second : ℕ) → map (λ w. decoded_is (extended w first second)) (range 256 0) ≡ map (λ w. true) (range 256 0)
 unfolding range place_of pair_of extended ports pairs_extended modes specials block block_op
 kinds_extended first second = refl
 
-kinds_ix : (first second : ℕ) → map (λ w. is_instruction (after_index indexes.Ix first second w)) (range 256 0) ≡ map (λ w. true) (range 256 0)
+kinds_ix : (first second : ℕ) → map (λ w. decoded_is (after_index indexes.Ix first second w)) (range 256 0) ≡ map (λ w. true) (range 256 0)
 unfolding range place_of pair_of stacked_of condition_of arithmetic accumulator relative_jumps pair_loads memory_loads pair_steps step number_loads low_group loads returns jumps calls control by_opcode low_names_hl names_hl
 kinds_ix first second = refl
 
-kinds_iy : (first second : ℕ) → map (λ w. is_instruction (after_index indexes.Iy first second w)) (range 256 0) ≡ map (λ w. true) (range 256 0)
+kinds_iy : (first second : ℕ) → map (λ w. decoded_is (after_index indexes.Iy first second w)) (range 256 0) ≡ map (λ w. true) (range 256 0)
 unfolding range place_of pair_of stacked_of condition_of arithmetic accumulator relative_jumps pair_loads memory_loads pair_steps step number_loads low_group loads returns jumps calls control by_opcode low_names_hl names_hl
 kinds_iy first second = refl
 
-kinds_after_ix : (b1 b2 b3 : ℕ) → b1 < 256 → b3 < 256 → (bit : Bool) → (b1 == 0xcb) ≡ bit → is_instruction (indexed indexes.Ix b1 b2 b3) ≡ true
+kinds_after_ix : (b1 b2 b3 : ℕ) → b1 < 256 → b3 < 256 → (bit : Bool) → (b1 == 0xcb) ≡ bit → decoded_is (indexed indexes.Ix b1 b2 b3) ≡ true
 unfolding indexed
-kinds_after_ix b1 b2 b3 h k true e = rw e (same_at (λ w. is_instruction (of_bytes 4 (bits w (memory_of indexes.Ix b2)))) (λ w. true) 256 0 (kinds_indexed_bits indexes.Ix b2) b3 (omega arith) (omega arith))
-kinds_after_ix b1 b2 b3 h k false e = rw e (same_at (λ w. is_instruction (after_index indexes.Ix b2 b3 w)) (λ w. true) 256 0 (kinds_ix b2 b3) b1 (omega arith) (omega arith))
+kinds_after_ix b1 b2 b3 h k true e = rw e (same_at (λ w. decoded_is (of_bytes 4 (bits w (memory_of indexes.Ix b2)))) (λ w. true) 256 0 (kinds_indexed_bits indexes.Ix b2) b3 (omega arith) (omega arith))
+kinds_after_ix b1 b2 b3 h k false e = rw e (same_at (λ w. decoded_is (after_index indexes.Ix b2 b3 w)) (λ w. true) 256 0 (kinds_ix b2 b3) b1 (omega arith) (omega arith))
 
-kinds_after_iy : (b1 b2 b3 : ℕ) → b1 < 256 → b3 < 256 → (bit : Bool) → (b1 == 0xcb) ≡ bit → is_instruction (indexed indexes.Iy b1 b2 b3) ≡ true
+kinds_after_iy : (b1 b2 b3 : ℕ) → b1 < 256 → b3 < 256 → (bit : Bool) → (b1 == 0xcb) ≡ bit → decoded_is (indexed indexes.Iy b1 b2 b3) ≡ true
 unfolding indexed
-kinds_after_iy b1 b2 b3 h k true e = rw e (same_at (λ w. is_instruction (of_bytes 4 (bits w (memory_of indexes.Iy b2)))) (λ w. true) 256 0 (kinds_indexed_bits indexes.Iy b2) b3 (omega arith) (omega arith))
-kinds_after_iy b1 b2 b3 h k false e = rw e (same_at (λ w. is_instruction (after_index indexes.Iy b2 b3 w)) (λ w. true) 256 0 (kinds_iy b2 b3) b1 (omega arith) (omega arith))
+kinds_after_iy b1 b2 b3 h k true e = rw e (same_at (λ w. decoded_is (of_bytes 4 (bits w (memory_of indexes.Iy b2)))) (λ w. true) 256 0 (kinds_indexed_bits indexes.Iy b2) b3 (omega arith) (omega arith))
+kinds_after_iy b1 b2 b3 h k false e = rw e (same_at (λ w. decoded_is (after_index indexes.Iy b2 b3 w)) (λ w. true) 256 0 (kinds_iy b2 b3) b1 (omega arith) (omega arith))
 
-kinds_by_first : (b0 b1 b2 b3 : ℕ) → b0 < 256 → b1 < 256 → b3 < 256 → (cb dd ed fd : Bool) → (b0 == 0xcb) ≡ cb → (b0 == 0xdd) ≡ dd → (b0 == 0xed) ≡ ed → (b0 == 0xfd) ≡ fd → is_instruction (nested b0 b1 b2 b3) ≡ true
+kinds_by_first : (b0 b1 b2 b3 : ℕ) → b0 < 256 → b1 < 256 → b3 < 256 → (cb dd ed fd : Bool) → (b0 == 0xcb) ≡ cb → (b0 == 0xdd) ≡ dd → (b0 == 0xed) ≡ ed → (b0 == 0xfd) ≡ fd → decoded_is (nested b0 b1 b2 b3) ≡ true
 unfolding nested
 kinds_by_first b0 b1 b2 b3 h k l true dd ed fd ecb edd eed efd =
-    rw ecb (same_at (λ w. is_instruction (of_bytes 2 (bits w (place_of indexes.Hl (lower w) 0)))) (λ w. true) 256 0 kinds_bits b1 (omega arith) (omega arith))
+    rw ecb (same_at (λ w. decoded_is (of_bytes 2 (bits w (place_of indexes.Hl (lower w) 0)))) (λ w. true) 256 0 kinds_bits b1 (omega arith) (omega arith))
 kinds_by_first b0 b1 b2 b3 h k l false true ed fd ecb edd eed efd = rw (ecb, edd) (kinds_after_ix b1 b2 b3 k l (b1 == 0xcb) refl)
 kinds_by_first b0 b1 b2 b3 h k l false false true fd ecb edd eed efd =
-    rw (ecb, edd, eed) (same_at (λ w. is_instruction (extended w b2 b3)) (λ w. true) 256 0 (kinds_extended b2 b3) b1 (omega arith) (omega arith))
+    rw (ecb, edd, eed) (same_at (λ w. decoded_is (extended w b2 b3)) (λ w. true) 256 0 (kinds_extended b2 b3) b1 (omega arith) (omega arith))
 kinds_by_first b0 b1 b2 b3 h k l false false false true ecb edd eed efd = rw (ecb, edd, eed, efd) (kinds_after_iy b1 b2 b3 k l (b1 == 0xcb) refl)
 kinds_by_first b0 b1 b2 b3 h k l false false false false ecb edd eed efd =
-    rw (ecb, edd, eed, efd) (same_at (λ w. is_instruction (by_opcode indexes.Hl w b1 b2)) (λ w. true) 256 0 (kinds_plain b1 b2) b0 (omega arith) (omega arith))
+    rw (ecb, edd, eed, efd) (same_at (λ w. decoded_is (by_opcode indexes.Hl w b1 b2)) (λ w. true) 256 0 (kinds_plain b1 b2) b0 (omega arith) (omega arith))
 
-instructed : (d : Decoded80) → is_instruction d ≡ true → IsInstruction d
+instructed : (d : Decoded80) → decoded_is d ≡ true → IsInstruction d
 instructed d e =
     let parts = and_parts (is_op d.op && nat_le 1 d.length) (nat_le d.length 4) e in
     let inner = and_parts (is_op d.op) (nat_le 1 d.length) parts.0 in

@@ -40,8 +40,8 @@ one-longer : (value : ℕ) (memory : Memory) → length (answered_with value mem
 one-longer value memory = length-append memory.answers (value ∷ [])
 
 -- what was taken is the same
-same-below : (count value : ℕ) (memory : Memory) → count ≤ length memory.answers → SameBelow count memory (answered_with value memory)
-same-below count value memory few = record {
+answered-same : (count value : ℕ) (memory : Memory) → count ≤ length memory.answers → SameBelow count memory (answered_with value memory)
+answered-same count value memory few = record {
   rom = refl;
   ram = refl;
   bank = refl;
@@ -77,7 +77,7 @@ pub load-behind : (target source : Place8) (regs : Regs80) (memory : Memory) (do
     → loads.load target source regs (answered_with value memory) done ≡ Ok (plain regs, all_answered memory)
 unfolding loads.load
 load-behind target source regs memory done from mid value fetched few stored =
-    let again = (rows.fetch source regs).later.value memory (answered_with value memory) done from mid fetched (same-below mid.used value memory few) in
+    let again = (rows.fetch source regs).later.value memory (answered_with value memory) done from mid fetched (answered-same mid.used value memory few) in
     rw again (rw stored refl)
 
 pub foresees-load : (A : Type 0) (waiting : Waiting) (foreseen : Foreseen80) (target source : Place8) (regs : Regs80) (memory : Memory) (done : Done) (from : ℕ) (mid : Done)
@@ -90,13 +90,13 @@ foresees-load A waiting foreseen target source regs memory done from mid fetched
 
 -- ---- the sample
 
-same-bytes : (address value : ℕ) (memory : Memory) → instruction_bytes address (answered_with value memory) ≡ instruction_bytes address memory
+bytes-answered : (address value : ℕ) (memory : Memory) → instruction_bytes address (answered_with value memory) ≡ instruction_bytes address memory
 unfolding instruction_bytes instruction_byte
-same-bytes address value memory = refl
+bytes-answered address value memory = refl
 
 pub sample-foresees : (step : Step80) (foreseen : Foreseen80) (regs : Regs80) (memory : Memory) (found : Decoded80) (first : ℕ) → found ≡ decoded (instruction_bytes regs.pc memory) → first ≡ slice_index (instruction_bytes regs.pc memory) 0
     → EndsForeseen step foreseen (samples.instruction found first regs) memory → EndsForeseen step foreseen (samples.sampled 0 regs) memory
 unfolding samples.sampled
 sample-foresees (steps.Need request) foreseen regs memory found first names begins ends = λ known value.
-    rw (same-bytes regs.pc value memory) (rw (sym names, sym begins) (ends known value))
+    rw (bytes-answered regs.pc value memory) (rw (sym names, sym begins) (ends known value))
 sample-foresees (steps.Done finish) foreseen regs memory found first names begins ends = tt

@@ -118,8 +118,8 @@ not_below (Ok x) limit h = tt
 not_below (Err (Ask request)) limit h = tt
 not_below (Err (Odd at read used)) limit h = absurd h
 
-at_once : (used : ℕ) → used < used + 1
-at_once used = omega arith
+one_more : (used : ℕ) → used < used + 1
+one_more used = omega arith
 
 stored_even : (size : Size) (at value : ℕ) (regs : Regs) → is_misaligned size at ≡ false → (memory : Memory) (done : Done) → NotOdd (stored size at value regs memory done)
 unfolding stored
@@ -129,7 +129,7 @@ changed : {A : Type 0} (size : Size) (place : Place) (regs : Regs) (f : ℕ → 
 unfolding fetch put
 changed size (places.Register n) regs f g memory done h = tt
 changed size (places.Immediate value) regs f g memory done h = tt
-changed size (places.Odd at) regs f g memory done h = at_once done.used
+changed size (places.Odd at) regs f g memory done h = one_more done.used
 changed size (places.Memory at) regs f g memory done h =
     not_below _ _ (both (read size at memory done) _ (read_even size at h memory done) (λ old mid. both (stored size at (f old) regs memory mid) _ (stored_even size at (f old) regs h memory mid) (λ after last. tt)))
 

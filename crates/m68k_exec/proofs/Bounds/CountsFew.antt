@@ -18,8 +18,8 @@ use Rattle.m68k_ea.specs.Addresses.{effective_address}
 use Rattle.m68k_ea.specs.Places.{is_misaligned, place_of, standing}
 use Rattle.m68k_ea.specs.Steps.{stepped}
 use Rattle.m68k_ea.specs.declared.places.Place.TheVariants as places
-use Rattle.m68k_exec.proofs.Bounds.Early.{counts}
-use Rattle.m68k_exec.proofs.Bounds.Spends.{FromRow, from_row, names}
+use Rattle.m68k_exec.proofs.Bounds.Early.{counts_list}
+use Rattle.m68k_exec.proofs.Bounds.Spends.{FromRow, sampled_from_row, names}
 use Rattle.m68k_exec.specs.Sample.Bounds.{Fits}
 use Rattle.m68k_exec.specs.Access.Actions as actions
 use Rattle.m68k_exec.specs.Access.Actions.{Done, go_on}
@@ -130,10 +130,10 @@ shift_register_few operation size n r regs = shift_few operation size _ r regs (
 
 row_few : (op : Op) (start : ℕ) (regs : Regs) (memory : Memory) (x : Outcome) (after : Done) → Fits memory → HasNumbers op → execution.row op start regs memory nothing ≡ Ok (x, after) → FewCounted op x.count
 row_few (ops.MovemToMemory size list mode) start regs memory x after fits has e =
-    let c : x.count ≡ count_ones list = counts (ops.MovemToMemory size list mode) start regs memory nothing x after e in
+    let c : x.count ≡ count_ones list = counts_list (ops.MovemToMemory size list mode) start regs memory nothing x after e in
     let n = ones_few list has in omega (arith, c, n)
 row_few (ops.MovemToRegisters size list mode) start regs memory x after fits has e =
-    let c : x.count ≡ count_ones list = counts (ops.MovemToRegisters size list mode) start regs memory nothing x after e in
+    let c : x.count ≡ count_ones list = counts_list (ops.MovemToRegisters size list mode) start regs memory nothing x after e in
     let n = ones_few list has in omega (arith, c, n)
 row_few (ops.Mulu n mode) start regs memory x after fits has e = subst HasFewCounts e (mulu_few memory n mode start regs fits)
 row_few (ops.Muls n mode) start regs memory x after fits has e = subst HasFewCounts e (muls_few memory n mode start regs fits)
@@ -144,8 +144,8 @@ row_few op start regs memory x after fits has e = tt
 from : (op : Op) (memory : Memory) (count : ℕ) → Fits memory → HasNumbers op → FromRow op memory count → FewCounted op count
 from op memory count fits has r = subst (FewCounted op) (sym r.same) (row_few op r.start r.regs memory r.outcome r.after fits has r.is)
 
-pub few_counted : (cause : ℕ) (regs : Regs) (memory : Memory) (ended : Ended) → Fits memory → samples.sampled cause regs memory ≡ Ok ended → ended.spent.cause ≡ 0 → FewCounted ended.op ended.spent.count
-few_counted cause regs memory ended fits e none =
+pub row_counted : (cause : ℕ) (regs : Regs) (memory : Memory) (ended : Ended) → Fits memory → samples.sampled cause regs memory ≡ Ok ended → ended.spent.cause ≡ 0 → FewCounted ended.op ended.spent.count
+row_counted cause regs memory ended fits e none =
     let numbers = decoded_numbers (instruction_words regs.pc memory) (second_small memory regs.pc fits) in
     let op = names cause regs memory ended e in
-    subst (λ o. FewCounted o ended.spent.count) (sym op) (from (named regs memory) memory ended.spent.count fits numbers (from_row cause regs memory ended e none))
+    subst (λ o. FewCounted o ended.spent.count) (sym op) (from (named regs memory) memory ended.spent.count fits numbers (sampled_from_row cause regs memory ended e none))

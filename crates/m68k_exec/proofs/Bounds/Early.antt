@@ -67,10 +67,10 @@ AtOnce used (Ok x) = Unit {0}
 AtOnce used (Err (Ask request)) = Unit {0}
 AtOnce used (Err (Odd address read now)) = now ≡ used
 
-at_once : {A : Type 0} (used : ℕ) (result : Result (A × Done) Stop) → NotOdd result → AtOnce used result
-at_once used (Ok x) h = tt
-at_once used (Err (Ask request)) h = tt
-at_once used (Err (Odd address read now)) h = absurd h
+odd_at_once : {A : Type 0} (used : ℕ) (result : Result (A × Done) Stop) → NotOdd result → AtOnce used result
+odd_at_once used (Ok x) h = tt
+odd_at_once used (Err (Ask request)) h = tt
+odd_at_once used (Err (Odd address read now)) h = absurd h
 
 cases : {A : Type 0} (used : ℕ) (b : Bool) (x y : Result (A × Done) Stop) → (b ≡ true → AtOnce used x) → (b ≡ false → AtOnce used y) → AtOnce used (if b then x else y)
 cases used true x y h k = h refl
@@ -106,12 +106,12 @@ load_even size (place ∷ rest) at regs e memory done =
 store_list : (order : Order) (size : Size) (list at : ℕ) (regs : Regs) (memory : Memory) (done : Done) → AtOnce done.used (movem.store_list order size list at regs memory done)
 unfolding movem.store_list
 store_list order size list at regs memory done =
-    cases done.used (list == 0) _ _ (λ e. tt) (λ e. cases done.used (actions.is_odd at) _ _ (λ o. refl) (λ o. at_once done.used _ (store_even order size _ at regs o memory done)))
+    cases done.used (list == 0) _ _ (λ e. tt) (λ e. cases done.used (actions.is_odd at) _ _ (λ o. refl) (λ o. odd_at_once done.used _ (store_even order size _ at regs o memory done)))
 
 load_list : (size : Size) (list at : ℕ) (regs : Regs) (memory : Memory) (done : Done) → AtOnce done.used (movem.load_list size list at regs memory done)
 unfolding movem.load_list
 load_list size list at regs memory done =
-    cases done.used (list == 0) _ _ (λ e. tt) (λ e. cases done.used (actions.is_odd at) _ _ (λ o. refl) (λ o. at_once done.used _ (load_even size _ at regs o memory done)))
+    cases done.used (list == 0) _ _ (λ e. tt) (λ e. cases done.used (actions.is_odd at) _ _ (λ o. refl) (λ o. odd_at_once done.used _ (load_even size _ at regs o memory done)))
 
 -- MOVEM's outcome
 abbrev CountsList : ℕ → Result (Outcome × Done) Stop → Type 0
@@ -272,7 +272,7 @@ row32 (ops.Extended operation size source target) start regs =
 row32 op start regs = more (accesses_of op) _ _ (let few_ : accesses_of op ≤ 4 = few op in omega (arith, few_)) (row op start regs)
 
 -- MOVEM tells how many registers its list has
-pub counts : (op : Op) (start : ℕ) (regs : Regs) (memory : Memory) (before : Done) (x : Outcome) (after : Done) → execution.row op start regs memory before ≡ Ok (x, after) → Counts op x.count
-counts (ops.MovemToMemory size list mode) start regs memory before x after e = (subst (CountsList list) e (store_counted size list mode start regs memory before)).1
-counts (ops.MovemToRegisters size list mode) start regs memory before x after e = (subst (CountsList list) e (load_counted size list mode start regs memory before)).1
-counts op start regs memory before x after e = tt
+pub counts_list : (op : Op) (start : ℕ) (regs : Regs) (memory : Memory) (before : Done) (x : Outcome) (after : Done) → execution.row op start regs memory before ≡ Ok (x, after) → Counts op x.count
+counts_list (ops.MovemToMemory size list mode) start regs memory before x after e = (subst (CountsList list) e (store_counted size list mode start regs memory before)).1
+counts_list (ops.MovemToRegisters size list mode) start regs memory before x after e = (subst (CountsList list) e (load_counted size list mode start regs memory before)).1
+counts_list op start regs memory before x after e = tt

@@ -232,8 +232,8 @@ unfolding control.chk
 chk n mode start regs h = bind _ _ _ _ (load mode Word _ regs h) (λ bound a. give _ _ (checked _ bound.value bound.regs a))
 
 -- MOVEM
-abbrev StatusIn : Loaded → Type 0
-StatusIn loaded = IsStatus loaded.regs.sr
+abbrev StatusLoaded : Loaded → Type 0
+StatusLoaded loaded = IsStatus loaded.regs.sr
 
 store_each : (order : Order) (size : Size) (places : List ℕ) (at : ℕ) (regs : Regs) → Keeps Any (movem.store_each order size places at regs)
 store_each order size [] at regs = give _ _ tt
@@ -243,11 +243,11 @@ store_list : (order : Order) (size : Size) (list at : ℕ) (regs : Regs) → Kee
 unfolding movem.store_list
 store_list order size list at regs = choice _ (list == 0) _ _ (λ e. give _ _ tt) (λ e. choice _ (actions.is_odd at) _ _ (λ o. odd _ _ _) (λ o. store_each order size _ at regs))
 
-load_each : (size : Size) (places : List ℕ) (at : ℕ) (regs : Regs) → HasStatus regs → Keeps StatusIn (movem.load_each size places at regs)
+load_each : (size : Size) (places : List ℕ) (at : ℕ) (regs : Regs) → HasStatus regs → Keeps StatusLoaded (movem.load_each size places at regs)
 load_each size [] at regs h = give _ _ h
 load_each size (place ∷ rest) at regs h = bind _ _ _ _ (read size at) (λ value a. load_each size rest _ _ (sr.register regs place _ h))
 
-load_list : (size : Size) (list at : ℕ) (regs : Regs) → HasStatus regs → Keeps StatusIn (movem.load_list size list at regs)
+load_list : (size : Size) (list at : ℕ) (regs : Regs) → HasStatus regs → Keeps StatusLoaded (movem.load_list size list at regs)
 unfolding movem.load_list
 load_list size list at regs h = choice _ (list == 0) _ _ (λ e. give _ _ h) (λ e. choice _ (actions.is_odd at) _ _ (λ o. odd _ _ _) (λ o. load_each size _ at regs h))
 

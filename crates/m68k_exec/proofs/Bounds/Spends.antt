@@ -13,7 +13,7 @@ use Rattle.m68k_decode.specs.declared.decoded.Decoded.{Decoded}
 use Rattle.m68k_decode.specs.declared.op.Op.{Op}
 use Rattle.m68k_except.specs.Frames.{is_address_error}
 use Rattle.m68k_exec.proofs.Bounds.Aligned.{asked_even, both, write_word_even}
-use Rattle.m68k_exec.proofs.Bounds.Early.{counts, early, row32}
+use Rattle.m68k_exec.proofs.Bounds.Early.{counts_list, early, row32}
 use Rattle.m68k_exec.proofs.Bounds.Takes.{asked}
 use Rattle.m68k_exec.proofs.Bounds.TakesEntry.{enter}
 use Rattle.m68k_exec.proofs.Bounds.TakesRows.{row}
@@ -156,7 +156,7 @@ finished_spent op start found regs memory x after is =
     let most = (row32 op start regs).value memory nothing x after is (omega arith) in record {
       most = omega (arith, most.0);
       own = λ c. omega (arith, own.0);
-      counted = λ c. counts op start regs memory nothing x after is;
+      counted = λ c. counts_list op start regs memory nothing x after is;
       address_error = λ c. absurd (cc);
       exception = λ c d. absurd (c refl);
     }
@@ -216,8 +216,8 @@ names cause regs memory ended e = (subst (IsBounded (named regs memory) memory) 
 pub spends : (cause : ℕ) (regs : Regs) (memory : Memory) (ended : Ended) → samples.sampled cause regs memory ≡ Ok ended → IsSpent ended.op ended.spent
 spends cause regs memory ended e = (subst (IsBounded (named regs memory) memory) e (bounded cause regs memory)).1
 
-pub from_row : (cause : ℕ) (regs : Regs) (memory : Memory) (ended : Ended) → samples.sampled cause regs memory ≡ Ok ended → ended.spent.cause ≡ 0 → FromRow (named regs memory) memory ended.spent.count
-from_row cause regs memory ended e = (subst (IsBounded (named regs memory) memory) e (bounded cause regs memory)).2
+pub sampled_from_row : (cause : ℕ) (regs : Regs) (memory : Memory) (ended : Ended) → samples.sampled cause regs memory ≡ Ok ended → ended.spent.cause ≡ 0 → FromRow (named regs memory) memory ended.spent.count
+sampled_from_row cause regs memory ended e = (subst (IsBounded (named regs memory) memory) e (bounded cause regs memory)).2
 
 pub waits : (cause : ℕ) (regs : Regs) (memory : Memory) (request : Request68) → samples.sampled cause regs memory ≡ Err (Ask request) → length memory.answers < 32
 waits cause regs memory request e = subst (IsBounded (named regs memory) memory) e (bounded cause regs memory)

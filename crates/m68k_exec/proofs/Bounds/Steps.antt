@@ -25,8 +25,8 @@ most op start regs memory before fresh x after e =
     let taken = (row32 op start regs).value memory before x after e (none_taken memory before fresh) in
     omega (arith, none, taken.0)
 
-pub ended : (op : Op) (start : ℕ) (regs : Regs) (memory : Memory) (before : Done) → before ≡ nothing → (x : Outcome) (after : Done) → row op start regs memory before ≡ Ok (x, after) → x.cause ≢ 0 → after.used ≤ 4
-ended op start regs memory before fresh x after e other =
+pub ended_within : (op : Op) (start : ℕ) (regs : Regs) (memory : Memory) (before : Done) → before ≡ nothing → (x : Outcome) (after : Done) → row op start regs memory before ≡ Ok (x, after) → x.cause ≢ 0 → after.used ≤ 4
+ended_within op start regs memory before fresh x after e other =
     let none : before.used ≡ 0 = ap (λ (d : Done). d.used) fresh in
     let taken = (early op start regs).caused memory before x after e other (none_taken memory before fresh) in
     omega (arith, none, taken)
@@ -38,14 +38,14 @@ odd op start regs memory before fresh address read used e =
     omega (arith, none, taken)
 
 -- what a step that tells a sample has
-pub waits_below : (step : Step) (after : Regs) (done : Done) (cause : ℕ) (regs : Regs) (memory : Memory) → told_by step after done ≡ sampled cause regs memory → WaitsBelow step (length memory.answers) 32
-waits_below (steps.Need request) after done cause regs memory e = waits cause regs memory request (sym e)
-waits_below (steps.Done finish) after done cause regs memory e = tt
+pub step_waits_below : (step : Step) (after : Regs) (done : Done) (cause : ℕ) (regs : Regs) (memory : Memory) → told_by step after done ≡ sampled cause regs memory → WaitsBelow step (length memory.answers) 32
+step_waits_below (steps.Need request) after done cause regs memory e = waits cause regs memory request (sym e)
+step_waits_below (steps.Done finish) after done cause regs memory e = tt
 
-pub spends_rightly : (step : Step) (after : Regs) (done : Done) (cause : ℕ) (regs : Regs) (memory : Memory) → told_by step after done ≡ sampled cause regs memory → SpendsRightly step
-spends_rightly (steps.Need request) after done cause regs memory e = tt
-spends_rightly (steps.Done finish) after done cause regs memory e = spends cause regs memory _ (sym e)
+pub step_spends_rightly : (step : Step) (after : Regs) (done : Done) (cause : ℕ) (regs : Regs) (memory : Memory) → told_by step after done ≡ sampled cause regs memory → SpendsRightly step
+step_spends_rightly (steps.Need request) after done cause regs memory e = tt
+step_spends_rightly (steps.Done finish) after done cause regs memory e = spends cause regs memory _ (sym e)
 
-pub names_instruction : (step : Step) (after : Regs) (done : Done) (cause : ℕ) (regs : Regs) (memory : Memory) → told_by step after done ≡ sampled cause regs memory → IsOp (named regs memory) → NamesInstruction step
-names_instruction (steps.Need request) after done cause regs memory e is = tt
-names_instruction (steps.Done finish) after done cause regs memory e is = subst IsOp (sym (names cause regs memory _ (sym e))) is
+pub step_names_instruction : (step : Step) (after : Regs) (done : Done) (cause : ℕ) (regs : Regs) (memory : Memory) → told_by step after done ≡ sampled cause regs memory → IsOp (named regs memory) → NamesInstruction step
+step_names_instruction (steps.Need request) after done cause regs memory e is = tt
+step_names_instruction (steps.Done finish) after done cause regs memory e is = subst IsOp (sym (names cause regs memory _ (sym e))) is

@@ -12,7 +12,7 @@ ended_by-requires-clause-most c =
 
 pub ended_by-requires-clause-ended : goal.ended_by-requires-clause-ended
 ended_by-requires-clause-ended c =
-    bounds.ended c.args.decoded.now.op _ _ (memory_of c.args.around.now) _ c.requires.fresh _ _ c.in-Ok.ensures.value
+    bounds.ended_within c.args.decoded.now.op _ _ (memory_of c.args.around.now) _ c.requires.fresh _ _ c.in-Ok.ensures.value
 
 pub take_address_error-requires-in-Err-Odd-clause-used : goal.take_address_error-requires-in-Err-Odd-clause-used
 take_address_error-requires-in-Err-Odd-clause-used c =

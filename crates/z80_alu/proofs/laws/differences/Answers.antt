@@ -1,5 +1,5 @@
-use Rattle.z80_alu.proofs.Numbers.{subtracts_numbers}
+use Rattle.z80_alu.proofs.Numbers.{numbers_subtracted}
 use Rattle.z80_alu.proofs.laws.differences.Goals as goal
 
 pub returns : goal.returns
-returns c = subtracts_numbers
+returns c = numbers_subtracted

@@ -1,5 +1,5 @@
-use Rattle.z80_alu.proofs.Rotations.{rotates_back}
+use Rattle.z80_alu.proofs.Rotations.{rotated_back}
 use Rattle.z80_alu.proofs.laws.rotations.Goals as goal
 
 pub returns : goal.returns
-returns c = rotates_back
+returns c = rotated_back

@@ -1,5 +1,5 @@
-use Rattle.z80_alu.proofs.Numbers.{adds_numbers}
+use Rattle.z80_alu.proofs.Numbers.{numbers_added}
 use Rattle.z80_alu.proofs.laws.sums.Goals as goal
 
 pub returns : goal.returns
-returns c = adds_numbers
+returns c = numbers_added
