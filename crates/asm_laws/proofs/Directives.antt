@@ -14,7 +14,7 @@ use Rattle.m68k_encode.specs.Encoding.{encoded, extension, first_word}
 use Rattle.md_disasm.specs.Texts68.{text_of}
 use Rattle.md_asm_text.specs.Pieces as texts
 use Rattle.md_asm_text.specs.Pieces.{Piece, is_worded, opened, pieces, split}
-use Rattle.m68k_form.specs.Reading.{Source, size_of, source, with_operands, with_size}
+use Rattle.m68k_form.specs.Reading.{Source, size_of, read_source, with_operands, with_size}
 use Rattle.m68k_read.specs.Building.{built, meant, stem_in, stem_of}
 use Rattle.m68k_read.specs.Judged.{tried}
 use Rattle.m68k_read.specs.Table.{IsInstruction}
@@ -46,8 +46,8 @@ unfolding meant stem_of stem_in built
 meant_of s at is = rw is refl
 
 tried_dc : (more : List Piece) (at : ℕ) → tried (texts.Word (codes "dc") ∷ more) at ≡ 0x4e71 ∷ []
-unfolding source first_word extension
-tried_dc more at = ap encoded (meant_of (source (texts.Word (codes "dc") ∷ more)) at (stem_stays (codes "dc") more))
+unfolding read_source first_word extension
+tried_dc more at = ap encoded (meant_of (read_source (texts.Word (codes "dc") ∷ more)) at (stem_stays (codes "dc") more))
 
 dc_opens : (rest : List ℕ) → (more : List Piece) × (pieces (codes "dc.w" ++ rest) ≡ texts.Word (codes "dc") ∷ more)
 unfolding opened is_worded

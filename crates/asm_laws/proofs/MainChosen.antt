@@ -6,7 +6,7 @@ use Rattle.m68k_decode.specs.Nested.{nested}
 use Rattle.m68k_encode.specs.Encoding.{encoded}
 use Rattle.md_disasm.specs.Texts68.{text_of}
 use Rattle.md_asm_text.specs.Pieces.{Piece, pieces}
-use Rattle.m68k_form.specs.Reading.{source}
+use Rattle.m68k_form.specs.Reading.{read_source}
 use Rattle.m68k_read.specs.Building.{meant}
 use Rattle.m68k_read.specs.Judged.{tried}
 use Rattle.m68k_read.specs.Said.{Says}
@@ -35,8 +35,8 @@ best_of said words [] at k a own entered say =
 best_of said words (w ∷ tail) at k a own entered say =
     let text = text_alone (w ∷ tail) said at say in
     let whole : (decoded (w ∷ tail)).length ≡ 2 * length (w ∷ tail) = ap (λ (l : List ℕ). (decoded l).length) (sym (append-nil (w ∷ tail))) ∙ say.whole [] in
-    let made : meant (source said) at ≡ (decoded (w ∷ tail)).op
-    = ap (λ (s : List Piece). meant (source s) at) (sym text) ∙ meant_again w tail at (k 0) entered k a in
+    let made : meant (read_source said) at ≡ (decoded (w ∷ tail)).op
+    = ap (λ (s : List Piece). meant (read_source s) at) (sym text) ∙ meant_again w tail at (k 0) entered k a in
     let code : words ≡ encoded (decoded (w ∷ tail)).op = own ∙ ap encoded made in
     let long = encoded_long w tail k in
     let same : length (encoded (decoded (w ∷ tail)).op) ≡ length (w ∷ tail) = omega (arith, long, whole) in
@@ -54,8 +54,8 @@ whole_of : (said : List Piece) (word : ℕ) (tail rest : List ℕ) (at : ℕ) �
     → (decoded (word ∷ (tail ++ rest))).length ≡ 2 * length (word ∷ tail)
 whole_of said word tail rest at h a is =
     let there = going_on said word tail at h a is in
-    let made : meant (source said) at ≡ (decoded (word ∷ (tail ++ there.more))).op
-    = ap (λ (s : List Piece). meant (source s) at) (sym there.text) ∙ meant_again word (tail ++ there.more) at (h 0) there.instruction there.all a in
+    let made : meant (read_source said) at ≡ (decoded (word ∷ (tail ++ there.more))).op
+    = ap (λ (s : List Piece). meant (read_source s) at) (sym there.text) ∙ meant_again word (tail ++ there.more) at (h 0) there.instruction there.all a in
     let code : word ∷ tail ≡ encoded (decoded (word ∷ (tail ++ there.more))).op = there.own ∙ ap encoded made in
     ap (λ d. d.length) (there.same rest) ∙ encoded_long word (tail ++ there.more) there.all ∙ ap (λ (l : List ℕ). 2 * length l) (sym code)
 

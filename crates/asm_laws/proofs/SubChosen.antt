@@ -7,7 +7,7 @@ use Rattle.z80_encode.specs.Coded80.{AreBytes}
 use Rattle.z80_encode.specs.Encoding80.{encoded}
 use Rattle.z80_read.specs.Building.{meant}
 use Rattle.z80_read.specs.Judged.{tried}
-use Rattle.z80_read.specs.Reading.{source}
+use Rattle.z80_read.specs.Reading.{read_source}
 use Rattle.z80_read_laws.specs.Instruction.{is_db}
 use Rattle.z80_read_laws.proofs.Judged.{meant_again, tried_is}
 use Rattle.z80_read_laws.proofs.Lengths.{decoded_few, encoded_long}
@@ -37,8 +37,8 @@ own_code said bytes rest at h k a is =
     let own = (found said bytes at is).own in
     let all = with_rest bytes rest h k in
     let none = tried_is bytes rest said at all own text (is_db (decoded (bytes ++ rest)).op) refl in
-    let made : meant (source said) at ≡ (decoded (bytes ++ rest)).op
-    = ap (λ (s : List Piece). meant (source s) at) (sym text) ∙ meant_again (bytes ++ rest) at all a none in
+    let made : meant (read_source said) at ≡ (decoded (bytes ++ rest)).op
+    = ap (λ (s : List Piece). meant (read_source s) at) (sym text) ∙ meant_again (bytes ++ rest) at all a none in
     let code = own ∙ ap encoded made in record {
       instruction = none;
       code = code;
@@ -55,8 +55,8 @@ best_of said bytes other at k a own say =
     let text = text_alone other said at say in
     let whole : (decoded other).length ≡ length other = ap (λ (l : List ℕ). (decoded l).length) (sym (append-nil other)) ∙ say.whole [] no_bytes in
     let few : length other ≤ 4 = let f = decoded_few other k in omega (arith, whole, f) in
-    let made : meant (source said) at ≡ (decoded other).op
-    = ap (λ (s : List Piece). meant (source s) at) (sym text) ∙ meant_again other at k a say.instruction in
+    let made : meant (read_source said) at ≡ (decoded other).op
+    = ap (λ (s : List Piece). meant (read_source s) at) (sym text) ∙ meant_again other at k a say.instruction in
     let code = own ∙ ap encoded made in
     subst (λ (l : List ℕ). (other ≡ l) ⊎ IsPassed other l) (sym code) (own_or_passed other k few whole)
 

@@ -10,7 +10,7 @@ use Rattle.z80_encode.specs.Coded80.{AreBytes}
 use Rattle.z80_encode.specs.Encoding80.{encoded}
 use Rattle.z80_read.specs.Building.{meant}
 use Rattle.z80_read.specs.Judged.{padded, tried}
-use Rattle.z80_read.specs.Reading.{source}
+use Rattle.z80_read.specs.Reading.{read_source}
 use Rattle.z80_read_laws.specs.Instruction.{is_db}
 use Rattle.z80_read_laws.proofs.Judged.{meant_again, said_again, tried_again, tried_zero}
 use Rattle.z80_read_laws.proofs.Lengths.{decoded_few, encoded_long}
@@ -70,8 +70,8 @@ few_by said bytes at h a is true db =
     omega (arith, one)
 few_by said bytes at h a is false none =
     let all = padded_bytes bytes h in
-    let made : meant (source said) at ≡ (decoded (padded bytes)).op
-    = ap (λ (s : List Piece). meant (source s) at) (sym is.text) ∙ meant_again (padded bytes) at all a none in
+    let made : meant (read_source said) at ≡ (decoded (padded bytes)).op
+    = ap (λ (s : List Piece). meant (read_source s) at) (sym is.text) ∙ meant_again (padded bytes) at all a none in
     let same : length bytes ≡ length (encoded (decoded (padded bytes)).op) = ap length is.own ∙ ap (λ op. length (encoded op)) made in
     let long = encoded_long (padded bytes) all in
     let few = decoded_few (padded bytes) all in

@@ -7,7 +7,7 @@ use Rattle.m68k_decode.specs.declared.decoded.Decoded.{Decoded}
 use Rattle.md_disasm.specs.Texts68.{text_of}
 use Rattle.md_asm_text.specs.Pieces.{Piece, pieces}
 use Rattle.md_asm_text.proofs.Alike.{all_alike_is}
-use Rattle.m68k_form.specs.Reading.{source}
+use Rattle.m68k_form.specs.Reading.{read_source}
 use Rattle.m68k_read.specs.Building.{meant}
 use Rattle.m68k_read.specs.Judged.{padded, tried}
 use Rattle.m68k_read.specs.Table.{AreWords, IsInstruction}
@@ -24,7 +24,7 @@ filled_again : (word : ℕ) (tail : List ℕ) (at : ℕ) → word < 65536 → Is
     → decoded (padded (tried (pieces (text_of (decoded (word ∷ tail)) at)) at)) ≡ decoded (word ∷ tail)
 filled_again word tail at below is all h =
     let said = pieces (text_of (decoded (word ∷ tail)) at) in
-    let up = filled_up (tried said at) (encoded_few (meant (source said) at)) in
+    let up = filled_up (tried said at) (encoded_few (meant (read_source said) at)) in
     ap decoded up.1 ∙ tried_again word tail up.0 at below is all h
 
 pub assembled_again : (word : ℕ) (tail : List ℕ) (at : ℕ) → word < 65536 → IsInstruction (nested word) → AreWords (word ∷ tail) → at < 4294967296
@@ -60,7 +60,7 @@ found said words at is =
     }
 
 pub few : (said : List Piece) (words : List ℕ) (at : ℕ) → main_code said at ≡ Some words → length words ≤ 5
-few said words at is = rw ((found said words at is).own) (encoded_few (meant (source said) at))
+few said words at is = rw ((found said words at is).own) (encoded_few (meant (read_source said) at))
 
 -- words that are found, filled up with others, decode to an instruction, and to the same whatever follows them
 pub record GoesOn (said : List Piece) (word : ℕ) (tail : List ℕ) (at : ℕ) : Type 0 where

@@ -13,13 +13,13 @@ use Rattle.md_asm_line.specs.declared.body.Body.TheVariants as bodies
 use Rattle.m68k_read.specs.Table.{AreWords}
 use Rattle.z80_encode.specs.Coded80.{AreBytes}
 use Rattle.md_asm_code.specs.Codes.{code, in_bytes, main_code}
-use Rattle.md_asm_code.specs.Contents.{Far, Good, Unfit, Unknown, is_unfit, settled, sized}
+use Rattle.md_asm_code.specs.Contents.{Far, Good, Unfit, Unknown, is_unfit, settled_line, sized}
 use Rattle.md_asm_code.specs.Numbers.{Names, has_name, resolved}
 use Rattle.md_asm.specs.Assembly.{Done, assembly, is_instruction}
 use Rattle.md_asm.specs.Held.{AreHeld, IsAddress, IsHeld, StandsAt}
 use Rattle.md_asm.specs.Rounds.{Slot}
 use Rattle.md_asm.specs.declared.placed.Placed.{Placed}
-use Rattle.md_asm.proofs.Held.{holds_lines}
+use Rattle.md_asm.proofs.Held.{lines_held}
 use Rattle.asm_laws.proofs.MainChosen as main_chosen
 use Rattle.asm_laws.proofs.SubChosen as sub_chosen
 use Rattle.asm_laws.proofs.SubTexts as sub_laws
@@ -44,7 +44,7 @@ chosen false true long found bytes is = cc
 chosen false false long found bytes is = sized_by long found bytes is
 
 code_of : (z80 : Bool) (body : Body) (long : ℕ) (said : List Piece) (at : ℕ) (bytes : List ℕ) → is_instruction body ≡ true
-    → settled z80 body long said at ≡ Good bytes → code z80 said at ≡ Some bytes
+    → settled_line z80 body long said at ≡ Good bytes → code z80 said at ≡ Some bytes
 code_of z80 bodies.Instruction long said at bytes instruction is = chosen (has_name said) (is_unfit z80 bodies.Instruction said) long (code z80 said at) bytes is
 code_of z80 bodies.Words long said at bytes instruction is = cc
 code_of z80 bodies.Bytes long said at bytes instruction is = cc
@@ -204,9 +204,9 @@ slots_said : (image : List ℕ) (names : Names) (slots : List Slot) → AreBytes
 slots_said image names [] all held = tt
 slots_said image names (slot ∷ more) all held = (λ instruction. slot_said image names slot all held.0 instruction, slots_said image names more all held.1)
 
-pub says_lines : (source image : List ℕ) (lines : List Placed) → AreBytes image → assembly source ≡ Done image lines → SaysLines source image lines
-says_lines source image lines all is =
-    let holds = holds_lines source image lines is in record {
+pub lines_said : (source image : List ℕ) (lines : List Placed) → AreBytes image → assembly source ≡ Done image lines → SaysLines source image lines
+lines_said source image lines all is =
+    let holds = lines_held source image lines is in record {
       round = holds.round;
       read = holds.read;
       places = holds.places;

@@ -12,11 +12,11 @@ use Rattle.md_disasm.specs.Rows68.{Row68}
 use Rattle.md_disasm.specs.Texts68.{led, row_text, size_text}
 use Rattle.md_disasm.specs.declared.operand68.Operand68.{Operand68}
 use Rattle.md_disasm.specs.declared.operand68.Operand68.TheVariants as operands
-use Rattle.md_asm_text.specs.Operands.{operands as operands_of}
+use Rattle.md_asm_text.specs.Operands.{operands_of}
 use Rattle.md_asm_text.specs.Pieces as pieces
 use Rattle.md_asm_text.specs.Pieces.{Piece, every, is_worded, is_name, split, told, closed, opened}
 use Rattle.md_asm_text.proofs.Splits.{is_end, name_opens, register_split, number_1, number_4, number_8, mark_split, word_split}
-use Rattle.m68k_form.specs.Reading.{Source, form, word_form, register_of, source, with_operands, with_size}
+use Rattle.m68k_form.specs.Reading.{Source, form, word_form, register_of, read_source, with_operands, with_size}
 use Rattle.m68k_form.specs.Reading as reading
 use Rattle.m68k_form.specs.declared.form.Form.{Form}
 use Rattle.m68k_form.specs.declared.form.Form.TheVariants as forms
@@ -313,14 +313,14 @@ sized_read stem (Some Word) ps = refl
 sized_read stem (Some Long) ps = refl
 
 opened_read : (row : Row68) → every is_worded row.name ≡ true → IsShown row.first → IsShown row.second
-    → source (opened [] (row_text row)) ≡ with_size row.name (size_pieces row.size ++ (led_pieces 32 row.first ++ led_pieces 44 row.second))
-unfolding source
-opened_read row named first second = ap source (row_split row named first second)
+    → read_source (opened [] (row_text row)) ≡ with_size row.name (size_pieces row.size ++ (led_pieces 32 row.first ++ led_pieces 44 row.second))
+unfolding read_source
+opened_read row named first second = ap read_source (row_split row named first second)
 
 -- what is read of a row of two operands, of one and of none
 pub row_of_two : (row : Row68) → every is_worded row.name ≡ true → IsShown row.first → IsShown row.second
     → led_pieces 32 row.first ≡ pieces.Mark 32 ∷ operand_pieces row.first → led_pieces 44 row.second ≡ comma ∷ operand_pieces row.second
-    → source (opened [] (row_text row)) ≡ source_of row
+    → read_source (opened [] (row_text row)) ≡ source_of row
 row_of_two row named first second one two =
     opened_read row named first second
     ∙ ap (λ (l : List Piece). with_size row.name (size_pieces row.size ++ (l ++ led_pieces 44 row.second))) one
@@ -332,7 +332,7 @@ abbrev pub single : List ℕ → Option Size → Operand68 → Row68
 single name size first = record { name = name; size = size; first = first; second = operands.Nothing }
 
 pub row_of_one : (name : List ℕ) (size : Option Size) (first : Operand68) → every is_worded name ≡ true → IsShown first
-    → led_pieces 32 first ≡ pieces.Mark 32 ∷ operand_pieces first → source (opened [] (row_text (single name size first))) ≡ source_of (single name size first)
+    → led_pieces 32 first ≡ pieces.Mark 32 ∷ operand_pieces first → read_source (opened [] (row_text (single name size first))) ≡ source_of (single name size first)
 row_of_one name size first named shown one =
     opened_read (single name size first) named shown tt
     ∙ ap (λ (l : List Piece). with_size name (size_pieces size ++ (l ++ []))) one

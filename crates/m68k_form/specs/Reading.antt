@@ -4,7 +4,7 @@
 use Rattle.std.specs.Prelude.{ℕ, ◌+◌, ◌-◌, ◌*◌, ◌/◌, ◌%◌, ◌^◌, ◌==◌, Bool, true, false, ◌&&◌, not, if◌then◌else◌, List, [], ◌∷◌, ◌++◌, Option, Some, None}
 use Rattle.md_word.specs.declared.size.Size.{Size}
 use Rattle.md_word.specs.declared.size.Size.TheVariants.{Byte, Word, Long}
-use Rattle.md_asm_text.specs.Operands.{operands}
+use Rattle.md_asm_text.specs.Operands.{operands_of}
 use Rattle.md_asm_text.specs.Pieces as pieces
 use Rattle.md_asm_text.specs.Pieces.{Piece}
 use Rattle.m68k_form.specs.declared.form.Form.{Form}
@@ -120,13 +120,13 @@ size_of word = if begins 98 word then Byte else (if begins 119 word then Word el
 abbrev pub with_operands : List ℕ → Option Size → List Piece → Source
 with_operands stem size [] = record { stem = stem; size = size; first = forms.Nothing; second = forms.Nothing }
 with_operands stem size (p ∷ ps) =
-    record { stem = stem; size = size; first = form (operands false ps).0; second = form (operands false ps).1 }
+    record { stem = stem; size = size; first = form (operands_of false ps).0; second = form (operands_of false ps).1 }
 
 abbrev pub with_size : List ℕ → List Piece → Source
 with_size stem (pieces.Mark c ∷ pieces.Word word ∷ ps) =
     if c == 46 then with_operands stem (Some (size_of word)) ps else with_operands stem None (pieces.Mark c ∷ pieces.Word word ∷ ps)
 with_size stem ps = with_operands stem None ps
 
-unfoldable pub source : List Piece → Source
-source (pieces.Word stem ∷ ps) = with_size stem ps
-source _ = with_operands [] None []
+unfoldable pub read_source : List Piece → Source
+read_source (pieces.Word stem ∷ ps) = with_size stem ps
+read_source _ = with_operands [] None []

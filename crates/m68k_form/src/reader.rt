@@ -66,9 +66,9 @@ fn with_size<'a>(stem: &'a [u8], pieces: &[Piece<'a>]) -> Source<'a>
 }
 
 /// What is read of an instruction's pieces.
-#[tactic(auto, unfolding(crate::specs::Reading::source))]
+#[tactic(auto, unfolding(crate::specs::Reading::read_source))]
 pub fn read<'a>(pieces: &[Piece<'a>]) -> Source<'a>
-    ensures seen { source_seen result ≡ reading.source (map shown pieces.now) }
+    ensures seen { source_seen result ≡ reading.read_source (map shown pieces.now) }
     ensures first { IsForm result.first }
     ensures second { IsForm result.second }
 {

@@ -24,14 +24,14 @@ use Rattle.md_disasm.specs.Rows68.{Row68, is_turned, row_of, size_of, target}
 use Rattle.md_disasm.specs.Texts68.{row_text}
 use Rattle.md_disasm.specs.declared.operand68.Operand68.TheVariants as operands
 use Rattle.md_asm_text.specs.Pieces.{every, is_worded, opened, split}
-use Rattle.m68k_form.specs.Reading.{Source, source}
+use Rattle.m68k_form.specs.Reading.{Source, read_source}
 use Rattle.m68k_read.specs.Building.{built, meant, stem_in, stem_of, register, number, quick, displacement, base, by_word, either, is_ccr, is_data, is_nothing, is_sr, is_usp, offset, is_list, list, list_with, turned}
 use Rattle.m68k_read.specs.Building as building
 use Rattle.m68k_read.specs.Table.{IsBit, IsDecimal, IsExtended, IsImmediate, IsLogic, IsQuick, IsShift, IsSum, IsUnary}
 use Rattle.m68k_form.specs.declared.form.Form.TheVariants as forms
 use Rattle.m68k_read.specs.declared.stem.Stem.TheVariants as stems
 use Rattle.m68k_form.proofs.Operands.{IsWritten, form_of_mode, form_of_number}
-use Rattle.m68k_form.proofs.Lists.{down_whole, list_form, listed, masks, names_form, up_whole}
+use Rattle.m68k_form.proofs.Lists.{down_whole, list_form, listed, register_masks, names_form, up_whole}
 use Rattle.m68k_form.proofs.Sources.{row_of_one, row_of_two, source_of}
 
 -- an operand as decoding gives it
@@ -226,7 +226,7 @@ by_word_is d at h k = word_from at (extended Word d) h ∙ extended_word d k
 
 -- what is made of the text of an instruction at an address
 abbrev pub again : Op → ℕ → Op
-again op at = meant (source (opened [] (row_text (row_of op at)))) at
+again op at = meant (read_source (opened [] (row_text (row_of op at)))) at
 
 pub immediate_again : (task : Task) (size : Size) (n : ℕ) (mode : Mode) (at : ℕ) → IsImmediate task → n < modulus_of size → IsRead size mode → again (ops.Immediate task size n mode) at ≡ ops.Immediate task size n mode
 unfolding meant built stem_of stem_in is_worded base either offset
@@ -454,27 +454,27 @@ stop_again n at h =
     ∙ rw (word_is n h) refl
 
 pub reset_again : (at : ℕ) → again ops.Reset at ≡ ops.Reset
-unfolding meant built stem_of stem_in is_worded base either offset source opened split
+unfolding meant built stem_of stem_in is_worded base either offset read_source opened split
 reset_again at = refl
 
 pub nop_again : (at : ℕ) → again ops.Nop at ≡ ops.Nop
-unfolding meant built stem_of stem_in is_worded base either offset source opened split
+unfolding meant built stem_of stem_in is_worded base either offset read_source opened split
 nop_again at = refl
 
 pub rte_again : (at : ℕ) → again ops.Rte at ≡ ops.Rte
-unfolding meant built stem_of stem_in is_worded base either offset source opened split
+unfolding meant built stem_of stem_in is_worded base either offset read_source opened split
 rte_again at = refl
 
 pub rts_again : (at : ℕ) → again ops.Rts at ≡ ops.Rts
-unfolding meant built stem_of stem_in is_worded base either offset source opened split
+unfolding meant built stem_of stem_in is_worded base either offset read_source opened split
 rts_again at = refl
 
 pub trapv_again : (at : ℕ) → again ops.Trapv at ≡ ops.Trapv
-unfolding meant built stem_of stem_in is_worded base either offset source opened split
+unfolding meant built stem_of stem_in is_worded base either offset read_source opened split
 trapv_again at = refl
 
 pub rtr_again : (at : ℕ) → again ops.Rtr at ≡ ops.Rtr
-unfolding meant built stem_of stem_in is_worded base either offset source opened split
+unfolding meant built stem_of stem_in is_worded base either offset read_source opened split
 rtr_again at = refl
 
 pub lea_again : (n : ℕ) (mode : Mode) (at : ℕ) → n < 8 → IsRead Long mode → again (ops.Lea n mode) at ≡ ops.Lea n mode
@@ -851,13 +851,13 @@ shift_memory_again _ mode at is m = absurd is
 
 -- ---- lists of registers
 
-list_names : (ns : List ℕ) → list (names_form ns) ≡ (masks ns).0
+list_names : (ns : List ℕ) → list (names_form ns) ≡ (register_masks ns).0
 unfolding list
 list_names [] = refl
 list_names (n ∷ []) = omega arith
 list_names (n ∷ m ∷ ns) = refl
 
-turned_names : (ns : List ℕ) → turned (names_form ns) ≡ (masks ns).1
+turned_names : (ns : List ℕ) → turned (names_form ns) ≡ (register_masks ns).1
 unfolding turned
 turned_names [] = refl
 turned_names (n ∷ []) = omega arith
@@ -873,12 +873,12 @@ unfolding turned
 turned_by true l h is = rw is (grind (arith, nat_tests))
 turned_by false l h is = rw is (turned_names (listed true l) ∙ down_whole l h)
 
-up_listed : (ns : List ℕ) (l : ℕ) → (masks ns).0 ≡ l → (l == 0) ≡ false → is_list (names_form ns) ≡ true
+up_listed : (ns : List ℕ) (l : ℕ) → (register_masks ns).0 ≡ l → (l == 0) ≡ false → is_list (names_form ns) ≡ true
 up_listed [] l e is = absurd (grind (arith, nat_tests))
 up_listed (n ∷ []) l e is = refl
 up_listed (n ∷ m ∷ ns) l e is = refl
 
-down_listed : (ns : List ℕ) (l : ℕ) → (masks ns).1 ≡ l → (l == 0) ≡ false → is_list (names_form ns) ≡ true
+down_listed : (ns : List ℕ) (l : ℕ) → (register_masks ns).1 ≡ l → (l == 0) ≡ false → is_list (names_form ns) ≡ true
 down_listed [] l e is = absurd (grind (arith, nat_tests))
 down_listed (n ∷ []) l e is = refl
 down_listed (n ∷ m ∷ ns) l e is = refl

@@ -13,7 +13,7 @@ use Rattle.md_disasm.specs.Texts68.{text_of}
 use Rattle.md_asm_text.specs.Pieces.{Piece, pieces}
 use Rattle.m68k_read.specs.Building.{meant}
 use Rattle.m68k_read.specs.Judged.{tried}
-use Rattle.m68k_form.specs.Reading.{source}
+use Rattle.m68k_form.specs.Reading.{read_source}
 use Rattle.m68k_read.specs.Table.{IsEntered, IsEnteredWord, IsInstruction, AreWords}
 use Rattle.m68k_read.proofs.Decoded.{row_again}
 use Rattle.m68k_read.proofs.Entered.{every_word}
@@ -26,7 +26,7 @@ picked_made_again (Some row) words at is all h = row_again row words at is all h
 
 -- the instruction is made again of the pieces of its text
 pub meant_again : (word : ℕ) (tail : List ℕ) (at : ℕ) → word < 65536 → IsInstruction (nested word) → AreWords (word ∷ tail) → at < 4294967296
-    → meant (source (pieces (text_of (decoded (word ∷ tail)) at))) at ≡ (decoded (word ∷ tail)).op
+    → meant (read_source (pieces (text_of (decoded (word ∷ tail)) at))) at ≡ (decoded (word ∷ tail)).op
 meant_again word tail at below is all h =
     rw (decoded_is_picked (word ∷ tail) below) (picked_made_again (nested word) (word ∷ tail) at (every_word word below is) all h)
 

@@ -105,9 +105,9 @@ abbrev pub is_nothing : Form → Bool
 is_nothing forms.Nothing = true
 is_nothing _ = false
 
-abbrev pub is_immediate : Form → Bool
-is_immediate (forms.Immediate n) = true
-is_immediate _ = false
+abbrev pub is_immediate_form : Form → Bool
+is_immediate_form (forms.Immediate n) = true
+is_immediate_form _ = false
 
 abbrev pub is_displaced : Form → Bool
 is_displaced (forms.Displaced n by) = true
@@ -147,7 +147,7 @@ immediate task size first second =
 
 abbrev pub bit : Task → Form → Form → Op
 bit task first second =
-    if is_immediate first then ops.BitByNumber task (number first % 256) (mode Byte second)
+    if is_immediate_form first then ops.BitByNumber task (number first % 256) (mode Byte second)
     else ops.BitByRegister task (register first) (mode Byte second)
 
 abbrev pub movep : Size → Form → Form → Op
@@ -172,7 +172,7 @@ sum task size first second =
 abbrev pub shift : Task → Size → Form → Form → Op
 shift task size first second =
     if is_nothing second then ops.ShiftMemory task (mode Word first) else
-    if is_immediate first then ops.ShiftByNumber task size (quick first) (register second) else
+    if is_immediate_form first then ops.ShiftByNumber task size (quick first) (register second) else
     ops.ShiftByRegister task size (register first) (register second)
 
 -- the instruction of a name, a size and two operands, at an address
@@ -233,129 +233,129 @@ pub record Entry : Type 0 where
   pub text : List ℕ
   pub stem : Stem
 
-abbrev pub entry : List ℕ → Stem → Entry
-entry text stem = record { text = text; stem = stem }
+abbrev pub entry_for : List ℕ → Stem → Entry
+entry_for text stem = record { text = text; stem = stem }
 
 abbrev pub table : List Entry
 table =
-    entry (codes "abcd") (stems.Decimal tasks.Abcd) ∷
-    entry (codes "add") (stems.Sum tasks.Add) ∷
-    entry (codes "adda") (stems.ToAddress tasks.Add) ∷
-    entry (codes "addi") (stems.Immediate tasks.Add) ∷
-    entry (codes "addq") (stems.Quick tasks.Add) ∷
-    entry (codes "addx") (stems.Extended tasks.Addx) ∷
-    entry (codes "and") (stems.Sum tasks.And) ∷
-    entry (codes "andi") (stems.Immediate tasks.And) ∷
-    entry (codes "asl") (stems.Shift tasks.Asl) ∷
-    entry (codes "asr") (stems.Shift tasks.Asr) ∷
-    entry (codes "bcc") (stems.Bcc conditions.CarryClear) ∷
-    entry (codes "bchg") (stems.Bit tasks.Bchg) ∷
-    entry (codes "bclr") (stems.Bit tasks.Bclr) ∷
-    entry (codes "bcs") (stems.Bcc conditions.CarrySet) ∷
-    entry (codes "beq") (stems.Bcc conditions.Equal) ∷
-    entry (codes "bf") (stems.Bcc conditions.False) ∷
-    entry (codes "bge") (stems.Bcc conditions.GreaterOrEqual) ∷
-    entry (codes "bgt") (stems.Bcc conditions.GreaterThan) ∷
-    entry (codes "bhi") (stems.Bcc conditions.High) ∷
-    entry (codes "ble") (stems.Bcc conditions.LessOrEqual) ∷
-    entry (codes "bls") (stems.Bcc conditions.LowOrSame) ∷
-    entry (codes "blt") (stems.Bcc conditions.LessThan) ∷
-    entry (codes "bmi") (stems.Bcc conditions.Minus) ∷
-    entry (codes "bne") (stems.Bcc conditions.NotEqual) ∷
-    entry (codes "bpl") (stems.Bcc conditions.Plus) ∷
-    entry (codes "bra") stems.Bra ∷
-    entry (codes "bset") (stems.Bit tasks.Bset) ∷
-    entry (codes "bsr") stems.Bsr ∷
-    entry (codes "bt") (stems.Bcc conditions.True) ∷
-    entry (codes "btst") (stems.Bit tasks.Btst) ∷
-    entry (codes "bvc") (stems.Bcc conditions.OverflowClear) ∷
-    entry (codes "bvs") (stems.Bcc conditions.OverflowSet) ∷
-    entry (codes "chk") stems.Chk ∷
-    entry (codes "clr") (stems.Unary tasks.Clr) ∷
-    entry (codes "cmp") stems.Cmp ∷
-    entry (codes "cmpa") stems.Cmpa ∷
-    entry (codes "cmpi") stems.CompareImmediate ∷
-    entry (codes "cmpm") stems.Cmpm ∷
-    entry (codes "dbcc") (stems.Dbcc conditions.CarryClear) ∷
-    entry (codes "dbcs") (stems.Dbcc conditions.CarrySet) ∷
-    entry (codes "dbeq") (stems.Dbcc conditions.Equal) ∷
-    entry (codes "dbf") (stems.Dbcc conditions.False) ∷
-    entry (codes "dbge") (stems.Dbcc conditions.GreaterOrEqual) ∷
-    entry (codes "dbgt") (stems.Dbcc conditions.GreaterThan) ∷
-    entry (codes "dbhi") (stems.Dbcc conditions.High) ∷
-    entry (codes "dble") (stems.Dbcc conditions.LessOrEqual) ∷
-    entry (codes "dbls") (stems.Dbcc conditions.LowOrSame) ∷
-    entry (codes "dblt") (stems.Dbcc conditions.LessThan) ∷
-    entry (codes "dbmi") (stems.Dbcc conditions.Minus) ∷
-    entry (codes "dbne") (stems.Dbcc conditions.NotEqual) ∷
-    entry (codes "dbpl") (stems.Dbcc conditions.Plus) ∷
-    entry (codes "dbt") (stems.Dbcc conditions.True) ∷
-    entry (codes "dbvc") (stems.Dbcc conditions.OverflowClear) ∷
-    entry (codes "dbvs") (stems.Dbcc conditions.OverflowSet) ∷
-    entry (codes "divs") stems.Divs ∷
-    entry (codes "divu") stems.Divu ∷
-    entry (codes "eor") stems.Eor ∷
-    entry (codes "eori") (stems.Immediate tasks.Eor) ∷
-    entry (codes "exg") stems.Exg ∷
-    entry (codes "ext") stems.Ext ∷
-    entry (codes "jmp") stems.Jmp ∷
-    entry (codes "jsr") stems.Jsr ∷
-    entry (codes "lea") stems.Lea ∷
-    entry (codes "link") stems.Link ∷
-    entry (codes "lsl") (stems.Shift tasks.Lsl) ∷
-    entry (codes "lsr") (stems.Shift tasks.Lsr) ∷
-    entry (codes "move") stems.Move ∷
-    entry (codes "movea") stems.Movea ∷
-    entry (codes "movem") stems.Movem ∷
-    entry (codes "movep") stems.Movep ∷
-    entry (codes "moveq") stems.Moveq ∷
-    entry (codes "muls") stems.Muls ∷
-    entry (codes "mulu") stems.Mulu ∷
-    entry (codes "nbcd") stems.Nbcd ∷
-    entry (codes "neg") (stems.Unary tasks.Neg) ∷
-    entry (codes "negx") (stems.Unary tasks.Negx) ∷
-    entry (codes "nop") stems.Nop ∷
-    entry (codes "not") (stems.Unary tasks.Not) ∷
-    entry (codes "or") (stems.Sum tasks.Or) ∷
-    entry (codes "ori") (stems.Immediate tasks.Or) ∷
-    entry (codes "pea") stems.Pea ∷
-    entry (codes "reset") stems.Reset ∷
-    entry (codes "rol") (stems.Shift tasks.Rol) ∷
-    entry (codes "ror") (stems.Shift tasks.Ror) ∷
-    entry (codes "roxl") (stems.Shift tasks.Roxl) ∷
-    entry (codes "roxr") (stems.Shift tasks.Roxr) ∷
-    entry (codes "rte") stems.Rte ∷
-    entry (codes "rtr") stems.Rtr ∷
-    entry (codes "rts") stems.Rts ∷
-    entry (codes "sbcd") (stems.Decimal tasks.Sbcd) ∷
-    entry (codes "scc") (stems.Scc conditions.CarryClear) ∷
-    entry (codes "scs") (stems.Scc conditions.CarrySet) ∷
-    entry (codes "seq") (stems.Scc conditions.Equal) ∷
-    entry (codes "sf") (stems.Scc conditions.False) ∷
-    entry (codes "sge") (stems.Scc conditions.GreaterOrEqual) ∷
-    entry (codes "sgt") (stems.Scc conditions.GreaterThan) ∷
-    entry (codes "shi") (stems.Scc conditions.High) ∷
-    entry (codes "sle") (stems.Scc conditions.LessOrEqual) ∷
-    entry (codes "sls") (stems.Scc conditions.LowOrSame) ∷
-    entry (codes "slt") (stems.Scc conditions.LessThan) ∷
-    entry (codes "smi") (stems.Scc conditions.Minus) ∷
-    entry (codes "sne") (stems.Scc conditions.NotEqual) ∷
-    entry (codes "spl") (stems.Scc conditions.Plus) ∷
-    entry (codes "st") (stems.Scc conditions.True) ∷
-    entry (codes "stop") stems.Stop ∷
-    entry (codes "sub") (stems.Sum tasks.Sub) ∷
-    entry (codes "suba") (stems.ToAddress tasks.Sub) ∷
-    entry (codes "subi") (stems.Immediate tasks.Sub) ∷
-    entry (codes "subq") (stems.Quick tasks.Sub) ∷
-    entry (codes "subx") (stems.Extended tasks.Subx) ∷
-    entry (codes "svc") (stems.Scc conditions.OverflowClear) ∷
-    entry (codes "svs") (stems.Scc conditions.OverflowSet) ∷
-    entry (codes "swap") stems.Swap ∷
-    entry (codes "tas") stems.Tas ∷
-    entry (codes "trap") stems.Trap ∷
-    entry (codes "trapv") stems.Trapv ∷
-    entry (codes "tst") stems.Tst ∷
-    entry (codes "unlk") stems.Unlk ∷
+    entry_for (codes "abcd") (stems.Decimal tasks.Abcd) ∷
+    entry_for (codes "add") (stems.Sum tasks.Add) ∷
+    entry_for (codes "adda") (stems.ToAddress tasks.Add) ∷
+    entry_for (codes "addi") (stems.Immediate tasks.Add) ∷
+    entry_for (codes "addq") (stems.Quick tasks.Add) ∷
+    entry_for (codes "addx") (stems.Extended tasks.Addx) ∷
+    entry_for (codes "and") (stems.Sum tasks.And) ∷
+    entry_for (codes "andi") (stems.Immediate tasks.And) ∷
+    entry_for (codes "asl") (stems.Shift tasks.Asl) ∷
+    entry_for (codes "asr") (stems.Shift tasks.Asr) ∷
+    entry_for (codes "bcc") (stems.Bcc conditions.CarryClear) ∷
+    entry_for (codes "bchg") (stems.Bit tasks.Bchg) ∷
+    entry_for (codes "bclr") (stems.Bit tasks.Bclr) ∷
+    entry_for (codes "bcs") (stems.Bcc conditions.CarrySet) ∷
+    entry_for (codes "beq") (stems.Bcc conditions.Equal) ∷
+    entry_for (codes "bf") (stems.Bcc conditions.False) ∷
+    entry_for (codes "bge") (stems.Bcc conditions.GreaterOrEqual) ∷
+    entry_for (codes "bgt") (stems.Bcc conditions.GreaterThan) ∷
+    entry_for (codes "bhi") (stems.Bcc conditions.High) ∷
+    entry_for (codes "ble") (stems.Bcc conditions.LessOrEqual) ∷
+    entry_for (codes "bls") (stems.Bcc conditions.LowOrSame) ∷
+    entry_for (codes "blt") (stems.Bcc conditions.LessThan) ∷
+    entry_for (codes "bmi") (stems.Bcc conditions.Minus) ∷
+    entry_for (codes "bne") (stems.Bcc conditions.NotEqual) ∷
+    entry_for (codes "bpl") (stems.Bcc conditions.Plus) ∷
+    entry_for (codes "bra") stems.Bra ∷
+    entry_for (codes "bset") (stems.Bit tasks.Bset) ∷
+    entry_for (codes "bsr") stems.Bsr ∷
+    entry_for (codes "bt") (stems.Bcc conditions.True) ∷
+    entry_for (codes "btst") (stems.Bit tasks.Btst) ∷
+    entry_for (codes "bvc") (stems.Bcc conditions.OverflowClear) ∷
+    entry_for (codes "bvs") (stems.Bcc conditions.OverflowSet) ∷
+    entry_for (codes "chk") stems.Chk ∷
+    entry_for (codes "clr") (stems.Unary tasks.Clr) ∷
+    entry_for (codes "cmp") stems.Cmp ∷
+    entry_for (codes "cmpa") stems.Cmpa ∷
+    entry_for (codes "cmpi") stems.CompareImmediate ∷
+    entry_for (codes "cmpm") stems.Cmpm ∷
+    entry_for (codes "dbcc") (stems.Dbcc conditions.CarryClear) ∷
+    entry_for (codes "dbcs") (stems.Dbcc conditions.CarrySet) ∷
+    entry_for (codes "dbeq") (stems.Dbcc conditions.Equal) ∷
+    entry_for (codes "dbf") (stems.Dbcc conditions.False) ∷
+    entry_for (codes "dbge") (stems.Dbcc conditions.GreaterOrEqual) ∷
+    entry_for (codes "dbgt") (stems.Dbcc conditions.GreaterThan) ∷
+    entry_for (codes "dbhi") (stems.Dbcc conditions.High) ∷
+    entry_for (codes "dble") (stems.Dbcc conditions.LessOrEqual) ∷
+    entry_for (codes "dbls") (stems.Dbcc conditions.LowOrSame) ∷
+    entry_for (codes "dblt") (stems.Dbcc conditions.LessThan) ∷
+    entry_for (codes "dbmi") (stems.Dbcc conditions.Minus) ∷
+    entry_for (codes "dbne") (stems.Dbcc conditions.NotEqual) ∷
+    entry_for (codes "dbpl") (stems.Dbcc conditions.Plus) ∷
+    entry_for (codes "dbt") (stems.Dbcc conditions.True) ∷
+    entry_for (codes "dbvc") (stems.Dbcc conditions.OverflowClear) ∷
+    entry_for (codes "dbvs") (stems.Dbcc conditions.OverflowSet) ∷
+    entry_for (codes "divs") stems.Divs ∷
+    entry_for (codes "divu") stems.Divu ∷
+    entry_for (codes "eor") stems.Eor ∷
+    entry_for (codes "eori") (stems.Immediate tasks.Eor) ∷
+    entry_for (codes "exg") stems.Exg ∷
+    entry_for (codes "ext") stems.Ext ∷
+    entry_for (codes "jmp") stems.Jmp ∷
+    entry_for (codes "jsr") stems.Jsr ∷
+    entry_for (codes "lea") stems.Lea ∷
+    entry_for (codes "link") stems.Link ∷
+    entry_for (codes "lsl") (stems.Shift tasks.Lsl) ∷
+    entry_for (codes "lsr") (stems.Shift tasks.Lsr) ∷
+    entry_for (codes "move") stems.Move ∷
+    entry_for (codes "movea") stems.Movea ∷
+    entry_for (codes "movem") stems.Movem ∷
+    entry_for (codes "movep") stems.Movep ∷
+    entry_for (codes "moveq") stems.Moveq ∷
+    entry_for (codes "muls") stems.Muls ∷
+    entry_for (codes "mulu") stems.Mulu ∷
+    entry_for (codes "nbcd") stems.Nbcd ∷
+    entry_for (codes "neg") (stems.Unary tasks.Neg) ∷
+    entry_for (codes "negx") (stems.Unary tasks.Negx) ∷
+    entry_for (codes "nop") stems.Nop ∷
+    entry_for (codes "not") (stems.Unary tasks.Not) ∷
+    entry_for (codes "or") (stems.Sum tasks.Or) ∷
+    entry_for (codes "ori") (stems.Immediate tasks.Or) ∷
+    entry_for (codes "pea") stems.Pea ∷
+    entry_for (codes "reset") stems.Reset ∷
+    entry_for (codes "rol") (stems.Shift tasks.Rol) ∷
+    entry_for (codes "ror") (stems.Shift tasks.Ror) ∷
+    entry_for (codes "roxl") (stems.Shift tasks.Roxl) ∷
+    entry_for (codes "roxr") (stems.Shift tasks.Roxr) ∷
+    entry_for (codes "rte") stems.Rte ∷
+    entry_for (codes "rtr") stems.Rtr ∷
+    entry_for (codes "rts") stems.Rts ∷
+    entry_for (codes "sbcd") (stems.Decimal tasks.Sbcd) ∷
+    entry_for (codes "scc") (stems.Scc conditions.CarryClear) ∷
+    entry_for (codes "scs") (stems.Scc conditions.CarrySet) ∷
+    entry_for (codes "seq") (stems.Scc conditions.Equal) ∷
+    entry_for (codes "sf") (stems.Scc conditions.False) ∷
+    entry_for (codes "sge") (stems.Scc conditions.GreaterOrEqual) ∷
+    entry_for (codes "sgt") (stems.Scc conditions.GreaterThan) ∷
+    entry_for (codes "shi") (stems.Scc conditions.High) ∷
+    entry_for (codes "sle") (stems.Scc conditions.LessOrEqual) ∷
+    entry_for (codes "sls") (stems.Scc conditions.LowOrSame) ∷
+    entry_for (codes "slt") (stems.Scc conditions.LessThan) ∷
+    entry_for (codes "smi") (stems.Scc conditions.Minus) ∷
+    entry_for (codes "sne") (stems.Scc conditions.NotEqual) ∷
+    entry_for (codes "spl") (stems.Scc conditions.Plus) ∷
+    entry_for (codes "st") (stems.Scc conditions.True) ∷
+    entry_for (codes "stop") stems.Stop ∷
+    entry_for (codes "sub") (stems.Sum tasks.Sub) ∷
+    entry_for (codes "suba") (stems.ToAddress tasks.Sub) ∷
+    entry_for (codes "subi") (stems.Immediate tasks.Sub) ∷
+    entry_for (codes "subq") (stems.Quick tasks.Sub) ∷
+    entry_for (codes "subx") (stems.Extended tasks.Subx) ∷
+    entry_for (codes "svc") (stems.Scc conditions.OverflowClear) ∷
+    entry_for (codes "svs") (stems.Scc conditions.OverflowSet) ∷
+    entry_for (codes "swap") stems.Swap ∷
+    entry_for (codes "tas") stems.Tas ∷
+    entry_for (codes "trap") stems.Trap ∷
+    entry_for (codes "trapv") stems.Trapv ∷
+    entry_for (codes "tst") stems.Tst ∷
+    entry_for (codes "unlk") stems.Unlk ∷
     []
 
 -- what a text is entered as

@@ -3,11 +3,11 @@ use Rattle.std.specs.Prelude.{ℕ, List, [], ◌∷◌}
 use Rattle.m68k_encode.specs.Encoding.{encoded}
 use Rattle.md_asm_text.specs.Pieces.{Piece}
 use Rattle.m68k_read.specs.Building.{meant}
-use Rattle.m68k_form.specs.Reading.{source}
+use Rattle.m68k_form.specs.Reading.{read_source}
 
 -- the words of what is made of the pieces
 abbrev pub tried : List Piece → ℕ → List ℕ
-tried said at = encoded (meant (source said) at)
+tried said at = encoded (meant (read_source said) at)
 
 -- one to five words, filled up with 0 to five
 abbrev pub padded : List ℕ → List ℕ

@@ -173,7 +173,7 @@ fn is_nothing(form: Form) -> bool
 }
 
 fn is_immediate(form: Form) -> bool
-    ensures { result ≡ building.is_immediate form }
+    ensures { result ≡ building.is_immediate_form form }
 {
     match form {
         Form::Immediate(_) => true,

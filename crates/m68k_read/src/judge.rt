@@ -36,7 +36,7 @@ fn padded(words: &[u16]) -> [u16; 5]
 /// What is made of the pieces of an instruction.
 #[tactic(auto, unfolding(crate::specs::Building::meant))]
 fn meant(pieces: &[Piece<'_>], at: u32) -> Op
-    ensures value { result ≡ building.meant (reading.source (map shown pieces.now)) at }
+    ensures value { result ≡ building.meant (reading.read_source (map shown pieces.now)) at }
     ensures coded { IsCoded result }
 {
     let source = read(pieces);

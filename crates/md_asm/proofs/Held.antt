@@ -56,6 +56,6 @@ by_outcome : (source image : List ℕ) (lines : List Placed) (one : Outcome) →
 by_outcome source image lines (Read round) read is = by_memory source image lines round (round_two round.names blank round.slots) read refl is
 by_outcome source image lines (Refused line kind) read is = cc
 
-pub holds_lines : (source image : List ℕ) (lines : List Placed) → assembly source ≡ Done image lines → HoldsLines source image lines
+pub lines_held : (source image : List ℕ) (lines : List Placed) → assembly source ≡ Done image lines → HoldsLines source image lines
 unfolding assembly
-holds_lines source image lines is = by_outcome source image lines (round_one start 1 (lines_of source)) refl is
+lines_held source image lines is = by_outcome source image lines (round_one start 1 (lines_of source)) refl is

@@ -4,7 +4,7 @@ use Rattle.std.proofs.lemmas.Bool.{eqb-true}
 use Rattle.md_asm_text.specs.Pieces as pieces
 use Rattle.md_asm_text.specs.Pieces.{Piece}
 use Rattle.md_asm_line.specs.declared.body.Body.{Body}
-use Rattle.md_asm_code.specs.Contents.{Far, Good, Settled, Unfit, Unknown, content, is_unfit, settled, sized}
+use Rattle.md_asm_code.specs.Contents.{Far, Good, Settled, Unfit, Unknown, content, is_unfit, settled_line, sized}
 use Rattle.md_asm_code.specs.Numbers.{Names, has_name, resolved}
 use Rattle.md_asm.specs.Kept.{AreKept, SettlesOn, FitsAt, IsKept}
 use Rattle.md_asm.specs.declared.entry.Entry.{Entry}
@@ -25,9 +25,9 @@ resolved_plain names (pieces.Mark c ∷ ps) none = ap (λ (l : List Piece). piec
 
 -- what a line without names comes to does not depend on them
 pub settles_without_names : (sub : Bool) (body : Body) (long : ℕ) (said : List Piece) (at : ℕ) (bytes : List ℕ) → has_name said ≡ false
-    → settled sub body long said at ≡ Good bytes → SettlesOn sub body long said at bytes
+    → settled_line sub body long said at ≡ Good bytes → SettlesOn sub body long said at bytes
 settles_without_names sub body long said at bytes none is names =
-    ap (λ (l : List Piece). settled sub body long l at) (resolved_plain names said none) ∙ is
+    ap (λ (l : List Piece). settled_line sub body long l at) (resolved_plain names said none) ∙ is
 
 -- bytes that a line comes to have its length
 sized_by : (long : ℕ) (own bytes : List ℕ) (b : Bool) → (length own == long) ≡ b → (if b then Good own else Far) ≡ Good bytes → length bytes ≡ long
@@ -46,7 +46,7 @@ chosen false true long found bytes is = cc
 chosen false false long found bytes is = sized_long long found bytes is
 
 pub settled_long : (sub : Bool) (body : Body) (long : ℕ) (said : List Piece) (at : ℕ) (bytes : List ℕ)
-    → settled sub body long said at ≡ Good bytes → length bytes ≡ long
+    → settled_line sub body long said at ≡ Good bytes → length bytes ≡ long
 settled_long sub body long said at bytes is =
     chosen (has_name said) (is_unfit sub body said) long (content sub body said at) bytes is
 
@@ -58,9 +58,9 @@ fits place long room Far h own = tt
 
 -- so they have room where the line has
 pub settled_fits : (sub : Bool) (body : Body) (long : ℕ) (said : List Piece) (at place room : ℕ) → place + long ≤ room
-    → FitsAt (settled sub body long said at) place room
+    → FitsAt (settled_line sub body long said at) place room
 settled_fits sub body long said at place room h =
-    fits place long room (settled sub body long said at) h (λ bytes is. settled_long sub body long said at bytes is)
+    fits place long room (settled_line sub body long said at) h (λ bytes is. settled_long sub body long said at bytes is)
 
 pub settles_long : (sub : Bool) (body : Body) (long : ℕ) (said : List Piece) (at : ℕ) (bytes : List ℕ) → SettlesOn sub body long said at bytes
     → length bytes ≡ long

@@ -2,14 +2,14 @@
 use Rattle.std.specs.Prelude.{ℕ, ◌≡◌, ◌+◌, ◌<◌, ◌≤◌, Bool, true, List, [], ◌∷◌, IfSome, length, vec_len}
 use Rattle.md_asm_text.specs.Pieces.{Piece, pieces}
 use Rattle.md_asm_line.specs.declared.body.Body.{Body}
-use Rattle.md_asm_code.specs.Contents.{Far, Good, Settled, Unfit, Unknown, settled}
+use Rattle.md_asm_code.specs.Contents.{Far, Good, Settled, Unfit, Unknown, settled_line}
 use Rattle.md_asm_code.specs.Numbers.{Names, resolved}
 use Rattle.md_asm.specs.declared.entry.Entry.{Entry}
 use Rattle.md_asm.specs.declared.pass.Pass.{Pass}
 
 -- a line comes to these bytes whatever values names have
 abbrev pub SettlesOn : Bool → Body → ℕ → List Piece → ℕ → List ℕ → Type 0
-SettlesOn sub body long said at bytes = (names : Names) → settled sub body long (resolved names said) at ≡ Good bytes
+SettlesOn sub body long said at bytes = (names : Names) → settled_line sub body long (resolved names said) at ≡ Good bytes
 
 -- it ends below 400000h, has an address of its processor, and the bytes that it has are its own
 pub record IsKept (entry : Entry) : Type 0 where

@@ -6,7 +6,7 @@ use Rattle.md_asm_text.specs.Pieces.{pieces}
 use Rattle.md_asm_line.specs.Lines.{Line, line_of}
 use Rattle.md_asm_line.specs.declared.body.Body.{Body}
 use Rattle.md_asm_line.specs.declared.body.Body.TheVariants as bodies
-use Rattle.md_asm_code.specs.Contents.{Settled, Good, Unknown, Unfit, Far, is_unfit, settled, size}
+use Rattle.md_asm_code.specs.Contents.{Settled, Good, Unknown, Unfit, Far, is_unfit, settled_line, size}
 use Rattle.md_asm_code.specs.Numbers.{Names, resolved}
 use Rattle.md_asm.specs.Places.{WrittenPlaces, address, any_written, is_sub, is_too_large, put, with_written}
 use Rattle.md_asm.specs.declared.kind.Kind.{Kind}
@@ -176,7 +176,7 @@ round_one round number (text ∷ more) = go_on number (line_step round number (l
 
 -- what a line comes to, with all names known
 abbrev pub settled_slot : Names → Slot → Settled
-settled_slot names slot = settled slot.sub slot.body slot.long (resolved names (pieces slot.text)) slot.address
+settled_slot names slot = settled_line slot.sub slot.body slot.long (resolved names (pieces slot.text)) slot.address
 
 pub data Patched : Type 0 where
   Onto : List ℕ → Patched

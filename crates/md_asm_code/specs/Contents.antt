@@ -70,6 +70,6 @@ sized long (Some bytes) = if length bytes == long then Good bytes else Far
 
 -- A name that has no value is unknown. The line's own numbers fit already, so that a number which does not is a
 -- name's. Else its bytes are those of its length.
-abbrev pub settled : Bool → Body → ℕ → List Piece → ℕ → Settled
-settled z80 body long said at =
+abbrev pub settled_line : Bool → Body → ℕ → List Piece → ℕ → Settled
+settled_line z80 body long said at =
     if has_name said then Unknown else (if is_unfit z80 body said then Unfit else sized long (content z80 body said at))

@@ -117,7 +117,7 @@ pub fn settle(
     at: u32,
 ) -> Result<Settled, NoMemory>
     requires { z80 ≡ true → at < 65536 }
-    ensures { IfOk result (λ settled. settled_seen settled ≡ contents.settled z80 body long (map shown pieces.now) at) }
+    ensures { IfOk result (λ settled. settled_seen settled ≡ contents.settled_line z80 body long (map shown pieces.now) at) }
 {
     if has_name(pieces) {
         return Ok(Settled::Unknown);

@@ -98,7 +98,7 @@ register_split c n e is dollar ends =
 -- ---- numbers
 
 -- digits with a value
-record AreDigits (count n : ℕ) (digits : List ℕ) : Type 0 where
+record AreDigitsOf (count n : ℕ) (digits : List ℕ) : Type 0 where
   pub all : every is_hexadecimal digits ≡ true
   pub long : length digits ≡ count
   pub value : value_behind 0 digits ≡ n
@@ -151,7 +151,7 @@ eight_value before n =
     value_both before (four_digits (n / 65536)) (four_digits (n % 65536))
     ∙ rw (four_value before (n / 65536), four_value (before * 65536 + n / 65536 % 65536) (n % 65536)) (omega arith)
 
-one_digits : (n : ℕ) → n < 16 → AreDigits 1 n (one_digit n)
+one_digits : (n : ℕ) → n < 16 → AreDigitsOf 1 n (one_digit n)
 unfolding one_digit
 one_digits n h = record { all = one_all n; long = refl; value = let e = one_value 0 n in omega (arith, e) }
 
@@ -167,13 +167,13 @@ eight_count : (n : ℕ) → length (eight_digits n) ≡ 8
 unfolding eight_digits four_digits two_digits one_digit
 eight_count n = refl
 
-two_digits_are : (n : ℕ) → n < 256 → AreDigits 2 n (two_digits n)
+two_digits_are : (n : ℕ) → n < 256 → AreDigitsOf 2 n (two_digits n)
 two_digits_are n h = record { all = two_all n; long = two_count n; value = let e = two_value 0 n in omega (arith, e) }
 
-four_digits_are : (n : ℕ) → n < 65536 → AreDigits 4 n (four_digits n)
+four_digits_are : (n : ℕ) → n < 65536 → AreDigitsOf 4 n (four_digits n)
 four_digits_are n h = record { all = four_all n; long = four_count n; value = let e = four_value 0 n in omega (arith, e) }
 
-eight_digits_are : (n : ℕ) → n < 4294967296 → AreDigits 8 n (eight_digits n)
+eight_digits_are : (n : ℕ) → n < 4294967296 → AreDigitsOf 8 n (eight_digits n)
 eight_digits_are n h = record { all = eight_all n; long = eight_count n; value = let e = eight_value 0 n in omega (arith, e) }
 
 all_worded : (digits : List ℕ) → every is_hexadecimal digits ≡ true → every is_worded digits ≡ true
@@ -182,13 +182,13 @@ all_worded (c ∷ cs) h =
     let parts = and_parts (is_hexadecimal c) (every is_hexadecimal cs) h in
     rw (worded-hexadecimal c parts.0, all_worded cs parts.1) refl
 
-number_told : (count n : ℕ) (digits : List ℕ) → 0 < count → count < 9 → AreDigits count n digits → told (36 ∷ digits) ≡ Number n
+number_told : (count n : ℕ) (digits : List ℕ) → 0 < count → count < 9 → AreDigitsOf count n digits → told (36 ∷ digits) ≡ Number n
 unfolding told
 number_told count n digits some few are =
     let tested : are_digits digits ≡ true = rw (are.all, are.long) (grind (arith, nat_tests)) in
     rw (tested, are.value) refl
 
-number_split : (count n : ℕ) (digits e : List ℕ) → 0 < count → count < 9 → AreDigits count n digits → is_end e ≡ true
+number_split : (count n : ℕ) (digits e : List ℕ) → 0 < count → count < 9 → AreDigitsOf count n digits → is_end e ≡ true
     → split [] (36 ∷ (digits ++ e)) ≡ Number n ∷ split [] e
 unfolding is_worded
 number_split count n digits e some few are ends =

@@ -16,7 +16,7 @@ is_comma _ = false
 abbrev pub Operands : Type 0
 Operands = List Piece × List Piece
 
-unfoldable pub operands : Bool → List Piece → Operands
-operands inside [] = ([], [])
-operands inside (p ∷ ps) =
-    if not inside && is_comma p then ([], ps) else (p ∷ (operands (opens inside p) ps).0, (operands (opens inside p) ps).1)
+unfoldable pub operands_of : Bool → List Piece → Operands
+operands_of inside [] = ([], [])
+operands_of inside (p ∷ ps) =
+    if not inside && is_comma p then ([], ps) else (p ∷ (operands_of (opens inside p) ps).0, (operands_of (opens inside p) ps).1)

@@ -25,11 +25,11 @@ fn is_comma(piece: &Piece<'_>) -> bool
 }
 
 /// How many pieces stand before the first comma outside brackets.
-#[tactic(auto, unfolding(crate::specs::Operands::operands))]
+#[tactic(auto, unfolding(crate::specs::Operands::operands_of))]
 fn before_comma(pieces: &[Piece<'_>]) -> usize
     ensures within { result ≤ length pieces.now }
-    ensures first { map shown (take result pieces.now) ≡ (meaning.operands false (map shown pieces.now)).0 }
-    ensures second { map shown (drop (result + 1) pieces.now) ≡ (meaning.operands false (map shown pieces.now)).1 }
+    ensures first { map shown (take result pieces.now) ≡ (meaning.operands_of false (map shown pieces.now)).0 }
+    ensures second { map shown (drop (result + 1) pieces.now) ≡ (meaning.operands_of false (map shown pieces.now)).1 }
 {
     let mut inside = false;
     for (i, piece) in pieces.iter().enumerate() {
@@ -43,7 +43,7 @@ fn before_comma(pieces: &[Piece<'_>]) -> usize
 
 /// The pieces of an instruction's first operand.
 pub fn first_operand<'a, 'b>(pieces: &'b [Piece<'a>]) -> &'b [Piece<'a>]
-    ensures { map shown result.now ≡ (meaning.operands false (map shown pieces.now)).0 }
+    ensures { map shown result.now ≡ (meaning.operands_of false (map shown pieces.now)).0 }
 {
     let count = before_comma(pieces);
     &pieces[..count]
@@ -51,7 +51,7 @@ pub fn first_operand<'a, 'b>(pieces: &'b [Piece<'a>]) -> &'b [Piece<'a>]
 
 /// The pieces behind the comma of an instruction's first operand.
 pub fn second_operand<'a, 'b>(pieces: &'b [Piece<'a>]) -> &'b [Piece<'a>]
-    ensures { map shown result.now ≡ (meaning.operands false (map shown pieces.now)).1 }
+    ensures { map shown result.now ≡ (meaning.operands_of false (map shown pieces.now)).1 }
 {
     let count = before_comma(pieces);
     if count < pieces.len() {

@@ -170,79 +170,79 @@ pub record Entry : Type 0 where
   pub text : List ℕ
   pub stem : Stem80
 
-abbrev pub entry : List ℕ → Stem80 → Entry
-entry text stem = record { text = text; stem = stem }
+abbrev pub entry_for : List ℕ → Stem80 → Entry
+entry_for text stem = record { text = text; stem = stem }
 
 abbrev pub table : List Entry
 table =
-    entry (codes "adc") stems.AddWithCarry ∷
-    entry (codes "add") stems.Add ∷
-    entry (codes "and") (stems.Arithmetic tasks.And) ∷
-    entry (codes "bit") stems.TestBit ∷
-    entry (codes "call") stems.Call ∷
-    entry (codes "ccf") (stems.Alone (ops.Accumulator tasks.Ccf)) ∷
-    entry (codes "cp") (stems.Arithmetic tasks.Cp) ∷
-    entry (codes "cpd") (stems.Alone (ops.BlockCompare Decrement)) ∷
-    entry (codes "cpdr") (stems.Alone (ops.BlockCompare DecrementRepeat)) ∷
-    entry (codes "cpi") (stems.Alone (ops.BlockCompare Increment)) ∷
-    entry (codes "cpir") (stems.Alone (ops.BlockCompare IncrementRepeat)) ∷
-    entry (codes "cpl") (stems.Alone (ops.Accumulator tasks.Cpl)) ∷
-    entry (codes "daa") (stems.Alone (ops.Accumulator tasks.Daa)) ∷
-    entry (codes "dec") stems.Decrement ∷
-    entry (codes "di") (stems.Alone ops.DisableInterrupts) ∷
-    entry (codes "djnz") stems.DecrementAndJump ∷
-    entry (codes "ei") (stems.Alone ops.EnableInterrupts) ∷
-    entry (codes "ex") stems.Exchange ∷
-    entry (codes "exx") (stems.Alone ops.ExchangeAll) ∷
-    entry (codes "halt") (stems.Alone ops.Halt) ∷
-    entry (codes "im") stems.SetInterruptMode ∷
-    entry (codes "in") stems.Input ∷
-    entry (codes "inc") stems.Increment ∷
-    entry (codes "ind") (stems.Alone (ops.BlockInput Decrement)) ∷
-    entry (codes "indr") (stems.Alone (ops.BlockInput DecrementRepeat)) ∷
-    entry (codes "ini") (stems.Alone (ops.BlockInput Increment)) ∷
-    entry (codes "inir") (stems.Alone (ops.BlockInput IncrementRepeat)) ∷
-    entry (codes "jp") stems.Jump ∷
-    entry (codes "jr") stems.JumpRelative ∷
-    entry (codes "ld") stems.Load ∷
-    entry (codes "ldd") (stems.Alone (ops.BlockLoad Decrement)) ∷
-    entry (codes "lddr") (stems.Alone (ops.BlockLoad DecrementRepeat)) ∷
-    entry (codes "ldi") (stems.Alone (ops.BlockLoad Increment)) ∷
-    entry (codes "ldir") (stems.Alone (ops.BlockLoad IncrementRepeat)) ∷
-    entry (codes "neg") (stems.Alone ops.Negate) ∷
-    entry (codes "nop") (stems.Alone ops.Nop) ∷
-    entry (codes "or") (stems.Arithmetic tasks.Or) ∷
-    entry (codes "otdr") (stems.Alone (ops.BlockOutput DecrementRepeat)) ∷
-    entry (codes "otir") (stems.Alone (ops.BlockOutput IncrementRepeat)) ∷
-    entry (codes "out") stems.Output ∷
-    entry (codes "outd") (stems.Alone (ops.BlockOutput Decrement)) ∷
-    entry (codes "outi") (stems.Alone (ops.BlockOutput Increment)) ∷
-    entry (codes "pop") stems.Pop ∷
-    entry (codes "push") stems.Push ∷
-    entry (codes "res") stems.ResetBit ∷
-    entry (codes "ret") stems.Return ∷
-    entry (codes "reti") (stems.Alone ops.ReturnFromInterrupt) ∷
-    entry (codes "retn") (stems.Alone ops.ReturnFromNonMaskable) ∷
-    entry (codes "rl") (stems.Change tasks.Rl) ∷
-    entry (codes "rla") (stems.Alone (ops.Accumulator tasks.Rla)) ∷
-    entry (codes "rlc") (stems.Change tasks.Rlc) ∷
-    entry (codes "rlca") (stems.Alone (ops.Accumulator tasks.Rlca)) ∷
-    entry (codes "rld") (stems.Alone ops.RotateDigitsLeft) ∷
-    entry (codes "rr") (stems.Change tasks.Rr) ∷
-    entry (codes "rra") (stems.Alone (ops.Accumulator tasks.Rra)) ∷
-    entry (codes "rrc") (stems.Change tasks.Rrc) ∷
-    entry (codes "rrca") (stems.Alone (ops.Accumulator tasks.Rrca)) ∷
-    entry (codes "rrd") (stems.Alone ops.RotateDigitsRight) ∷
-    entry (codes "rst") stems.Restart ∷
-    entry (codes "sbc") stems.SubtractWithCarry ∷
-    entry (codes "scf") (stems.Alone (ops.Accumulator tasks.Scf)) ∷
-    entry (codes "set") stems.SetBit ∷
-    entry (codes "sla") (stems.Change tasks.Sla) ∷
-    entry (codes "sll") (stems.Change tasks.Sll) ∷
-    entry (codes "sra") (stems.Change tasks.Sra) ∷
-    entry (codes "srl") (stems.Change tasks.Srl) ∷
-    entry (codes "sub") (stems.Arithmetic tasks.Sub) ∷
-    entry (codes "xor") (stems.Arithmetic tasks.Xor) ∷ []
+    entry_for (codes "adc") stems.AddWithCarry ∷
+    entry_for (codes "add") stems.Add ∷
+    entry_for (codes "and") (stems.Arithmetic tasks.And) ∷
+    entry_for (codes "bit") stems.TestBit ∷
+    entry_for (codes "call") stems.Call ∷
+    entry_for (codes "ccf") (stems.Alone (ops.Accumulator tasks.Ccf)) ∷
+    entry_for (codes "cp") (stems.Arithmetic tasks.Cp) ∷
+    entry_for (codes "cpd") (stems.Alone (ops.BlockCompare Decrement)) ∷
+    entry_for (codes "cpdr") (stems.Alone (ops.BlockCompare DecrementRepeat)) ∷
+    entry_for (codes "cpi") (stems.Alone (ops.BlockCompare Increment)) ∷
+    entry_for (codes "cpir") (stems.Alone (ops.BlockCompare IncrementRepeat)) ∷
+    entry_for (codes "cpl") (stems.Alone (ops.Accumulator tasks.Cpl)) ∷
+    entry_for (codes "daa") (stems.Alone (ops.Accumulator tasks.Daa)) ∷
+    entry_for (codes "dec") stems.Decrement ∷
+    entry_for (codes "di") (stems.Alone ops.DisableInterrupts) ∷
+    entry_for (codes "djnz") stems.DecrementAndJump ∷
+    entry_for (codes "ei") (stems.Alone ops.EnableInterrupts) ∷
+    entry_for (codes "ex") stems.Exchange ∷
+    entry_for (codes "exx") (stems.Alone ops.ExchangeAll) ∷
+    entry_for (codes "halt") (stems.Alone ops.Halt) ∷
+    entry_for (codes "im") stems.SetInterruptMode ∷
+    entry_for (codes "in") stems.Input ∷
+    entry_for (codes "inc") stems.Increment ∷
+    entry_for (codes "ind") (stems.Alone (ops.BlockInput Decrement)) ∷
+    entry_for (codes "indr") (stems.Alone (ops.BlockInput DecrementRepeat)) ∷
+    entry_for (codes "ini") (stems.Alone (ops.BlockInput Increment)) ∷
+    entry_for (codes "inir") (stems.Alone (ops.BlockInput IncrementRepeat)) ∷
+    entry_for (codes "jp") stems.Jump ∷
+    entry_for (codes "jr") stems.JumpRelative ∷
+    entry_for (codes "ld") stems.Load ∷
+    entry_for (codes "ldd") (stems.Alone (ops.BlockLoad Decrement)) ∷
+    entry_for (codes "lddr") (stems.Alone (ops.BlockLoad DecrementRepeat)) ∷
+    entry_for (codes "ldi") (stems.Alone (ops.BlockLoad Increment)) ∷
+    entry_for (codes "ldir") (stems.Alone (ops.BlockLoad IncrementRepeat)) ∷
+    entry_for (codes "neg") (stems.Alone ops.Negate) ∷
+    entry_for (codes "nop") (stems.Alone ops.Nop) ∷
+    entry_for (codes "or") (stems.Arithmetic tasks.Or) ∷
+    entry_for (codes "otdr") (stems.Alone (ops.BlockOutput DecrementRepeat)) ∷
+    entry_for (codes "otir") (stems.Alone (ops.BlockOutput IncrementRepeat)) ∷
+    entry_for (codes "out") stems.Output ∷
+    entry_for (codes "outd") (stems.Alone (ops.BlockOutput Decrement)) ∷
+    entry_for (codes "outi") (stems.Alone (ops.BlockOutput Increment)) ∷
+    entry_for (codes "pop") stems.Pop ∷
+    entry_for (codes "push") stems.Push ∷
+    entry_for (codes "res") stems.ResetBit ∷
+    entry_for (codes "ret") stems.Return ∷
+    entry_for (codes "reti") (stems.Alone ops.ReturnFromInterrupt) ∷
+    entry_for (codes "retn") (stems.Alone ops.ReturnFromNonMaskable) ∷
+    entry_for (codes "rl") (stems.Change tasks.Rl) ∷
+    entry_for (codes "rla") (stems.Alone (ops.Accumulator tasks.Rla)) ∷
+    entry_for (codes "rlc") (stems.Change tasks.Rlc) ∷
+    entry_for (codes "rlca") (stems.Alone (ops.Accumulator tasks.Rlca)) ∷
+    entry_for (codes "rld") (stems.Alone ops.RotateDigitsLeft) ∷
+    entry_for (codes "rr") (stems.Change tasks.Rr) ∷
+    entry_for (codes "rra") (stems.Alone (ops.Accumulator tasks.Rra)) ∷
+    entry_for (codes "rrc") (stems.Change tasks.Rrc) ∷
+    entry_for (codes "rrca") (stems.Alone (ops.Accumulator tasks.Rrca)) ∷
+    entry_for (codes "rrd") (stems.Alone ops.RotateDigitsRight) ∷
+    entry_for (codes "rst") stems.Restart ∷
+    entry_for (codes "sbc") stems.SubtractWithCarry ∷
+    entry_for (codes "scf") (stems.Alone (ops.Accumulator tasks.Scf)) ∷
+    entry_for (codes "set") stems.SetBit ∷
+    entry_for (codes "sla") (stems.Change tasks.Sla) ∷
+    entry_for (codes "sll") (stems.Change tasks.Sll) ∷
+    entry_for (codes "sra") (stems.Change tasks.Sra) ∷
+    entry_for (codes "srl") (stems.Change tasks.Srl) ∷
+    entry_for (codes "sub") (stems.Arithmetic tasks.Sub) ∷
+    entry_for (codes "xor") (stems.Arithmetic tasks.Xor) ∷ []
 
 -- what a text is entered as
 unfoldable pub stem_in : List Entry → List ℕ → Stem80

@@ -3,11 +3,11 @@ use Rattle.std.specs.Prelude.{ℕ, List, [], ◌∷◌}
 use Rattle.md_asm_text.specs.Pieces.{Piece}
 use Rattle.z80_encode.specs.Encoding80.{encoded}
 use Rattle.z80_read.specs.Building.{meant}
-use Rattle.z80_read.specs.Reading.{source}
+use Rattle.z80_read.specs.Reading.{read_source}
 
 -- the bytes of what is made of the pieces
 abbrev pub tried : List Piece → ℕ → List ℕ
-tried said at = encoded (meant (source said) at)
+tried said at = encoded (meant (read_source said) at)
 
 -- one to four bytes, filled up with 0 to four
 abbrev pub padded : List ℕ → List ℕ

@@ -1,7 +1,7 @@
 -- What is read of an instruction's pieces. It takes every text for one of the forms that its kinds of
 -- pieces allow; what is made of it is compared with the text afterwards.
 use Rattle.std.specs.Prelude.{ℕ, false, List, [], ◌∷◌}
-use Rattle.md_asm_text.specs.Operands.{operands}
+use Rattle.md_asm_text.specs.Operands.{operands_of}
 use Rattle.md_asm_text.specs.Pieces as pieces
 use Rattle.md_asm_text.specs.Pieces.{Piece}
 use Rattle.z80_read.specs.Forms.{Form, Nothing, Worded, AtWord, Displaced, Bare, AtNumber}
@@ -32,8 +32,8 @@ pub record Source : Type 0 where
 
 abbrev pub with_operands : List ℕ → List Piece → Source
 with_operands stem [] = record { stem = stem; first = Nothing; second = Nothing }
-with_operands stem (p ∷ ps) = record { stem = stem; first = form (operands false ps).0; second = form (operands false ps).1 }
+with_operands stem (p ∷ ps) = record { stem = stem; first = form (operands_of false ps).0; second = form (operands_of false ps).1 }
 
-unfoldable pub source : List Piece → Source
-source (pieces.Word stem ∷ ps) = with_operands stem ps
-source _ = with_operands [] []
+unfoldable pub read_source : List Piece → Source
+read_source (pieces.Word stem ∷ ps) = with_operands stem ps
+read_source _ = with_operands [] []

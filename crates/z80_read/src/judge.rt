@@ -33,7 +33,7 @@ fn padded(bytes: &[u8]) -> [u8; 4]
 /// What is made of the pieces of an instruction.
 #[tactic(auto, unfolding(crate::specs::Building::meant))]
 fn meant(pieces: &[Piece<'_>], at: u16) -> Op80
-    ensures { result ≡ building.meant (reading.source (map shown pieces.now)) at }
+    ensures { result ≡ building.meant (reading.read_source (map shown pieces.now)) at }
 {
     let source = read(pieces);
     built(stem_of(source.stem), source.first, source.second, at)

@@ -66,9 +66,9 @@ fn with_operands<'a>(stem: &'a [u8], pieces: &[Piece<'a>]) -> Source80<'a>
 }
 
 /// What is read of an instruction's pieces.
-#[tactic(auto, unfolding(crate::specs::Reading::source))]
+#[tactic(auto, unfolding(crate::specs::Reading::read_source))]
 pub(crate) fn read<'a>(pieces: &[Piece<'a>]) -> Source80<'a>
-    ensures { source_seen result ≡ reading.source (map shown pieces.now) }
+    ensures { source_seen result ≡ reading.read_source (map shown pieces.now) }
 {
     match pieces {
         [Piece::Word(stem), rest @ ..] => with_operands(stem, rest),

@@ -23,7 +23,7 @@ use Rattle.z80_encode.specs.Encoding80.{encoded, opcode_of, operands, prefixes}
 use Rattle.z80_encode.proofs.Law80.{encoding_again}
 use Rattle.z80_read.specs.Building.{built, meant, stem_in, stem_of}
 use Rattle.z80_read.specs.Judged.{tried}
-use Rattle.z80_read.specs.Reading.{Source, source}
+use Rattle.z80_read.specs.Reading.{Source, read_source}
 use Rattle.z80_read_laws.specs.Instruction.{is_db}
 use Rattle.z80_read_laws.proofs.Pages.{by_index, by_page, joined}
 use Rattle.z80_read_laws.proofs.Read.{read, read_behind, read_bits, read_ix_bits, read_iy_bits, read_extended, read_plain, read_ix, read_iy}
@@ -36,31 +36,31 @@ use Rattle.z80_read_laws.proofs.Sources.{is_read, row_opens, source_again}
 abbrev IsAgain : ℕ → Decoded80 → Type 0
 IsAgain at d = is_db d.op ≡ false → (is_read (row_of d.op at) ≡ true) × (rebuilt (row_of d.op at) at ≡ d.op)
 
-is_again : (at : ℕ) (d : Decoded80) → read at d ≡ true → again at d ≡ kept d → IsAgain at d
-is_again at d reads same none = (rw none at reads, rw none at same)
+judged_again : (at : ℕ) (d : Decoded80) → read at d ≡ true → again at d ≡ kept d → IsAgain at d
+judged_again at d reads same none = (rw none at reads, rw none at same)
 
 bits_again : (at b1 : ℕ) → b1 < 256 → IsAgain at (of_bytes 2 (bits b1 (place_of indexes.Hl (lower b1) 0)))
-bits_again at b1 h = is_again at (of_bytes 2 (bits b1 (place_of indexes.Hl (lower b1) 0)))
+bits_again at b1 h = judged_again at (of_bytes 2 (bits b1 (place_of indexes.Hl (lower b1) 0)))
     (same_at (λ w. read at (of_bytes 2 (bits w (place_of indexes.Hl (lower w) 0)))) (λ w. true) 256 0 (read_bits at) b1 (omega arith) (omega arith))
     (same_at (λ w. again at (of_bytes 2 (bits w (place_of indexes.Hl (lower w) 0)))) (λ w. kept (of_bytes 2 (bits w (place_of indexes.Hl (lower w) 0)))) 256 0 (built_bits at) b1 (omega arith) (omega arith))
 
 extended_again : (at b1 b2 b3 : ℕ) → b1 < 256 → b2 < 256 → b3 < 256 → IsAgain at (extended b1 b2 b3)
-extended_again at b1 b2 b3 h k l = is_again at (extended b1 b2 b3)
+extended_again at b1 b2 b3 h k l = judged_again at (extended b1 b2 b3)
     (same_at (λ w. read at (extended w b2 b3)) (λ w. true) 256 0 (read_extended at b2 b3 k l) b1 (omega arith) (omega arith))
     (same_at (λ w. again at (extended w b2 b3)) (λ w. kept (extended w b2 b3)) 256 0 (built_extended at b2 b3 k l) b1 (omega arith) (omega arith))
 
 plain_again : (at b0 b1 b2 : ℕ) → at < 65536 → b0 < 256 → b1 < 256 → b2 < 256 → IsAgain at (by_opcode indexes.Hl b0 b1 b2)
-plain_again at b0 b1 b2 a h k l = is_again at (by_opcode indexes.Hl b0 b1 b2)
+plain_again at b0 b1 b2 a h k l = judged_again at (by_opcode indexes.Hl b0 b1 b2)
     (same_at (λ w. read at (by_opcode indexes.Hl w b1 b2)) (λ w. true) 256 0 (read_plain at b1 b2 k l) b0 (omega arith) (omega arith))
     (joined (λ w. again at (by_opcode indexes.Hl w b1 b2)) (λ w. kept (by_opcode indexes.Hl w b1 b2)) (built_low at b1 b2 a k l) (built_middle at b1 b2) (built_high at b1 b2 k l) b0 h)
 
 ix_bits_again : (at b2 b3 : ℕ) → b2 < 256 → b3 < 256 → IsAgain at (of_bytes 4 (bits b3 (memory_of indexes.Ix b2)))
-ix_bits_again at b2 b3 k l = is_again at (of_bytes 4 (bits b3 (memory_of indexes.Ix b2)))
+ix_bits_again at b2 b3 k l = judged_again at (of_bytes 4 (bits b3 (memory_of indexes.Ix b2)))
     (same_at (λ w. read at (of_bytes 4 (bits w (memory_of indexes.Ix b2)))) (λ w. true) 256 0 (read_ix_bits at b2 k) b3 (omega arith) (omega arith))
     (same_at (λ w. again at (of_bytes 4 (bits w (memory_of indexes.Ix b2)))) (λ w. kept (of_bytes 4 (bits w (memory_of indexes.Ix b2)))) 256 0 (built_ix_bits at b2 k) b3 (omega arith) (omega arith))
 
 iy_bits_again : (at b2 b3 : ℕ) → b2 < 256 → b3 < 256 → IsAgain at (of_bytes 4 (bits b3 (memory_of indexes.Iy b2)))
-iy_bits_again at b2 b3 k l = is_again at (of_bytes 4 (bits b3 (memory_of indexes.Iy b2)))
+iy_bits_again at b2 b3 k l = judged_again at (of_bytes 4 (bits b3 (memory_of indexes.Iy b2)))
     (same_at (λ w. read at (of_bytes 4 (bits w (memory_of indexes.Iy b2)))) (λ w. true) 256 0 (read_iy_bits at b2 k) b3 (omega arith) (omega arith))
     (same_at (λ w. again at (of_bytes 4 (bits w (memory_of indexes.Iy b2)))) (λ w. kept (of_bytes 4 (bits w (memory_of indexes.Iy b2)))) 256 0 (built_iy_bits at b2 k) b3 (omega arith) (omega arith))
 
@@ -68,13 +68,13 @@ ix_again : (at b1 b2 b3 : ℕ) → b1 < 256 → b2 < 256 → b3 < 256 → names_
 ix_again at b1 b2 b3 h k l names =
     let reads = same_at (λ w. read_behind at (by_opcode indexes.Ix w b2 b3) w) (λ w. true) 256 0 (read_ix at b2 b3 k l) b1 (omega arith) (omega arith) in
     let same = joined (named (λ w. again at (by_opcode indexes.Ix w b2 b3))) (named (λ w. kept (by_opcode indexes.Ix w b2 b3))) (built_ix_low at b2 b3 k l) (built_ix_middle at b2 b3 k) (built_ix_high at b2 b3) b1 h in
-    is_again at (by_opcode indexes.Ix b1 b2 b3) (rw names at reads) (rw names at same)
+    judged_again at (by_opcode indexes.Ix b1 b2 b3) (rw names at reads) (rw names at same)
 
 iy_again : (at b1 b2 b3 : ℕ) → b1 < 256 → b2 < 256 → b3 < 256 → names_hl b1 ≡ true → IsAgain at (by_opcode indexes.Iy b1 b2 b3)
 iy_again at b1 b2 b3 h k l names =
     let reads = same_at (λ w. read_behind at (by_opcode indexes.Iy w b2 b3) w) (λ w. true) 256 0 (read_iy at b2 b3 k l) b1 (omega arith) (omega arith) in
     let same = joined (named (λ w. again at (by_opcode indexes.Iy w b2 b3))) (named (λ w. kept (by_opcode indexes.Iy w b2 b3))) (built_iy_low at b2 b3 k l) (built_iy_middle at b2 b3 k) (built_iy_high at b2 b3) b1 h in
-    is_again at (by_opcode indexes.Iy b1 b2 b3) (rw names at reads) (rw names at same)
+    judged_again at (by_opcode indexes.Iy b1 b2 b3) (rw names at reads) (rw names at same)
 
 -- a prefix that stands alone has a directive's text
 lone_again : (at : ℕ) (index : Index) → IsAgain at (of_bytes 1 (ops.LonePrefix index))
@@ -96,7 +96,7 @@ decoded_again bytes at h a = rw (decoded_is_nested bytes (h 0) (h 1) (h 3)) (nes
 
 -- the instruction is made again of the pieces of its text
 pub meant_again : (bytes : List ℕ) (at : ℕ) → AreBytes bytes → at < 65536 → is_db (decoded bytes).op ≡ false
-    → meant (source (pieces (text_of (decoded bytes) at))) at ≡ (decoded bytes).op
+    → meant (read_source (pieces (text_of (decoded bytes) at))) at ≡ (decoded bytes).op
 meant_again bytes at h a none =
     let both = decoded_again bytes at h a none in
     ap (λ (s : Source). meant s at) (source_again (row_of (decoded bytes).op at) both.0) ∙ both.1
@@ -125,8 +125,8 @@ db_opens row is =
       row_opens row all ∙ ap (λ (name : List ℕ). texts.Word name ∷ split [] (led (codes " ") row.first ++ (led (codes ",") row.second ++ []))) is,
     )
 
-meant_db : (more : List Piece) (at : ℕ) → meant (source (texts.Word (codes "db") ∷ more)) at ≡ ops.Nop
-unfolding meant source stem_of stem_in built
+meant_db : (more : List Piece) (at : ℕ) → meant (read_source (texts.Word (codes "db") ∷ more)) at ≡ ops.Nop
+unfolding meant read_source stem_of stem_in built
 meant_db [] at = refl
 meant_db (p ∷ ps) at = refl
 

@@ -17,7 +17,7 @@ use Rattle.md_disasm.specs.Digits.{two_digits, four_digits, marked_byte, marked_
 use Rattle.md_disasm.specs.Operands80.{pair_name, special_name, condition_name, bit_name, mode_name, place_text, operand_text}
 use Rattle.md_disasm.specs.declared.operand80.Operand80.{Operand80}
 use Rattle.md_disasm.specs.declared.operand80.Operand80.TheVariants as operands
-use Rattle.md_asm_text.specs.Operands.{operands as parted}
+use Rattle.md_asm_text.specs.Operands.{operands_of as parted}
 use Rattle.md_asm_text.specs.Pieces as pieces
 use Rattle.md_asm_text.specs.Pieces.{Piece, is_worded, is_name, split, told}
 use Rattle.md_asm_text.proofs.Splits.{is_end, number_2, number_4, mark_split, word_split}

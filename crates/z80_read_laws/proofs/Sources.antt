@@ -10,7 +10,7 @@ use Rattle.md_disasm.specs.declared.operand80.Operand80.TheVariants as operands
 use Rattle.md_asm_text.specs.Pieces as pieces
 use Rattle.md_asm_text.specs.Pieces.{Piece, every, is_worded, split, opened}
 use Rattle.md_asm_text.proofs.Splits.{is_end, name_opens, mark_split}
-use Rattle.z80_read.specs.Reading.{Source, source, with_operands}
+use Rattle.z80_read.specs.Reading.{Source, read_source, with_operands}
 use Rattle.z80_read_laws.proofs.Operands.{behind, form_of, operand_alone, operand_apart, operand_pieces, operand_read, operand_split, shown}
 
 abbrev pub is_none : Operand80 → Bool
@@ -111,8 +111,8 @@ read_by false false name first second e o h = rw (e, o) (read_two name first sec
 abbrev pub is_read : Row80 → Bool
 is_read row = every is_worded row.name && (shown row.first && (shown row.second && (not (is_none row.first) || is_none row.second)))
 
-pub source_again : (row : Row80) → is_read row ≡ true → source (opened [] (row_text row)) ≡ read_of row.name row.first row.second
-unfolding source
+pub source_again : (row : Row80) → is_read row ≡ true → read_source (opened [] (row_text row)) ≡ read_of row.name row.first row.second
+unfolding read_source
 source_again row h =
     let a = and_parts (every is_worded row.name) (shown row.first && (shown row.second && (not (is_none row.first) || is_none row.second))) h in
     let b = and_parts (shown row.first) (shown row.second && (not (is_none row.first) || is_none row.second)) a.1 in

@@ -1,5 +1,5 @@
-use Rattle.md_asm.proofs.Held.{holds_lines}
+use Rattle.md_asm.proofs.Held.{lines_held}
 use Rattle.md_asm.proofs.laws.images_hold_their_lines.Goals as goal
 
 pub returns : goal.returns
-returns c = holds_lines
+returns c = lines_held
