@@ -9,7 +9,7 @@ use Rattle.md_args.specs.Given.{Argument, value_in}
 use Rattle.md_args.specs.Parse.{asm_app, assembling_parsed, parse_of}
 use Rattle.md_args.specs.Words.{assembling_by, assembling_given, assembling_of}
 use Rattle.md_args.proofs.Commands.{is_none}
-use Rattle.md_args.proofs.Lookups.{AreFound, are_found, option_rule, word_rule}
+use Rattle.md_args.proofs.Lookups.{AreFound, options_found, option_rule, word_rule}
 use Rattle.md_args.proofs.Parsed.{means, options_have_none, parsed}
 use Rattle.md_args.proofs.Rows.{given_is, row}
 use Rattle.md_args.proofs.Turns.{lacks}
@@ -42,7 +42,7 @@ unfolding asm_app
 asm_parse_is words = ap (λ kinds. cond (is_empty kinds) (Some (rows_after asm_rules [] words)) None) (leaf_fault (built asm_app) nothing_held words refl)
 
 asm_found : AreFound asm_rules (codes "list" ∷ []) []
-asm_found = are_found asm_rules asm_arguments (λ name. refl) (refl, tt)
+asm_found = options_found asm_rules asm_arguments (λ name. refl) (refl, tt)
 
 pub asm_means : (words : List Text) → AreTexts words → assembling_parsed words ≡ assembling_of words
 asm_means words texts =

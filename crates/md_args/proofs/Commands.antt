@@ -11,7 +11,7 @@ use Rattle.md_args.specs.Given.{Argument, value_in}
 use Rattle.md_args.specs.Parse.{conversion_app, conversion_parsed, info_app, info_parsed, parse_of, run_app, run_parsed}
 use Rattle.md_args.specs.Words.{Values, conversion_by, conversion_given, conversion_of, info_by, info_of, run_by, run_from, run_flags, run_of, run_options, values_by, workers_of}
 use Rattle.md_args.specs.declared.convert_words.Product.{Product}
-use Rattle.md_args.proofs.Lookups.{AreFound, all_found, are_found, flag_found, flag_rule, option_rule, word_rule}
+use Rattle.md_args.proofs.Lookups.{AreFound, all_found, options_found, flag_found, flag_rule, option_rule, word_rule}
 use Rattle.md_args.proofs.Parsed.{means, options_have_none, parsed}
 use Rattle.md_args.proofs.Rows.{given_is, row}
 use Rattle.md_args.proofs.Turns.{lacks}
@@ -51,7 +51,7 @@ unfolding info_app
 info_parse_is words = ap (λ kinds. cond (is_empty kinds) (Some (rows_after (rom ∷ []) [] words)) None) (leaf_fault (built info_app) nothing_held words refl)
 
 info_found : AreFound (rom ∷ []) [] []
-info_found = are_found (rom ∷ []) [] (λ name. refl) tt
+info_found = options_found (rom ∷ []) [] (λ name. refl) tt
 
 pub info_means : (words : List Text) → AreTexts words → info_parsed words ≡ info_of words
 info_means words texts =

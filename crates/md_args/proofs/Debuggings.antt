@@ -9,7 +9,7 @@ use Rattle.md_args.specs.Given.{Argument, value_in}
 use Rattle.md_args.specs.Parse.{debug_app, debugging_parsed, parse_of}
 use Rattle.md_args.specs.Words.{debugging_by, debugging_given, debugging_of}
 use Rattle.md_args.proofs.Commands.{is_none}
-use Rattle.md_args.proofs.Lookups.{AreFound, are_found, word_rule}
+use Rattle.md_args.proofs.Lookups.{AreFound, options_found, word_rule}
 use Rattle.md_args.proofs.Parsed.{means, parsed}
 use Rattle.md_args.proofs.Rows.{given_is, row}
 use Rattle.md_args.proofs.Turns.{lacks}
@@ -38,7 +38,7 @@ unfolding debug_app
 debug_parse_is words = ap (λ kinds. cond (is_empty kinds) (Some (rows_after debug_rules [] words)) None) (leaf_fault (built debug_app) nothing_held words refl)
 
 debug_found : AreFound debug_rules [] []
-debug_found = are_found debug_rules [] (λ name. refl) tt
+debug_found = options_found debug_rules [] (λ name. refl) tt
 
 pub debug_means : (words : List Text) → AreTexts words → debugging_parsed words ≡ debugging_of words
 debug_means words texts =

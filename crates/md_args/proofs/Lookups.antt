@@ -169,9 +169,9 @@ all_found rules flag options longs apart have name = split (bytes_eq flag name) 
     split false is = go (find (is_named name) options) refl is
 
 -- a command whose options are these, each found by its own name
-pub are_found : (rules : List Rule) (options : List (Text × Bool)) → ((name : Text) → arg_by_long rules name ≡ arg_by_long (map option_rule options) name) → HaveIds rules options
+pub options_found : (rules : List Rule) (options : List (Text × Bool)) → ((name : Text) → arg_by_long rules name ≡ arg_by_long (map option_rule options) name) → HaveIds rules options
     → AreFound rules (map (λ option. option.0) options) []
-are_found rules options longs have name = go (find (is_named name) options) refl
+options_found rules options longs have name = go (find (is_named name) options) refl
   where
     go : (o : Option (Text × Bool)) → find (is_named name) options ≡ o
         → IsKnown rules (map (λ option. option.0) options) name

@@ -9,7 +9,7 @@ use Rattle.md_args.specs.Given.{Argument, value_in}
 use Rattle.md_args.specs.Parse.{parse_of, rollback_app, rolling_parsed}
 use Rattle.md_args.specs.Words.{rolling_by, rolling_from, rolling_of, wanted_window}
 use Rattle.md_args.proofs.Commands.{is_none}
-use Rattle.md_args.proofs.Lookups.{AreFound, are_found, option_rule, word_rule}
+use Rattle.md_args.proofs.Lookups.{AreFound, options_found, option_rule, word_rule}
 use Rattle.md_args.proofs.Parsed.{means, options_have_none, parsed}
 use Rattle.md_args.proofs.Rows.{given_is, row}
 use Rattle.md_args.proofs.Turns.{lacks}
@@ -52,7 +52,7 @@ rollback_parse_is words =
     ap (λ kinds. cond (is_empty kinds) (Some (rows_after rollback_rules [] words)) None) (leaf_fault (built rollback_app) nothing_held words refl)
 
 rollback_found : AreFound rollback_rules (codes "window" ∷ []) []
-rollback_found = are_found rollback_rules rollback_arguments (λ name. refl) (refl, tt)
+rollback_found = options_found rollback_rules rollback_arguments (λ name. refl) (refl, tt)
 
 pub rollback_means : (words : List Text) → AreTexts words → rolling_parsed words ≡ rolling_of words
 rollback_means words texts =

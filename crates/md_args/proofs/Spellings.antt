@@ -86,9 +86,9 @@ readable_name (letter ∷ name) is =
       joined_no_end = λ value. refl;
     }
 
-are_readable : (names : List Text) → list_all is_option_name names ≡ true → AreReadable names
-are_readable [] are = tt
-are_readable (name ∷ names) are = (readable_name name (and_parts _ _ are).0, are_readable names (and_parts _ _ are).1)
+names_readable : (names : List Text) → list_all is_option_name names ≡ true → AreReadable names
+names_readable [] are = tt
+names_readable (name ∷ names) are = (readable_name name (and_parts _ _ are).0, names_readable names (and_parts _ _ are).1)
 
 pub readable_among : (names : List Text) (name : Text) → AreReadable names → list_any (has_name name) names ≡ true → IsReadable name
 readable_among [] name are among = absurd (true≢false (sym among))
@@ -154,10 +154,10 @@ fits_single (raised name ∷ written) many = and_right _ _ (fits_single written 
 fits_single (rom name ∷ written) many = and_left _ _ (not_from_true _ (fits_no_other written many))
 
 pub run_readable : AreReadable run_options
-run_readable = are_readable run_options refl
+run_readable = names_readable run_options refl
 
 pub flags_readable : AreReadable run_flags
-flags_readable = are_readable run_flags refl
+flags_readable = names_readable run_flags refl
 
 -- a run that is written is the run of its arguments
 pub run_written : (written : List Written) → AreWritten run_options run_flags written → run_of (all_words written) ≡ run_of_arguments (map argument_of written)

@@ -51,13 +51,13 @@ module _ (options flags : List Text) (Rel : Option (List Argument) → Option (L
 
 -- ---- a cartridge whose name is none
 
-abbrev is_refused : Argument → Bool
-is_refused argument = has_name (codes "rom") argument.0 && not (is_name argument.1)
+abbrev is_marked_rom : Argument → Bool
+is_marked_rom argument = has_name (codes "rom") argument.0 && not (is_name argument.1)
 
 -- the words are refused, or the cartridge's name is none
 abbrev pub IsRefused : Option (List Argument) → Type 0
 IsRefused None = ⊤
-IsRefused (Some arguments) = list_any is_refused arguments ≡ true
+IsRefused (Some arguments) = list_any is_marked_rom arguments ≡ true
 
 refused_more : (name value : Text) (given : Option (List Argument)) → IsRefused given → IsRefused (with_value name value given)
 refused_more name value None refused = tt
@@ -68,20 +68,20 @@ pub refused_here : (word : Text) (given : Option (List Argument)) → is_name wo
 refused_here word None no_name = tt
 refused_here word (Some arguments) no_name = rw (no_name) refl
 
-none_refused : (arguments : List Argument) → stands (codes "rom") arguments ≡ false → list_any is_refused arguments ≡ false
+none_refused : (arguments : List Argument) → stands (codes "rom") arguments ≡ false → list_any is_marked_rom arguments ≡ false
 none_refused [] none = refl
 none_refused (first ∷ arguments) none =
     let parts = or_parts (has_name (codes "rom") first.0) (stands (codes "rom") arguments) none in
     rw (parts.0) (none_refused arguments parts.1)
 
-refused_name : (arguments : List Argument) → are_single arguments ≡ true → list_any is_refused arguments ≡ true
+refused_name : (arguments : List Argument) → are_single arguments ≡ true → list_any is_marked_rom arguments ≡ true
     → (name : Text) × ((value_in arguments (codes "rom") ≡ Some name) × (is_name name ≡ false))
 refused_name [] single refused = absurd (true≢false (sym refused))
 refused_name (first ∷ arguments) single refused =
     go (has_name (codes "rom") first.0) (is_name first.1) refl refl refused (refused_name arguments (and_parts _ _ single).1)
   where
-    go : (b d : Bool) → has_name (codes "rom") first.0 ≡ b → is_name first.1 ≡ d → ((b && not d) || list_any is_refused arguments) ≡ true
-        → (list_any is_refused arguments ≡ true → (name : Text) × ((value_in arguments (codes "rom") ≡ Some name) × (is_name name ≡ false)))
+    go : (b d : Bool) → has_name (codes "rom") first.0 ≡ b → is_name first.1 ≡ d → ((b && not d) || list_any is_marked_rom arguments) ≡ true
+        → (list_any is_marked_rom arguments ≡ true → (name : Text) × ((value_in arguments (codes "rom") ≡ Some name) × (is_name name ≡ false)))
         → (name : Text) × ((value_in (first ∷ arguments) (codes "rom") ≡ Some name) × (is_name name ≡ false))
     go true true is fine refused later =
         let same : first.0 ≡ codes "rom" = (bytes_eq-Decides first.0 (codes "rom")).0 is in

@@ -8,8 +8,8 @@ use Rattle.md_outer.specs.Outside.{DepotState}
 use Rattle.md_outer.specs.declared.mem_depot.MemDepot.{MemDepot}
 
 -- a begun file hides a given one of its name
-abbrev pub depot_state : MemDepot → DepotState
-depot_state depot = record {
+abbrev pub depot_state_of : MemDepot → DepotState
+depot_state_of depot = record {
   files = over (files_of depot.begun) (listed_files depot.given.items);
   begun = λ number. slice_get (begun_names depot.begun) number;
   read_faults = depot.read_faults;
@@ -23,8 +23,8 @@ pub record DepotPlan : Type 0 where
   pub writes : CallPlan
 
 -- the plan of a depot
-abbrev pub depot_plan : MemDepot → DepotPlan
-depot_plan depot = record { room = depot.begun.room; reads = calls_of depot.reads; writes = calls_of depot.writes }
+abbrev pub depot_plan_of : MemDepot → DepotPlan
+depot_plan_of depot = record { room = depot.begun.room; reads = calls_of depot.reads; writes = calls_of depot.writes }
 
 -- eight files are begun, and none of this name
 pub record IsNinth (depot : DepotState) (name : List ℕ) : Type 0 where

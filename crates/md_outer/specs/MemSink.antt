@@ -10,9 +10,9 @@ pub record SinkPlan : Type 0 where
   pub calls : CallPlan
 
 -- what was put, and the count of faults
-abbrev pub sink_state : MemSink → SinkState
-sink_state sink = record { bytes = sink.buffer.bytes.items; faults = sink.faults }
+abbrev pub sink_state_of : MemSink → SinkState
+sink_state_of sink = record { bytes = sink.buffer.bytes.items; faults = sink.faults }
 
 -- the plan of a sink
-abbrev pub sink_plan : MemSink → SinkPlan
-sink_plan sink = record { room = sink.buffer.room; calls = calls_of sink.calls }
+abbrev pub sink_plan_of : MemSink → SinkPlan
+sink_plan_of sink = record { room = sink.buffer.room; calls = calls_of sink.calls }

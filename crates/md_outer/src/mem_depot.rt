@@ -22,7 +22,7 @@ pub struct MemDepot {
 impl MemDepot {
     ghost use Rattle.std.specs.Prelude.{◌≡◌, ℕ, None, IfOk, option_copied};
     ghost use Rattle.md_outer.specs.Listed.{listed_files};
-    ghost use Rattle.md_outer.specs.MemDepot.{depot_state, depot_plan};
+    ghost use Rattle.md_outer.specs.MemDepot.{depot_state_of, depot_plan_of};
 
     /// A depot that holds these files, of which the first of a name counts. No file is begun.
     ///
@@ -35,11 +35,11 @@ impl MemDepot {
         bad_reads: Vec<u64>,
         bad_writes: Vec<u64>,
     ) -> Result<MemDepot, NoMemory>
-        ensures files { IfOk result (λ depot. (depot_state depot).files ≡ listed_files files.items) }
-        ensures nothing_begun { IfOk result (λ depot. (number : ℕ) → (depot_state depot).begun number ≡ None) }
-        ensures no_reads { IfOk result (λ depot. (depot_state depot).read_faults ≡ 0) }
-        ensures no_writes { IfOk result (λ depot. (depot_state depot).write_faults ≡ 0) }
-        ensures plan { IfOk result (λ depot. depot_plan depot ≡ record {
+        ensures files { IfOk result (λ depot. (depot_state_of depot).files ≡ listed_files files.items) }
+        ensures nothing_begun { IfOk result (λ depot. (number : ℕ) → (depot_state_of depot).begun number ≡ None) }
+        ensures no_reads { IfOk result (λ depot. (depot_state_of depot).read_faults ≡ 0) }
+        ensures no_writes { IfOk result (λ depot. (depot_state_of depot).write_faults ≡ 0) }
+        ensures plan { IfOk result (λ depot. depot_plan_of depot ≡ record {
           room = room;
           reads = record { bad = bad_reads.items; made = 0 };
           writes = record { bad = bad_writes.items; made = 0 };
@@ -58,7 +58,7 @@ impl MemDepot {
 
     /// What a file holds; nothing exactly where no such file is held.
     pub fn file(&self, name: &str) -> Option<&[u8]>
-        ensures { option_copied result ≡ (depot_state self.now).files name.now }
+        ensures { option_copied result ≡ (depot_state_of self.now).files name.now }
     {
         match self.begun.bytes(name) {
             Some(bytes) => Some(bytes),
@@ -70,31 +70,31 @@ impl MemDepot {
 impl Depot for MemDepot {
     ghost use Rattle.std.specs.Prelude.{◌≡◌, ◌≤◌, ◌<◌, ◌⊎◌, ◌↔◌, ◌+◌, ◌++◌, [], ℕ, List, Some, None, length, IfOk, OnOk, OnErr, IsErr, IsErrOf, IsSome, IsSomeAnd};
     ghost use Rattle.md_outer.specs.Calls.{IsBad, one_more};
-    ghost use Rattle.md_outer.specs.MemDepot.{depot_state, depot_plan, IsNinth};
+    ghost use Rattle.md_outer.specs.MemDepot.{depot_state_of, depot_plan_of, IsNinth};
     ghost use Rattle.md_outer.specs.Outside.{GoesOn, Rose, IsPrefix, with_file, bytes_of};
 
     ghost told = { Unit {0} };
 
-    ghost state = { depot_state };
+    ghost state = { depot_state_of };
 
     /// Fails exactly where no such file is held, which is no fault, or the plan has it.
     fn fetch(&mut self, alloc: Global, name: &str, limit: u64) -> Result<Vec<u8>, Fetch>
         ensures within { IfOk result (λ bytes. length bytes.items ≤ limit) }
-        ensures bytes { IfOk result (λ bytes. (depot_state self.old).files name.now ≡ Some bytes.items) }
+        ensures bytes { IfOk result (λ bytes. (depot_state_of self.old).files name.now ≡ Some bytes.items) }
 
-        ensures fails { IsErrOf result Fetch.Failed ↔ (((depot_state self.old).files name.now ≡ None) ⊎ IsBad (depot_plan self.old).reads) }
-        ensures failed { IsErrOf result Fetch.Failed → Rose (depot_state self.old).read_faults (depot_state self.new).read_faults
-            ⊎ ((depot_state self.old).files name.now ≡ None) }
+        ensures fails { IsErrOf result Fetch.Failed ↔ (((depot_state_of self.old).files name.now ≡ None) ⊎ IsBad (depot_plan_of self.old).reads) }
+        ensures failed { IsErrOf result Fetch.Failed → Rose (depot_state_of self.old).read_faults (depot_state_of self.new).read_faults
+            ⊎ ((depot_state_of self.old).files name.now ≡ None) }
         ensures too_long { IsErrOf result Fetch.TooLong
-            → IsSomeAnd ((depot_state self.old).files name.now) (λ bytes. limit < length bytes) }
-        ensures missing { (depot_state self.old).files name.now ≡ None
-            → (depot_state self.new).read_faults ≡ (depot_state self.old).read_faults }
-        ensures quiet { OnOk result ((depot_state self.new).read_faults ≡ (depot_state self.old).read_faults) }
+            → IsSomeAnd ((depot_state_of self.old).files name.now) (λ bytes. limit < length bytes) }
+        ensures missing { (depot_state_of self.old).files name.now ≡ None
+            → (depot_state_of self.new).read_faults ≡ (depot_state_of self.old).read_faults }
+        ensures quiet { OnOk result ((depot_state_of self.new).read_faults ≡ (depot_state_of self.old).read_faults) }
 
-        ensures files { (depot_state self.new).files ≡ (depot_state self.old).files }
-        ensures writes { (depot_state self.new).write_faults ≡ (depot_state self.old).write_faults }
-        ensures goes_on { GoesOn (depot_state self.old) (depot_state self.new) }
-        ensures plan { depot_plan self.new ≡ record (depot_plan self.old) { reads = one_more (depot_plan self.old).reads } }
+        ensures files { (depot_state_of self.new).files ≡ (depot_state_of self.old).files }
+        ensures writes { (depot_state_of self.new).write_faults ≡ (depot_state_of self.old).write_faults }
+        ensures goes_on { GoesOn (depot_state_of self.old) (depot_state_of self.new) }
+        ensures plan { depot_plan_of self.new ≡ record (depot_plan_of self.old) { reads = one_more (depot_plan_of self.old).reads } }
     {
         let fails = self.reads.next_fails();
         match self.file(name) {
@@ -111,18 +111,18 @@ impl Depot for MemDepot {
     /// Fails exactly where the plan has it, or where a ninth name is begun. A name that is begun
     /// again keeps its number.
     fn begin(&mut self, alloc: Global, name: &str) -> Result<u32, Begin>
-        ensures begun { IfOk result (λ file. (depot_state self.new).begun file ≡ Some name.now) }
-        ensures again { (file : ℕ) → (depot_state self.old).begun file ≡ Some name.now → IfOk result (λ again. again ≡ file) }
-        ensures emptied { OnOk result ((depot_state self.new).files ≡ with_file (depot_state self.old).files name.now []) }
+        ensures begun { IfOk result (λ file. (depot_state_of self.new).begun file ≡ Some name.now) }
+        ensures again { (file : ℕ) → (depot_state_of self.old).begun file ≡ Some name.now → IfOk result (λ again. again ≡ file) }
+        ensures emptied { OnOk result ((depot_state_of self.new).files ≡ with_file (depot_state_of self.old).files name.now []) }
 
-        ensures fails { IsErrOf result Begin.Failed ↔ (IsBad (depot_plan self.old).writes ⊎ IsNinth (depot_state self.old) name.now) }
-        ensures failed { IsErrOf result Begin.Failed → Rose (depot_state self.old).write_faults (depot_state self.new).write_faults }
-        ensures quiet { OnOk result ((depot_state self.new).write_faults ≡ (depot_state self.old).write_faults) }
-        ensures files { OnErr result ((depot_state self.new).files ≡ (depot_state self.old).files) }
+        ensures fails { IsErrOf result Begin.Failed ↔ (IsBad (depot_plan_of self.old).writes ⊎ IsNinth (depot_state_of self.old) name.now) }
+        ensures failed { IsErrOf result Begin.Failed → Rose (depot_state_of self.old).write_faults (depot_state_of self.new).write_faults }
+        ensures quiet { OnOk result ((depot_state_of self.new).write_faults ≡ (depot_state_of self.old).write_faults) }
+        ensures files { OnErr result ((depot_state_of self.new).files ≡ (depot_state_of self.old).files) }
 
-        ensures reads { (depot_state self.new).read_faults ≡ (depot_state self.old).read_faults }
-        ensures goes_on { GoesOn (depot_state self.old) (depot_state self.new) }
-        ensures plan { depot_plan self.new ≡ record (depot_plan self.old) { writes = one_more (depot_plan self.old).writes } }
+        ensures reads { (depot_state_of self.new).read_faults ≡ (depot_state_of self.old).read_faults }
+        ensures goes_on { GoesOn (depot_state_of self.old) (depot_state_of self.new) }
+        ensures plan { depot_plan_of self.new ≡ record (depot_plan_of self.old) { writes = one_more (depot_plan_of self.old).writes } }
     {
         let fails = self.writes.next_fails();
         let known = self.begun.number_of(name);
@@ -142,23 +142,23 @@ impl Depot for MemDepot {
     /// Fails exactly where the plan has it or the file's room would be passed, and adds nothing
     /// then.
     fn append(&mut self, file: u32, piece: &[u8]) -> Result<(), Failed>
-        requires { IsSome ((depot_state self.old).begun file) }
+        requires { IsSome ((depot_state_of self.old).begun file) }
 
-        ensures appended { OnOk result ((name : List ℕ) → (depot_state self.old).begun file ≡ Some name →
-            (depot_state self.new).files ≡ with_file (depot_state self.old).files name (bytes_of (depot_state self.old).files name ++ piece.now)) }
+        ensures appended { OnOk result ((name : List ℕ) → (depot_state_of self.old).begun file ≡ Some name →
+            (depot_state_of self.new).files ≡ with_file (depot_state_of self.old).files name (bytes_of (depot_state_of self.old).files name ++ piece.now)) }
 
-        ensures fails { (name : List ℕ) → (depot_state self.old).begun file ≡ Some name → (IsErr result ↔ (IsBad (depot_plan self.old).writes
-            ⊎ ((depot_plan self.old).room < length (bytes_of (depot_state self.old).files name) + length piece.now))) }
-        ensures failed { OnErr result (Rose (depot_state self.old).write_faults (depot_state self.new).write_faults) }
-        ensures quiet { OnOk result ((depot_state self.new).write_faults ≡ (depot_state self.old).write_faults) }
-        ensures nothing { OnErr result ((depot_state self.new).files ≡ (depot_state self.old).files) }
-        ensures part { OnErr result ((name : List ℕ) → (depot_state self.old).begun file ≡ Some name →
-            (part : List ℕ) × IsPrefix part piece.now × ((depot_state self.new).files
-            ≡ with_file (depot_state self.old).files name (bytes_of (depot_state self.old).files name ++ part))) }
+        ensures fails { (name : List ℕ) → (depot_state_of self.old).begun file ≡ Some name → (IsErr result ↔ (IsBad (depot_plan_of self.old).writes
+            ⊎ ((depot_plan_of self.old).room < length (bytes_of (depot_state_of self.old).files name) + length piece.now))) }
+        ensures failed { OnErr result (Rose (depot_state_of self.old).write_faults (depot_state_of self.new).write_faults) }
+        ensures quiet { OnOk result ((depot_state_of self.new).write_faults ≡ (depot_state_of self.old).write_faults) }
+        ensures nothing { OnErr result ((depot_state_of self.new).files ≡ (depot_state_of self.old).files) }
+        ensures part { OnErr result ((name : List ℕ) → (depot_state_of self.old).begun file ≡ Some name →
+            (part : List ℕ) × IsPrefix part piece.now × ((depot_state_of self.new).files
+            ≡ with_file (depot_state_of self.old).files name (bytes_of (depot_state_of self.old).files name ++ part))) }
 
-        ensures reads { (depot_state self.new).read_faults ≡ (depot_state self.old).read_faults }
-        ensures goes_on { GoesOn (depot_state self.old) (depot_state self.new) }
-        ensures plan { depot_plan self.new ≡ record (depot_plan self.old) { writes = one_more (depot_plan self.old).writes } }
+        ensures reads { (depot_state_of self.new).read_faults ≡ (depot_state_of self.old).read_faults }
+        ensures goes_on { GoesOn (depot_state_of self.old) (depot_state_of self.new) }
+        ensures plan { depot_plan_of self.new ≡ record (depot_plan_of self.old) { writes = one_more (depot_plan_of self.old).writes } }
     {
         if self.writes.next_fails() {
             count_fault(&mut self.write_faults);

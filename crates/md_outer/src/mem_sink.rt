@@ -14,13 +14,13 @@ pub struct MemSink {
 
 impl MemSink {
     ghost use Rattle.std.specs.Prelude.{◌≡◌, [], IfOk};
-    ghost use Rattle.md_outer.specs.MemSink.{sink_state, sink_plan};
+    ghost use Rattle.md_outer.specs.MemSink.{sink_state_of, sink_plan_of};
 
     /// An empty sink for at most `room` bytes, whose memory is taken now. `bad` has the numbers of
     /// the puts that fail, counted from 0.
     pub fn new(alloc: Global, room: u64, bad: Vec<u64>) -> Result<MemSink, NoMemory>
-        ensures empty { IfOk result (λ sink. sink_state sink ≡ record { bytes = []; faults = 0 }) }
-        ensures plan { IfOk result (λ sink. sink_plan sink ≡ record { room = room; calls = record { bad = bad.items; made = 0 } }) }
+        ensures empty { IfOk result (λ sink. sink_state_of sink ≡ record { bytes = []; faults = 0 }) }
+        ensures plan { IfOk result (λ sink. sink_plan_of sink ≡ record { room = room; calls = record { bad = bad.items; made = 0 } }) }
     {
         let buffer = Buffer::new(alloc, room)?;
         Ok(MemSink {
@@ -32,7 +32,7 @@ impl MemSink {
 
     /// All that was put.
     pub fn bytes(&self) -> &[u8]
-        ensures { result.now ≡ (sink_state self.now).bytes }
+        ensures { result.now ≡ (sink_state_of self.now).bytes }
     {
         &self.buffer.bytes
     }
@@ -42,20 +42,20 @@ impl Sink for MemSink {
     ghost use Rattle.std.specs.Prelude.{◌≡◌, ◌↔◌, ◌⊎◌, ◌+◌, ◌<◌, length, IsErr, OnOk, OnErr};
     ghost use Rattle.md_outer.specs.Calls.{IsBad, one_more};
     ghost use Rattle.md_outer.specs.Outside.{PutsText};
-    ghost use Rattle.md_outer.specs.MemSink.{sink_state, sink_plan};
+    ghost use Rattle.md_outer.specs.MemSink.{sink_state_of, sink_plan_of};
 
     ghost told = { Unit {0} };
 
-    ghost state = { sink_state };
+    ghost state = { sink_state_of };
 
     /// Fails exactly where the plan has it or the room would be passed, and puts nothing then.
     fn put(&mut self, piece: &[u8]) -> Result<(), Failed>
-        ensures text { PutsText (Unit {0}) piece.now (sink_state self.old) (sink_state self.new) result }
-        ensures fails { IsErr result ↔ (IsBad (sink_plan self.old).calls
-            ⊎ ((sink_plan self.old).room < length (sink_state self.old).bytes + length piece.now)) }
-        ensures quiet { OnOk result ((sink_state self.new).faults ≡ (sink_state self.old).faults) }
-        ensures nothing { OnErr result ((sink_state self.new).bytes ≡ (sink_state self.old).bytes) }
-        ensures plan { sink_plan self.new ≡ record (sink_plan self.old) { calls = one_more (sink_plan self.old).calls } }
+        ensures text { PutsText (Unit {0}) piece.now (sink_state_of self.old) (sink_state_of self.new) result }
+        ensures fails { IsErr result ↔ (IsBad (sink_plan_of self.old).calls
+            ⊎ ((sink_plan_of self.old).room < length (sink_state_of self.old).bytes + length piece.now)) }
+        ensures quiet { OnOk result ((sink_state_of self.new).faults ≡ (sink_state_of self.old).faults) }
+        ensures nothing { OnErr result ((sink_state_of self.new).bytes ≡ (sink_state_of self.old).bytes) }
+        ensures plan { sink_plan_of self.new ≡ record (sink_plan_of self.old) { calls = one_more (sink_plan_of self.old).calls } }
     {
         if self.calls.next_fails() || !self.buffer.append(piece) {
             count_fault(&mut self.faults);
