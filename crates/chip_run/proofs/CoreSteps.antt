@@ -1,6 +1,6 @@
 -- A section is the core's announcement of the chip where it is enabled, and the chip's own event in its
 -- turn.
-use Rattle.std.proofs.Common.{◌≡◌, ◌≢◌, ℕ, ◌+◌, ◌<◌, ◌≤◌, true, false, cond, refl, sym, ◌∙◌, ap, ap₂, subst, arith, ◌⊎◌, inl, inr, List, [], ◌∷◌, ◌++◌, Some, None, length, length-set, get_or-set_other, get_or-set_same, true≢false}
+use Rattle.std.proofs.Common.{◌≡◌, ◌≢◌, ℕ, ◌+◌, ◌<◌, ◌≤◌, true, false, cond, refl, sym, ◌∙◌, ap, ap₂, subst, arith, List, [], ◌∷◌, ◌++◌, Some, None, length, length-set, get_or-set_other, get_or-set_same, true≢false}
 use Rattle.std.proofs.lemmas.Option.{same_Some}
 use mathlib.Core.Path.{fun_ext}
 use Rattle.md_word.specs.declared.key.Key.{Key}
@@ -9,11 +9,12 @@ use Rattle.chip_core.specs.declared.event.Event.{Event}
 use Rattle.chip_core.specs.declared.event.Event.TheVariants.{Announce, Perform, Sample}
 use Rattle.chip_core.specs.Chips.{Rules}
 use Rattle.chip_core.specs.Cores.{bound_in, no_key}
-use Rattle.chip_core.specs.Equations.{by_test, move-access, move-sample, put-other, put-same, same_or}
+use Rattle.chip_core.specs.Equations.{by_test, move-access, move-sample, put-same}
 use Rattle.chip_core.specs.Events.{IsEnabled, Seen, after, left_bound, own_event}
 use Rattle.chip_core.specs.Machines.{Machine, is_sample, key_of, put}
 use Rattle.chip_core.proofs.Keys.{put-each}
 use Rattle.chip_core.proofs.Lists.{set-put}
+use Rattle.chip_core.proofs.Turns.{put-twice}
 use Rattle.chip_run.specs.CoreSteps.{IsAfterEnabled, IsCoreSection, IsCoreTurn, core_with}
 use Rattle.chip_run.specs.Held.{HeldValue, settled}
 use Rattle.chip_run.specs.Locked.{LockedValue, seen_at}
@@ -25,14 +26,6 @@ use Rattle.chip_run.specs.declared.turn.Turn.{Turn}
 use Rattle.chip_run.specs.declared.turn.Turn.TheVariants.{Moved, Blocked, Finished}
 use Rattle.chip_run.proofs.KeyOrder.{not-both, same-key}
 use Rattle.chip_run.proofs.Places.{place-in}
-
--- of two writes to one place the second stays
-put-twice : {X : Type 0} (f : ℕ → X) (i : ℕ) (x y : X) → put (put f i x) i y ≡ put f i y
-put-twice f i x y = fun_ext (λ k. go k (same_or k i))
-  where
-    go : (k : ℕ) → (k ≡ i) ⊎ (k ≢ i) → put (put f i x) i y k ≡ put f i y k
-    go k (inl e) = subst (λ n. put (put f i x) i y n ≡ put f i y n) (sym e) (put-same (put f i x) i y ∙ sym (put-same f i y))
-    go k (inr ne) = put-other (put f i x) i y k ne ∙ put-other f i x k ne ∙ sym (put-other f i y k ne)
 
 module _ {Chip Shared Pins : Type 0} (rules : Rules Chip Shared Pins) where
   -- the bounds of the lists, as functions

@@ -9,6 +9,7 @@ use Rattle.std.proofs.lemmas.Bool.{and_parts, eqb-true, le-leb, leb-true, lt-leb
 use Rattle.std.proofs.lemmas.List.{append-nil, length-append, length-take, length-drop, length-map, take_at}
 use Rattle.std.proofs.lemmas.List.Elements.{All-cons, All-nil}
 use Rattle.md_word.specs.Coding.{flag_number}
+use Rattle.md_word.proofs.Below.{bit_below}
 use Rattle.md_word.specs.declared.key.Key.{Key}
 use Rattle.md_fields.specs.Fields.{AreWithin, AllHold, Field, first_wrong, sizes, spelling}
 use Rattle.md_fields.specs.Items.{IsRight, Keeps}
@@ -411,10 +412,6 @@ parts_are at p =
 
 -- ---- a port whose rules hold is kept by its bytes
 
-flag_few : (b : Bool) → flag_number b ≤ 1
-flag_few true = omega arith
-flag_few false = omega arith
-
 -- its numbers fit their fields
 pub numbers_within : (at : ℕ) (n : Numbers) → n.first < 2 ^ 8 → n.second < 2 ^ 8 → n.high_a < 2 ^ 8 → n.low_a < 2 ^ 8 → n.number_b < 2 ^ 8 → n.control < 2 ^ 8
     → n.next_a < 2 ^ 64 → n.next_b < 2 ^ 64 → n.run_a ≤ 1 → n.run_b ≤ 1 → n.flag_a ≤ 1 → n.flag_b ≤ 1 → AreWithin (number_fields at n)
@@ -427,8 +424,8 @@ pub port_within : (at : ℕ) (p : Port) (n : Numbers) → n ≡ saved_numbers p 
 port_within at p n is h0 h1 h2 h3 h4 h5 h7 h9 =
     subst (λ (k : Numbers). AreWithin (number_fields at k)) is
     (numbers_within at n h0 h1 h2 h3 h4 h5 h7 h9
-    (subst (λ (k : Numbers). k.run_a ≤ 1) (sym is) (flag_few p.timers.a.run)) (subst (λ (k : Numbers). k.run_b ≤ 1) (sym is) (flag_few p.timers.b.run))
-    (subst (λ (k : Numbers). k.flag_a ≤ 1) (sym is) (flag_few p.timers.a.flag)) (subst (λ (k : Numbers). k.flag_b ≤ 1) (sym is) (flag_few p.timers.b.flag)))
+    (subst (λ (k : Numbers). k.run_a ≤ 1) (sym is) (bit_below p.timers.a.run)) (subst (λ (k : Numbers). k.run_b ≤ 1) (sym is) (bit_below p.timers.b.run))
+    (subst (λ (k : Numbers). k.flag_a ≤ 1) (sym is) (bit_below p.timers.a.flag)) (subst (λ (k : Numbers). k.flag_b ≤ 1) (sym is) (bit_below p.timers.b.flag)))
 
 numbers_right : (at : ℕ) (p : Port) → are_saved_timers at p.timers ≡ true → first_wrong 0 (number_fields at (saved_numbers p)) ≡ None
 unfolding AllHold

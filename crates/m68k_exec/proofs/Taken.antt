@@ -1,5 +1,5 @@
 -- How many answers an action has taken.
-use Rattle.std.proofs.Common.{◌≡◌, ℕ, ◌+◌, ◌∙◌, true, false, nat_lt, ◌++◌, ◌∷◌, [], length, Result, Ok, Err, refl, ◌%◌, ◌/◌, if◌then◌else◌, slice_index}
+use Rattle.std.proofs.Common.{◌≡◌, ℕ, ◌+◌, ◌∙◌, Bool, true, false, nat_lt, ◌++◌, ◌∷◌, [], length, Result, Ok, Err, refl, ◌%◌, ◌/◌, if◌then◌else◌, slice_index}
 use Rattle.md_word.specs.declared.main_bus.Request68.{Request68}
 use Rattle.m68k_exec.specs.Access.Actions as actions
 use Rattle.m68k_exec.specs.Access.Actions.{Done}
@@ -20,6 +20,11 @@ answered request memory before e = rw e
 pub unanswered : (request : Request68) (memory : Memory) (before : Done) → nat_lt before.used (length memory.answers) ≡ false → actions.asked request memory before ≡ Err (Ask request)
 unfolding actions.asked
 unanswered request memory before e = rw e
+
+-- an access is answered or waits: its address is never odd
+pub never_odd : (request : Request68) (memory : Memory) (before : Done) (address : ℕ) (read : Bool) (used : ℕ) (test : Bool) → nat_lt before.used (length memory.answers) ≡ test → actions.asked request memory before ≡ Err (Odd address read used) → ⊥
+never_odd request memory before address read used true t e = let first = answered request memory before t in cc
+never_odd request memory before address read used false t e = let first = unanswered request memory before t in cc
 
 -- private writes take none
 pub with_byte-used : (at value : ℕ) (done : Done) → (actions.with_byte at value done).used ≡ done.used

@@ -1,5 +1,6 @@
 -- What a word looks like, by its first letters.
-use Rattle.std.proofs.Common.{◌≡◌, ◌∙◌, refl, sym, ap, ℕ, Bool, true, false, ◌==◌, ◌&&◌, List, [], ◌∷◌, ◌++◌, Some, None}
+use Rattle.std.proofs.Common.{◌≡◌, ◌∙◌, refl, sym, ap, ℕ, Bool, true, false, ◌==◌, List, [], ◌∷◌, ◌++◌, Some, None}
+use Rattle.std.proofs.Math.Bool.{and-false}
 use Rattle.std.specs.Prelude.{slice_get}
 use Rattle.std.specs.Char.{encode_utf8}
 use Rattle.std.specs.Str.{IsUtf8, bytes_eq, chars, encode_utf8_all}
@@ -10,10 +11,6 @@ use Rattle.clap.specs.Walk.{Text}
 use Rattle.md_args.specs.Given.{is_marked}
 use Rattle.md_args.proofs.Lookups.{some≢none}
 
-never : (b : Bool) → (b && false) ≡ false
-never true = refl
-never false = refl
-
 -- a word that does not look like an option is none to `clap`
 pub record IsPlain (word : Text) : Type 0 where
   pub no_end : bytes_eq word (45 ∷ 45 ∷ []) ≡ false
@@ -21,8 +18,8 @@ pub record IsPlain (word : Text) : Type 0 where
   pub no_short : short_of word ≡ None
 
 one_letter : (letter : ℕ) (b : Bool) → (letter == 45) ≡ b → IsPlain (letter ∷ [])
-one_letter letter true is = record { no_end = never _; no_long = rw (is) refl; no_short = rw (is) refl }
-one_letter letter false is = record { no_end = never _; no_long = rw (is) refl; no_short = rw (is) refl }
+one_letter letter true is = record { no_end = and-false _; no_long = rw (is) refl; no_short = rw (is) refl }
+one_letter letter false is = record { no_end = and-false _; no_long = rw (is) refl; no_short = rw (is) refl }
 
 pub plain_word : (word : Text) → is_marked word ≡ false → IsPlain word
 plain_word [] unmarked = record { no_end = refl; no_long = refl; no_short = refl }

@@ -1,5 +1,6 @@
 -- What one more word does to a parse by `clap`, of a command whose arguments take one value each.
 use Rattle.std.proofs.Common.{◌≡◌, ◌∙◌, refl, ℕ, ◌+◌, Bool, true, false, cond, not, ◌&&◌, List, [], ◌∷◌, min, Option, Some, None}
+use Rattle.std.proofs.Math.Bool.{and-false}
 use Rattle.std.specs.Prelude.{fold, slice_get}
 use Rattle.std.specs.List.{list_any}
 use Rattle.std.specs.Str.{bytes_eq, chars}
@@ -69,10 +70,6 @@ used_fine (kind ∷ kinds) has outcome = refl
 fresh_fine : (has : Bool) (outcome : Option (List Row)) → if_fine (or_else (cond (has && not false) (kind.ArgumentConflict ∷ []) []) []) outcome ≡ cond has None outcome
 fresh_fine true outcome = refl
 fresh_fine false outcome = refl
-
-never : (b : Bool) → (b && false) ≡ false
-never true = refl
-never false = refl
 
 same_text : (text : Text) → bytes_eq text text ≡ true
 same_text text = (bytes_eq-Decides text text).1 refl
@@ -187,7 +184,7 @@ module _ (name : Text) (rules : List Rule) where
       ≡ if_fine (settle_fault rules false (held rows pending)) (outcome (at idle (min (position + 1) usize_max) false (settled_rows rules pending rows) (Some (id, word ∷ []))) words)
   unfolding walked
   at_word position place rows pending word id words no_end no_long no_short found =
-      one_word (at idle position false rows pending) word words ∙ rw (no_end, no_long, no_short, found, never (is_pending (word_rule id place) pending)) refl
+      one_word (at idle position false rows pending) word words ∙ rw (no_end, no_long, no_short, found, and-false (is_pending (word_rule id place) pending)) refl
 
   pub at_stray : (position : ℕ) (rows : List Row) (pending : Option (Text × List Text)) (word : Text) (words : List Text)
       → bytes_eq word (45 ∷ 45 ∷ []) ≡ false → long_of word ≡ None → short_of word ≡ None → arg_by_index rules position ≡ None
@@ -202,7 +199,7 @@ module _ (name : Text) (rules : List Rule) where
       ≡ if_fine (settle_fault rules false (held rows pending)) (outcome (at idle (min (position + 1) usize_max) true (settled_rows rules pending rows) (Some (id, word ∷ []))) words)
   unfolding walked
   end_at_word waiting position place rows pending word id words found =
-      one_word (at waiting position true rows pending) word words ∙ rw (found, never (is_pending (word_rule id place) pending)) refl
+      one_word (at waiting position true rows pending) word words ∙ rw (found, and-false (is_pending (word_rule id place) pending)) refl
 
   pub end_at_stray : (waiting : Waiting) (position : ℕ) (rows : List Row) (pending : Option (Text × List Text)) (word : Text) (words : List Text)
       → arg_by_index rules position ≡ None → outcome (at waiting position true rows pending) (word ∷ words) ≡ None

@@ -16,6 +16,7 @@ verdict_of bytes (Ok recording) found form memory = (Spelled recording, found)
 verdict_of bytes (Err (Form place)) found form memory = (WrongAt place, (form place).0 refl)
 verdict_of bytes (Err fault.NoMemory) found form memory = (Spelled (memory refl).0, (memory refl).1)
 
+-- the bytes are those of a file
 pub held : (P : List ℕ → Type 0) (file : Option (List ℕ)) (bytes : List ℕ) → file ≡ Some bytes → P bytes → IsSomeAnd file P
 held P file bytes is p = subst (λ (found : Option (List ℕ)). IsSomeAnd found P) (sym is) p
 

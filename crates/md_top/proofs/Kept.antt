@@ -7,11 +7,8 @@ use Rattle.state_laws.specs.Verdicts.{OfOther, StateVerdict, StateWrongAt}
 use Rattle.md_top.specs.declared.ending.Ending.{Ending}
 use Rattle.md_top.specs.declared.ending.Ending.TheVariants.{LoadFault as Unread, StateTooLong, StateWrong, OtherCart, Memory}
 use Rattle.md_top.specs.declared.inputs.Inputs.{Inputs}
+use Rattle.md_top.proofs.Fetched.{held}
 use Rattle.md_top.proofs.Puts.{rose_later}
-
--- the bytes are those of a file
-held : (P : List ℕ → Type 0) (file : Option (List ℕ)) (bytes : List ℕ) → file ≡ Some bytes → P bytes → IsSomeAnd file P
-held P file bytes is p = subst (λ (found : Option (List ℕ)). IsSomeAnd found P) (sym is) p
 
 pub found-in : (file : Option (List ℕ)) (inputs : Inputs) (bytes : List ℕ) (verdict : StateVerdict) → file ≡ Some bytes → length bytes ≤ state_limit
     → IsFound inputs bytes verdict → IsFoundIn file inputs verdict

@@ -4,7 +4,7 @@ use Rattle.md_word.specs.Clock.{last_cycle}
 use Rattle.sha2.specs.Sha256.{sha256}
 use Rattle.md_fields.specs.Fields.{AreWithin}
 use Rattle.md_fields.proofs.Flags.{flag_again}
-use Rattle.md_word.specs.Coding.{flag_number}
+use Rattle.md_word.proofs.Below.{bit_below}
 use Rattle.vdp_ports.proofs.RuleLaws.{flag_byte}
 use Rattle.md_pads.specs.Recording.{Recorded}
 use Rattle.m68k_chip.specs.Spelling as main
@@ -44,10 +44,6 @@ batch_fits : (at : ℕ) → at ≤ last_cycle → first_batch at < 2 ^ 64
 batch_fits at near = omega (arith, below at near) where
   below : (at : ℕ) → at ≤ last_cycle → first_batch at ≤ 549755830016
   below at near = omega arith
-
-flag_most : (flag : Bool) → flag_number flag ≤ 1
-flag_most true = omega arith
-flag_most false = omega arith
 
 fields_within : (cart : List ℕ) (start : Start) → length (sha256 start.console.cart) ≡ 32 → IsSaved cart start → AreWithin (state_fields (sha256 start.console.cart) start.at start.console)
 unfolding AreWithin
@@ -166,7 +162,7 @@ machine_there cart digest bytes recording start s p pads =
         spells = subst (λ (a : ℕ). sub.Spells cart a (sub_bytes bytes) m.sub.state) at (subst (λ (l : List ℕ). sub.Spells cart start.at l m.sub.state) (sym (whole_sub digest bytes start.at m s.one_owner p)) s.sub);
         holder = (λ i. is_holder (p.holder i) (sym numbers.stage i)) ∙ s.holder;
       };
-      region = subst (λ (n : ℕ). n ≤ 1) (sym p.region) (flag_most m.pal);
+      region = subst (λ (n : ℕ). n ≤ 1) (sym p.region) (bit_below m.pal);
       shared = record {
         pads = pads;
         spells = subst (λ (b : Bool). shared.Spells (at_of bytes) b (shared_bytes bytes) m.shared) its (subst (λ (a : ℕ). shared.Spells a m.pal (shared_bytes bytes) m.shared) at (subst (λ (l : List ℕ). shared.Spells start.at m.pal l m.shared) (sym (whole_shared digest bytes start.at m p)) s.shared));

@@ -1,12 +1,12 @@
 -- What is written is the bytes of the machine.
-use Rattle.std.proofs.Common.{◌≡◌, ℕ, ◌+◌, ◌-◌, ◌≤◌, Bool, true, false, List, [], ◌∷◌, ◌++◌, length, map, replicate, take, drop, Option, Some, None, is_some, not, IfSome, if◌then◌else◌, append_assoc, refl, sym, ap, ◌∙◌, arith}
+use Rattle.std.proofs.Common.{◌≡◌, ℕ, ◌+◌, ◌-◌, ◌≤◌, Bool, true, false, List, [], ◌∷◌, ◌++◌, length, map, take, drop, Option, Some, None, is_some, not, IfSome, if◌then◌else◌, append_assoc, refl, sym, ap, ◌∙◌, arith}
 use Rattle.std.specs.Int.{w64, to_be_bytes}
-use Rattle.std.proofs.lemmas.List.{append-nil, take_at, drop_at, length-append, length-replicate}
+use Rattle.std.proofs.lemmas.List.{append-nil, take_at, drop_at, length-append}
 use mir.Val.{bool_byte}
 use Rattle.sha2.specs.Sha256.{sha256}
 use Rattle.md_word.specs.Coding.{flag_number}
 use Rattle.md_fields.specs.Fields.{AreSized, spelling}
-use Rattle.md_fields.specs.Padding.{padded}
+use Rattle.md_fields.proofs.Padding.{padded_length}
 use Rattle.md_fields.proofs.Standing.{long_as_sized}
 use Rattle.sound_writes.specs.Entries.{entries_bytes}
 use Rattle.m68k_chip.specs.Spelling as main
@@ -42,20 +42,17 @@ use Rattle.save_state.proofs.Parts.{sub_joined, size_left}
 
 -- ---- how long what is written is
 
-filled : (size : ℕ) (ns : List ℕ) → length ns ≤ size → length (padded size ns) ≡ size
-filled size ns few = omega (arith, few, length-append ns (replicate (size - length ns) 0), length-replicate {A = ℕ} (size - length ns) 0)
-
 fm_port_full : (at : ℕ) (p : Port) → length p.writes ≤ 1024 → length (fm_port.port_bytes (fm_port.settled_port at p)) ≡ 12316
 unfolding AreSized
 fm_port_full at p few =
     long_as_sized (fm_port.port_fields 0 (fm_port.saved_port_of (fm_port.settled_port at p)))
-    (tt, (tt, (tt, (tt, (tt, (tt, (tt, (tt, (tt, (tt, (tt, (tt, (tt, (filled 12288 (entries_bytes fm_port.write_fields (map fm_port.saved_write_of p.writes)) (omega (arith, few, fm_port_laws.entries_size p.writes)), tt))))))))))))))
+    (tt, (tt, (tt, (tt, (tt, (tt, (tt, (tt, (tt, (tt, (tt, (tt, (tt, (padded_length 12288 (entries_bytes fm_port.write_fields (map fm_port.saved_write_of p.writes)) (omega (arith, few, fm_port_laws.entries_size p.writes)), tt))))))))))))))
     ∙ fm_port_laws.port_size 0 (fm_port.saved_port_of (fm_port.settled_port at p))
 
 psg_port_full : (ws : List PsgWrite) → length ws ≤ 1024 → length (psg_port.port_bytes ws) ≡ 10242
 unfolding AreSized
 psg_port_full ws few =
-    long_as_sized (psg_port.port_fields 0 (psg_port.saved_port_of ws)) (tt, (filled 10240 (entries_bytes psg_port.write_fields ws) (omega (arith, few, psg_port_laws.entries_size ws)), tt))
+    long_as_sized (psg_port.port_fields 0 (psg_port.saved_port_of ws)) (tt, (padded_length 10240 (entries_bytes psg_port.write_fields ws) (omega (arith, few, psg_port_laws.entries_size ws)), tt))
     ∙ psg_port_laws.port_size 0 (psg_port.saved_port_of ws)
 
 lines_full : (n : SavedLines) → length (shared.lines_bytes n) ≡ 36

@@ -1,14 +1,12 @@
 -- Four digits moved apart, 16 bits each.
 use Rattle.std.proofs.Common.{◌≡◌, ◌∙◌, refl, subst, ap, add-zero, ℕ, suc, zero, List, length, ◌≤◌, ◌+◌, ◌-◌, ◌*◌, ◌/◌, ◌%◌, ◌^◌, ◌<◌, ◌==◌, arith}
 use Rattle.std.specs.Prelude.{bit_and, slice_set}
-use Rattle.std.proofs.lemmas.Nat.{and_block, and_mask}
+use Rattle.std.proofs.lemmas.Nat.{and_block}
 use Rattle.vdp_planes.specs.Dots.{dot_of}
 use Rattle.vdp_planes.specs.View.{IsFilled, has_bit}
 use Rattle.vdp_planes.specs.Planes.{pixel_dot, pixel_of}
+use Rattle.vdp_planes.proofs.Digits.{low_of}
 use Rattle.vdp_planes.proofs.Filled.{filled_one}
-
-low_of : (n : ℕ) → bit_and n 15 ≡ n % 16
-low_of n = and_mask n 4
 
 low_four : (n0 n1 n2 n3 : ℕ) → n0 < 65536 → n1 < 65536 → n2 < 65536
     → bit_and (((n3 * 2 ^ 16 + n2) * 2 ^ 16 + n1) * 2 ^ 16 + n0) (((15 * 2 ^ 16 + 15) * 2 ^ 16 + 15) * 2 ^ 16 + 15) ≡ ((n3 % 16 * 2 ^ 16 + n2 % 16) * 2 ^ 16 + n1 % 16) * 2 ^ 16 + n0 % 16

@@ -25,7 +25,7 @@ use Rattle.m68k_exec.specs.Access.Operands.{touches}
 use Rattle.m68k_exec.specs.Access.Shapes as shapes
 use Rattle.m68k_decode.specs.Ops.{touches_of}
 use Rattle.m68k_ea.specs.Steps.{stepped}
-use Rattle.m68k_exec.proofs.Taken.{answered, unanswered, used_of, with_byte-used, with_word-used}
+use Rattle.m68k_exec.proofs.Taken.{answered, never_odd, unanswered, used_of, with_byte-used, with_word-used}
 use Rattle.m68k_exec.proofs.Touches.{touched}
 use Rattle.m68k_exec.specs.Rows.Moves as moves
 use Rattle.m68k_exec.specs.Rows.Multiprecision as multiprecision
@@ -112,15 +112,11 @@ asked_asks : (request : Request68) (memory : Memory) (before : Done) (r : Reques
 asked_asks request memory before r true t e = let first = answered request memory before t in absurd (cc)
 asked_asks request memory before r false t e = grind (arith, nat_tests)
 
-asked_even : (request : Request68) (memory : Memory) (before : Done) (address : ℕ) (read : Bool) (used : ℕ) (test : Bool) → nat_lt before.used (length memory.answers) ≡ test → actions.asked request memory before ≡ Err (Odd address read used) → ⊥
-asked_even request memory before address read used true t e = let first = answered request memory before t in cc
-asked_even request memory before address read used false t e = let first = unanswered request memory before t in cc
-
 pub asked : (request : Request68) → Takes 1 (actions.asked request)
 asked request = record {
   value = λ memory before x after e in_range. asked_value request memory before x after (nat_lt before.used (length memory.answers)) refl e;
   asks = λ memory before r e in_range. asked_asks request memory before r (nat_lt before.used (length memory.answers)) refl e;
-  odd = λ memory before address read used e in_range. absurd (asked_even request memory before address read used (nat_lt before.used (length memory.answers)) refl e);
+  odd = λ memory before address read used e in_range. absurd (never_odd request memory before address read used (nat_lt before.used (length memory.answers)) refl e);
 }
 
 asked_byte : (at : ℕ) → Takes 1 (actions.asked_byte at)

@@ -22,7 +22,7 @@ use Rattle.m68k_exec.specs.Laws.{ActionsIgnoreLaterAnswers, IgnoresLaterAnswers,
 use Rattle.md_word.specs.Map.{is_shared}
 use Rattle.m68k_exec.specs.Access.Memory.{Memory, bus_address, byte_at, ram_after, word_at}
 use Rattle.m68k_exec.specs.Access.Operands as operands
-use Rattle.m68k_exec.proofs.Taken.{answered, unanswered, used_of, with_byte-used, with_word-used}
+use Rattle.m68k_exec.proofs.Taken.{answered, never_odd, unanswered, used_of, with_byte-used, with_word-used}
 
 pub lower : (fewer count : ℕ) (one other : Memory) → fewer ≤ count → SameBelow count one other → SameBelow fewer one other
 lower fewer count one other h same = record {
@@ -122,10 +122,6 @@ asked_taken request one before x after true t e =
     let first = answered request one before t in
     let u : before.used + 1 ≡ after.used = ap used_of (sym first ∙ e) in omega arith
 asked_taken request one before x after false t e = let first = unanswered request one before t in absurd (cc)
-
-never_odd : (request : Request68) (one : Memory) (before : Done) (address : ℕ) (read : Bool) (used : ℕ) (test : Bool) → nat_lt before.used (length one.answers) ≡ test → actions.asked request one before ≡ Err (Odd address read used) → ⊥
-never_odd request one before address read used true t e = let first = answered request one before t in cc
-never_odd request one before address read used false t e = let first = unanswered request one before t in cc
 
 pub asked : (request : Request68) → IgnoresLaterAnswers (actions.asked request)
 asked request = record {
