@@ -216,6 +216,7 @@ impl<C: ChipSet, N: Named, L0: Ledger, L1: Ledger, L2: Ledger, L3: Ledger, L4: L
         }
     }
 
+    /// Lays down a chip of which work is due, under the lock, and tells nobody.
     fn put_due<R: Wait>(&self, rt: &R, helds: &mut Helds<C, N, L0, L1, L2, L3, L4>, chip: u8)
         requires { FreeBut chip helds.old }
         ensures { AllFree helds.new }
@@ -239,6 +240,7 @@ impl<C: ChipSet, N: Named, L0: Ledger, L1: Ledger, L2: Ledger, L3: Ledger, L4: L
         self.changes.fetch_add(1, Ordering::SeqCst);
     }
 
+    /// Lays down a chip of which none is due, under the lock, and tells nobody.
     fn put_done<R: Wait>(&self, rt: &R, helds: &mut Helds<C, N, L0, L1, L2, L3, L4>, chip: u8)
         requires { AllFree helds.old }
         ensures { AllFree helds.new }
@@ -248,6 +250,7 @@ impl<C: ChipSet, N: Named, L0: Ledger, L1: Ledger, L2: Ledger, L3: Ledger, L4: L
         laid.lay_done(helds, chip);
     }
 
+    /// Takes all chips of which no work is due, under the lock; answers whether there were any.
     fn take_all<R: Wait>(&self, rt: &R, helds: &mut Helds<C, N, L0, L1, L2, L3, L4>) -> bool
         requires { AllFree helds.old }
         ensures { AllFree helds.new }
@@ -257,6 +260,7 @@ impl<C: ChipSet, N: Named, L0: Ledger, L1: Ledger, L2: Ledger, L3: Ledger, L4: L
         laid.take_all(helds)
     }
 
+    /// Takes the first chip of which work is due, under the lock.
     fn take_first<R: Wait>(&self, rt: &R, helds: &mut Helds<C, N, L0, L1, L2, L3, L4>) -> Found
         requires { AllFree helds.old }
         ensures { IsFoundDue result helds.new }
@@ -296,6 +300,7 @@ impl<C: ChipSet, N: Named, L0: Ledger, L1: Ledger, L2: Ledger, L3: Ledger, L4: L
         laid.take_waiting(helds, chip)
     }
 
+    /// Takes the chip of this number, under the lock, if it lies here and work of it is due; answers whether it did.
     fn take_due<R: Wait>(
         &self,
         rt: &R,
@@ -399,6 +404,7 @@ impl<C: ChipSet, N: Named, L0: Ledger, L1: Ledger, L2: Ledger, L3: Ledger, L4: L
         }
     }
 
+    /// Looks for a change after so many until one comes, or for a while.
     fn look(&self, seen: u64) {
         for _ in 0..LOOKS {
             if self.changes.load(Ordering::SeqCst) != seen {

@@ -158,7 +158,8 @@ impl FmSynth {
         false
     }
 
-    /// Whether nothing is heard while nothing is written.
+    /// Whether all envelopes have come to the end of their release, with the converter off: then nothing is heard
+    /// while nothing is written. A chip that is not idle may be silent too.
     pub fn is_idle(&self) -> bool
         ensures { result ≡ true → IsIdle self.now }
     {

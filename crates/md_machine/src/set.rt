@@ -113,9 +113,9 @@ impl ChipSet for MdChips {
         writer == 0 || writer == 2
     }
 
-    /// A batch of an FM chip that sounds: some microseconds, which nobody waits for before the next one. Between
-    /// two events the others do less than a hand-over takes, and a line to be drawn elsewhere would want a copy
-    /// of the video memory.
+    /// Whether what the chip does after its next event is worth a hand-over: a batch of an FM chip that may be
+    /// heard, which takes some microseconds, and for which nobody waits before the next one. What the others do
+    /// takes less time than a hand-over, and a line to be drawn elsewhere would want a copy of the video memory.
     fn is_dear(chip: &Chip) -> bool {
         match chip {
             Chip::Fm(fm) => fm.is_dear(),

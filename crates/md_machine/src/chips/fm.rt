@@ -102,7 +102,8 @@ impl FmChip {
         self.cycle += BATCH;
     }
 
-    /// Whether the next batch is heard, or may be: it takes many times as long as a silent one.
+    /// Whether the chip may be heard as it stands: a batch then takes many times as long as an idle chip's. The
+    /// writes of the next batch are not looked at, so one in which an idle chip begins to sound is not found.
     pub(crate) fn is_dear(&self) -> bool {
         !self.synth.is_idle()
     }
