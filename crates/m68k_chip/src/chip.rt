@@ -1,6 +1,7 @@
 ghost use Rattle.std.specs.Prelude.{◌≡◌, ◌^◌, ◌<◌, ◌≤◌, ◌↔◌, true, false, replicate, IfOk, IsTrue};
 
 use crate::case::Case;
+use crate::lap::{Lap, Place, Watched};
 use crate::sequencer::Sequencer;
 use crate::stage::Stage;
 use m68k_exec::{DecodeCache, Progress};
@@ -21,6 +22,8 @@ pub struct Chip68 {
     pub(crate) sequencer: Sequencer,
     pub(crate) progress: Progress,
     pub(crate) cache: DecodeCache,
+    /// The lap on which it may stand, so that a loop that waits is not carried out anew each time.
+    pub(crate) lap: Lap,
 }
 
 impl Model for Chip68 {
@@ -28,19 +31,22 @@ impl Model for Chip68 {
     ghost use Rattle.m68k_chip.specs.Validity.{Chip68Value};
     ghost use Rattle.m68k_chip.specs.States.{state_of};
     ghost use Rattle.m68k_chip.specs.Held.{IsHeld};
+    ghost use Rattle.m68k_chip.specs.Laps.{IsOn};
     ghost use Rattle.m68k_exec.specs.Sample.Caches.{IsCacheOf};
 
     ghost Value = { Chip68Value };
 
     ghost view = { λ chip. record { cart = arc_value chip.cart; state = state_of chip.sequencer chip.ram.value } };
 
-    ghost invariant = { λ chip. IsHeld (record { cart = arc_value chip.cart; state = state_of chip.sequencer chip.ram.value }) chip.sequencer.request chip.sequencer.foreseen × IsCacheOf (arc_value chip.cart) chip.cache };
+    ghost invariant = { λ chip. IsHeld (record { cart = arc_value chip.cart; state = state_of chip.sequencer chip.ram.value }) chip.sequencer.request chip.sequencer.foreseen × IsCacheOf (arc_value chip.cart) chip.cache
+        × IsOn chip.lap.place chip.lap (arc_value chip.cart) (state_of chip.sequencer chip.ram.value) chip.sequencer.request chip.sequencer.foreseen };
 }
 
 impl Chip68 {
     ghost use Rattle.std.specs.Arc.{arc_value};
     ghost use Rattle.m68k_chip.specs.Cases.{begins_at, case_of, is_rest};
     ghost use Rattle.m68k_chip.specs.Events.{WentAhead, answered, begun, request_of};
+    ghost use Rattle.m68k_chip.specs.Laps.{HasWatched};
     ghost use Rattle.m68k_chip.specs.Validity.{Fits, IsChip68};
     ghost use Rattle.m68k_chip.specs.States.{next_of, power_on};
 
@@ -59,6 +65,7 @@ impl Chip68 {
             sequencer,
             progress: Progress::new(),
             cache,
+            lap: Lap::none(),
         })
     }
 
@@ -94,13 +101,32 @@ impl Chip68 {
         requires fits { Fits (request_of self.old.cart self.old.state) answer }
         ensures { self.new ≡ record self.old { state = answered self.old.cart self.old.state answer } }
     {
+        if self.lap.is_read_again(&answer) {
+            self.lap.place = Place::PastRead;
+            let cycle = self.sequencer.start + u64::from(self.lap.first);
+            self.sequencer.stand_behind(&self.lap.after, cycle);
+        } else {
+            self.answer_anew(&answer);
+        }
+    }
+
+    /// `answer`, where no lap tells what comes.
+    fn answer_anew(&mut self, answer: &Answer68)
+        requires asking { (next_of self.old.state).sample ≡ false }
+        requires far { self.old.state.next < 2 ^ 50 }
+        requires fits { Fits (request_of self.old.cart self.old.state) answer.now }
+        ensures { self.new ≡ record self.old { state = answered self.old.cart self.old.state answer.now } }
+    {
+        let begins = self.lap.begins(&self.sequencer, answer);
         self.sequencer.answer(
-            &answer,
+            answer,
             &self.cart,
             &mut self.ram,
             &mut self.cache,
             &mut self.progress,
         );
+        let quiet = self.progress.writes.is_empty();
+        self.lap.take(&self.sequencer, begins && quiet);
     }
 
     /// Takes the sample that is the next event, and goes on to the event after it: a pending trace,
@@ -112,6 +138,17 @@ impl Chip68 {
         requires far { self.old.state.next < 2 ^ 50 }
         ensures { self.new ≡ record self.old { state = begun self.old.cart self.old.state pins.level } }
     {
+        let _quiet = self.sample_quietly(pins);
+    }
+
+    /// `sample`; answers whether nothing was written into work RAM.
+    fn sample_quietly(&mut self, pins: Pins68) -> bool
+        requires sampling { (next_of self.old.state).sample ≡ true }
+        requires far { self.old.state.next < 2 ^ 50 }
+        ensures chip { self.new ≡ record self.old { state = begun self.old.cart self.old.state pins.level } }
+        ensures quiet { IsTrue result → self.new.state.ram ≡ self.old.state.ram }
+    {
+        self.lap.place = Place::Away;
         self.sequencer.begin(
             pins.level,
             &self.cart,
@@ -119,6 +156,7 @@ impl Chip68 {
             &mut self.cache,
             &mut self.progress,
         );
+        self.progress.writes.is_empty()
     }
 
     /// Takes the sample that is the next event, as `sample` does, and then all samples of these pins
@@ -131,10 +169,17 @@ impl Chip68 {
         ensures all { (next_of self.new.state).sample ≡ true → end ≤ self.new.state.next }
         ensures cart { self.new.cart ≡ self.old.cart }
     {
-        if self.sequencer.rests(pins.level) {
+        if self.lap.leads_back(pins.level, self.sequencer.start, end) {
+            self.lap.place = Place::AtRead;
+            let start = self.sequencer.start + u64::from(self.lap.rest);
+            self.sequencer.read_again(&self.lap.from, start);
+            self.lap.samples
+        } else if self.sequencer.rests(pins.level) {
             self.rest_ahead(pins, end)
-        } else {
+        } else if matches!(self.lap.place, Place::Away) {
             self.sample_each(pins, end)
+        } else {
+            self.sample_round(pins, end)
         }
     }
 
@@ -148,6 +193,7 @@ impl Chip68 {
         ensures all { (next_of self.new.state).sample ≡ true → end ≤ self.new.state.next }
         ensures cart { self.new.cart ≡ self.old.cart }
     {
+        self.lap.place = Place::Away;
         self.sequencer.rest_ahead(end)
     }
 
@@ -167,6 +213,47 @@ impl Chip68 {
             samples += 1;
         }
         samples
+    }
+
+    /// `sample_each` from a place of a lap.
+    fn sample_round(&mut self, pins: Pins68, end: u64) -> u64
+        requires sampling { (next_of self.old.state).sample ≡ true }
+        requires far { self.old.state.next < 2 ^ 50 }
+        requires end { end ≤ 2 ^ 50 }
+        ensures state { WentAhead result end self.old.cart pins.level self.old.state self.new.state }
+        ensures all { (next_of self.new.state).sample ≡ true → end ≤ self.new.state.next }
+        ensures cart { self.new.cart ≡ self.old.cart }
+    {
+        let mut lap = self.lap;
+        let begun = self.sequencer.start;
+        let watched = self.sample_watched(pins, end);
+        lap.go_on(&self.sequencer, &watched, begun, pins.level);
+        self.lap = lap;
+        watched.samples
+    }
+
+    /// `sample_each`; answers what was seen of the samples.
+    fn sample_watched(&mut self, pins: Pins68, end: u64) -> Watched
+        requires sampling { (next_of self.old.state).sample ≡ true }
+        requires far { self.old.state.next < 2 ^ 50 }
+        requires end { end ≤ 2 ^ 50 }
+        ensures watched { HasWatched result end self.old.cart pins.level self.old.state self.new.state }
+        ensures all { (next_of self.new.state).sample ≡ true → end ≤ self.new.state.next }
+        ensures cart { self.new.cart ≡ self.old.cart }
+    {
+        let latest = self.next().key.cycle;
+        let quiet = self.sample_quietly(pins);
+        let mut watched = Watched {
+            samples: 1,
+            latest,
+            quiet,
+        };
+        while self.samples_below(end) {
+            let cycle = self.next().key.cycle;
+            let quiet = self.sample_quietly(pins);
+            watched.add(cycle, quiet);
+        }
+        watched
     }
 
     /// Whether the next event is a sample below a cycle.

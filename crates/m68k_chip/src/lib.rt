@@ -5,6 +5,7 @@
 mod case;
 mod chip;
 mod known;
+mod lap;
 mod resuming;
 mod saved;
 mod sequencer;

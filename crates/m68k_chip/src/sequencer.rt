@@ -30,7 +30,7 @@ pub const STEP: u64 = 28;
 const RESET_STATUS: u16 = 0x2700;
 
 /// A transfer of which no word is left.
-const NONE_LEFT: Transfer = Transfer {
+pub const NONE_LEFT: Transfer = Transfer {
     source: 0,
     words: 0,
     cost: 0,
@@ -246,6 +246,7 @@ impl Sequencer {
         requires cache { IsCacheOf cart.now cache.old }
         ensures cache { IsCacheOf cart.now cache.new }
         ensures state { state_of self.new ram.new ≡ went_on cart.now (state_of self.old ram.old) cause self.old.answers.items }
+        ensures quiet { progress.new.writes.items ≡ [] → ram.new ≡ ram.old }
         ensures told { IsTold (carried_out cart.now (state_of self.old ram.old) cause self.old.answers.items) self.new.request }
         ensures foretold { IsForetold (carried_out cart.now (state_of self.old ram.old) cause self.old.answers.items) self.new.foreseen cart.now (state_of self.old ram.old) cause self.old.answers.items }
     {
@@ -328,6 +329,7 @@ impl Sequencer {
         requires cache { IsCacheOf cart.now cache.old }
         ensures cache { IsCacheOf cart.now cache.new }
         ensures state { state_of self.new ram.new ≡ begun cart.now (state_of self.old ram.old) level }
+        ensures quiet { progress.new.writes.items ≡ [] → ram.new ≡ ram.old }
         ensures waiting { WaitsFor self.new.stage cart.now (state_of self.new ram.new) self.new.request }
         ensures foreseen { IsForeseen self.new.stage cart.now (state_of self.new ram.new) self.new.foreseen }
     {
@@ -352,6 +354,7 @@ impl Sequencer {
         requires cache { IsCacheOf cart.now cache.old }
         ensures cache { IsCacheOf cart.now cache.new }
         ensures state { state_of self.new ram.new ≡ answered_at Access cart.now (state_of self.old ram.old) answer.now }
+        ensures quiet { progress.new.writes.items ≡ [] → ram.new ≡ ram.old }
         ensures waiting { WaitsFor self.new.stage cart.now (state_of self.new ram.new) self.new.request }
         ensures foreseen { IsForeseen self.new.stage cart.now (state_of self.new ram.new) self.new.foreseen }
     {
@@ -396,6 +399,7 @@ impl Sequencer {
         requires cache { IsCacheOf cart.now cache.old }
         ensures cache { IsCacheOf cart.now cache.new }
         ensures state { state_of self.new ram.new ≡ answered cart.now (state_of self.old ram.old) answer.now }
+        ensures quiet { progress.new.writes.items ≡ [] → ram.new ≡ ram.old }
         ensures waiting { WaitsFor self.new.stage cart.now (state_of self.new ram.new) self.new.request }
         ensures foreseen { IsForeseen self.new.stage cart.now (state_of self.new ram.new) self.new.foreseen }
     {

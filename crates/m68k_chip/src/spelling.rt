@@ -5,6 +5,7 @@ ghost use Rattle.m68k_chip.specs.States.{State68};
 
 use crate::chip::Chip68;
 use crate::known::{known_next, known_regs};
+use crate::lap::Lap;
 use crate::saved::{LENGTH, RAM, Saved68};
 use m68k_exec::{DecodeCache, Progress};
 use md_fields::put;
@@ -64,6 +65,7 @@ impl Chip68 {
                     sequencer,
                     progress: Progress::new(),
                     cache,
+                    lap: Lap::none(),
                 })
             }
             Err(place) => Err(Unspell::Rule {

@@ -21,6 +21,7 @@ invariant_of-self c =
         foresees = subst (λ (state : State68). IsForeseen state.stage (arc_value c.self.inside.cart) state c.rest_ahead.new.self.foreseen) (sym (c.rest_ahead.ensures.state c.self.inside.ram.value)) tt;
       },
       c.self.invariant.1,
+      tt,
     )
 
 pub returns-clause-state : goal.returns-clause-state

@@ -4,7 +4,7 @@ use Rattle.m68k_chip.specs.Validity.{Chip68Value}
 use Rattle.m68k_chip.specs.States.{next_of, state_of}
 use Rattle.m68k_chip.proofs.Kept.{after_sample}
 use Rattle.m68k_chip.proofs.Laws.{sample-between}
-use Rattle.m68k_chip.proofs.chip.Chip68.sample.Goals as goal
+use Rattle.m68k_chip.proofs.chip.Chip68.sample_quietly.Goals as goal
 
 pub begin-requires-clause-answers : goal.begin-requires-clause-answers
 unfolding next_of
@@ -20,4 +20,5 @@ invariant_of-self c = (
       c.deref.ensures
       (rw c.deref_mut.ensures.value at c.begin.ensures.state) c.begin.ensures.waiting c.begin.ensures.foreseen,
   subst (λ (image : List ℕ). IsCacheOf image c.begin.new.cache) c.deref.ensures c.begin.ensures.cache,
+  tt,
 )

@@ -1,0 +1,312 @@
+ghost use Rattle.std.specs.Prelude.{◌≡◌, ◌+◌, ◌-◌, ◌^◌, ◌<◌, ◌&&◌, max, ℕ, List, false, None, IfSome, IsTrue};
+ghost use Rattle.md_word.specs.declared.main_bus.Request68.{Request68};
+ghost use Rattle.m68k_exec.specs.declared.sample.step.Foreseen.{Foreseen};
+ghost use Rattle.m68k_chip.specs.Events.{answered};
+ghost use Rattle.m68k_chip.specs.Laps.{HasWatched, IsLap, IsOn, reading, sampling};
+ghost use Rattle.m68k_chip.specs.States.{State68, none_left, state_of};
+ghost use Rattle.m68k_chip.specs.declared.lap.Place.TheVariants.{Away, Opened, AtRead, PastRead};
+
+use crate::sequencer::{NONE_LEFT, STEP, Sequencer};
+use crate::stage::Stage;
+use md_word::{Answer68, Regs, Request68};
+
+/// Where the 68000 stands on a lap.
+#[derive(Clone, Copy)]
+pub enum Place {
+    /// No lap is known.
+    Away,
+    /// Behind the answer to a read, with which a lap may have begun.
+    Opened,
+    /// Somewhere, with work RAM as the lap that is known leaves it.
+    Learned,
+    /// At the read of the lap that is known.
+    AtRead,
+    /// Behind its answer.
+    PastRead,
+}
+
+/// A lap of a loop that waits until a read is answered otherwise: it leads from the read by instructions that write
+/// nothing and make no other access back to the read, with the same registers. Once it was gone through, it is taken
+/// in one step, for as long as the answer, the interrupt level and work RAM stay.
+#[derive(Clone, Copy)]
+pub struct Lap {
+    pub place: Place,
+    /// The registers at the read.
+    pub from: Regs,
+    /// The registers behind its answer.
+    pub after: Regs,
+    pub answer: Answer68,
+    /// The cycle at which the instruction began that reads, when the lap was gone through.
+    pub start: u64,
+    /// The master cycles from there to the sample behind the answer.
+    pub first: u32,
+    /// How many samples lead back to the read.
+    pub samples: u64,
+    /// The interrupt level at them.
+    pub level: u8,
+    /// The master cycles from the first of them to the last.
+    pub last: u32,
+    /// The master cycles from the first of them to the start of the instruction that reads again.
+    pub rest: u32,
+}
+
+/// What was seen of samples in a row.
+#[derive(Clone, Copy)]
+pub struct Watched {
+    /// How many they were.
+    pub samples: u64,
+    /// A cycle that none of them but the first lies behind.
+    pub latest: u64,
+    /// Nothing was written into work RAM.
+    pub quiet: bool,
+}
+
+impl Watched {
+    /// One more sample, at this cycle.
+    pub fn add(&mut self, cycle: u64, quiet: bool)
+        requires { self.old.samples < 2 ^ 64 - 1 }
+        ensures { self.new ≡ record { samples = self.old.samples + 1; latest = max self.old.latest cycle; quiet = self.old.quiet && quiet } }
+    {
+        self.samples += 1;
+        self.latest = self.latest.max(cycle);
+        self.quiet = self.quiet && quiet;
+    }
+}
+
+const NO_REGISTERS: Regs = Regs {
+    d: [0; 8],
+    a: [0; 7],
+    usp: 0,
+    ssp: 0,
+    pc: 0,
+    sr: 0,
+};
+
+/// How many cycles lead from one to another, if they are few.
+fn cycles_between(from: u64, to: u64) -> Option<u32>
+    ensures { IfSome result (λ cycles. from + cycles ≡ to) }
+{
+    if from <= to && to - from <= 0xffff_ffff {
+        Some((to - from) as u32)
+    } else {
+        None
+    }
+}
+
+/// Whether registers are the same.
+fn are_same(a: &Regs, b: &Regs) -> bool
+    ensures { IsTrue result → a.now ≡ b.now }
+{
+    a.pc == b.pc && a.sr == b.sr && a.usp == b.usp && a.ssp == b.ssp && a.d == b.d && a.a == b.a
+}
+
+impl Lap {
+    /// No lap.
+    pub fn none() -> Lap
+        ensures { result.place ≡ Away }
+    {
+        Lap {
+            place: Place::Away,
+            from: NO_REGISTERS,
+            after: NO_REGISTERS,
+            answer: Answer68 {
+                value: 0,
+                transfer: None,
+                cost: 0,
+            },
+            start: 0,
+            first: 0,
+            samples: 0,
+            level: 0,
+            last: 0,
+            rest: 0,
+        }
+    }
+
+    /// Whether the 68000 stands at the read, and that is answered as on the lap.
+    #[inline(always)]
+    pub fn is_read_again(&self, answer: &Answer68) -> bool
+        ensures place { IsTrue result → self.now.place ≡ AtRead }
+        ensures answer { IsTrue result → answer.now ≡ self.now.answer }
+    {
+        matches!(self.place, Place::AtRead) && answer.transfer.is_none() && *answer == self.answer
+    }
+
+    /// Whether the 68000 stands behind the answer, and all samples of the lap come at this interrupt level, and
+    /// below a cycle, where the first comes at `start`.
+    #[inline(always)]
+    pub fn leads_back(&self, level: u8, start: u64, end: u64) -> bool
+        requires { start < 2 ^ 50 }
+        ensures place { IsTrue result → self.now.place ≡ PastRead }
+        ensures level { IsTrue result → level ≡ self.now.level }
+        ensures below { IsTrue result → start + self.now.last < end }
+    {
+        matches!(self.place, Place::PastRead)
+            && self.level == level
+            && start + u64::from(self.last) < end
+    }
+
+    /// Keeps the read that is about to be answered, if the 68000 stands at one with which a lap may begin.
+    #[inline(always)]
+    pub fn begins(&mut self, sequencer: &Sequencer, answer: &Answer68) -> bool
+        ensures reading { (ram : List ℕ) → IsTrue result → state_of sequencer.now ram ≡ reading ram self.new.from self.new.start }
+        ensures answer { IsTrue result → self.new.answer ≡ answer.now }
+    {
+        if sequencer.reads() && sequencer.is_reading() {
+            self.from = sequencer.regs;
+            self.start = sequencer.start;
+            self.answer = *answer;
+            return true;
+        }
+        false
+    }
+
+    /// The read that was kept is answered, if `read`: a lap may have begun where a sample follows.
+    #[inline(always)]
+    pub fn take(&mut self, sequencer: &Sequencer, read: bool)
+        ensures { (cart ram : List ℕ) → (IsTrue read → answered cart (reading ram self.old.from self.old.start) self.old.answer ≡ state_of sequencer.now ram)
+            → IsOn self.new.place self.new cart (state_of sequencer.now ram) sequencer.now.request sequencer.now.foreseen }
+    {
+        self.place = Place::Away;
+        if read {
+            self.follow(sequencer);
+        }
+    }
+
+    /// A lap may have begun with the read that was kept.
+    #[inline(never)]
+    fn follow(&mut self, sequencer: &Sequencer)
+        requires { self.old.place ≡ Away }
+        ensures { (cart ram : List ℕ) → answered cart (reading ram self.old.from self.old.start) self.old.answer ≡ state_of sequencer.now ram
+            → IsOn self.new.place self.new cart (state_of sequencer.now ram) sequencer.now.request sequencer.now.foreseen }
+    {
+        if sequencer.is_sampling() {
+            if let Some(first) = cycles_between(self.start, sequencer.start) {
+                self.place = Place::Opened;
+                self.after = sequencer.regs;
+                self.first = first;
+            }
+        }
+    }
+
+    /// Samples at this interrupt level led from a place of the lap to where the 68000 stands, the first of them at
+    /// the cycle `begun`. Where it stands at the read again, a lap is known.
+    pub fn go_on(&mut self, sequencer: &Sequencer, watched: &Watched, begun: u64, level: u8)
+        ensures { (cart ram : List ℕ) (before : State68) (request : Request68) (foreseen : Foreseen) (end : ℕ) → IsOn self.old.place self.old cart before request foreseen
+            → HasWatched watched.now end cart level before (state_of sequencer.now ram) → before.start ≡ begun
+            → IsOn self.new.place self.new cart (state_of sequencer.now ram) sequencer.now.request sequencer.now.foreseen }
+    {
+        let place = self.place;
+        self.place = Place::Away;
+        if watched.quiet {
+            match place {
+                Place::Away | Place::AtRead => {}
+                Place::Opened => self.close(sequencer, watched, begun, level),
+                Place::Learned | Place::PastRead => self.come_back(sequencer),
+            }
+        }
+    }
+
+    /// Closes a lap that had begun, where the 68000 stands at its read again.
+    fn close(&mut self, sequencer: &Sequencer, watched: &Watched, begun: u64, level: u8)
+        requires { self.old.place ≡ Away }
+        ensures { (cart ram : List ℕ) (before : State68) (request : Request68) (foreseen : Foreseen) (end : ℕ) → IsOn Opened self.old cart before request foreseen
+            → HasWatched watched.now end cart level before (state_of sequencer.now ram) → before.start ≡ begun → ram ≡ before.ram
+            → IsOn self.new.place self.new cart (state_of sequencer.now ram) sequencer.now.request sequencer.now.foreseen }
+    {
+        if sequencer.is_reading() && are_same(&sequencer.regs, &self.from) {
+            let last = cycles_between(begun, watched.latest);
+            let rest = cycles_between(begun, sequencer.start);
+            if let (Some(last), Some(rest)) = (last, rest) {
+                self.place = Place::AtRead;
+                self.samples = watched.samples;
+                self.level = level;
+                self.last = last;
+                self.rest = rest;
+            }
+        }
+    }
+
+    /// The lap is known, and the 68000 may stand at its read again.
+    fn come_back(&mut self, sequencer: &Sequencer)
+        ensures { (cart ram : List ℕ) → IsLap self.old cart ram → IsOn self.new.place self.new cart (state_of sequencer.now ram) sequencer.now.request sequencer.now.foreseen }
+    {
+        self.place = if sequencer.is_reading()
+            && are_same(&sequencer.regs, &self.from)
+            && self.start <= sequencer.start
+        {
+            Place::AtRead
+        } else {
+            Place::Learned
+        };
+    }
+}
+
+impl Sequencer {
+    /// Whether it stands at the first access of an instruction, with nothing else to come.
+    pub fn is_reading(&self) -> bool
+        ensures { (ram : List ℕ) → IsTrue result → state_of self.now ram ≡ reading ram self.now.regs self.now.start }
+    {
+        matches!(self.stage, Stage::Access)
+            && self.next >= self.start
+            && self.next - self.start == STEP
+            && self.answers.is_empty()
+            && self.has_nothing_else()
+    }
+
+    /// Whether the request that waits at an access reads.
+    #[inline(always)]
+    pub fn reads(&self) -> bool {
+        matches!(self.request, Request68::Read8(_) | Request68::Read16(_))
+    }
+
+    /// Whether it stands at a sample, with nothing else to come.
+    pub fn is_sampling(&self) -> bool
+        ensures { (ram : List ℕ) → IsTrue result → state_of self.now ram ≡ sampling ram self.now.regs self.now.start }
+    {
+        matches!(self.stage, Stage::Sample)
+            && self.next == self.start
+            && self.answers.is_empty()
+            && self.has_nothing_else()
+    }
+
+    /// Whether it goes on by an instruction, with no trace and no transfer to come.
+    fn has_nothing_else(&self) -> bool
+        ensures { IsTrue result → (self.now.stopped ≡ false) × (self.now.trace ≡ false) × (self.now.halted ≡ None) × (self.now.cause ≡ 0) × (self.now.transfer ≡ none_left) }
+    {
+        !self.stopped
+            && !self.trace
+            && self.halted.is_none()
+            && self.cause == 0
+            && self.transfer == NONE_LEFT
+    }
+
+    /// Goes from the first access of an instruction, whose answer leaves these registers, to the sample behind it.
+    #[inline(always)]
+    pub fn stand_behind(&mut self, regs: &Regs, cycle: u64)
+        requires { (ram : List ℕ) → state_of self.old ram ≡ reading ram self.old.regs self.old.start }
+        ensures state { (ram : List ℕ) → state_of self.new ram ≡ sampling ram regs.now cycle }
+        ensures request { self.new.request ≡ self.old.request }
+        ensures foreseen { self.new.foreseen ≡ self.old.foreseen }
+    {
+        self.regs = *regs;
+        self.next = cycle;
+        self.start = cycle;
+        self.stage = Stage::Sample;
+    }
+
+    /// Goes from a sample to the first access of an instruction that begins at this cycle with these registers.
+    #[inline(always)]
+    pub fn read_again(&mut self, regs: &Regs, start: u64)
+        requires sampling { (ram : List ℕ) → state_of self.old ram ≡ sampling ram self.old.regs self.old.start }
+        requires start { start < 2 ^ 60 }
+        ensures state { (ram : List ℕ) → state_of self.new ram ≡ reading ram regs.now start }
+        ensures request { self.new.request ≡ self.old.request }
+        ensures foreseen { self.new.foreseen ≡ self.old.foreseen }
+    {
+        self.regs = *regs;
+        self.start = start;
+        self.next = start + STEP;
+        self.stage = Stage::Access;
+    }
+}
