@@ -1,9 +1,10 @@
 -- What a look at all chips finds.
-use Rattle.std.specs.Prelude.{◌≡◌, ◌≢◌, ℕ, zero, suc, ◌<◌, true, cond, Option, Some, None, List, length, slice_index_or}
+use Rattle.std.specs.Prelude.{◌≡◌, ◌≢◌, ℕ, zero, suc, ◌<◌, true, false, cond, Option, Some, None, List, length, slice_index_or}
+use Rattle.md_word.specs.declared.event.Next.{Next}
 use Rattle.md_word.specs.declared.key.Key.{Key}
 use Rattle.md_word.specs.Keys.{key_lt}
 use Rattle.chip_core.specs.Chips.{Rules}
-use Rattle.chip_core.specs.Cores.{no_key}
+use Rattle.chip_core.specs.Cores.{bound_in, no_key}
 
 -- the first of two that is there
 abbrev pub or_else : Option ℕ → Option ℕ → Option ℕ
@@ -34,3 +35,16 @@ module _ {Chip Shared Pins : Type 0} (rules : Rules Chip Shared Pins) where
   abbrev pub IsLeastLimit : ℕ → (ℕ → Key) → ℕ → ℕ → Key → Type 0
   IsLeastLimit t bound n i end = (key : Key) → key.cycle < t → ((j : ℕ) → j < n → j ≢ i → rules.writes j i ≡ true → key_lt key (bound j) ≡ true)
       → key_lt key end ≡ true
+
+  -- chip i's next event looks at the bound of chip j: an access at those of all others, a sample at
+  -- those of the others that write its pins
+  abbrev pub LooksAt : Next → ℕ → ℕ → Type 0
+  LooksAt next i j = (j ≢ i) × (next.sample ≡ true → rules.writes j i ≡ true)
+
+  -- the event's key is below each bound that it looks at
+  abbrev pub IsFirst : Next → List Key → ℕ → Type 0
+  IsFirst next bounds i = (j : ℕ) → j < length bounds → LooksAt next i j → key_lt next.key (bound_in bounds j) ≡ true
+
+  -- the event looks at the bound of this number, and that bound is not above its key
+  abbrev pub FindsOther : Next → List Key → ℕ → ℕ → Type 0
+  FindsOther next bounds i other = (other < length bounds) × LooksAt next i other × (key_lt next.key (bound_in bounds other) ≡ false)

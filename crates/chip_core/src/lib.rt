@@ -12,5 +12,5 @@ mod scheduler;
 pub use ahead::run;
 pub use chip_set::ChipSet;
 pub use event::Event;
-pub use look::{least_of, limit_of};
+pub use look::{find_other, least_of, limit_of};
 pub use scheduler::Core;

@@ -1,7 +1,7 @@
-ghost use Rattle.std.specs.Prelude.{◌≡◌, ◌≢◌, ℕ, ◌<◌, ◌≤◌, ◌↔◌, true, All, IsTrue, length, if◌then◌else◌, ◌&&◌};
+ghost use Rattle.std.specs.Prelude.{◌≡◌, ◌≢◌, ℕ, ◌<◌, ◌≤◌, ◌↔◌, true, All, IsTrue, MatchOption, length, if◌then◌else◌, ◌&&◌};
 ghost use Rattle.md_word.specs.Keys.{key_lt};
 ghost use Rattle.chip_core.specs.Cores.{bound_in, chip_in, key_in};
-ghost use Rattle.chip_core.specs.Looks.{or_else, least_lagging, IsBelowOthers, IsBelowWriters, IsLeastLimit, IsLimit};
+ghost use Rattle.chip_core.specs.Looks.{or_else, least_lagging, FindsOther, IsBelowOthers, IsBelowWriters, IsFirst, IsLeastLimit, IsLimit, LooksAt};
 ghost use Rattle.chip_core.specs.Machines.{least_below};
 
 use crate::{ChipSet, Event};
@@ -82,6 +82,33 @@ pub fn limit_of<C: ChipSet>(bounds: &[Key], t: u64, chip: u8) -> Key
         lower(&mut end, &bounds[i as usize], is_other_writer::<C>(i, chip));
     }
     end
+}
+
+/// Whether the next event of chip `number` looks at the bound of chip `i`: an access at those of all others, a
+/// sample at those of the others that write its pins.
+fn looks_at<C: ChipSet>(next: &Next, i: u8, number: u8) -> bool
+    ensures { IsTrue result ↔ LooksAt C.rules next.now number i }
+{
+    if i == number {
+        return false;
+    }
+    if next.sample {
+        return C::writes(i, number);
+    }
+    true
+}
+
+/// The first number at whose bound the event looks, and whose bound its key is not below.
+pub fn find_other<C: ChipSet>(next: &Next, bounds: &[Key], number: u8) -> Option<u8>
+    requires few { length bounds.now ≤ 5 }
+    ensures { MatchOption result (IsFirst C.rules next.now bounds.now number) (λ other. FindsOther C.rules next.now bounds.now number other) }
+{
+    for (i, bound) in bounds.iter().enumerate() {
+        if looks_at::<C>(next, i as u8, number) && !next.key.is_below(bound) {
+            return Some(i as u8);
+        }
+    }
+    None
 }
 
 /// Whether some chip's next event lies below a cycle.

@@ -9,7 +9,7 @@ use Rattle.chip_core.specs.declared.event.Event.TheVariants.{Announce, Perform, 
 use Rattle.chip_core.specs.Chips.{Rules, Lawful, SamplesBelow}
 use Rattle.chip_core.specs.Chips.{sampled as sampled_n}
 use Rattle.chip_core.specs.Cores.{CoreValue, IsCore, bound_in, machine_of, no_key, seen}
-use Rattle.chip_core.specs.Looks.{IsLimit}
+use Rattle.chip_core.specs.Looks.{FindsOther, IsLimit, LooksAt}
 use Rattle.chip_core.proofs.Sampling.{chip-on, limit-sampled, sample-enabled}
 use Rattle.chip_core.specs.Equations.{by_test, chip-access, chip-sample, put-same, put-other, shared-access, shared-sample}
 use Rattle.chip_core.specs.Events.{IsEnabled, IsTidy, Seen, after, counted, left_bound, sampled_on}
@@ -25,7 +25,7 @@ use Rattle.chip_run.specs.Held.{AreSamples, HeldValue, IsAhead, IsHeld, IsLease,
 use Rattle.chip_run.specs.Locked.{IsLocked, count_of, seen_at}
 use Rattle.chip_run.specs.Parts.{PartsValue}
 use Rattle.chip_run.specs.Sections.{IsBlocked, IsFound, IsLockedAt, performed, sampled}
-use Rattle.chip_run.specs.Steps.{FindsOther, HasPlaceFor, HasTurn, IsLeaseEnd, IsStep, LooksAt, after_access, announced, raised}
+use Rattle.chip_run.specs.Steps.{HasPlaceFor, HasTurn, IsLeaseEnd, IsStep, after_access, announced, raised}
 use Rattle.chip_run.proofs.Booking.{found-number, found-under, kept-booked}
 use Rattle.chip_run.proofs.CoreSteps.{announced-same, bounds-announced, bounds-raised}
 use Rattle.chip_run.proofs.KeyOrder.{same-key}

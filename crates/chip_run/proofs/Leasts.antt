@@ -6,12 +6,13 @@ use Rattle.md_word.specs.declared.key.Key.{Key}
 use Rattle.md_word.specs.Keys.{key_lt}
 use Rattle.chip_core.specs.Chips.{Lawful, Rules}
 use Rattle.chip_core.specs.Cores.{bound_in}
+use Rattle.chip_core.specs.Looks.{IsFirst}
 use Rattle.chip_core.specs.Machines.{least_below}
 use Rattle.chip_core.proofs.Keys.{least-is, rank, rank-not_lt}
 use Rattle.chip_run.specs.Held.{HeldValue}
 use Rattle.chip_run.specs.Parts.{PartsValue}
 use Rattle.chip_run.specs.Sections.{IsFound}
-use Rattle.chip_run.specs.Steps.{HasTurn, IsFirst, IsLeastBound}
+use Rattle.chip_run.specs.Steps.{HasTurn, IsLeastBound}
 
 least-at : (key : ℕ → Key) (n : ℕ) → 1 ≤ n → ((i : ℕ) → i < n → (key i).chip < 8) → (i : ℕ) → i < n → rank (key (least_below key n)) ≤ rank (key i)
 least-at key zero some small i low = absurd (omega arith)

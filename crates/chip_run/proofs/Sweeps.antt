@@ -9,13 +9,14 @@ use Rattle.md_word.specs.declared.key.Key.{Key}
 use Rattle.md_word.specs.Keys.{key_lt}
 use Rattle.chip_core.specs.Chips.{Rules}
 use Rattle.chip_core.specs.Cores.{bound_in, no_key}
+use Rattle.chip_core.specs.Looks.{LooksAt}
 use Rattle.chip_core.specs.Equations.{by_test, same_or}
 use Rattle.chip_run.specs.Held.{HeldValue}
 use Rattle.chip_run.specs.Parts.{PartsValue}
 use Rattle.chip_run.specs.Places.{Places, place}
 use Rattle.chip_run.specs.Rounds.{AreUnchanged, IsChanged, IsEndedAt, IsNoted, KeepsOthers, LeastWaits, Waits}
 use Rattle.chip_run.specs.Sections.{IsTurn}
-use Rattle.chip_run.specs.Steps.{LooksAt, announced, raised}
+use Rattle.chip_run.specs.Steps.{announced, raised}
 use Rattle.chip_run.specs.declared.sweep.Waiting.{Waiting}
 use Rattle.chip_run.specs.declared.turn.Turn.{Turn}
 use Rattle.chip_run.specs.declared.turn.Turn.TheVariants.{Moved, Blocked, Finished}

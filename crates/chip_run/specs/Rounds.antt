@@ -5,9 +5,9 @@ use Rattle.md_word.specs.Keys.{key_lt}
 use Rattle.md_word.specs.declared.key.Key.{Key}
 use Rattle.chip_core.specs.Chips.{Rules, RunsTo}
 use Rattle.chip_core.specs.Cores.{bound_in}
+use Rattle.chip_core.specs.Looks.{LooksAt}
 use Rattle.chip_run.specs.Held.{HeldValue}
 use Rattle.chip_run.specs.Places.{AllFree, Places, place}
-use Rattle.chip_run.specs.Steps.{LooksAt}
 use Rattle.chip_run.specs.declared.round.Round.{Round}
 use Rattle.chip_run.specs.declared.round.Round.TheVariants as Rounds
 use Rattle.chip_run.specs.declared.held.Due.{Due}

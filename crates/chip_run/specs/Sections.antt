@@ -4,11 +4,12 @@ use Rattle.md_word.specs.declared.key.Key.{Key}
 use Rattle.md_word.specs.Keys.{key_lt}
 use Rattle.chip_core.specs.Chips.{Rules}
 use Rattle.chip_core.specs.Cores.{CoreValue, bound_in}
+use Rattle.chip_core.specs.Looks.{LooksAt}
 use Rattle.chip_run.specs.Held.{HeldValue}
 use Rattle.chip_run.specs.Locked.{IsLocked, LockedValue, count_of}
 use Rattle.chip_run.specs.Parts.{PartsValue}
 use Rattle.chip_run.specs.Places.{Places, place}
-use Rattle.chip_run.specs.Steps.{HasTurn, IsLeaseEnd, LooksAt, after_access, announced, raised}
+use Rattle.chip_run.specs.Steps.{HasTurn, IsLeaseEnd, after_access, announced, raised}
 use Rattle.chip_run.specs.declared.held.Due.TheVariants.{Nothing, Advance, Sample}
 use Rattle.chip_run.specs.declared.turn.Turn.{Turn}
 use Rattle.chip_run.specs.declared.turn.Turn.TheVariants.{Moved, Blocked, Finished}

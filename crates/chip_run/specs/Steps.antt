@@ -1,11 +1,9 @@
 -- What the turn of a chip does under the lock.
-use Rattle.std.specs.Prelude.{◌≡◌, ◌≢◌, ℕ, ◌+◌, ◌<◌, ◌≤◌, true, false, Option, Some, None, List, [], ◌∷◌, ◌++◌, length, slice_set}
-use Rattle.md_word.specs.declared.event.Next.{Next}
+use Rattle.std.specs.Prelude.{◌≡◌, ℕ, ◌+◌, ◌<◌, ◌≤◌, true, false, Option, Some, None, List, [], ◌∷◌, ◌++◌, length, slice_set}
 use Rattle.md_word.specs.declared.key.Key.{Key}
-use Rattle.md_word.specs.Keys.{key_lt}
 use Rattle.chip_core.specs.Chips.{Rules}
 use Rattle.chip_core.specs.Cores.{bound_in}
-use Rattle.chip_core.specs.Looks.{IsLeastLimit, IsLimit}
+use Rattle.chip_core.specs.Looks.{FindsOther, IsFirst, IsLeastLimit, IsLimit}
 use Rattle.chip_core.specs.Machines.{least_below}
 use Rattle.chip_run.specs.Parts.{PartsValue}
 use Rattle.chip_run.specs.declared.step.Step.{Step}
@@ -18,19 +16,6 @@ pub record IsLeastBound {Shared : Type 0} (p : PartsValue Shared) (i : ℕ) : Ty
   pub least : i ≡ least_below (bound_in p.bounds) (length p.bounds)
 
 module _ {Chip Shared Pins : Type 0} (rules : Rules Chip Shared Pins) where
-  -- chip i's next event looks at the bound of chip j: an access at those of all others, a sample at
-  -- those of the others that write its pins
-  abbrev pub LooksAt : Next → ℕ → ℕ → Type 0
-  LooksAt next i j = (j ≢ i) × (next.sample ≡ true → rules.writes j i ≡ true)
-
-  -- the event's key is below each bound that it looks at
-  abbrev pub IsFirst : Next → List Key → ℕ → Type 0
-  IsFirst next bounds i = (j : ℕ) → j < length bounds → LooksAt next i j → key_lt next.key (bound_in bounds j) ≡ true
-
-  -- the event looks at the bound of this number, and that bound is not above its key
-  abbrev pub FindsOther : Next → List Key → ℕ → ℕ → Type 0
-  FindsOther next bounds i other = (other < length bounds) × LooksAt next i other × (key_lt next.key (bound_in bounds other) ≡ false)
-
   -- the bounds once the chip has announced its next event
   abbrev pub announced : ℕ → Chip → List Key → List Key
   announced i c bounds = slice_set bounds i (rules.next c).key
@@ -42,7 +27,7 @@ module _ {Chip Shared Pins : Type 0} (rules : Rules Chip Shared Pins) where
   -- it is this chip's turn: its event lies below the end and below the bounds that it looks at
   pub record HasTurn (p : PartsValue Shared) (i : ℕ) (c : Chip) : Type 0 where
     pub early : (rules.next c).key.cycle < p.end
-    pub first : IsFirst (rules.next c) p.bounds i
+    pub first : IsFirst rules (rules.next c) p.bounds i
 
   -- where an access has its turn, the journal has a free place
   abbrev pub HasPlaceFor : PartsValue Shared → ℕ → Chip → Type 0
@@ -70,7 +55,7 @@ module _ {Chip Shared Pins : Type 0} (rules : Rules Chip Shared Pins) where
   IsStep p i c (Sampled pins end) q d =
       HasTurn p i c × ((rules.next c).sample ≡ true) × (pins ≡ rules.pins p.shared i) × (q ≡ record p { bounds = raised i c p.bounds }) × (d ≡ c) × IsLeaseEnd q i end
   IsStep p i c (Blocked other bound) q d =
-      ((rules.next c).key.cycle < p.end) × FindsOther (rules.next c) p.bounds i other × (bound ≡ bound_in p.bounds other)
+      ((rules.next c).key.cycle < p.end) × FindsOther rules (rules.next c) p.bounds i other × (bound ≡ bound_in p.bounds other)
       × (q ≡ record p { bounds = announced i c p.bounds }) × (d ≡ c)
   IsStep p i c Finished q d = (p.end ≤ (rules.next c).key.cycle) × (q ≡ record p { bounds = announced i c p.bounds }) × (d ≡ c)
 

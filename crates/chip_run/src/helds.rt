@@ -112,11 +112,11 @@ impl<C: ChipSet, N: Named, L0: Ledger, L1: Ledger, L2: Ledger, L3: Ledger, L4: L
         ensures moved { other.new ≡ slice_set other.old chip (place self.old chip) }
     {
         match chip {
-            0 => other.place0 = self.place0.take(),
-            1 => other.place1 = self.place1.take(),
-            2 => other.place2 = self.place2.take(),
-            3 => other.place3 = self.place3.take(),
-            4 => other.place4 = self.place4.take(),
+            0 => move_place(&mut self.place0, &mut other.place0),
+            1 => move_place(&mut self.place1, &mut other.place1),
+            2 => move_place(&mut self.place2, &mut other.place2),
+            3 => move_place(&mut self.place3, &mut other.place3),
+            4 => move_place(&mut self.place4, &mut other.place4),
             _ => {}
         }
     }
@@ -212,6 +212,16 @@ fn key_of<C: ChipSet, N: Named, L: Ledger>(held: &Option<Held<C, N, L>>) -> Opti
         Some(held) => Some(C::next(&held.chip).key),
         None => None,
     }
+}
+
+fn move_place<C: ChipSet, N: Named, L: Ledger>(
+    from: &mut Option<Held<C, N, L>>,
+    to: &mut Option<Held<C, N, L>>,
+)
+    ensures left { from.new ≡ None }
+    ensures moved { to.new ≡ from.old }
+{
+    *to = from.take();
 }
 
 fn settle_place<C: ChipSet, N: Named, L: Ledger>(held: &mut Option<Held<C, N, L>>)

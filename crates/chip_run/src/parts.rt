@@ -1,11 +1,10 @@
-ghost use Rattle.std.specs.Prelude.{◌≡◌, ℕ, ◌+◌, ◌^◌, ◌<◌, ◌≤◌, ◌↔◌, IsTrue, Option, MatchOption, true, false, length, vec_capacity, ◌≢◌};
-ghost use Rattle.md_word.specs.Keys.{key_lt};
-ghost use Rattle.chip_core.specs.Cores.{bound_in, no_key};
+ghost use Rattle.std.specs.Prelude.{◌≡◌, ◌^◌, ◌<◌, ◌≤◌, true, false, length, vec_capacity};
+ghost use Rattle.chip_core.specs.Cores.{bound_in};
 ghost use Rattle.chip_run.specs.Parts.{PartsValue};
-ghost use Rattle.chip_run.specs.Steps.{FindsOther, HasLease, HasPlaceFor, HasTurn, IsAccess, IsFirst, IsStep, LooksAt, announced};
+ghost use Rattle.chip_run.specs.Steps.{HasLease, HasPlaceFor, HasTurn, IsAccess, IsStep, announced};
 
 use crate::step::Step;
-use chip_core::{ChipSet, limit_of};
+use chip_core::{ChipSet, find_other, limit_of};
 use md_word::{Entry, Key, Next};
 use std::marker::Model;
 
@@ -29,32 +28,6 @@ impl<C: ChipSet> Model for Parts<C> {
       journal = p.journal.items;
       room = vec_capacity p.journal;
     } };
-}
-
-/// Whether the next event of chip `number` looks at the bound of chip `i`.
-fn looks_at<C: ChipSet>(next: &Next, i: u8, number: u8) -> bool
-    ensures { IsTrue result ↔ LooksAt C.rules next.now number i }
-{
-    if i == number {
-        return false;
-    }
-    if next.sample {
-        return C::writes(i, number);
-    }
-    true
-}
-
-/// The first number at whose bound the event looks, and whose bound its key is not below.
-fn find_other<C: ChipSet>(next: &Next, bounds: &[Key], number: u8) -> Option<u8>
-    requires few { length bounds.now ≤ 5 }
-    ensures { MatchOption result (IsFirst C.rules next.now bounds.now number) (λ other. FindsOther C.rules next.now bounds.now number other) }
-{
-    for (i, bound) in bounds.iter().enumerate() {
-        if looks_at::<C>(next, i as u8, number) && !next.key.is_below(bound) {
-            return Some(i as u8);
-        }
-    }
-    None
 }
 
 /// Whether the chip of this number has announced its next event already.
