@@ -2,6 +2,7 @@
 use Rattle.std.proofs.Common.{◌≡◌, ℕ, zero, suc, ◌+◌, ◌-◌, ◌*◌, ◌<◌, ◌≤◌, ◌==◌, Bool, true, false, inl, inr, List, [], ◌∷◌, ◌++◌, length, Option, Some, None, IfSome, is_some, Result, Ok, Err, refl, sym, ap, subst, ◌∙◌, arith}
 use Rattle.std.specs.Prelude.{◌&&◌, if◌then◌else◌, max, nat_lt}
 use Rattle.std.proofs.lemmas.Bool.{and_parts}
+use Rattle.std.proofs.lemmas.Bool.Decides.{nat_tests}
 use Rattle.std.proofs.Math.Nat.{eq-or-lt_of_le}
 use Rattle.md_word.specs.declared.main_bus.Answer68.{Answer68}
 use Rattle.md_word.specs.declared.main_bus.Request68.{Request68}
@@ -13,7 +14,7 @@ use Rattle.m68k_exec.specs.declared.sample.step.Foreseen.{Foreseen}
 use Rattle.m68k_chip.specs.Cases.{case_of, cause_of, mask_of}
 use Rattle.m68k_chip.specs.Events.{WentAhead, answered, asking, at_sample, at_word, begun, begun_after, begun_with, came_to, carried_out, end_of, finished, left_by, rested, step, waited, went_on}
 use Rattle.m68k_chip.specs.Held.{IsForeseen, IsHeld, WaitsFor}
-use Rattle.m68k_chip.specs.Laps.{HasWatched, IsAnswered, IsLap, IsOn, behind, reading, sampling}
+use Rattle.m68k_chip.specs.Laps.{HasWatched, IsAnswered, IsAside, IsLap, IsOn, behind, reading, sampling}
 use Rattle.m68k_chip.specs.States.{State68, next_of, state_of}
 use Rattle.m68k_chip.specs.Validity.{IsChip68}
 use Rattle.m68k_chip.specs.declared.case.Case.TheVariants.{Halted, Trace, Interrupt, Stopped, Instruction}
@@ -202,7 +203,7 @@ more-watched cart state level end watched cycle quiet now after at seen kind low
 
 -- ---- at the read, and behind its answer
 
-at-read : (lap : Lap) (cart : List ℕ) (state : State68) (place : Place) (request : Request68) (foreseen : Foreseen) → IsOn place lap cart state request foreseen → place ≡ AtRead → IsOn AtRead lap cart state request foreseen
+pub at-read : (lap : Lap) (cart : List ℕ) (state : State68) (place : Place) (request : Request68) (foreseen : Foreseen) → IsOn place lap cart state request foreseen → place ≡ AtRead → IsOn AtRead lap cart state request foreseen
 at-read lap cart state place request foreseen on is = subst (λ (p : Place). IsOn p lap cart state request foreseen) is on
 
 behind-read : (lap : Lap) (cart : List ℕ) (state : State68) (place : Place) (request : Request68) (foreseen : Foreseen) → IsOn place lap cart state request foreseen → place ≡ PastRead → IsOn PastRead lap cart state request foreseen
@@ -285,3 +286,9 @@ pub read-taken : (cart bytes before ram : List ℕ) (state after : State68) (reg
     → answered cart (reading ram regs start) kept ≡ after
 read-taken cart bytes before ram state after regs start kept answer same stands is comes quiet =
     ap (λ (r : List ℕ). answered cart (reading r regs start) kept) quiet ∙ ap (λ (s : State68). answered cart s kept) (sym stands) ∙ ap (answered cart state) is ∙ ap (λ (b : List ℕ). answered b state answer) (sym same) ∙ sym comes
+
+pub away-aside : (lap : Lap) (cart ram : List ℕ) → lap.place ≡ Away → IsAside lap cart ram
+away-aside lap cart ram e known = absurd (let no_way = sym e ∙ known in cc)
+
+pub none-counted : (count : ℕ) → (count == 0) ≡ true → count ≡ 0
+none-counted count is = grind (arith, nat_tests, is)

@@ -77,3 +77,7 @@ IsOn places.AtRead lap cart state request foreseen =
 IsOn places.PastRead lap cart state request foreseen =
     IsLap lap cart state.ram × (state ≡ sampling state.ram lap.after state.start) × (behind lap ≤ state.start)
     × WaitsFor Access cart (reading state.ram lap.from state.start) request × IsForeseen Access cart (reading state.ram lap.from state.start) foreseen
+
+-- a lap that was put aside is still known
+abbrev pub IsAside : Lap → List ℕ → List ℕ → Type 0
+IsAside lap cart ram = lap.place ≡ places.Learned → IsLap lap cart ram

@@ -24,6 +24,8 @@ pub struct Chip68 {
     pub(crate) cache: DecodeCache,
     /// The lap on which it may stand, so that a loop that waits is not carried out anew each time.
     pub(crate) lap: Lap,
+    /// A second one, with another answer to the same read.
+    pub(crate) other: Lap,
 }
 
 impl Model for Chip68 {
@@ -31,7 +33,7 @@ impl Model for Chip68 {
     ghost use Rattle.m68k_chip.specs.Validity.{Chip68Value};
     ghost use Rattle.m68k_chip.specs.States.{state_of};
     ghost use Rattle.m68k_chip.specs.Held.{IsHeld};
-    ghost use Rattle.m68k_chip.specs.Laps.{IsOn};
+    ghost use Rattle.m68k_chip.specs.Laps.{IsAside, IsOn};
     ghost use Rattle.m68k_exec.specs.Sample.Caches.{IsCacheOf};
 
     ghost Value = { Chip68Value };
@@ -39,7 +41,8 @@ impl Model for Chip68 {
     ghost view = { λ chip. record { cart = arc_value chip.cart; state = state_of chip.sequencer chip.ram.value } };
 
     ghost invariant = { λ chip. IsHeld (record { cart = arc_value chip.cart; state = state_of chip.sequencer chip.ram.value }) chip.sequencer.request chip.sequencer.foreseen × IsCacheOf (arc_value chip.cart) chip.cache
-        × IsOn chip.lap.place chip.lap (arc_value chip.cart) (state_of chip.sequencer chip.ram.value) chip.sequencer.request chip.sequencer.foreseen };
+        × IsOn chip.lap.place chip.lap (arc_value chip.cart) (state_of chip.sequencer chip.ram.value) chip.sequencer.request chip.sequencer.foreseen
+        × IsAside chip.other (arc_value chip.cart) chip.ram.value };
 }
 
 impl Chip68 {
@@ -58,6 +61,7 @@ impl Chip68 {
     {
         let cache = DecodeCache::empty(alloc)?;
         let ram = zeroed(alloc)?;
+        let none = Lap::none();
         let sequencer = Sequencer::power_on(cart.bytes());
         Ok(Chip68 {
             cart,
@@ -65,7 +69,8 @@ impl Chip68 {
             sequencer,
             progress: Progress::new(),
             cache,
-            lap: Lap::none(),
+            lap: none,
+            other: none,
         })
     }
 
@@ -106,7 +111,24 @@ impl Chip68 {
             let cycle = self.sequencer.start + u64::from(self.lap.first);
             self.sequencer.stand_behind(&self.lap.after, cycle);
         } else {
-            self.answer_anew(&answer);
+            self.answer_otherwise(&answer);
+        }
+    }
+
+    /// `answer`, where the lap that is known does not tell what comes: perhaps the other one does.
+    fn answer_otherwise(&mut self, answer: &Answer68)
+        requires asking { (next_of self.old.state).sample ≡ false }
+        requires far { self.old.state.next < 2 ^ 50 }
+        requires fits { Fits (request_of self.old.cart self.old.state) answer.now }
+        ensures { self.new ≡ record self.old { state = answered self.old.cart self.old.state answer.now } }
+    {
+        if self.other.is_begun(&self.sequencer, answer) {
+            self.lap.exchange(&mut self.other);
+            self.lap.place = Place::PastRead;
+            let cycle = self.sequencer.start + u64::from(self.lap.first);
+            self.sequencer.stand_behind(&self.lap.after, cycle);
+        } else {
+            self.answer_anew(answer);
         }
     }
 
@@ -117,7 +139,7 @@ impl Chip68 {
         requires fits { Fits (request_of self.old.cart self.old.state) answer.now }
         ensures { self.new ≡ record self.old { state = answered self.old.cart self.old.state answer.now } }
     {
-        let begins = self.lap.begins(&self.sequencer, answer);
+        let begins = self.lap.begins(&self.sequencer, answer, &mut self.other);
         self.sequencer.answer(
             answer,
             &self.cart,
@@ -126,7 +148,8 @@ impl Chip68 {
             &mut self.progress,
         );
         let quiet = self.progress.writes.is_empty();
-        self.lap.take(&self.sequencer, begins && quiet);
+        self.other.keep(quiet);
+        self.lap.take(&self.sequencer, begins, quiet);
     }
 
     /// Takes the sample that is the next event, and goes on to the event after it: a pending trace,
@@ -156,7 +179,9 @@ impl Chip68 {
             &mut self.cache,
             &mut self.progress,
         );
-        self.progress.writes.is_empty()
+        let quiet = self.progress.writes.is_empty();
+        self.other.keep(quiet);
+        quiet
     }
 
     /// Takes the sample that is the next event, as `sample` does, and then all samples of these pins

@@ -1,10 +1,10 @@
-ghost use Rattle.std.specs.Prelude.{◌≡◌, ◌+◌, ◌-◌, ◌^◌, ◌<◌, ◌&&◌, max, ℕ, List, false, None, IfSome, IsTrue};
+ghost use Rattle.std.specs.Prelude.{◌≡◌, ◌+◌, ◌-◌, ◌^◌, ◌<◌, ◌≤◌, ◌&&◌, max, ℕ, List, false, None, IfSome, IsTrue};
 ghost use Rattle.md_word.specs.declared.main_bus.Request68.{Request68};
 ghost use Rattle.m68k_exec.specs.declared.sample.step.Foreseen.{Foreseen};
 ghost use Rattle.m68k_chip.specs.Events.{answered};
-ghost use Rattle.m68k_chip.specs.Laps.{HasWatched, IsLap, IsOn, reading, sampling};
+ghost use Rattle.m68k_chip.specs.Laps.{HasWatched, IsAside, IsLap, IsOn, reading, sampling};
 ghost use Rattle.m68k_chip.specs.States.{State68, none_left, state_of};
-ghost use Rattle.m68k_chip.specs.declared.lap.Place.TheVariants.{Away, Opened, AtRead, PastRead};
+ghost use Rattle.m68k_chip.specs.declared.lap.Place.TheVariants.{Away, Opened, Learned, AtRead, PastRead};
 
 use crate::sequencer::{NONE_LEFT, STEP, Sequencer};
 use crate::stage::Stage;
@@ -146,13 +146,20 @@ impl Lap {
             && start + u64::from(self.last) < end
     }
 
-    /// Keeps the read that is about to be answered, if the 68000 stands at one with which a lap may begin.
+    /// Keeps the read that is about to be answered, if a lap may begin with it: not where one is known that begins
+    /// there with another answer. A lap that is known goes to `other`.
     #[inline(always)]
-    pub fn begins(&mut self, sequencer: &Sequencer, answer: &Answer68) -> bool
+    pub fn begins(&mut self, sequencer: &Sequencer, answer: &Answer68, other: &mut Lap) -> bool
         ensures reading { (ram : List ℕ) → IsTrue result → state_of sequencer.now ram ≡ reading ram self.new.from self.new.start }
         ensures answer { IsTrue result → self.new.answer ≡ answer.now }
+        ensures at_read { self.new.place ≡ AtRead → self.new ≡ self.old }
+        ensures other { (cart : List ℕ) (state : State68) (request : Request68) (foreseen : Foreseen) → IsOn self.old.place self.old cart state request foreseen → IsAside other.old cart state.ram → IsAside other.new cart state.ram }
     {
+        if matches!(self.place, Place::AtRead) {
+            return false;
+        }
         if sequencer.reads() && sequencer.is_reading() {
+            self.put_aside(other);
             self.from = sequencer.regs;
             self.start = sequencer.start;
             self.answer = *answer;
@@ -161,25 +168,79 @@ impl Lap {
         false
     }
 
-    /// The read that was kept is answered, if `read`: a lap may have begun where a sample follows.
+    /// Puts a lap aside that is known.
+    fn put_aside(&self, other: &mut Lap)
+        ensures { (cart : List ℕ) (state : State68) (request : Request68) (foreseen : Foreseen) → IsOn self.now.place self.now cart state request foreseen → IsAside other.old cart state.ram → IsAside other.new cart state.ram }
+    {
+        if matches!(self.place, Place::Learned) {
+            *other = *self;
+        }
+    }
+
+    /// Takes the place of the other lap, which becomes this one where it is known.
+    pub fn exchange(&mut self, other: &mut Lap)
+        ensures lap { self.new ≡ other.old }
+        ensures other { (cart : List ℕ) (state : State68) (request : Request68) (foreseen : Foreseen) → IsOn self.old.place self.old cart state request foreseen → IsAside other.new cart state.ram }
+    {
+        let known = *other;
+        *other = *self;
+        other.place = match self.place {
+            Place::AtRead | Place::Learned => Place::Learned,
+            Place::Away | Place::Opened | Place::PastRead => Place::Away,
+        };
+        *self = known;
+    }
+
+    /// Stays known where nothing was written.
     #[inline(always)]
-    pub fn take(&mut self, sequencer: &Sequencer, read: bool)
-        ensures { (cart ram : List ℕ) → (IsTrue read → answered cart (reading ram self.old.from self.old.start) self.old.answer ≡ state_of sequencer.now ram)
+    pub fn keep(&mut self, quiet: bool)
+        ensures { (cart before ram : List ℕ) → IsAside self.old cart before → (IsTrue quiet → ram ≡ before) → IsAside self.new cart ram }
+    {
+        if !quiet {
+            self.place = Place::Away;
+        }
+    }
+
+    /// Whether this lap, which was put aside, is the one that begins with this answer to the read at which the 68000
+    /// stands.
+    pub fn is_begun(&self, sequencer: &Sequencer, answer: &Answer68) -> bool
+        ensures place { IsTrue result → self.now.place ≡ Learned }
+        ensures answer { IsTrue result → answer.now ≡ self.now.answer }
+        ensures reading { (ram : List ℕ) → IsTrue result → state_of sequencer.now ram ≡ reading ram self.now.from sequencer.now.start }
+        ensures late { IsTrue result → self.now.start ≤ sequencer.now.start }
+    {
+        matches!(self.place, Place::Learned)
+            && answer.transfer.is_none()
+            && *answer == self.answer
+            && self.start <= sequencer.start
+            && sequencer.is_reading()
+            && are_same(&sequencer.regs, &self.from)
+    }
+
+    /// An access was answered, where nothing was written if `quiet`. If it was the read that was kept, `begins`, a lap
+    /// may have begun; else one that begins at it with another answer stays known.
+    #[inline(always)]
+    pub fn take(&mut self, sequencer: &Sequencer, begins: bool, quiet: bool)
+        ensures { (cart before ram : List ℕ) → (IsTrue begins → IsTrue quiet → answered cart (reading ram self.old.from self.old.start) self.old.answer ≡ state_of sequencer.now ram)
+            → (self.old.place ≡ AtRead → IsLap self.old cart before) → (IsTrue quiet → ram ≡ before)
             → IsOn self.new.place self.new cart (state_of sequencer.now ram) sequencer.now.request sequencer.now.foreseen }
     {
-        self.place = Place::Away;
-        if read {
+        if quiet && begins {
             self.follow(sequencer);
+        } else if quiet && matches!(self.place, Place::AtRead) {
+            self.place = Place::Learned;
+        } else {
+            self.place = Place::Away;
         }
     }
 
     /// A lap may have begun with the read that was kept.
     #[inline(never)]
     fn follow(&mut self, sequencer: &Sequencer)
-        requires { self.old.place ≡ Away }
         ensures { (cart ram : List ℕ) → answered cart (reading ram self.old.from self.old.start) self.old.answer ≡ state_of sequencer.now ram
             → IsOn self.new.place self.new cart (state_of sequencer.now ram) sequencer.now.request sequencer.now.foreseen }
     {
+        self.place = Place::Away;
         if sequencer.is_sampling() {
             if let Some(first) = cycles_between(self.start, sequencer.start) {
                 self.place = Place::Opened;

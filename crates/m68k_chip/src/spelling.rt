@@ -59,13 +59,15 @@ impl Chip68 {
             Ok(sequencer) => {
                 let cache = DecodeCache::empty(alloc)?;
                 let ram = copied(alloc, bytes)?;
+                let none = Lap::none();
                 Ok(Chip68 {
                     cart,
                     ram,
                     sequencer,
                     progress: Progress::new(),
                     cache,
-                    lap: Lap::none(),
+                    lap: none,
+                    other: none,
                 })
             }
             Err(place) => Err(Unspell::Rule {

@@ -2,7 +2,7 @@ use Rattle.std.proofs.Common.{◌≡◌, ◌+◌, ap, ◌∙◌, refl}
 use Rattle.std.specs.Arc.{arc_value}
 use Rattle.m68k_chip.specs.Events.{answered}
 use Rattle.m68k_chip.specs.Laps.{sampling}
-use Rattle.m68k_chip.specs.States.{State68, state_of}
+use Rattle.m68k_chip.specs.States.{state_of}
 use Rattle.m68k_chip.specs.Validity.{Chip68Value}
 use Rattle.m68k_chip.proofs.Kept.{after_answer}
 use Rattle.m68k_chip.proofs.Laps.{answers-again, reads-here, sampling-foresees, sampling-waits, stands-behind}
@@ -30,6 +30,7 @@ invariant_of-self c = (
   c.self.invariant.1,
   rw (c.stand_behind.ensures.request, c.stand_behind.ensures.foreseen)
       (stands-behind c.self.inside.lap (arc_value c.self.inside.cart) (state_of c.self.inside.sequencer c.self.inside.ram.value) _ c.self.inside.lap.place _ _ c.self.invariant.2 (c.is_read_again.ensures.place c.if-is_read_again.true) c.self.invariant.0.waiting c.self.invariant.0.foresees (behind c)),
+  c.self.invariant.3,
 )
 
 pub returns-then-is_read_again : goal.returns-then-is_read_again

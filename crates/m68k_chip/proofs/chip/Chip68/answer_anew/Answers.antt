@@ -1,18 +1,15 @@
-use Rattle.std.proofs.Common.{◌≡◌, ◌==◌, ℕ, true, List, subst, sym, ap, ◌∙◌, arith}
-use Rattle.std.proofs.lemmas.Bool.Decides.{nat_tests}
+use Rattle.std.proofs.Common.{ℕ, List, subst, sym, ap, ◌∙◌}
 use Rattle.std.proofs.lemmas.List.{nil_from_length}
 use Rattle.std.specs.Arc.{arc_value}
 use Rattle.arrayvec.specs.ArrayVec.{array_vec_len}
 use Rattle.m68k_exec.specs.Sample.Caches.{IsCacheOf}
+use Rattle.m68k_chip.specs.Laps.{IsAside, IsLap, IsOn}
 use Rattle.m68k_chip.specs.States.{state_of}
+use Rattle.m68k_chip.specs.declared.lap.Lap.{Lap}
 use Rattle.m68k_chip.proofs.Kept.{after_answer}
-use Rattle.m68k_chip.proofs.Laps.{read-taken}
+use Rattle.m68k_chip.proofs.Laps.{at-read, none-counted, read-taken}
 use Rattle.m68k_chip.proofs.Laws.{few-answers}
 use Rattle.m68k_chip.proofs.chip.Chip68.answer_anew.Goals as goal
-use Rattle.m68k_chip.proofs.chip.Chip68.answer_anew.Goals.{then-begins, else-begins}
-
-empty : (count : ℕ) → (count == 0) ≡ true → count ≡ 0
-empty count is = grind (arith, nat_tests, is)
 
 pub answer-requires-clause-few : goal.answer-requires-clause-few
 answer-requires-clause-few c = few-answers _ c.self.invariant.0.valid
@@ -26,10 +23,19 @@ invariant_of-self c = (
       c.deref.ensures
       (rw c.deref_mut.ensures.value at c.answer.ensures.state) c.answer.ensures.waiting c.answer.ensures.foreseen,
   subst (λ (image : List ℕ). IsCacheOf image c.answer.new.cache) c.deref.ensures c.answer.ensures.cache,
-  c.take.ensures (arc_value c.self.inside.cart) c.answer.new.ram (λ read. elim c.if-begins.branch [
-    | then-begins w ↦ read-taken (arc_value c.self.inside.cart) c.deref.result.now c.deref_mut.result.now c.answer.new.ram (state_of c.self.inside.sequencer c.deref_mut.result.now) _ _ _ _ c.args.answer.now c.deref.ensures
-        (c.begins-begins.ensures.reading c.deref_mut.result.now w.if-begins.true) (c.begins-begins.ensures.answer w.if-begins.true) c.answer.ensures.state
-        (c.answer.ensures.quiet (nil_from_length _ (empty (array_vec_len c.answer.new.progress.writes) (sym c.is_empty-quiet.ensures ∙ sym w.take-is ∙ read))))
-    | else-begins w ↦ absurd (let no_way = sym w.take-is ∙ read in cc)
-  ]),
+  c.take.ensures (arc_value c.self.inside.cart) c.deref_mut.result.now c.answer.new.ram
+      (λ begins quiet. read-taken (arc_value c.self.inside.cart) c.deref.result.now c.deref_mut.result.now c.answer.new.ram (state_of c.self.inside.sequencer c.deref_mut.result.now) _ _ _ _ c.args.answer.now c.deref.ensures
+      (c.begins-begins.ensures.reading c.deref_mut.result.now begins) (c.begins-begins.ensures.answer begins) c.answer.ensures.state
+      (c.answer.ensures.quiet (nil_from_length _ (none-counted (array_vec_len c.answer.new.progress.writes) (sym c.is_empty-quiet.ensures ∙ quiet)))))
+      (λ at. let same = c.begins-begins.ensures.at_read at in
+      subst (λ (lap : Lap). IsLap lap (arc_value c.self.inside.cart) c.deref_mut.result.now) (sym same)
+      (subst (IsLap c.self.inside.lap (arc_value c.self.inside.cart)) (sym c.deref_mut.ensures.value)
+      (at-read c.self.inside.lap (arc_value c.self.inside.cart) (state_of c.self.inside.sequencer c.self.inside.ram.value) c.self.inside.lap.place c.self.inside.sequencer.request c.self.inside.sequencer.foreseen c.self.invariant.2
+      (sym (ap (λ (lap : Lap). lap.place) same) ∙ at)).0))
+      (λ quiet. c.answer.ensures.quiet (nil_from_length _ (none-counted (array_vec_len c.answer.new.progress.writes) (sym c.is_empty-quiet.ensures ∙ quiet)))),
+  c.keep.ensures (arc_value c.self.inside.cart) c.deref_mut.result.now c.answer.new.ram
+      (c.begins-begins.ensures.other (arc_value c.self.inside.cart) (state_of c.self.inside.sequencer c.deref_mut.result.now) c.self.inside.sequencer.request c.self.inside.sequencer.foreseen
+      (subst (λ (ram : List ℕ). IsOn c.self.inside.lap.place c.self.inside.lap (arc_value c.self.inside.cart) (state_of c.self.inside.sequencer ram) c.self.inside.sequencer.request c.self.inside.sequencer.foreseen) (sym c.deref_mut.ensures.value) c.self.invariant.2)
+      (subst (IsAside c.self.inside.other (arc_value c.self.inside.cart)) (sym c.deref_mut.ensures.value) c.self.invariant.3))
+      (λ quiet. c.answer.ensures.quiet (nil_from_length _ (none-counted (array_vec_len c.answer.new.progress.writes) (sym c.is_empty-quiet.ensures ∙ quiet)))),
 )

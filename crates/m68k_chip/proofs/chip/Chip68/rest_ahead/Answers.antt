@@ -22,6 +22,7 @@ invariant_of-self c =
       },
       c.self.invariant.1,
       tt,
+      c.self.invariant.3,
     )
 
 pub returns-clause-state : goal.returns-clause-state

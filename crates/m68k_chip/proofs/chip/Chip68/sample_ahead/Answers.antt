@@ -1,4 +1,4 @@
-use Rattle.std.proofs.Common.{◌≡◌, ◌+◌, ap, subst, sym, ◌∙◌}
+use Rattle.std.proofs.Common.{◌≡◌, ◌+◌, ap, subst, ◌∙◌}
 use Rattle.std.specs.Arc.{arc_value}
 use Rattle.m68k_chip.specs.Events.{WentAhead}
 use Rattle.m68k_chip.specs.Laps.{reading}
@@ -28,6 +28,7 @@ invariant_of-self c = (
       (c.leads_back.ensures.place c.if-leads_back.true) c.self.invariant.0.valid (ap (λ (v : Chip68Value). (next_of v.state).sample) c.self.view_is ∙ c.requires.sampling) (went c) (again c)),
   c.self.invariant.1,
   stands-again c.self.inside.lap (arc_value c.self.inside.cart) (state_of c.self.inside.sequencer c.self.inside.ram.value) _ c.self.inside.lap.place _ _ c.self.invariant.2 (c.leads_back.ensures.place c.if-leads_back.true) (again c),
+  c.self.invariant.3,
 )
 
 pub returns-then-leads_back-clause-state : goal.returns-then-leads_back-clause-state

@@ -1,8 +1,13 @@
 use Rattle.std.proofs.Common.{ℕ, List, ap, subst, sym, ◌∙◌}
+use Rattle.std.specs.Arc.{arc_value}
+use Rattle.std.proofs.lemmas.List.{nil_from_length}
+use Rattle.arrayvec.specs.ArrayVec.{array_vec_len}
 use Rattle.m68k_exec.specs.Sample.Caches.{IsCacheOf}
+use Rattle.m68k_chip.specs.Laps.{IsAside}
 use Rattle.m68k_chip.specs.Validity.{Chip68Value}
 use Rattle.m68k_chip.specs.States.{next_of, state_of}
 use Rattle.m68k_chip.proofs.Kept.{after_sample}
+use Rattle.m68k_chip.proofs.Laps.{none-counted}
 use Rattle.m68k_chip.proofs.Laws.{sample-between}
 use Rattle.m68k_chip.proofs.chip.Chip68.sample_quietly.Goals as goal
 
@@ -21,4 +26,6 @@ invariant_of-self c = (
       (rw c.deref_mut.ensures.value at c.begin.ensures.state) c.begin.ensures.waiting c.begin.ensures.foreseen,
   subst (λ (image : List ℕ). IsCacheOf image c.begin.new.cache) c.deref.ensures c.begin.ensures.cache,
   tt,
+  c.keep.ensures (arc_value c.self.inside.cart) c.deref_mut.result.now c.begin.new.ram (subst (IsAside c.self.inside.other (arc_value c.self.inside.cart)) (sym c.deref_mut.ensures.value) c.self.invariant.3)
+      (λ quiet. c.begin.ensures.quiet (nil_from_length _ (none-counted (array_vec_len c.begin.new.progress.writes) (sym c.is_empty-quiet.ensures ∙ quiet)))),
 )

@@ -16,4 +16,5 @@ invariant_of-self c =
           (subst (λ (v : Chip68Value). HasWatched c.sample_watched-watched.result c.args.end v.cart c.args.pins.level v.state (state_of c.self-2.inside.sequencer c.self-2.inside.ram.value)) (sym c.self.view_is)
           (subst (λ (v : Chip68Value). HasWatched c.sample_watched-watched.result c.args.end c.args.self.now.cart c.args.pins.level c.args.self.now.state v.state) (sym c.self-2.view_is) c.sample_watched-watched.ensures.watched)))
           refl,
+      c.self-2.invariant.3,
     )

@@ -8,7 +8,7 @@ use Rattle.m68k_chip.specs.Rules.{HasRules}
 use Rattle.m68k_chip.specs.Validity.{IsChip68}
 use Rattle.m68k_chip.specs.Spelling.{GoesWrongAt, IsKept, Spells, ram_in}
 use Rattle.m68k_chip.specs.States.{State68, state_of}
-use Rattle.m68k_chip.proofs.Laps.{away}
+use Rattle.m68k_chip.proofs.Laps.{away, away-aside}
 use Rattle.m68k_chip.proofs.Laws.{of}
 use Rattle.md_fields.proofs.Standing.{IsBytes-drop, IsBytes-take}
 use Rattle.md_fields.proofs.Refusals.{no_rule, same_rule}
@@ -16,7 +16,7 @@ use Rattle.m68k_chip.proofs.RuleLaws.{recent_from}
 use Rattle.m68k_chip.proofs.SpellingLaws.{no_other, only_place, right_not_refused, spelled_long, spelled_valid}
 use Rattle.m68k_chip.proofs.Waiting.{unknown-foreseen}
 use Rattle.m68k_chip.proofs.chip.Chip68.unspell.Goals as goal
-use Rattle.m68k_chip.proofs.chip.Chip68.unspell.Goals.{After-none}
+use Rattle.m68k_chip.proofs.chip.Chip68.unspell.Goals.{After-new}
 
 pub copied-requires : goal.copied-requires
 copied-requires c = spelled_long c.deref-2.result.now c.args.at c.args.bytes.now (state_of c.in-Ok.sequencer (ram_in c.args.bytes.now)) c.in-Ok.ensures.found.spelled
@@ -32,10 +32,10 @@ returns-in_err-ram-in-Ok-clause-rule c =
     )
 
 -- what is made is what the bytes keep
-made : (c : goal.After-none) → state_of c.in-Ok.sequencer c.in_ok-ram-in-Ok.ram.value ≡ state_of c.in-Ok.sequencer (ram_in c.args.bytes.now)
+made : (c : goal.After-new) → state_of c.in-Ok.sequencer c.in_ok-ram-in-Ok.ram.value ≡ state_of c.in-Ok.sequencer (ram_in c.args.bytes.now)
 made c = ap (state_of c.in-Ok.sequencer) c.in_ok-ram-in-Ok.ensures
 
-kept : (c : goal.After-none) → IsKept (arc_value c.args.cart) c.args.at c.args.bytes.now (state_of c.in-Ok.sequencer (ram_in c.args.bytes.now)) c.in-Ok.sequencer.request c.in-Ok.sequencer.foreseen
+kept : (c : goal.After-new) → IsKept (arc_value c.args.cart) c.args.at c.args.bytes.now (state_of c.in-Ok.sequencer (ram_in c.args.bytes.now)) c.in-Ok.sequencer.request c.in-Ok.sequencer.foreseen
 kept c = subst (λ (image : List ℕ). IsKept image c.args.at c.args.bytes.now (state_of c.in-Ok.sequencer (ram_in c.args.bytes.now)) c.in-Ok.sequencer.request c.in-Ok.sequencer.foreseen) c.deref-2.ensures c.in-Ok.ensures.found
 
 pub invariant_of-result : goal.invariant_of-result
@@ -47,7 +47,8 @@ invariant_of-result c = (
     foresees = unknown-foreseen _ (arc_value c.args.cart) _ c.in-Ok.sequencer.foreseen (kept c).unknown;
   },
   c.in_ok-cache-in-Ok.ensures (arc_value c.args.cart),
-  away _ _ _ _ _ _ c.none.ensures,
+  away _ _ _ _ _ _ c.none-none.ensures,
+  away-aside _ _ _ c.none-none.ensures,
 )
 
 pub returns-in_ok-ram-in-Ok-clause-found : goal.returns-in_ok-ram-in-Ok-clause-found
