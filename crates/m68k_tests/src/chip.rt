@@ -115,7 +115,7 @@ fn runs(alloc: Global, run: &Run) -> Result<(), Fail> {
 
 // MULU #5,D0 takes 38 + 2 · 2 + 4 clocks, and MULS of D1, which is FFFFh, 38 + 2. A branch that is
 // not taken takes 8 with a byte and 12 with a word.
-const TIMES: [([u16; 2], u64); 5] = [
+const TIMES: [([u16; 2], u32); 5] = [
     ([0xc0fc, 0x0005], 322),
     ([0xc1c1, 0], 280),
     ([0x6702, 0], 56),
@@ -131,7 +131,7 @@ fn times_of_instructions(rt: HostRuntime) -> Result<(), Fail> {
         let events = [
             Event::Sample(0, 0),
             Event::Sample(28, 0),
-            Event::Sample(28 + cycles, 0),
+            Event::Sample(28 + u64::from(cycles), 0),
         ];
         follow(rt.alloc(), &mut chip, &events)?;
     }
