@@ -7,7 +7,7 @@ use Rattle.md_asm_text.specs.Operands.{operands_of}
 use Rattle.md_asm_text.specs.Pieces as pieces
 use Rattle.md_asm_text.specs.Pieces.{Piece, is_worded, is_name, split, told, closed}
 use Rattle.md_asm_text.proofs.Splits.{is_end, mark_split, word_split}
-use Rattle.m68k_form.specs.Reading.{Masks, form, masks_of, register_of, with_register, word_form}
+use Rattle.m68k_form.specs.Reading.{Masks, operand_form, masks_of, register_of, with_register, word_form}
 use Rattle.m68k_form.specs.Reading as reading
 use Rattle.m68k_form.specs.declared.form.Form.{Form}
 use Rattle.m68k_form.specs.declared.form.Form.TheVariants as forms
@@ -124,8 +124,8 @@ unfolding masks_of
 more_read [] h = refl
 more_read (n ∷ ns) h = rw (name_read n h.0, more_read ns h.1) refl
 
-names_read : (ns : List ℕ) → AreRegisters ns → form (names_pieces ns) ≡ names_form ns
-unfolding form masks_of
+names_read : (ns : List ℕ) → AreRegisters ns → operand_form (names_pieces ns) ≡ names_form ns
+unfolding operand_form masks_of
 names_read [] h = refl
 names_read (n ∷ []) h = either_form n h.0
 names_read (n ∷ m ∷ ns) h = rw (name_read n h.0, name_read m h.1.0, more_read ns h.1.1) refl
@@ -141,12 +141,12 @@ kept test (n ∷ ns) h = kept_one (test n) n (filter test ns) h.0 (kept test ns 
 sixteen : AreRegisters registers
 sixteen = (lit< tt, (lit< tt, (lit< tt, (lit< tt, (lit< tt, (lit< tt, (lit< tt, (lit< tt, (lit< tt, (lit< tt, (lit< tt, (lit< tt, (lit< tt, (lit< tt, (lit< tt, (lit< tt, tt))))))))))))))))
 
-read_by : (b : Bool) (turned : Bool) (list : ℕ) → (list == 0) ≡ b → form (list_pieces turned list) ≡ list_form turned list
-unfolding form word_form
+read_by : (b : Bool) (turned : Bool) (list : ℕ) → (list == 0) ≡ b → operand_form (list_pieces turned list) ≡ list_form turned list
+unfolding operand_form word_form
 read_by true turned list is = rw is refl
 read_by false turned list is = rw is (names_read (listed turned list) (kept (is_listed turned list) registers sixteen))
 
-pub list_read : (turned : Bool) (list : ℕ) → form (list_pieces turned list) ≡ list_form turned list
+pub list_read : (turned : Bool) (list : ℕ) → operand_form (list_pieces turned list) ≡ list_form turned list
 list_read turned list = read_by (list == 0) turned list refl
 
 -- ---- the list again

@@ -13,7 +13,7 @@ use Rattle.md_disasm.specs.Operands68.{index_text, is_listed, list_text, mode_te
 use Rattle.md_asm_text.specs.Pieces as pieces
 use Rattle.md_asm_text.specs.Pieces.{Piece, is_worded, is_name, split, told, closed}
 use Rattle.md_asm_text.proofs.Splits.{is_end, register_split, number_1, number_2, number_4, number_8, mark_split, word_ends, word_split}
-use Rattle.m68k_form.specs.Reading.{form, register_of, low_register_of, word_form}
+use Rattle.m68k_form.specs.Reading.{operand_form, register_of, low_register_of, word_form}
 use Rattle.m68k_form.specs.declared.form.Form.{Form}
 use Rattle.m68k_form.specs.declared.form.Form.TheVariants as forms
 
@@ -209,12 +209,12 @@ pub name_read : (n : ℕ) → n < 16 → register_of (register_name n) ≡ n
 name_read n h = name_read_by (nat_lt n 8) n h refl
 
 -- the word of a register of sixteen is no other operand
-either_by : (b : Bool) (n : ℕ) → nat_lt n 8 ≡ b → form (pieces.Word (register_name n) ∷ []) ≡ forms.Register (register_of (register_name n))
-unfolding form word_form register_name marked_digit one_digit
+either_by : (b : Bool) (n : ℕ) → nat_lt n 8 ≡ b → operand_form (pieces.Word (register_name n) ∷ []) ≡ forms.Register (register_of (register_name n))
+unfolding operand_form word_form register_name marked_digit one_digit
 either_by true n is = rw is refl
 either_by false n is = rw is refl
 
-pub either_form : (n : ℕ) → n < 16 → form (pieces.Word (register_name n) ∷ []) ≡ forms.Register n
+pub either_form : (n : ℕ) → n < 16 → operand_form (pieces.Word (register_name n) ∷ []) ≡ forms.Register n
 either_form n h = either_by (nat_lt n 8) n refl ∙ ap forms.Register (name_read n h)
 
 -- the form of a mode
@@ -237,18 +237,18 @@ form_of_mode size (modes.PcDisplaced by) = forms.PcDisplaced by
 form_of_mode size (modes.PcIndexed index long by) = forms.PcIndexed index long by
 form_of_mode size (modes.Immediate n) = form_of_number size n
 
-pub number_read : (size : Size) (n : ℕ) → form (number_pieces size n) ≡ form_of_number size n
-unfolding form
+pub number_read : (size : Size) (n : ℕ) → operand_form (number_pieces size n) ≡ form_of_number size n
+unfolding operand_form
 number_read Byte n = refl
 number_read Word n = refl
 number_read Long n = refl
 
-pub register_form : (c : ℕ) (n : ℕ) → (c == 115) ≡ false → form (pieces.Word (c ∷ one_digit n) ∷ []) ≡ forms.Register (register_of (c ∷ one_digit n))
-unfolding form word_form one_digit
+pub register_form : (c : ℕ) (n : ℕ) → (c == 115) ≡ false → operand_form (pieces.Word (c ∷ one_digit n) ∷ []) ≡ forms.Register (register_of (c ∷ one_digit n))
+unfolding operand_form word_form one_digit
 register_form c n h = rw h refl
 
-pub mode_read : (size : Size) (mode : Mode) → IsMode mode → form (mode_pieces size mode) ≡ form_of_mode size mode
-unfolding form
+pub mode_read : (size : Size) (mode : Mode) → IsMode mode → operand_form (mode_pieces size mode) ≡ form_of_mode size mode
+unfolding operand_form
 mode_read size (modes.Data n) h = register_form 100 n refl ∙ ap forms.Register (data_read n h)
 mode_read size (modes.Address n) h = register_form 97 n refl ∙ ap forms.Register (address_read n h)
 mode_read size (modes.Indirect n) h = ap forms.Indirect (address_low n h)

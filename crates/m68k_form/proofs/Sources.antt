@@ -16,7 +16,7 @@ use Rattle.md_asm_text.specs.Operands.{operands_of}
 use Rattle.md_asm_text.specs.Pieces as pieces
 use Rattle.md_asm_text.specs.Pieces.{Piece, every, is_worded, is_name, split, told, closed, opened}
 use Rattle.md_asm_text.proofs.Splits.{is_end, name_opens, register_split, number_1, number_4, number_8, mark_split, word_split}
-use Rattle.m68k_form.specs.Reading.{Source, form, word_form, register_of, read_source, with_operands, with_size}
+use Rattle.m68k_form.specs.Reading.{Source, operand_form, word_form, register_of, read_source, with_operands, with_size}
 use Rattle.m68k_form.specs.Reading as reading
 use Rattle.m68k_form.specs.declared.form.Form.{Form}
 use Rattle.m68k_form.specs.declared.form.Form.TheVariants as forms
@@ -89,8 +89,8 @@ form_of (operands.Target address) = forms.Bare address
 form_of (operands.Opcode word) = forms.Bare word
 form_of (operands.Registers turned list) = list_form turned list
 
-pub operand_read : (o : Operand68) → IsShown o → form (operand_pieces o) ≡ form_of o
-unfolding form word_form
+pub operand_read : (o : Operand68) → IsShown o → operand_form (operand_pieces o) ≡ form_of o
+unfolding operand_form word_form
 operand_read operands.Nothing h = refl
 operand_read (operands.Place size mode) h = mode_read size mode h.0
 operand_read (operands.Data n) h = register_form 100 n refl ∙ ap forms.Register (data_read n h)
@@ -298,8 +298,8 @@ two_read : (stem : List ℕ) (size : Option Size) (first second : Operand68) →
     → with_operands stem size (pieces.Mark 32 ∷ (operand_pieces first ++ (comma ∷ operand_pieces second))) ≡ read_tail stem size first second
 two_read stem size first second f s = rw (operand_apart first (operand_pieces second), operand_read first f, operand_read second s) refl
 
-nothing_read : form [] ≡ forms.Nothing
-unfolding form
+nothing_read : operand_form [] ≡ forms.Nothing
+unfolding operand_form
 nothing_read = refl
 
 one_read : (stem : List ℕ) (size : Option Size) (first : Operand68) → IsShown first

@@ -100,11 +100,11 @@ worded word [] = word_form word
 worded word (p ∷ ps) = registers_of (pieces.Word word ∷ p ∷ ps)
 
 -- the form of an operand
-unfoldable pub form : List Piece → Form
-form [] = forms.Nothing
-form (pieces.Word word ∷ ps) = worded word ps
-form (pieces.Number n ∷ ps) = numbered n ps
-form (p ∷ ps) = marked ps
+unfoldable pub operand_form : List Piece → Form
+operand_form [] = forms.Nothing
+operand_form (pieces.Word word ∷ ps) = worded word ps
+operand_form (pieces.Number n ∷ ps) = numbered n ps
+operand_form (p ∷ ps) = marked ps
 
 -- an instruction as it is written
 pub record Source : Type 0 where
@@ -120,7 +120,7 @@ size_of word = if begins 98 word then Byte else (if begins 119 word then Word el
 abbrev pub with_operands : List ℕ → Option Size → List Piece → Source
 with_operands stem size [] = record { stem = stem; size = size; first = forms.Nothing; second = forms.Nothing }
 with_operands stem size (p ∷ ps) =
-    record { stem = stem; size = size; first = form (operands_of false ps).0; second = form (operands_of false ps).1 }
+    record { stem = stem; size = size; first = operand_form (operands_of false ps).0; second = operand_form (operands_of false ps).1 }
 
 abbrev pub with_size : List ℕ → List Piece → Source
 with_size stem (pieces.Mark c ∷ pieces.Word word ∷ ps) =

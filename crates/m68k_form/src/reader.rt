@@ -5,7 +5,7 @@ ghost use Rattle.m68k_form.specs.Reading as reading;
 ghost use Rattle.m68k_form.specs.Written.{source_seen};
 
 use crate::form::Form;
-use crate::reading::{begins, form};
+use crate::reading::{begins, operand_form};
 use md_asm_text::{Piece, first_operand, second_operand};
 use md_word::Size;
 
@@ -46,8 +46,8 @@ fn with_operands<'a>(stem: &'a [u8], size: Option<Size>, pieces: &[Piece<'a>]) -
         [_, rest @ ..] => Source {
             stem,
             size,
-            first: form(first_operand(rest)),
-            second: form(second_operand(rest)),
+            first: operand_form(first_operand(rest)),
+            second: operand_form(second_operand(rest)),
         },
     }
 }

@@ -207,9 +207,9 @@ fn list(pieces: &[Piece<'_>]) -> Form
 }
 
 /// The form of an operand.
-#[tactic(auto, unfolding(crate::specs::Reading::form))]
-pub(crate) fn form(pieces: &[Piece<'_>]) -> Form
-    ensures value { result ≡ reading.form (map shown pieces.now) }
+#[tactic(auto, unfolding(crate::specs::Reading::operand_form))]
+pub(crate) fn operand_form(pieces: &[Piece<'_>]) -> Form
+    ensures value { result ≡ reading.operand_form (map shown pieces.now) }
     ensures registers { IsForm result }
 {
     match pieces {

@@ -18,11 +18,11 @@ bracketed (pieces.Word word ∷ ps) = based word ps
 bracketed ps = Nothing
 
 -- the form of an operand
-abbrev pub form : List Piece → Form
-form [] = Nothing
-form (pieces.Word word ∷ ps) = Worded word
-form (pieces.Number n ∷ ps) = Bare n
-form (p ∷ ps) = bracketed ps
+abbrev pub operand_form : List Piece → Form
+operand_form [] = Nothing
+operand_form (pieces.Word word ∷ ps) = Worded word
+operand_form (pieces.Number n ∷ ps) = Bare n
+operand_form (p ∷ ps) = bracketed ps
 
 -- an instruction as it is written
 pub record Source : Type 0 where
@@ -32,7 +32,7 @@ pub record Source : Type 0 where
 
 abbrev pub with_operands : List ℕ → List Piece → Source
 with_operands stem [] = record { stem = stem; first = Nothing; second = Nothing }
-with_operands stem (p ∷ ps) = record { stem = stem; first = form (operands_of false ps).0; second = form (operands_of false ps).1 }
+with_operands stem (p ∷ ps) = record { stem = stem; first = operand_form (operands_of false ps).0; second = operand_form (operands_of false ps).1 }
 
 unfoldable pub read_source : List Piece → Source
 read_source (pieces.Word stem ∷ ps) = with_operands stem ps

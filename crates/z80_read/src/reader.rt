@@ -37,8 +37,8 @@ fn bracketed<'a>(pieces: &[Piece<'a>]) -> Form80<'a>
 }
 
 /// The form of an operand.
-fn form<'a>(pieces: &[Piece<'a>]) -> Form80<'a>
-    ensures { seen result ≡ reading.form (map shown pieces.now) }
+fn operand_form<'a>(pieces: &[Piece<'a>]) -> Form80<'a>
+    ensures { seen result ≡ reading.operand_form (map shown pieces.now) }
 {
     match pieces {
         [] => Form80::Nothing,
@@ -59,8 +59,8 @@ fn with_operands<'a>(stem: &'a [u8], pieces: &[Piece<'a>]) -> Source80<'a>
         },
         [_, rest @ ..] => Source80 {
             stem,
-            first: form(first_operand(rest)),
-            second: form(second_operand(rest)),
+            first: operand_form(first_operand(rest)),
+            second: operand_form(second_operand(rest)),
         },
     }
 }

@@ -22,7 +22,7 @@ use Rattle.md_asm_text.specs.Pieces as pieces
 use Rattle.md_asm_text.specs.Pieces.{Piece, is_worded, is_name, split, told}
 use Rattle.md_asm_text.proofs.Splits.{is_end, number_2, number_4, mark_split, word_split}
 use Rattle.z80_read.specs.Forms.{Form, Nothing, AtWord, Displaced, Bare, AtNumber, Worded}
-use Rattle.z80_read.specs.Reading.{form}
+use Rattle.z80_read.specs.Reading.{operand_form}
 
 pub behind : (p : Piece) (xs ys : List Piece) → xs ≡ ys → p ∷ xs ≡ p ∷ ys
 behind p xs ys e = ap (λ (l : List Piece). p ∷ l) e
@@ -176,7 +176,7 @@ place_split (places.AtIy by) e h ends = iy_split by e (byte_fits by h)
 place_split (places.At address) e h ends = at_word_split address e (word_fits address h)
 place_split (places.Number n) e h ends = byte_split n e (byte_fits n h) ends
 
-place_read : (place : Place8) → form (place_pieces place) ≡ place_form place
+place_read : (place : Place8) → operand_form (place_pieces place) ≡ place_form place
 place_read places.A = refl
 place_read places.B = refl
 place_read places.C = refl
@@ -270,7 +270,7 @@ operand_split (operands.Word n) e h ends = word_number_split n e (word_fits n h)
 operand_split (operands.AtWord address) e h ends = at_word_split address e (word_fits address h)
 operand_split (operands.ByteAndWord byte word) e h ends = cc
 
-pub operand_read : (o : Operand80) → form (operand_pieces o) ≡ form_of o
+pub operand_read : (o : Operand80) → operand_form (operand_pieces o) ≡ form_of o
 operand_read operands.Nothing = refl
 operand_read (operands.Place place) = place_read place
 operand_read (operands.Register pair) = refl
