@@ -10,7 +10,7 @@ use Rattle.md_word.proofs.Agree.{range, same_at}
 use Rattle.z80_decode.proofs.Table.{decoded_is_nested}
 use Rattle.z80_decode.specs.Fields.{memory_of, place_of, lower, pair_of, stacked_of, condition_of, bit_of}
 use Rattle.z80_decode.specs.Instructions.{decoded}
-use Rattle.z80_decode.specs.Nested.{of_bytes, bits, shift, arithmetic, accumulator, block, block_op, relative_jumps, pair_loads, memory_loads, pair_steps, step, number_loads, low_group, loads, returns, jumps, calls, control, by_opcode, low_names_hl, names_hl, indexed, ports, pairs_extended, modes, specials, extended, nested}
+use Rattle.z80_decode.specs.Nested.{of_bytes, bits, shift, arithmetic, accumulator, block_of, block_op, relative_jumps, pair_loads, memory_loads, pair_steps, step, number_loads, low_group, loads, returns, jumps, calls, control, by_opcode, low_names_hl, names_hl, indexed, ports, pairs_extended, modes, specials, extended, nested}
 use Rattle.z80_encode.specs.Coded80.{AreBytes}
 use Rattle.z80_encode.specs.Encoding80.{encoded, opcode_of, operands, prefixes}
 use Rattle.z80_encode.proofs.Again80.{is_prefix}
@@ -41,7 +41,7 @@ unfolding range place_of bit_of bits shift prefixes opcode_of operands encoded
 codes_bits b2 b3 = refl
 
 codes_extended : (b2 b3 : ℕ) → b2 < 256 → map (λ w. own (extended w b2 b3)) (range 256 0) ≡ map (λ w. front 0xed w b2 b3 (extended w b2 b3)) (range 256 0)
-unfolding range place_of pair_of extended ports pairs_extended modes specials block block_op prefixes opcode_of operands encoded
+unfolding range place_of pair_of extended ports pairs_extended modes specials block_of block_op prefixes opcode_of operands encoded
 codes_extended b2 b3 h = rw (low_byte b2 b3 h, high_byte b2 b3 h) refl
 
 codes_plain : (b1 b2 b3 : ℕ) → b1 < 256 → map (unless_prefix (λ w. own (by_opcode indexes.Hl w b1 b2))) (range 256 0) ≡ map (unless_prefix (λ w. front w b1 b2 b3 (by_opcode indexes.Hl w b1 b2))) (range 256 0)

@@ -121,9 +121,9 @@ module _ {Chip Shared Pins : Type 0} (rules : Rules Chip Shared Pins) (chip_ok :
       go (inr few) = few
 
   -- two runs from one machine to one cycle are equal
-  pub one-run : (m w z : Machine Chip Shared) (t : ℕ) (first second : List Entry) → IsRunTo rules m t w first → IsRunTo rules m t z second
+  pub same-run : (m w z : Machine Chip Shared) (t : ℕ) (first second : List Entry) → IsRunTo rules m t w first → IsRunTo rules m t z second
       → AreSame rules w z × (first ≡ second)
-  one-run m w z t first second one two = (
+  same-run m w z t first second one two = (
     record {
       shared = one.shared ∙ ap (λ n. (run rules m n).shared) moves ∙ sym two.shared;
       chip = λ i h. one.chips i h ∙ ap (λ n. (run rules m n).chip i) moves ∙ sym (two.chips i h);

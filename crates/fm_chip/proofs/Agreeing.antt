@@ -5,7 +5,7 @@ use Rattle.fm_env.specs.declared.state.EnvelopeState.TheVariants.{Attack, Decay,
 use Rattle.fm_voice.specs.Phase.{key_code, step_of}
 use Rattle.fm_chip.specs.declared.shapes.Shapes.{Shapes}
 use Rattle.fm_chip.specs.declared.steps.Steps.{Steps}
-use Rattle.fm_chip.specs.Registers.{base, frequency, frequency_at, frequency_place, rate, rate_value, rated, sustain_level}
+use Rattle.fm_chip.specs.Registers.{base, frequency_of, frequency_at, frequency_place, rate, rate_value, rated, sustain_level}
 use Rattle.fm_chip.specs.Lfo.{gain}
 use Rattle.fm_chip.specs.Operators.{phase_step}
 use Rattle.fm_chip.specs.Steps.{AreSteps, steps_of}
@@ -33,8 +33,8 @@ far : (r : List ℕ) (c n : ℕ) → 0x30 ≤ frequency_place r c n
 unfolding frequency_place
 far r c n = grind arith
 
-frequency-same : (r t : List ℕ) → Agree r t → (c n : ℕ) → frequency r c n ≡ frequency t c n
-unfolding frequency
+frequency-same : (r t : List ℕ) → Agree r t → (c n : ℕ) → frequency_of r c n ≡ frequency_of t c n
+unfolding frequency_of
 frequency-same r t a c n =
     let place = frequency_place t c n in
     let low = far t c n in

@@ -12,7 +12,7 @@ use Rattle.fm_chip.specs.Operators.{advanced}
 use Rattle.fm_chip.specs.Steps.{steps_of}
 use Rattle.fm_chip.specs.Shapes.{all_enveloped_by, ready_by, shapes_of}
 use Rattle.fm_chip.specs.Channels.{AreAtRest, IsQuiet, all_advanced, blank, channel_after, channel_at, channel_value, chosen, ready, replaces, sounded, value, voice_of}
-use Rattle.fm_chip.specs.Synth.{IsIdle, Synth, left_below, left_of, moment, right_below, right_of, sides}
+use Rattle.fm_chip.specs.Synth.{IsIdle, Synth, left_below, left_of, moment_of, right_below, right_of, sides}
 use Rattle.fm_chip.proofs.Quiet.{quiet-heard, quiet-sounded, with_last}
 use Rattle.fm_chip.proofs.Rests.{all_rest}
 use Rattle.fm_chip.proofs.Shaped.{ready_is}
@@ -88,4 +88,4 @@ right-idle registers m channels six rest off (suc c) most =
 
 pub sides-idle : (k : ℕ) (s : Synth) → length s.channels ≡ 6 → IsIdle s → (pos 0, pos 0) ≡ sides k s
 unfolding sides
-sides-idle k s six idle = sym (λ i. (left-idle s.registers (moment k s) s.channels six idle.channels idle.converter 6 (omega arith) i, right-idle s.registers (moment k s) s.channels six idle.channels idle.converter 6 (omega arith) i))
+sides-idle k s six idle = sym (λ i. (left-idle s.registers (moment_of k s) s.channels six idle.channels idle.converter 6 (omega arith) i, right-idle s.registers (moment_of k s) s.channels six idle.channels idle.converter 6 (omega arith) i))

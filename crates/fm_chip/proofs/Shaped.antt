@@ -8,7 +8,7 @@ use Rattle.fm_chip.specs.declared.channels.Channel.{Channel}
 use Rattle.fm_chip.specs.declared.channels.Moment.{Moment}
 use Rattle.fm_chip.specs.declared.shapes.Shapes.{Shapes}
 use Rattle.fm_chip.specs.Registers.{rate, sustain_level}
-use Rattle.fm_chip.specs.Operators.{attenuation, envelope_of, enveloped, kept}
+use Rattle.fm_chip.specs.Operators.{attenuation, envelope_of, enveloped, given_envelope}
 use Rattle.fm_chip.specs.Channels.{all_enveloped, attenuations, ready}
 use Rattle.fm_chip.specs.Shapes.{shape_of, shapes_of, rate_in, enveloped_by, attenuation_by, all_enveloped_by, ready_by, attenuations_by}
 
@@ -23,7 +23,7 @@ enveloped-is : (registers : List ℕ) (c n counter : ℕ) (o : Operator)
     → enveloped_by (shape_of registers c n) counter o ≡ enveloped registers counter c n o
 unfolding enveloped_by enveloped shape_of
 enveloped-is registers c n counter o =
-    ap (λ r. kept (ticked counter r (sustain_level registers c n) (envelope_of o)) o) (rate_in-is registers c n (stepping_state (envelope_of o)))
+    ap (λ r. given_envelope (ticked counter r (sustain_level registers c n) (envelope_of o)) o) (rate_in-is registers c n (stepping_state (envelope_of o)))
 
 all_enveloped-is : (registers : List ℕ) (c counter : ℕ) (ch : Channel)
     → all_enveloped_by (shapes_of registers c) counter ch ≡ all_enveloped registers counter c ch

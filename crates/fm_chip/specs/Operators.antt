@@ -5,7 +5,7 @@ use Rattle.fm_env.specs.Envelopes.{EnvelopeValue, stepping_state, ticked, keyed}
 use Rattle.fm_env.specs.declared.state.EnvelopeState.TheVariants.{Release}
 use Rattle.fm_voice.specs.Phase.{step_of}
 use Rattle.fm_chip.specs.declared.operator.Operator.{Operator}
-use Rattle.fm_chip.specs.Registers.{frequency, rate, of_operator, sustain_level}
+use Rattle.fm_chip.specs.Registers.{frequency_of, rate, of_operator, sustain_level}
 use Rattle.fm_chip.specs.Lfo.{gain}
 
 -- what holds of each operator
@@ -23,13 +23,13 @@ abbrev pub envelope_of : Operator → EnvelopeValue
 envelope_of o = record { v = o.v; state = o.state; on = o.on }
 
 -- the operator with another envelope
-abbrev pub kept : EnvelopeValue → Operator → Operator
-kept l o = record { phase = o.phase; v = l.v; state = l.state; on = l.on }
+abbrev pub given_envelope : EnvelopeValue → Operator → Operator
+given_envelope l o = record { phase = o.phase; v = l.v; state = l.state; on = l.on }
 
 -- the operator after a tick of its envelope
 unfoldable pub enveloped : List ℕ → ℕ → ℕ → ℕ → Operator → Operator
 enveloped registers counter c n o =
-    kept (ticked counter (rate registers c n (stepping_state (envelope_of o))) (sustain_level registers c n) (envelope_of o)) o
+    given_envelope (ticked counter (rate registers c n (stepping_state (envelope_of o))) (sustain_level registers c n) (envelope_of o)) o
 
 -- the attenuation: the envelope, the level and tremolo
 unfoldable pub attenuation : List ℕ → ℕ → ℕ → ℕ → ℕ → ℕ
@@ -39,7 +39,7 @@ attenuation registers tremolo c n v =
 -- the step of its phase, by its frequency with vibrato at q of its 32 places, its detune and its multiple
 unfoldable pub phase_step : List ℕ → ℕ → ℕ → ℕ → ℕ → ℕ
 phase_step registers depth q c n =
-    step_of (frequency registers c n).fnum (gain (frequency registers c n).fnum depth q) (frequency registers c n).block
+    step_of (frequency_of registers c n).fnum (gain (frequency_of registers c n).fnum depth q) (frequency_of registers c n).block
     (of_operator registers c n 0x30 / 16 % 8) (of_operator registers c n 0x30 % 16)
 
 -- the phase a step on
@@ -48,4 +48,4 @@ advanced step o = record { phase = (o.phase + step) % 2 ^ 20; v = o.v; state = o
 
 -- its key put on or off; one that goes on starts the phase again
 unfoldable pub pressed : Bool → ℕ → Operator → Operator
-pressed on attack o = kept (keyed on attack (envelope_of o)) (record o { phase = if on && not o.on then 0 else o.phase })
+pressed on attack o = given_envelope (keyed on attack (envelope_of o)) (record o { phase = if on && not o.on then 0 else o.phase })

@@ -39,8 +39,8 @@ frequency_at registers place = record {
 }
 
 -- the frequency of an operator
-unfoldable pub frequency : List ℕ → ℕ → ℕ → Frequency
-frequency registers c o = frequency_at registers (frequency_place registers c o)
+unfoldable pub frequency_of : List ℕ → ℕ → ℕ → Frequency
+frequency_of registers c o = frequency_at registers (frequency_place registers c o)
 
 -- the rate of a value R
 unfoldable pub rated : ℕ → ℕ → ℕ → ℕ
@@ -57,7 +57,7 @@ rate_value registers c o Release = of_operator registers c o 0x80 % 16 * 2 + 1
 unfoldable pub rate : List ℕ → ℕ → ℕ → EnvelopeState → ℕ
 rate registers c o state =
     rated (rate_value registers c o state)
-    (key_code (frequency registers c o).fnum (frequency registers c o).block)
+    (key_code (frequency_of registers c o).fnum (frequency_of registers c o).block)
     (of_operator registers c o 0x50 / 64)
 
 -- the level at which decay ends

@@ -10,7 +10,7 @@ use Rattle.fm_chip.specs.declared.operator.Operator.{Operator}
 use Rattle.fm_chip.specs.declared.channels.Channel.{Channel}
 use Rattle.fm_chip.specs.declared.channels.Moment.{Moment}
 use Rattle.fm_chip.specs.Registers.{of_operator, rate, sustain_level}
-use Rattle.fm_chip.specs.Operators.{envelope_of, kept}
+use Rattle.fm_chip.specs.Operators.{envelope_of, given_envelope}
 
 -- the shape of operator n of channel c
 unfoldable pub shape_of : List ℕ → ℕ → ℕ → Shape
@@ -76,7 +76,7 @@ rate_in s Release = s.release
 
 -- the operator after a tick of an envelope of this shape
 unfoldable pub enveloped_by : Shape → ℕ → Operator → Operator
-enveloped_by s counter o = kept (ticked counter (rate_in s (stepping_state (envelope_of o))) s.sustain_level (envelope_of o)) o
+enveloped_by s counter o = given_envelope (ticked counter (rate_in s (stepping_state (envelope_of o))) s.sustain_level (envelope_of o)) o
 
 -- the attenuation v with the total level, and with tremolo where the shape has it: at most 1023
 unfoldable pub attenuation_by : Shape → ℕ → ℕ → ℕ

@@ -131,8 +131,8 @@ unfoldable pub counted : ℕ → ℕ → ℕ
 counted k counter = if k % 3 == 0 then (counter + 1) % 4096 else counter
 
 -- what all channels share
-unfoldable pub moment : ℕ → Synth → Moment
-moment k s = record {
+unfoldable pub moment_of : ℕ → Synth → Moment
+moment_of k s = record {
   ticks = (k % 3 == 0);
   counter = counted k s.counter;
   t = (stepped (at s.registers 0x22) s.lfo).t;
@@ -164,7 +164,7 @@ channels_after registers m channels = map (λ c. channel_after registers m c (ch
 
 -- the sums of both sides, the left one first
 unfoldable pub sides : ℕ → Synth → ℤ × ℤ
-sides k s = (left_below s.registers (moment k s) s.channels 6, right_below s.registers (moment k s) s.channels 6)
+sides k s = (left_below s.registers (moment_of k s) s.channels 6, right_below s.registers (moment_of k s) s.channels 6)
 
 -- the chip after the sample
 unfoldable pub sampled : ℕ → Synth → Synth
@@ -173,7 +173,7 @@ sampled k s = record {
   latches = s.latches;
   lfo = stepped (at s.registers 0x22) s.lfo;
   counter = counted k s.counter;
-  channels = channels_after s.registers (moment k s) s.channels;
+  channels = channels_after s.registers (moment_of k s) s.channels;
 }
 
 -- the sums of the two sides lie within six levels

@@ -5,7 +5,7 @@ ghost use Rattle.fm_chip.specs.Shapes.{IsShape, attenuation_by, enveloped_by};
 ghost use Rattle.fm_env.specs.Envelopes.{plain};
 
 use crate::lfo::gain;
-use crate::registers::{DETUNE_MULTIPLE, Registers, frequency, of_operator};
+use crate::registers::{DETUNE_MULTIPLE, Registers, frequency_of, of_operator};
 use crate::shapes::Shape;
 use fm_env::{Envelope, EnvelopeState};
 use fm_voice::step_of;
@@ -39,7 +39,7 @@ impl Operator {
     /// Takes its envelope back.
     fn keep(&mut self, envelope: &Envelope)
         requires { IsOperator self.old }
-        ensures value { self.new ≡ meaning.kept (plain envelope.now) self.old }
+        ensures value { self.new ≡ meaning.given_envelope (plain envelope.now) self.old }
         ensures operator { IsOperator self.new }
     {
         self.v = envelope.v;
@@ -123,7 +123,7 @@ pub fn phase_step(registers: &Registers, depth: u32, place: u32, channel: u32, o
     ensures value { result ≡ meaning.phase_step registers.now depth place channel operator }
     ensures below { result < 2 ^ 21 }
 {
-    let frequency = frequency(registers, channel, operator);
+    let frequency = frequency_of(registers, channel, operator);
     let tune = of_operator(registers, channel, operator, DETUNE_MULTIPLE);
     step_of(
         frequency.fnum,

@@ -73,11 +73,11 @@ fn frequency_place(registers: &Registers, channel: u32, operator: u32) -> u32
 }
 
 /// The frequency of an operator: its channel's, or one of its own in channel 3.
-#[tactic(auto, unfolding(crate::specs::Registers::frequency))]
-pub fn frequency(registers: &Registers, channel: u32, operator: u32) -> Frequency
+#[tactic(auto, unfolding(crate::specs::Registers::frequency_of))]
+pub fn frequency_of(registers: &Registers, channel: u32, operator: u32) -> Frequency
     requires channel { channel < 6 }
     requires operator { operator < 4 }
-    ensures value { result ≡ meaning.frequency registers.now channel operator }
+    ensures value { result ≡ meaning.frequency_of registers.now channel operator }
     ensures fnum { result.fnum < 2048 }
     ensures block { result.block < 8 }
 {
@@ -131,7 +131,7 @@ pub fn rate(registers: &Registers, channel: u32, operator: u32, state: EnvelopeS
     ensures value { result ≡ meaning.rate registers.now channel operator state }
     ensures below { result < 64 }
 {
-    let frequency = frequency(registers, channel, operator);
+    let frequency = frequency_of(registers, channel, operator);
     let scale = of_operator(registers, channel, operator, SCALE_ATTACK) / 64;
     rated(
         rate_value(registers, channel, operator, state),

@@ -5,8 +5,8 @@ ghost use Rattle.fm_chip.specs.Shapes as meaning;
 ghost use Rattle.fm_chip.specs.Shapes.{AreShapes, IsShape, AreInRange};
 
 use crate::registers::{
-    Registers, SCALE_ATTACK, TOTAL_LEVEL, TREMOLO_DECAY, frequency, of_operator, rate_value, rated,
-    sustain_level,
+    Registers, SCALE_ATTACK, TOTAL_LEVEL, TREMOLO_DECAY, frequency_of, of_operator, rate_value,
+    rated, sustain_level,
 };
 use fm_env::EnvelopeState;
 use fm_voice::key_code;
@@ -86,7 +86,7 @@ fn shape_of(registers: &Registers, channel: u32, operator: u32) -> Shape
     ensures value { result ≡ meaning.shape_of registers.now channel operator }
     ensures range { IsShape result }
 {
-    let frequency = frequency(registers, channel, operator);
+    let frequency = frequency_of(registers, channel, operator);
     let code = key_code(frequency.fnum, frequency.block);
     let scale = of_operator(registers, channel, operator, SCALE_ATTACK) / 64;
     Shape {

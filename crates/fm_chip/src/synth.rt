@@ -182,7 +182,7 @@ impl FmSynth {
 
     /// Makes sample number `k` of an idle chip: apart, so that it stays out of the way of samples that sound.
     #[inline(never)]
-    #[tactic(auto, unfolding(crate::specs::Synth::moment, crate::specs::Synth::counted, crate::specs::Synth::sampled))]
+    #[tactic(auto, unfolding(crate::specs::Synth::moment_of, crate::specs::Synth::counted, crate::specs::Synth::sampled))]
     fn rest(&mut self, k: u64) -> (i32, i32)
         requires { IsIdle self.old }
         ensures sides { result ≡ sides k self.old }
@@ -200,7 +200,7 @@ impl FmSynth {
     }
 
     /// Makes sample number `k`: the sums of the left and the right side.
-    #[tactic(auto, unfolding(crate::specs::Synth::moment, crate::specs::Synth::counted, crate::specs::Synth::sides, crate::specs::Synth::sampled))]
+    #[tactic(auto, unfolding(crate::specs::Synth::moment_of, crate::specs::Synth::counted, crate::specs::Synth::sides, crate::specs::Synth::sampled))]
     fn sample(&mut self, k: u64) -> (i32, i32)
         ensures sides { result ≡ sides k self.old }
         ensures range { IsSides result }

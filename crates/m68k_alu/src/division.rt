@@ -33,7 +33,7 @@ fn divisor_of(signed: bool, source: u16) -> i64
 
 /// The quotient, rounded towards 0.
 #[tactic(auto, using(std::proofs::lemmas::Int::ints))]
-fn quotient(dividend: i64, divisor: i64) -> i64
+fn truncated_quotient(dividend: i64, divisor: i64) -> i64
     requires zero { divisor ≢ pos 0 }
     requires least { negsuc 0x7fff_ffff ≤ℤ dividend }
     requires greatest { dividend ≤ℤ pos 0xffff_ffff }
@@ -86,7 +86,7 @@ fn divided(signed: bool, source: u16, target: u32) -> Quotient
     }
     let dividend = dividend_of(signed, target);
     let divisor = divisor_of(signed, source);
-    let quotient = quotient(dividend, divisor);
+    let quotient = truncated_quotient(dividend, divisor);
     if fits_word(signed, quotient) {
         Quotient::Value(packed(quotient, remainder(dividend, divisor)))
     } else {

@@ -118,26 +118,26 @@ rows-permit w = matching-permits (lines_of (w / 4096)) w (lines-allow (w / 4096)
 
 -- MODES
 
-mode-number : (m r : ℕ) (size : Size) (k : ℕ) (words : List ℕ) → m < 8 → mode_number m r < 12 → number_of (mode_of m r size k words) ≡ mode_number m r
+number-of-mode : (m r : ℕ) (size : Size) (k : ℕ) (words : List ℕ) → m < 8 → mode_number m r < 12 → number_of (mode_of m r size k words) ≡ mode_number m r
 unfolding mode_of
-mode-number zero r size k words h below = refl
-mode-number (suc zero) r size k words h below = refl
-mode-number (suc (suc zero)) r size k words h below = refl
-mode-number (suc (suc (suc zero))) r size k words h below = refl
-mode-number (suc (suc (suc (suc zero)))) r size k words h below = refl
-mode-number (suc (suc (suc (suc (suc zero))))) r size k words h below = refl
-mode-number (suc (suc (suc (suc (suc (suc zero)))))) r size k words h below = refl
-mode-number (suc (suc (suc (suc (suc (suc (suc zero))))))) zero size k words h below = refl
-mode-number (suc (suc (suc (suc (suc (suc (suc zero))))))) (suc zero) size k words h below = refl
-mode-number (suc (suc (suc (suc (suc (suc (suc zero))))))) (suc (suc zero)) size k words h below = refl
-mode-number (suc (suc (suc (suc (suc (suc (suc zero))))))) (suc (suc (suc zero))) size k words h below = refl
-mode-number (suc (suc (suc (suc (suc (suc (suc zero))))))) (suc (suc (suc (suc zero)))) size k words h below = refl
-mode-number (suc (suc (suc (suc (suc (suc (suc zero))))))) (suc (suc (suc (suc (suc r))))) size k words h below = absurd (omega arith)
-mode-number (suc (suc (suc (suc (suc (suc (suc (suc m)))))))) r size k words h below = absurd (omega arith)
+number-of-mode zero r size k words h below = refl
+number-of-mode (suc zero) r size k words h below = refl
+number-of-mode (suc (suc zero)) r size k words h below = refl
+number-of-mode (suc (suc (suc zero))) r size k words h below = refl
+number-of-mode (suc (suc (suc (suc zero)))) r size k words h below = refl
+number-of-mode (suc (suc (suc (suc (suc zero))))) r size k words h below = refl
+number-of-mode (suc (suc (suc (suc (suc (suc zero)))))) r size k words h below = refl
+number-of-mode (suc (suc (suc (suc (suc (suc (suc zero))))))) zero size k words h below = refl
+number-of-mode (suc (suc (suc (suc (suc (suc (suc zero))))))) (suc zero) size k words h below = refl
+number-of-mode (suc (suc (suc (suc (suc (suc (suc zero))))))) (suc (suc zero)) size k words h below = refl
+number-of-mode (suc (suc (suc (suc (suc (suc (suc zero))))))) (suc (suc (suc zero))) size k words h below = refl
+number-of-mode (suc (suc (suc (suc (suc (suc (suc zero))))))) (suc (suc (suc (suc zero)))) size k words h below = refl
+number-of-mode (suc (suc (suc (suc (suc (suc (suc zero))))))) (suc (suc (suc (suc (suc r))))) size k words h below = absurd (omega arith)
+number-of-mode (suc (suc (suc (suc (suc (suc (suc (suc m)))))))) r size k words h below = absurd (omega arith)
 
 pub low-number : (size : Size) (k : ℕ) (words : List ℕ) → low_mode_number (opcode words) < 12 → number_of (low_mode size k words) ≡ low_mode_number (opcode words)
 unfolding low_mode
-low-number size k words below = mode-number (opcode words / 8 % 8) (opcode words % 8) size k words (omega arith) below
+low-number size k words below = number-of-mode (opcode words / 8 % 8) (opcode words % 8) size k words (omega arith) below
 
 kept : (class : ℕ → Bool) (size : Size) (k : ℕ) (words : List ℕ) → low_mode_number (opcode words) < 12 → class (low_mode_number (opcode words)) ≡ true → class (number_of (low_mode size k words)) ≡ true
 kept class size k words below is = rw (low-number size k words below) is

@@ -6,8 +6,8 @@ ghost use Rattle.m68k_decode.specs.Ops.{IsInstruction};
 
 use crate::addressing::{is_alterable, is_byte_of_address, is_data_alterable};
 use crate::fields::{
-    condition, displacement, high_register, low_byte, low_register, quick_number, second_word,
-    size, words_of_displacement,
+    condition_of, displacement_of, high_register, low_byte, low_register, quick_number,
+    second_word, size, words_of_displacement,
 };
 use crate::illegal::unmatched;
 use crate::operand::low_operand;
@@ -33,7 +33,7 @@ fn scc(words: &[u16; 5], into: &mut Decoded)
     ensures instruction { IsInstruction into.new }
 {
     let operand = low_operand(words, Size::Byte, 1);
-    *into = Decoded::of_words(operand.end, Op::Scc(condition(words), operand.mode))
+    *into = Decoded::of_words(operand.end, Op::Scc(condition_of(words), operand.mode))
 }
 
 #[tactic(auto, unfolding(crate::specs::Instructions::made))]
@@ -43,7 +43,7 @@ fn dbcc(words: &[u16; 5], into: &mut Decoded)
 {
     *into = Decoded::of_words(
         2,
-        Op::Dbcc(condition(words), low_register(words), second_word(words)),
+        Op::Dbcc(condition_of(words), low_register(words), second_word(words)),
     )
 }
 
@@ -52,7 +52,7 @@ fn bra(words: &[u16; 5], into: &mut Decoded)
     ensures value { into.new ≡ instructions.made rows.Bra words.now }
     ensures instruction { IsInstruction into.new }
 {
-    let by = displacement(words);
+    let by = displacement_of(words);
     *into = Decoded::of_words(1 + words_of_displacement(by), Op::Bra(by))
 }
 
@@ -61,7 +61,7 @@ fn bsr(words: &[u16; 5], into: &mut Decoded)
     ensures value { into.new ≡ instructions.made rows.Bsr words.now }
     ensures instruction { IsInstruction into.new }
 {
-    let by = displacement(words);
+    let by = displacement_of(words);
     *into = Decoded::of_words(1 + words_of_displacement(by), Op::Bsr(by))
 }
 
@@ -70,8 +70,11 @@ fn bcc(words: &[u16; 5], into: &mut Decoded)
     ensures value { into.new ≡ instructions.made rows.Bcc words.now }
     ensures instruction { IsInstruction into.new }
 {
-    let by = displacement(words);
-    *into = Decoded::of_words(1 + words_of_displacement(by), Op::Bcc(condition(words), by))
+    let by = displacement_of(words);
+    *into = Decoded::of_words(
+        1 + words_of_displacement(by),
+        Op::Bcc(condition_of(words), by),
+    )
 }
 
 #[tactic(auto, unfolding(crate::specs::Instructions::made))]

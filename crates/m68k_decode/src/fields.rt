@@ -130,7 +130,7 @@ pub fn quick_number(words: &[u16; 5]) -> u8
 
 /// The condition in bits 11 to 8.
 #[tactic(auto, unfolding(crate::specs::Fields::condition_of))]
-pub fn condition(words: &[u16; 5]) -> Condition
+pub fn condition_of(words: &[u16; 5]) -> Condition
     ensures { result ≡ fields.condition_of words.now }
 {
     let word = words[0];
@@ -156,7 +156,7 @@ pub fn condition(words: &[u16; 5]) -> Condition
 
 /// The displacement of a branch.
 #[tactic(auto, unfolding(crate::specs::Fields::displacement_of))]
-pub fn displacement(words: &[u16; 5]) -> Displacement
+pub fn displacement_of(words: &[u16; 5]) -> Displacement
     ensures { result ≡ fields.displacement_of words.now }
 {
     match low_byte(words) {

@@ -5,9 +5,9 @@ use Rattle.m68k_exec.specs.Access.Actions.{Done, go_on, write_word}
 use Rattle.m68k_exec.specs.Sample.Entries.{places, pushed}
 use Rattle.m68k_exec.specs.Access.Memory.{Memory}
 
-pub step : (count k : ℕ) (words : List ℕ) (stack : ℕ) (memory : Memory) (done : Done) → k < count → pushed (count - k) k words stack memory done ≡ go_on (write_word ((stack + 2 ^ 32 - slice_index places k) % 2 ^ 32) (slice_index words k) memory done) (λ x after. pushed (count - (k + 1)) (k + 1) words stack memory after)
-step count k words stack memory done h =
+pub push_step : (count k : ℕ) (words : List ℕ) (stack : ℕ) (memory : Memory) (done : Done) → k < count → pushed (count - k) k words stack memory done ≡ go_on (write_word ((stack + 2 ^ 32 - slice_index places k) % 2 ^ 32) (slice_index words k) memory done) (λ x after. pushed (count - (k + 1)) (k + 1) words stack memory after)
+push_step count k words stack memory done h =
     let e : count - k ≡ suc (count - (k + 1)) = omega arith in rw e refl
 
-pub end : (count k : ℕ) (words : List ℕ) (stack : ℕ) (memory : Memory) (done : Done) → count - k ≡ 0 → pushed (count - k) k words stack memory done ≡ Ok (tt, done)
-end count k words stack memory done h = rw h refl
+pub push_end : (count k : ℕ) (words : List ℕ) (stack : ℕ) (memory : Memory) (done : Done) → count - k ≡ 0 → pushed (count - k) k words stack memory done ≡ Ok (tt, done)
+push_end count k words stack memory done h = rw h refl

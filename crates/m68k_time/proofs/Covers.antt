@@ -215,15 +215,15 @@ read-long (Address n) = omega arith
 read-long (Immediate value) = omega arith
 read-long _ = omega arith
 
-to-registers : (size : Size) (mode : Mode) → 4 * touches_of size mode + 4 ≤ by_size size 4 (by_source mode 8 6) + address_time size mode
-to-registers Byte mode = omega (arith, read Byte mode)
-to-registers Word mode = omega (arith, read Word mode)
-to-registers Long mode = omega (arith, read Long mode, read-long mode)
+to-data-registers : (size : Size) (mode : Mode) → 4 * touches_of size mode + 4 ≤ by_size size 4 (by_source mode 8 6) + address_time size mode
+to-data-registers Byte mode = omega (arith, read Byte mode)
+to-data-registers Word mode = omega (arith, read Word mode)
+to-data-registers Long mode = omega (arith, read Long mode, read-long mode)
 
 to-addresses : (size : Size) (mode : Mode) → 4 * touches_of size mode + 4 ≤ by_size size 8 (by_source mode 8 6) + address_time size mode
 to-addresses Byte mode = omega (arith, read Byte mode)
 to-addresses Word mode = omega (arith, read Word mode)
-to-addresses Long mode = to-registers Long mode
+to-addresses Long mode = to-data-registers Long mode
 
 compared : (size : Size) → 4 * (2 * moves_of size) + 4 ≤ by_size size 12 20
 compared Byte = omega arith
@@ -281,7 +281,7 @@ row-covers-modes (ops.Divu n mode) spent is counted = omega (arith, read Word mo
 row-covers-modes (ops.Divs n mode) spent is counted = omega (arith, read Word mode)
 row-covers-modes (ops.Decimal task source target) spent is counted = pairs Byte source target 6 6 (omega arith) (omega arith) is
 row-covers-modes (ops.Extended task size source target) spent is counted = pairs size source target 4 8 (omega arith) (omega arith) is
-row-covers-modes (ops.ToRegister task size n mode) spent is counted = to-registers size mode
+row-covers-modes (ops.ToRegister task size n mode) spent is counted = to-data-registers size mode
 row-covers-modes (ops.ToMemory task size n mode) spent is counted = twice size mode 8 12 (omega arith) (omega arith)
 row-covers-modes (ops.ToAddress task size n mode) spent is counted = to-addresses size mode
 row-covers-modes (ops.Cmp size n mode) spent is counted = once size mode 4 6 (omega arith) (omega arith)

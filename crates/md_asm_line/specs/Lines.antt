@@ -13,12 +13,12 @@ pub record Line : Type 0 where
   pub body : Body
 
 -- what a text without blanks at either end is
-abbrev pub body : List ℕ → Body
-body [] = Nothing
-body (c ∷ cs) = told (pieces (c ∷ cs))
+abbrev pub body_of : List ℕ → Body
+body_of [] = Nothing
+body_of (c ∷ cs) = told (pieces (c ∷ cs))
 
 abbrev pub with_body : Option (List ℕ) → List ℕ → Line
-with_body label text = record { label = label; text = text; body = body text }
+with_body label text = record { label = label; text = text; body = body_of text }
 
 abbrev pub bad : Line
 bad = record { label = None; text = []; body = Bad }

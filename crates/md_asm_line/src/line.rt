@@ -27,7 +27,7 @@ pub struct Line<'a> {
 /// What a text without blanks at either end is, by its pieces.
 fn body_of(text: &[u8], pieces: &[Piece<'_>]) -> Body
     requires { map shown pieces.now ≡ texts.pieces text.now }
-    ensures { result ≡ lines.body text.now }
+    ensures { result ≡ lines.body_of text.now }
 {
     if text.is_empty() {
         Body::Nothing

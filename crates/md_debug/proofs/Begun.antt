@@ -96,6 +96,6 @@ first_alone m (suc (suc n)) some none =
     ∙ append-nil (begun_by m (suc n))
     ∙ first_alone m (suc n) (omega arith) (λ k later within. none k later (omega arith))
 
-pub one-begins : Known → (m : Console) (n : ℕ) → HasValidParts m → least_of m < last_cycle → AllBelow m (least_of m + 1) n → 1 ≤ n → begun_by m n ≡ option_to_list (begins_in m)
-one-begins known m n has far below some =
+pub one-has-begun : Known → (m : Console) (n : ℕ) → HasValidParts m → least_of m < last_cycle → AllBelow m (least_of m + 1) n → 1 ≤ n → begun_by m n ≡ option_to_list (begins_in m)
+one-has-begun known m n has far below some =
     first_alone m n some (λ k later within. begins_none (ran m k) (not_again known m n far has below k later within))

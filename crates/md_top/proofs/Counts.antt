@@ -17,8 +17,8 @@ whole_of true false end is = let early : end % frame_cycles true ≤ finished_at
 whole_frames : (pal : Bool) (end : ℕ) → frames_below pal end ≡ count_of_frames pal end
 whole_frames pal end = whole_of pal (nat_lt (finished_at pal) (end % frame_cycles pal)) end refl
 
-pub frames-counted : (pal : Bool) (at end : ℕ) → frames_below pal end - frames_below pal at ≡ frames_between pal at end
-frames-counted pal at end = ap (λ (n : ℕ). n - frames_below pal at) (whole_frames pal end) ∙ ap (λ (n : ℕ). count_of_frames pal end - n) (whole_frames pal at)
+pub frames-left : (pal : Bool) (at end : ℕ) → frames_below pal end - frames_below pal at ≡ frames_between pal at end
+frames-left pal at end = ap (λ (n : ℕ). n - frames_below pal at) (whole_frames pal end) ∙ ap (λ (n : ℕ). count_of_frames pal end - n) (whole_frames pal at)
 
 pub pairs-counted : (at end : ℕ) → 16 * (batches_below end - batches_below at) ≡ pairs_between at end
 pairs-counted at end = omega arith

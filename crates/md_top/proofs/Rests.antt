@@ -17,7 +17,7 @@ use Rattle.md_top.specs.Counts.{frames_between}
 use Rattle.md_top.specs.Limits.{IsEnd}
 use Rattle.md_top.specs.Resuming.{GoesOnFrom, IsKept, RunsWell, StateLaws}
 use Rattle.md_top.specs.Runs.{RunLaws, entries_from, halted_from, media_from, moves_from, run_from, state_to}
-use Rattle.md_top.proofs.Counts.{frames-counted, pairs-counted}
+use Rattle.md_top.proofs.Counts.{frames-left, pairs-counted}
 use Rattle.md_top.proofs.LeastRuns.{Found, Later, later_run, run-found, run-made}
 
 -- the saved state goes on as the run
@@ -58,7 +58,7 @@ ends-here start machine accesses finished came told states lists end saved =
       least = made;
       lists = lists;
       from = refl;
-      frames = told ∙ sym (came.laws.frames_counted (run_from start machine.at) machine.at (entries_from start machine.at) (media_from start machine.at) came.from made ∙ frames-counted start.console.pal start.at machine.at);
+      frames = told ∙ sym (came.laws.frames_counted (run_from start machine.at) machine.at (entries_from start machine.at) (media_from start machine.at) came.from made ∙ frames-left start.console.pal start.at machine.at);
       samples = sym (came.laws.levels_counted (run_from start machine.at) machine.at (entries_from start machine.at) (media_from start machine.at) came.from made ∙ pairs-counted start.at machine.at);
       accesses = came.counted;
       halted = ap (λ (m : Console). m.main.halted) found.console;

@@ -76,9 +76,9 @@ segment_made start at to before after laws small within first second =
     }
 
 -- a run has no more entries than cycles and chips
-pub few-entries : (start : Start) (at : ℕ) (after : Console) → RunLaws start → at ≤ 2 ^ 50 → IsRunTo start.console at after (entries_from start at) (media_from start at)
+pub entries-fit : (start : Start) (at : ℕ) (after : Console) → RunLaws start → at ≤ 2 ^ 50 → IsRunTo start.console at after (entries_from start at) (media_from start at)
     → length (entries_from start at) ≤ at - start.at + 5
-few-entries start at after laws small run =
+entries-fit start at after laws small run =
     omega (arith, ap length run.entered, laws.few_entries run.moves, laws.few_events at run.moves small run.below)
 
 -- at the start nothing was made

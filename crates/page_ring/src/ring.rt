@@ -38,7 +38,7 @@ impl Model for PageRing {
 }
 
 /// The page at a place of a state.
-fn page(state: &[u8], place: usize) -> &[u8; PAGE]
+fn page_of_state(state: &[u8], place: usize) -> &[u8; PAGE]
     requires { (place + 1) * 4096 ≤ length state.now }
     ensures { result.now ≡ page_at state.now place }
 {
@@ -70,7 +70,7 @@ fn compare(shelf: &Shelf, per_state: usize, state: &[u8], changed: &mut [bool; M
 {
     let mut count = 0;
     for place in 0..per_state {
-        let is_changed = differ(page(state, place), shelf.bytes(place));
+        let is_changed = differ(page_of_state(state, place), shelf.bytes(place));
         changed[place] = is_changed;
         if is_changed {
             count += 1;
@@ -135,7 +135,7 @@ fn put_state(shelf: &mut Shelf, per_state: usize, state: &[u8], changed: &[bool;
     while place > 0 {
         place -= 1;
         if changed[place] {
-            shelf.put(*page(state, place));
+            shelf.put(*page_of_state(state, place));
         } else {
             shelf.share(per_state - 1);
         }

@@ -35,16 +35,16 @@ use Rattle.save_state.specs.declared.layout.Part.{Part}
 use Rattle.save_state.specs.Items.{at_of, region_of, holder_in, main_bytes, sub_bytes, shared_bytes, drawing_bytes, IsMain, MainFails, IsSub, SubFails, chip_fails, holder_fails, IsShared, SharedFails, board_fails, resets_fail, IsPicture, DrawingFails, IsFm, FmFails, synth_fails, next_fails, writes_fail, IsPsg, PsgFails, psg_synth_fails, psg_next_fails, psg_writes_fail}
 use Rattle.save_state.specs.Layout.{are_ordered, main_part, sub_parts, shared_parts, drawing_part, fm_part, psg_part, part_of}
 use Rattle.save_state.specs.Joining.{Reads, FailsIn, both, KeepsBoth, Either}
-use Rattle.save_state.specs.Pieces.{Pieces, Kept, Fails, built}
+use Rattle.save_state.specs.Pieces.{Pieces, KeepsPieces, Fails, built}
 use Rattle.md_fields.proofs.Refusals.{failed}
 use Rattle.save_state.proofs.Joins.{fine, joined}
 use Rattle.save_state.proofs.Places.{from_first}
 
 -- ---- the items together
 
-pub pieces_read : (cart : List ℕ) (recording : Recorded) (bytes : List ℕ) (m : Result Chip68Value Unspell) (s : Result Chip80Value Unspell) (b : Result Board Unspell) (d : Result Drawing Unspell) (f : Result fm_synths.Synth Unspell) (p : Result psg_synths.Synth Unspell) (processors : Result (Chip68Value × Chip80Value) Unspell) (board : Result (Board × Drawing) Unspell) (sound : Result (fm_synths.Synth × psg_synths.Synth) Unspell) (rest : Result ((Board × Drawing) × (fm_synths.Synth × psg_synths.Synth)) Unspell) (all : Result Pieces Unspell) → processors ≡ both m s → board ≡ both b d → sound ≡ both f p → rest ≡ both board sound → all ≡ both processors rest → Reads (IsMain cart bytes) (MainFails cart bytes) m → Reads (IsSub cart bytes) (SubFails cart bytes) s → Reads (IsShared recording bytes) (SharedFails bytes) b → Reads (IsPicture bytes) (DrawingFails bytes) d → Reads (IsFm bytes) (FmFails bytes) f → Reads (IsPsg bytes) (PsgFails bytes) p → Reads (Kept cart recording bytes) (Fails cart bytes) all
+pub pieces_read : (cart : List ℕ) (recording : Recorded) (bytes : List ℕ) (m : Result Chip68Value Unspell) (s : Result Chip80Value Unspell) (b : Result Board Unspell) (d : Result Drawing Unspell) (f : Result fm_synths.Synth Unspell) (p : Result psg_synths.Synth Unspell) (processors : Result (Chip68Value × Chip80Value) Unspell) (board : Result (Board × Drawing) Unspell) (sound : Result (fm_synths.Synth × psg_synths.Synth) Unspell) (rest : Result ((Board × Drawing) × (fm_synths.Synth × psg_synths.Synth)) Unspell) (all : Result Pieces Unspell) → processors ≡ both m s → board ≡ both b d → sound ≡ both f p → rest ≡ both board sound → all ≡ both processors rest → Reads (IsMain cart bytes) (MainFails cart bytes) m → Reads (IsSub cart bytes) (SubFails cart bytes) s → Reads (IsShared recording bytes) (SharedFails bytes) b → Reads (IsPicture bytes) (DrawingFails bytes) d → Reads (IsFm bytes) (FmFails bytes) f → Reads (IsPsg bytes) (PsgFails bytes) p → Reads (KeepsPieces cart recording bytes) (Fails cart bytes) all
 pieces_read cart recording bytes m s b d f p processors board sound rest all ep eb es er ea rm rs rb rd rf rp =
-    subst (Reads (Kept cart recording bytes) (Fails cart bytes)) (sym ea) (
+    subst (Reads (KeepsPieces cart recording bytes) (Fails cart bytes)) (sym ea) (
     joined (KeepsBoth (IsMain cart bytes) (IsSub cart bytes)) (KeepsBoth (KeepsBoth (IsShared recording bytes) (IsPicture bytes)) (KeepsBoth (IsFm bytes) (IsPsg bytes))) (Either (MainFails cart bytes) (SubFails cart bytes)) (Either (Either (SharedFails bytes) (DrawingFails bytes)) (Either (FmFails bytes) (PsgFails bytes))) processors rest
     (subst (Reads (KeepsBoth (IsMain cart bytes) (IsSub cart bytes)) (Either (MainFails cart bytes) (SubFails cart bytes))) (sym ep) (joined (IsMain cart bytes) (IsSub cart bytes) (MainFails cart bytes) (SubFails cart bytes) m s rm rs))
     (subst (Reads (KeepsBoth (KeepsBoth (IsShared recording bytes) (IsPicture bytes)) (KeepsBoth (IsFm bytes) (IsPsg bytes))) (Either (Either (SharedFails bytes) (DrawingFails bytes)) (Either (FmFails bytes) (PsgFails bytes)))) (sym er) (
@@ -79,7 +79,7 @@ from_fails cart bytes p right (psg_is_wrong h) = inr (inr (inr h))
 pieces_of : MachineValue → Pieces
 pieces_of m = ((record { cart = m.console.cart; state = m.console.main }, m.console.sub), ((m.console.shared, drawing_in m.console), (m.console.fm, m.console.psg)))
 
-kept_of : (cart : List ℕ) (recording : Recorded) (bytes : List ℕ) (m : MachineValue) → IsMachineOf cart recording bytes m → Kept cart recording bytes (pieces_of m)
+kept_of : (cart : List ℕ) (recording : Recorded) (bytes : List ℕ) (m : MachineValue) → IsMachineOf cart recording bytes m → KeepsPieces cart recording bytes (pieces_of m)
 unfolding pieces_of
 kept_of cart recording bytes m is = ((is.main, is.sub), ((is.shared, is.drawing), (is.fm, is.psg)))
 
@@ -87,7 +87,7 @@ kept_of cart recording bytes m is = ((is.main, is.sub), ((is.shared, is.drawing)
 again : (at : ℕ) (t : Pieces) → drawing.IsDrained t.1.0.1 → t.1.0.1 ≡ drawing_in (built at t).console
 again at t is = λ i. record { next = t.1.0.1.next; note = t.1.0.1.note; has_view = is.view i; picture = t.1.0.1.picture; frame = is.frame i; pal = t.1.0.1.pal }
 
-machine_is : (cart : List ℕ) (recording : Recorded) (bytes : List ℕ) (at : ℕ) (t : Pieces) → at ≡ at_of bytes → IsAtRight bytes → Kept cart recording bytes t → IsMachineOf cart recording bytes (built at t)
+machine_is : (cart : List ℕ) (recording : Recorded) (bytes : List ℕ) (at : ℕ) (t : Pieces) → at ≡ at_of bytes → IsAtRight bytes → KeepsPieces cart recording bytes t → IsMachineOf cart recording bytes (built at t)
 machine_is cart recording bytes at t e right k = record {
   at = e;
   begun = omega (arith, e, right.0.0);
@@ -133,7 +133,7 @@ one_machine cart recording bytes at t m e is same =
 
 -- ---- what is answered
 
-pub machine_refused : (cart : List ℕ) (recording : Recorded) (bytes : List ℕ) (all : Result Pieces Unspell) (fault : Unspell) → IsAtRight bytes → all ≡ failed fault → Reads (Kept cart recording bytes) (Fails cart bytes) all → Reads (IsMachineOf cart recording bytes) (FailsAt cart bytes) (failed fault)
+pub machine_refused : (cart : List ℕ) (recording : Recorded) (bytes : List ℕ) (all : Result Pieces Unspell) (fault : Unspell) → IsAtRight bytes → all ≡ failed fault → Reads (KeepsPieces cart recording bytes) (Fails cart bytes) all → Reads (IsMachineOf cart recording bytes) (FailsAt cart bytes) (failed fault)
 machine_refused cart recording bytes all fault right e r = record {
   found = tt;
   only = λ m is n. (
@@ -155,9 +155,9 @@ machine_refused cart recording bytes all fault right e r = record {
       let g : fault ≡ Rule p = cc in
       ap (λ (x : Unspell). failed {T = Pieces} x) g
 
-pub machine_read : (cart : List ℕ) (recording : Recorded) (bytes : List ℕ) (at : ℕ) (t : Pieces) (m : MachineValue) (all : Result Pieces Unspell) → at ≡ at_of bytes → IsAtRight bytes → all ≡ fine t → m ≡ built at t → Reads (Kept cart recording bytes) (Fails cart bytes) all → Reads {T = MachineValue} (IsMachineOf cart recording bytes) (FailsAt cart bytes) (fine m)
+pub machine_read : (cart : List ℕ) (recording : Recorded) (bytes : List ℕ) (at : ℕ) (t : Pieces) (m : MachineValue) (all : Result Pieces Unspell) → at ≡ at_of bytes → IsAtRight bytes → all ≡ fine t → m ≡ built at t → Reads (KeepsPieces cart recording bytes) (Fails cart bytes) all → Reads {T = MachineValue} (IsMachineOf cart recording bytes) (FailsAt cart bytes) (fine m)
 machine_read cart recording bytes at t m all ea right e made r0 =
-    let r : Reads {T = Pieces} (Kept cart recording bytes) (Fails cart bytes) (fine t) = subst (Reads (Kept cart recording bytes) (Fails cart bytes)) e r0 in
+    let r : Reads {T = Pieces} (KeepsPieces cart recording bytes) (Fails cart bytes) (fine t) = subst (Reads (KeepsPieces cart recording bytes) (Fails cart bytes)) e r0 in
     record {
       found = subst (IsMachineOf cart recording bytes) (sym made) (machine_is cart recording bytes at t ea right r.found);
       only = λ x is n. (
@@ -332,5 +332,5 @@ pub right_at : (bytes : List ℕ) (at region : ℕ) → at ≡ at_of bytes → 1
 right_at bytes at region e low high f few = (right_cycle bytes at e low high, omega (arith, f, few))
 
 -- the two halves of the VDP are of the state's region
-pub one_region : (cart : List ℕ) (recording : Recorded) (bytes : List ℕ) (t : Pieces) → Kept cart recording bytes t → t.1.0.1.pal ≡ t.1.0.0.vdp.pal
+pub one_region : (cart : List ℕ) (recording : Recorded) (bytes : List ℕ) (t : Pieces) → KeepsPieces cart recording bytes t → t.1.0.1.pal ≡ t.1.0.0.vdp.pal
 one_region cart recording bytes t k = k.1.0.1.region ∙ sym k.1.0.0.spells.vdp.region

@@ -18,8 +18,8 @@ abbrev pub Pieces : Type 0
 Pieces = (Chip68Value × Chip80Value) × ((Board × Drawing) × (fm_synths.Synth × psg_synths.Synth))
 
 -- the bytes keep these pieces, of this cartridge and this recording
-abbrev pub Kept : List ℕ → Recorded → List ℕ → Pieces → Type 0
-Kept cart recording bytes =
+abbrev pub KeepsPieces : List ℕ → Recorded → List ℕ → Pieces → Type 0
+KeepsPieces cart recording bytes =
     KeepsBoth (KeepsBoth (IsMain cart bytes) (IsSub cart bytes)) (KeepsBoth (KeepsBoth (IsShared recording bytes) (IsPicture bytes)) (KeepsBoth (IsFm bytes) (IsPsg bytes)))
 
 -- some piece fails at this place of the bytes

@@ -11,7 +11,7 @@ ghost use Rattle.save_state.specs.Items.{at_of, region_of, IsMain, MainFails, Is
 ghost use Rattle.m68k_chip.specs.States.{next_of};
 ghost use Rattle.z80_chip.specs.States.{next_of as sub_next_of};
 ghost use Rattle.save_state.specs.Joining.{Reads};
-ghost use Rattle.save_state.specs.Pieces.{Kept, Fails, built};
+ghost use Rattle.save_state.specs.Pieces.{KeepsPieces, Fails, built};
 ghost use Rattle.save_state.specs.Layout.{digest_part, part_of, state_size};
 ghost use Rattle.md_word.specs.Clock.{last_cycle};
 ghost use Rattle.save_state.specs.States.{IsNewest};
@@ -203,7 +203,7 @@ fn read_pieces(
     requires region { pal ≡ region_of bytes.now }
     requires begun { 1 ≤ at }
     requires near { at ≤ last_cycle }
-    ensures { Reads (Kept (arc_value cart) (arc_value recording) bytes.now) (Fails (arc_value cart) bytes.now) result }
+    ensures { Reads (KeepsPieces (arc_value cart) (arc_value recording) bytes.now) (Fails (arc_value cart) bytes.now) result }
 {
     let window = cart.clone()?;
     let processors = both(

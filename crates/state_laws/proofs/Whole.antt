@@ -37,7 +37,7 @@ use Rattle.save_state.specs.OldPads.{FailsUnder, HasOthers, HasPads, IsMachineUn
 use Rattle.std.specs.Int.{w16}
 use Rattle.md_fields.specs.Places.{number_at}
 use Rattle.save_state.specs.Layout.{digest_part, drawing_part, fm_part, fm_port_part, gathered, main_part, mark_part, part_of, psg_part, psg_port_part, region_part, shared_parts, sub_parts}
-use Rattle.save_state.specs.Pieces.{Fails, Kept, Pieces, built}
+use Rattle.save_state.specs.Pieces.{Fails, KeepsPieces, Pieces, built}
 use Rattle.save_state.specs.States.{IsNewest, are_fm_early, are_psg_early, mark}
 use Rattle.save_state.specs.Versions.{HasVersion, IsOtherCart, IsState, IsWrongAt, from_first, from_second, mark_of, migrated, other_size, place_back, size_of, strange, unmarked}
 use Rattle.save_state.proofs.Joins.{fine, reads_ruled}
@@ -128,7 +128,7 @@ judged_machine cart recording bytes m is = record {
 
 -- ---- the machine
 
-pieces_answered : (cart : List ℕ) (recording : Recorded) (bytes : List ℕ) → Judged cart recording bytes → Answered (Kept cart recording bytes) (Fails cart bytes)
+pieces_answered : (cart : List ℕ) (recording : Recorded) (bytes : List ℕ) → Judged cart recording bytes → Answered (KeepsPieces cart recording bytes) (Fails cart bytes)
 pieces_answered cart recording bytes j =
     let processors = two (IsMain cart bytes) (IsSub cart bytes) (MainFails cart bytes) (SubFails cart bytes) (main_answered cart bytes j.main) (sub_answered cart bytes j.sub) in
     let board = two (IsShared recording bytes) (IsPicture bytes) (SharedFails bytes) (DrawingFails bytes) (shared_answered recording bytes j.shared) (drawing_answered bytes j.drawing) in
@@ -140,7 +140,7 @@ pieces_answered cart recording bytes j =
 same_fault : {T U : Type 0} (fault : Unspell) → failed {T = T} fault ≡ failed NoMemory → failed {T = U} fault ≡ failed NoMemory
 same_fault {T} {U} fault e = let f : fault ≡ NoMemory = cc in ap (λ (x : Unspell). failed {T = U} x) f
 
-from_pieces : (cart : List ℕ) (recording : Recorded) (bytes : List ℕ) → IsAtRight bytes → (p : Answered (Kept cart recording bytes) (Fails cart bytes)) (all : Result Pieces Unspell) → p.answer ≡ all
+from_pieces : (cart : List ℕ) (recording : Recorded) (bytes : List ℕ) → IsAtRight bytes → (p : Answered (KeepsPieces cart recording bytes) (Fails cart bytes)) (all : Result Pieces Unspell) → p.answer ≡ all
     → Answered (IsMachineOf cart recording bytes) (FailsAt cart bytes)
 from_pieces cart recording bytes right p (Ok t) e = record {
   answer = Ok (built (at_of bytes) t);

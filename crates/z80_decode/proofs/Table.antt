@@ -12,7 +12,7 @@ use Rattle.z80_decode.specs.Lines.{TableLine, matching, matches, plain_lines, in
 use Rattle.std.proofs.lemmas.Bool.{and_parts}
 use Rattle.std.proofs.lemmas.Bool.Decides.{nat_tests}
 use Rattle.z80_decode.specs.Instructions.{AtMostOneRow, HasRows, Page, looked_up, OpcodeEntry, Plain, Bits, Extended, Indexed, IndexedBits, entry, entry_of, prefixed, rows_of, chosen, decoded}
-use Rattle.z80_decode.specs.Nested.{of_bytes, bits, shift, arithmetic, accumulator, block, block_op, relative_jumps, pair_loads, memory_loads, pair_steps, step, number_loads, low_group, loads, returns, jumps, calls, control, by_opcode, low_names_hl, names_hl, indexed, ports, pairs_extended, modes, specials, extended, nested}
+use Rattle.z80_decode.specs.Nested.{of_bytes, bits, shift, arithmetic, accumulator, block_of, block_op, relative_jumps, pair_loads, memory_loads, pair_steps, step, number_loads, low_group, loads, returns, jumps, calls, control, by_opcode, low_names_hl, names_hl, indexed, ports, pairs_extended, modes, specials, extended, nested}
 use Rattle.z80_decode.specs.Ops.{IsInstruction, is_op}
 
 -- an opcode that is a prefix
@@ -49,7 +49,7 @@ unfolding range matching matches indexed_bit_lines bit_of bits shift
 agree_indexed_bits index first second = refl
 
 agree_extended : (first second : ℕ) → map (λ w. told (matching extended_lines w) (entry Extended 2 indexes.Hl w first second)) (range 256 0) ≡ map (λ w. right (extended w first second)) (range 256 0)
-unfolding range matching matches extended_lines place_of pair_of extended ports pairs_extended modes specials block block_op
+unfolding range matching matches extended_lines place_of pair_of extended ports pairs_extended modes specials block_of block_op
 agree_extended first second = refl
 
 -- what follows DD or FD and is not CB
@@ -133,7 +133,7 @@ kinds_indexed_bits indexes.Ix displacement = refl
 kinds_indexed_bits indexes.Iy displacement = refl
 
 kinds_extended : (first second : ℕ) → map (λ w. decoded_is (extended w first second)) (range 256 0) ≡ map (λ w. true) (range 256 0)
-unfolding range place_of pair_of extended ports pairs_extended modes specials block block_op
+unfolding range place_of pair_of extended ports pairs_extended modes specials block_of block_op
 kinds_extended first second = refl
 
 kinds_ix : (first second : ℕ) → map (λ w. decoded_is (after_index indexes.Ix first second w)) (range 256 0) ≡ map (λ w. true) (range 256 0)

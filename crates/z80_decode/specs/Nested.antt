@@ -66,8 +66,8 @@ shift code =
     tasks.Srl
 
 -- how a block instruction steps and whether it repeats, by bits 4 and 3
-unfoldable pub block : ℕ → Block
-block code =
+unfoldable pub block_of : ℕ → Block
+block_of code =
     if code == 0 then blocks.Increment else
     if code == 1 then blocks.Decrement else
     if code == 2 then blocks.IncrementRepeat else
@@ -284,7 +284,7 @@ extended w first second =
     if nat_lt (lower w) 7 then modes w else
     specials w
     ) else
-    if w / 32 == 5 && nat_lt (lower w) 4 then of_bytes 2 (block_op (lower w) (block (w / 8 % 4))) else
+    if w / 32 == 5 && nat_lt (lower w) 4 then of_bytes 2 (block_op (lower w) (block_of (w / 8 % 4))) else
     undefined w
 
 -- what four bytes decode to: the operation, and how many of them it takes

@@ -1,7 +1,7 @@
 ghost use Rattle.std.specs.Prelude.{◌≡◌};
 ghost use Rattle.z80_decode.specs.Nested as nested;
 
-use crate::fields::{arithmetic, condition, stacked, word};
+use crate::fields::{arithmetic, condition_of, stacked, word};
 use crate::{Decoded80, Index, Op80, Place8};
 
 /// POP, RET, EXX, JP (HL) and LD SP,HL.
@@ -56,11 +56,11 @@ pub fn control(index: Index, opcode: u8, first: u8, second: u8) -> Decoded80
 {
     let code = opcode >> 3 & 7;
     match opcode & 7 {
-        0 => Decoded80::plain(0, Op80::ReturnIf(condition(code))),
+        0 => Decoded80::plain(0, Op80::ReturnIf(condition_of(code))),
         1 => returns(index, opcode),
-        2 => Decoded80::plain(2, Op80::JumpIf(condition(code), word(first, second))),
+        2 => Decoded80::plain(2, Op80::JumpIf(condition_of(code), word(first, second))),
         3 => jumps(index, opcode, first, second),
-        4 => Decoded80::plain(2, Op80::CallIf(condition(code), word(first, second))),
+        4 => Decoded80::plain(2, Op80::CallIf(condition_of(code), word(first, second))),
         5 => calls(index, opcode, first, second),
         6 => Decoded80::plain(1, Op80::Arithmetic(arithmetic(code), Place8::Number(first))),
         _ => Decoded80::plain(0, Op80::Restart(8 * code)),

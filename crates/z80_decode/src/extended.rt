@@ -1,7 +1,7 @@
 ghost use Rattle.std.specs.Prelude.{◌≡◌};
 ghost use Rattle.z80_decode.specs.Nested as nested;
 
-use crate::fields::{pair, place, word};
+use crate::fields::{pair_of, place, word};
 use crate::{Block, Decoded80, Index, InterruptMode, Op80, Special};
 
 /// An opcode that is no instruction.
@@ -29,7 +29,7 @@ fn ports(opcode: u8) -> Decoded80
 fn pairs(opcode: u8, first: u8, second: u8) -> Decoded80
     ensures { result ≡ nested.pairs_extended opcode first second }
 {
-    let pair = pair(Index::Hl, opcode >> 4 & 3);
+    let pair = pair_of(Index::Hl, opcode >> 4 & 3);
     let address = word(first, second);
     match (opcode & 7, opcode >> 3 & 1) {
         (2, 1) => Decoded80::of_bytes(2, Op80::AddPairWithCarry(pair)),
@@ -72,9 +72,9 @@ fn specials(opcode: u8) -> Decoded80
 }
 
 /// How a block instruction steps.
-#[tactic(auto, unfolding(crate::specs::Nested::block))]
-fn block(code: u8) -> Block
-    ensures { result ≡ nested.block code }
+#[tactic(auto, unfolding(crate::specs::Nested::block_of))]
+fn block_of(code: u8) -> Block
+    ensures { result ≡ nested.block_of code }
 {
     match code {
         0 => Block::Increment,
@@ -107,7 +107,7 @@ pub fn extended(opcode: u8, first: u8, second: u8) -> Decoded80
         (2 | 3, 2 | 3) => pairs(opcode, first, second),
         (2 | 3, 4..=6) => modes(opcode),
         (2 | 3, _) => specials(opcode),
-        (5, 0..=3) => Decoded80::of_bytes(2, block_op(opcode & 7, block(opcode >> 3 & 3))),
+        (5, 0..=3) => Decoded80::of_bytes(2, block_op(opcode & 7, block_of(opcode >> 3 & 3))),
         _ => undefined(opcode),
     }
 }

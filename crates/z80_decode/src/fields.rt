@@ -94,7 +94,7 @@ pub fn register(index: Index) -> Pair
 
 /// The pair with the code dd or ss.
 #[tactic(auto, unfolding(crate::specs::Fields::pair_of))]
-pub fn pair(index: Index, code: u8) -> Pair
+pub fn pair_of(index: Index, code: u8) -> Pair
     ensures { result ≡ fields.pair_of index code }
 {
     match code {
@@ -120,7 +120,7 @@ pub fn stacked(index: Index, code: u8) -> Pair
 
 /// The condition with the code cc.
 #[tactic(auto, unfolding(crate::specs::Fields::condition_of))]
-pub fn condition(code: u8) -> Condition
+pub fn condition_of(code: u8) -> Condition
     ensures { result ≡ fields.condition_of code }
 {
     match code {

@@ -1,7 +1,7 @@
 ghost use Rattle.std.specs.Prelude.{◌≡◌};
 ghost use Rattle.z80_decode.specs.Nested as nested;
 
-use crate::fields::{condition, displaced, memory, pair, place, word};
+use crate::fields::{condition_of, displaced, memory, pair_of, place, word};
 use crate::{Decoded80, Index, Op80, Place8, Task80};
 
 /// NOP, EX AF,AF', DJNZ and JR.
@@ -14,7 +14,7 @@ fn relative_jumps(opcode: u8, first: u8) -> Decoded80
         1 => Decoded80::plain(0, Op80::ExchangeAf),
         2 => Decoded80::plain(1, Op80::DecrementAndJump(first)),
         3 => Decoded80::plain(1, Op80::JumpRelative(first)),
-        code => Decoded80::plain(1, Op80::JumpRelativeIf(condition(code & 3), first)),
+        code => Decoded80::plain(1, Op80::JumpRelativeIf(condition_of(code & 3), first)),
     }
 }
 
@@ -23,7 +23,7 @@ fn relative_jumps(opcode: u8, first: u8) -> Decoded80
 fn pair_loads(index: Index, opcode: u8, first: u8, second: u8) -> Decoded80
     ensures { result ≡ nested.pair_loads index opcode first second }
 {
-    let pair = pair(index, opcode >> 4 & 3);
+    let pair = pair_of(index, opcode >> 4 & 3);
     if opcode >> 3 & 1 == 1 {
         Decoded80::coded(index, 0, Op80::AddPair(index, pair))
     } else {
@@ -54,7 +54,7 @@ fn memory_loads(index: Index, opcode: u8, first: u8, second: u8) -> Decoded80
 fn pair_steps(index: Index, opcode: u8) -> Decoded80
     ensures { result ≡ nested.pair_steps index opcode }
 {
-    let pair = pair(index, opcode >> 4 & 3);
+    let pair = pair_of(index, opcode >> 4 & 3);
     if opcode >> 3 & 1 == 1 {
         Decoded80::coded(index, 0, Op80::DecrementPair(pair))
     } else {

@@ -12,7 +12,7 @@ use Rattle.md_word.proofs.Agree.{range, same_at}
 use Rattle.z80_decode.proofs.Table.{decoded_is_nested}
 use Rattle.z80_decode.specs.Fields.{memory_of, place_of, lower, pair_of, stacked_of, condition_of, bit_of}
 use Rattle.z80_decode.specs.Instructions.{decoded}
-use Rattle.z80_decode.specs.Nested.{of_bytes, bits, shift, arithmetic, accumulator, block, block_op, relative_jumps, pair_loads, memory_loads, pair_steps, step, number_loads, low_group, loads, returns, jumps, calls, control, by_opcode, low_names_hl, names_hl, ports, pairs_extended, modes, specials, extended, nested}
+use Rattle.z80_decode.specs.Nested.{of_bytes, bits, shift, arithmetic, accumulator, block_of, block_op, relative_jumps, pair_loads, memory_loads, pair_steps, step, number_loads, low_group, loads, returns, jumps, calls, control, by_opcode, low_names_hl, names_hl, ports, pairs_extended, modes, specials, extended, nested}
 use Rattle.z80_encode.specs.Coded80.{AreBytes}
 use Rattle.z80_encode.specs.Encoding80.{encoded, opcode_of, operands, prefixes}
 use Rattle.z80_read_laws.proofs.Pages.{by_index, by_page}
@@ -41,7 +41,7 @@ unfolding range bit_of bits shift prefixes opcode_of operands encoded
 sized_iy_bits first = refl
 
 sized_extended : (first second : ℕ) → map (λ w. sized (extended w first second)) (range 256 0) ≡ map (λ w. true) (range 256 0)
-unfolding range place_of pair_of extended ports pairs_extended modes specials block block_op prefixes opcode_of operands encoded
+unfolding range place_of pair_of extended ports pairs_extended modes specials block_of block_op prefixes opcode_of operands encoded
 sized_extended first second = refl
 
 sized_plain : (first second : ℕ) → map (λ w. sized (by_opcode indexes.Hl w first second)) (range 256 0) ≡ map (λ w. true) (range 256 0)

@@ -10,7 +10,7 @@ use Rattle.md_word.specs.Width.{extended as widened}
 use Rattle.md_word.specs.declared.size.Size.TheVariants.{Byte}
 use Rattle.md_word.proofs.Agree.{range}
 use Rattle.z80_decode.specs.Fields.{memory_of, place_of, lower, pair_of, stacked_of, condition_of, bit_of}
-use Rattle.z80_decode.specs.Nested.{of_bytes, bits, shift, arithmetic, accumulator, block, block_op, relative_jumps, pair_loads, memory_loads, pair_steps, step, number_loads, low_group, loads, returns, jumps, calls, control, by_opcode, low_names_hl, names_hl, ports, pairs_extended, modes, specials, extended}
+use Rattle.z80_decode.specs.Nested.{of_bytes, bits, shift, arithmetic, accumulator, block_of, block_op, relative_jumps, pair_loads, memory_loads, pair_steps, step, number_loads, low_group, loads, returns, jumps, calls, control, by_opcode, low_names_hl, names_hl, ports, pairs_extended, modes, specials, extended}
 use Rattle.md_disasm.specs.Rows80.{row_of, target}
 use Rattle.md_asm_text.specs.Pieces.{is_worded}
 use Rattle.z80_read_laws.specs.Instruction.{is_db}
@@ -47,7 +47,7 @@ unfolding range bit_of bits shift is_worded
 read_iy_bits at first h = rw (lt-ltb first 256 h) refl
 
 pub read_extended : (at first second : ℕ) → first < 256 → second < 256 → map (λ w. read at (extended w first second)) (range 256 0) ≡ map (λ w. true) (range 256 0)
-unfolding range place_of pair_of extended ports pairs_extended modes specials block block_op is_worded
+unfolding range place_of pair_of extended ports pairs_extended modes specials block_of block_op is_worded
 read_extended at first second h k = rw (word_true first second h k) refl
 
 pub read_plain : (at first second : ℕ) → first < 256 → second < 256 → map (λ w. read at (by_opcode indexes.Hl w first second)) (range 256 0) ≡ map (λ w. true) (range 256 0)

@@ -12,7 +12,7 @@ use Rattle.md_word.specs.declared.size.Size.TheVariants.{Byte}
 use Rattle.md_word.proofs.Agree.{range}
 use Rattle.z80_decode.specs.Fields.{memory_of, place_of, lower}
 use Rattle.z80_decode.specs.Fields as fields
-use Rattle.z80_decode.specs.Nested.{of_bytes, bits, shift, arithmetic, accumulator, block, block_op, relative_jumps, pair_loads, memory_loads, pair_steps, step, number_loads, low_group, loads, returns, jumps, calls, control, by_opcode, low_names_hl, names_hl, ports, pairs_extended, modes, specials, extended}
+use Rattle.z80_decode.specs.Nested.{of_bytes, bits, shift, arithmetic, accumulator, block_of, block_op, relative_jumps, pair_loads, memory_loads, pair_steps, step, number_loads, low_group, loads, returns, jumps, calls, control, by_opcode, low_names_hl, names_hl, ports, pairs_extended, modes, specials, extended}
 use Rattle.md_disasm.specs.Rows80.{Row80, row_of, target}
 use Rattle.z80_read.specs.Building.{built, distance, meant, stem_in, stem_of}
 use Rattle.z80_read.specs.Words as words
@@ -66,7 +66,7 @@ unfolding range fields.bit_of bits shift meant stem_of stem_in built words.displ
 built_iy_bits at first h = rw (byte_stays first h) refl
 
 pub built_extended : (at first second : ℕ) → first < 256 → second < 256 → map (λ w. again at (extended w first second)) (range 256 0) ≡ map (λ w. kept (extended w first second)) (range 256 0)
-unfolding range fields.place_of fields.pair_of extended ports pairs_extended modes specials block block_op meant stem_of stem_in built words.register8 words.at_pair words.pair_of words.is_pair words.index_of words.is_index words.mode_of words.special_of words.is_special
+unfolding range fields.place_of fields.pair_of extended ports pairs_extended modes specials block_of block_op meant stem_of stem_in built words.register8 words.at_pair words.pair_of words.is_pair words.index_of words.is_index words.mode_of words.special_of words.is_special
 built_extended at first second h k = rw (word_stays first second h k) refl
 
 -- opcodes 00h to 3Fh

@@ -1,6 +1,6 @@
 // Encodings of Zilog UM0080, "Z80 Instruction Description": most of them the manual's own examples.
 // Bytes that are no part of an instruction are AAh.
-use crate::names::named;
+use crate::names::name_of;
 use z80_decode::decode;
 
 // The bytes; the name and the operands; the numbers in these, and the length.
@@ -319,7 +319,7 @@ static ROWS: [Row; 191] = [
 fn is_told(row: &Row) -> bool {
     let (bytes, texts, numbers) = row;
     let decoded = decode(bytes);
-    let (shown, [displacement, number]) = named(decoded.op);
+    let (shown, [displacement, number]) = name_of(decoded.op);
     shown == *texts && [displacement, number, u16::from(decoded.length)] == *numbers
 }
 
@@ -334,7 +334,7 @@ fn encodings_of_each_group(rt: HostRuntime) {
 fn count(prefix: u8, name: &str) -> u32 {
     let mut count = 0u32;
     for opcode in 0..=255u8 {
-        let (texts, _numbers) = named(decode(&[prefix, opcode, 0, 0]).op);
+        let (texts, _numbers) = name_of(decode(&[prefix, opcode, 0, 0]).op);
         if texts[0] == name {
             count = count.wrapping_add(1);
         }

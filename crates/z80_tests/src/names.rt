@@ -205,7 +205,7 @@ fn control(op: Op80) -> Named {
 }
 
 /// The name of an instruction.
-pub fn named(op: Op80) -> Named {
+pub fn name_of(op: Op80) -> Named {
     match op {
         Op80::Load(target, source) => load(target, source),
         Op80::LoadFromSpecial(register) => (["ld", "a", special(register)], [0, 0]),

@@ -40,7 +40,7 @@ fn frame_for(exception: Exception, vector: u32, regs: &Regs) -> Frame
 }
 
 /// Pushes the words of a frame, of a long first the word at the lower address.
-#[tactic(auto, using(crate::proofs::Pushes::step, crate::proofs::Pushes::end))]
+#[tactic(auto, using(crate::proofs::Pushes::push_step, crate::proofs::Pushes::push_end))]
 fn push_words(
     words: &[u16],
     stack: u32,

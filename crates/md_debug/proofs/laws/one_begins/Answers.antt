@@ -1,5 +1,5 @@
 use Rattle.md_machine.proofs.QuietStays.{keys-rise}
-use Rattle.md_debug.proofs.Begun.{Known, one-begins}
+use Rattle.md_debug.proofs.Begun.{Known, one-has-begun}
 use Rattle.md_debug.proofs.laws.one_begins.Goals as goal
 
 pub returns : goal.returns
@@ -9,4 +9,4 @@ returns c =
       rise = keys-rise c.stages.ensures.valid c.stages.ensures.mover c.limits.ensures.spread;
       paced = c.events_are_paced.ensures;
     } in
-    λ m moves has far below some. one-begins known m moves has far below some
+    λ m moves has far below some. one-has-begun known m moves has far below some

@@ -2,7 +2,7 @@ use Rattle.std.proofs.Common.{◌∙◌, arith}
 use Rattle.md_machine.specs.Starts.{Start}
 use Rattle.md_top.specs.Courses.{start_at}
 use Rattle.md_top.specs.Runs.{entries_from, media_from, run_from}
-use Rattle.md_top.proofs.Counts.{frames-counted}
+use Rattle.md_top.proofs.Counts.{frames-left}
 use Rattle.md_top.proofs.LeastRuns.{run-made}
 use Rattle.md_top.proofs.laws.frames_are_counted.Goals as goal
 
@@ -11,4 +11,4 @@ returns c =
     let start : Start = start_at c.args.machine.now in
     c.runs_keep_laws.ensures.frames_counted (run_from start c.args.end) c.args.end (entries_from start c.args.end) (media_from start c.args.end)
     c.requires.start (run-made start c.args.end c.runs_keep_laws.ensures (omega (arith, c.requires.near)))
-    ∙ frames-counted start.console.pal start.at c.args.end
+    ∙ frames-left start.console.pal start.at c.args.end

@@ -9,7 +9,7 @@ use Rattle.md_top.specs.Courses.{CameFrom, cycle_of}
 use Rattle.md_top.specs.Runs.{entries_from, media_from}
 use Rattle.md_top.specs.Workers.{WentOn}
 use Rattle.md_machine.proofs.Regions.{run_stays}
-use Rattle.md_top.proofs.Segments.{Segment, segment-came, few-entries, frame-room, frames_bytes-append, journal_bytes-append, paired, segment_made, sound_bytes-append}
+use Rattle.md_top.proofs.Segments.{Segment, segment-came, entries-fit, frame-room, frames_bytes-append, journal_bytes-append, paired, segment_made, sound_bytes-append}
 use Rattle.md_top.proofs.segment.advance.Goals as goal
 
 pub drain_frames-requires : goal.drain_frames-requires
@@ -51,7 +51,7 @@ overflow_add-course g c =
     let came : CameFrom start c.args.course.now = c.requires.underway.1 in
     let went : WentOn c.args.course.now.machine c.args.to c.go_on.new.arg2 = c.requires.goes _ c.args.to _ c.go_on.ensures in
     let few : length (entries_from start (cycle_of c.args.course.now)) ≤ cycle_of c.args.course.now - start.at + 5 =
-    few-entries start (cycle_of c.args.course.now) c.args.course.now.machine.console came.laws
+    entries-fit start (cycle_of c.args.course.now) c.args.course.now.machine.console came.laws
     (omega (arith, c.requires.later, c.requires.far)) came.run in
     omega (
       arith,
