@@ -19,7 +19,7 @@ settled_none cycle period enabled t h = sym (none_by cycle cycle period enabled 
 rem-more : (x period : ℕ) → 0 < period → (x + period) % period ≡ x % period
 rem-more x period h = grind arith
 
-either_twice : (a b : Bool) → ((a || b) || b) ≡ (a || b)
+pub either_twice : (a b : Bool) → ((a || b) || b) ≡ (a || b)
 either_twice true b = refl
 either_twice false true = refl
 either_twice false false = refl
@@ -83,7 +83,7 @@ step_any cycle period enabled t p h =
     ∙ (λ i. record { run = sym run i; next = last_overflow t.next cycle period + period; flag = t.flag || enabled })
     ∙ settled_due cycle period enabled t (last_overflow t.next cycle period + period) p h refl
 
-due_later : (a b : ℕ) (t : Timer) → a ≤ b → is_due a t ≡ true → is_due b t ≡ true
+pub due_later : (a b : ℕ) (t : Timer) → a ≤ b → is_due a t ≡ true → is_due b t ≡ true
 due_later a b t h d = grind (arith, h, d)
 
 due_or_not : (a : ℕ) (t : Timer) → (is_due a t ≡ true) ⊎ (is_due a t ≡ false)

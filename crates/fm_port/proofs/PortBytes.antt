@@ -22,6 +22,7 @@ use Rattle.md_fields.proofs.Standing.{IsBytes-drop, IsBytes-take}
 use Rattle.sound_writes.specs.Entries.{AreFit, entries_bytes}
 use Rattle.sound_writes.specs.Keys.{is_kept}
 use Rattle.sound_writes.proofs.Entries as entries
+use Rattle.sound_writes.proofs.Entries.{second_fails, third_fails}
 use Rattle.md_fields.proofs.Tables.{within_append, first_behind, first_front, spelling_append}
 use Rattle.fm_port.specs.Port.{IsPort, Port}
 use Rattle.fm_port.specs.PortSpelling.{are_saved_timers, PortGoesWrongAt, SavedPort, SpellsPort, are_right, at_most_2, are_writes, is_next, is_write, key_of, list_fields, number_fields, port_bytes, port_fields, port_from, port_with, saved_numbers, saved_port_of, saved_write_of, write_at, write_fields, write_from, writes_at, writes_from}
@@ -195,24 +196,15 @@ breaks_writes at bytes s fits long head none e =
       first = behind at (read_port bytes s) none ∙ first_by at (read_port bytes s) e;
     })
 
-and_none : (a b : Bool) → (a && (false && b)) ≡ false
-and_none true b = refl
-and_none false b = refl
-
-and_not : (a b : Bool) → (a && (b && false)) ≡ false
-and_not true true = refl
-and_not true false = refl
-and_not false b = refl
-
 -- a part of the writes' rule fails, and all hold
 pub too_many : (at count : ℕ) (entries : List ℕ) → 1024 < count → are_writes at count entries ≡ false
 too_many at count entries more = let none : nat_le count 1024 ≡ false = lt-leb count 1024 more in rw none refl
 
 pub not_right : (at count : ℕ) (entries : List ℕ) → are_right at (writes_at count entries) ≡ false → are_writes at count entries ≡ false
-not_right at count entries e = rw e (and_none (nat_le count 1024) (are_zeros (drop (12 * count) entries)))
+not_right at count entries e = rw e (second_fails (nat_le count 1024) (are_zeros (drop (12 * count) entries)))
 
 pub not_zeros : (at count : ℕ) (entries : List ℕ) → are_zeros (drop (12 * count) entries) ≡ false → are_writes at count entries ≡ false
-not_zeros at count entries e = rw e (and_not (nat_le count 1024) (are_right at (writes_at count entries)))
+not_zeros at count entries e = rw e (third_fails (nat_le count 1024) (are_right at (writes_at count entries)))
 
 pub all_right : (at count : ℕ) (entries : List ℕ) → count ≤ 1024 → are_right at (writes_at count entries) ≡ true
     → are_zeros (drop (12 * count) entries) ≡ true → are_writes at count entries ≡ true

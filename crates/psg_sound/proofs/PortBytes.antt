@@ -1,6 +1,6 @@
 -- Laws of the bytes that keep the port.
-use Rattle.std.proofs.Common.{◌≡◌, ℕ, ◌+◌, ◌*◌, ◌<◌, ◌≤◌, Bool, true, false, List, [], ◌∷◌, ◌++◌, length, get_or, map, take, drop, replicate, take_all, Some, ◌-◌, refl, sym, ap, subst, ◌∙◌, inr, arith}
-use Rattle.std.specs.Prelude.{All, ◌&&◌, nat_le}
+use Rattle.std.proofs.Common.{◌≡◌, ℕ, ◌+◌, ◌*◌, ◌<◌, ◌≤◌, true, false, List, [], ◌∷◌, ◌++◌, length, get_or, map, take, drop, replicate, take_all, Some, ◌-◌, refl, sym, ap, subst, ◌∙◌, inr, arith}
+use Rattle.std.specs.Prelude.{All, nat_le}
 use Rattle.std.specs.List.{list_all}
 use Rattle.std.specs.Int.{w16, to_be_bytes}
 use Rattle.std.proofs.lemmas.Bool.{and_parts, le-leb, leb-true, lt-leb, ltb-true}
@@ -16,6 +16,7 @@ use Rattle.md_fields.proofs.Standing.{IsBytes-drop, IsBytes-take}
 use Rattle.sound_writes.specs.Entries.{AreFit, entries_bytes}
 use Rattle.sound_writes.specs.Keys.{are_kept, is_kept}
 use Rattle.sound_writes.proofs.Entries as entries
+use Rattle.sound_writes.proofs.Entries.{second_fails, third_fails}
 use Rattle.psg_sound.specs.Port.{IsPort}
 use Rattle.psg_sound.specs.PortSpelling.{PortGoesWrongAt, SavedPort, SpellsPort, are_writes, key_of, port_bytes, port_fields, saved_port_of, write_at, write_fields, writes_at}
 use Rattle.psg_sound.specs.declared.write.PsgWrite.{PsgWrite}
@@ -74,24 +75,15 @@ rule_of at s right = (rules_hold 0 (port_fields at s) right).0
 pub breaks_port : (at : ℕ) (bytes : List ℕ) → IsBytes bytes → length bytes ≡ 10242 → are_writes at (read_port bytes) ≡ false → PortGoesWrongAt at bytes 0
 breaks_port at bytes fits long e = inr (record { saved = read_port bytes; keeps = keeps_port at bytes fits long; first = first_by at (read_port bytes) e })
 
-and_none : (a b : Bool) → (a && (false && b)) ≡ false
-and_none true b = refl
-and_none false b = refl
-
-and_not : (a b : Bool) → (a && (b && false)) ≡ false
-and_not true true = refl
-and_not true false = refl
-and_not false b = refl
-
 -- a part of the rule fails, and all hold
 pub too_many : (at : ℕ) (s : SavedPort) → 1024 < s.count → are_writes at s ≡ false
 too_many at s more = let none : nat_le s.count 1024 ≡ false = lt-leb s.count 1024 more in rw none refl
 
 pub not_kept : (at : ℕ) (s : SavedPort) → are_kept at (map key_of (writes_at s.count s.entries)) ≡ false → are_writes at s ≡ false
-not_kept at s e = rw e (and_none (nat_le s.count 1024) (are_zeros (drop (10 * s.count) s.entries)))
+not_kept at s e = rw e (second_fails (nat_le s.count 1024) (are_zeros (drop (10 * s.count) s.entries)))
 
 pub not_zeros : (at : ℕ) (s : SavedPort) → are_zeros (drop (10 * s.count) s.entries) ≡ false → are_writes at s ≡ false
-not_zeros at s e = rw e (and_not (nat_le s.count 1024) (are_kept at (map key_of (writes_at s.count s.entries))))
+not_zeros at s e = rw e (third_fails (nat_le s.count 1024) (are_kept at (map key_of (writes_at s.count s.entries))))
 
 pub all_right : (at : ℕ) (s : SavedPort) → s.count ≤ 1024 → are_kept at (map key_of (writes_at s.count s.entries)) ≡ true
     → are_zeros (drop (10 * s.count) s.entries) ≡ true → are_writes at s ≡ true

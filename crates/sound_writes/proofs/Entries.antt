@@ -1,5 +1,6 @@
 -- Entries that stand in bytes are those that are spelled there.
-use Rattle.std.proofs.Common.{◌≡◌, ℕ, zero, suc, ◌+◌, ◌*◌, ◌-◌, ◌<◌, ◌≤◌, true, List, [], ◌∷◌, ◌++◌, length, take, drop, refl, sym, ap, subst, ◌∙◌, append_assoc, arith}
+use Rattle.std.proofs.Common.{◌≡◌, ℕ, zero, suc, ◌+◌, ◌*◌, ◌-◌, ◌<◌, ◌≤◌, Bool, true, false, List, [], ◌∷◌, ◌++◌, length, take, drop, refl, sym, ap, subst, ◌∙◌, append_assoc, arith}
+use Rattle.std.specs.Prelude.{◌&&◌}
 use Rattle.std.proofs.lemmas.List.{take_at, length-append, append-nil, length-drop}
 use Rattle.md_fields.specs.Fields.{AreWithin, Field, block, sizes, spelling}
 use Rattle.md_fields.specs.Places.{IsBytes, Stand}
@@ -24,6 +25,16 @@ left_stands : (place : ℕ) (bytes : List ℕ) → place ≤ length bytes → St
 unfolding Stand
 left_stands place bytes le =
     (sym (take_at (drop place bytes) [] (length (drop place bytes)) refl) ∙ ap (take (length (drop place bytes))) (append-nil (drop place bytes)), omega (arith, length-drop place bytes))
+
+-- of three tests the second fails, or the third
+pub second_fails : (a b : Bool) → (a && (false && b)) ≡ false
+second_fails true b = refl
+second_fails false b = refl
+
+pub third_fails : (a b : Bool) → (a && (b && false)) ≡ false
+third_fails true true = refl
+third_fails true false = refl
+third_fails false b = refl
 
 -- one entry more
 pub entries_more : {E : Type 0} (size : ℕ) (entry : ℕ → List ℕ → E) (count index place : ℕ) (bytes : List ℕ) → index < count
