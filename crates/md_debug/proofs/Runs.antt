@@ -1,6 +1,5 @@
 -- How the debugger's machine goes on.
-use Rattle.std.proofs.Common.{◌≡◌, ℕ, zero, suc, ◌+◌, ◌-◌, ◌<◌, ◌≤◌, List, [], ◌++◌, Option, option_to_list, inl, inr, ◌⊎◌, add-one, refl, sym, ap, subst, ◌∙◌, append-nil, append_assoc, arith, add-suc, add-zero}
-use Rattle.std.proofs.lemmas.Bool.{cases_lt}
+use Rattle.std.proofs.Common.{◌≡◌, ℕ, zero, suc, ◌+◌, ◌<◌, ◌≤◌, List, [], ◌++◌, Option, option_to_list, inl, inr, add-one, refl, sym, ap, subst, ◌∙◌, append-nil, append_assoc, arith, add-suc, add-zero}
 use Rattle.md_word.specs.Clock.{last_cycle}
 use Rattle.md_word.specs.declared.event.Entry.{Entry}
 use Rattle.md_machine.specs.Console.{AllBelow, Console, IsQuiet, IsRunTo, begins_in, journal, key_in, media, mover, ran}
@@ -8,7 +7,7 @@ use Rattle.md_machine.specs.Machines.{MachineValue}
 use Rattle.md_machine.specs.Media.{Media}
 use Rattle.md_machine.specs.Starts.{Start}
 use Rattle.circular_buffer.specs.Buffer.{Buffer}
-use Rattle.md_machine.proofs.Joined.{ran-add}
+use Rattle.md_machine.proofs.Joined.{ran-add, split}
 use Rattle.md_debug.specs.Debuggees.{IsDebuggee, WentOn}
 use Rattle.md_debug.specs.declared.debuggee.Debuggee.{Debuggee}
 use Rattle.md_debug.specs.Going.{GoesTo, RunsTo, Steps, StepsOnce, begun_by, drained, latest, least_of}
@@ -27,13 +26,6 @@ begun-add m a (suc b) =
     ∙ ap (λ (l : List ℕ). l ++ option_to_list (begins_in (ran m (a + b)))) (begun-add m a b)
     ∙ ap (λ (z : Console). (begun_by m a ++ begun_by (ran m a) b) ++ option_to_list (begins_in z)) (ran-add m a b)
     ∙ append_assoc (begun_by m a) (begun_by (ran m a) b) (option_to_list (begins_in (ran (ran m a) b)))
-
--- a move of both is one of the first, or one of the second
-split : (k a b : ℕ) → k < a + b → (k < a) ⊎ ((j : ℕ) × (j < b) × (k ≡ a + j))
-split k a b below = elim (cases_lt k a) [
-  | inl is ↦ inl is
-  | inr late ↦ inr (k - a, omega arith, omega arith)
-]
 
 -- a machine that goes on to a cycle, and from there to a later one, goes on to that
 pub goes_joined : (m w z : Console) (s t : ℕ) (first later : List ℕ) → s ≤ t → GoesTo m s w first → GoesTo w t z later → GoesTo m t z (first ++ later)

@@ -138,10 +138,10 @@ counted pal at end lines late later (inr last) =
 what_came : (first more all : ℕ) → first + more ≡ all → more ≡ all - first
 what_came first more all e = omega (arith, e)
 
-pub frames-counted : (start : Start) (z : Console) (end : ℕ) (entries : List Entry) (output : Media) → IsStart start
+pub counts-frames : (start : Start) (z : Console) (end : ℕ) (entries : List Entry) (output : Media) → IsStart start
     → IsRunTo start.console end z entries output → length output.frames ≡ frames_below start.console.pal end - frames_below start.console.pal start.at
 unfolding key_in
-frames-counted start z end entries output is run =
+counts-frames start z end entries output is run =
     let made : Lines start end run.moves = lines-to start end run.moves is run.below in
     let late : end ≤ z.line = run.quiet 2 (lit< tt) in
     let at : z.line ≡ 3420 * made.lines = ap (λ (m : Console). m.line) run.console ∙ made.next in

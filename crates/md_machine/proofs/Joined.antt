@@ -40,7 +40,7 @@ media-add m a (suc b) =
     ∙ joined-assoc (media m a) (media (ran m a) b) (rendered (ran (ran m a) b) (mover (ran (ran m a) b)))
 
 -- a move of the whole is one of the first run, or one of the second
-split : (k a b : ℕ) → k < a + b → (k < a) ⊎ ((j : ℕ) × (j < b) × (k ≡ a + j))
+pub split : (k a b : ℕ) → k < a + b → (k < a) ⊎ ((j : ℕ) × (j < b) × (k ≡ a + j))
 split k a b below = elim (cases_lt k a) [
   | inl is ↦ inl is
   | inr late ↦ inr (k - a, omega arith, omega arith)

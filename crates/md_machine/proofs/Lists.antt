@@ -51,8 +51,8 @@ module _ (z : Seen Chip Board) (tidy : IsTidy five IsChip IsBoard z) (t : ℕ) w
       (λ access. (Perform first, (first-in, access, low, below)))
 
   -- none stands below the cycle, or one is enabled
-  pub goes-on : IsQuiet five z.machine t ⊎ ((event : Event) × IsEnabled five z t event)
-  goes-on =
+  pub run-goes-on : IsQuiet five z.machine t ⊎ ((event : Event) × IsEnabled five z t event)
+  run-goes-on =
       by_test (nat_lt (key_of five z.machine first).cycle t)
       (λ low. inr (enabled-by (grind (arith, nat_tests, low)) (least_lagging z.bound (key_of five z.machine) 5) refl))
       (λ late. inl (quiet-from (grind (arith, nat_tests, late))))

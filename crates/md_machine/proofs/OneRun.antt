@@ -17,9 +17,9 @@ no-more m w end n entries output below one = elim (cases_lt one.moves n) [
   | inr few ↦ few
 ]
 
-pub one-run : (m w z : Console) (end : ℕ) (first second : List Entry) (output other : Media)
+pub same-run : (m w z : Console) (end : ℕ) (first second : List Entry) (output other : Media)
     → IsRunTo m end w first output → IsRunTo m end z second other → (w ≡ z) × (first ≡ second) × (output ≡ other)
-one-run m w z end first second output other one two =
+same-run m w z end first second output other one two =
     let up : one.moves ≤ two.moves = no-more m z end one.moves second other one.below two in
     let down : two.moves ≤ one.moves = no-more m w end two.moves first output two.below one in
     let same : one.moves ≡ two.moves = omega (arith, up, down) in (

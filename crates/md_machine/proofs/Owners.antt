@@ -374,10 +374,10 @@ owns-ran m (suc n) valid movers first =
     move-owns (ran (console m) n) ok (owns-ran m n valid' movers first) (mover (ran (console m) n)) (mover-lt (ran (console m) n))
 
 -- at power-on the Z80 has them
-pub one-owner : (m : Machine Chip Board) (cart : List ℕ) (recording : Recorded) (pal : Bool) (n : ℕ) → console m ≡ power_on cart recording pal → ValidTo m n → Movers
+pub owner-is-one : (m : Machine Chip Board) (cart : List ℕ) (recording : Recorded) (pal : Bool) (n : ℕ) → console m ≡ power_on cart recording pal → ValidTo m n → Movers
     → HasOneOwner (ran (power_on cart recording pal) n)
 unfolding states80.power_on
-one-owner m cart recording pal n is valid movers =
+owner-is-one m cart recording pal n is valid movers =
     let first : Owns (power_on cart recording pal).sub.state (power_on cart recording pal).shared = record { one = refl; taking = λ take. absurd (true≢false (sym take)) } in
     let run_owns : Owns (ran (console m) n).sub.state (ran (console m) n).shared =
     owns-ran m n valid movers (subst (λ (z : Console). Owns z.sub.state z.shared) (sym is) first) in

@@ -38,9 +38,9 @@ keys-rise stages movers spread m end n i small has below less =
     subst (λ (k : Key). k.cycle ≤ (key_in (ran m n) i).cycle) start (subst (λ (k : Key). (key_of five first i).cycle ≤ k.cycle) last more)
 
 -- so what is quiet before a cycle stays so
-pub quiet-stays : Stages → Movers → Spread → (m : Console) (at end n : ℕ) → end ≤ 2 ^ 50 → HasValidParts m → IsQuiet at m → consoles.AllBelow m end n
+pub stays-quiet : Stages → Movers → Spread → (m : Console) (at end n : ℕ) → end ≤ 2 ^ 50 → HasValidParts m → IsQuiet at m → consoles.AllBelow m end n
     → IsQuiet at (ran m n)
-quiet-stays stages movers spread m at end n small has quiet below = λ i less.
+stays-quiet stages movers spread m at end n small has quiet below = λ i less.
     let rise = keys-rise stages movers spread m end n i small has below less in
     let first = quiet i less in
     omega (arith, rise, first)

@@ -29,9 +29,9 @@ use Rattle.md_machine.specs.declared.chips.Chip.{Chip}
 use Rattle.chip_core.specs.Machines as machines
 use Rattle.md_machine.proofs.Moves.{five-each}
 
-pub first-core : (cart : List ℕ) (recording : Recorded) (pal : Bool) (room : ℕ) → IsImage cart → IsCore five IsChip IsBoard (core_in (boards.power_on recording pal) (first_chips cart pal) first_bounds [] room)
+pub first-is-core : (cart : List ℕ) (recording : Recorded) (pal : Bool) (room : ℕ) → IsImage cart → IsCore five IsChip IsBoard (core_in (boards.power_on recording pal) (first_chips cart pal) first_bounds [] room)
 unfolding next_of states.power_on sub_next_of states80.power_on
-first-core cart recording pal room image = record {
+first-is-core cart recording pal room image = record {
   shape = record {
     chip_count = refl;
     bound_count = refl;
@@ -65,7 +65,7 @@ first-machine cart recording pal board chips bounds entries room b c k e ample i
     (subst (λ z. IsMachine 0 (Some (core_in (boards.power_on recording pal) (first_chips cart pal) first_bounds z room))) (sym e)
     (record {
       has_core = refl;
-      valid = first-core cart recording pal room image;
+      valid = first-is-core cart recording pal room image;
       region = subst IsOneRegion (sym (first-console cart recording pal room)) refl;
       room = subst (λ (z : Console). most_entries z.pal ≤ room) (sym (first-console cart recording pal room)) ample;
       quiet = first-quiet cart recording pal room;

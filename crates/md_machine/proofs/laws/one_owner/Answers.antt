@@ -8,9 +8,9 @@ use Rattle.md_machine.specs.Refinement.{console}
 use Rattle.md_machine.specs.Rules.{IsChip, five}
 use Rattle.md_machine.specs.declared.chips.Chip.{Chip}
 use Rattle.md_machine.proofs.Lifts.{ValidTo}
-use Rattle.md_machine.proofs.Owners.{one-owner}
+use Rattle.md_machine.proofs.Owners.{owner-is-one}
 use Rattle.md_machine.proofs.Segments.{below-lift}
-use Rattle.md_machine.proofs.Start.{first-console, first-core}
+use Rattle.md_machine.proofs.Start.{first-console, first-is-core}
 use Rattle.md_machine.proofs.laws.one_owner.Goals as goal
 
 pub returns : goal.returns
@@ -18,9 +18,9 @@ unfolding console
 returns c = λ recording pal end n small below.
     let first : Machine Chip Board = machine_of five (core_in (power_on recording pal) (first_chips c.args.cart.now pal) first_bounds [] 0) in
     let valid : IsValid five IsChip IsBoard first =
-    c.stages.ensures.core (core_in (power_on recording pal) (first_chips c.args.cart.now pal) first_bounds [] 0) (first-core c.args.cart.now recording pal 0 c.bytes.ensures.image) in
+    c.stages.ensures.core (core_in (power_on recording pal) (first_chips c.args.cart.now pal) first_bounds [] 0) (first-is-core c.args.cart.now recording pal 0 c.bytes.ensures.image) in
     let lower : AllBelow five first end n =
     below-lift first end n (λ k earlier. c.stages.ensures.valid first end k (omega arith) valid earlier) c.stages.ensures.mover below in
     let stages : ValidTo first n = λ k within.
     c.stages.ensures.valid first end k (omega arith) valid (record { each = λ j earlier. lower.each j (omega arith) }) in
-    one-owner first c.args.cart.now recording pal n (first-console c.args.cart.now recording pal 0) stages c.stages.ensures.mover
+    owner-is-one first c.args.cart.now recording pal n (first-console c.args.cart.now recording pal 0) stages c.stages.ensures.mover

@@ -1,5 +1,5 @@
-use Rattle.md_machine.proofs.OneRun.{one-run}
+use Rattle.md_machine.proofs.OneRun.{same-run}
 use Rattle.md_machine.proofs.laws.one_run.Goals as goal
 
 pub returns : goal.returns
-returns c = one-run
+returns c = same-run

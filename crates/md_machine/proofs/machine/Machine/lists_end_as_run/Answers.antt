@@ -16,7 +16,7 @@ use Rattle.md_machine.specs.Media.{no_media}
 use Rattle.md_machine.specs.Refinement.{console}
 use Rattle.md_machine.specs.Rules.{IsChip, five}
 use Rattle.md_machine.specs.declared.chips.Chip.{Chip}
-use Rattle.md_machine.proofs.Lists.{goes-on}
+use Rattle.md_machine.proofs.Lists.{run-goes-on}
 use Rattle.md_machine.proofs.Segments.{batches-few, fm_batches-few, segment-run}
 use Rattle.md_machine.proofs.machine.Machine.lists_end_as_run.Goals as goal
 
@@ -37,7 +37,7 @@ returns c =
     let stands : Stands five (seen five core) to z = stands-leads five IsChip IsBoard lawful (seen five core) valid to (omega arith) (seen five core) begun list z leads opens in
     record {
       few = c.events.ensures.few (seen five core) z to m.at list (omega arith) begun c.self.invariant.quiet leads;
-      goes_on = goes-on z tidy to;
+      goes_on = run-goes-on z tidy to;
       there = λ quiet. segment-run first z.machine m.at to z.journal (c.events.ensures.ended (seen five core) z to (omega arith) valid tidy stands quiet)
           (λ n below. c.stages.ensures.valid first to n (omega arith) valid below) c.stages.ensures.mover tidy.valid
           (λ n below. le_trans (c.limits.ensures.made first to n 3 (omega arith) valid below (lit< tt)) (fm_batches-few (console first).pal first m.at to near c.self.invariant.quiet))
