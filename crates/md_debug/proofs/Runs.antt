@@ -2,7 +2,7 @@
 use Rattle.std.proofs.Common.{◌≡◌, ℕ, zero, suc, ◌+◌, ◌<◌, ◌≤◌, List, [], ◌++◌, Option, option_to_list, inl, inr, add-one, refl, sym, ap, subst, ◌∙◌, append-nil, append_assoc, arith, add-suc, add-zero}
 use Rattle.md_word.specs.Clock.{last_cycle}
 use Rattle.md_word.specs.declared.event.Entry.{Entry}
-use Rattle.md_machine.specs.Console.{AllBelow, Console, IsQuiet, IsRunTo, begins_in, journal, key_in, media, mover, ran}
+use Rattle.md_machine.specs.Console.{AllBelow, Console, IsQuiet, IsRunTo, begins_in, journal, key_in, media_after, mover, ran}
 use Rattle.md_machine.specs.Machines.{MachineValue}
 use Rattle.md_machine.specs.Media.{Media}
 use Rattle.md_machine.specs.Starts.{Start}
@@ -163,7 +163,7 @@ module _ (is_own : MachineValue → Type 0) (read_back : MachineValue → Machin
   own_on : (start : Start) (end : ℕ) (z : Console) (begun : List ℕ) → is_own (drained start) → start.at ≤ end → end ≤ last_cycle → GoesTo start.console end z begun
       → is_own (drained (record { at = end; console = z }))
   own_on start end z begun own later near goes =
-      keeps.runs (drained start) end z (journal start.console goes.moves) (media start.console goes.moves) own later near
+      keeps.runs (drained start) end z (journal start.console goes.moves) (media_after start.console goes.moves) own later near
       (record { moves = goes.moves; below = goes.below; quiet = goes.quiet; console = goes.console; entered = refl; rendered_to = refl })
 
   own_once : (start after : Start) (begun : List ℕ) → is_own (drained start) → StepsOnce start after begun → is_own (drained after)

@@ -11,7 +11,7 @@ use Rattle.bus_shared.specs.Board.{Board, IsBoard}
 use Rattle.md_machine.specs.Assembled.{Assembly, assembled, bounds_of, chips_of}
 use Rattle.md_machine.specs.Machines.{IsMachine, MachineValue, core_in, machine_at}
 use Rattle.md_machine.specs.Media.{no_media}
-use Rattle.md_machine.specs.Refinement.{console}
+use Rattle.md_machine.specs.Refinement.{console_of}
 use Rattle.md_machine.specs.Regions.{most_entries}
 use Rattle.md_machine.specs.Rules.{IsChip, five}
 use Rattle.md_machine.specs.Starts.{first_batch}
@@ -36,7 +36,7 @@ core_of parts board chips room = machine_at parts.at (core_in board chips (bound
 machine-by : (parts : Assembly) (board : Board) (room : ℕ) → IsBoard board → AreLater parts → parts.draw.pal ≡ board.vdp.pal → most_entries parts.draw.pal ≤ room
     → ((i : ℕ) → i < 5 → IsChip (chip_in five (chips_of parts) i))
     → IsMachine parts.at (Some (core_in board (chips_of parts) (bounds_of (chips_of parts)) [] room))
-unfolding next_of sub_next_of console
+unfolding next_of sub_next_of console_of
 machine-by parts board room fits later one ample valid =
     let chips = chips_of parts in
     let key : ℕ → Key = key_in five chips in
@@ -70,7 +70,7 @@ assembled-machine parts board chips bounds entries room fits later one c b e amp
 
 value-by : (parts : Assembly) (board : Board) (bounds : List Key) (room : ℕ)
     → machine_at parts.at (core_in board (chips_of parts) bounds [] room) ≡ record { at = parts.at; console = assembled parts board; entries = []; media = no_media }
-unfolding console
+unfolding console_of
 value-by parts board bounds room = refl
 
 pub assembled-value : (parts : Assembly) (board : Board) (chips : List Chip) (bounds : List Key) (entries : List Entry) (room : ℕ)

@@ -6,7 +6,7 @@ use Rattle.m68k_chip.specs.Events.{request_of}
 use Rattle.m68k_chip.specs.States.{next_of}
 use Rattle.z80_chip.specs.States.{next_of as sub_next_of}
 use Rattle.bus_shared.specs.Accesses.{main_told}
-use Rattle.md_machine.specs.Console.{AllBelow, Console, IsQuiet, IsRunTo, fm_moved, rendered, journal, key_in, line_moved, main_moved, moved, sub_accessed, sub_moved, mover, psg_moved, ran, media, told}
+use Rattle.md_machine.specs.Console.{AllBelow, Console, IsQuiet, IsRunTo, fm_moved, rendered, journal, key_in, line_moved, main_moved, moved, sub_accessed, sub_moved, mover, psg_moved, ran, media_after, told}
 use Rattle.md_machine.specs.Media.{Media, joined, no_media}
 use Rattle.md_machine.specs.Movers.{mover-lt}
 use Rattle.md_machine.specs.Starts.{IsStart, Start, batches_below, first_batch}
@@ -85,7 +85,7 @@ psg_beat = record {
 record Batches {A : Type 0} (p : Beat A) (start : Start) (end n : ℕ) : Type 0 where
   batches : ℕ
   next : p.next (ran start.console n) ≡ 16128 * (batches_below start.at + batches + 1)
-  count : length (p.of (media start.console n)) ≡ 16 * batches
+  count : length (p.of (media_after start.console n)) ≡ 16 * batches
   last : (batches ≡ 0) ⊎ (16128 * (batches_below start.at + batches) < end)
 
 -- the samples of one move more
@@ -95,24 +95,24 @@ longer p first second = ap length (p.more first second) ∙ length-append (p.of 
 batch-more : {A : Type 0} (p : Beat A) (start : Start) (end n : ℕ) → Batches p start end n
     → (key_in (ran start.console n) (mover (ran start.console n))).cycle < end
     → Batch p.of p.next (ran start.console n) (mover (ran start.console n)) → Batches p start end (suc n)
-unfolding ran media
+unfolding ran media_after
 batch-more p start end n before below (made at next sixteen) = record {
   batches = before.batches + 1;
   next = omega (arith, next, before.next);
-  count = omega (arith, longer p (media start.console n) (rendered (ran start.console n) (mover (ran start.console n))), before.count, sixteen);
+  count = omega (arith, longer p (media_after start.console n) (rendered (ran start.console n) (mover (ran start.console n))), before.count, sixteen);
   last = inr (omega (arith, at, before.next, below));
 }
 batch-more p start end n before below (none next silent) = record {
   batches = before.batches;
   next = next ∙ before.next;
   count =
-      longer p (media start.console n) (rendered (ran start.console n) (mover (ran start.console n)))
-      ∙ ap (λ l. length (p.of (media start.console n)) + length l) silent ∙ omega (arith, before.count);
+      longer p (media_after start.console n) (rendered (ran start.console n) (mover (ran start.console n)))
+      ∙ ap (λ l. length (p.of (media_after start.console n)) + length l) silent ∙ omega (arith, before.count);
   last = before.last;
 }
 
 batches-to : {A : Type 0} (p : Beat A) (start : Start) (end n : ℕ) → IsStart start → AllBelow start.console end n → Batches p start end n
-unfolding ran media
+unfolding ran media_after
 batches-to p start end zero is below = record {
   batches = 0;
   next = p.first start is ∙ omega arith;

@@ -11,7 +11,7 @@ use Rattle.md_machine.specs.Lines.{frames_of}
 use Rattle.md_machine.specs.Machines.{IsMachine, MachineValue, kept_in, machine_at}
 use Rattle.bus_shared.specs.Board.{Board, IsBoard}
 use Rattle.md_machine.specs.Regions.{IsOneRegion, most_entries}
-use Rattle.md_machine.specs.Refinement.{console, draw_of, fm_of, psg_of, record_of}
+use Rattle.md_machine.specs.Refinement.{console_of, draw_of, fm_of, psg_of, record_of}
 use Rattle.md_machine.specs.Rules.{IsChip, five, next}
 use Rattle.md_machine.specs.declared.chips.Chip.{Chip}
 use Rattle.md_machine.specs.declared.chips.Chip.TheVariants.{Main, Sub, Draw, Fm, Psg}
@@ -77,10 +77,10 @@ chips_with_emptied v j x below long is i within = with_emptied_by (i == j) v j x
 -- the machine, with what its chips keep
 drained : (at : ℕ) (v : CoreValue Chip Board) (j : ℕ) (x : Chip) → j < 5 → length v.chips ≡ 5 → x ≡ emptied (chip_in five v.chips j)
     → machine_at at (record v { chips = slice_set v.chips j x })
-    ≡ record { at = at; console = console (emptied_machine v j); entries = v.journal; media = kept_in (emptied_machine v j) }
+    ≡ record { at = at; console = console_of (emptied_machine v j); entries = v.journal; media = kept_in (emptied_machine v j) }
 drained at v j x below long is =
     let chips : (i : ℕ) → i < 5 → chip_in five (slice_set v.chips j x) i ≡ (emptied_machine v j).chip i = chips_with_emptied v j x below long is in
-    let same : console (machine_of five (record v { chips = slice_set v.chips j x })) ≡ console (emptied_machine v j) =
+    let same : console_of (machine_of five (record v { chips = slice_set v.chips j x })) ≡ console_of (emptied_machine v j) =
     console-alike (machine_of five (record v { chips = slice_set v.chips j x })) (emptied_machine v j) refl chips in
     λ i. record {
       at = at;
@@ -96,7 +96,7 @@ drained at v j x below long is =
 -- the drawing half without its frame
 drained-draw : (at : ℕ) (v : CoreValue Chip Board) (x : Chip) → length v.chips ≡ 5 → x ≡ emptied (chip_in five v.chips 2)
     → machine_at at (record v { chips = slice_set v.chips 2 x }) ≡ record (machine_at at v) { media = record (machine_at at v).media { frames = [] } }
-unfolding console put
+unfolding console_of put
 drained-draw at v x long is =
     let old : Machine Chip Board = machine_of five v in
     drained at v 2 x (lit< tt) long is
@@ -108,7 +108,7 @@ drained-draw at v x long is =
 -- the FM synthesis without its samples
 drained-fm : (at : ℕ) (v : CoreValue Chip Board) (x : Chip) → length v.chips ≡ 5 → x ≡ emptied (chip_in five v.chips 3)
     → machine_at at (record v { chips = slice_set v.chips 3 x }) ≡ record (machine_at at v) { media = record (machine_at at v).media { sides = [] } }
-unfolding console put
+unfolding console_of put
 drained-fm at v x long is =
     let old : Machine Chip Board = machine_of five v in
     drained at v 3 x (lit< tt) long is
@@ -120,7 +120,7 @@ drained-fm at v x long is =
 -- the PSG without its samples
 drained-psg : (at : ℕ) (v : CoreValue Chip Board) (x : Chip) → length v.chips ≡ 5 → x ≡ emptied (chip_in five v.chips 4)
     → machine_at at (record v { chips = slice_set v.chips 4 x }) ≡ record (machine_at at v) { media = record (machine_at at v).media { levels = [] } }
-unfolding console put
+unfolding console_of put
 drained-psg at v x long is =
     let old : Machine Chip Board = machine_of five v in
     drained at v 4 x (lit< tt) long is
@@ -174,20 +174,20 @@ pal-by true v j below long e =
 pal-by false v j below long e = ap (λ (c : Chip). (draw_of c).chip.pal) (with_emptied_by false v j (emptied (chip_in five v.chips j)) 2 below long refl e)
 
 -- the region stays
-pal-with_emptied : (v : CoreValue Chip Board) (j : ℕ) → j < 5 → length v.chips ≡ 5 → (console (machine_of five (with_emptied v j))).pal ≡ (console (machine_of five v)).pal
-unfolding console
+pal-with_emptied : (v : CoreValue Chip Board) (j : ℕ) → j < 5 → length v.chips ≡ 5 → (console_of (machine_of five (with_emptied v j))).pal ≡ (console_of (machine_of five v)).pal
+unfolding console_of
 pal-with_emptied v j below long = pal-by (2 == j) v j below long refl
 
-one-with_emptied : (v : CoreValue Chip Board) (j : ℕ) → j < 5 → length v.chips ≡ 5 → IsOneRegion (console (machine_of five v)) → IsOneRegion (console (machine_of five (with_emptied v j)))
-unfolding console
+one-with_emptied : (v : CoreValue Chip Board) (j : ℕ) → j < 5 → length v.chips ≡ 5 → IsOneRegion (console_of (machine_of five v)) → IsOneRegion (console_of (machine_of five (with_emptied v j)))
+unfolding console_of
 one-with_emptied v j below long one = pal-by (2 == j) v j below long refl ∙ one
 
 pub machine-with_emptied : (v w : CoreValue Chip Board) (at j : ℕ) → j < 5 → IsMachine at (Some v) → w ≡ with_emptied v j → IsCore five IsChip IsBoard w → IsMachine at (Some w)
 machine-with_emptied v w at j below has is valid = record {
   has_core = refl;
   valid = valid;
-  region = subst (λ (u : CoreValue Chip Board). IsOneRegion (console (machine_of five u))) (sym is) (one-with_emptied v j below has.valid.shape.chip_count has.region);
-  room = subst (λ (u : CoreValue Chip Board). most_entries (console (machine_of five u)).pal ≤ u.room) (sym is)
+  region = subst (λ (u : CoreValue Chip Board). IsOneRegion (console_of (machine_of five u))) (sym is) (one-with_emptied v j below has.valid.shape.chip_count has.region);
+  room = subst (λ (u : CoreValue Chip Board). most_entries (console_of (machine_of five u)).pal ≤ u.room) (sym is)
       (subst (λ (pal : Bool). most_entries pal ≤ v.room) (sym (pal-with_emptied v j below has.valid.shape.chip_count)) has.room);
   quiet = subst (λ (u : CoreValue Chip Board). IsQuiet five (machine_of five u) at) (sym is) (quiet-with_emptied v at j below has.valid.shape.chip_count has.quiet);
 }

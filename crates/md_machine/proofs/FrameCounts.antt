@@ -9,7 +9,7 @@ use Rattle.vdp_chip.specs.Drawing.{line_drawn}
 use Rattle.md_word.specs.Region.{finishes, lines, rows}
 use Rattle.md_word.proofs.Regions.{finishes-below, none-more-by, one-more-by}
 use Rattle.vdp_chip.specs.Picture.{finished}
-use Rattle.md_machine.specs.Console.{AllBelow, Console, IsRunTo, fm_moved, key_in, line_done, line_moved, main_moved, media, moved, mover, psg_moved, ran, rendered, sub_moved}
+use Rattle.md_machine.specs.Console.{AllBelow, Console, IsRunTo, fm_moved, key_in, line_done, line_moved, main_moved, media_after, moved, mover, psg_moved, ran, rendered, sub_moved}
 use Rattle.md_machine.specs.Lines.{drawn_from, frames_of}
 use Rattle.md_machine.specs.Media.{Media}
 use Rattle.md_machine.specs.Movers.{mover-lt}
@@ -62,12 +62,12 @@ record Lines (start : Start) (end n : ℕ) : Type 0 where
   lines : ℕ
   later : lines_below start.at ≤ lines
   next : (ran start.console n).line ≡ 3420 * lines
-  count : finishes start.console.pal (lines_below start.at) + length (media start.console n).frames ≡ finishes start.console.pal lines
+  count : finishes start.console.pal (lines_below start.at) + length (media_after start.console n).frames ≡ finishes start.console.pal lines
   last : (lines ≡ lines_below start.at) ⊎ (3420 * (lines - 1) < end)
 
-longer : (m : Console) (n : ℕ) → length (media m (suc n)).frames ≡ length (media m n).frames + length (rendered (ran m n) (mover (ran m n))).frames
-unfolding media
-longer m n = length-append (media m n).frames (rendered (ran m n) (mover (ran m n))).frames
+longer : (m : Console) (n : ℕ) → length (media_after m (suc n)).frames ≡ length (media_after m n).frames + length (rendered (ran m n) (mover (ran m n))).frames
+unfolding media_after
+longer m n = length-append (media_after m n).frames (rendered (ran m n) (mover (ran m n))).frames
 
 -- with what comes to it
 counted_on : (first old new lines fresh next : ℕ) → new ≡ old + fresh → first + old ≡ lines → lines + fresh ≡ next → first + new ≡ next
@@ -88,7 +88,7 @@ line-more start end n before below (made at next one) =
       lines = before.lines + 1;
       later = omega (arith, before.later);
       next = omega (arith, next, line);
-      count = counted_on (finishes pal (lines_below start.at)) (length (media m n).frames) (length (media m (suc n)).frames) (finishes pal before.lines) (length (rendered (ran m n) (mover (ran m n))).frames)
+      count = counted_on (finishes pal (lines_below start.at)) (length (media_after m n).frames) (length (media_after m (suc n)).frames) (finishes pal before.lines) (length (rendered (ran m n) (mover (ran m n))).frames)
           (finishes pal (before.lines + 1)) (longer m n) before.count (ap (λ (k : ℕ). finishes pal before.lines + k) fresh ∙ one-more (line_of (3420 * before.lines) pal == rows pal) pal before.lines refl);
       last = inr (omega (arith, at, line, below));
     }
@@ -96,9 +96,9 @@ line-more start end n before below (none next silent) = record {
   lines = before.lines;
   later = before.later;
   next = next ∙ before.next;
-  count = counted_on (finishes start.console.pal (lines_below start.at)) (length (media start.console n).frames) (length (media start.console (suc n)).frames)
+  count = counted_on (finishes start.console.pal (lines_below start.at)) (length (media_after start.console n).frames) (length (media_after start.console (suc n)).frames)
       (finishes start.console.pal before.lines) 0 (finishes start.console.pal before.lines)
-      (longer start.console n ∙ ap (λ (k : ℕ). length (media start.console n).frames + k) (ap (λ (l : List (List ℕ)). length l) silent)) before.count (omega arith);
+      (longer start.console n ∙ ap (λ (k : ℕ). length (media_after start.console n).frames + k) (ap (λ (l : List (List ℕ)). length l) silent)) before.count (omega arith);
   last = before.last;
 }
 
@@ -106,7 +106,7 @@ plus_none : (n : ℕ) → n + 0 ≡ n
 plus_none n = omega arith
 
 lines-to : (start : Start) (end n : ℕ) → IsStart start → AllBelow start.console end n → Lines start end n
-unfolding ran media
+unfolding ran media_after
 lines-to start end zero is below = record { lines = lines_below start.at; later = omega arith; next = is.line; count = plus_none (finishes start.console.pal (lines_below start.at)); last = inl refl }
 lines-to start end (suc n) is below =
     line-more start end n (lines-to start end n is (λ k earlier. below k (omega arith))) (below n (omega arith))
@@ -146,8 +146,8 @@ counts-frames start z end entries output is run =
     let late : end ≤ z.line = run.quiet 2 (lit< tt) in
     let at : z.line ≡ 3420 * made.lines = ap (λ (m : Console). m.line) run.console ∙ made.next in
     let pal : Bool = start.console.pal in
-    let few : length (media start.console run.moves).frames ≡ finishes pal made.lines - finishes pal (lines_below start.at) =
-    what_came (finishes pal (lines_below start.at)) (length (media start.console run.moves).frames) (finishes pal made.lines) made.count in
+    let few : length (media_after start.console run.moves).frames ≡ finishes pal made.lines - finishes pal (lines_below start.at) =
+    what_came (finishes pal (lines_below start.at)) (length (media_after start.console run.moves).frames) (finishes pal made.lines) made.count in
     ap (λ (m : Media). length m.frames) run.rendered_to ∙ few ∙ counted pal start.at end made.lines (subst (λ (n : ℕ). end ≤ n) at late) made.later made.last
 
 -- the next line behind a run is the first from its end on

@@ -12,12 +12,12 @@ use Rattle.md_word.proofs.Regions.{only_one}
 use Rattle.vdp_chip.specs.Picture.{finished, frame_of}
 use Rattle.bus_shared.specs.Accesses.{line_board}
 use Rattle.bus_shared.specs.Board.{Board, IsBoard}
-use Rattle.md_machine.specs.Console.{Console, media, mover, ran, rendered}
+use Rattle.md_machine.specs.Console.{Console, media_after, mover, ran, rendered}
 use Rattle.md_machine.specs.LineLaws.{told-drawn}
 use Rattle.md_machine.specs.Lines.{drawn_from, frames_of}
 use Rattle.md_machine.specs.Media.{Media}
 use Rattle.md_machine.specs.Parts.{DrawValue, IsDraw}
-use Rattle.md_machine.specs.Refinement.{console, draw_of}
+use Rattle.md_machine.specs.Refinement.{console_of, draw_of}
 use Rattle.md_machine.specs.Rules.{IsChip, advance, draw_advance, draw_perform, five, next, perform}
 use Rattle.md_machine.specs.declared.chips.Chip.{Chip}
 use Rattle.md_machine.specs.declared.chips.Chip.TheVariants.{Draw}
@@ -99,8 +99,8 @@ unfolding drawn_from line_drawn picture_after finished
 frames-made v s = refl
 
 line-made : (m : Machine Chip Board) (v : DrawValue) → m.chip 2 ≡ Draw v
-    → (rendered (console m) 2).frames ≡ frames_of (cond (line_of v.chip.next v.chip.pal == rows v.chip.pal) (Some (picture_on v m.shared)) None)
-unfolding rendered console
+    → (rendered (console_of m) 2).frames ≡ frames_of (cond (line_of v.chip.next v.chip.pal == rows v.chip.pal) (Some (picture_on v m.shared)) None)
+unfolding rendered console_of
 line-made m v is =
     ap (λ (c : Chip). frames_of (drawn_from (view_on (draw_of c) m.shared) (unframed (draw_of c).chip)).frame) is ∙ frames-made v m.shared
 
@@ -111,7 +111,7 @@ line-left m v is =
 
 -- a line's event with the frame of the first lines kept
 line-framed : (pal : Bool) (m : Machine Chip Board) (v : DrawValue) (frames : List (List ℕ)) (from : ℕ) → m.chip 2 ≡ Draw v → IsDraw v → v.chip.next < from + frame_cycles pal
-    → Framed pal m frames from → Framed pal (move five m 2) (frames ++ (rendered (console m) 2).frames) from
+    → Framed pal m frames from → Framed pal (move five m 2) (frames ++ (rendered (console_of m) 2).frames) from
 line-framed pal m v frames from is ok near before =
     let here : drawing_of m ≡ v.chip = ap (λ (c : Chip). (draw_of c).chip) is in
     let left : drawing_of (move five m 2) ≡ (draw_advance (draw_perform v m.shared).chip).chip = line-left m v is in
@@ -139,8 +139,8 @@ line-framed pal m v frames from is ok near before =
     }
 
 -- the event of another chip
-other-framed : (pal : Bool) (m : Machine Chip Board) (i : ℕ) (frames : List (List ℕ)) (from : ℕ) → (2 == i) ≡ false → (rendered (console m) i).frames ≡ []
-    → Framed pal m frames from → Framed pal (move five m i) (frames ++ (rendered (console m) i).frames) from
+other-framed : (pal : Bool) (m : Machine Chip Board) (i : ℕ) (frames : List (List ℕ)) (from : ℕ) → (2 == i) ≡ false → (rendered (console_of m) i).frames ≡ []
+    → Framed pal m frames from → Framed pal (move five m i) (frames ++ (rendered (console_of m) i).frames) from
 other-framed pal m i frames from away none before =
     let left : drawing_of (move five m i) ≡ drawing_of m = ap (λ (c : Chip). (draw_of c).chip) (other_by (is_sample five m i) m i 2 refl away) in
     record {
@@ -151,11 +151,11 @@ other-framed pal m i frames from away none before =
     }
 
 frames-more : (pal : Bool) (m : Machine Chip Board) (frames : List (List ℕ)) (from : ℕ) → IsValid five IsChip IsBoard m → (i : ℕ) → i < 5 → (key_of five m i).cycle < from + frame_cycles pal
-    → Framed pal m frames from → Framed pal (move five m i) (frames ++ (rendered (console m) i).frames) from
+    → Framed pal m frames from → Framed pal (move five m i) (frames ++ (rendered (console_of m) i).frames) from
 unfolding rendered
 frames-more pal m frames from valid =
     let k2 = kind2 (m.chip 2) (valid.number 2 (lit< tt)) in
-    five-each (λ i. (key_of five m i).cycle < from + frame_cycles pal → Framed pal m frames from → Framed pal (move five m i) (frames ++ (rendered (console m) i).frames) from)
+    five-each (λ i. (key_of five m i).cycle < from + frame_cycles pal → Framed pal m frames from → Framed pal (move five m i) (frames ++ (rendered (console_of m) i).frames) from)
     (λ near before. other-framed pal m 0 frames from refl refl before)
     (λ near before. other-framed pal m 1 frames from refl refl before)
     (λ near before. line-framed pal m k2.0 frames from k2.1 (subst IsChip k2.1 (valid.chip 2 (lit< tt))) (subst (λ (c : Chip). (next c).key.cycle < from + frame_cycles pal) k2.1 near) before)
@@ -164,20 +164,20 @@ frames-more pal m frames from valid =
 
 -- the first moves of a segment, from a machine that keeps no frame
 frames-framed : (pal : Bool) (m : Machine Chip Board) (from to n : ℕ) → ValidTo m n → Movers → frames_of (drawing_of m).frame ≡ [] → machines.IsQuiet five m from
-    → to ≤ from + frame_cycles pal → AllBelow five m to n → Framed pal m [] from → Framed pal (run five m n) (media (console m) n).frames from
-unfolding run media
+    → to ≤ from + frame_cycles pal → AllBelow five m to n → Framed pal m [] from → Framed pal (run five m n) (media_after (console_of m) n).frames from
+unfolding run media_after
 frames-framed pal m from to zero valid movers none quiet near below first = first
 frames-framed pal m from to (suc n) valid movers none quiet near below first =
     let stage : IsValid five IsChip IsBoard (run five m n) = valid n (omega arith) in
     let valid' : ValidTo m n = λ k earlier. valid k (omega arith) in
     let below' : AllBelow five m to n = record { each = λ k earlier. below.each k (omega arith) } in
-    let before : Framed pal (run five m n) (media (console m) n).frames from = frames-framed pal m from to n valid' movers none quiet near below' first in
+    let before : Framed pal (run five m n) (media_after (console_of m) n).frames from = frames-framed pal m from to n valid' movers none quiet near below' first in
     let here : (key_of five (run five m n) (machines.mover five (run five m n))).cycle < from + frame_cycles pal = omega (arith, below.each n (omega arith), near) in
-    let same : rendered (console (run five m n)) (machines.mover five (run five m n)) ≡ rendered (ran (console m) n) (mover (ran (console m) n)) =
-    ap (λ (j : ℕ). rendered (console (run five m n)) j) (mover-same (run five m n) stage)
+    let same : rendered (console_of (run five m n)) (machines.mover five (run five m n)) ≡ rendered (ran (console_of m) n) (mover (ran (console_of m) n)) =
+    ap (λ (j : ℕ). rendered (console_of (run five m n)) j) (mover-same (run five m n) stage)
     ∙ ap (λ (z : Console). rendered z (mover z)) (ran-same m n valid' movers) in
-    subst (λ (output : Media). Framed pal (run five m (suc n)) ((media (console m) n).frames ++ output.frames) from) same
-    (frames-more pal (run five m n) (media (console m) n).frames from stage (machines.mover five (run five m n)) (movers (run five m n)) here before)
+    subst (λ (output : Media). Framed pal (run five m (suc n)) ((media_after (console_of m) n).frames ++ output.frames) from) same
+    (frames-more pal (run five m n) (media_after (console_of m) n).frames from stage (machines.mover five (run five m n)) (movers (run five m n)) here before)
 
 first-framed : (m : Machine Chip Board) (from : ℕ) → IsValid five IsChip IsBoard m → frames_of (drawing_of m).frame ≡ [] → machines.IsQuiet five m from → Framed (drawing_of m).pal m [] from
 first-framed m from valid none quiet =
@@ -191,7 +191,7 @@ first-framed m from valid none quiet =
     }
 
 pub frames-kept : (m : Machine Chip Board) (from to n : ℕ) → ValidTo m n → IsValid five IsChip IsBoard m → Movers → frames_of (drawing_of m).frame ≡ [] → machines.IsQuiet five m from
-    → to ≤ from + frame_cycles (drawing_of m).pal → AllBelow five m to n → frames_of (draw_of ((run five m n).chip 2)).chip.frame ≡ (media (console m) n).frames
+    → to ≤ from + frame_cycles (drawing_of m).pal → AllBelow five m to n → frames_of (draw_of ((run five m n).chip 2)).chip.frame ≡ (media_after (console_of m) n).frames
 frames-kept m from to n valid here movers none quiet near below =
     (frames-framed (drawing_of m).pal m from to n valid movers none quiet near below (first-framed m from here none quiet)).same
 

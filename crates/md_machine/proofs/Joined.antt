@@ -2,7 +2,7 @@
 use Rattle.std.proofs.Common.{◌≡◌, ℕ, zero, suc, ◌+◌, ◌-◌, ◌<◌, ◌≤◌, ◌⊎◌, inl, inr, List, ◌++◌, sym, ap, ◌∙◌, subst, append-nil, append_assoc, arith, add-suc, add-zero}
 use Rattle.std.proofs.lemmas.Bool.{cases_lt}
 use Rattle.md_word.specs.declared.event.Entry.{Entry}
-use Rattle.md_machine.specs.Console.{Console, IsRunTo, rendered, journal, key_in, moved, mover, ran, media, told}
+use Rattle.md_machine.specs.Console.{Console, IsRunTo, rendered, journal, key_in, moved, mover, ran, media_after, told}
 use Rattle.md_machine.specs.Media.{Media, joined, no_media}
 
 pub ran-add : (m : Console) (a b : ℕ) → ran m (a + b) ≡ ran (ran m a) b
@@ -30,14 +30,14 @@ joined-assoc a b c = λ i. record {
   levels = append_assoc a.levels b.levels c.levels i;
 }
 
-pub media-add : (m : Console) (a b : ℕ) → media m (a + b) ≡ joined (media m a) (media (ran m a) b)
-unfolding media
-media-add m a zero = ap (media m) (add-zero a) ∙ sym (joined-none (media m a))
+pub media-add : (m : Console) (a b : ℕ) → media_after m (a + b) ≡ joined (media_after m a) (media_after (ran m a) b)
+unfolding media_after
+media-add m a zero = ap (media_after m) (add-zero a) ∙ sym (joined-none (media_after m a))
 media-add m a (suc b) =
-    ap (media m) (add-suc a b)
+    ap (media_after m) (add-suc a b)
     ∙ ap (λ l. joined l (rendered (ran m (a + b)) (mover (ran m (a + b))))) (media-add m a b)
-    ∙ ap (λ z. joined (joined (media m a) (media (ran m a) b)) (rendered z (mover z))) (ran-add m a b)
-    ∙ joined-assoc (media m a) (media (ran m a) b) (rendered (ran (ran m a) b) (mover (ran (ran m a) b)))
+    ∙ ap (λ z. joined (joined (media_after m a) (media_after (ran m a) b)) (rendered z (mover z))) (ran-add m a b)
+    ∙ joined-assoc (media_after m a) (media_after (ran m a) b) (rendered (ran (ran m a) b) (mover (ran (ran m a) b)))
 
 -- a move of the whole is one of the first run, or one of the second
 pub split : (k a b : ℕ) → k < a + b → (k < a) ⊎ ((j : ℕ) × (j < b) × (k ≡ a + j))
@@ -66,6 +66,6 @@ run-joined m w z s t entries later_entries sound later_sound within first second
           ∙ sym (journal-add m first.moves second.moves);
       rendered_to =
           ap (λ l. joined l later_sound) first.rendered_to
-          ∙ ap (λ l. joined (media m first.moves) l) (second.rendered_to ∙ ap (λ (x : Console). media x second.moves) first.console)
+          ∙ ap (λ l. joined (media_after m first.moves) l) (second.rendered_to ∙ ap (λ (x : Console). media_after x second.moves) first.console)
           ∙ sym (media-add m first.moves second.moves);
     }

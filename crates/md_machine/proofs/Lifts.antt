@@ -5,15 +5,15 @@ use Rattle.chip_core.specs.Machines as machines
 use Rattle.chip_core.specs.Machines.{IsValid, Machine, key_of, least_below, move, run}
 use Rattle.md_machine.specs.Console.{Console, key_in, journal, moved, mover, ran, told}
 use Rattle.bus_shared.specs.Board.{Board, IsBoard}
-use Rattle.md_machine.specs.Refinement.{console}
+use Rattle.md_machine.specs.Refinement.{console_of}
 use Rattle.md_machine.specs.Rules.{IsChip, five}
 use Rattle.md_machine.specs.declared.chips.Chip.{Chip}
 use Rattle.md_machine.proofs.Moves.{key-same, move-same, entries-told}
 
 -- the same chip moves
-pub mover-same : (m : Machine Chip Board) → IsValid five IsChip IsBoard m → machines.mover five m ≡ mover (console m)
+pub mover-same : (m : Machine Chip Board) → IsValid five IsChip IsBoard m → machines.mover five m ≡ mover (console_of m)
 unfolding mover machines.mover
-mover-same m valid = least-same (key_of five m) (key_in (console m)) 5 (key-same m valid)
+mover-same m valid = least-same (key_of five m) (key_in (console_of m)) 5 (key-same m valid)
 
 -- the first stages of a run are valid
 abbrev pub ValidTo : Machine Chip Board → ℕ → Type 0
@@ -23,24 +23,24 @@ ValidTo m n = (k : ℕ) → k < n → IsValid five IsChip IsBoard (run five m k)
 abbrev pub Movers : Type 0
 Movers = (z : Machine Chip Board) → machines.mover five z < 5
 
-pub ran-same : (m : Machine Chip Board) (n : ℕ) → ValidTo m n → Movers → console (run five m n) ≡ ran (console m) n
+pub ran-same : (m : Machine Chip Board) (n : ℕ) → ValidTo m n → Movers → console_of (run five m n) ≡ ran (console_of m) n
 unfolding run ran
 ran-same m zero valid movers = refl
 ran-same m (suc n) valid movers =
     let stage : IsValid five IsChip IsBoard (run five m n) = valid n (omega arith) in
-    let before : console (run five m n) ≡ ran (console m) n = ran-same m n (λ k below. valid k (omega arith)) movers in
+    let before : console_of (run five m n) ≡ ran (console_of m) n = ran-same m n (λ k below. valid k (omega arith)) movers in
     move-same (run five m n) stage (machines.mover five (run five m n)) (movers (run five m n))
-    ∙ ap (λ (i : ℕ). moved (console (run five m n)) i) (mover-same (run five m n) stage)
+    ∙ ap (λ (i : ℕ). moved (console_of (run five m n)) i) (mover-same (run five m n) stage)
     ∙ ap (λ (z : Console). moved z (mover z)) before
 
-pub journal-same : (m : Machine Chip Board) (n : ℕ) → ValidTo m n → Movers → machines.journal five m n ≡ journal (console m) n
+pub journal-same : (m : Machine Chip Board) (n : ℕ) → ValidTo m n → Movers → machines.journal five m n ≡ journal (console_of m) n
 unfolding journal machines.journal
 journal-same m zero valid movers = refl
 journal-same m (suc n) valid movers =
     let stage : IsValid five IsChip IsBoard (run five m n) = valid n (omega arith) in
-    let before : console (run five m n) ≡ ran (console m) n = ran-same m n (λ k below. valid k (omega arith)) movers in
-    let entry : machines.entries five (run five m n) (machines.mover five (run five m n)) ≡ told (ran (console m) n) (mover (ran (console m) n)) =
+    let before : console_of (run five m n) ≡ ran (console_of m) n = ran-same m n (λ k below. valid k (omega arith)) movers in
+    let entry : machines.entries five (run five m n) (machines.mover five (run five m n)) ≡ told (ran (console_of m) n) (mover (ran (console_of m) n)) =
     entries-told (run five m n) stage (machines.mover five (run five m n)) (movers (run five m n))
-    ∙ ap (λ (i : ℕ). told (console (run five m n)) i) (mover-same (run five m n) stage)
+    ∙ ap (λ (i : ℕ). told (console_of (run five m n)) i) (mover-same (run five m n) stage)
     ∙ ap (λ (z : Console). told z (mover z)) before in
     rw (journal-same m n (λ k below. valid k (omega arith)) movers, entry) refl

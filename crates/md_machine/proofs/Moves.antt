@@ -17,7 +17,7 @@ use Rattle.vdp_chip.specs.Drawing.{Drawing, line_drawn, picture_after}
 use Rattle.md_machine.specs.LineLaws.{told-drawn}
 use Rattle.md_machine.specs.Lines.{drawn_from, told_view}
 use Rattle.md_machine.specs.Parts.{DrawValue, FmValue, PsgValue, SubValue}
-use Rattle.md_machine.specs.Refinement.{console, draw_of, fm_of, main_of, psg_of, record_of, sub_of}
+use Rattle.md_machine.specs.Refinement.{console_of, draw_of, fm_of, main_of, psg_of, record_of, sub_of}
 use Rattle.md_machine.specs.Rules.{IsChip, advance, five, next, perform, sample}
 use Rattle.md_machine.specs.declared.chips.main.MainChip.{MainChip}
 use Rattle.z80_chip.specs.Events.{asked_of}
@@ -101,32 +101,32 @@ line-seen z view d same =
 
 -- the moves, chip by chip
 main_move : (b : Bool) (m : Machine Chip Board) (v : MainChip) → (next_of v.chip.state).sample ≡ b → m.chip 0 ≡ Main v
-    → console (move five m 0) ≡ moved (console m) 0
-unfolding console moved main_moved put
+    → console_of (move five m 0) ≡ moved (console_of m) 0
+unfolding console_of moved main_moved put
 main_move true m v kind is = rw (move-sample m 0 (ap (λ (c : Chip). (next c).sample) is ∙ kind)) (rw is (rw kind refl))
 main_move false m v kind is = rw (move-access m 0 (ap (λ (c : Chip). (next c).sample) is ∙ kind)) (rw is (rw kind refl))
 
 sub_move : (b : Bool) (m : Machine Chip Board) (v : SubValue) → (sub_next_of v.chip.state).sample ≡ b → m.chip 1 ≡ Sub v
-    → console (move five m 1) ≡ moved (console m) 1
-unfolding console moved sub_moved put
+    → console_of (move five m 1) ≡ moved (console_of m) 1
+unfolding console_of moved sub_moved put
 sub_move true m v kind is = rw (move-sample m 1 (ap (λ (c : Chip). (next c).sample) is ∙ kind)) (rw is (rw kind refl))
 sub_move false m v kind is = rw (move-access m 1 (ap (λ (c : Chip). (next c).sample) is ∙ kind)) (rw is (rw kind refl))
 
 -- the event of a line: what is not told of the view is not seen
-draw_move : (m : Machine Chip Board) (v : DrawValue) → m.chip 2 ≡ Draw v → console (move five m 2) ≡ moved (console m) 2
-unfolding console moved line_moved put
+draw_move : (m : Machine Chip Board) (v : DrawValue) → m.chip 2 ≡ Draw v → console_of (move five m 2) ≡ moved (console_of m) 2
+unfolding console_of moved line_moved put
 draw_move m v is =
     let lent : Drawing = record v.chip { has_view = false } in
     let after : Board = line_board m.shared v.chip.next v.chip.note in
     let before : Console = record_of (m.chip 0) (m.chip 1) (Draw v) (m.chip 3) (m.chip 4) after in
     rw (move-access m 2 (ap (λ (c : Chip). (next c).sample) is)) (rw is (line-seen before (view_of v.chip.pal after.vdp) v.chip refl))
 
-fm_move : (m : Machine Chip Board) (v : FmValue) → m.chip 3 ≡ Fm v → console (move five m 3) ≡ moved (console m) 3
-unfolding console moved fm_moved put
+fm_move : (m : Machine Chip Board) (v : FmValue) → m.chip 3 ≡ Fm v → console_of (move five m 3) ≡ moved (console_of m) 3
+unfolding console_of moved fm_moved put
 fm_move m v is = rw (move-access m 3 (ap (λ (c : Chip). (next c).sample) is)) (rw is refl)
 
-psg_move : (m : Machine Chip Board) (v : PsgValue) → m.chip 4 ≡ Psg v → console (move five m 4) ≡ moved (console m) 4
-unfolding console moved psg_moved put
+psg_move : (m : Machine Chip Board) (v : PsgValue) → m.chip 4 ≡ Psg v → console_of (move five m 4) ≡ moved (console_of m) 4
+unfolding console_of moved psg_moved put
 psg_move m v is = rw (move-access m 4 (ap (λ (c : Chip). (next c).sample) is)) (rw is refl)
 
 -- what holds of each of the five numbers
@@ -138,14 +138,14 @@ five-each P p0 p1 p2 p3 p4 (suc (suc (suc zero))) below = p3
 five-each P p0 p1 p2 p3 p4 (suc (suc (suc (suc zero)))) below = p4
 five-each P p0 p1 p2 p3 p4 (suc (suc (suc (suc (suc n))))) below = absurd (omega arith)
 
-pub move-same : (m : Machine Chip Board) → IsValid five IsChip IsBoard m → (i : ℕ) → i < 5 → console (move five m i) ≡ moved (console m) i
+pub move-same : (m : Machine Chip Board) → IsValid five IsChip IsBoard m → (i : ℕ) → i < 5 → console_of (move five m i) ≡ moved (console_of m) i
 move-same m valid =
     let k0 = kind0 (m.chip 0) (valid.number 0 (lit< tt)) in
     let k1 = kind1 (m.chip 1) (valid.number 1 (lit< tt)) in
     let k2 = kind2 (m.chip 2) (valid.number 2 (lit< tt)) in
     let k3 = kind3 (m.chip 3) (valid.number 3 (lit< tt)) in
     let k4 = kind4 (m.chip 4) (valid.number 4 (lit< tt)) in
-    five-each (λ i. console (move five m i) ≡ moved (console m) i)
+    five-each (λ i. console_of (move five m i) ≡ moved (console_of m) i)
     (main_move (next_of k0.0.chip.state).sample m k0.0 refl k0.1) (sub_move (sub_next_of k1.0.chip.state).sample m k1.0 refl k1.1) (draw_move m k2.0 k2.1) (fm_move m k3.0 k3.1) (psg_move m k4.0 k4.1)
 
 -- two readings of a chip that agree on a kind of chip agree on one of that kind
@@ -153,8 +153,8 @@ pub at-kind : {B : Type 0} (f g : Chip → B) (c k : Chip) → c ≡ k → f k �
 at-kind f g c k is same = ap f is ∙ same ∙ sym (ap g is)
 
 -- the keys
-pub key-same : (m : Machine Chip Board) → IsValid five IsChip IsBoard m → (i : ℕ) → i < 5 → key_of five m i ≡ key_in (console m) i
-unfolding console key_in
+pub key-same : (m : Machine Chip Board) → IsValid five IsChip IsBoard m → (i : ℕ) → i < 5 → key_of five m i ≡ key_in (console_of m) i
+unfolding console_of key_in
 key-same m valid =
     let k0 = kind0 (m.chip 0) (valid.number 0 (lit< tt)) in
     let k1 = kind1 (m.chip 1) (valid.number 1 (lit< tt)) in
@@ -162,7 +162,7 @@ key-same m valid =
     let k3 = kind3 (m.chip 3) (valid.number 3 (lit< tt)) in
     let k4 = kind4 (m.chip 4) (valid.number 4 (lit< tt)) in
     let read : Chip → Key = λ c. (next c).key in
-    five-each (λ i. key_of five m i ≡ key_in (console m) i)
+    five-each (λ i. key_of five m i ≡ key_in (console_of m) i)
     (at-kind read (λ c. (next_of (main_of c).chip.state).key) (m.chip 0) (Main k0.0) k0.1 refl)
     (at-kind read (λ c. (sub_next_of (sub_of c).chip.state).key) (m.chip 1) (Sub k1.0) k1.1 refl)
     (at-kind read (λ c. record { cycle = (draw_of c).chip.next; chip = 2 }) (m.chip 2) (Draw k2.0) k2.1 refl)
@@ -170,8 +170,8 @@ key-same m valid =
     (at-kind read (λ c. record { cycle = (psg_of c).cycle; chip = 4 }) (m.chip 4) (Psg k4.0) k4.1 refl)
 
 -- the entries
-pub entries-told : (m : Machine Chip Board) → IsValid five IsChip IsBoard m → (i : ℕ) → i < 5 → entries five m i ≡ told (console m) i
-unfolding console told entries
+pub entries-told : (m : Machine Chip Board) → IsValid five IsChip IsBoard m → (i : ℕ) → i < 5 → entries five m i ≡ told (console_of m) i
+unfolding console_of told entries
 entries-told m valid =
     let k0 = kind0 (m.chip 0) (valid.number 0 (lit< tt)) in
     let k1 = kind1 (m.chip 1) (valid.number 1 (lit< tt)) in
@@ -179,7 +179,7 @@ entries-told m valid =
     let k3 = kind3 (m.chip 3) (valid.number 3 (lit< tt)) in
     let k4 = kind4 (m.chip 4) (valid.number 4 (lit< tt)) in
     let read : Chip → List Entry = λ c. cond (next c).sample [] ((perform c m.shared).entry ∷ []) in
-    five-each (λ i. entries five m i ≡ told (console m) i)
+    five-each (λ i. entries five m i ≡ told (console_of m) i)
     (at-kind read
     (λ c. let s = (main_of c).chip.state in cond (next_of s).sample [] (main_told m.shared (next_of s).key (request_of (main_of c).chip.cart s) ∷ []))
     (m.chip 0) (Main k0.0) k0.1 refl)

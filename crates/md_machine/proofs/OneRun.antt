@@ -2,7 +2,7 @@
 use Rattle.std.proofs.Common.{◌≡◌, ℕ, ◌<◌, ◌≤◌, inl, inr, List, sym, ap, ◌∙◌, subst, arith}
 use Rattle.std.proofs.lemmas.Bool.{cases_lt}
 use Rattle.md_word.specs.declared.event.Entry.{Entry}
-use Rattle.md_machine.specs.Console.{AllBelow, Console, IsRunTo, journal, key_in, media, mover, ran}
+use Rattle.md_machine.specs.Console.{AllBelow, Console, IsRunTo, journal, key_in, media_after, mover, ran}
 use Rattle.md_machine.specs.Media.{Media}
 use Rattle.md_machine.specs.Movers.{mover-lt}
 
@@ -25,5 +25,5 @@ same-run m w z end first second output other one two =
     let same : one.moves ≡ two.moves = omega (arith, up, down) in (
       one.console ∙ ap (ran m) same ∙ sym two.console,
       one.entered ∙ ap (journal m) same ∙ sym two.entered,
-      one.rendered_to ∙ ap (media m) same ∙ sym two.rendered_to,
+      one.rendered_to ∙ ap (media_after m) same ∙ sym two.rendered_to,
     )

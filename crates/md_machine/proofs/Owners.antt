@@ -46,7 +46,7 @@ use Rattle.z80_parcel.specs.Requests.{RequestValue80, TakeBack, AnswerValue80, s
 use Rattle.md_machine.specs.Console.{Console, fm_moved, line_moved, main_moved, moved, mover, power_on, psg_moved, ran, sub_accessed, sub_moved}
 use Rattle.md_machine.specs.Movers.{mover-lt}
 use Rattle.md_machine.specs.Owners.{HasOneOwner}
-use Rattle.md_machine.specs.Refinement.{console, sub_of}
+use Rattle.md_machine.specs.Refinement.{console_of, sub_of}
 use Rattle.md_machine.specs.Rules.{IsChip, five}
 use Rattle.md_machine.specs.declared.chips.Chip.{Chip}
 use Rattle.md_machine.specs.declared.chips.Chip.TheVariants.{Sub}
@@ -355,30 +355,30 @@ move-owns z ok owns =
     (line-owns z owns) (fm-owns z owns) (psg-owns z owns)
 
 -- the Z80 of a valid machine is valid
-sub-valid : (m : Machine Chip Board) → IsValid five IsChip IsBoard m → IsChip80 (console m).sub
-unfolding console
+sub-valid : (m : Machine Chip Board) → IsValid five IsChip IsBoard m → IsChip80 (console_of m).sub
+unfolding console_of
 sub-valid m valid =
     let k = kind1 (m.chip 1) (valid.number 1 (lit< tt)) in
     let own : IsChip (Sub k.0) = subst IsChip k.1 (valid.chip 1 (lit< tt)) in
     subst (λ (c : Chip). IsChip80 (sub_of c).chip) (sym k.1) own
 
 -- a run
-owns-ran : (m : Machine Chip Board) (n : ℕ) → ValidTo m n → Movers → Owns (console m).sub.state (console m).shared
-    → Owns (ran (console m) n).sub.state (ran (console m) n).shared
+owns-ran : (m : Machine Chip Board) (n : ℕ) → ValidTo m n → Movers → Owns (console_of m).sub.state (console_of m).shared
+    → Owns (ran (console_of m) n).sub.state (ran (console_of m) n).shared
 unfolding ran
 owns-ran m zero valid movers first = first
 owns-ran m (suc n) valid movers first =
     let valid' : ValidTo m n = λ k below. valid k (omega arith) in
-    let same : console (run five m n) ≡ ran (console m) n = ran-same m n valid' movers in
-    let ok : IsChip80 (ran (console m) n).sub = subst (λ (z : Console). IsChip80 z.sub) same (sub-valid (run five m n) (valid n (omega arith))) in
-    move-owns (ran (console m) n) ok (owns-ran m n valid' movers first) (mover (ran (console m) n)) (mover-lt (ran (console m) n))
+    let same : console_of (run five m n) ≡ ran (console_of m) n = ran-same m n valid' movers in
+    let ok : IsChip80 (ran (console_of m) n).sub = subst (λ (z : Console). IsChip80 z.sub) same (sub-valid (run five m n) (valid n (omega arith))) in
+    move-owns (ran (console_of m) n) ok (owns-ran m n valid' movers first) (mover (ran (console_of m) n)) (mover-lt (ran (console_of m) n))
 
 -- at power-on the Z80 has them
-pub owner-is-one : (m : Machine Chip Board) (cart : List ℕ) (recording : Recorded) (pal : Bool) (n : ℕ) → console m ≡ power_on cart recording pal → ValidTo m n → Movers
+pub owner-is-one : (m : Machine Chip Board) (cart : List ℕ) (recording : Recorded) (pal : Bool) (n : ℕ) → console_of m ≡ power_on cart recording pal → ValidTo m n → Movers
     → HasOneOwner (ran (power_on cart recording pal) n)
 unfolding states80.power_on
 owner-is-one m cart recording pal n is valid movers =
     let first : Owns (power_on cart recording pal).sub.state (power_on cart recording pal).shared = record { one = refl; taking = λ take. absurd (true≢false (sym take)) } in
-    let run_owns : Owns (ran (console m) n).sub.state (ran (console m) n).shared =
+    let run_owns : Owns (ran (console_of m) n).sub.state (ran (console_of m) n).shared =
     owns-ran m n valid movers (subst (λ (z : Console). Owns z.sub.state z.shared) (sym is) first) in
     ap (λ (z : Console). is_some (ran z n).sub.state.store) (sym is) ∙ run_owns.one ∙ ap (λ (z : Console). not (is_some (ran z n).shared.store)) is

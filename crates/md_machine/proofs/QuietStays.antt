@@ -6,7 +6,7 @@ use Rattle.chip_core.specs.Machines as machines
 use Rattle.bus_shared.specs.Board.{Board, IsBoard}
 use Rattle.md_machine.specs.Console as consoles
 use Rattle.md_machine.specs.Console.{Console, IsQuiet, key_in, mover, ran}
-use Rattle.md_machine.specs.Refinement.{console}
+use Rattle.md_machine.specs.Refinement.{console_of}
 use Rattle.md_machine.specs.Rules.{IsChip, five}
 use Rattle.md_machine.specs.ValidParts.{HasValidParts}
 use Rattle.md_machine.specs.declared.chips.Chip.{Chip}
@@ -26,7 +26,7 @@ pub keys-rise : Stages → Movers → Spread → (m : Console) (end n i : ℕ) �
 keys-rise stages movers spread m end n i small has below less =
     let first : Machine Chip Board = machine_in m in
     let valid : IsValid five IsChip IsBoard first = valid_in m has in
-    let own : consoles.AllBelow (console first) end n = subst (λ (z : Console). consoles.AllBelow z end n) (sym (console_again m)) below in
+    let own : consoles.AllBelow (console_of first) end n = subst (λ (z : Console). consoles.AllBelow z end n) (sym (console_again m)) below in
     let lower : machines.AllBelow five first end n = below-lift first end n (λ k earlier. stages first end k small valid earlier) movers own in
     let to : ValidTo first n = λ k within. stages first end k small valid (record { each = λ j earlier. lower.each j (omega arith) }) in
     let rise = spread first end n i small valid lower less in

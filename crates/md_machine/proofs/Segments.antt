@@ -12,7 +12,7 @@ use Rattle.md_machine.specs.Lines.{frames_of}
 use Rattle.md_machine.specs.Machines.{kept_in}
 use Rattle.bus_shared.specs.Board.{Board, IsBoard}
 use Rattle.md_word.specs.Region.{frame_cycles}
-use Rattle.md_machine.specs.Refinement.{console, draw_of, fm_of, psg_of, record_of}
+use Rattle.md_machine.specs.Refinement.{console_of, draw_of, fm_of, psg_of, record_of}
 use Rattle.md_machine.specs.Regions.{most_batches, most_entries, most_pairs}
 use Rattle.md_machine.specs.Media.{Media, no_media}
 use Rattle.md_machine.specs.Rules.{IsChip, five}
@@ -57,8 +57,8 @@ pairs-of true n few = omega (arith, few)
 pairs-of false n few = omega (arith, few)
 
 -- two machines with the same shared state and the same five chips have the same record
-pub console-alike : (w z : Machine Chip Board) → w.shared ≡ z.shared → ((i : ℕ) → i < 5 → w.chip i ≡ z.chip i) → console w ≡ console z
-unfolding console
+pub console-alike : (w z : Machine Chip Board) → w.shared ≡ z.shared → ((i : ℕ) → i < 5 → w.chip i ≡ z.chip i) → console_of w ≡ console_of z
+unfolding console_of
 console-alike w z shared chips =
     ap (λ (c : Chip). record_of c (w.chip 1) (w.chip 2) (w.chip 3) (w.chip 4) w.shared) (chips 0 (lit< tt))
     ∙ ap (λ (c : Chip). record_of (z.chip 0) c (w.chip 2) (w.chip 3) (w.chip 4) w.shared) (chips 1 (lit< tt))
@@ -69,25 +69,25 @@ console-alike w z shared chips =
 
 -- the key of a stage's move is the record's
 move_key-same : (m : Machine Chip Board) (k : ℕ) → ValidTo m (suc k) → Movers
-    → machines.move_key five m k ≡ key_in (ran (console m) k) (mover (ran (console m) k))
+    → machines.move_key five m k ≡ key_in (ran (console_of m) k) (mover (ran (console_of m) k))
 move_key-same m k valid movers =
     let stage : IsValid five IsChip IsBoard (run five m k) = valid k (omega arith) in
     key-same (run five m k) stage (machines.mover five (run five m k)) (movers (run five m k))
-    ∙ ap (λ (i : ℕ). key_in (console (run five m k)) i) (mover-same (run five m k) stage)
+    ∙ ap (λ (i : ℕ). key_in (console_of (run five m k)) i) (mover-same (run five m k) stage)
     ∙ ap (λ (z : Console). key_in z (mover z)) (ran-same m k (λ j below. valid j (omega arith)) movers)
 
 -- a run of the five chips over a segment, from a machine that keeps no frame and no samples, is the
 -- record's, with its entries, frame and samples
 pub segment-run : (m w : Machine Chip Board) (from to : ℕ) (entered : List Entry) → machines.IsRunTo five m to w entered
     → ((n : ℕ) → AllBelow five m to n → IsValid five IsChip IsBoard (run five m n)) → Movers → IsValid five IsChip IsBoard w
-    → ((n : ℕ) → AllBelow five m to n → made five m 3 n ≤ most_batches (console m).pal) → ((n : ℕ) → AllBelow five m to n → made five m 4 n ≤ most_batches (console m).pal) → kept_in m ≡ no_media
-    → IsValid five IsChip IsBoard m → machines.IsQuiet five m from → to ≤ from + frame_cycles (console m).pal → consoles.IsRunTo (console m) to (console w) entered (kept_in w)
-unfolding fm_part psg_part console
+    → ((n : ℕ) → AllBelow five m to n → made five m 3 n ≤ most_batches (console_of m).pal) → ((n : ℕ) → AllBelow five m to n → made five m 4 n ≤ most_batches (console_of m).pal) → kept_in m ≡ no_media
+    → IsValid five IsChip IsBoard m → machines.IsQuiet five m from → to ≤ from + frame_cycles (console_of m).pal → consoles.IsRunTo (console_of m) to (console_of w) entered (kept_in w)
+unfolding fm_part psg_part console_of
 segment-run m w from to entered runs valid movers valid-w few_fm few none here quiet near =
     let earlier : (k : ℕ) → k ≤ runs.moves → AllBelow five m to k = λ k within. record { each = λ j below. runs.below.each j (omega arith) } in
     let stages : ValidTo m runs.moves = λ k below. valid k (earlier k (omega arith)) in
-    let sides : KeepsAll fm_part m runs.moves = samples-kept fm_part m runs.moves stages movers (ap (λ (s : Media). s.sides) none) (room-for (console m).pal _ (few_fm runs.moves runs.below)) in
-    let levels : KeepsAll psg_part m runs.moves = samples-kept psg_part m runs.moves stages movers (ap (λ (s : Media). s.levels) none) (room-for (console m).pal _ (few runs.moves runs.below)) in
+    let sides : KeepsAll fm_part m runs.moves = samples-kept fm_part m runs.moves stages movers (ap (λ (s : Media). s.sides) none) (room-for (console_of m).pal _ (few_fm runs.moves runs.below)) in
+    let levels : KeepsAll psg_part m runs.moves = samples-kept psg_part m runs.moves stages movers (ap (λ (s : Media). s.levels) none) (room-for (console_of m).pal _ (few runs.moves runs.below)) in
     let frames = frames-kept m from to runs.moves stages here movers (ap (λ (s : Media). s.frames) none) quiet near runs.below in
     record {
       moves = runs.moves;
@@ -126,7 +126,7 @@ below_or_is : (k n : ℕ) → k < suc n → (k < n) ⊎ (k ≡ n)
 below_or_is k n below = grind arith
 
 pub below-lift : (m : Machine Chip Board) (to n : ℕ) → ((k : ℕ) → AllBelow five m to k → IsValid five IsChip IsBoard (run five m k)) → Movers
-    → consoles.AllBelow (console m) to n → AllBelow five m to n
+    → consoles.AllBelow (console_of m) to n → AllBelow five m to n
 below-lift m to zero valid movers below = record { each = λ k within. absurd (omega arith) }
 below-lift m to (suc n) valid movers below =
     let earlier : AllBelow five m to n = below-lift m to n valid movers (λ k within. below k (omega arith)) in

@@ -21,7 +21,7 @@ use Rattle.bus_shared.proofs.Keeps as keeps
 use Rattle.bus_shared.specs.Board as boards
 use Rattle.md_pads.specs.Recording.{Recorded}
 use Rattle.psg_sound.specs.SynthLaws.{IsSynth-at_power_on}
-use Rattle.md_machine.specs.Refinement.{console}
+use Rattle.md_machine.specs.Refinement.{console_of}
 use Rattle.md_machine.specs.Regions.{IsOneRegion, most_entries}
 use Rattle.md_machine.specs.Rules.{IsChip, five, next}
 use Rattle.md_machine.specs.Media.{no_media}
@@ -46,8 +46,8 @@ first-is-core cart recording pal room image = record {
       (record { synth = IsSynth-at_power_on; taken = lit≤ tt; samples = lit≤ tt });
 }
 
-pub first-console : (cart : List ℕ) (recording : Recorded) (pal : Bool) (room : ℕ) → console (machine_of five (core_in (boards.power_on recording pal) (first_chips cart pal) first_bounds [] room)) ≡ power_on cart recording pal
-unfolding console
+pub first-console : (cart : List ℕ) (recording : Recorded) (pal : Bool) (room : ℕ) → console_of (machine_of five (core_in (boards.power_on recording pal) (first_chips cart pal) first_bounds [] room)) ≡ power_on cart recording pal
+unfolding console_of
 first-console cart recording pal room = refl
 
 -- no event of the first core stands below cycle 0

@@ -19,7 +19,7 @@ use Rattle.bus_shared.specs.Board.{Board, IsBoard}
 use Rattle.md_machine.specs.Console as consoles
 use Rattle.md_machine.specs.Console.{Console, drawing_in, ran}
 use Rattle.md_machine.specs.Parts.{DrawValue, PsgValue, SubValue}
-use Rattle.md_machine.specs.Refinement.{console, draw_of, main_of, psg_of, sub_of}
+use Rattle.md_machine.specs.Refinement.{console_of, draw_of, main_of, psg_of, sub_of}
 use Rattle.md_machine.specs.Rules.{IsChip, five}
 use Rattle.md_machine.specs.declared.chips.Chip.{Chip}
 use Rattle.md_machine.specs.declared.chips.Chip.TheVariants.{Main, Sub, Draw, Fm, Psg}
@@ -42,8 +42,8 @@ chip_in m i =
 abbrev pub machine_in : Console → Machine Chip Board
 machine_in m = record { shared = m.shared; chip = chip_in m }
 
-pub console_again : (m : Console) → console (machine_in m) ≡ m
-unfolding console
+pub console_again : (m : Console) → console_of (machine_in m) ≡ m
+unfolding console_of
 console_again m = refl
 
 pub valid_in : (m : Console) → HasValidParts m → IsValid five IsChip IsBoard (machine_in m)
@@ -73,8 +73,8 @@ psg_in c v is ok =
     let own : IsChip (Psg v) = subst IsChip is ok in
     subst (λ (k : Chip). IsSynth (psg_of k).synth) (sym is) own.synth
 
-pub parts_in : (m : Machine Chip Board) → IsValid five IsChip IsBoard m → HasValidParts (console m)
-unfolding console
+pub parts_in : (m : Machine Chip Board) → IsValid five IsChip IsBoard m → HasValidParts (console_of m)
+unfolding console_of
 parts_in m valid =
     let k0 = kind0 (m.chip 0) (valid.number 0 (lit< tt)) in
     let k1 = kind1 (m.chip 1) (valid.number 1 (lit< tt)) in
@@ -108,9 +108,9 @@ pub parts_ran : Stages → Movers → (m : Console) (end n : ℕ) → end ≤ 2 
 parts_ran stages movers m end n small has below =
     let first : Machine Chip Board = machine_in m in
     let valid : IsValid five IsChip IsBoard first = valid_in m has in
-    let own : consoles.AllBelow (console first) end n = subst (λ (z : Console). consoles.AllBelow z end n) (sym (console_again m)) below in
+    let own : consoles.AllBelow (console_of first) end n = subst (λ (z : Console). consoles.AllBelow z end n) (sym (console_again m)) below in
     let lower : machines.AllBelow five first end n = below-lift first end n (λ k earlier. stages first end k small valid earlier) movers own in
     let to : ValidTo first n = λ k within. stages first end k small valid (record { each = λ j earlier. lower.each j (omega arith) }) in
-    let same : console (run five first n) ≡ ran (console first) n = ran-same first n to movers in
+    let same : console_of (run five first n) ≡ ran (console_of first) n = ran-same first n to movers in
     subst (λ (z : Console). HasValidParts (ran z n)) (console_again m)
     (subst HasValidParts same (parts_in (run five first n) (stages first end n small valid lower)))

@@ -190,9 +190,9 @@ journal m zero = []
 journal m (suc n) = journal m n ++ told (ran m n) (mover (ran m n))
 
 -- the frames and samples of the first n moves, in their order
-unfoldable pub media : Console → ℕ → Media
-media m zero = no_media
-media m (suc n) = joined (media m n) (rendered (ran m n) (mover (ran m n)))
+unfoldable pub media_after : Console → ℕ → Media
+media_after m zero = no_media
+media_after m (suc n) = joined (media_after m n) (rendered (ran m n) (mover (ran m n)))
 
 -- the first n moves stand below the cycle
 abbrev pub AllBelow : Console → ℕ → ℕ → Type 0
@@ -209,4 +209,4 @@ pub record IsRunTo (m : Console) (end : ℕ) (after : Console) (entries : List E
   pub quiet : IsQuiet end after
   pub console : after ≡ ran m moves
   pub entered : entries ≡ journal m moves
-  pub rendered_to : output ≡ media m moves
+  pub rendered_to : output ≡ media_after m moves

@@ -11,7 +11,7 @@ use Rattle.chip_core.specs.Limits.{events_within}
 use Rattle.chip_core.specs.Machines as machines
 use Rattle.md_machine.specs.Console.{Console, IsRunTo}
 use Rattle.md_machine.specs.Machines.{kept_in}
-use Rattle.md_machine.specs.Refinement.{console}
+use Rattle.md_machine.specs.Refinement.{console_of}
 use Rattle.md_machine.specs.Rules.{five}
 use Rattle.md_machine.specs.declared.chips.Chip.{Chip}
 
@@ -21,11 +21,11 @@ use Rattle.md_machine.specs.declared.chips.Chip.{Chip}
 pub record EndsAsRun (start : Console) (from to : ℕ) (list : List Event) (z : Seen Chip Board) : Type 0 where
   pub few : length list ≤ events_within five (to - from)
   pub goes_on : machines.IsQuiet five z.machine to ⊎ ((event : Event) × IsEnabled five z to event)
-  pub there : machines.IsQuiet five z.machine to → IsRunTo start to (console z.machine) z.journal (kept_in z.machine)
+  pub there : machines.IsQuiet five z.machine to → IsRunTo start to (console_of z.machine) z.journal (kept_in z.machine)
 
 -- the machine has a core from which every list of enabled events, over a frame at most, ends so
 pub record ListsEndAsRun (at : ℕ) (start : Console) : Type 0 where
   pub core : CoreValue Chip Board
-  pub is : console (machine_of five core) ≡ start
+  pub is : console_of (machine_of five core) ≡ start
   pub each : (to : ℕ) (list : List Event) (z : Seen Chip Board) → to ≤ at + frame_cycles start.pal → to ≤ last_cycle
       → Leads five to (seen five core) list z → EndsAsRun start at to list z

@@ -8,7 +8,7 @@ use Rattle.chip_core.specs.Machines.{Machine}
 use Rattle.md_machine.specs.Console.{Console}
 use Rattle.md_pads.specs.Recording.{no_frames}
 use Rattle.bus_shared.specs.Board.{Board, IsBoard, power_on}
-use Rattle.md_machine.specs.Refinement.{console, draw_of, fm_of, psg_of}
+use Rattle.md_machine.specs.Refinement.{console_of, draw_of, fm_of, psg_of}
 use Rattle.md_machine.specs.Regions.{IsOneRegion, most_entries}
 use Rattle.md_machine.specs.Lines.{frames_of}
 use Rattle.md_machine.specs.Media.{Media}
@@ -39,7 +39,7 @@ kept_in m = record { frames = frames_of (draw_of (m.chip 2)).chip.frame; sides =
 abbrev pub machine_at : ℕ → CoreValue Chip Board → MachineValue
 machine_at at core = record {
   at = at;
-  console = console (machine_of five core);
+  console = console_of (machine_of five core);
   entries = core.journal;
   media = kept_in (machine_of five core);
 }
@@ -49,6 +49,6 @@ machine_at at core = record {
 pub record IsMachine (at : ℕ) (core : Option (CoreValue Chip Board)) : Type 0 where
   pub has_core : IsSome core
   pub valid : IsCore five IsChip IsBoard (core_held core)
-  pub region : IsOneRegion (console (machine_of five (core_held core)))
-  pub room : most_entries (console (machine_of five (core_held core))).pal ≤ (core_held core).room
+  pub region : IsOneRegion (console_of (machine_of five (core_held core)))
+  pub room : most_entries (console_of (machine_of five (core_held core))).pal ≤ (core_held core).room
   pub quiet : machines.IsQuiet five (machine_of five (core_held core)) at

@@ -57,5 +57,5 @@ record_of c0 c1 c2 c3 c4 b = record {
 }
 
 -- the record of a machine
-unfoldable pub console : Machine Chip Board → Console
-console m = record_of (m.chip 0) (m.chip 1) (m.chip 2) (m.chip 3) (m.chip 4) m.shared
+unfoldable pub console_of : Machine Chip Board → Console
+console_of m = record_of (m.chip 0) (m.chip 1) (m.chip 2) (m.chip 3) (m.chip 4) m.shared

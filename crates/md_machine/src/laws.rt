@@ -4,7 +4,7 @@ ghost use Rattle.std.specs.Prelude.{◌≡◌, ℕ, Bool, ◌+◌, ◌-◌, ◌*
 ghost use Rattle.md_word.specs.declared.event.Entry.{Entry};
 ghost use Rattle.chip_core.specs.Limits.{events_within};
 ghost use Rattle.md_pads.specs.Recording.{Recorded};
-ghost use Rattle.md_machine.specs.Console.{AllBelow, Console, IsQuiet, IsRunTo, journal, key_in, media, mover, power_on, ran};
+ghost use Rattle.md_machine.specs.Console.{AllBelow, Console, IsQuiet, IsRunTo, journal, key_in, media_after, mover, power_on, ran};
 ghost use Rattle.md_machine.specs.Lists.{ListsEndAsRun};
 ghost use Rattle.md_machine.specs.Owners.{HasOneOwner};
 ghost use Rattle.md_machine.specs.Pads.{ShowsPads};
@@ -31,7 +31,7 @@ pub fn moves_added()
     ensures machine { (m : Console) (first later : ℕ) → ran m (first + later) ≡ ran (ran m first) later }
     ensures entries { (m : Console) (first later : ℕ) → journal m (first + later) ≡ journal m first ++ journal (ran m first) later }
     ensures output { (m : Console) (first later : ℕ)
-        → media m (first + later) ≡ outputs.joined (media m first) (media (ran m first) later) }
+        → media_after m (first + later) ≡ outputs.joined (media_after m first) (media_after (ran m first) later) }
 {}
 
 /// There are no more entries than moves.

@@ -3,7 +3,7 @@ use Rattle.std.proofs.Common.{◌≡◌, ◌≢◌, ◌∙◌, refl, sym, ap, su
 use Rattle.std.proofs.lemmas.List.{take_all}
 use Rattle.std.specs.Prelude.{reverse}
 use Rattle.md_pads.specs.Recording.{Frame, IsRecording, no_frames, recording_of}
-use Rattle.md_machine.specs.Console.{Console, journal, media, power_on, ran}
+use Rattle.md_machine.specs.Console.{Console, journal, media_after, power_on, ran}
 use Rattle.md_machine.specs.Machines.{MachineValue}
 use Rattle.md_machine.specs.Media.{no_media}
 use Rattle.md_reached.specs.Reached.{IsReached}
@@ -75,7 +75,7 @@ one-pushed most window image old one two = (λ i. take (one i) (image ∷ two i)
 -- ---- the session at power-on
 
 pub first-machine : (cart : List ℕ) → IsMachineOf cart [] 0 (record { at = 0; console = power_on cart no_frames false; entries = []; media = no_media })
-unfolding ran journal media
+unfolding ran journal media_after
 first-machine cart = record {
   at = refl;
   run = record {

@@ -2,7 +2,7 @@
 use Rattle.std.proofs.Common.{◌≡◌, ℕ, ◌+◌, ◌-◌, ◌<◌, ◌≤◌, ◌^◌, ◌⊎◌, inl, inr, true, false, List, ◌++◌, refl, sym, ap, ◌∙◌, subst, arith}
 use Rattle.std.proofs.lemmas.Bool.{le-leb, lt-leb, leb-false, leb-true}
 use Rattle.md_word.specs.declared.event.Entry.{Entry}
-use Rattle.md_machine.specs.Console.{AllBelow, Console, IsRunTo, journal, key_in, mover, ran, media}
+use Rattle.md_machine.specs.Console.{AllBelow, Console, IsRunTo, journal, key_in, mover, ran, media_after}
 use Rattle.md_machine.specs.Media.{Media, joined}
 use Rattle.md_machine.specs.Movers.{mover-lt}
 use Rattle.md_machine.specs.Starts.{Start}
@@ -32,7 +32,7 @@ run-found start end laws small run =
     record {
       console = run.console ∙ ap (ran start.console) moves;
       entered = run.entered ∙ ap (journal start.console) moves;
-      rendered_to = run.rendered_to ∙ ap (media start.console) moves;
+      rendered_to = run.rendered_to ∙ ap (media_after start.console) moves;
     }
 
 -- the run of the definition leaves no event below its end
@@ -92,9 +92,9 @@ later_run start s t laws small within =
     let between : moves_from start t ≡ moves_from start s + (moves_from start t - moves_from start s) = omega (arith, on) in
     record {
       entries = journal (run_from start s) (moves_from start t - moves_from start s);
-      output = media (run_from start s) (moves_from start t - moves_from start s);
+      output = media_after (run_from start s) (moves_from start t - moves_from start s);
       more_entries = ap (journal start.console) between ∙ laws.entries_added (moves_from start s) (moves_from start t - moves_from start s);
-      more_media = ap (media start.console) between ∙ laws.output_added (moves_from start s) (moves_from start t - moves_from start s);
+      more_media = ap (media_after start.console) between ∙ laws.output_added (moves_from start s) (moves_from start t - moves_from start s);
       run = record {
         moves = moves_from start t - moves_from start s;
         below = λ k less. subst (λ (m : Console). (key_in m (mover m)).cycle < t) (laws.moves_added (moves_from start s) k)

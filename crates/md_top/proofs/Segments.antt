@@ -6,7 +6,7 @@ use Rattle.md_outer.specs.Outside.{IsPrefix}
 use Rattle.md_files.specs.Journal.{entry_bytes}
 use Rattle.md_files.specs.Wav.{wav_head}
 use Rattle.md_word.specs.declared.event.Entry.{Entry}
-use Rattle.md_machine.specs.Console.{AllBelow, Console, IsRunTo, journal, mover, ran, media}
+use Rattle.md_machine.specs.Console.{AllBelow, Console, IsRunTo, journal, mover, ran, media_after}
 use Rattle.md_machine.specs.Machines.{MachineValue}
 use Rattle.md_machine.specs.Outputs.{frame_bytes, frame_length, frames_bytes, journal_bytes, mixed_bytes, sample_bytes, sound_bytes}
 use Rattle.md_machine.specs.Media.{Media, joined, no_media}
@@ -97,8 +97,8 @@ unfolding entries_from journal
 no-entries start is laws small = ap (journal start.console) (no-moves start is laws small)
 
 pub no-media : (start : Start) → IsStart start → RunLaws start → start.at ≤ 2 ^ 50 → media_from start start.at ≡ no_media
-unfolding media_from media
-no-media start is laws small = ap (media start.console) (no-moves start is laws small)
+unfolding media_from media_after
+no-media start is laws small = ap (media_after start.console) (no-moves start is laws small)
 
 -- each level has its sums
 pub paired : (start : Start) (at : ℕ) → IsStart start → RunLaws start → at ≤ 2 ^ 50 → length (media_from start at).sides ≡ length (media_from start at).levels

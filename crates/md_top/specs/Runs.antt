@@ -2,7 +2,7 @@
 use Rattle.std.specs.Prelude.{◌≡◌, ℕ, ◌+◌, ◌-◌, ◌*◌, ◌^◌, ◌<◌, ◌≤◌, nat_le, Bool, List, [], ◌++◌, length, Option}
 use Rattle.md_word.specs.declared.event.Entry.{Entry}
 use Rattle.md_files.specs.Wav.{wav_head}
-use Rattle.md_machine.specs.Console.{AllBelow, Console, IsRunTo, journal, key_in, media, mover, power_on, ran}
+use Rattle.md_machine.specs.Console.{AllBelow, Console, IsRunTo, journal, key_in, media_after, mover, power_on, ran}
 use Rattle.md_machine.specs.Media.{Media, joined}
 use Rattle.md_machine.specs.Outputs.{frames_bytes, journal_bytes, sound_bytes}
 use Rattle.md_machine.specs.Starts.{IsStart, Start, batches_below, frames_below}
@@ -39,7 +39,7 @@ entries_from start end = journal start.console (moves_from start end)
 -- the frames that were finished from the start on and below the cycle, and the samples of the sound
 -- chips
 unfoldable pub media_from : Start → ℕ → Media
-media_from start end = media start.console (moves_from start end)
+media_from start end = media_after start.console (moves_from start end)
 
 -- the sound file of a run to the cycle `end`, as far as the cycle `at`: a head for all samples of
 -- the run, and the pairs of those below `at`
@@ -79,7 +79,7 @@ pub record RunLaws (start : Start) : Type 0 where
   -- samples of both
   pub moves_added : (first later : ℕ) → ran start.console (first + later) ≡ ran (ran start.console first) later
   pub entries_added : (first later : ℕ) → journal start.console (first + later) ≡ journal start.console first ++ journal (ran start.console first) later
-  pub output_added : (first later : ℕ) → media start.console (first + later) ≡ joined (media start.console first) (media (ran start.console first) later)
+  pub output_added : (first later : ℕ) → media_after start.console (first + later) ≡ joined (media_after start.console first) (media_after (ran start.console first) later)
   -- a run, and behind it one that goes on from where it ended, are a run with those of both
   pub runs_joined : (w z : Console) (s t : ℕ) (entries later_entries : List Entry) (output later_output : Media) → s ≤ t
       → IsRunTo start.console s w entries output → IsRunTo w t z later_entries later_output

@@ -3,7 +3,7 @@ use Rattle.std.proofs.Common.{◌≡◌, ◌∙◌, refl, sym, ap, ap₂, subst,
 use Rattle.md_word.specs.declared.event.Entry.{Entry}
 use Rattle.md_word.specs.declared.key.Key.{Key}
 use Rattle.md_pads.specs.Recording.{Frame}
-use Rattle.md_machine.specs.Console.{AllBelow, Console, IsRunTo, journal, key_in, media, moved, mover, ran, rendered, told}
+use Rattle.md_machine.specs.Console.{AllBelow, Console, IsRunTo, journal, key_in, media_after, moved, mover, ran, rendered, told}
 use Rattle.md_machine.specs.Media.{Media, joined}
 use Rattle.md_machine.specs.Movers.{mover-lt}
 use Rattle.md_machine.proofs.Regions.{ran_stays}
@@ -48,10 +48,10 @@ record Alike (r s : List Frame) (n : ℕ) (m : Console) : Type 0 where
   has : Has r (ran (with_frames r m) n)
   console : with_frames s (ran (with_frames r m) n) ≡ ran (with_frames s m) n
   entered : journal (with_frames r m) n ≡ journal (with_frames s m) n
-  shown : media (with_frames r m) n ≡ media (with_frames s m) n
+  shown : media_after (with_frames r m) n ≡ media_after (with_frames s m) n
 
 alike_after : (r s : List Frame) (end : ℕ) (m : Console) → AreAlikeBelow m.shared.vdp.pal end r s → (n : ℕ) → AllBelow (with_frames r m) end n → Alike r s n m
-unfolding ran journal media
+unfolding ran journal media_after
 alike_after r s end m same zero below = record { has = refl; console = refl; entered = refl; shown = refl }
 alike_after r s end m same (suc n) below =
     let before : Alike r s n m = alike_after r s end m same n (λ k less. below k (omega arith)) in

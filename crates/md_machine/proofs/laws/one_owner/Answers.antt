@@ -4,7 +4,7 @@ use Rattle.chip_core.specs.Machines.{AllBelow, IsValid, Machine}
 use Rattle.md_machine.specs.First.{first_bounds, first_chips}
 use Rattle.md_machine.specs.Machines.{core_in}
 use Rattle.bus_shared.specs.Board.{Board, IsBoard, power_on}
-use Rattle.md_machine.specs.Refinement.{console}
+use Rattle.md_machine.specs.Refinement.{console_of}
 use Rattle.md_machine.specs.Rules.{IsChip, five}
 use Rattle.md_machine.specs.declared.chips.Chip.{Chip}
 use Rattle.md_machine.proofs.Lifts.{ValidTo}
@@ -14,7 +14,7 @@ use Rattle.md_machine.proofs.Start.{first-console, first-is-core}
 use Rattle.md_machine.proofs.laws.one_owner.Goals as goal
 
 pub returns : goal.returns
-unfolding console
+unfolding console_of
 returns c = λ recording pal end n small below.
     let first : Machine Chip Board = machine_of five (core_in (power_on recording pal) (first_chips c.args.cart.now pal) first_bounds [] 0) in
     let valid : IsValid five IsChip IsBoard first =

@@ -5,13 +5,13 @@ use Rattle.md_machine.specs.Drained.{frame_of}
 use Rattle.md_machine.specs.Lines.{frames_of}
 use Rattle.md_machine.specs.Machines.{MachineValue}
 use Rattle.md_machine.specs.Outputs.{frame_length, frames_bytes}
-use Rattle.md_machine.specs.Refinement.{console, draw_of}
+use Rattle.md_machine.specs.Refinement.{console_of, draw_of}
 use Rattle.md_machine.specs.declared.chips.Chip.{Chip}
 use Rattle.md_machine.proofs.Held.{read-chip}
 use Rattle.md_machine.proofs.machine.Machine.drain_frames.Goals as goal
 
 pub put_frames-requires-clause-size : goal.put_frames-requires-clause-size
-unfolding console
+unfolding console_of
 put_frames-requires-clause-size c =
     let v = c.core.result.now in
     let region : (draw_of c.index-chips-2.result).chip.pal ≡ c.pal-pal.result =

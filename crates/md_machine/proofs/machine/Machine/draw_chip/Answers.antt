@@ -1,7 +1,7 @@
 use Rattle.std.proofs.Common.{ap, ◌∙◌, lit<}
 use Rattle.vdp_chip.specs.Drawing.{Drawing}
 use Rattle.md_machine.specs.Machines.{MachineValue}
-use Rattle.md_machine.specs.Refinement.{console, draw_of}
+use Rattle.md_machine.specs.Refinement.{console_of, draw_of}
 use Rattle.md_machine.specs.Rules.{next}
 use Rattle.md_machine.specs.declared.chips.Chip.{Chip}
 use Rattle.md_machine.proofs.Held.{read-chip}
@@ -15,7 +15,7 @@ draw_in-requires c =
     ∙ c.core.ensures.core.shape.number 2 (lit< tt)
 
 pub returns-clause-next : goal.returns-clause-next
-unfolding console
+unfolding console_of
 returns-clause-next c =
     let v = c.core.result.now in
     ap (λ (d : Drawing). d.next) c.draw_in.ensures
@@ -24,7 +24,7 @@ returns-clause-next c =
     ∙ ap (λ (v : MachineValue). v.console.line) c.core.ensures.value
 
 pub returns-clause-note : goal.returns-clause-note
-unfolding console
+unfolding console_of
 returns-clause-note c =
     let v = c.core.result.now in
     ap (λ (d : Drawing). d.note) c.draw_in.ensures
@@ -33,7 +33,7 @@ returns-clause-note c =
     ∙ ap (λ (v : MachineValue). v.console.note) c.core.ensures.value
 
 pub returns-clause-picture : goal.returns-clause-picture
-unfolding console
+unfolding console_of
 returns-clause-picture c =
     let v = c.core.result.now in
     ap (λ (d : Drawing). d.picture) c.draw_in.ensures
@@ -42,7 +42,7 @@ returns-clause-picture c =
     ∙ ap (λ (v : MachineValue). v.console.picture) c.core.ensures.value
 
 pub returns-clause-region : goal.returns-clause-region
-unfolding console
+unfolding console_of
 returns-clause-region c =
     let v = c.core.result.now in
     ap (λ (d : Drawing). d.pal) c.draw_in.ensures

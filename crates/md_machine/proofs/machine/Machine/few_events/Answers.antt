@@ -4,7 +4,7 @@ use Rattle.chip_core.specs.Machines.{AllBelow, IsValid, Machine}
 use Rattle.md_machine.specs.Console as consoles
 use Rattle.md_machine.specs.Machines.{MachineValue, core_held}
 use Rattle.bus_shared.specs.Board.{Board, IsBoard}
-use Rattle.md_machine.specs.Refinement.{console}
+use Rattle.md_machine.specs.Refinement.{console_of}
 use Rattle.md_machine.specs.Rules.{IsChip, five}
 use Rattle.md_machine.specs.declared.chips.Chip.{Chip}
 use Rattle.md_machine.proofs.Segments.{below-lift, moves-few}
@@ -16,7 +16,7 @@ returns c =
     let core : CoreValue Chip Board = core_held m.core in
     let first : Machine Chip Board = machine_of five core in
     let valid : IsValid five IsChip IsBoard first = c.stages.ensures.core core c.self.invariant.valid in
-    let few : (end n : ℕ) → end ≤ 2 ^ 50 → consoles.AllBelow (console first) end n → n ≤ end - m.at + 5 = λ end n small below.
+    let few : (end n : ℕ) → end ≤ 2 ^ 50 → consoles.AllBelow (console_of first) end n → n ≤ end - m.at + 5 = λ end n small below.
     (let lower : AllBelow five first end n =
     below-lift first end n (λ k earlier. c.stages.ensures.valid first end k (omega arith) valid earlier) c.stages.ensures.mover below in
     moves-few first m.at end n c.stages.ensures.mover

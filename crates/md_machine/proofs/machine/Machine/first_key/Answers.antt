@@ -6,7 +6,7 @@ use Rattle.chip_core.specs.Machines.{IsValid, Machine, least_below}
 use Rattle.md_machine.specs.Console.{key_in, mover}
 use Rattle.md_machine.specs.Machines.{MachineValue}
 use Rattle.bus_shared.specs.Board.{Board, IsBoard}
-use Rattle.md_machine.specs.Refinement.{console}
+use Rattle.md_machine.specs.Refinement.{console_of}
 use Rattle.md_machine.specs.Rules.{IsChip, five}
 use Rattle.md_machine.specs.declared.chips.Chip.{Chip}
 use Rattle.md_machine.proofs.Lifts.{mover-same}
@@ -22,7 +22,7 @@ returns-clause-key c =
     c.least_key.ensures
     ∙ ap (λ (chips : List Chip). cores.key_in five chips (least_below (cores.key_in five chips) 5)) c.chips.ensures.value
     ∙ key-same first valid (machines.mover five first) (c.stages.ensures.mover first)
-    ∙ ap (λ (i : ℕ). key_in (console first) i) (mover-same first valid)
+    ∙ ap (λ (i : ℕ). key_in (console_of first) i) (mover-same first valid)
     ∙ ap (λ (v : MachineValue). key_in v.console (mover v.console)) c.core.ensures.value
 
 pub returns-clause-chip : goal.returns-clause-chip

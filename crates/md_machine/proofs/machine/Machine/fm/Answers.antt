@@ -1,6 +1,6 @@
 use Rattle.std.proofs.Common.{ap, ◌∙◌, lit<}
 use Rattle.md_machine.specs.Machines.{MachineValue}
-use Rattle.md_machine.specs.Refinement.{console, fm_of}
+use Rattle.md_machine.specs.Refinement.{console_of, fm_of}
 use Rattle.md_machine.specs.Rules.{next}
 use Rattle.md_machine.specs.declared.chips.Chip.{Chip}
 use Rattle.md_machine.proofs.Held.{read-chip}
@@ -14,7 +14,7 @@ fm_in-requires c =
     ∙ c.core.ensures.core.shape.number 3 (lit< tt)
 
 pub returns : goal.returns
-unfolding console
+unfolding console_of
 returns c =
     let v = c.core.result.now in
     c.fm_in.ensures

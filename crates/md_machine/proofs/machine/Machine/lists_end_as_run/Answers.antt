@@ -13,7 +13,7 @@ use Rattle.md_machine.specs.Laws.{lawful}
 use Rattle.md_machine.specs.Lists.{EndsAsRun, ListsEndAsRun}
 use Rattle.md_machine.specs.Machines.{MachineValue, core_held, kept_in}
 use Rattle.md_machine.specs.Media.{no_media}
-use Rattle.md_machine.specs.Refinement.{console}
+use Rattle.md_machine.specs.Refinement.{console_of}
 use Rattle.md_machine.specs.Rules.{IsChip, five}
 use Rattle.md_machine.specs.declared.chips.Chip.{Chip}
 use Rattle.md_machine.proofs.Lists.{run-goes-on}
@@ -29,8 +29,8 @@ returns c =
     let begun : IsTidy five IsChip IsBoard (seen five core) = c.events.ensures.core core c.self.invariant.valid in
     let entries : core.journal ≡ [] = ap (λ (v : MachineValue). v.entries) c.self.view_is ∙ c.requires.entries in
     let media : kept_in first ≡ no_media = ap (λ (v : MachineValue). v.media) c.self.view_is ∙ c.requires.media in
-    let each : (to : ℕ) (list : List Event) (z : Seen Chip Board) → to ≤ m.at + frame_cycles (console first).pal → to ≤ last_cycle → Leads five to (seen five core) list z
-    → EndsAsRun (console first) m.at to list z = λ to list z near far leads.
+    let each : (to : ℕ) (list : List Event) (z : Seen Chip Board) → to ≤ m.at + frame_cycles (console_of first).pal → to ≤ last_cycle → Leads five to (seen five core) list z
+    → EndsAsRun (console_of first) m.at to list z = λ to list z near far leads.
     (let tidy : IsTidy five IsChip IsBoard z = tidy-leads five IsChip IsBoard lawful to (omega arith) (seen five core) begun list z leads in
     let opens : Stands five (seen five core) to (seen five core) =
     (λ i. 0, subst (λ (l : List Entry). StandsFor five first (seen five core).bound to first (seen five core).bound l (λ i. 0)) (sym entries) (c.events.ensures.first (seen five core) to (omega arith) valid)) in
@@ -40,8 +40,8 @@ returns c =
       goes_on = run-goes-on z tidy to;
       there = λ quiet. segment-run first z.machine m.at to z.journal (c.events.ensures.ended (seen five core) z to (omega arith) valid tidy stands quiet)
           (λ n below. c.stages.ensures.valid first to n (omega arith) valid below) c.stages.ensures.mover tidy.valid
-          (λ n below. le_trans (c.limits.ensures.made first to n 3 (omega arith) valid below (lit< tt)) (fm_batches-few (console first).pal first m.at to near c.self.invariant.quiet))
-          (λ n below. le_trans (c.limits.ensures.made first to n 4 (omega arith) valid below (lit< tt)) (batches-few (console first).pal first m.at to near c.self.invariant.quiet))
+          (λ n below. le_trans (c.limits.ensures.made first to n 3 (omega arith) valid below (lit< tt)) (fm_batches-few (console_of first).pal first m.at to near c.self.invariant.quiet))
+          (λ n below. le_trans (c.limits.ensures.made first to n 4 (omega arith) valid below (lit< tt)) (batches-few (console_of first).pal first m.at to near c.self.invariant.quiet))
           media valid c.self.invariant.quiet near;
     }) in
     subst (λ (v : MachineValue). ListsEndAsRun v.at v.console) c.self.view_is (record { core = core; is = refl; each = each })

@@ -1,6 +1,6 @@
 use Rattle.std.proofs.Common.{ap, ◌∙◌, lit<}
 use Rattle.md_machine.specs.Machines.{MachineValue}
-use Rattle.md_machine.specs.Refinement.{console, main_of}
+use Rattle.md_machine.specs.Refinement.{console_of, main_of}
 use Rattle.md_machine.specs.Rules.{next}
 use Rattle.md_machine.specs.declared.chips.Chip.{Chip}
 use Rattle.md_machine.proofs.Held.{read-chip}
@@ -14,7 +14,7 @@ main_in-requires c =
     ∙ c.core.ensures.core.shape.number 0 (lit< tt)
 
 pub returns : goal.returns
-unfolding console
+unfolding console_of
 returns c =
     let v = c.core.result.now in
     c.main_in.ensures
