@@ -106,6 +106,14 @@ impl Shared {
         })
     }
 
+    /// Exchanges the recording of the pads. The buttons that are pressed stay until the next line behind the
+    /// picture.
+    pub fn set_recording(&mut self, recording: Arc<Recording>)
+        ensures { self.new ≡ record self.old { recording = arc_value recording } }
+    {
+        self.recording = recording;
+    }
+
     /// The VDP's registers and memories, borrowed as they stand, for a picture of a region.
     pub fn scene(&self, pal: bool) -> Scene<'_>
         ensures { seen result ≡ view_of pal self.now.vdp }

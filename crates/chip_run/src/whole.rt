@@ -24,6 +24,9 @@ fn access_held<C: ChipSet, N: Named, L: Ledger>(
     ensures number { held.new.number ≡ number }
     ensures free { held.new.due ≡ Due.Nothing }
 {
+    if C::next(&held.chip).sample {
+        return;
+    }
     book.audit(&mut held.share);
     book.add(&mut held.share, held.ahead);
     held.ahead = 0;
@@ -32,14 +35,15 @@ fn access_held<C: ChipSet, N: Named, L: Ledger>(
     }
 }
 
-/// The samples of a held chip up to the end of its lease, where its next event is one before it.
+/// The samples of a held chip up to the end of its lease, where its next event is one before it; answers
+/// whether it was.
 #[inline(always)]
 fn sample_held<C: ChipSet, N: Named, L: Ledger>(
     parts: &mut Parts<C>,
     book: &mut Book<L>,
     held: &mut Held<C, N, L>,
     number: u8,
-)
+) -> bool
     requires number { held.old.number ≡ number }
     requires free { held.old.due ≡ Due.Nothing }
     requires whole { L.parts ≡ 1 }
@@ -53,11 +57,12 @@ fn sample_held<C: ChipSet, N: Named, L: Ledger>(
     book.add(&mut held.share, held.ahead);
     held.ahead = 0;
     let Some(end) = parts.lease(&held.chip, number) else {
-        return;
+        return false;
     };
     book.add(&mut held.share, 1);
     let pins = parts.pins(number);
     held.ahead = run::<C>(&mut held.chip, &pins, &end) - 1;
+    true
 }
 
 /// Announces a held chip, whose ledger books the samples that it made under its lease.
@@ -102,6 +107,8 @@ pub(crate) fn turn_held<C: ChipSet, N: Named, L: Ledger>(
     ensures free { held.new.due ≡ Due.Nothing }
 {
     access_held(parts, book, held, number);
-    sample_held(parts, book, held, number);
-    announce_held(parts, book, held, number);
+    // to look for a lease has announced the chip; after samples it is announced anew
+    if sample_held(parts, book, held, number) {
+        announce_held(parts, book, held, number);
+    }
 }

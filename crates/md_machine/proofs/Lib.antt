@@ -18,6 +18,7 @@ pub mod OneRun
 pub mod Owners
 pub mod Pads
 pub mod QuietStays
+pub mod Recorded
 pub mod Regions
 pub mod Samples
 pub mod Segments

@@ -266,6 +266,16 @@ impl Machine {
         self.empty_psg();
     }
 
+    /// Exchanges the recording of the pads. The buttons that are pressed stay until the next line behind the
+    /// picture.
+    pub fn set_recording(&mut self, recording: Arc<Recording>)
+        ensures { self.new ≡ record self.old { console = record self.old.console { shared = record self.old.console.shared { recording = arc_value recording } } } }
+    {
+        if let Some(core) = self.core.take() {
+            self.core = Some(recorded(core, recording));
+        }
+    }
+
     /// The core.
     pub(crate) fn core(&self) -> &Core<MdChips>
         ensures value { machine_at self.now.at result.now ≡ self.now }
@@ -318,4 +328,15 @@ impl Machine {
     {
         self.empty(4);
     }
+}
+
+/// The core with another recording of the pads.
+fn recorded(core: Core<MdChips>, recording: Arc<Recording>) -> Core<MdChips>
+    ensures value { result ≡ record core { shared = record core.shared { recording = arc_value recording } } }
+    ensures core { IsCore five IsChip IsBoard result }
+{
+    let (shared, chips, bounds, journal) = core.into_parts();
+    let mut shared = shared;
+    shared.set_recording(recording);
+    Core::make(shared, chips, bounds, journal)
 }

@@ -8,7 +8,7 @@ use Rattle.md_machine.specs.Machines.{MachineValue}
 use Rattle.md_machine.specs.Media.{no_media}
 use Rattle.md_reached.specs.Reached.{IsReached}
 use Rattle.rollback_inputs.specs.Inputs.{AreInputs, InputsValue, IsFixed, expected_frames, frame_at, most_frames}
-use Rattle.md_rollback.specs.Played.{AreImagesOf, IsImageOf, IsMachineOf, IsPlayed, KeepsReached}
+use Rattle.md_rollback.specs.Played.{AreImagesOf, IsImageOf, IsMachineOf, IsPlayed, IsPlayedAlike, KeepsReached}
 use Rattle.md_rollback.specs.Sessions.{IsSession}
 use Rattle.rollback_inputs.proofs.Expected.{frames-long, frames-small}
 use Rattle.rollback_inputs.proofs.FixedFrames.{back-within, fixed-next}
@@ -48,6 +48,14 @@ module _ (cart : List ℕ) (spelling : ℕ → Console → List ℕ) (is_ready i
       image-with cart spelling is_own played expected right (get_or kept (length played - right) []) found.same
       (subst (λ (n : ℕ). IsImageOf cart spelling is_own played n (get_or kept (length played - right) [])) place
       (session.images.each (length played - right) back-few))
+
+  -- where none is newer than the last right one, the machine itself is that of the expected frames so far
+  pub machine-here : length played - right ≡ 0 → IsPlayedAlike cart expected right machine
+  machine-here none = record {
+    made_with = played;
+    alike = λ f early. found.same f (omega (arith, early));
+    played = subst (λ (n : ℕ). IsPlayed cart played n machine) (omega (arith, none, found.within)) session.played_is;
+  }
 
   pub session-next : (new : MachineValue) (newer : List (List ℕ)) → AreInputs inputs → length played < most_frames → length played < inputs.confirmed + window
       → IsPlayed cart expected (length expected) new → right + length newer ≡ length expected → AreImagesOf cart spelling is_own expected (right + 1) newer

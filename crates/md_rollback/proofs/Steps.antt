@@ -7,7 +7,7 @@ use Rattle.md_pads.specs.declared.version.Version.{Version}
 use Rattle.md_pads.specs.declared.version.Version.TheVariants.{First}
 use Rattle.md_word.specs.Clock.{frame}
 use Rattle.md_word.specs.declared.event.Entry.{Entry}
-use Rattle.md_machine.specs.Console.{Console, IsQuiet, IsRunTo, power_on}
+use Rattle.md_machine.specs.Console.{Console, IsQuiet, IsRunTo, key_in, power_on}
 use Rattle.md_machine.specs.Machines.{MachineValue}
 use Rattle.md_machine.specs.Media.{Media, joined, no_media}
 use Rattle.md_machine.specs.ValidParts.{HasValidParts}
@@ -22,7 +22,7 @@ use Rattle.replays.specs.declared.fault.ReplayFault.{ReplayFault}
 use Rattle.recording_laws.specs.Recorded.{AreAlikeBelow, with_recording, with_frames}
 use Rattle.save_state.specs.States.{settled_console}
 use Rattle.rollback_images.specs.Images.{Kept}
-use Rattle.md_rollback.specs.Played.{AreImagesOf, AreMade, IsImageOf, IsKept, IsPlayed, IsRunAt, KeepsReached}
+use Rattle.md_rollback.specs.Played.{AreImagesOf, AreMade, IsImageOf, IsKept, IsPlayed, IsPlayedAlike, IsRunAt, KeepsReached}
 
 -- the recording of a run is that with which it began
 pub recording-is : (cart : List ℕ) (recording : List Frame) (at : ℕ) (m : Console) → IsRunAt cart recording at m → m.shared.recording ≡ recording_of recording
@@ -158,6 +158,64 @@ resumed-machine cart spelling is_own recording frames bytes m is same buttons pa
     (settled (frame * frames) is.kept (recording_of recording) is.reached buttons
     (subst (λ (x : MachineValue). HasValidParts x.console) same parts)
     (subst (λ (x : MachineValue). IsValid x.console) same sound)))
+
+-- what holds of each machine that a run reaches holds of it with another recording
+reached-with : (at : ℕ) (m : Console) (recording : Recorded) → IsReached at m → All IsFrame recording.frames
+    → HasValidParts (with_recording recording m) → IsValid (with_recording recording m) → IsReached at (with_recording recording m)
+unfolding key_in
+reached-with at m recording reached buttons parts valid = record {
+  start = record { quiet = reached.start.quiet; line = reached.start.line; fm = reached.start.fm; psg = reached.start.psg };
+  parts = parts;
+  processors = record {
+    valid = valid;
+    main = reached.processors.main;
+    sub = reached.processors.sub;
+    one_cart = reached.processors.one_cart;
+    one_owner = reached.processors.one_owner;
+    resets = reached.processors.resets;
+  };
+  video = record { rules = reached.video.rules; drawing = reached.video.drawing; near = reached.video.near };
+  lines = record { resets = reached.lines.resets; recording = buttons; pads = reached.lines.pads; falls1 = reached.lines.falls1; falls2 = reached.lines.falls2 };
+  writes = record { fm = reached.writes.fm; psg = reached.writes.psg; fm_early = reached.writes.fm_early; psg_early = reached.writes.psg_early };
+  timers = reached.timers;
+}
+
+-- a machine that was played with another recording, whose frames so far were the same
+pub exchanged : (cart : List ℕ) (recording : List Frame) (frames : ℕ) (m : MachineValue) → (is : IsPlayedAlike cart recording frames m)
+    → ((z : Console) (entries : List Entry) (output : Media) → IsRunTo (power_on cart (recording_of is.made_with) false) (frame * frames) z entries output → IsRunTo (power_on cart (recording_of recording) false) (frame * frames) (with_frames recording z) entries output)
+    → IsReached (frame * frames) (with_recording (recording_of recording) m.console)
+    → IsPlayed cart recording frames (record m { console = with_recording (recording_of recording) m.console })
+exchanged cart recording frames m is later reached =
+    let start : IsRunAt cart is.made_with (frame * frames) m.console = is.played.machine_is.run in
+    record {
+      machine_is = record {
+        at = is.played.machine_is.at;
+        run = record {
+          last = with_recording (recording_of recording) start.last;
+          entries = start.entries;
+          output = start.output;
+          run = subst (λ (x : Console). IsRunTo (power_on cart (recording_of recording) false) (frame * frames) x start.entries start.output)
+              (frames-with recording start.last (last-first cart is.made_with (frame * frames) start.last start.entries start.output start.run))
+              (later start.last start.entries start.output start.run);
+          same = ap (with_recording (recording_of recording)) start.same;
+        };
+      };
+      cart_is = is.played.cart_is;
+      reached = reached;
+      entries = is.played.entries;
+      media = is.played.media;
+    }
+
+pub exchanged-machine : (cart : List ℕ) (recording : List Frame) (frames : ℕ) (old new : MachineValue) → IsPlayedAlike cart recording frames old
+    → new ≡ record old { console = with_recording (recording_of recording) old.console }
+    → All IsFrame recording → HasValidParts new.console → IsValid new.console → LaterLaw → IsPlayed cart recording frames new
+exchanged-machine cart recording frames old new is same buttons parts valid later =
+    subst (IsPlayed cart recording frames) (sym same)
+    (exchanged cart recording frames old is
+    (λ z entries output run. later (power_on cart (recording_of is.made_with) false) z is.made_with recording (frame * frames) entries output is.alike run)
+    (reached-with (frame * frames) old.console (recording_of recording) is.played.reached buttons
+    (subst (λ (x : MachineValue). HasValidParts x.console) same parts)
+    (subst (λ (x : MachineValue). IsValid x.console) same valid)))
 
 pub ok-no-err : (m : MachineValue) (e : ReplayFault) → Ok m ≡ Err e → ⊥
 ok-no-err m e same = cc

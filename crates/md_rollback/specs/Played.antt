@@ -33,6 +33,12 @@ pub record IsPlayed (cart : List ℕ) (recording : List Frame) (frames : ℕ) (m
   pub entries : machine.entries ≡ []
   pub media : machine.media ≡ no_media
 
+-- the machine after so many frames of a recording, seen from another whose words are the same so far
+pub record IsPlayedAlike (cart : List ℕ) (recording : List Frame) (frames : ℕ) (machine : MachineValue) : Type 0 where
+  pub made_with : List Frame
+  pub alike : AreAlikeBelow false (frame * frames) made_with recording
+  pub played : IsPlayed cart made_with frames machine
+
 -- the bytes are the image of the machine after so many frames of a recording, of which the later ones have
 -- no part in it
 pub record IsImageOf (cart : List ℕ) (spelling : ℕ → Console → List ℕ) (is_own : ℕ → Console → Type 0) (recording : List Frame) (frames : ℕ) (bytes : List ℕ) : Type 0 where

@@ -1,11 +1,11 @@
-ghost use Rattle.std.specs.Prelude.{◌≡◌, ◌≤◌, ◌<◌, ◌+◌, ◌*◌, ℕ, false, List, [], All, IfOk, OnErr, OnOk, drop, get_or, length};
+ghost use Rattle.std.specs.Prelude.{◌≡◌, ◌≤◌, ◌<◌, ◌+◌, ◌*◌, ℕ, false, List, [], All, IfOk, IsTrue, OnErr, OnOk, drop, get_or, length};
 ghost use Rattle.std.specs.Arc.{arc_value};
 ghost use Rattle.md_pads.specs.Recording.{Frame, IsFrame, IsRecording, recording_of};
 ghost use Rattle.md_pads.specs.declared.version.Version.TheVariants.{First};
 ghost use Rattle.md_word.specs.Clock.{frame as frame_length};
 ghost use Rattle.md_machine.specs.Media.{no_media};
 ghost use Rattle.rollback_inputs.specs.Inputs.{most_frames};
-ghost use Rattle.md_rollback.specs.Played.{AreMade, IsImageOf, IsKept, IsPlayed, KeepsReached};
+ghost use Rattle.md_rollback.specs.Played.{AreMade, IsImageOf, IsKept, IsPlayed, IsPlayedAlike, KeepsReached};
 
 use crate::images::Images;
 use crate::recording::shared_recording;
@@ -61,6 +61,44 @@ pub(crate) fn resume<R: Replays>(
     }
 }
 
+/// A machine at the start of a frame goes on with another recording, of which the frames before were the same.
+fn exchange(machine: &mut Machine, recording: Arc<Recording>)
+    requires first { (arc_value recording).version ≡ First }
+    requires buttons { All IsFrame (arc_value recording).frames }
+    ensures { (cart : List ℕ) (frame : ℕ) → IsPlayedAlike cart (arc_value recording).frames frame machine.old → IsPlayed cart (arc_value recording).frames frame machine.new }
+{
+    recording_laws::later_frames_are_unread();
+    machine.set_recording(recording);
+    laws::parts_are_valid(machine);
+    processors::valid_machine(machine);
+}
+
+/// Brings a machine to the start of a frame of a recording: it stands there already, `here`, or the image keeps one
+/// that does.
+fn stand_at<R: Replays>(
+    alloc: Global,
+    replays: &R,
+    machine: &mut Machine,
+    here: bool,
+    bytes: &[u8],
+    recording: Arc<Recording>,
+    frame: usize,
+) -> Result<(), NoMemory>
+    requires first { (arc_value recording).version ≡ First }
+    requires here { IsTrue here → IsPlayedAlike (R.cart replays.now) (arc_value recording).frames frame machine.old }
+    requires image { IsImageOf (R.cart replays.now) (R.spelling replays.now) (R.is_own replays.now) (arc_value recording).frames frame bytes.now }
+    requires buttons { All IsFrame (arc_value recording).frames }
+    ensures played { OnOk result (IsPlayed (R.cart replays.now) (arc_value recording).frames frame machine.new) }
+    ensures err { OnErr result (machine.new ≡ machine.old) }
+{
+    if here {
+        exchange(machine, recording);
+    } else {
+        *machine = resume(alloc, replays, bytes, recording, frame)?;
+    }
+    Ok(())
+}
+
 /// Makes a frame, and keeps its image.
 fn play_kept<R: Replays>(replays: &R, machine: &mut Machine, frame: usize, images: &mut Images)
     requires keeps { KeepsReached (R.cart replays.now) (R.is_ready replays.now) }
@@ -96,31 +134,43 @@ pub(crate) fn play<R: Replays>(
     }
 }
 
-/// The machine after all frames of a recording, from the image on that stands behind so many newer ones, which is
-/// that of the start of one of them. The images of the later frames and of the end come in place of the newer ones.
-pub(crate) fn remade<R: Replays>(
+/// Brings a machine to the end of all frames of a recording, from the image on that stands behind so many newer ones,
+/// which is that of the start of one of them; where none is newer, from the machine itself. The images of the later
+/// frames and of the end come in place of the newer ones.
+pub(crate) fn remake<R: Replays>(
     alloc: Global,
     replays: &R,
+    machine: &mut Machine,
     images: &mut Images,
     newer: usize,
     expected: &[(u16, u16)],
     right: usize,
-) -> Result<Machine, NoMemory>
+) -> Result<(), NoMemory>
     requires keeps { KeepsReached (R.cart replays.now) (R.is_ready replays.now) }
     requires size { images.old.size ≡ R.size replays.now }
     requires newer { newer < length images.old.images }
+    requires here { newer ≡ 0 → IsPlayedAlike (R.cart replays.now) expected.now right machine.old }
     requires recording { IsRecording (recording_of expected.now) }
     requires image { IsImageOf (R.cart replays.now) (R.spelling replays.now) (R.is_own replays.now) expected.now right (get_or images.old.images newer []) }
     requires order { right < length expected.now }
     requires within { length expected.now ≤ most_frames }
-    ensures machine { IfOk result (λ machine. IsPlayed (R.cart replays.now) expected.now (length expected.now) machine) }
+    ensures machine { OnOk result (IsPlayed (R.cart replays.now) expected.now (length expected.now) machine.new) }
     ensures images { OnOk result (AreMade (R.cart replays.now) (R.spelling replays.now) (R.is_own replays.now) expected.now right (length expected.now)
         (record images.old { images = drop newer images.old.images }) images.new) }
-    ensures err { OnErr result (images.new ≡ images.old) }
+    ensures err { OnErr result ((images.new ≡ images.old) × (machine.new ≡ machine.old)) }
 {
     let recording = shared_recording(alloc, expected)?;
-    let mut machine = resume(alloc, replays, images.image(newer), recording, right)?;
+    let here = newer == 0;
+    stand_at(
+        alloc,
+        replays,
+        machine,
+        here,
+        images.image(newer),
+        recording,
+        right,
+    )?;
     images.drop_newest(newer);
-    play(replays, &mut machine, right, expected.len(), images);
-    Ok(machine)
+    play(replays, machine, right, expected.len(), images);
+    Ok(())
 }

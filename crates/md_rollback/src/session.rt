@@ -8,7 +8,7 @@ ghost use Rattle.md_rollback.specs.Played.{IsMachineOf, KeepsReached};
 
 use crate::fault::AdvanceFault;
 use crate::images::Images;
-use crate::play::remade;
+use crate::play::remake;
 use md_machine::Machine;
 use md_reached::saved;
 use md_word::NoMemory;
@@ -124,15 +124,15 @@ impl<R: Replays> Session<R> {
         self.inputs.known();
         let expected = self.inputs.expected(self.alloc, frames + 1)?;
         let right = same_frames(self.played.as_slice(), expected.as_slice());
-        let machine = remade(
+        remake(
             self.alloc,
             &self.replays,
+            &mut self.machine,
             &mut self.images,
             frames - right,
             expected.as_slice(),
             right,
         )?;
-        self.machine = machine;
         self.played = expected;
         Ok(())
     }

@@ -5,7 +5,7 @@ use Rattle.chip_run.specs.declared.held.Due.{Due}
 use Rattle.chip_run.specs.declared.held.Due.TheVariants.{Nothing}
 use Rattle.chip_run.proofs.Keeping.{found-at, kept-stayed, place-at}
 use Rattle.chip_run.proofs.Leasts.{turn-least}
-use Rattle.chip_run.proofs.Wholes.{ahead-none, held-whole, kept-whole}
+use Rattle.chip_run.proofs.Wholes.{ahead-none, held-whole, kept-whole, locked-same}
 use Rattle.chip_run.proofs.whole.access_held.Given.{Over}
 use Rattle.chip_run.proofs.whole.access_held.Goals as goal
 
@@ -45,3 +45,7 @@ pub returns-else-access-clause-locked : goal.returns-else-access-clause-locked
 returns-else-access-clause-locked g c = λ counts inside booked lk.
     kept-stayed g.C.ChipSet.rules g.C.ChipSet.chip_ok g.C.ChipSet.shared_ok (lawful g) (g.C.ChipSet.core_of g.N.Named.base) g.N.Named.end c.args.parts.now c.args.number _ c.held.invariant.1 (free c.held.view_is c.requires.free) (number c.held.view_is c.requires.number) c.args.book.now.total c.held.inside.ahead (ap (λ n. n + c.held.inside.ahead) (c.audit.ensures.whole (c.held.invariant.0 ∙ sym c.requires.whole))) (on-total g c.held.inside.number c.held.inside.due c.held.inside.ahead (c.audit.ensures.whole (c.held.invariant.0 ∙ sym c.requires.whole)) c.held.invariant.2) counts inside booked lk c.access.new.self (c.access.ensures.bounds c.if-access.false) c.add.new.self.total
     (let b = c.add.ensures.total in let d = c.audit.ensures.total in let w = (c.audit.ensures.whole (c.held.invariant.0 ∙ sym c.requires.whole)) in omega arith)
+
+pub returns-then-next-clause-locked : goal.returns-then-next-clause-locked
+returns-then-next-clause-locked g c =
+    locked-same g.C.ChipSet.rules g.C.ChipSet.chip_ok g.C.ChipSet.shared_ok (g.C.ChipSet.core_of g.N.Named.base) g.N.Named.end c.args.number c.args.parts.now c.args.book.now.total

@@ -11,8 +11,12 @@ announce_held-requires-clause-locked g c κs within =
     (locked-next g.C.ChipSet.rules g.C.ChipSet.chip_ok g.C.ChipSet.shared_ok (g.C.ChipSet.core_of g.N.Named.base) g.N.Named.end c.args.number c.args.parts.now c.args.book.now.total c.access_held.new.parts c.access_held.new.book.total c.requires.locked c.access_held.ensures.locked)
     c.sample_held.ensures.locked
 
-pub returns-clause-locked : goal.returns-clause-locked
-returns-clause-locked g c =
+pub returns-then-sample_held-clause-locked : goal.returns-then-sample_held-clause-locked
+returns-then-sample_held-clause-locked g c =
     locked-twice g.C.ChipSet.rules g.C.ChipSet.chip_ok g.C.ChipSet.shared_ok (g.C.ChipSet.core_of g.N.Named.base) g.N.Named.end c.args.number c.args.parts.now c.args.book.now.total c.sample_held.new.parts c.sample_held.new.book.total c.announce_held.new.parts c.announce_held.new.book.total
     (locked-twice g.C.ChipSet.rules g.C.ChipSet.chip_ok g.C.ChipSet.shared_ok (g.C.ChipSet.core_of g.N.Named.base) g.N.Named.end c.args.number c.args.parts.now c.args.book.now.total c.access_held.new.parts c.access_held.new.book.total c.sample_held.new.parts c.sample_held.new.book.total c.access_held.ensures.locked c.sample_held.ensures.locked)
     c.announce_held.ensures.locked
+
+pub returns-else-sample_held-clause-locked : goal.returns-else-sample_held-clause-locked
+returns-else-sample_held-clause-locked g c =
+    locked-twice g.C.ChipSet.rules g.C.ChipSet.chip_ok g.C.ChipSet.shared_ok (g.C.ChipSet.core_of g.N.Named.base) g.N.Named.end c.args.number c.args.parts.now c.args.book.now.total c.access_held.new.parts c.access_held.new.book.total c.sample_held.new.parts c.sample_held.new.book.total c.access_held.ensures.locked c.sample_held.ensures.locked

@@ -1,11 +1,12 @@
 use Rattle.std.proofs.Common.{◌≡◌, ◌∙◌, ◌+◌, ◌-◌, ap, sym, subst, List, [], ◌++◌, ℕ, length, take, drop, arith}
 use Rattle.std.specs.Prelude.{reverse, slice_index_or}
 use Rattle.md_pads.specs.Recording.{Frame, IsRecording, recording_of}
+use Rattle.md_machine.specs.Machines.{MachineValue}
 use Rattle.rollback_images.specs.Images.{Kept}
 use Rattle.rollback_inputs.specs.Inputs.{expected_frames}
-use Rattle.md_rollback.specs.Played.{AreMade, IsImageOf, IsMachineOf, IsPlayed}
+use Rattle.md_rollback.specs.Played.{AreMade, IsImageOf, IsMachineOf, IsPlayed, IsPlayedAlike}
 use Rattle.md_rollback.specs.Sessions.{IsSession, SessionValue}
-use Rattle.md_rollback.proofs.Advances.{back-few, expected-long, found-by, image-here, may-be-recorded, replaced-is, session-next}
+use Rattle.md_rollback.proofs.Advances.{back-few, expected-long, found-by, image-here, machine-here, may-be-recorded, replaced-is, session-next}
 use Rattle.rollback_inputs.proofs.Expected.{frames-long}
 use Rattle.md_rollback.proofs.session.Session.advance.Goals as goal
 
@@ -13,8 +14,8 @@ pub same_frames-right-requires : goal.same_frames-right-requires
 same_frames-right-requires g c =
     omega (arith, ap length c.as_slice.ensures.value, ap length (c.as_slice-2.ensures.value ∙ c.in_ok-expected.ensures), frames-long c.self.inside.inputs.local c.self.inside.inputs.remote (c.len-frames.result + 1), c.len-frames.ensures ∙ c.self.inside.played.ok.0)
 
-pub remade-requires-clause-newer : goal.remade-requires-clause-newer
-remade-requires-clause-newer g c =
+pub remake-requires-clause-newer : goal.remake-requires-clause-newer
+remake-requires-clause-newer g c =
     let cart = g.R.Replays.cart c.self.inside.replays in
     let spelling = g.R.Replays.spelling c.self.inside.replays in
     let is_ready = g.R.Replays.is_ready c.self.inside.replays in
@@ -31,14 +32,33 @@ remade-requires-clause-newer g c =
     c.same_frames-right.ensures.within c.same_frames-right.ensures.same c.same_frames-right.ensures.differs in
     omega (arith, many, back-few cart spelling is_ready is_own c.self.inside.window inputs played expected kept c.self.inside.machine right was found)
 
-pub remade-requires-clause-recording : goal.remade-requires-clause-recording
-remade-requires-clause-recording g c =
+pub remake-requires-clause-recording : goal.remake-requires-clause-recording
+remake-requires-clause-recording g c =
     subst (λ (x : List Frame). IsRecording (recording_of x)) (sym c.as_slice-3.ensures.value)
     (may-be-recorded c.self.inside.inputs (c.len-frames.result + 1) c.in_ok-expected.expected.items c.known.ensures
     (omega (arith, c.if-frames-eq-MOST_FRAMES.false, c.self.invariant.0.few, c.len-frames.ensures ∙ c.self.inside.played.ok.0)) c.in_ok-expected.ensures)
 
-pub remade-requires-clause-image : goal.remade-requires-clause-image
-remade-requires-clause-image g c =
+pub remake-requires-clause-here : goal.remake-requires-clause-here
+remake-requires-clause-here g c = λ none.
+    let cart = g.R.Replays.cart c.self.inside.replays in
+    let spelling = g.R.Replays.spelling c.self.inside.replays in
+    let is_ready = g.R.Replays.is_ready c.self.inside.replays in
+    let is_own = g.R.Replays.is_own c.self.inside.replays in
+    let was = c.self.invariant.0 in
+    let inputs = c.self.inside.inputs in
+    let played = c.self.inside.played.items in
+    let expected = c.in_ok-expected.expected.items in
+    let kept = c.self.inside.images.images in
+    let right = c.same_frames-right.result in
+    let many : c.len-frames.result ≡ length c.self.inside.played.items = c.len-frames.ensures ∙ c.self.inside.played.ok.0 in
+    let found = found-by c.self.inside.inputs c.self.inside.played.items c.in_ok-expected.expected.items c.as_slice.result.now c.as_slice-2.result.now c.len-frames.result c.same_frames-right.result
+    (c.len-frames.ensures ∙ c.self.inside.played.ok.0) c.in_ok-expected.ensures c.as_slice.ensures.value c.as_slice-2.ensures.value
+    c.same_frames-right.ensures.within c.same_frames-right.ensures.same c.same_frames-right.ensures.differs in
+    subst (λ (x : List Frame). IsPlayedAlike cart x right c.self.inside.machine) (sym c.as_slice-3.ensures.value)
+    (machine-here cart spelling is_ready is_own c.self.inside.window inputs played expected kept c.self.inside.machine right was found (omega (arith, none, many)))
+
+pub remake-requires-clause-image : goal.remake-requires-clause-image
+remake-requires-clause-image g c =
     let cart = g.R.Replays.cart c.self.inside.replays in
     let spelling = g.R.Replays.spelling c.self.inside.replays in
     let is_ready = g.R.Replays.is_ready c.self.inside.replays in
@@ -58,8 +78,8 @@ remade-requires-clause-image g c =
     (ap (λ (n : ℕ). slice_index_or kept (n - right) []) (sym many))
     (image-here cart spelling is_ready is_own c.self.inside.window inputs played expected kept c.self.inside.machine right was found))
 
-pub remade-requires-clause-order : goal.remade-requires-clause-order
-remade-requires-clause-order g c =
+pub remake-requires-clause-order : goal.remake-requires-clause-order
+remake-requires-clause-order g c =
     let cart = g.R.Replays.cart c.self.inside.replays in
     let spelling = g.R.Replays.spelling c.self.inside.replays in
     let is_ready = g.R.Replays.is_ready c.self.inside.replays in
@@ -77,8 +97,8 @@ remade-requires-clause-order g c =
     let long = expected-long cart spelling is_ready is_own c.self.inside.window inputs played expected kept c.self.inside.machine right was found in
     omega (arith, ap length c.as_slice-3.ensures.value, long, found.within)
 
-pub remade-requires-clause-within : goal.remade-requires-clause-within
-remade-requires-clause-within g c =
+pub remake-requires-clause-within : goal.remake-requires-clause-within
+remake-requires-clause-within g c =
     let cart = g.R.Replays.cart c.self.inside.replays in
     let spelling = g.R.Replays.spelling c.self.inside.replays in
     let is_ready = g.R.Replays.is_ready c.self.inside.replays in
@@ -99,9 +119,12 @@ remade-requires-clause-within g c =
 pub invariant_of-self : goal.invariant_of-self
 invariant_of-self g c =
     let replays = c.self.inside.replays in
-    subst (λ (k : Kept). IsSession (g.R.Replays.cart replays) (g.R.Replays.spelling replays) (g.R.Replays.is_ready replays) (g.R.Replays.is_own replays) c.self.inside.window c.self.inside.inputs c.self.inside.played.items k.images c.self.inside.machine
+    subst (λ (m : MachineValue). IsSession (g.R.Replays.cart replays) (g.R.Replays.spelling replays) (g.R.Replays.is_ready replays) (g.R.Replays.is_own replays) c.self.inside.window c.self.inside.inputs c.self.inside.played.items c.remake.new.images.images m
+    × (c.remake.new.images.most ≡ c.self.inside.window + 1) × (c.remake.new.images.size ≡ g.R.Replays.size replays))
+    (sym c.in_err-remake.ensures.err.1)
+    (subst (λ (k : Kept). IsSession (g.R.Replays.cart replays) (g.R.Replays.spelling replays) (g.R.Replays.is_ready replays) (g.R.Replays.is_own replays) c.self.inside.window c.self.inside.inputs c.self.inside.played.items k.images c.self.inside.machine
     × (k.most ≡ c.self.inside.window + 1) × (k.size ≡ g.R.Replays.size replays))
-    (sym c.in_err-machine.ensures.err) c.self.invariant
+    (sym c.in_err-remake.ensures.err.0) c.self.invariant)
 
 pub invariant_of-self-2 : goal.invariant_of-self-2
 invariant_of-self-2 g c =
@@ -119,18 +142,18 @@ invariant_of-self-2 g c =
     let found = found-by c.self.inside.inputs c.self.inside.played.items c.in_ok-expected.expected.items c.as_slice.result.now c.as_slice-2.result.now c.len-frames.result c.same_frames-right.result
     (c.len-frames.ensures ∙ c.self.inside.played.ok.0) c.in_ok-expected.ensures c.as_slice.ensures.value c.as_slice-2.ensures.value
     c.same_frames-right.ensures.within c.same_frames-right.ensures.same c.same_frames-right.ensures.differs in
-    let now : IsPlayed cart c.in_ok-expected.expected.items (length c.in_ok-expected.expected.items) c.in_ok-machine.machine =
-    subst (λ (x : List Frame). IsPlayed cart x (length x) c.in_ok-machine.machine) c.as_slice-3.ensures.value c.in_ok-machine.ensures.machine in
-    let made : AreMade cart spelling is_own expected right (length expected) (record c.self.inside.images { images = drop (c.len-frames.result - right) kept }) c.remade.new.images =
-    subst (λ (x : List Frame). AreMade cart spelling is_own x right (length x) (record c.self.inside.images { images = drop (c.len-frames.result - right) kept }) c.remade.new.images)
-    c.as_slice-3.ensures.value c.in_ok-machine.ensures.images in
-    let next = session-next cart spelling is_ready is_own c.self.inside.window inputs played expected kept c.self.inside.machine right was found c.in_ok-machine.machine made.newer c.known.ensures
+    let now : IsPlayed cart c.in_ok-expected.expected.items (length c.in_ok-expected.expected.items) c.remake.new.machine =
+    subst (λ (x : List Frame). IsPlayed cart x (length x) c.remake.new.machine) c.as_slice-3.ensures.value c.in_ok-remake.ensures.machine in
+    let made : AreMade cart spelling is_own expected right (length expected) (record c.self.inside.images { images = drop (c.len-frames.result - right) kept }) c.remake.new.images =
+    subst (λ (x : List Frame). AreMade cart spelling is_own x right (length x) (record c.self.inside.images { images = drop (c.len-frames.result - right) kept }) c.remake.new.images)
+    c.as_slice-3.ensures.value c.in_ok-remake.ensures.images in
+    let next = session-next cart spelling is_ready is_own c.self.inside.window inputs played expected kept c.self.inside.machine right was found c.remake.new.machine made.newer c.known.ensures
     (omega (arith, c.if-frames-eq-MOST_FRAMES.false, was.few, many))
     (omega (arith, c.if-frames-confirmed.false, c.confirmed-confirmed.ensures.confirmed, many)) now made.count made.each in
-    let images : c.remade.new.images.images ≡ take (c.self.inside.window + 1) (reverse made.newer ++ drop (length played - right) kept) =
+    let images : c.remake.new.images.images ≡ take (c.self.inside.window + 1) (reverse made.newer ++ drop (length played - right) kept) =
     ap (λ (k : Kept). k.images) made.kept
     ∙ replaced-is c.self.inside.images.most (c.self.inside.window + 1) (c.len-frames.result - right) (length played - right) made.newer kept c.self.invariant.1 (ap (λ (n : ℕ). n - right) many) in (
-      subst (λ (x : List (List ℕ)). IsSession cart spelling is_ready is_own c.self.inside.window inputs expected x c.in_ok-machine.machine) (sym images) next,
+      subst (λ (x : List (List ℕ)). IsSession cart spelling is_ready is_own c.self.inside.window inputs expected x c.remake.new.machine) (sym images) next,
       ap (λ (k : Kept). k.most) made.kept ∙ c.self.invariant.1,
       ap (λ (k : Kept). k.size) made.kept ∙ c.self.invariant.2,
     )
@@ -171,14 +194,14 @@ returns-clause-machine g c =
     (c.len-frames.ensures ∙ c.self.inside.played.ok.0) c.in_ok-expected.ensures c.as_slice.ensures.value c.as_slice-2.ensures.value
     c.same_frames-right.ensures.within c.same_frames-right.ensures.same c.same_frames-right.ensures.differs in
     let long = expected-long cart spelling is_ready is_own c.self.inside.window inputs played expected kept c.self.inside.machine right was found in
-    let now : IsPlayed cart c.in_ok-expected.expected.items (length c.in_ok-expected.expected.items) c.in_ok-machine.machine =
-    subst (λ (x : List Frame). IsPlayed cart x (length x) c.in_ok-machine.machine) c.as_slice-3.ensures.value c.in_ok-machine.ensures.machine in
-    let all : IsMachineOf c.in_ok-machine.machine.console.cart expected (length expected) c.in_ok-machine.machine =
-    subst (λ (k : List ℕ). IsMachineOf k expected (length expected) c.in_ok-machine.machine) (sym now.cart_is) now.machine_is in
-    subst (λ (x : SessionValue). IsMachineOf c.in_ok-machine.machine.console.cart (expected_frames x.local x.remote (length expected)) (length expected) c.in_ok-machine.machine) c.self.view_is
-    (subst (λ (e : List Frame). IsMachineOf c.in_ok-machine.machine.console.cart e (length expected) c.in_ok-machine.machine)
+    let now : IsPlayed cart c.in_ok-expected.expected.items (length c.in_ok-expected.expected.items) c.remake.new.machine =
+    subst (λ (x : List Frame). IsPlayed cart x (length x) c.remake.new.machine) c.as_slice-3.ensures.value c.in_ok-remake.ensures.machine in
+    let all : IsMachineOf c.remake.new.machine.console.cart expected (length expected) c.remake.new.machine =
+    subst (λ (k : List ℕ). IsMachineOf k expected (length expected) c.remake.new.machine) (sym now.cart_is) now.machine_is in
+    subst (λ (x : SessionValue). IsMachineOf c.remake.new.machine.console.cart (expected_frames x.local x.remote (length expected)) (length expected) c.remake.new.machine) c.self.view_is
+    (subst (λ (e : List Frame). IsMachineOf c.remake.new.machine.console.cart e (length expected) c.remake.new.machine)
     (found.all ∙ ap (expected_frames inputs.local inputs.remote) (sym long)) all)
 
 pub returns-clause-cart : goal.returns-clause-cart
 returns-clause-cart g c =
-    c.in_ok-machine.ensures.machine.cart_is ∙ sym c.self.invariant.0.played_is.cart_is ∙ ap (λ (x : SessionValue). x.machine.console.cart) c.self.view_is
+    c.in_ok-remake.ensures.machine.cart_is ∙ sym c.self.invariant.0.played_is.cart_is ∙ ap (λ (x : SessionValue). x.machine.console.cart) c.self.view_is
