@@ -1,4 +1,5 @@
 // The accesses of the two processors in the journal's records.
+use std::test::Fail;
 
 /// An access: its cycle, the chip, its kind in the journal, its address and its value.
 pub type Row = (u64, u8, u8, u32, u16);
@@ -57,22 +58,22 @@ pub fn access(entries: &[u8], number: usize) -> &[u8] {
     &[]
 }
 
-/// The first of these rows, which stand from a number on among the accesses of the two processors, that is
-/// told otherwise.
-pub fn first_wrong(entries: &[u8], from: usize, rows: &[Row]) -> Option<usize> {
+/// Fails with the number of the first of these rows, which stand from a number on among the accesses of the two
+/// processors, that is told otherwise.
+pub fn tell(entries: &[u8], from: usize, rows: &[Row]) -> Result<(), Fail> {
     for (number, row) in rows.iter().enumerate() {
         if !is_told(access(entries, from.wrapping_add(number)), row) {
-            return Some(number);
+            return Err(Fail::from(number));
         }
     }
-    None
+    Ok(())
 }
 
-/// The same where the rows are all accesses of the two processors; their number where there are more.
-pub fn first_wrong_of_all(entries: &[u8], rows: &[Row]) -> Option<usize> {
-    let wrong = first_wrong(entries, 0, rows);
-    if wrong.is_none() && count(entries) != rows.len() {
-        return Some(rows.len());
+/// The same where the rows are all accesses of the two processors; with their number where there are more.
+pub fn tell_all(entries: &[u8], rows: &[Row]) -> Result<(), Fail> {
+    tell(entries, 0, rows)?;
+    if count(entries) != rows.len() {
+        return Err(Fail::from(rows.len()));
     }
-    wrong
+    Ok(())
 }

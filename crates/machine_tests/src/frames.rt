@@ -1,6 +1,6 @@
 // The frames of the machine. Line 224 begins at 766,080, and with it the frame is finished.
 use crate::cartridges::{idle, paints};
-use crate::made::{Made, power_on, run_once, run_parts, run_whole};
+use crate::made::{Outcome, run, run_once, run_whole};
 use md_pads::Recording;
 use std::test::Fail;
 
@@ -23,34 +23,35 @@ static ENDS: [u32; 4] = [766_080, 766_081, 1_662_120, 1_662_121];
 
 static LENGTHS: [usize; 4] = [0, 215_055, 0, 215_055];
 
-/// The number of the first part whose frame has another length.
-fn first_wrong_length(parts: &[Made]) -> Option<usize> {
-    for (number, want) in LENGTHS.iter().enumerate() {
-        match parts.get(number) {
+/// Fails with the number of the first part whose frame has another length.
+fn be_long(run: &Outcome, lengths: &[usize]) -> Result<(), Fail> {
+    for (number, want) in lengths.iter().enumerate() {
+        match run.parts.get(number) {
             Some(part) if part.frame.len() == *want => {}
-            _ => return Some(number),
+            _ => return Err(Fail::from(number)),
         }
     }
-    None
+    Ok(())
 }
 
-/// Whether the second part's frame has its head, and is black.
-fn is_black(parts: &[Made]) -> bool {
-    match parts {
-        [_, part, ..] => {
-            part.frame.starts_with(b"P6\n320 224\n255\n")
-                && count(&part.frame, 15, 215_055, 0) == 215_040
-        }
-        _ => false,
+/// The frame of the second part.
+fn second(run: &Outcome) -> &[u8] {
+    match run.parts.as_slice() {
+        [_, part, ..] => &part.frame,
+        _ => &[],
     }
+}
+
+/// Whether a frame has its head, and is black.
+fn is_black(frame: &[u8]) -> bool {
+    frame.starts_with(b"P6\n320 224\n255\n") && count(frame, 15, 215_055, 0) == 215_040
 }
 
 #[test]
 fn a_frame_is_finished_by_line_224(rt: HostRuntime) -> Result<(), Fail> {
-    let parts = run_whole(rt.alloc(), &idle(), &ENDS)?;
-    assert_eq!(rt; first_wrong_length(&parts), None);
-    assert!(rt; is_black(&parts));
-    Ok(())
+    let run = run_whole(rt.alloc(), &idle(), &ENDS)?;
+    assert!(rt; is_black(second(&run)));
+    be_long(&run, &LENGTHS)
 }
 
 // On PAL it is finished by line 240, which begins at 820,800.
@@ -60,18 +61,10 @@ static TALL_LENGTHS: [usize; 4] = [0, 230_415, 0, 230_415];
 
 #[test]
 fn a_frame_of_pal_is_finished_by_line_240(rt: HostRuntime) -> Result<(), Fail> {
-    let mut machine = power_on(rt.alloc(), &idle(), Recording::empty(rt.alloc()), true)?;
-    let parts = run_parts(&mut machine, rt.alloc(), &TALL_ENDS)?;
-    for (number, want) in TALL_LENGTHS.iter().enumerate() {
-        let part = parts.get(number);
-        assert!(rt;
-            part.is_some_and(|part| part.frame.len() == *want),
-            "part {number}"
-        );
-    }
-    let finished = parts.get(1);
-    assert!(rt; finished.is_some_and(|part| part.frame.starts_with(b"P6\n320 240\n255\n")));
-    Ok(())
+    let alloc = rt.alloc();
+    let run = run(alloc, &idle(), Recording::empty(alloc), true, &TALL_ENDS)?;
+    assert!(rt; second(&run).starts_with(b"P6\n320 240\n255\n"));
+    be_long(&run, &TALL_LENGTHS)
 }
 
 // The colour is written in line 0, which was drawn at its start: it stays black, and the 223 lines below

@@ -1,67 +1,73 @@
 use crate::cartridges::{beep, idle, image_of, put};
-use crate::made::{Made, power_on, run_once, run_parts, run_to, run_whole, started};
-use md_machine::Machine;
+use crate::made::{Made, Outcome, run, run_once, run_whole};
 use md_pads::Recording;
-use std::alloc::Global;
 use std::test::Fail;
 
-/// What a silent frame leaves otherwise.
-fn frame_fault(machine: &Machine, made: &Made) -> Option<&'static str> {
-    if machine.at() != 896_040 || machine.least() != 896_040 {
-        return Some("cycles");
+/// Fails where a silent frame leaves something else.
+fn be_silent(run: &Outcome) -> Result<(), Fail> {
+    let [made] = run.parts.as_slice() else {
+        return Err(Fail::from("parts"));
+    };
+    if run.at != 896_040 || run.least != 896_040 {
+        return Err(Fail::from("cycles"));
     }
     if made.entries.len() != 16 * 372 {
-        return Some("entries");
+        return Err(Fail::from("entries"));
     }
     if made.pairs.as_slice() != [0u8; 4 * 880].as_slice() {
-        return Some("pairs");
+        return Err(Fail::from("pairs"));
     }
-    None
+    Ok(())
 }
 
 // 262 lines and 55 batches of each sound chip, all silent. The line that begins at 896,040 is line
 // 0 of the next frame, and the 68000's branches take 70 cycles each.
 #[test]
 fn a_silent_frame(rt: HostRuntime) -> Result<(), Fail> {
-    let mut machine = started(rt.alloc(), &idle())?;
-    let made = run_to(&mut machine, rt.alloc(), 896_040)?;
-    assert_eq!(rt; frame_fault(&machine, &made), None);
-    Ok(())
+    be_silent(&run_whole(rt.alloc(), &idle(), &[896_040])?)
 }
 
-// 313 lines and 66 batches of each sound chip.
+/// Whether a frame of PAL has 313 lines and 66 batches of each sound chip.
+fn is_of_pal(run: &Outcome) -> bool {
+    match run.parts.as_slice() {
+        [made] => {
+            run.pal
+                && run.least == 1_070_460
+                && made.entries.len() == 16 * 445
+                && made.pairs.len() == 4 * 1_056
+        }
+        _ => false,
+    }
+}
+
 #[test]
 fn a_silent_frame_of_pal(rt: HostRuntime) -> Result<(), Fail> {
-    let mut machine = power_on(rt.alloc(), &idle(), Recording::empty(rt.alloc()), true)?;
-    let made = run_to(&mut machine, rt.alloc(), 1_070_460)?;
-    assert!(rt; machine.pal() && machine.least() == 1_070_460);
-    assert!(rt; made.entries.len() == 16 * 445 && made.pairs.len() == 4 * 1_056);
+    let alloc = rt.alloc();
+    let run = run(alloc, &idle(), Recording::empty(alloc), true, &[1_070_460])?;
+    assert!(rt; is_of_pal(&run));
     Ok(())
 }
 
-/// What the line behind it leaves otherwise.
-fn line_fault(machine: &Machine, parts: &[Made]) -> Option<&'static str> {
-    let [_, line] = parts else {
-        return Some("parts");
+/// Fails where the line behind it leaves something else.
+fn be_line(run: &Outcome) -> Result<(), Fail> {
+    let [_, line] = run.parts.as_slice() else {
+        return Err(Fail::from("parts"));
     };
     if line.entries.as_slice() != b"\0\0\0\0\0\x0d\xac\x28\x02\x0a\0\0\0\0\0\0".as_slice() {
-        return Some("entries");
+        return Err(Fail::from("entries"));
     }
     if line.pairs.len() != 0 {
-        return Some("pairs");
+        return Err(Fail::from("pairs"));
     }
-    if machine.least() != 896_070 || machine.main_chip().halted().is_some() {
-        return Some("machine");
+    if run.least != 896_070 || run.halted.is_some() {
+        return Err(Fail::from("machine"));
     }
-    None
+    Ok(())
 }
 
 #[test]
 fn a_line_behind_a_silent_frame(rt: HostRuntime) -> Result<(), Fail> {
-    let mut machine = started(rt.alloc(), &idle())?;
-    let parts = run_parts(&mut machine, rt.alloc(), &[896_040, 896_041])?;
-    assert_eq!(rt; line_fault(&machine, &parts), None);
-    Ok(())
+    be_line(&run_whole(rt.alloc(), &idle(), &[896_040, 896_041])?)
 }
 
 // The write at cycle 112, the lines at 0, 3,420, 6,840, 10,260 and 13,680, and the first batches of
@@ -83,12 +89,20 @@ static BEEP_PAIRS: &[u8; 64] = b"\
 \x00\x08\x00\x08\x00\x08\x00\x08\x00\xf8\x00\xf8\x00\xf8\x00\xf8\
 \x00\xf8\x00\xf8\x00\xf8\x00\xf8\x00\xf8\x00\xf8\x00\x08\x00\x08";
 
+/// Fails where a part makes other records or pairs.
+fn beep_so(made: &Made) -> Result<(), Fail> {
+    if made.entries.as_slice() != BEEP_ENTRIES.as_slice() {
+        return Err(Fail::from("entries"));
+    }
+    if made.pairs.as_slice() != BEEP_PAIRS.as_slice() {
+        return Err(Fail::from("pairs"));
+    }
+    Ok(())
+}
+
 #[test]
 fn a_run_in_one_part(rt: HostRuntime) -> Result<(), Fail> {
-    let made = run_once(rt.alloc(), &beep(), 16_129)?;
-    assert!(rt; made.entries.as_slice() == BEEP_ENTRIES.as_slice());
-    assert!(rt; made.pairs.as_slice() == BEEP_PAIRS.as_slice());
-    Ok(())
+    beep_so(&run_once(rt.alloc(), &beep(), 16_129)?)
 }
 
 // In two parts, the first of which makes so many records: also where it ends at the cycle of a
@@ -108,19 +122,12 @@ fn is_cut(parts: &[Made], made: usize) -> bool {
         && second.pairs.as_slice() == BEEP_PAIRS.as_slice()
 }
 
-/// The first cut at which they do not.
-fn first_wrong_cut(alloc: Global) -> Result<Option<usize>, Fail> {
-    for (ends, made) in &CUTS {
-        if !is_cut(&run_whole(alloc, &beep(), ends)?, *made) {
-            return Ok(Some(*made));
-        }
-    }
-    Ok(None)
-}
-
 #[test]
 fn a_run_in_two_parts(rt: HostRuntime) -> Result<(), Fail> {
-    assert_eq!(rt; first_wrong_cut(rt.alloc())?, None);
+    for (ends, made) in &CUTS {
+        let run = run_whole(rt.alloc(), &beep(), ends)?;
+        assert!(rt; is_cut(&run.parts, *made), "{made}");
+    }
     Ok(())
 }
 
@@ -131,14 +138,19 @@ fn odd() -> [u8; 512] {
     image
 }
 
+/// Whether the 68000 made no access and halted there, and not at power-on.
+fn is_halted(run: &Outcome) -> bool {
+    match run.parts.as_slice() {
+        [made] => run.halted == Some(0) && made.entries.len() == 16,
+        _ => false,
+    }
+}
+
 // The address error of the first instruction halts the 68000, which makes no access.
 #[test]
 fn a_halted_68000(rt: HostRuntime) -> Result<(), Fail> {
-    let mut machine = started(rt.alloc(), &odd())?;
-    let before = machine.main_chip().halted();
-    let made = run_to(&mut machine, rt.alloc(), 3_420)?;
-    assert!(rt; before.is_none() && machine.main_chip().halted() == Some(0));
-    assert!(rt; made.entries.len() == 16);
+    let before = run_whole(rt.alloc(), &odd(), &[])?.halted;
+    assert!(rt; before.is_none() && is_halted(&run_whole(rt.alloc(), &odd(), &[3_420])?));
     Ok(())
 }
 
@@ -163,23 +175,26 @@ static ACCESS_RECORDS: [&[u8; 8]; 7] = [
     b"\x04\x0c\0\0\0\x01\0\x02",
 ];
 
-/// The number of the first record of the 68000 or of the PSG that is told otherwise behind its cycle.
-fn first_wrong_record(entries: &[u8]) -> Option<usize> {
+/// Fails with the number of the first record of the 68000 or of the PSG that is told otherwise behind its cycle.
+fn record_so(entries: &[u8]) -> Result<(), Fail> {
     let mut number = 0_usize;
     for record in entries.chunks_exact(16) {
         if record[8] == 0 || record[8] == 4 {
             match ACCESS_RECORDS.get(number) {
                 Some(want) if record.ends_with(want.as_slice()) => number = number.wrapping_add(1),
-                _ => return Some(number),
+                _ => return Err(Fail::from(number)),
             }
         }
     }
-    if number == 7 { None } else { Some(number) }
+    if number == 7 {
+        Ok(())
+    } else {
+        Err(Fail::from(number))
+    }
 }
 
 #[test]
 fn accesses_of_the_68000(rt: HostRuntime) -> Result<(), Fail> {
     let made = run_once(rt.alloc(), &image_of(0x1c0, &ACCESSES), 16_129)?;
-    assert_eq!(rt; first_wrong_record(&made.entries), None);
-    Ok(())
+    record_so(&made.entries)
 }

@@ -90,15 +90,6 @@ pub fn power_on(
     Ok(machine)
 }
 
-/// The machine at power-on, with no button pressed.
-pub fn started(alloc: Global, image: &[u8; 512]) -> Result<Machine, Fail>
-    ensures at { IfOk result (λ machine. machine.at ≡ 0) }
-    ensures entries { IfOk result (λ machine. machine.entries ≡ []) }
-    ensures media { IfOk result (λ machine. machine.media ≡ no_media) }
-{
-    power_on(alloc, image, Recording::empty(alloc), false)
-}
-
 /// Brings the machine to a cycle, at most a frame on, and gives what it makes.
 pub fn run_to(machine: &mut Machine, alloc: Global, to: u32) -> Result<Made, Fail>
     requires entries { machine.old.entries ≡ [] }
@@ -131,12 +122,56 @@ pub fn run_parts(machine: &mut Machine, alloc: Global, ends: &[u32]) -> Result<V
 
 /// What a machine makes from power-on to a cycle of its first frame.
 pub fn run_once(alloc: Global, image: &[u8; 512], to: u32) -> Result<Made, Fail> {
-    let mut machine = started(alloc, image)?;
+    let mut machine = power_on(alloc, image, Recording::empty(alloc), false)?;
     run_to(&mut machine, alloc, to)
 }
 
-/// What a machine makes from power-on to one cycle after the other.
-pub fn run_whole(alloc: Global, image: &[u8; 512], ends: &[u32]) -> Result<Vec<Made>, Fail> {
-    let mut machine = started(alloc, image)?;
-    run_parts(&mut machine, alloc, ends)
+/// What a machine makes in the parts of a run, and how it stands behind the last.
+#[derive(Drop)]
+pub struct Outcome {
+    pub parts: Vec<Made>,
+    pub at: u64,
+    pub least: u64,
+    pub pal: bool,
+    /// The cycle at which the 68000 halted.
+    pub halted: Option<u64>,
+    /// The front of work RAM.
+    pub ram: Vec<u8>,
+}
+
+/// The first 128 bytes of work RAM.
+fn front_of_ram(machine: &Machine, alloc: Global) -> Result<Vec<u8>, Fail> {
+    let ram = machine.main_chip().ram();
+    Ok(ram.get(..128).unwrap_or(&[]).to_vec(alloc)?)
+}
+
+/// These parts, and how the machine stands behind them.
+fn outcome_of(machine: &Machine, alloc: Global, parts: Vec<Made>) -> Result<Outcome, Fail> {
+    let ram = front_of_ram(machine, alloc)?;
+    Ok(Outcome {
+        parts,
+        at: machine.at(),
+        least: machine.least(),
+        pal: machine.pal(),
+        halted: machine.main_chip().halted(),
+        ram,
+    })
+}
+
+/// A run from power-on to one cycle after the other.
+pub fn run(
+    alloc: Global,
+    image: &[u8; 512],
+    recording: Recording,
+    pal: bool,
+    ends: &[u32],
+) -> Result<Outcome, Fail> {
+    let mut machine = power_on(alloc, image, recording, pal)?;
+    let parts = run_parts(&mut machine, alloc, ends)?;
+    outcome_of(&machine, alloc, parts)
+}
+
+/// The same with no button pressed, by the clock of NTSC.
+pub fn run_whole(alloc: Global, image: &[u8; 512], ends: &[u32]) -> Result<Outcome, Fail> {
+    run(alloc, image, Recording::empty(alloc), false, ends)
 }

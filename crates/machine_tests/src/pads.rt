@@ -1,5 +1,5 @@
 use crate::cartridges::image_of;
-use crate::made::{Made, power_on, run_parts};
+use crate::made::{Made, run};
 use md_pads::Recording;
 use std::alloc::Global;
 use std::test::Fail;
@@ -66,20 +66,18 @@ fn sounding(pairs: &[u8]) -> [usize; 2] {
     sounding
 }
 
-/// Two frames with the recording.
-fn run_recorded(alloc: Global) -> Result<Vec<Made>, Fail> {
-    let recording = Recording::read(alloc, B)?;
-    let mut machine = power_on(alloc, &image_of(0x1c0, &PADS), recording, false)?;
-    run_parts(&mut machine, alloc, &[896_040, 1_792_080])
+/// Whether pairs 761 to 1,649 of two frames sound, and no other.
+fn is_heard(pairs: &[u8]) -> bool {
+    pairs.len() == 4 * 1_776 && sounding(pairs) == [761, 1_649]
 }
 
-// A pair of samples stands at each 1,008 cycles, and hears the writes below its cycle: pairs 761 to
-// 1,649 sound, and no other.
+// A pair of samples stands at each 1,008 cycles, and hears the writes below its cycle.
 #[test]
 fn a_tone_while_a_button_is_held(rt: HostRuntime) -> Result<(), Fail> {
-    let parts = run_recorded(rt.alloc())?;
-    assert!(rt; are_set(&parts));
-    let pairs = pairs_of(rt.alloc(), &parts)?;
-    assert!(rt; pairs.len() == 4 * 1_776 && sounding(&pairs) == [761, 1_649]);
+    let recording = Recording::read(rt.alloc(), B)?;
+    let image = image_of(0x1c0, &PADS);
+    let run = run(rt.alloc(), &image, recording, false, &[896_040, 1_792_080])?;
+    let pairs = pairs_of(rt.alloc(), &run.parts)?;
+    assert!(rt; are_set(&run.parts) && is_heard(&pairs));
     Ok(())
 }

@@ -26,10 +26,8 @@ const SOURCE: [u8; 16] = [1, 2, 3, 4, 5, 6, 7, 8, 9, 10, 11, 12, 13, 14, 15, 16]
 /// Appends the values of the words that the 68000 has read from the data port.
 fn put_reads(entries: &[u8], into: &mut Vec<u8>) -> Result<(), Fail> {
     for record in entries.chunks_exact(16) {
-        let chip_and_kind = [record[8], record[9]];
-        let address = [record[10], record[11], record[12], record[13] & 0xfd];
-        if chip_and_kind == [0, 1] && address == [0, 0xc0, 0, 0] {
-            into.extend_from_slice(&[record[14], record[15]])?;
+        if record[8..13] == [0, 1, 0, 0xc0, 0] && record[13] & 0xfd == 0 {
+            into.extend_from_slice(&record[14..])?;
         }
     }
     Ok(())
@@ -51,7 +49,7 @@ static ENDS: [u32; 5] = [896_040, 1_792_080, 2_688_120, 3_584_160, 4_480_200];
 fn read_back(alloc: Global) -> Result<Vec<u8>, Fail> {
     let mut image = image_of(0x140, &READS_BACK);
     put(&mut image, 0x1f0, &SOURCE);
-    reads_of(alloc, &run_whole(alloc, &image, &ENDS)?)
+    reads_of(alloc, &run_whole(alloc, &image, &ENDS)?.parts)
 }
 
 /// A fill puts the upper byte of its word, and each of its bytes at the other address of a word; the copy
