@@ -1,189 +1,118 @@
 // Scripts of the debugger, and what they come to.
-use crate::depots::{Further, comes_to, depot_of, first_not_refused, put_file};
-use crate::runs::{IDLE, words_of};
-use md_outer::{MemDepot, MemSink};
-use md_top::drive_one;
+use crate::runs::{Fails, File, IDLE, answer};
+use crate::sessions::{hold_scripts, refuse};
 use std::alloc::{AllocError, Global};
 use std::test::Fail;
 
-/// A depot with the idle cartridge `Z` and a script `S`.
-fn with_script(alloc: Global, script: &[u8]) -> Result<MemDepot, AllocError> {
-    let mut files = Vec::new(alloc);
-    let image = IDLE.image(alloc)?;
-    put_file(&mut files, alloc, "Z", image.as_slice(), &[])?;
-    put_file(&mut files, alloc, "S", script, &[])?;
-    depot_of(alloc, files)
-}
-
-/// Whether a script comes to a status and a text, where the puts of these numbers fail.
-fn plays(
-    alloc: Global,
-    script: &[u8],
-    bad: Vec<u64>,
-    status: u8,
-    text: &[u8],
-) -> Result<bool, AllocError> {
-    let mut depot = with_script(alloc, script)?;
-    let mut out = MemSink::new(alloc, 1 << 20, bad)?;
-    let words = words_of(alloc, "debug Z S")?;
-    let answer = drive_one(alloc, &words, &mut depot, &mut out);
-    Ok(answer == status && out.bytes() == text)
-}
-
-/// A script, the status that it comes to, and the text that it puts.
-type Script = (&'static [u8], u8, &'static str);
-
-fn first_wrong(
-    alloc: Global,
-    rows: &[Script],
-) -> Result<Option<(usize, &'static str)>, AllocError> {
-    for (number, (script, status, text)) in rows.iter().enumerate() {
-        if !plays(alloc, script, Vec::new(alloc), *status, text.as_bytes())? {
-            return Ok(Some((number, text)));
-        }
-    }
-    Ok(None)
-}
+const WORDS: &str = "debug Z S";
 
 // The 68000 branches to itself from cycle 0 on, in 70 cycles each time; the Z80, which is held in its reset, looks at
 // its pins every 45.
-static OBEYED: [Script; 13] = [
-    (b"", 0, ""),
-    (b"step 1", 0, "at 45\n"),
-    (b"step 00000000000000000001\n", 0, "at 45\n"),
-    (b"step 3\nstep 1\n", 0, "at 90\nat 135\n"),
-    (b"run 0\nback 1\nback 2\n", 0, "at 0\nat 0\nat 0\n"),
-    (b"run 200\nrun 100\nback 1\n", 0, "at 210\nat 210\nat 210\n"),
-    (
-        b"step 1\nregs",
-        0,
-        "at 45\npc 000001fc sr 2700 d0 00000000 d1 00000000 d2 00000000 d3 00000000 d4 00000000 d5 00000000 d6 00000000 d7 00000000 a0 00000000 a1 00000000 a2 00000000 a3 00000000 a4 00000000 a5 00000000 a6 00000000 a7 00fff000\n",
-    ),
-    (
-        b"step 1\nreport\n",
-        0,
-        "at 45\n{\"a0\":0,\"a1\":0,\"a2\":0,\"a3\":0,\"a4\":0,\"a5\":0,\"a6\":0,\"a7\":16773120,\"at\":45,\"d0\":0,\"d1\":0,\"d2\":0,\"d3\":0,\"d4\":0,\"d5\":0,\"d6\":0,\"d7\":0,\"pc\":508,\"sr\":9984}\n",
-    ),
-    (b"dis 1fc 1", 0, "000001fc bra.b $000001fc\n"),
-    (
-        b"mem 1fe 4\nmem ff0001fe 4",
-        0,
-        "00 00 ff ff\n00 00 ff ff\n",
-    ),
-    (b"mem fffffe 3\n", 0, "00 00 00\n"),
-    (b"trace 1\n", 0, ""),
-    (
-        b"run 200\ntrace 256\ntrace 2\nback 2\ntrace 1\n",
-        0,
-        "at 210\n000001fc\n000001fc\n000001fc\n000001fc\n000001fc\nat 0\n000001fc\n",
-    ),
-];
+const OBEYED: &str = "
+ -> 0
+step 1 -> 0 at 45|
+step 00000000000000000001| -> 0 at 45|
+step 3|step 1| -> 0 at 90|at 135|
+run 0|back 1|back 2| -> 0 at 0|at 0|at 0|
+run 200|run 100|back 1| -> 0 at 210|at 210|at 210|
+step 1|regs -> 0 at 45|pc 000001fc sr 2700 d0 00000000 d1 00000000 d2 00000000 d3 00000000 d4 00000000 d5 00000000 d6 00000000 d7 00000000 a0 00000000 a1 00000000 a2 00000000 a3 00000000 a4 00000000 a5 00000000 a6 00000000 a7 00fff000|
+step 1|report| -> 0 at 45|{\"a0\":0,\"a1\":0,\"a2\":0,\"a3\":0,\"a4\":0,\"a5\":0,\"a6\":0,\"a7\":16773120,\"at\":45,\"d0\":0,\"d1\":0,\"d2\":0,\"d3\":0,\"d4\":0,\"d5\":0,\"d6\":0,\"d7\":0,\"pc\":508,\"sr\":9984}|
+dis 1fc 1 -> 0 000001fc bra.b $000001fc|
+mem 1fe 4|mem ff0001fe 4 -> 0 00 00 ff ff|00 00 ff ff|
+mem fffffe 3| -> 0 00 00 00|
+trace 1| -> 0
+run 200|trace 256|trace 2|back 2|trace 1| -> 0 at 210|000001fc|000001fc|000001fc|000001fc|000001fc|at 0|000001fc|
+";
 
 #[test]
 fn a_script_is_obeyed(rt: HostRuntime) -> Result<(), Fail> {
-    let alloc = rt.alloc();
-    assert_eq!(rt; first_wrong(alloc, &OBEYED)?, None);
-    Ok(())
+    hold_scripts(rt.alloc(), WORDS, OBEYED)
 }
 
-static STOPPED: [Script; 30] = [
-    (
-        b"step 1\nregs\nback 5\n",
-        15,
-        "at 45\npc 000001fc sr 2700 d0 00000000 d1 00000000 d2 00000000 d3 00000000 d4 00000000 d5 00000000 d6 00000000 d7 00000000 a0 00000000 a1 00000000 a2 00000000 a3 00000000 a4 00000000 a5 00000000 a6 00000000 a7 00fff000\nrefused: script line 3: not kept, oldest 0\n",
-    ),
-    (b"\n", 15, "refused: script line 1: unknown word\n"),
-    (
-        b"step 1\n\nregs\n",
-        15,
-        "at 45\nrefused: script line 2: unknown word\n",
-    ),
-    (b"Step 1", 15, "refused: script line 1: unknown word\n"),
-    (b" step 1", 15, "refused: script line 1: unknown word\n"),
-    (b"steps 1", 15, "refused: script line 1: unknown word\n"),
-    (b"step 1\xff", 15, "refused: script line 1: unknown word\n"),
-    (b"step", 15, "refused: script line 1: bad number\n"),
-    (b"step 0", 15, "refused: script line 1: bad number\n"),
-    (b"step 1000001", 15, "refused: script line 1: bad number\n"),
-    (b"step 1 ", 15, "refused: script line 1: bad number\n"),
-    (b"step  1", 15, "refused: script line 1: bad number\n"),
-    (b"step 1 1", 15, "refused: script line 1: bad number\n"),
-    (b"step +1", 15, "refused: script line 1: bad number\n"),
-    (b"step 1\r", 15, "refused: script line 1: bad number\n"),
-    (
-        b"step 000000000000000000001",
-        15,
-        "refused: script line 1: bad number\n",
-    ),
-    (b"run", 15, "refused: script line 1: bad number\n"),
-    (
-        b"run 549755813889",
-        15,
-        "refused: script line 1: bad number\n",
-    ),
-    (b"back 0", 15, "refused: script line 1: bad number\n"),
-    (
-        b"back 2",
-        15,
-        "refused: script line 1: not kept, oldest 0\n",
-    ),
-    (
-        b"step 1\nback 2\nback 2",
-        15,
-        "at 45\nat 0\nrefused: script line 3: not kept, oldest 0\n",
-    ),
-    (b"regs 1", 15, "refused: script line 1: bad number\n"),
-    (b"report ", 15, "refused: script line 1: bad number\n"),
-    (b"mem 0 0", 15, "refused: script line 1: bad number\n"),
-    (b"mem 0 257", 15, "refused: script line 1: bad number\n"),
-    (b"mem A 1", 15, "refused: script line 1: bad number\n"),
-    (
-        b"mem 123456789 1",
-        15,
-        "refused: script line 1: bad number\n",
-    ),
-    (b"dis 1fd 1", 15, "refused: script line 1: bad number\n"),
-    (b"dis 0 257", 15, "refused: script line 1: bad number\n"),
-    (b"trace 257", 15, "refused: script line 1: bad number\n"),
-];
+const STOPPED: &str = "
+step 1|regs|back 5| -> 15 at 45|pc 000001fc sr 2700 d0 00000000 d1 00000000 d2 00000000 d3 00000000 d4 00000000 d5 00000000 d6 00000000 d7 00000000 a0 00000000 a1 00000000 a2 00000000 a3 00000000 a4 00000000 a5 00000000 a6 00000000 a7 00fff000|refused: script line 3: not kept, oldest 0|
+| -> 15 refused: script line 1: unknown word|
+step 1||regs| -> 15 at 45|refused: script line 2: unknown word|
+Step 1 -> 15 refused: script line 1: unknown word|
+ step 1 -> 15 refused: script line 1: unknown word|
+steps 1 -> 15 refused: script line 1: unknown word|
+step 1~ -> 15 refused: script line 1: unknown word|
+step -> 15 refused: script line 1: bad number|
+step 0 -> 15 refused: script line 1: bad number|
+step 1000001 -> 15 refused: script line 1: bad number|
+step 1  -> 15 refused: script line 1: bad number|
+step  1 -> 15 refused: script line 1: bad number|
+step 1 1 -> 15 refused: script line 1: bad number|
+step +1 -> 15 refused: script line 1: bad number|
+step 1\r -> 15 refused: script line 1: bad number|
+step 000000000000000000001 -> 15 refused: script line 1: bad number|
+run -> 15 refused: script line 1: bad number|
+run 549755813889 -> 15 refused: script line 1: bad number|
+back 0 -> 15 refused: script line 1: bad number|
+back 2 -> 15 refused: script line 1: not kept, oldest 0|
+step 1|back 2|back 2 -> 15 at 45|at 0|refused: script line 3: not kept, oldest 0|
+regs 1 -> 15 refused: script line 1: bad number|
+report  -> 15 refused: script line 1: bad number|
+mem 0 0 -> 15 refused: script line 1: bad number|
+mem 0 257 -> 15 refused: script line 1: bad number|
+mem A 1 -> 15 refused: script line 1: bad number|
+mem 123456789 1 -> 15 refused: script line 1: bad number|
+dis 1fd 1 -> 15 refused: script line 1: bad number|
+dis 0 257 -> 15 refused: script line 1: bad number|
+trace 257 -> 15 refused: script line 1: bad number|
+";
 
 #[test]
 fn the_first_refused_line_ends_a_script(rt: HostRuntime) -> Result<(), Fail> {
-    let alloc = rt.alloc();
-    assert_eq!(rt; first_wrong(alloc, &STOPPED)?, None);
-    Ok(())
+    hold_scripts(rt.alloc(), WORDS, STOPPED)
 }
 
-static REFUSED: [Further; 8] = [
-    ("debug", 2, "refused: usage\n"),
-    ("debug Z", 2, "refused: usage\n"),
-    ("debug Z S S", 2, "refused: usage\n"),
-    ("debug Z Z", 2, "refused: usage\n"),
-    ("debug Z S --pal", 2, "refused: usage\n"),
-    ("debug Y X", 3, "fault: reading Y\n"),
-    ("debug Z X", 3, "fault: reading X\n"),
-    ("debug S Z", 5, "refused: cartridge: short\n"),
-];
+/// A script, and one that is too long.
+static SCRIPTS: [File; 2] = [("S", b"regs", b"", 0), ("L", b"", b"\n", 65_537)];
+
+const REFUSED: &str = "
+debug -> 2 refused: usage|
+debug Z -> 2 refused: usage|
+debug Z S S -> 2 refused: usage|
+debug Z Z -> 2 refused: usage|
+debug Z S --pal -> 2 refused: usage|
+debug Y X -> 3 fault: reading Y|
+debug Z X -> 3 fault: reading X|
+debug S Z -> 5 refused: cartridge: short|
+debug Z L -> 14 refused: L is too long|
+";
 
 #[test]
 fn a_session_needs_both_files(rt: HostRuntime) -> Result<(), Fail> {
-    let alloc = rt.alloc();
-    let mut depot = with_script(alloc, b"regs")?;
-    assert_eq!(rt; first_not_refused(alloc, &mut depot, &REFUSED)?, None);
-    let long = vec![in alloc; b'\n'; 65_537]?;
-    let mut depot = with_script(alloc, long.as_slice())?;
-    let row: Further = ("debug Z S", 14, "refused: S is too long\n");
-    assert!(rt; comes_to(alloc, &mut depot, &row)?);
-    Ok(())
+    refuse(rt.alloc(), &IDLE, &SCRIPTS, REFUSED)
+}
+
+/// A script, which of its puts fails, and the status and the text then.
+static CUT_SHORT: [(&[u8], u64, u8, &str); 2] = [
+    (b"step 1", 0, 13, ""),
+    (b"step 1\nback 9", 1, 15, "at 45\n"),
+];
+
+/// Whether a script comes to a status and a text.
+fn plays(
+    alloc: Global,
+    script: &[u8],
+    fails: Fails,
+    status: u8,
+    text: &str,
+) -> Result<bool, AllocError> {
+    let outside = answer(alloc, WORDS, &IDLE, "S", script, fails)?;
+    Ok(outside.is_left(status, text))
 }
 
 #[test]
 fn replies_that_cannot_be_put(rt: HostRuntime) -> Result<(), Fail> {
-    let alloc = rt.alloc();
-    let first = vec![in alloc; 0u64]?;
-    assert!(rt; plays(alloc, b"step 1", first, 13, b"")?);
-    let second = vec![in alloc; 1u64]?;
-    assert!(rt; plays(alloc, b"step 1\nback 9", second, 15, b"at 45\n")?);
+    for (script, put, status, text) in &CUT_SHORT {
+        assert!(rt;
+            plays(rt.alloc(), script, Fails::Put(*put), *status, text)?,
+            "{put}"
+        );
+    }
     Ok(())
 }
 
@@ -194,28 +123,29 @@ fn next_event(cycle: u64) -> u64 {
     main.min(sub)
 }
 
-/// The first cycles with an event, so many, from 0 on.
-fn first_events(alloc: Global, count: usize) -> Result<Vec<u64>, AllocError> {
+/// The first cycles with an event behind 0, so many, and then back to 0.
+fn there_and_back(alloc: Global, count: usize) -> Result<Vec<u64>, AllocError> {
     let mut cycles = Vec::new(alloc);
     let mut cycle = 0;
-    for index in 0..count {
-        let _index = index;
-        cycles.push(cycle)?;
+    for _event in 0..count {
         cycle = next_event(cycle);
+        cycles.push(cycle)?;
     }
+    for index in (1..count).rev() {
+        cycles.push(cycles.get(index.wrapping_sub(1)).copied().unwrap_or(0))?;
+    }
+    cycles.push(0)?;
     Ok(cycles)
 }
 
 /// A script of 300 steps that then goes back to each of the states that they kept, and one further.
 fn long_script(alloc: Global) -> Result<String, AllocError> {
     let mut script = String::new(alloc);
-    for index in 0..300u32 {
-        let _index = index;
+    for _step in 0..300 {
         script.push_str("step 1\n")?;
     }
     script.push_str("back 1\n")?;
-    for index in 0..301u32 {
-        let _index = index;
+    for _step in 0..301 {
         script.push_str("back 2\n")?;
     }
     Ok(script)
@@ -223,12 +153,8 @@ fn long_script(alloc: Global) -> Result<String, AllocError> {
 
 /// The replies to it.
 fn long_replies(alloc: Global) -> Result<String, AllocError> {
-    let cycles = first_events(alloc, 301)?;
     let mut text = String::new(alloc);
-    for cycle in cycles.iter().skip(1) {
-        write!(&mut text, "at {cycle}\n")?;
-    }
-    for cycle in cycles.iter().rev().skip(1) {
+    for cycle in there_and_back(alloc, 300)? {
         write!(&mut text, "at {cycle}\n")?;
     }
     text.push_str("at 0\nrefused: script line 602: not kept, oldest 0\n")?;
@@ -237,17 +163,8 @@ fn long_replies(alloc: Global) -> Result<String, AllocError> {
 
 #[test]
 fn each_kept_state_is_come_back_to(rt: HostRuntime) -> Result<(), Fail> {
-    let alloc = rt.alloc();
-    let script = long_script(alloc)?;
-    let text = long_replies(alloc)?;
-    assert!(rt;
-        plays(
-            alloc,
-            script.as_bytes(),
-            Vec::new(alloc),
-            15,
-            text.as_bytes()
-        )?
-    );
+    let script = long_script(rt.alloc())?;
+    let text = long_replies(rt.alloc())?;
+    assert!(rt; plays(rt.alloc(), script.as_bytes(), Fails::Nothing, 15, &text)?);
     Ok(())
 }

@@ -1,5 +1,5 @@
 // Pictures of a run, and which of its writes fail.
-use crate::rows::{ROW, Row, first_wrong};
+use crate::rows::{ROW, Row, all_right};
 use crate::runs::{Cart, Fails};
 use std::test::Fail;
 
@@ -69,8 +69,7 @@ static RUNS: [Row; 4] = [
 
 #[test]
 fn frames_are_written_one_behind_the_other(rt: HostRuntime) -> Result<(), Fail> {
-    assert_eq!(rt; first_wrong(rt.alloc(), &RUNS)?, None);
-    Ok(())
+    all_right(rt.alloc(), &RUNS)
 }
 
 /// A run of three outputs of which a write fails.
@@ -129,6 +128,5 @@ static FAULTS: [Row; 7] = [
 
 #[test]
 fn each_failing_write_of_three_outputs(rt: HostRuntime) -> Result<(), Fail> {
-    assert_eq!(rt; first_wrong(rt.alloc(), &FAULTS)?, None);
-    Ok(())
+    all_right(rt.alloc(), &FAULTS)
 }

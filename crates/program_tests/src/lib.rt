@@ -10,8 +10,6 @@ mod debugging;
 #[cfg(test)]
 mod demos;
 #[cfg(test)]
-mod depots;
-#[cfg(test)]
 mod frames;
 #[cfg(test)]
 mod meeting;
@@ -29,6 +27,8 @@ mod rolling;
 mod rows;
 #[cfg(test)]
 mod runs;
+#[cfg(test)]
+mod sessions;
 #[cfg(test)]
 mod states;
 #[cfg(test)]

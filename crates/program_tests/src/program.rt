@@ -1,4 +1,4 @@
-use crate::rows::{ROW, Row, first_wrong};
+use crate::rows::{ROW, Row, all_right};
 use crate::runs::{BEEP, Cart};
 use std::test::Fail;
 
@@ -157,6 +157,5 @@ static RUNS: [Row; 13] = [
 
 #[test]
 fn runs_put_their_lines_and_write_their_files(rt: HostRuntime) -> Result<(), Fail> {
-    assert_eq!(rt; first_wrong(rt.alloc(), &RUNS)?, None);
-    Ok(())
+    all_right(rt.alloc(), &RUNS)
 }

@@ -1,6 +1,5 @@
-use crate::depots::{Further, depot_of, first_not_refused, put_file};
-use crate::runs::{Cart, Fails, IDLE, answer, write_at};
-use md_outer::MemDepot;
+use crate::runs::{Cart, Fails, File, IDLE, answer, write_at};
+use crate::sessions::refuse;
 use std::alloc::{AllocError, Global};
 use std::test::Fail;
 
@@ -43,7 +42,7 @@ const LINES: &str = "cycles 0 to 5\nframes 0\nsamples 0\naccesses 1\n";
 /// Whether a recording gives that status and line, and with a refusal no file is begun.
 fn is_told(alloc: Global, recording: &[u8], wanted: u8, line: &str) -> Result<bool, AllocError> {
     let words = "run Z --cycles 5 --in P --sound W";
-    let outside = answer(alloc, words, &IDLE, recording, Fails::Nothing)?;
+    let outside = answer(alloc, words, &IDLE, "P", recording, Fails::Nothing)?;
     let begun = outside.length("W").is_some();
     Ok(outside.is_left(wanted, line) && begun == (wanted == 0))
 }
@@ -88,80 +87,36 @@ fn a_recording_has_a_greatest_length(rt: HostRuntime) -> Result<(), Fail> {
     Ok(())
 }
 
-static INPUTS: [(&str, &[u8]); 3] = [
-    ("S", b"SEGA"),
-    ("G", b"MDREC001\0\0\0\0"),
-    ("P", b"MDREC003\0\0\0\0"),
+/// A cartridge `S` that is short, a recording `G`, one `P` that goes wrong at its eighth byte, and a file `Q` that is
+/// too long as either.
+static INPUTS: [File; 4] = [
+    ("S", b"SEGA", b"", 0),
+    ("G", b"MDREC001\0\0\0\0", b"", 0),
+    ("P", b"MDREC003\0\0\0\0", b"", 0),
+    ("Q", b"", b"\0", 4_194_319),
 ];
-
-/// A depot with a cartridge `Z`, one `S` that is short, a recording `G`, one `P` that goes wrong at its
-/// eighth byte, and a file `Q` that is too long as either.
-fn inputs(alloc: Global) -> Result<MemDepot, AllocError> {
-    let mut files = Vec::new(alloc);
-    for (name, bytes) in &INPUTS {
-        put_file(&mut files, alloc, name, bytes, &[])?;
-    }
-    let long = vec![in alloc; 0u8; 4_194_319]?;
-    put_file(&mut files, alloc, "Z", &IDLE.image(alloc)?, &[])?;
-    put_file(&mut files, alloc, "Q", &long, &[])?;
-    depot_of(alloc, files)
-}
 
 // The refusal of the words, of an end that is too far, of the cartridge, of the recording, and of an end
 // that is not above the start.
-static REFUSALS: [Further; 13] = [
-    ("run Z --cycles 0 --in Z --sound=W", 2, "refused: usage\n"),
-    ("run Z --cycles 0 --in W --sound=W", 2, "refused: usage\n"),
-    (
-        "run X --cycles 549755813889 --in Y --sound=W",
-        11,
-        "refused: cycle 549755813889 is too far\n",
-    ),
-    ("run X --cycles 0 --in Y --sound=W", 3, "fault: reading X\n"),
-    ("run X --cycles 0 --in P --sound=W", 3, "fault: reading X\n"),
-    (
-        "run Q --cycles 0 --in Y --sound=W",
-        14,
-        "refused: Q is too long\n",
-    ),
-    (
-        "run Q --cycles 0 --in P --sound=W",
-        14,
-        "refused: Q is too long\n",
-    ),
-    (
-        "run S --cycles 0 --in Y --sound=W",
-        5,
-        "refused: cartridge: short\n",
-    ),
-    (
-        "run S --cycles 0 --in Q --sound=W",
-        5,
-        "refused: cartridge: short\n",
-    ),
-    ("run Z --cycles 0 --in Y --sound=W", 3, "fault: reading Y\n"),
-    (
-        "run Z --cycles 0 --in Q --sound=W",
-        14,
-        "refused: Q is too long\n",
-    ),
-    (
-        "run Z --cycles 0 --in P --sound=W",
-        6,
-        "refused: recording at 7\n",
-    ),
-    (
-        "run Z --cycles 0 --in G --sound=W",
-        9,
-        "refused: cycle 0 is not above 0\n",
-    ),
-];
+const REFUSALS: &str = "
+run Z --cycles 0 --in Z --sound=W -> 2 refused: usage|
+run Z --cycles 0 --in W --sound=W -> 2 refused: usage|
+run X --cycles 549755813889 --in Y --sound=W -> 11 refused: cycle 549755813889 is too far|
+run X --cycles 0 --in Y --sound=W -> 3 fault: reading X|
+run X --cycles 0 --in P --sound=W -> 3 fault: reading X|
+run Q --cycles 0 --in Y --sound=W -> 14 refused: Q is too long|
+run Q --cycles 0 --in P --sound=W -> 14 refused: Q is too long|
+run S --cycles 0 --in Y --sound=W -> 5 refused: cartridge: short|
+run S --cycles 0 --in Q --sound=W -> 5 refused: cartridge: short|
+run Z --cycles 0 --in Y --sound=W -> 3 fault: reading Y|
+run Z --cycles 0 --in Q --sound=W -> 14 refused: Q is too long|
+run Z --cycles 0 --in P --sound=W -> 6 refused: recording at 7|
+run Z --cycles 0 --in G --sound=W -> 9 refused: cycle 0 is not above 0|
+";
 
 #[test]
 fn refusals_stand_in_their_order(rt: HostRuntime) -> Result<(), Fail> {
-    let mut depot = inputs(rt.alloc())?;
-    assert_eq!(rt; first_not_refused(rt.alloc(), &mut depot, &REFUSALS)?, None);
-    Ok(())
+    refuse(rt.alloc(), &IDLE, &INPUTS, REFUSALS)
 }
 
 /// A cartridge that plays a tone while B is held on pad 1. Its branches are relative.
@@ -207,7 +162,7 @@ static HEARD: [(&str, usize, usize); 2] = [
 /// Whether a sound is heard from one pair to another.
 fn is_heard(alloc: Global, words: &str, first: usize, last: usize) -> Result<bool, AllocError> {
     let recording = b"MDREC001\0\0\0\x01\0\x10\0\0";
-    let outside = answer(alloc, words, &PADS, recording, Fails::Nothing)?;
+    let outside = answer(alloc, words, &PADS, "P", recording, Fails::Nothing)?;
     Ok(outside.status == 0 && sounding(outside.file("W")) == (first, last, 1_776))
 }
 

@@ -1,5 +1,7 @@
-use crate::rows::{ROW, Row, first_wrong};
-use crate::runs::{Cart, Fails};
+use crate::rows::{ROW, Row, all_right};
+use crate::runs::{Cart, Fails, IDLE, files_of, put_file};
+use crate::sessions::{End, end_so, hold};
+use md_outer::MemDepot;
 use std::alloc::{AllocError, Global};
 use std::test::Fail;
 
@@ -8,159 +10,61 @@ const SHORT: Cart = Cart {
     patches: &[],
 };
 
-const LONG: Cart = Cart {
-    length: 4_194_305,
-    patches: &[],
-};
-
 const NO_MARK: Cart = Cart {
     length: 512,
     patches: &[(0x100, b"sega")],
 };
 
-/// Words that have no meaning.
-const USAGE: Row = Row {
-    status: 2,
-    text: "refused: usage\n",
-    ..ROW
-};
+/// A depot with the idle cartridge `Z` and files that are none: `A` is too short, `B` too long, and `C` has no mark.
+fn with_carts(alloc: Global) -> Result<MemDepot, AllocError> {
+    let mut files = files_of(alloc, &IDLE, &[("B", b"", b"\0", 4_194_305)])?;
+    put_file(&mut files, alloc, "A", SHORT.image(alloc)?)?;
+    put_file(&mut files, alloc, "C", NO_MARK.image(alloc)?)?;
+    MemDepot::new(alloc, files, 1 << 20, Vec::new(alloc), Vec::new(alloc))
+}
 
 // An end that is too far is refused before the cartridge is read, and one that is not above the
-// start behind it.
-static REFUSALS: [Row; 24] = [
-    Row { words: "", ..USAGE },
-    Row {
-        words: "run",
-        ..USAGE
-    },
-    Row {
-        words: "run Z --cycles +5",
-        ..USAGE
-    },
-    Row {
-        words: "run Z --cycles 9 --sound W --journal W",
-        ..USAGE
-    },
-    Row {
-        words: "run Z --cycles 5 --sound W --sound V",
-        ..USAGE
-    },
-    Row {
-        words: "run Z --cycles 5 --sound=Z",
-        ..USAGE
-    },
-    Row {
-        words: "walk Z --cycles 5 --sound W",
-        ..USAGE
-    },
-    Row {
-        words: "info",
-        ..USAGE
-    },
-    Row {
-        words: "info Z W",
-        ..USAGE
-    },
-    Row {
-        words: "run Z --cycles 5 --sound W --workers 6",
-        ..USAGE
-    },
-    Row {
-        words: "run Z --cycles 0 --sound W",
-        status: 9,
-        text: "refused: cycle 0 is not above 0\n",
-        ..ROW
-    },
-    Row {
-        words: "run Y --cycles 0 --sound W",
-        status: 3,
-        text: "fault: reading Y\n",
-        ..ROW
-    },
-    Row {
-        words: "run Y --cycles 549755813888 --sound W",
-        status: 3,
-        text: "fault: reading Y\n",
-        ..ROW
-    },
-    Row {
-        words: "run Y --cycles 549755813889 --sound W",
-        status: 11,
-        text: "refused: cycle 549755813889 is too far\n",
-        ..ROW
-    },
-    Row {
-        words: "run Z --cycles 18446744073709551615 --sound W",
-        status: 11,
-        text: "refused: cycle 18446744073709551615 is too far\n",
-        ..ROW
-    },
-    Row {
-        words: "run Y --cycles 5 --sound W",
-        status: 3,
-        text: "fault: reading Y\n",
-        ..ROW
-    },
-    Row {
-        words: "info Y",
-        status: 3,
-        text: "fault: reading Y\n",
-        ..ROW
-    },
-    Row {
-        cart: SHORT,
-        words: "run Z --cycles 896040 --sound W --journal J",
-        status: 5,
-        text: "refused: cartridge: short\n",
-        ..ROW
-    },
-    Row {
-        cart: SHORT,
-        words: "info Z",
-        status: 5,
-        text: "refused: cartridge: short\n",
-        ..ROW
-    },
-    Row {
-        cart: LONG,
-        words: "run Z --cycles 896040 --sound W --journal J",
-        status: 14,
-        text: "refused: Z is too long\n",
-        ..ROW
-    },
-    Row {
-        cart: LONG,
-        words: "info Z",
-        status: 14,
-        text: "refused: Z is too long\n",
-        ..ROW
-    },
-    Row {
-        cart: NO_MARK,
-        words: "run Z --cycles 896040 --sound W --journal J",
-        status: 5,
-        text: "refused: cartridge: no mark\n",
-        ..ROW
-    },
-    Row {
-        cart: NO_MARK,
-        words: "info Z",
-        status: 5,
-        text: "refused: cartridge: no mark\n",
-        ..ROW
-    },
-    Row {
-        words: "run Z --cycles 0 --sound W --workers 5",
-        status: 9,
-        text: "refused: cycle 0 is not above 0\n",
-        ..ROW
-    },
-];
+// start behind it. The first words are one empty word.
+const REFUSALS: &str = "
+ -> 2 refused: usage|
+run -> 2 refused: usage|
+run Z --cycles +5 -> 2 refused: usage|
+run Z --cycles 9 --sound W --journal W -> 2 refused: usage|
+run Z --cycles 5 --sound W --sound V -> 2 refused: usage|
+run Z --cycles 5 --sound=Z -> 2 refused: usage|
+walk Z --cycles 5 --sound W -> 2 refused: usage|
+info -> 2 refused: usage|
+info Z W -> 2 refused: usage|
+run Z --cycles 5 --sound W --workers 6 -> 2 refused: usage|
+run Z --cycles 0 --sound W -> 9 refused: cycle 0 is not above 0|
+run Y --cycles 0 --sound W -> 3 fault: reading Y|
+run Y --cycles 549755813888 --sound W -> 3 fault: reading Y|
+run Y --cycles 549755813889 --sound W -> 11 refused: cycle 549755813889 is too far|
+run Z --cycles 18446744073709551615 --sound W -> 11 refused: cycle 18446744073709551615 is too far|
+run Y --cycles 5 --sound W -> 3 fault: reading Y|
+info Y -> 3 fault: reading Y|
+run A --cycles 896040 --sound W --journal J -> 5 refused: cartridge: short|
+info A -> 5 refused: cartridge: short|
+run B --cycles 896040 --sound W --journal J -> 14 refused: B is too long|
+info B -> 14 refused: B is too long|
+run C --cycles 896040 --sound W --journal J -> 5 refused: cartridge: no mark|
+info C -> 5 refused: cartridge: no mark|
+run Z --cycles 0 --sound W --workers 5 -> 9 refused: cycle 0 is not above 0|
+";
+
+static UNCHANGED: [End; 1] = [("Z", 0x1fc, b"\x60\xfe\0\0")];
+
+/// Whether one of the outputs is begun.
+fn has_begun(depot: &MemDepot) -> bool {
+    depot.file("F").is_some() || depot.file("W").is_some() || depot.file("J").is_some()
+}
 
 #[test]
 fn a_refusal_begins_no_file(rt: HostRuntime) -> Result<(), Fail> {
-    assert_eq!(rt; first_wrong(rt.alloc(), &REFUSALS)?, None);
-    Ok(())
+    let mut depot = with_carts(rt.alloc())?;
+    hold(rt.alloc(), &mut depot, REFUSALS)?;
+    assert!(rt; !has_begun(&depot));
+    end_so(&depot, &UNCHANGED)
 }
 
 const RUN: Row = Row {
@@ -264,8 +168,7 @@ static FAULTS: [Row; 14] = [
 
 #[test]
 fn each_failing_read_and_write(rt: HostRuntime) -> Result<(), Fail> {
-    assert_eq!(rt; first_wrong(rt.alloc(), &FAULTS)?, None);
-    Ok(())
+    all_right(rt.alloc(), &FAULTS)
 }
 
 /// The first piece of the lines that does not fail so.

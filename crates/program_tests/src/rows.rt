@@ -1,6 +1,7 @@
 // Tables of words and of what they come to.
 use crate::runs::{Cart, Fails, IDLE, Outside, answer};
 use std::alloc::{AllocError, Global};
+use std::test::Fail;
 
 /// A file's name, a place in it, and the bytes that stand there.
 pub(crate) type Piece = (&'static str, usize, &'static [u8]);
@@ -15,6 +16,8 @@ pub(crate) struct Row {
     pub text: &'static str,
     /// The lengths of the files `F`, `W` and `J`, where there are any.
     pub lengths: (Option<usize>, Option<usize>, Option<usize>),
+    /// The length of the file `S`, where there is one.
+    pub saved: Option<usize>,
     /// Bytes of the files.
     pub pieces: &'static [Piece],
     /// Whether the sound file `W` is silent, or there is none.
@@ -29,6 +32,7 @@ pub(crate) const ROW: Row = Row {
     status: 0,
     text: "",
     lengths: (None, None, None),
+    saved: None,
     pieces: &[],
     silent: true,
 };
@@ -60,6 +64,7 @@ impl Row {
         outside.length("F") == self.lengths.0
             && outside.length("W") == self.lengths.1
             && outside.length("J") == self.lengths.2
+            && outside.length("S") == self.saved
             && outside.length("Z") == Some(self.cart.length)
             && has_pieces(outside, self.pieces)
             && is_silent(outside.file("W")) == self.silent
@@ -68,20 +73,17 @@ impl Row {
     /// Whether the words come to what the row says.
     pub(crate) fn is_right(&self, alloc: Global) -> Result<bool, AllocError> {
         let recording = b"MDREC001\0\0\0\0";
-        let outside = answer(alloc, self.words, &self.cart, recording, self.fails)?;
+        let outside = answer(alloc, self.words, &self.cart, "P", recording, self.fails)?;
         Ok(outside.is_left(self.status, self.text) && self.has_files(&outside))
     }
 }
 
-/// The number and the words of the first row that is otherwise.
-pub(crate) fn first_wrong(
-    alloc: Global,
-    rows: &[Row],
-) -> Result<Option<(usize, &'static str)>, AllocError> {
+/// Fails with the number and the words of the first row that is otherwise.
+pub(crate) fn all_right(alloc: Global, rows: &[Row]) -> Result<(), Fail> {
     for (number, row) in rows.iter().enumerate() {
         if !row.is_right(alloc)? {
-            return Ok(Some((number, row.words)));
+            return Err(Fail::from(format!(in alloc; "row {number}: {}", row.words)?));
         }
     }
-    Ok(None)
+    Ok(())
 }

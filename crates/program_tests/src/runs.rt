@@ -1,5 +1,4 @@
-// Runs of a cartridge from a store in memory, and what they leave.
-use crate::depots::{Files, put_file};
+// Cartridges, stores in memory, and what words come to with them.
 use md_outer::{MemDepot, MemSink};
 use md_top::drive_one;
 use std::alloc::{AllocError, Global};
@@ -65,6 +64,42 @@ pub(crate) fn words_of(alloc: Global, text: &str) -> Result<Vec<String>, AllocEr
     Ok(words)
 }
 
+/// Files: their names and their bytes.
+pub(crate) type Files = Vec<(String, Vec<u8>)>;
+
+/// A file: its name, its front, and what stands behind that so many times.
+pub(crate) type File = (&'static str, &'static [u8], &'static [u8], usize);
+
+/// Adds a file.
+pub(crate) fn put_file(
+    files: &mut Files,
+    alloc: Global,
+    name: &str,
+    bytes: Vec<u8>,
+) -> Result<(), AllocError> {
+    files.push((String::from_str(alloc, name)?, bytes))?;
+    Ok(())
+}
+
+fn bytes_of(alloc: Global, file: &File) -> Result<Vec<u8>, AllocError> {
+    let (_, front, behind, times) = *file;
+    let mut bytes = front.to_vec(alloc)?;
+    for _time in 0..times {
+        bytes.extend_from_slice(behind)?;
+    }
+    Ok(bytes)
+}
+
+/// A cartridge as `Z`, and further files.
+pub(crate) fn files_of(alloc: Global, cart: &Cart, files: &[File]) -> Result<Files, AllocError> {
+    let mut all = Vec::new(alloc);
+    put_file(&mut all, alloc, "Z", cart.image(alloc)?)?;
+    for file in files {
+        put_file(&mut all, alloc, file.0, bytes_of(alloc, file)?)?;
+    }
+    Ok(all)
+}
+
 /// Which call fails, each kind counted from 0: a fetch, a begin or append, or a put.
 #[derive(Clone, Copy)]
 pub(crate) enum Fails {
@@ -98,6 +133,16 @@ pub(crate) struct Outside {
 }
 
 impl Outside {
+    /// A depot that holds these files, and a stream.
+    pub(crate) fn new(alloc: Global, files: Files, fails: Fails) -> Result<Outside, AllocError> {
+        let (fetches, writes, puts) = fails.lists(alloc)?;
+        Ok(Outside {
+            depot: MemDepot::new(alloc, files, 1 << 20, fetches, writes)?,
+            out: MemSink::new(alloc, 1 << 16, puts)?,
+            status: 255,
+        })
+    }
+
     /// Whether the words came to this status and put this text, or with the status 13 a front of it.
     pub(crate) fn is_left(&self, status: u8, text: &str) -> bool {
         let put = self.out.bytes();
@@ -120,39 +165,18 @@ impl Outside {
     }
 }
 
-/// A cartridge as `Z` and a recording as `P`.
-fn files_of(alloc: Global, cart: &Cart, recording: &[u8]) -> Result<Files, AllocError> {
-    let mut files = Vec::new(alloc);
-    put_file(&mut files, alloc, "Z", &cart.image(alloc)?, &[])?;
-    put_file(&mut files, alloc, "P", recording, &[])?;
-    Ok(files)
-}
-
-/// A depot that holds them, and a stream.
-pub(crate) fn prepared(
-    alloc: Global,
-    cart: &Cart,
-    recording: &[u8],
-    fails: Fails,
-) -> Result<Outside, AllocError> {
-    let (fetches, writes, puts) = fails.lists(alloc)?;
-    let files = files_of(alloc, cart, recording)?;
-    Ok(Outside {
-        depot: MemDepot::new(alloc, files, 1 << 20, fetches, writes)?,
-        out: MemSink::new(alloc, 1 << 16, puts)?,
-        status: 255,
-    })
-}
-
-/// What words come to.
+/// What words come to with a cartridge as `Z` and another file of this name.
 pub(crate) fn answer(
     alloc: Global,
     words: &str,
     cart: &Cart,
-    recording: &[u8],
+    name: &str,
+    bytes: &[u8],
     fails: Fails,
 ) -> Result<Outside, AllocError> {
-    let mut outside = prepared(alloc, cart, recording, fails)?;
+    let mut files = files_of(alloc, cart, &[])?;
+    put_file(&mut files, alloc, name, bytes.to_vec(alloc)?)?;
+    let mut outside = Outside::new(alloc, files, fails)?;
     let words = words_of(alloc, words)?;
     outside.status = drive_one(alloc, &words, &mut outside.depot, &mut outside.out);
     Ok(outside)

@@ -1,6 +1,6 @@
 // Runs with one to five workers, beside the same run by one.
 use crate::meeting::Meeting;
-use crate::runs::{BEEP, Cart, Fails, IDLE, Outside, answer, prepared, words_of};
+use crate::runs::{BEEP, Cart, Fails, IDLE, Outside, answer, files_of, words_of};
 use md_outer::{FreeGate, Gate};
 use md_top::drive;
 use std::alloc::{AllocError, Global};
@@ -8,41 +8,16 @@ use std::sync::Wait;
 use std::test::Fail;
 use std::thread::Threads;
 
-/// The words of a run, and of one with each number of workers.
-type Words = (&'static str, [&'static str; 5]);
-
-static FRAME: Words = (
-    "run Z --cycles 896040 --frames F --sound W --journal J",
-    [
-        "run Z --cycles 896040 --frames F --sound W --journal J --workers 1",
-        "run Z --cycles 896040 --frames F --sound W --journal J --workers 2",
-        "run Z --cycles 896040 --frames F --sound W --journal J --workers 3",
-        "run Z --cycles 896040 --frames F --sound W --journal J --workers 4",
-        "run Z --cycles 896040 --frames F --sound W --journal J --workers 5",
-    ],
-);
-
-// Two segments.
-static FRAMES: Words = (
-    "run Z --cycles 1792080 --frames F --sound W --journal J",
-    [
-        "run Z --cycles 1792080 --frames F --sound W --journal J --workers 1",
-        "run Z --cycles 1792080 --frames F --sound W --journal J --workers 2",
-        "run Z --cycles 1792080 --frames F --sound W --journal J --workers 3",
-        "run Z --cycles 1792080 --frames F --sound W --journal J --workers 4",
-        "run Z --cycles 1792080 --frames F --sound W --journal J --workers 5",
-    ],
-);
-
 /// What words come to with the right to threads.
-fn driven<R: Threads + Wait + Sync, G: Gate>(
+pub(crate) fn driven<R: Threads + Wait + Sync, G: Gate>(
     rt: &R,
     alloc: Global,
     words: &str,
     cart: &Cart,
+    fails: Fails,
     gate: &G,
 ) -> Result<Outside, AllocError> {
-    let mut outside = prepared(alloc, cart, &[], Fails::Nothing)?;
+    let mut outside = Outside::new(alloc, files_of(alloc, cart, &[])?, fails)?;
     let words = words_of(alloc, words)?;
     outside.status = drive(
         rt,
@@ -68,19 +43,41 @@ fn is_same(first: &Outside, second: &Outside, name: &str) -> bool {
     first.length(name).is_some() && first.file(name) == second.file(name)
 }
 
-/// The first words of a run with workers by which it leaves something else than one worker does.
+/// The words of a run of one frame, and of one of two segments, and their cartridges.
+static RUNS: [(&str, Cart); 2] = [
+    (
+        "run Z --cycles 896040 --frames F --sound W --journal J",
+        BEEP,
+    ),
+    (
+        "run Z --cycles 1792080 --frames F --sound W --journal J",
+        IDLE,
+    ),
+];
+
+/// Whether so many workers end well and leave what another run does.
+fn leaves<R: Threads + Wait + Sync>(
+    rt: &R,
+    alloc: Global,
+    run: &(&'static str, Cart),
+    workers: u32,
+    one: &Outside,
+) -> Result<bool, AllocError> {
+    let words = format!(in alloc; "{} --workers {workers}", run.0)?;
+    let other = driven(rt, alloc, &words, &run.1, Fails::Nothing, &FreeGate)?;
+    Ok(other.status == 0 && are_alike(one, &other))
+}
+
+/// The first number of workers by which a run leaves something else than it does where nothing is said of them.
 fn first_unlike<R: Threads + Wait + Sync>(
     rt: &R,
     alloc: Global,
-    words: &Words,
-    cart: &Cart,
-) -> Result<Option<&'static str>, AllocError> {
-    let (plain, with_workers) = words;
-    let one = answer(alloc, plain, cart, &[], Fails::Nothing)?;
-    for text in with_workers {
-        let other = driven(rt, alloc, text, cart, &FreeGate)?;
-        if other.status != 0 || !are_alike(&one, &other) {
-            return Ok(Some(*text));
+    run: &(&'static str, Cart),
+) -> Result<Option<u32>, AllocError> {
+    let one = answer(alloc, run.0, &run.1, "P", &[], Fails::Nothing)?;
+    for workers in 1..6 {
+        if !leaves(rt, alloc, run, workers, &one)? {
+            return Ok(Some(workers));
         }
     }
     Ok(None)
@@ -88,22 +85,21 @@ fn first_unlike<R: Threads + Wait + Sync>(
 
 #[test]
 fn every_number_of_workers_writes_the_same_files(rt: HostRuntime) -> Result<(), Fail> {
-    assert_eq!(rt; first_unlike(&rt, rt.alloc(), &FRAME, &BEEP)?, None);
-    assert_eq!(rt; first_unlike(&rt, rt.alloc(), &FRAMES, &IDLE)?, None);
+    for run in &RUNS {
+        assert_eq!(rt; first_unlike(&rt, rt.alloc(), run)?, None);
+    }
     Ok(())
 }
 
-static SEVERAL: [&str; 4] = [
-    "run Z --cycles 1792080 --workers 2",
-    "run Z --cycles 1792080 --workers 3",
-    "run Z --cycles 1792080 --workers 4",
-    "run Z --cycles 1792080 --workers 5",
-];
-
-/// Whether a run of two segments ends well, and the first two chips wait for one another in each.
-fn meets<R: Threads + Wait + Sync>(rt: &R, alloc: Global, words: &str) -> Result<bool, AllocError> {
+/// Whether a run of two segments by so many workers ends well, and the first two chips wait for one another in each.
+fn meets<R: Threads + Wait + Sync>(
+    rt: &R,
+    alloc: Global,
+    workers: u32,
+) -> Result<bool, AllocError> {
     let gate = Meeting::new();
-    let outside = driven(rt, alloc, words, &IDLE, &gate)?;
+    let words = format!(in alloc; "run Z --cycles 1792080 --workers {workers}")?;
+    let outside = driven(rt, alloc, &words, &IDLE, Fails::Nothing, &gate)?;
     Ok(outside.status == 0 && gate.met(2))
 }
 
@@ -111,8 +107,8 @@ fn meets<R: Threads + Wait + Sync>(rt: &R, alloc: Global, words: &str) -> Result
 // one after the other would never meet there.
 #[test]
 fn several_workers_meet_in_each_segment(rt: HostRuntime) -> Result<(), Fail> {
-    for words in &SEVERAL {
-        assert!(rt; meets(&rt, rt.alloc(), words)?, "{words}");
+    for workers in 2..6 {
+        assert!(rt; meets(&rt, rt.alloc(), workers)?, "{workers}");
     }
     Ok(())
 }
@@ -121,7 +117,7 @@ fn several_workers_meet_in_each_segment(rt: HostRuntime) -> Result<(), Fail> {
 fn the_right_to_threads_changes_nothing(rt: HostRuntime) -> Result<(), Fail> {
     let words = "run Z --cycles 896040 --sound W";
     let lines = "cycles 0 to 896040\nframes 1\nsamples 880\naccesses 372\n";
-    let outside = driven(&rt, rt.alloc(), words, &IDLE, &FreeGate)?;
+    let outside = driven(&rt, rt.alloc(), words, &IDLE, Fails::Nothing, &FreeGate)?;
     assert!(rt; outside.is_left(0, lines) && outside.length("W") == Some(3564));
     Ok(())
 }
