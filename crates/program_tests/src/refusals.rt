@@ -52,7 +52,13 @@ info C -> 5 refused: cartridge: no mark|
 run Z --cycles 0 --sound W --workers 5 -> 9 refused: cycle 0 is not above 0|
 ";
 
-static UNCHANGED: [End; 1] = [("Z", 0x1fc, b"\x60\xfe\0\0")];
+/// The inputs keep their lengths.
+static UNCHANGED: [End; 4] = [
+    ("Z", 0x1fc, b"\x60\xfe\0\0"),
+    ("A", 511, b""),
+    ("B", 4_194_305, b""),
+    ("C", 512, b""),
+];
 
 /// Whether one of the outputs is begun.
 fn has_begun(depot: &MemDepot) -> bool {

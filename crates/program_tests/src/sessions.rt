@@ -21,10 +21,10 @@ fn told(alloc: Global, status: u8, text: &[u8]) -> Result<String, AllocError> {
         told.push(' ')?;
     }
     for byte in text {
-        told.push(if *byte == b'\n' {
-            '|'
-        } else {
-            char::from(*byte)
+        told.push(match *byte {
+            b'\n' => '|',
+            b'|' => '?',
+            byte => char::from(byte),
         })?;
     }
     Ok(told)
