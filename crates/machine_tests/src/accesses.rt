@@ -60,7 +60,7 @@ pub fn access(entries: &[u8], number: usize) -> &[u8] {
 
 /// Fails with the number of the first of these rows, which stand from a number on among the accesses of the two
 /// processors, that is told otherwise.
-pub fn tell(entries: &[u8], from: usize, rows: &[Row]) -> Result<(), Fail> {
+pub fn expect_rows(entries: &[u8], from: usize, rows: &[Row]) -> Result<(), Fail> {
     for (number, row) in rows.iter().enumerate() {
         if !is_told(access(entries, from.wrapping_add(number)), row) {
             return Err(Fail::from(number));
@@ -70,8 +70,8 @@ pub fn tell(entries: &[u8], from: usize, rows: &[Row]) -> Result<(), Fail> {
 }
 
 /// The same where the rows are all accesses of the two processors; with their number where there are more.
-pub fn tell_all(entries: &[u8], rows: &[Row]) -> Result<(), Fail> {
-    tell(entries, 0, rows)?;
+pub fn expect_all_rows(entries: &[u8], rows: &[Row]) -> Result<(), Fail> {
+    expect_rows(entries, 0, rows)?;
     if count(entries) != rows.len() {
         return Err(Fail::from(rows.len()));
     }

@@ -1,6 +1,6 @@
 // The FM chip in the machine: a note that the 68000 plays, with its cycles by the clocks of the M68000
 // User's Manual, section 8.
-use crate::accesses::{Row, is_among, tell_all};
+use crate::accesses::{Row, expect_all_rows, is_among};
 use crate::cartridges::image_of;
 use crate::made::{Made, run_once};
 use std::test::Fail;
@@ -46,7 +46,7 @@ fn is_played(made: &Made) -> bool {
 #[test]
 fn a_note_of_the_fm_chip(rt: HostRuntime) -> Result<(), Fail> {
     let made = run_once(rt.alloc(), &image_of(0x1c0, &NOTE), 16_129)?;
-    tell_all(&made.entries, &WRITES)?;
+    expect_all_rows(&made.entries, &WRITES)?;
     assert!(rt; is_played(&made));
     Ok(())
 }

@@ -24,7 +24,7 @@ static ENDS: [u32; 4] = [766_080, 766_081, 1_662_120, 1_662_121];
 static LENGTHS: [usize; 4] = [0, 215_055, 0, 215_055];
 
 /// Fails with the number of the first part whose frame has another length.
-fn be_long(run: &Outcome, lengths: &[usize]) -> Result<(), Fail> {
+fn expect_lengths(run: &Outcome, lengths: &[usize]) -> Result<(), Fail> {
     for (number, want) in lengths.iter().enumerate() {
         match run.parts.get(number) {
             Some(part) if part.frame.len() == *want => {}
@@ -51,7 +51,7 @@ fn is_black(frame: &[u8]) -> bool {
 fn a_frame_is_finished_by_line_224(rt: HostRuntime) -> Result<(), Fail> {
     let run = run_whole(rt.alloc(), &idle(), &ENDS)?;
     assert!(rt; is_black(second(&run)));
-    be_long(&run, &LENGTHS)
+    expect_lengths(&run, &LENGTHS)
 }
 
 // On PAL it is finished by line 240, which begins at 820,800.
@@ -64,7 +64,7 @@ fn a_frame_of_pal_is_finished_by_line_240(rt: HostRuntime) -> Result<(), Fail> {
     let alloc = rt.alloc();
     let run = run(alloc, &idle(), Recording::empty(alloc), true, &TALL_ENDS)?;
     assert!(rt; second(&run).starts_with(b"P6\n320 240\n255\n"));
-    be_long(&run, &TALL_LENGTHS)
+    expect_lengths(&run, &TALL_LENGTHS)
 }
 
 // The colour is written in line 0, which was drawn at its start: it stays black, and the 223 lines below

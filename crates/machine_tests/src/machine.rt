@@ -4,7 +4,7 @@ use md_pads::Recording;
 use std::test::Fail;
 
 /// Fails where a silent frame leaves something else.
-fn be_silent(run: &Outcome) -> Result<(), Fail> {
+fn expect_silence(run: &Outcome) -> Result<(), Fail> {
     let [made] = run.parts.as_slice() else {
         return Err(Fail::from("parts"));
     };
@@ -24,7 +24,7 @@ fn be_silent(run: &Outcome) -> Result<(), Fail> {
 // 0 of the next frame, and the 68000's branches take 70 cycles each.
 #[test]
 fn a_silent_frame(rt: HostRuntime) -> Result<(), Fail> {
-    be_silent(&run_whole(rt.alloc(), &idle(), &[896_040])?)
+    expect_silence(&run_whole(rt.alloc(), &idle(), &[896_040])?)
 }
 
 /// Whether a frame of PAL has 313 lines and 66 batches of each sound chip.
@@ -49,7 +49,7 @@ fn a_silent_frame_of_pal(rt: HostRuntime) -> Result<(), Fail> {
 }
 
 /// Fails where the line behind it leaves something else.
-fn be_line(run: &Outcome) -> Result<(), Fail> {
+fn expect_line(run: &Outcome) -> Result<(), Fail> {
     let [_, line] = run.parts.as_slice() else {
         return Err(Fail::from("parts"));
     };
@@ -67,7 +67,7 @@ fn be_line(run: &Outcome) -> Result<(), Fail> {
 
 #[test]
 fn a_line_behind_a_silent_frame(rt: HostRuntime) -> Result<(), Fail> {
-    be_line(&run_whole(rt.alloc(), &idle(), &[896_040, 896_041])?)
+    expect_line(&run_whole(rt.alloc(), &idle(), &[896_040, 896_041])?)
 }
 
 // The write at cycle 112, the lines at 0, 3,420, 6,840, 10,260 and 13,680, and the first batches of
@@ -90,7 +90,7 @@ static BEEP_PAIRS: &[u8; 64] = b"\
 \x00\xf8\x00\xf8\x00\xf8\x00\xf8\x00\xf8\x00\xf8\x00\x08\x00\x08";
 
 /// Fails where a part makes other records or pairs.
-fn beep_so(made: &Made) -> Result<(), Fail> {
+fn expect_beep(made: &Made) -> Result<(), Fail> {
     if made.entries.as_slice() != BEEP_ENTRIES.as_slice() {
         return Err(Fail::from("entries"));
     }
@@ -102,7 +102,7 @@ fn beep_so(made: &Made) -> Result<(), Fail> {
 
 #[test]
 fn a_run_in_one_part(rt: HostRuntime) -> Result<(), Fail> {
-    beep_so(&run_once(rt.alloc(), &beep(), 16_129)?)
+    expect_beep(&run_once(rt.alloc(), &beep(), 16_129)?)
 }
 
 // In two parts, the first of which makes so many records: also where it ends at the cycle of a
@@ -176,7 +176,7 @@ static ACCESS_RECORDS: [&[u8; 8]; 7] = [
 ];
 
 /// Fails with the number of the first record of the 68000 or of the PSG that is told otherwise behind its cycle.
-fn record_so(entries: &[u8]) -> Result<(), Fail> {
+fn expect_records(entries: &[u8]) -> Result<(), Fail> {
     let mut number = 0_usize;
     for record in entries.chunks_exact(16) {
         if record[8] == 0 || record[8] == 4 {
@@ -196,5 +196,5 @@ fn record_so(entries: &[u8]) -> Result<(), Fail> {
 #[test]
 fn accesses_of_the_68000(rt: HostRuntime) -> Result<(), Fail> {
     let made = run_once(rt.alloc(), &image_of(0x1c0, &ACCESSES), 16_129)?;
-    record_so(&made.entries)
+    expect_records(&made.entries)
 }

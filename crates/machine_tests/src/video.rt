@@ -1,6 +1,6 @@
 // The VDP in the machine: its vertical interrupt, and a transfer by the 68000. Cycles are worked out by
 // the clocks of the M68000 User's Manual, section 8.
-use crate::accesses::{Row, is_told, tell_all};
+use crate::accesses::{Row, expect_all_rows, is_told};
 use crate::cartridges::{image_of, put};
 use crate::made::run_once;
 use std::test::Fail;
@@ -48,7 +48,7 @@ fn is_only_level(entries: &[u8]) -> bool {
 #[test]
 fn a_vertical_interrupt(rt: HostRuntime) -> Result<(), Fail> {
     let made = run_once(rt.alloc(), &handled(), 896_040)?;
-    tell_all(&made.entries, &INTERRUPT)?;
+    expect_all_rows(&made.entries, &INTERRUPT)?;
     assert!(rt; is_only_level(&made.entries));
     Ok(())
 }
@@ -89,5 +89,5 @@ fn three_words_are_transferred(rt: HostRuntime) -> Result<(), Fail> {
     let mut image = image_of(0x140, &TRANSFERS);
     put(&mut image, 0x1f0, &[0x12, 0x34, 0x56, 0x78, 0x9a, 0xbc]);
     let made = run_once(rt.alloc(), &image, 3_420)?;
-    tell_all(&made.entries, &WORDS)
+    expect_all_rows(&made.entries, &WORDS)
 }

@@ -27,7 +27,7 @@ fn run_with<R: Threads + Wait + Sync>(
 
 /// Fails with the first number of workers, of 1 to 5, that does not make the entries, pairs and picture of the first
 /// frame that `alone` makes.
-fn be_alike<R: Threads + Wait + Sync>(
+fn expect_alike<R: Threads + Wait + Sync>(
     rt: &R,
     alloc: Global,
     image: &[u8; 512],
@@ -44,7 +44,7 @@ fn be_alike<R: Threads + Wait + Sync>(
 #[test]
 fn every_number_of_workers_makes_the_frame_of_one(rt: HostRuntime) -> Result<(), Fail> {
     for image in &[idle(), beep(), paints()] {
-        be_alike(&rt, rt.alloc(), image)?;
+        expect_alike(&rt, rt.alloc(), image)?;
     }
     Ok(())
 }

@@ -1,6 +1,6 @@
 // The Z80 beside the 68000: its bus, its reset, and what it plays. Cycles are worked out by the clocks
 // of the M68000 User's Manual, section 8, and of Zilog UM0080.
-use crate::accesses::{Row, access, count, is_told_without_value, tell};
+use crate::accesses::{Row, access, count, expect_rows, is_told_without_value};
 use crate::cartridges::image_of;
 use crate::made::run_once;
 use std::test::Fail;
@@ -37,7 +37,7 @@ fn are_written(entries: &[u8]) -> bool {
 #[test]
 fn the_bus_is_granted_and_thirty_two_words_are_written(rt: HostRuntime) -> Result<(), Fail> {
     let made = run_once(rt.alloc(), &image_of(0x1c0, &REQUESTS), 16_128)?;
-    tell(&made.entries, 0, &GRANT)?;
+    expect_rows(&made.entries, 0, &GRANT)?;
     assert!(rt; are_written(&made.entries));
     Ok(())
 }
@@ -80,8 +80,8 @@ fn is_heard(pairs: &[u8]) -> bool {
 #[test]
 fn the_z80_plays_a_tone(rt: HostRuntime) -> Result<(), Fail> {
     let made = run_once(rt.alloc(), &image_of(0x1c0, &TONE), 16_129)?;
-    tell(&made.entries, 0, &COPY)?;
-    tell(&made.entries, 3 + 11, &PLAY)?;
+    expect_rows(&made.entries, 0, &COPY)?;
+    expect_rows(&made.entries, 3 + 11, &PLAY)?;
     assert!(rt; count(&made.entries) == 3 + 11 + 6 && is_heard(&made.pairs));
     Ok(())
 }

@@ -1,6 +1,6 @@
 // Sources that are assembled, and the lists of their instructions.
 use crate::runs::{File, IDLE};
-use crate::sessions::{End, end_so, left, refuse};
+use crate::sessions::{End, expect_ends, left, refuse};
 use std::test::Fail;
 
 /// Two sources at no fault, and one whose branch is out of reach.
@@ -38,7 +38,7 @@ static LEFT: [End; 3] = [
 #[test]
 fn a_source_becomes_an_image_and_a_list(rt: HostRuntime) -> Result<(), Fail> {
     let depot = left(rt.alloc(), &IDLE, &SOURCES, ASSEMBLED)?;
-    end_so(&depot, &LEFT)
+    expect_ends(&depot, &LEFT)
 }
 
 const REFUSED: &str = "

@@ -1,6 +1,6 @@
 // VGM files of a run's journal, and their sound.
 use crate::runs::{BEEP, File};
-use crate::sessions::{End, end_so, left, refuse};
+use crate::sessions::{End, expect_ends, left, refuse};
 use std::test::Fail;
 
 /// A VGM file's head of 56 bytes.
@@ -30,7 +30,7 @@ static LEFT: [End; 1] = [("G", 0x40, b"\x50\x90\x61\x0d\0\x66")];
 #[test]
 fn a_journal_becomes_a_vgm_file_and_sound(rt: HostRuntime) -> Result<(), Fail> {
     let depot = left(rt.alloc(), &BEEP, &INPUTS, CONVERSIONS)?;
-    end_so(&depot, &LEFT)
+    expect_ends(&depot, &LEFT)
 }
 
 const REFUSED: &str = "

@@ -1,6 +1,6 @@
 use crate::rows::{ROW, Row, all_right};
 use crate::runs::{Cart, Fails, IDLE, files_of, put_file};
-use crate::sessions::{End, end_so, hold};
+use crate::sessions::{End, expect_ends, hold};
 use md_outer::MemDepot;
 use std::alloc::{AllocError, Global};
 use std::test::Fail;
@@ -70,7 +70,7 @@ fn a_refusal_begins_no_file(rt: HostRuntime) -> Result<(), Fail> {
     let mut depot = with_carts(rt.alloc())?;
     hold(rt.alloc(), &mut depot, REFUSALS)?;
     assert!(rt; !has_begun(&depot));
-    end_so(&depot, &UNCHANGED)
+    expect_ends(&depot, &UNCHANGED)
 }
 
 const RUN: Row = Row {

@@ -1,7 +1,7 @@
 // Runs of a console for PAL, whose frame has 313 lines, or 1,070,460 cycles.
 use crate::rows::{ROW, Row, all_right};
 use crate::runs::IDLE;
-use crate::sessions::{End, Join, end_so, join_so, left};
+use crate::sessions::{End, Join, expect_ends, expect_joined, left};
 use std::test::Fail;
 
 // 313 lines and 66 batches of either sound chip. The frame's head tells 240 rows, that of the sound 52,781 pairs and
@@ -38,8 +38,8 @@ static SAME: [Join; 2] = [("F", "G", "H", 0), ("S", "U", "H", 0)];
 #[test]
 fn a_run_of_pal_is_cut(rt: HostRuntime) -> Result<(), Fail> {
     let depot = left(rt.alloc(), &IDLE, &[], CUT)?;
-    end_so(&depot, &EMPTY)?;
-    join_so(&depot, &depot, &SAME)
+    expect_ends(&depot, &EMPTY)?;
+    expect_joined(&depot, &depot, &SAME)
 }
 
 // Two frames of NTSC are one of PAL and more.

@@ -103,7 +103,7 @@ pub(crate) fn behind<'a>(depot: &'a MemDepot, name: &str, place: usize) -> Optio
 pub(crate) type End = (&'static str, usize, &'static [u8]);
 
 /// Fails where a file ends otherwise.
-pub(crate) fn end_so(depot: &MemDepot, ends: &[End]) -> Result<(), Fail> {
+pub(crate) fn expect_ends(depot: &MemDepot, ends: &[End]) -> Result<(), Fail> {
     for (name, place, bytes) in ends {
         if behind(depot, name, *place) != Some(*bytes) {
             return Err(Fail::from(*name));
@@ -132,7 +132,7 @@ fn is_joined(one: &MemDepot, other: &MemDepot, join: &Join) -> bool {
 }
 
 /// Fails where a file is not what its two parts hold.
-pub(crate) fn join_so(one: &MemDepot, other: &MemDepot, joins: &[Join]) -> Result<(), Fail> {
+pub(crate) fn expect_joined(one: &MemDepot, other: &MemDepot, joins: &[Join]) -> Result<(), Fail> {
     for join in joins {
         if !is_joined(one, other, join) {
             return Err(Fail::from(join.0));

@@ -1,6 +1,6 @@
 // States that are saved and loaded, and which are refused.
 use crate::runs::{BEEP, Fails, Files, answer, files_of, put_file, write_at};
-use crate::sessions::{End, Join, end_so, hold, join_so, left};
+use crate::sessions::{End, Join, expect_ends, expect_joined, hold, left};
 use md_outer::MemDepot;
 use std::alloc::{AllocError, Global};
 use std::test::Fail;
@@ -30,8 +30,8 @@ static PARTS: [Join; 3] = [("H", "F", "G", 0), ("W", "A", "C", 44), ("J", "B", "
 /// Fails where a run that is cut so writes something else than it writes in one.
 fn write_the_rest(alloc: Global, whole: &MemDepot, cut: &str) -> Result<(), Fail> {
     let cut = left(alloc, &BEEP, &[], cut)?;
-    end_so(&cut, &SAVED)?;
-    join_so(whole, &cut, &PARTS)
+    expect_ends(&cut, &SAVED)?;
+    expect_joined(whole, &cut, &PARTS)
 }
 
 #[test]
