@@ -3,7 +3,7 @@ use Rattle.std.proofs.Common.{◌≡◌, ℕ, ◌/◌, ◌<◌, Bool, true, fals
 use Rattle.std.specs.Prelude.{◌==◌, slice_index}
 use Rattle.md_word.specs.declared.size.Size.{Size}
 use Rattle.m68k_decode.specs.Fields.{opcode}
-use Rattle.m68k_decode.specs.Instructions.{decoded, made, picked, unmatched}
+use Rattle.m68k_decode.specs.Instructions.{instruction_of, made, picked, unmatched}
 use Rattle.m68k_decode.specs.Nested.{controls, group_4, group_48, group_4e, nested, tests, unaries, with_register, with_status}
 use Rattle.m68k_decode.specs.Rows as rows
 use Rattle.m68k_decode.specs.Rows.{Row}
@@ -94,6 +94,6 @@ by_row (Some rows.Illegal) word tail said at below is front first own text =
 by_row (Some _) word tail said at below is front first own text = tt
 
 pub tried_instruction : (word : ℕ) (tail : List ℕ) (said : List Piece) (at : ℕ) → word < 65536 → (front : List ℕ) → slice_index front 0 ≡ word → front ≡ tried said at
-    → pieces (text_of (decoded (word ∷ tail)) at) ≡ said → IsInstruction (nested word)
+    → pieces (text_of (instruction_of (word ∷ tail)) at) ≡ said → IsInstruction (nested word)
 tried_instruction word tail said at below front first own text =
     by_row (nested word) word tail said at below refl front first own (rw (decoded_is_picked (word ∷ tail) below) at text)

@@ -1,7 +1,7 @@
 -- What is assembled of pieces for the 68000 is the least of all words that say them, and is found where some do.
 use Rattle.std.proofs.Common.{◌≡◌, ◌⊎◌, inl, inr, ℕ, zero, suc, ◌*◌, ◌<◌, List, [], ◌∷◌, ◌++◌, length, Option, Some, None, append-nil, ap, ◌∙◌, sym, subst, arith}
 use Rattle.std.specs.Prelude.{slice_index}
-use Rattle.m68k_decode.specs.Instructions.{decoded}
+use Rattle.m68k_decode.specs.Instructions.{instruction_of}
 use Rattle.m68k_decode.specs.Nested.{nested}
 use Rattle.m68k_encode.specs.Encoding.{encoded}
 use Rattle.md_disasm.specs.Texts68.{text_of}
@@ -19,8 +19,8 @@ use Rattle.asm_laws.proofs.Texts.{assembled_again, found, going_on, keeps_text}
 
 -- ---- other words that say the pieces
 
-text_alone : (other : List ℕ) (said : List Piece) (at : ℕ) → Says other said at → pieces (text_of (decoded other) at) ≡ said
-text_alone other said at say = ap (λ (l : List ℕ). pieces (text_of (decoded l) at)) (sym (append-nil other)) ∙ say.text []
+text_alone : (other : List ℕ) (said : List Piece) (at : ℕ) → Says other said at → pieces (text_of (instruction_of other) at) ≡ said
+text_alone other said at say = ap (λ (l : List ℕ). pieces (text_of (instruction_of l) at)) (sym (append-nil other)) ∙ say.text []
 
 zero_word : AreWords (0 ∷ [])
 zero_word zero = omega arith
@@ -34,12 +34,12 @@ best_of said words [] at k a own entered say =
     absurd (omega (arith, none, some))
 best_of said words (w ∷ tail) at k a own entered say =
     let text = text_alone (w ∷ tail) said at say in
-    let whole : (decoded (w ∷ tail)).length ≡ 2 * length (w ∷ tail) = ap (λ (l : List ℕ). (decoded l).length) (sym (append-nil (w ∷ tail))) ∙ say.whole [] in
-    let made : meant (read_source said) at ≡ (decoded (w ∷ tail)).op
+    let whole : (instruction_of (w ∷ tail)).length ≡ 2 * length (w ∷ tail) = ap (λ (l : List ℕ). (instruction_of l).length) (sym (append-nil (w ∷ tail))) ∙ say.whole [] in
+    let made : meant (read_source said) at ≡ (instruction_of (w ∷ tail)).op
     = ap (λ (s : List Piece). meant (read_source s) at) (sym text) ∙ meant_again w tail at (k 0) entered k a in
-    let code : words ≡ encoded (decoded (w ∷ tail)).op = own ∙ ap encoded made in
+    let code : words ≡ encoded (instruction_of (w ∷ tail)).op = own ∙ ap encoded made in
     let long = encoded_long w tail k in
-    let same : length (encoded (decoded (w ∷ tail)).op) ≡ length (w ∷ tail) = omega (arith, long, whole) in
+    let same : length (encoded (instruction_of (w ∷ tail)).op) ≡ length (w ∷ tail) = omega (arith, long, whole) in
     subst (λ (l : List ℕ). ((w ∷ tail) ≡ l) ⊎ ((length l ≡ length (w ∷ tail)) × IsBefore l (w ∷ tail))) (sym code)
     (by (own_or_later w tail k whole) same)
   where
@@ -51,12 +51,12 @@ best_of said words (w ∷ tail) at k a own entered say =
 
 -- it takes all its words, whatever follows them
 whole_of : (said : List Piece) (word : ℕ) (tail rest : List ℕ) (at : ℕ) → AreWords (word ∷ tail) → at < 4294967296 → main_code said at ≡ Some (word ∷ tail)
-    → (decoded (word ∷ (tail ++ rest))).length ≡ 2 * length (word ∷ tail)
+    → (instruction_of (word ∷ (tail ++ rest))).length ≡ 2 * length (word ∷ tail)
 whole_of said word tail rest at h a is =
     let there = going_on said word tail at h a is in
-    let made : meant (read_source said) at ≡ (decoded (word ∷ (tail ++ there.more))).op
+    let made : meant (read_source said) at ≡ (instruction_of (word ∷ (tail ++ there.more))).op
     = ap (λ (s : List Piece). meant (read_source s) at) (sym there.text) ∙ meant_again word (tail ++ there.more) at (h 0) there.instruction there.all a in
-    let code : word ∷ tail ≡ encoded (decoded (word ∷ (tail ++ there.more))).op = there.own ∙ ap encoded made in
+    let code : word ∷ tail ≡ encoded (instruction_of (word ∷ (tail ++ there.more))).op = there.own ∙ ap encoded made in
     ap (λ d. d.length) (there.same rest) ∙ encoded_long word (tail ++ there.more) there.all ∙ ap (λ (l : List ℕ). 2 * length l) (sym code)
 
 pub least : (said : List Piece) (words : List ℕ) (at : ℕ) → AreWords words → at < 4294967296 → main_code said at ≡ Some words → AreLeast words said at

@@ -10,7 +10,7 @@ use Rattle.md_word.specs.declared.size.Size.{Size}
 use Rattle.md_word.specs.declared.size.Size.TheVariants.{Byte, Word, Long}
 use Rattle.m68k_decode.specs.declared.decoded.Decoded.{Decoded}
 use Rattle.m68k_decode.specs.Fields.{opcode, size_of, word_or_long, number_at, words_of_number, mode_of, words_of_mode, low_mode, high_mode, displacement_of, words_of_displacement}
-use Rattle.m68k_decode.specs.Instructions.{made, unmatched, decoded, picked}
+use Rattle.m68k_decode.specs.Instructions.{made, unmatched, instruction_of, picked}
 use Rattle.m68k_decode.specs.Nested.{nested}
 use Rattle.m68k_decode.specs.Rows as rows
 use Rattle.m68k_decode.specs.Rows.{Row}
@@ -235,7 +235,7 @@ picked_code : (row : Option Row) (w : ℕ) (tail : List ℕ) → AreWords (w ∷
 picked_code None w tail all = none_by _ _ (w ∷ tail) refl refl
 picked_code (Some row) w tail all = coded row w tail all
 
-decoded_code : (w : ℕ) (tail : List ℕ) → AreWords (w ∷ tail) → IsCode (decoded (w ∷ tail)) (w ∷ tail)
+decoded_code : (w : ℕ) (tail : List ℕ) → AreWords (w ∷ tail) → IsCode (instruction_of (w ∷ tail)) (w ∷ tail)
 decoded_code w tail all = rw (decoded_is_picked (w ∷ tail) (all 0)) (picked_code (nested w) w tail all)
 
 -- ---- the order of words
@@ -258,14 +258,14 @@ least (x ∷ xs) (y ∷ ys) same below = elim (eq-or-lt_of_le below.0) [
 ]
 
 -- as many words as it takes
-pub encoded_long : (w : ℕ) (tail : List ℕ) → AreWords (w ∷ tail) → (decoded (w ∷ tail)).length ≡ 2 * length (encoded (decoded (w ∷ tail)).op)
+pub encoded_long : (w : ℕ) (tail : List ℕ) → AreWords (w ∷ tail) → (instruction_of (w ∷ tail)).length ≡ 2 * length (encoded (instruction_of (w ∷ tail)).op)
 encoded_long w tail all = let own = (decoded_code w tail all).long in omega (arith, own)
 
 -- words of an instruction's length have their own code, or one that comes before them
-pub own_or_later : (w : ℕ) (tail : List ℕ) → AreWords (w ∷ tail) → (decoded (w ∷ tail)).length ≡ 2 * length (w ∷ tail)
-    → ((w ∷ tail) ≡ encoded (decoded (w ∷ tail)).op) ⊎ IsBefore (encoded (decoded (w ∷ tail)).op) (w ∷ tail)
+pub own_or_later : (w : ℕ) (tail : List ℕ) → AreWords (w ∷ tail) → (instruction_of (w ∷ tail)).length ≡ 2 * length (w ∷ tail)
+    → ((w ∷ tail) ≡ encoded (instruction_of (w ∷ tail)).op) ⊎ IsBefore (encoded (instruction_of (w ∷ tail)).op) (w ∷ tail)
 own_or_later w tail all long =
     let code = decoded_code w tail all in
     let own = code.long in
     let first = first_again w tail (all 0) in
-    least (encoded (decoded (w ∷ tail)).op) (w ∷ tail) (omega (arith, own, long)) (omega (arith, first), code.low)
+    least (encoded (instruction_of (w ∷ tail)).op) (w ∷ tail) (omega (arith, own, long)) (omega (arith, first), code.low)

@@ -1,6 +1,6 @@
 -- What is assembled of pieces is chosen among all bytes that say them, and is found where some do.
 use Rattle.std.proofs.Common.{◌≡◌, ◌⊎◌, ℕ, zero, suc, ◌<◌, ◌≤◌, false, List, [], ◌∷◌, ◌++◌, length, Option, Some, None, append-nil, refl, ap, ◌∙◌, sym, subst, arith}
-use Rattle.z80_decode.specs.Instructions.{decoded}
+use Rattle.z80_decode.specs.Instructions.{instruction_of}
 use Rattle.md_disasm.specs.Texts80.{text_of}
 use Rattle.md_asm_text.specs.Pieces.{Piece, pieces}
 use Rattle.z80_encode.specs.Coded80.{AreBytes}
@@ -27,17 +27,17 @@ with_rest (b ∷ more) rest h k (suc i) = with_rest more rest (λ j. h (suc j)) 
 -- ---- what is found is the code of what it decodes to
 
 record IsOwnCode (bytes rest : List ℕ) : Type 0 where
-  instruction : is_db (decoded (bytes ++ rest)).op ≡ false
-  code : bytes ≡ encoded (decoded (bytes ++ rest)).op
-  long : (decoded (bytes ++ rest)).length ≡ length bytes
+  instruction : is_db (instruction_of (bytes ++ rest)).op ≡ false
+  code : bytes ≡ encoded (instruction_of (bytes ++ rest)).op
+  long : (instruction_of (bytes ++ rest)).length ≡ length bytes
 
 own_code : (said : List Piece) (bytes rest : List ℕ) (at : ℕ) → AreBytes bytes → AreBytes rest → at < 65536 → sub_code said at ≡ Some bytes → IsOwnCode bytes rest
 own_code said bytes rest at h k a is =
     let text = keeps_text said bytes rest at h k a is in
     let own = (found said bytes at is).own in
     let all = with_rest bytes rest h k in
-    let none = tried_is bytes rest said at all own text (is_db (decoded (bytes ++ rest)).op) refl in
-    let made : meant (read_source said) at ≡ (decoded (bytes ++ rest)).op
+    let none = tried_is bytes rest said at all own text (is_db (instruction_of (bytes ++ rest)).op) refl in
+    let made : meant (read_source said) at ≡ (instruction_of (bytes ++ rest)).op
     = ap (λ (s : List Piece). meant (read_source s) at) (sym text) ∙ meant_again (bytes ++ rest) at all a none in
     let code = own ∙ ap encoded made in record {
       instruction = none;
@@ -47,15 +47,15 @@ own_code said bytes rest at h k a is =
 
 -- ---- other bytes that say the pieces
 
-text_alone : (other : List ℕ) (said : List Piece) (at : ℕ) → Says other said at → pieces (text_of (decoded other) at) ≡ said
-text_alone other said at say = ap (λ (l : List ℕ). pieces (text_of (decoded l) at)) (sym (append-nil other)) ∙ say.text [] no_bytes
+text_alone : (other : List ℕ) (said : List Piece) (at : ℕ) → Says other said at → pieces (text_of (instruction_of other) at) ≡ said
+text_alone other said at say = ap (λ (l : List ℕ). pieces (text_of (instruction_of l) at)) (sym (append-nil other)) ∙ say.text [] no_bytes
 
 best_of : (said : List Piece) (bytes other : List ℕ) (at : ℕ) → AreBytes other → at < 65536 → bytes ≡ tried said at → Says other said at → (other ≡ bytes) ⊎ IsPassed other bytes
 best_of said bytes other at k a own say =
     let text = text_alone other said at say in
-    let whole : (decoded other).length ≡ length other = ap (λ (l : List ℕ). (decoded l).length) (sym (append-nil other)) ∙ say.whole [] no_bytes in
+    let whole : (instruction_of other).length ≡ length other = ap (λ (l : List ℕ). (instruction_of l).length) (sym (append-nil other)) ∙ say.whole [] no_bytes in
     let few : length other ≤ 4 = let f = decoded_few other k in omega (arith, whole, f) in
-    let made : meant (read_source said) at ≡ (decoded other).op
+    let made : meant (read_source said) at ≡ (instruction_of other).op
     = ap (λ (s : List Piece). meant (read_source s) at) (sym text) ∙ meant_again other at k a say.instruction in
     let code = own ∙ ap encoded made in
     subst (λ (l : List ℕ). (other ≡ l) ⊎ IsPassed other l) (sym code) (own_or_passed other k few whole)
@@ -63,7 +63,7 @@ best_of said bytes other at k a own say =
 pub chosen : (said : List Piece) (bytes : List ℕ) (at : ℕ) → AreBytes bytes → at < 65536 → sub_code said at ≡ Some bytes → AreChosen bytes said at
 chosen said bytes at h a is = record {
   text = record {
-    instruction = ap (λ (l : List ℕ). is_db (decoded l).op) (sym (append-nil bytes)) ∙ (own_code said bytes [] at h no_bytes a is).instruction;
+    instruction = ap (λ (l : List ℕ). is_db (instruction_of l).op) (sym (append-nil bytes)) ∙ (own_code said bytes [] at h no_bytes a is).instruction;
     text = λ rest k. keeps_text said bytes rest at h k a is;
     whole = λ rest k. (own_code said bytes rest at h k a is).long;
   };

@@ -9,7 +9,7 @@ use Rattle.z80_decode.specs.declared.op80.Op80.TheVariants as ops
 use Rattle.md_word.proofs.Agree.{range, same_at}
 use Rattle.z80_decode.proofs.Table.{decoded_is_nested}
 use Rattle.z80_decode.specs.Fields.{memory_of, place_of, lower, pair_of, stacked_of, condition_of, bit_of}
-use Rattle.z80_decode.specs.Instructions.{decoded}
+use Rattle.z80_decode.specs.Instructions.{instruction_of}
 use Rattle.z80_decode.specs.Nested.{of_bytes, bits, shift, arithmetic, accumulator, block_of, block_op, relative_jumps, pair_loads, memory_loads, pair_steps, step, number_loads, low_group, loads, returns, jumps, calls, control, by_opcode, low_names_hl, names_hl, indexed, ports, pairs_extended, modes, specials, extended, nested}
 use Rattle.z80_encode.specs.Coded80.{AreBytes}
 use Rattle.z80_encode.specs.Encoding80.{encoded, opcode_of, operands, prefixes}
@@ -184,10 +184,10 @@ take_is (a ∷ b ∷ c ∷ d ∷ []) few = refl
 take_is (a ∷ b ∷ c ∷ d ∷ e ∷ more) few = absurd (omega arith)
 
 -- bytes of an instruction's length have their own code, or one that passes over them
-pub own_or_passed : (bytes : List ℕ) → AreBytes bytes → length bytes ≤ 4 → (decoded bytes).length ≡ length bytes → IsOwn bytes (encoded (decoded bytes).op)
+pub own_or_passed : (bytes : List ℕ) → AreBytes bytes → length bytes ≤ 4 → (instruction_of bytes).length ≡ length bytes → IsOwn bytes (encoded (instruction_of bytes).op)
 own_or_passed bytes h few whole =
     let nested_too = nested_own (slice_index bytes 0) (slice_index bytes 1) (slice_index bytes 2) (slice_index bytes 3) (h 0) (h 1) (h 2) (h 3) in
-    let here : HasOwn (slice_index bytes 0) (slice_index bytes 1) (slice_index bytes 2) (slice_index bytes 3) (decoded bytes)
+    let here : HasOwn (slice_index bytes 0) (slice_index bytes 1) (slice_index bytes 2) (slice_index bytes 3) (instruction_of bytes)
     = rw (decoded_is_nested bytes (h 0) (h 1) (h 3)) nested_too in
     let taken = ap (λ (n : ℕ). take n (slice_index bytes 0 ∷ slice_index bytes 1 ∷ slice_index bytes 2 ∷ slice_index bytes 3 ∷ [])) whole ∙ take_is bytes few in
-    subst (λ (l : List ℕ). IsOwn l (encoded (decoded bytes).op)) taken here
+    subst (λ (l : List ℕ). IsOwn l (encoded (instruction_of bytes).op)) taken here

@@ -1,7 +1,7 @@
 -- What is assembled of the text of an instruction of the Z80 is that instruction, and what is assembled has the
 -- line's text.
 use Rattle.std.proofs.Common.{◌≡◌, ℕ, ◌<◌, ◌≤◌, Bool, true, false, List, [], ◌∷◌, ◌++◌, length, Some, refl, ap, ◌∙◌, sym, arith}
-use Rattle.z80_decode.specs.Instructions.{decoded}
+use Rattle.z80_decode.specs.Instructions.{instruction_of}
 use Rattle.z80_decode.specs.declared.decoded80.Decoded80.{Decoded80}
 use Rattle.md_disasm.specs.Texts80.{text_of}
 use Rattle.md_asm_text.specs.Pieces.{Piece, pieces}
@@ -22,25 +22,25 @@ use Rattle.asm_laws.proofs.Texts.{let_through}
 -- ---- the text of an instruction
 
 -- the bytes that are tried for it are as many as it takes
-tried_few : (bytes : List ℕ) (at : ℕ) → AreBytes bytes → at < 65536 → is_db (decoded bytes).op ≡ false
-    → length (tried (pieces (text_of (decoded bytes) at)) at) ≤ 4
+tried_few : (bytes : List ℕ) (at : ℕ) → AreBytes bytes → at < 65536 → is_db (instruction_of bytes).op ≡ false
+    → length (tried (pieces (text_of (instruction_of bytes) at)) at) ≤ 4
 tried_few bytes at h a none =
     let made = ap (λ op. length (encoded op)) (meant_again bytes at h a none) in
     let long = encoded_long bytes h in
     let few = decoded_few bytes h in
     omega (arith, made, long, few)
 
-filled_again : (bytes : List ℕ) (at : ℕ) → AreBytes bytes → at < 65536 → is_db (decoded bytes).op ≡ false
-    → decoded (padded (tried (pieces (text_of (decoded bytes) at)) at)) ≡ decoded bytes
+filled_again : (bytes : List ℕ) (at : ℕ) → AreBytes bytes → at < 65536 → is_db (instruction_of bytes).op ≡ false
+    → instruction_of (padded (tried (pieces (text_of (instruction_of bytes) at)) at)) ≡ instruction_of bytes
 filled_again bytes at h a none =
-    let filled = filled_up (tried (pieces (text_of (decoded bytes) at)) at) (tried_few bytes at h a none) in
-    ap decoded filled.up ∙ tried_again bytes filled.more at h filled.bytes_too a none
+    let filled = filled_up (tried (pieces (text_of (instruction_of bytes) at)) at) (tried_few bytes at h a none) in
+    ap instruction_of filled.up ∙ tried_again bytes filled.more at h filled.bytes_too a none
 
-pub assembled_again : (bytes : List ℕ) (at : ℕ) → AreBytes bytes → at < 65536 → is_db (decoded bytes).op ≡ false
-    → (found : List ℕ) × (sub_code (pieces (text_of (decoded bytes) at)) at ≡ Some found)
-    × ((rest : List ℕ) → AreBytes rest → decoded (found ++ rest) ≡ decoded bytes)
+pub assembled_again : (bytes : List ℕ) (at : ℕ) → AreBytes bytes → at < 65536 → is_db (instruction_of bytes).op ≡ false
+    → (found : List ℕ) × (sub_code (pieces (text_of (instruction_of bytes) at)) at ≡ Some found)
+    × ((rest : List ℕ) → AreBytes rest → instruction_of (found ++ rest) ≡ instruction_of bytes)
 assembled_again bytes at h a none =
-    let said = pieces (text_of (decoded bytes) at) in (
+    let said = pieces (text_of (instruction_of bytes) at) in (
       tried said at,
       sub_said (tried said at) said at refl (ap (λ (d : Decoded80). pieces (text_of d at)) (filled_again bytes at h a none)),
       λ rest k. tried_again bytes rest at h k a none,
@@ -51,40 +51,40 @@ assembled_again bytes at h a none =
 -- what is found is what is tried, and says the pieces where 0 stands behind it
 pub record IsFound (said : List Piece) (bytes : List ℕ) (at : ℕ) : Type 0 where
   pub own : bytes ≡ tried said at
-  pub text : pieces (text_of (decoded (padded bytes)) at) ≡ said
+  pub text : pieces (text_of (instruction_of (padded bytes)) at) ≡ said
 
 pub found : (said : List Piece) (bytes : List ℕ) (at : ℕ) → sub_code said at ≡ Some bytes → IsFound said bytes at
 unfolding sub_code
 found said bytes at is =
     let through = let_through (say_bytes (tried said at) said at) (tried said at) bytes is in record {
       own = sym through.1;
-      text = ap (λ (l : List ℕ). pieces (text_of (decoded (padded l)) at)) (sym through.1)
-          ∙ all_alike_is (pieces (text_of (decoded (padded (tried said at))) at)) said through.0;
+      text = ap (λ (l : List ℕ). pieces (text_of (instruction_of (padded l)) at)) (sym through.1)
+          ∙ all_alike_is (pieces (text_of (instruction_of (padded (tried said at))) at)) said through.0;
     }
 
 few_by : (said : List Piece) (bytes : List ℕ) (at : ℕ) → AreBytes bytes → at < 65536 → IsFound said bytes at
-    → (b : Bool) → is_db (decoded (padded bytes)).op ≡ b → length bytes ≤ 4
+    → (b : Bool) → is_db (instruction_of (padded bytes)).op ≡ b → length bytes ≤ 4
 few_by said bytes at h a is true db =
-    let zero : bytes ≡ 0 ∷ [] = is.own ∙ tried_zero (decoded (padded bytes)) said at db is.text in
+    let zero : bytes ≡ 0 ∷ [] = is.own ∙ tried_zero (instruction_of (padded bytes)) said at db is.text in
     let one : length bytes ≡ 1 = ap length zero in
     omega (arith, one)
 few_by said bytes at h a is false none =
     let all = padded_bytes bytes h in
-    let made : meant (read_source said) at ≡ (decoded (padded bytes)).op
+    let made : meant (read_source said) at ≡ (instruction_of (padded bytes)).op
     = ap (λ (s : List Piece). meant (read_source s) at) (sym is.text) ∙ meant_again (padded bytes) at all a none in
-    let same : length bytes ≡ length (encoded (decoded (padded bytes)).op) = ap length is.own ∙ ap (λ op. length (encoded op)) made in
+    let same : length bytes ≡ length (encoded (instruction_of (padded bytes)).op) = ap length is.own ∙ ap (λ op. length (encoded op)) made in
     let long = encoded_long (padded bytes) all in
     let few = decoded_few (padded bytes) all in
     omega (arith, same, long, few)
 
 -- it has the text whatever follows it
 pub keeps_text : (said : List Piece) (bytes rest : List ℕ) (at : ℕ) → AreBytes bytes → AreBytes rest → at < 65536 → sub_code said at ≡ Some bytes
-    → pieces (text_of (decoded (bytes ++ rest)) at) ≡ said
+    → pieces (text_of (instruction_of (bytes ++ rest)) at) ≡ said
 keeps_text said bytes rest at h k a is =
     let own = found said bytes at is in
     let filled = filled_up bytes (few_by said bytes at h a own _ refl) in
-    let text : pieces (text_of (decoded (bytes ++ filled.more)) at) ≡ said
-    = ap (λ (l : List ℕ). pieces (text_of (decoded l) at)) (sym filled.up) ∙ own.text in
+    let text : pieces (text_of (instruction_of (bytes ++ filled.more)) at) ≡ said
+    = ap (λ (l : List ℕ). pieces (text_of (instruction_of l) at)) (sym filled.up) ∙ own.text in
     let all : AreBytes (bytes ++ filled.more) = rw filled.up at (padded_bytes bytes h) in
     ap (λ (d : Decoded80). pieces (text_of d at)) (said_again bytes filled.more rest said at all k a own.own text) ∙ text
 

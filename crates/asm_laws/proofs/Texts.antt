@@ -1,7 +1,7 @@
 -- What is assembled of the text of an instruction of the 68000 is that instruction, and what is assembled has the
 -- line's text.
 use Rattle.std.proofs.Common.{◌≡◌, ℕ, ◌<◌, ◌≤◌, Bool, true, false, List, [], ◌∷◌, ◌++◌, length, Some, None, refl, ap, ◌∙◌, sym, if◌then◌else◌}
-use Rattle.m68k_decode.specs.Instructions.{decoded}
+use Rattle.m68k_decode.specs.Instructions.{instruction_of}
 use Rattle.m68k_decode.specs.Nested.{nested}
 use Rattle.m68k_decode.specs.declared.decoded.Decoded.{Decoded}
 use Rattle.md_disasm.specs.Texts68.{text_of}
@@ -21,17 +21,17 @@ use Rattle.asm_laws.proofs.Lengths.{encoded_few, filled_up, padded_words}
 
 -- the words that are tried for it decode to it, filled up too
 filled_again : (word : ℕ) (tail : List ℕ) (at : ℕ) → word < 65536 → IsInstruction (nested word) → AreWords (word ∷ tail) → at < 4294967296
-    → decoded (padded (tried (pieces (text_of (decoded (word ∷ tail)) at)) at)) ≡ decoded (word ∷ tail)
+    → instruction_of (padded (tried (pieces (text_of (instruction_of (word ∷ tail)) at)) at)) ≡ instruction_of (word ∷ tail)
 filled_again word tail at below is all h =
-    let said = pieces (text_of (decoded (word ∷ tail)) at) in
+    let said = pieces (text_of (instruction_of (word ∷ tail)) at) in
     let up = filled_up (tried said at) (encoded_few (meant (read_source said) at)) in
-    ap decoded up.1 ∙ tried_again word tail up.0 at below is all h
+    ap instruction_of up.1 ∙ tried_again word tail up.0 at below is all h
 
 pub assembled_again : (word : ℕ) (tail : List ℕ) (at : ℕ) → word < 65536 → IsInstruction (nested word) → AreWords (word ∷ tail) → at < 4294967296
-    → (words : List ℕ) × (main_code (pieces (text_of (decoded (word ∷ tail)) at)) at ≡ Some words)
-    × ((rest : List ℕ) → decoded (words ++ rest) ≡ decoded (word ∷ tail))
+    → (words : List ℕ) × (main_code (pieces (text_of (instruction_of (word ∷ tail)) at)) at ≡ Some words)
+    × ((rest : List ℕ) → instruction_of (words ++ rest) ≡ instruction_of (word ∷ tail))
 assembled_again word tail at below is all h =
-    let said = pieces (text_of (decoded (word ∷ tail)) at) in (
+    let said = pieces (text_of (instruction_of (word ∷ tail)) at) in (
       tried said at,
       main_said (tried said at) said at refl
           (ap (λ (op : Decoded). pieces (text_of op at)) (filled_again word tail at below is all h)),
@@ -48,15 +48,15 @@ let_through false own found is = cc
 -- what is found is what is tried, and says the pieces where 0 stands behind it
 pub record IsFound (said : List Piece) (words : List ℕ) (at : ℕ) : Type 0 where
   pub own : words ≡ tried said at
-  pub text : pieces (text_of (decoded (padded words)) at) ≡ said
+  pub text : pieces (text_of (instruction_of (padded words)) at) ≡ said
 
 pub found : (said : List Piece) (words : List ℕ) (at : ℕ) → main_code said at ≡ Some words → IsFound said words at
 unfolding main_code
 found said words at is =
     let through = let_through (say_words (tried said at) said at) (tried said at) words is in record {
       own = sym through.1;
-      text = ap (λ (l : List ℕ). pieces (text_of (decoded (padded l)) at)) (sym through.1)
-          ∙ all_alike_is (pieces (text_of (decoded (padded (tried said at))) at)) said through.0;
+      text = ap (λ (l : List ℕ). pieces (text_of (instruction_of (padded l)) at)) (sym through.1)
+          ∙ all_alike_is (pieces (text_of (instruction_of (padded (tried said at))) at)) said through.0;
     }
 
 pub few : (said : List Piece) (words : List ℕ) (at : ℕ) → main_code said at ≡ Some words → length words ≤ 5
@@ -68,15 +68,15 @@ pub record GoesOn (said : List Piece) (word : ℕ) (tail : List ℕ) (at : ℕ) 
   pub all : AreWords (word ∷ (tail ++ more))
   pub instruction : IsInstruction (nested word)
   pub own : word ∷ tail ≡ tried said at
-  pub text : pieces (text_of (decoded (word ∷ (tail ++ more))) at) ≡ said
-  pub same : (rest : List ℕ) → decoded (word ∷ (tail ++ rest)) ≡ decoded (word ∷ (tail ++ more))
+  pub text : pieces (text_of (instruction_of (word ∷ (tail ++ more))) at) ≡ said
+  pub same : (rest : List ℕ) → instruction_of (word ∷ (tail ++ rest)) ≡ instruction_of (word ∷ (tail ++ more))
 
 pub going_on : (said : List Piece) (word : ℕ) (tail : List ℕ) (at : ℕ) → AreWords (word ∷ tail) → at < 4294967296 → main_code said at ≡ Some (word ∷ tail) → GoesOn said word tail at
 going_on said word tail at h a is =
     let own = found said (word ∷ tail) at is in
     let up = filled_up (word ∷ tail) (few said (word ∷ tail) at is) in
-    let text : pieces (text_of (decoded (word ∷ (tail ++ up.0))) at) ≡ said
-    = ap (λ (l : List ℕ). pieces (text_of (decoded l) at)) (sym up.1) ∙ own.text in
+    let text : pieces (text_of (instruction_of (word ∷ (tail ++ up.0))) at) ≡ said
+    = ap (λ (l : List ℕ). pieces (text_of (instruction_of l) at)) (sym up.1) ∙ own.text in
     let all : AreWords (word ∷ (tail ++ up.0)) = rw up.1 at (padded_words (word ∷ tail) h) in
     let entered = tried_instruction word (tail ++ up.0) said at (h 0) (word ∷ tail) refl own.own text in record {
       more = up.0;
@@ -89,7 +89,7 @@ going_on said word tail at h a is =
 
 -- it has the text whatever follows it
 pub keeps_text : (said : List Piece) (words rest : List ℕ) (at : ℕ) → AreWords words → at < 4294967296 → main_code said at ≡ Some words
-    → pieces (text_of (decoded (words ++ rest)) at) ≡ said
+    → pieces (text_of (instruction_of (words ++ rest)) at) ≡ said
 keeps_text said [] rest at h a is = let own = (found said [] at is).own in cc
 keeps_text said (word ∷ tail) rest at h a is =
     let there = going_on said word tail at h a is in

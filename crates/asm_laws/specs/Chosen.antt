@@ -3,7 +3,7 @@
 -- Zilog UM0080, "Z80 Instruction Description"; for operations that it leaves out, this project's profile.
 use Rattle.std.specs.Prelude.{◌≡◌, ◌⊎◌, ℕ, ◌<◌, ◌/◌, ◌%◌, ◌==◌, Bool, true, false, ◌&&◌, ◌||◌, not, List, [], ◌∷◌, ◌++◌, length, slice_index}
 use Rattle.m68k_decode.specs.Nested.{nested}
-use Rattle.z80_decode.specs.Instructions.{decoded}
+use Rattle.z80_decode.specs.Instructions.{instruction_of}
 use Rattle.md_disasm.specs.Texts80.{text_of}
 use Rattle.md_asm_text.specs.Pieces.{Piece, pieces}
 use Rattle.m68k_read.specs.Said as main
@@ -16,9 +16,9 @@ use Rattle.z80_read_laws.specs.Instruction.{is_db}
 -- bytes say pieces at an address: whatever follows them, they are an instruction of their length whose text has
 -- these pieces
 pub record Says (bytes : List ℕ) (said : List Piece) (at : ℕ) : Type 0 where
-  pub instruction : is_db (decoded bytes).op ≡ false
-  pub text : (rest : List ℕ) → AreBytes rest → pieces (text_of (decoded (bytes ++ rest)) at) ≡ said
-  pub whole : (rest : List ℕ) → AreBytes rest → (decoded (bytes ++ rest)).length ≡ length bytes
+  pub instruction : is_db (instruction_of bytes).op ≡ false
+  pub text : (rest : List ℕ) → AreBytes rest → pieces (text_of (instruction_of (bytes ++ rest)) at) ≡ said
+  pub whole : (rest : List ℕ) → AreBytes rest → (instruction_of (bytes ++ rest)).length ≡ length bytes
 
 -- behind DD CB d and FD CB d the manual has the codes of (HL) alone, and none of SLL
 abbrev pub is_manual : List ℕ → Bool

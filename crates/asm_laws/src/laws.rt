@@ -18,20 +18,20 @@ ghost use Rattle.asm_laws.specs.Chosen.{AreChosen, AreLeast, Says};
 /// whatever follows them.
 pub fn texts_are_assembled()
     ensures main { (word : ℕ) (tail : List ℕ) (at : ℕ) → word < 65536 → IsInstruction (nested word) → AreWords (word ∷ tail) → at < 4294967296
-        → (words : List ℕ) × (main_code (pieces (main_texts.text_of (main.decoded (word ∷ tail)) at)) at ≡ Some words)
-        × ((rest : List ℕ) → main.decoded (words ++ rest) ≡ main.decoded (word ∷ tail)) }
-    ensures sub { (bytes : List ℕ) (at : ℕ) → AreBytes bytes → at < 65536 → is_db (sub.decoded bytes).op ≡ false
-        → (found : List ℕ) × (sub_code (pieces (sub_texts.text_of (sub.decoded bytes) at)) at ≡ Some found)
-        × ((rest : List ℕ) → AreBytes rest → sub.decoded (found ++ rest) ≡ sub.decoded bytes) }
+        → (words : List ℕ) × (main_code (pieces (main_texts.text_of (main.instruction_of (word ∷ tail)) at)) at ≡ Some words)
+        × ((rest : List ℕ) → main.instruction_of (words ++ rest) ≡ main.instruction_of (word ∷ tail)) }
+    ensures sub { (bytes : List ℕ) (at : ℕ) → AreBytes bytes → at < 65536 → is_db (sub.instruction_of bytes).op ≡ false
+        → (found : List ℕ) × (sub_code (pieces (sub_texts.text_of (sub.instruction_of bytes) at)) at ≡ Some found)
+        × ((rest : List ℕ) → AreBytes rest → sub.instruction_of (found ++ rest) ≡ sub.instruction_of bytes) }
 {}
 
 /// What pieces are assembled to at an address has a text there with these pieces, whatever follows it, for both
 /// processors.
 pub fn codes_say_their_line()
     ensures main { (said : List Piece) (words rest : List ℕ) (at : ℕ) → AreWords words → at < 4294967296 → main_code said at ≡ Some words
-        → pieces (main_texts.text_of (main.decoded (words ++ rest)) at) ≡ said }
+        → pieces (main_texts.text_of (main.instruction_of (words ++ rest)) at) ≡ said }
     ensures sub { (said : List Piece) (bytes rest : List ℕ) (at : ℕ) → AreBytes bytes → AreBytes rest → at < 65536 → sub_code said at ≡ Some bytes
-        → pieces (sub_texts.text_of (sub.decoded (bytes ++ rest)) at) ≡ said }
+        → pieces (sub_texts.text_of (sub.instruction_of (bytes ++ rest)) at) ≡ said }
 {}
 
 /// What pieces are assembled to is chosen among all words or bytes that say them there; where nothing is found, none

@@ -172,15 +172,15 @@ said_by true image place at said bytes all below stands is =
     let own = stand_bytes image place bytes all stands in
     let begins = bytes_begin image place bytes (sub_laws.few said bytes at own below is) stands in
     let rest = rest_bytes bytes begins.rest (subst (λ (l : List ℕ). AreBytes l) begins.whole (read_bytes image place all)) in
-    ap (λ (l : List ℕ). pieces (sub_texts.text_of (sub.decoded l) (at % 65536))) begins.whole
-    ∙ ap (λ (n : ℕ). pieces (sub_texts.text_of (sub.decoded (bytes ++ begins.rest)) n)) (address_stays at below)
+    ap (λ (l : List ℕ). pieces (sub_texts.text_of (sub.instruction_of l) (at % 65536))) begins.whole
+    ∙ ap (λ (n : ℕ). pieces (sub_texts.text_of (sub.instruction_of (bytes ++ begins.rest)) n)) (address_stays at below)
     ∙ sub_laws.keeps_text said bytes begins.rest at own rest below is
 said_by false image place at said bytes all below stands is =
     let found = mapped (main_code said at) bytes is in
     let stood : StandsAt image place (in_bytes found.0) = subst (λ (l : List ℕ). StandsAt image place l) found.2 stands in
     let own = words_are found.0 (stand_bytes image place (in_bytes found.0) all stood) in
     let begins = words_begin image place found.0 (main_laws.few said found.0 at found.1) stood in
-    ap (λ (l : List ℕ). pieces (main_texts.text_of (main.decoded l) at)) begins.whole
+    ap (λ (l : List ℕ). pieces (main_texts.text_of (main.instruction_of l) at)) begins.whole
     ∙ main_laws.keeps_text said found.0 begins.rest at own below found.1
 
 written_by : (z80 : Bool) (image : List ℕ) (place at : ℕ) (said : List Piece) (bytes : List ℕ) → AreBytes image → IsAddress z80 at → StandsAt image place bytes

@@ -21,5 +21,5 @@ bytes_from image place =
 
 -- the text of the instruction at a place of an image, at an address, which for the Z80 is below 10000h
 abbrev pub text_at : Bool → List ℕ → ℕ → ℕ → List ℕ
-text_at true image place at = sub_texts.text_of (sub.decoded (bytes_from image place)) (at % 65536)
-text_at false image place at = main_texts.text_of (main.decoded (words_from image place)) at
+text_at true image place at = sub_texts.text_of (sub.instruction_of (bytes_from image place)) (at % 65536)
+text_at false image place at = main_texts.text_of (main.instruction_of (words_from image place)) at

@@ -29,7 +29,7 @@ use Rattle.chip_run.specs.Steps.{HasPlaceFor, HasTurn, IsLeaseEnd, IsStep, after
 use Rattle.chip_run.proofs.Booking.{found-number, found-under, kept-booked}
 use Rattle.chip_run.proofs.CoreSteps.{announced-same, bounds-announced, bounds-raised}
 use Rattle.chip_run.proofs.KeyOrder.{same-key}
-use Rattle.chip_run.specs.declared.step.Step.TheVariants.{Performed, Sampled}
+use Rattle.chip_run.specs.declared.stepped.Stepped.TheVariants.{Performed, Sampled}
 use Rattle.chip_run.specs.declared.held.Due.{Due}
 use Rattle.chip_run.specs.declared.held.Due.TheVariants.{Nothing, Advance}
 use Rattle.chip_run.specs.declared.held.Due.TheVariants as Dues

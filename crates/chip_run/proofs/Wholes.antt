@@ -9,7 +9,7 @@ use Rattle.chip_run.specs.Locked.{IsLocked, count_of}
 use Rattle.chip_run.specs.Parts.{PartsValue}
 use Rattle.chip_run.specs.Sections.{IsLockedAt, KeepsLocked}
 use Rattle.chip_run.specs.Steps.{HasLease, IsAccess, IsStep}
-use Rattle.chip_run.specs.declared.step.Step.TheVariants.{Performed, Sampled}
+use Rattle.chip_run.specs.declared.stepped.Stepped.TheVariants.{Performed, Sampled}
 use Rattle.chip_run.specs.declared.held.Due.{Due}
 use Rattle.chip_run.specs.declared.held.Due.TheVariants.{Nothing, Advance}
 use Rattle.chip_run.specs.declared.held.Due.TheVariants as Dues

@@ -6,8 +6,8 @@ use Rattle.chip_core.specs.Cores.{bound_in}
 use Rattle.chip_core.specs.Looks.{FindsOther, IsFirst, IsLeastLimit, IsLimit}
 use Rattle.chip_core.specs.Machines.{least_below}
 use Rattle.chip_run.specs.Parts.{PartsValue}
-use Rattle.chip_run.specs.declared.step.Step.{Step}
-use Rattle.chip_run.specs.declared.step.Step.TheVariants.{Performed, Sampled, Blocked, Finished}
+use Rattle.chip_run.specs.declared.stepped.Stepped.{Stepped}
+use Rattle.chip_run.specs.declared.stepped.Stepped.TheVariants.{Performed, Sampled, Blocked, Finished}
 
 -- the bound of the chip of this number is the least, and lies below the end
 pub record IsLeastBound {Shared : Type 0} (p : PartsValue Shared) (i : ℕ) : Type 0 where
@@ -49,7 +49,7 @@ module _ {Chip Shared Pins : Type 0} (rules : Rules Chip Shared Pins) where
   }
 
   -- the locked part of a turn, by its answer
-  abbrev pub IsStep : PartsValue Shared → ℕ → Chip → Step Pins → PartsValue Shared → Chip → Type 0
+  abbrev pub IsStep : PartsValue Shared → ℕ → Chip → Stepped Pins → PartsValue Shared → Chip → Type 0
   IsStep p i c Performed q d =
       HasTurn p i c × ((rules.next c).sample ≡ false) × (q ≡ after_access p i c) × (d ≡ (rules.perform c p.shared).chip)
   IsStep p i c (Sampled pins end) q d =

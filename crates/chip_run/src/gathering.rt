@@ -77,7 +77,7 @@ fn book_all<C: ChipSet, N: Named, L0: Ledger, L1: Ledger, L2: Ledger, L3: Ledger
     ensures same { helds.new ≡ helds.old }
     ensures booked { AreBooked locked.new.counts helds.old }
 {
-    for chip in 0..helds.places() {
+    for chip in 0..helds.place_count() {
         book_one(locked, helds, chip);
     }
 }

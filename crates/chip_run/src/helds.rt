@@ -56,7 +56,7 @@ impl<C: ChipSet, N: Named, L0: Ledger, L1: Ledger, L2: Ledger, L3: Ledger, L4: L
     }
 
     /// How many places there are.
-    pub(crate) fn places(&self) -> u8
+    pub(crate) fn place_count(&self) -> u8
         ensures value { result ≡ 5 }
         ensures length { length self.now ≡ result }
     {

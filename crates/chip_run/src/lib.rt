@@ -23,7 +23,7 @@ mod parts;
 mod round;
 mod running;
 mod sections;
-mod step;
+mod stepped;
 mod sweep;
 mod turn;
 mod whole;

@@ -3,7 +3,7 @@ ghost use Rattle.chip_core.specs.Cores.{bound_in};
 ghost use Rattle.chip_run.specs.Parts.{PartsValue};
 ghost use Rattle.chip_run.specs.Steps.{HasLease, HasPlaceFor, HasTurn, IsAccess, IsStep, announced};
 
-use crate::step::Step;
+use crate::stepped::Stepped;
 use chip_core::{ChipSet, find_other, limit_of};
 use md_word::{Entry, Key, Next};
 use std::marker::Model;
@@ -53,7 +53,7 @@ impl<C: ChipSet> Parts<C> {
 
     /// Announces the chip, and then makes the locked part of its access, or reads the pins of its sample, where
     /// that is its turn.
-    pub(crate) fn step(&mut self, chip: &mut C::Chip, number: u8) -> Step<C::Pins>
+    pub(crate) fn step(&mut self, chip: &mut C::Chip, number: u8) -> Stepped<C::Pins>
         requires bounds { length self.old.bounds ≡ C.rules.count }
         requires number { number < C.rules.count }
         requires time { self.old.end ≤ 2 ^ 50 }
@@ -64,10 +64,10 @@ impl<C: ChipSet> Parts<C> {
         let i = number as usize;
         self.bounds[i] = next.key;
         if next.key.cycle >= self.end {
-            return Step::Finished;
+            return Stepped::Finished;
         }
         if let Some(other) = find_other::<C>(&next, &self.bounds, number) {
-            return Step::Blocked {
+            return Stepped::Blocked {
                 other,
                 bound: self.bounds[other as usize],
             };
@@ -77,14 +77,14 @@ impl<C: ChipSet> Parts<C> {
             chip: number,
         };
         if next.sample {
-            return Step::Sampled {
+            return Stepped::Sampled {
                 pins: C::pins(&self.shared, number),
                 end: limit_of::<C>(&self.bounds, self.end, number),
             };
         }
         let entry = C::perform(chip, &mut self.shared);
         self.journal.push_reserved(entry);
-        Step::Performed
+        Stepped::Performed
     }
 
     /// Announces the chip, whose bound is the least, and then makes the whole of its access, where it had

@@ -2,7 +2,7 @@ ghost use Rattle.std.specs.Prelude.{◌≡◌};
 ghost use Rattle.chip_run.specs.Places.{IsFree};
 ghost use Rattle.chip_run.specs.Sections.{IsFound, IsLockedAt, IsSection, IsTurn, KeepsLocked};
 
-use crate::step::Step;
+use crate::stepped::Stepped;
 use crate::{Due, Held, Helds, Locked, Named, Parts, Turn};
 use chip_core::ChipSet;
 use std::sync::ledger::{Book, Ledger};
@@ -28,18 +28,18 @@ pub(crate) fn step_held<C: ChipSet, N: Named, L: Ledger>(
     book.add(&mut held.share, held.ahead);
     held.ahead = 0;
     match parts.step(&mut held.chip, number) {
-        Step::Performed => {
+        Stepped::Performed => {
             book.add(&mut held.share, 1);
             held.due = Due::Advance;
             return Turn::Moved;
         }
-        Step::Sampled { pins, end } => {
+        Stepped::Sampled { pins, end } => {
             book.add(&mut held.share, 1);
             held.due = Due::Sample { pins, end };
             return Turn::Moved;
         }
-        Step::Blocked { other, bound } => return Turn::Blocked { other, bound },
-        Step::Finished => return Turn::Finished,
+        Stepped::Blocked { other, bound } => return Turn::Blocked { other, bound },
+        Stepped::Finished => return Turn::Finished,
     }
 }
 

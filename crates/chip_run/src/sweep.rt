@@ -109,7 +109,7 @@ fn sweep<C: ChipSet, N: Named, L0: Ledger, L1: Ledger, L2: Ledger, L3: Ledger, L
     ensures changed { changed.new ≡ true → (changed.old ≡ true) ⊎ IsChanged locked.old.parts.bounds locked.new.parts.bounds }
 {
     let mut waiting = None;
-    for chip in 0..helds.places() {
+    for chip in 0..helds.place_count() {
         match helds.key(chip) {
             Some(key) => {
                 match visit(locked, helds, changed, chip) {

@@ -2,7 +2,7 @@
 use Rattle.std.specs.Prelude.{ℕ, zero, suc, ◌+◌, ◌%◌, ◌==◌, nat_lt, if◌then◌else◌, List, [], ◌++◌, codes, flat_map, decimal}
 use Rattle.md_word.specs.declared.regs.Regs.{Regs}
 use Rattle.md_word.specs.Fields.{register_of}
-use Rattle.m68k_decode.specs.Instructions.{decoded}
+use Rattle.m68k_decode.specs.Instructions.{instruction_of}
 use Rattle.m68k_decode.specs.declared.decoded.Decoded.{Decoded}
 use Rattle.m68k_exec.specs.Access.Memory.{Memory, bus_address, byte_at, instruction_words}
 use Rattle.md_disasm.specs.Digits.{marked_byte, marked_digit, marked_long, marked_word}
@@ -42,7 +42,7 @@ byte_reply rom ram at count = bytes_text rom ram at count ++ codes "\n"
 
 -- the instruction at an address
 abbrev pub instruction_at : List ℕ → List ℕ → ℕ → Decoded
-instruction_at rom ram at = decoded (instruction_words at (memory_of rom ram))
+instruction_at rom ram at = instruction_of (instruction_words at (memory_of rom ram))
 
 -- an instruction behind its address
 abbrev pub instruction_line : Decoded → ℕ → List ℕ

@@ -10,7 +10,7 @@ use Rattle.m68k_decode.specs.declared.decoded.Decoded.{Decoded}
 use Rattle.m68k_decode.specs.Bounds.{HasModes}
 use Rattle.m68k_decode.specs.Addressing.{control, control_alterable_or_predecrement, control_or_postincrement, low_mode_number, mode_number}
 use Rattle.m68k_decode.specs.Fields.{low_mode, mode_of, opcode, paired}
-use Rattle.m68k_decode.specs.Instructions.{chosen, decoded, made, unmatched}
+use Rattle.m68k_decode.specs.Instructions.{chosen, instruction_of, made, unmatched}
 use Rattle.m68k_decode.specs.Lines.{TableLine, lines_0, lines_1, lines_2, lines_3, lines_4, lines_5, lines_6, lines_7, lines_8, lines_9, lines_b, lines_c, lines_d, lines_e, lines_of, matches, matching, rows_of}
 use Rattle.m68k_decode.specs.Operands.{ArePaired, number_of}
 use Rattle.m68k_decode.specs.Rows.{Row, Decimal, Extended, Jmp, Jsr, Lea, MovemToMemory, MovemToRegisters, Pea}
@@ -176,6 +176,6 @@ chosen_modes : (found : List Row) (words : List ℕ) → FirstPermits (opcode wo
 chosen_modes [] words h = none_modes words
 chosen_modes (row ∷ more) words h = made_modes row words h
 
-pub decoded_modes : (words : List ℕ) → HasModes (decoded words).op
-unfolding decoded
+pub decoded_modes : (words : List ℕ) → HasModes (instruction_of words).op
+unfolding instruction_of
 decoded_modes words = chosen_modes (rows_of (opcode words)) words (rows-permit (opcode words))

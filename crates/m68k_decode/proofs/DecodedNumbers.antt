@@ -5,7 +5,7 @@ use Rattle.m68k_decode.specs.declared.decoded.Decoded.{Decoded}
 use Rattle.m68k_decode.specs.Bounds.{HasNumbers}
 use Rattle.m68k_decode.specs.Fields.{high_register, number_at, opcode, quick}
 use Rattle.md_word.specs.declared.size.Size.TheVariants.{Word}
-use Rattle.m68k_decode.specs.Instructions.{chosen, decoded, made, unmatched}
+use Rattle.m68k_decode.specs.Instructions.{chosen, instruction_of, made, unmatched}
 use Rattle.m68k_decode.specs.Lines.{rows_of}
 use Rattle.m68k_decode.specs.Rows.{Row, MovemToMemory, MovemToRegisters, ShiftByNumber}
 
@@ -41,6 +41,6 @@ chosen_numbers : (found : List Row) (words : List ℕ) → slice_index words 1 <
 chosen_numbers [] words h = none_numbers words
 chosen_numbers (row ∷ more) words h = made_numbers row words h
 
-pub decoded_numbers : (words : List ℕ) → slice_index words 1 < 65536 → HasNumbers (decoded words).op
-unfolding decoded
+pub decoded_numbers : (words : List ℕ) → slice_index words 1 < 65536 → HasNumbers (instruction_of words).op
+unfolding instruction_of
 decoded_numbers words h = chosen_numbers (rows_of (opcode words)) words h

@@ -8,7 +8,7 @@ use Rattle.md_word.proofs.Agree.{range, same_at}
 use Rattle.m68k_decode.specs.Lines.{rows_of, lines_of, matching, matches}
 use Rattle.m68k_decode.specs.Nested.{nested, group_0, by_register, by_number, to_status, immediates, group_1, group_2_or_3, group_4, with_register, with_status, unaries, tests, group_48, group_4e, controls, group_5, group_6, group_7, group_8, sums, group_b, group_c, exchanges, group_e}
 use Rattle.m68k_decode.specs.Fields.{opcode}
-use Rattle.m68k_decode.specs.Instructions.{decoded, chosen, picked}
+use Rattle.m68k_decode.specs.Instructions.{instruction_of, chosen, picked}
 use Rattle.m68k_decode.specs.Rows.{Row}
 use Rattle.m68k_decode.proofs.Masks.{masks_0, lines_0-masks, masks_1, lines_1-masks, masks_2, lines_2-masks, masks_3, lines_3-masks, masks_4, lines_4-masks, masks_5, lines_5-masks, masks_6, lines_6-masks, masks_7, lines_7-masks, masks_8, lines_8-masks, masks_9, lines_9-masks, masks_b, lines_b-masks, masks_c, lines_c-masks, masks_d, lines_d-masks, masks_e, lines_e-masks}
 
@@ -159,8 +159,8 @@ chosen_is_picked : (row : Option Row) (words : List ℕ) → chosen (option_to_l
 chosen_is_picked None words = refl
 chosen_is_picked (Some row) words = refl
 
-pub decoded_is_picked : (words : List ℕ) → opcode words < 65536 → decoded words ≡ picked (nested (opcode words)) words
-unfolding decoded
+pub decoded_is_picked : (words : List ℕ) → opcode words < 65536 → instruction_of words ≡ picked (nested (opcode words)) words
+unfolding instruction_of
 decoded_is_picked words below = rw (table_is_nested (opcode words) below) (chosen_is_picked (nested (opcode words)) words)
 
 at_most_one : (row : Option Row) → length (option_to_list row) ≤ 1

@@ -132,5 +132,5 @@ picked None words = unmatched words
 picked (Some row) words = made row words
 
 -- what five words decode to
-unfoldable pub decoded : List ℕ → Decoded
-decoded words = chosen (rows_of (opcode words)) words
+unfoldable pub instruction_of : List ℕ → Decoded
+instruction_of words = chosen (rows_of (opcode words)) words

@@ -47,7 +47,7 @@ fn by_digit(words: &[u16; 5], into: &mut Decoded)
 /// Decodes the instruction that these words begin with, as [`decode`] does, in place.
 #[tactic(auto, using(crate::proofs::Table::decoded_is_picked, crate::proofs::Table::one_row))]
 pub fn decode_into(words: &[u16; 5], into: &mut Decoded)
-    ensures value { into.new ≡ instructions.decoded words.now }
+    ensures value { into.new ≡ instructions.instruction_of words.now }
     ensures at_most_one_row { length (rows_of (opcode words.now)) ≤ 1 }
     ensures instruction { IsInstruction into.new }
 {
@@ -60,7 +60,7 @@ pub fn decode_into(words: &[u16; 5], into: &mut Decoded)
 /// It is that of the row of the table of instructions that the first word matches, and no word
 /// matches two. A word that matches none is line A or line F by its first digit, else illegal.
 pub fn decode(words: &[u16; 5]) -> Decoded
-    ensures value { result ≡ instructions.decoded words.now }
+    ensures value { result ≡ instructions.instruction_of words.now }
     ensures at_most_one_row { length (rows_of (opcode words.now)) ≤ 1 }
     ensures instruction { IsInstruction result }
 {

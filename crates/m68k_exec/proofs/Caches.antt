@@ -5,7 +5,7 @@ use Rattle.std.proofs.lemmas.List.{length-replicate}
 use Rattle.std.specs.List.{All}
 use Rattle.std.proofs.lemmas.List.Elements.{All-get_or, All-replicate}
 use Rattle.m68k_decode.specs.Fields.{opcode}
-use Rattle.m68k_decode.specs.Instructions.{decoded}
+use Rattle.m68k_decode.specs.Instructions.{instruction_of}
 use Rattle.m68k_exec.specs.Access.Memory.{Memory, bus_address, byte_at, instruction_word, instruction_words, word_at}
 use Rattle.m68k_exec.specs.Sample.Caches.{IsCacheOf, IsEntryOf, IsFixed, IsInstructionAt, entry_of, place_of}
 use Rattle.m68k_exec.specs.declared.sample.cache.CachedInstruction.{CachedInstruction}
@@ -47,7 +47,7 @@ words-fixed address memory ram answers fixed =
 pub entry-decoded : (address : ℕ) (memory : Memory) (found : CachedInstruction) → found.address ≡ address → IsInstructionAt address memory found → IsEntryOf memory.rom found
 entry-decoded address memory found at right = λ fixed ram answers. record {
   first = right.first ∙ ap (λ (words : List ℕ). opcode words) (words-fixed address memory ram answers (subst IsFixed at fixed)) ∙ sym (ap (λ (n : ℕ). opcode (instruction_words n (record { rom = memory.rom; ram = ram; answers = answers }))) at);
-  decoded = right.decoded ∙ ap (λ (words : List ℕ). decoded words) (words-fixed address memory ram answers (subst IsFixed at fixed)) ∙ sym (ap (λ (n : ℕ). decoded (instruction_words n (record { rom = memory.rom; ram = ram; answers = answers }))) at);
+  decoded = right.decoded ∙ ap (λ (words : List ℕ). instruction_of words) (words-fixed address memory ram answers (subst IsFixed at fixed)) ∙ sym (ap (λ (n : ℕ). instruction_of (instruction_words n (record { rom = memory.rom; ram = ram; answers = answers }))) at);
   instruction = right.instruction;
 }
 

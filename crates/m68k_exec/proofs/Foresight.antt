@@ -14,7 +14,7 @@ use Rattle.md_word.specs.Map.{is_shared}
 use Rattle.md_word.proofs.Choices.{split}
 use Rattle.m68k_alu.specs.Tasks.{computed}
 use Rattle.m68k_decode.specs.Fields.{opcode}
-use Rattle.m68k_decode.specs.Instructions.{decoded}
+use Rattle.m68k_decode.specs.Instructions.{instruction_of}
 use Rattle.m68k_decode.specs.Ops.{moves_of}
 use Rattle.m68k_decode.specs.declared.decoded.Decoded.{Decoded}
 use Rattle.m68k_decode.specs.declared.op.Op.{Op}
@@ -233,7 +233,7 @@ words-answered : (address value : ℕ) (memory : Memory) → instruction_words a
 unfolding instruction_words instruction_word
 words-answered address value memory = refl
 
-pub sample-foresees : (step : Step) (foreseen : Foreseen) (cause : ℕ) (regs : Regs) (memory : Memory) (found : Decoded) (first : ℕ) → found ≡ decoded (instruction_words regs.pc memory) → first ≡ opcode (instruction_words regs.pc memory)
+pub sample-foresees : (step : Step) (foreseen : Foreseen) (cause : ℕ) (regs : Regs) (memory : Memory) (found : Decoded) (first : ℕ) → found ≡ instruction_of (instruction_words regs.pc memory) → first ≡ opcode (instruction_words regs.pc memory)
     → EndsForeseen step foreseen (samples.sample_of cause found first regs) memory → EndsForeseen step foreseen (samples.sampled cause regs) memory
 unfolding samples.sampled
 sample-foresees (steps.Need request) foreseen cause regs memory found first names begins ends = λ known value.

@@ -4,7 +4,7 @@ use Rattle.std.specs.Prelude.{if◌then◌else◌, slice_index}
 use Rattle.md_word.specs.Fields.{bit_of}
 use Rattle.md_word.specs.declared.size.Size.TheVariants.{Byte, Word, Long}
 use Rattle.m68k_decode.specs.Fields.{opcode, word_or_long}
-use Rattle.m68k_decode.specs.Instructions.{chosen, decoded, made, unmatched}
+use Rattle.m68k_decode.specs.Instructions.{chosen, instruction_of, made, unmatched}
 use Rattle.m68k_decode.specs.Lines.{rows_of}
 use Rattle.m68k_decode.specs.Rows.{Row, MovemToMemory, MovemToRegisters}
 use Rattle.m68k_decode.specs.declared.decoded.Decoded.{Decoded}
@@ -40,9 +40,9 @@ chosen_words : (found : List Row) (words : List ℕ) → slice_index words 1 < 6
 chosen_words [] words h = none_words words
 chosen_words (row ∷ more) words h = made_words row words h
 
-pub decoded_words : (words : List ℕ) → slice_index words 1 < 65536 → MovesWords (decoded words).op
-unfolding decoded
+pub decoded_words : (words : List ℕ) → slice_index words 1 < 65536 → MovesWords (instruction_of words).op
+unfolding instruction_of
 decoded_words words h = chosen_words (rows_of (opcode words)) words h
 
-pub words_known : (memory : Memory) (address : ℕ) → Fits memory → MovesWords (decoded (instruction_words address memory)).op
+pub words_known : (memory : Memory) (address : ℕ) → Fits memory → MovesWords (instruction_of (instruction_words address memory)).op
 words_known memory address fits = decoded_words (instruction_words address memory) (second_small memory address fits)

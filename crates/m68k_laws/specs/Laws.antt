@@ -6,7 +6,7 @@ use Rattle.md_word.specs.declared.main_bus.Request68.TheVariants.{Read8, Read16,
 use Rattle.md_word.specs.declared.regs.Regs.{Regs}
 use Rattle.md_word.specs.declared.size.Size.{Size}
 use Rattle.md_word.specs.declared.size.Size.TheVariants.{Byte, Word, Long}
-use Rattle.m68k_decode.specs.Instructions.{decoded}
+use Rattle.m68k_decode.specs.Instructions.{instruction_of}
 use Rattle.m68k_decode.specs.declared.op.Op.{Op}
 use Rattle.m68k_exec.specs.Access.Actions.{Done}
 use Rattle.m68k_exec.specs.Access.Memory.{Memory, bus_address}
@@ -60,7 +60,7 @@ pub record IsComplete (list : List Access) (count : ℕ) : Type 0 where
 -- are answers; where it comes to an outcome, also one that ends in an exception, it took an answer for each
 -- shared word; an address error is the first odd word. What words of 16 bits decode to meets the premise.
 pub record InstructionsFollowFootprints : Type 0 where
-  pub decodes : (list : List ℕ) → slice_index list 1 < 65536 → MovesWords (decoded list).op
+  pub decodes : (list : List ℕ) → slice_index list 1 < 65536 → MovesWords (instruction_of list).op
   pub waits : (op : Op) (start : ℕ) (regs : Regs) (memory : Memory) (request : Request68) → MovesWords op → row op start regs memory nothing ≡ Err (Ask request) → WaitsAt (words (footprint op start regs)) (length memory.answers) request
   pub completes : (op : Op) (start : ℕ) (regs : Regs) (memory : Memory) (outcome : Outcome) (after : Done) → MovesWords op → row op start regs memory nothing ≡ Ok (outcome, after) → IsComplete (words (footprint op start regs)) after.used
   pub faults : (op : Op) (start : ℕ) (regs : Regs) (memory : Memory) (address : ℕ) (read : Bool) (used : ℕ) → MovesWords op → row op start regs memory nothing ≡ Err (Odd address read used) → FaultsAt (words (footprint op start regs)) used address read

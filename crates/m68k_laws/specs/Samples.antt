@@ -4,7 +4,7 @@ use Rattle.std.specs.Prelude.{ℕ, ◌≡◌, ◌≢◌, ◌⊎◌, ◌+◌, ◌
 use Rattle.md_word.specs.declared.main_bus.Request68.{Request68}
 use Rattle.md_word.specs.declared.main_bus.Request68.TheVariants.{Ack}
 use Rattle.md_word.specs.declared.regs.Regs.{Regs}
-use Rattle.m68k_decode.specs.Instructions.{decoded}
+use Rattle.m68k_decode.specs.Instructions.{instruction_of}
 use Rattle.m68k_exec.specs.Access.Memory.{Memory, instruction_words}
 use Rattle.m68k_exec.specs.Sample.Bounds.{Fits}
 use Rattle.m68k_exec.specs.Sample.Samples.{Ended, named, sampled}
@@ -17,7 +17,7 @@ use Rattle.m68k_laws.specs.Laws.{FaultsAt, IsComplete, WaitsAt}
 -- the registers as the instruction at the program counter finds them: that points behind it
 abbrev pub started : Regs → Memory → Regs
 started regs memory =
-    record regs { pc = (regs.pc + (decoded (instruction_words regs.pc memory)).length) % 2 ^ 32 }
+    record regs { pc = (regs.pc + (instruction_of (instruction_words regs.pc memory)).length) % 2 ^ 32 }
 
 -- the words of its footprint
 abbrev pub words_at : Regs → Memory → List Access

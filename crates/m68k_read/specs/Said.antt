@@ -1,11 +1,11 @@
 -- Which words an instruction that is written stands for.
 use Rattle.std.specs.Prelude.{ℕ, ◌≡◌, ◌*◌, ◌<◌, List, [], ◌∷◌, ◌++◌, length}
-use Rattle.m68k_decode.specs.Instructions.{decoded}
+use Rattle.m68k_decode.specs.Instructions.{instruction_of}
 use Rattle.md_disasm.specs.Texts68.{text_of}
 use Rattle.md_asm_text.specs.Pieces.{Piece, pieces}
 
 -- words say these pieces at an address: whatever follows them they decode to an instruction of their
 -- length whose text has these pieces
 pub record Says (words : List ℕ) (said : List Piece) (at : ℕ) : Type 0 where
-  pub text : (rest : List ℕ) → pieces (text_of (decoded (words ++ rest)) at) ≡ said
-  pub whole : (rest : List ℕ) → (decoded (words ++ rest)).length ≡ 2 * length words
+  pub text : (rest : List ℕ) → pieces (text_of (instruction_of (words ++ rest)) at) ≡ said
+  pub whole : (rest : List ℕ) → (instruction_of (words ++ rest)).length ≡ 2 * length words

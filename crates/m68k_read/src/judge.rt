@@ -1,5 +1,5 @@
 ghost use Rattle.std.specs.Prelude.{◌≡◌, ◌<◌, ◌↔◌, map, length, IfOk, IfSome, IfNone, IsTrue};
-ghost use Rattle.m68k_decode.specs.Instructions.{decoded};
+ghost use Rattle.m68k_decode.specs.Instructions.{instruction_of};
 ghost use Rattle.m68k_encode.specs.Coded.{IsCoded};
 ghost use Rattle.md_disasm.specs.Texts68.{text_of};
 ghost use Rattle.md_asm_text.specs.Pieces as texts;
@@ -46,7 +46,7 @@ fn meant(pieces: &[Piece<'_>], at: u32) -> Op
 
 /// Whether words say the pieces at an address.
 fn is_said(alloc: Global, words: &[u16], pieces: &[Piece<'_>], at: u32) -> Result<bool, NoMemory>
-    ensures { IfOk result (λ said. IsTrue said ↔ (texts.pieces (text_of (decoded (judged.padded words.now)) at) ≡ map shown pieces.now)) }
+    ensures { IfOk result (λ said. IsTrue said ↔ (texts.pieces (text_of (instruction_of (judged.padded words.now)) at) ≡ map shown pieces.now)) }
 {
     let decoded = decode(&padded(words));
     let text = text68(alloc, &decoded, at)?;
@@ -61,8 +61,8 @@ pub fn words_of(
     at: u32,
 ) -> Result<Option<ArrayVec<u16, 5>>, NoMemory>
     ensures some { IfOk result (λ found. IfSome found (λ words. words.items ≡ judged.tried (map shown pieces.now) at)) }
-    ensures said { IfOk result (λ found. IfSome found (λ words. texts.pieces (text_of (decoded (judged.padded words.items)) at) ≡ map shown pieces.now)) }
-    ensures none { IfOk result (λ found. IfNone found (texts.pieces (text_of (decoded (judged.padded (judged.tried (map shown pieces.now) at))) at) ≡ map shown pieces.now → ⊥)) }
+    ensures said { IfOk result (λ found. IfSome found (λ words. texts.pieces (text_of (instruction_of (judged.padded words.items)) at) ≡ map shown pieces.now)) }
+    ensures none { IfOk result (λ found. IfNone found (texts.pieces (text_of (instruction_of (judged.padded (judged.tried (map shown pieces.now) at))) at) ≡ map shown pieces.now → ⊥)) }
 {
     let words = encode(&meant(pieces, at));
     if is_said(alloc, words.as_slice(), pieces, at)? {

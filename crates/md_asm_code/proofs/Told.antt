@@ -23,33 +23,33 @@ not_by_text own said apart = cases (all_alike own said) refl
     cases false is = refl
 
 pub main_said : (words : List ℕ) (said : List Piece) (at : ℕ) → words ≡ main_read.tried said at
-    → pieces (main_texts.text_of (main.decoded (main_read.padded words)) at) ≡ said → main_code said at ≡ Some words
+    → pieces (main_texts.text_of (main.instruction_of (main_read.padded words)) at) ≡ said → main_code said at ≡ Some words
 unfolding main_code
 main_said words said at is text =
     let own : say_words (main_read.tried said at) said at ≡ true
-    = rw (← is) (by_text (pieces (main_texts.text_of (main.decoded (main_read.padded words)) at)) said text) in
+    = rw (← is) (by_text (pieces (main_texts.text_of (main.instruction_of (main_read.padded words)) at)) said text) in
     rw (own, is) refl
 
 pub main_none : (said : List Piece) (at : ℕ)
-    → (pieces (main_texts.text_of (main.decoded (main_read.padded (main_read.tried said at))) at) ≡ said → ⊥) → main_code said at ≡ None
+    → (pieces (main_texts.text_of (main.instruction_of (main_read.padded (main_read.tried said at))) at) ≡ said → ⊥) → main_code said at ≡ None
 unfolding main_code
 main_none said at apart =
     let own : say_words (main_read.tried said at) said at ≡ false
-    = not_by_text (pieces (main_texts.text_of (main.decoded (main_read.padded (main_read.tried said at))) at)) said apart in
+    = not_by_text (pieces (main_texts.text_of (main.instruction_of (main_read.padded (main_read.tried said at))) at)) said apart in
     rw own refl
 
 pub sub_said : (bytes : List ℕ) (said : List Piece) (at : ℕ) → bytes ≡ sub_read.tried said at
-    → pieces (sub_texts.text_of (sub.decoded (sub_read.padded bytes)) at) ≡ said → sub_code said at ≡ Some bytes
+    → pieces (sub_texts.text_of (sub.instruction_of (sub_read.padded bytes)) at) ≡ said → sub_code said at ≡ Some bytes
 unfolding sub_code
 sub_said bytes said at is text =
     let own : say_bytes (sub_read.tried said at) said at ≡ true
-    = rw (← is) (by_text (pieces (sub_texts.text_of (sub.decoded (sub_read.padded bytes)) at)) said text) in
+    = rw (← is) (by_text (pieces (sub_texts.text_of (sub.instruction_of (sub_read.padded bytes)) at)) said text) in
     rw (own, is) refl
 
 pub sub_none : (said : List Piece) (at : ℕ)
-    → (pieces (sub_texts.text_of (sub.decoded (sub_read.padded (sub_read.tried said at))) at) ≡ said → ⊥) → sub_code said at ≡ None
+    → (pieces (sub_texts.text_of (sub.instruction_of (sub_read.padded (sub_read.tried said at))) at) ≡ said → ⊥) → sub_code said at ≡ None
 unfolding sub_code
 sub_none said at apart =
     let own : say_bytes (sub_read.tried said at) said at ≡ false
-    = not_by_text (pieces (sub_texts.text_of (sub.decoded (sub_read.padded (sub_read.tried said at))) at)) said apart in
+    = not_by_text (pieces (sub_texts.text_of (sub.instruction_of (sub_read.padded (sub_read.tried said at))) at)) said apart in
     rw own refl

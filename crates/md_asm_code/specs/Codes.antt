@@ -11,11 +11,11 @@ use Rattle.z80_read.specs.Judged as sub_read
 
 -- words of the 68000 decode to an instruction whose text at an address has these pieces
 abbrev pub say_words : List ℕ → List Piece → ℕ → Bool
-say_words words said at = all_alike (pieces (main_texts.text_of (main.decoded (main_read.padded words)) at)) said
+say_words words said at = all_alike (pieces (main_texts.text_of (main.instruction_of (main_read.padded words)) at)) said
 
 -- bytes of the Z80 do so
 abbrev pub say_bytes : List ℕ → List Piece → ℕ → Bool
-say_bytes bytes said at = all_alike (pieces (sub_texts.text_of (sub.decoded (sub_read.padded bytes)) at)) said
+say_bytes bytes said at = all_alike (pieces (sub_texts.text_of (sub.instruction_of (sub_read.padded bytes)) at)) said
 
 -- the words that are read and encoded, where they say the pieces
 unfoldable pub main_code : List Piece → ℕ → Option (List ℕ)

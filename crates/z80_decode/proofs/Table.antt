@@ -11,7 +11,7 @@ use Rattle.z80_decode.specs.Fields.{memory_of, place_of, lower, pair_of, stacked
 use Rattle.z80_decode.specs.Lines.{TableLine, matching, matches, plain_lines, indexed_lines, bit_lines, indexed_bit_lines, extended_lines}
 use Rattle.std.proofs.lemmas.Bool.{and_parts}
 use Rattle.std.proofs.lemmas.Bool.Decides.{nat_tests}
-use Rattle.z80_decode.specs.Instructions.{AtMostOneRow, HasRows, Page, looked_up, OpcodeEntry, Plain, Bits, Extended, Indexed, IndexedBits, entry, entry_of, prefixed, rows_of, chosen, decoded}
+use Rattle.z80_decode.specs.Instructions.{AtMostOneRow, HasRows, Page, looked_up, OpcodeEntry, Plain, Bits, Extended, Indexed, IndexedBits, entry, entry_of, prefixed, rows_of, chosen, instruction_of}
 use Rattle.z80_decode.specs.Nested.{of_bytes, bits, shift, arithmetic, accumulator, block_of, block_op, relative_jumps, pair_loads, memory_loads, pair_steps, step, number_loads, low_group, loads, returns, jumps, calls, control, by_opcode, low_names_hl, names_hl, indexed, ports, pairs_extended, modes, specials, extended, nested}
 use Rattle.z80_decode.specs.Ops.{IsInstruction, is_op}
 
@@ -100,8 +100,8 @@ of_bytes_told : (bytes : List ℕ) → slice_index bytes 0 < 256 → slice_index
 of_bytes_told bytes h k l = by_first (slice_index bytes 0) (slice_index bytes 1) (slice_index bytes 2) (slice_index bytes 3) h k l _ _ _ _ refl refl refl refl
 
 pub decoded_is_nested : (bytes : List ℕ) → slice_index bytes 0 < 256 → slice_index bytes 1 < 256 → slice_index bytes 3 < 256
-    → decoded bytes ≡ nested (slice_index bytes 0) (slice_index bytes 1) (slice_index bytes 2) (slice_index bytes 3)
-unfolding decoded
+    → instruction_of bytes ≡ nested (slice_index bytes 0) (slice_index bytes 1) (slice_index bytes 2) (slice_index bytes 3)
+unfolding instruction_of
 decoded_is_nested bytes h k l = ap (λ (t : Decoded80 × Bool). t.0) (of_bytes_told bytes h k l)
 
 rows_counted : (page : Page) (count : ℕ) → counted page count ≡ true → HasRows page count

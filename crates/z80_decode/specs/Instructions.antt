@@ -72,8 +72,8 @@ abbrev pub looked_up : List ℕ → OpcodeEntry
 looked_up bytes = entry_of (slice_index bytes 0) (slice_index bytes 1) (slice_index bytes 2) (slice_index bytes 3)
 
 -- what four bytes decode to: the operation, and how many of them it takes
-unfoldable pub decoded : List ℕ → Decoded80
-decoded bytes = chosen (rows_of (looked_up bytes)) (looked_up bytes)
+unfoldable pub instruction_of : List ℕ → Decoded80
+instruction_of bytes = chosen (rows_of (looked_up bytes)) (looked_up bytes)
 
 -- how many lines an opcode of a page matches: one, or none after ED, DD and FD
 abbrev pub HasRows : Page → ℕ → Type 0

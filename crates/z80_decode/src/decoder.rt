@@ -1,5 +1,5 @@
 ghost use Rattle.std.specs.Prelude.{◌≡◌};
-ghost use Rattle.z80_decode.specs.Instructions.{AtMostOneRow, decoded};
+ghost use Rattle.z80_decode.specs.Instructions.{AtMostOneRow, instruction_of};
 ghost use Rattle.z80_decode.specs.Nested.{nested};
 ghost use Rattle.z80_decode.specs.Ops.{IsInstruction};
 
@@ -33,7 +33,7 @@ fn by_prefix(opcode: u8, first: u8, second: u8, third: u8) -> Decoded80
 #[inline(always)]
 #[tactic(auto, using(crate::proofs::Table::decoded_is_nested, crate::proofs::Table::one_row))]
 pub fn decode(bytes: &[u8; 4]) -> Decoded80
-    ensures value { result ≡ decoded bytes.now }
+    ensures value { result ≡ instruction_of bytes.now }
     ensures at_most_one_row { AtMostOneRow bytes.now }
     ensures instruction { IsInstruction result }
 {

@@ -5,7 +5,7 @@ use Rattle.std.proofs.lemmas.List.{get_or_append_left}
 use Rattle.md_word.proofs.Choices.{split}
 use Rattle.md_word.specs.declared.sub_bus.Request80.{Request80}
 use Rattle.md_word.specs.declared.sub_bus.Request80.TheVariants.{Write}
-use Rattle.z80_decode.specs.Instructions.{decoded}
+use Rattle.z80_decode.specs.Instructions.{instruction_of}
 use Rattle.z80_decode.specs.declared.decoded80.Decoded80.{Decoded80}
 use Rattle.z80_decode.specs.declared.place8.Place8.{Place8}
 use Rattle.z80_exec.specs.Access.Actions as actions
@@ -94,7 +94,7 @@ bytes-answered : (address value : ℕ) (memory : Memory) → instruction_bytes a
 unfolding instruction_bytes instruction_byte
 bytes-answered address value memory = refl
 
-pub sample-foresees : (step : Step80) (foreseen : Foreseen80) (regs : Regs80) (memory : Memory) (found : Decoded80) (first : ℕ) → found ≡ decoded (instruction_bytes regs.pc memory) → first ≡ slice_index (instruction_bytes regs.pc memory) 0
+pub sample-foresees : (step : Step80) (foreseen : Foreseen80) (regs : Regs80) (memory : Memory) (found : Decoded80) (first : ℕ) → found ≡ instruction_of (instruction_bytes regs.pc memory) → first ≡ slice_index (instruction_bytes regs.pc memory) 0
     → EndsForeseen step foreseen (samples.instruction found first regs) memory → EndsForeseen step foreseen (samples.sampled 0 regs) memory
 unfolding samples.sampled
 sample-foresees (steps.Need request) foreseen regs memory found first names begins ends = λ known value.

@@ -6,7 +6,7 @@ use Rattle.md_word.specs.declared.bit.Bit.{Bit}
 use Rattle.md_word.specs.declared.sub_bus.Request80.{Request80}
 use Rattle.md_word.specs.declared.task80.Task80.{Task80}
 use Rattle.z80_alu.specs.declared.out16.Out16.{Out16}
-use Rattle.z80_decode.specs.Instructions.{decoded}
+use Rattle.z80_decode.specs.Instructions.{instruction_of}
 use Rattle.z80_decode.specs.declared.block.Block.{Block}
 use Rattle.z80_decode.specs.declared.condition.Condition.{Condition}
 use Rattle.z80_decode.specs.declared.decoded80.Decoded80.{Decoded80}
@@ -391,11 +391,11 @@ interrupt : (regs : Regs80) (memory : Memory) → EndsWith regs.r (samples.inter
 unfolding samples.interrupt
 interrupt regs memory = entered_with _ regs.r _ ((enter regs).at memory nothing)
 
-pub after_instruction : (regs : Regs80) (memory : Memory) (ended : Ended) → samples.sampled 0 regs memory ≡ Ok ended → loads_r (decoded (instruction_bytes regs.pc memory)).op ≡ false → (ended.regs.r / 0x80 ≡ regs.r / 0x80) × ((ended.regs.r % 0x80 ≡ (regs.r + 1) % 0x80) ⊎ (ended.regs.r % 0x80 ≡ (regs.r + 2) % 0x80))
+pub after_instruction : (regs : Regs80) (memory : Memory) (ended : Ended) → samples.sampled 0 regs memory ≡ Ok ended → loads_r (instruction_of (instruction_bytes regs.pc memory)).op ≡ false → (ended.regs.r / 0x80 ≡ regs.r / 0x80) × ((ended.regs.r % 0x80 ≡ (regs.r + 1) % 0x80) ⊎ (ended.regs.r % 0x80 ≡ (regs.r + 2) % 0x80))
 unfolding samples.sampled
 after_instruction regs memory ended e other =
     let bytes = instruction_bytes regs.pc memory in
-    let found = decoded bytes in
+    let found = instruction_of bytes in
     let first = slice_index bytes 0 in
     let r : ended.regs.r ≡ (fetched found first regs).r = subst (EndsWith (fetched found first regs).r) e (instruction found first regs memory other) in
     rw r (high found first regs, low found first regs)

@@ -3,7 +3,7 @@ use Rattle.std.specs.Prelude.{ℕ, Bool, true, false, ◌≡◌, ◌≢◌, ◌�
 use Rattle.md_word.specs.declared.sub_bus.Request80.{Request80}
 use Rattle.md_word.specs.declared.task80.Task80.TheVariants as tasks
 use Rattle.z80_alu.specs.Tasks.{computed}
-use Rattle.z80_decode.specs.Instructions.{decoded}
+use Rattle.z80_decode.specs.Instructions.{instruction_of}
 use Rattle.z80_decode.specs.declared.condition.Condition.TheVariants as conditions
 use Rattle.z80_decode.specs.declared.interrupt_mode.InterruptMode.TheVariants.{Mode0, Mode1}
 use Rattle.z80_decode.specs.declared.op80.Op80.TheVariants as ops
@@ -59,7 +59,7 @@ loads_r op = false
 -- each instruction but LD R,A raises the low seven bits of R by 1 or by 2 and leaves bit 7; an interrupt
 -- leaves R
 pub record RefreshRises : Type 0 where
-  pub instruction : (regs : Regs80) (memory : Memory) (ended : Ended) → sampled 0 regs memory ≡ Ok ended → loads_r (decoded (instruction_bytes regs.pc memory)).op ≡ false
+  pub instruction : (regs : Regs80) (memory : Memory) (ended : Ended) → sampled 0 regs memory ≡ Ok ended → loads_r (instruction_of (instruction_bytes regs.pc memory)).op ≡ false
       → (ended.regs.r / 0x80 ≡ regs.r / 0x80) × ((ended.regs.r % 0x80 ≡ (regs.r + 1) % 0x80) ⊎ (ended.regs.r % 0x80 ≡ (regs.r + 2) % 0x80))
   pub interrupt : (cause : ℕ) (regs : Regs80) (memory : Memory) (ended : Ended) → cause ≢ 0 → sampled cause regs memory ≡ Ok ended → ended.regs.r ≡ regs.r
 

@@ -1,6 +1,6 @@
 ghost use Rattle.std.specs.Prelude.{◌≡◌, ◌<◌, ◌≤◌, false, true, slice_index};
 ghost use Rattle.arrayvec.specs.ArrayVec.{array_vec_len};
-ghost use Rattle.z80_decode.specs.Instructions.{decoded};
+ghost use Rattle.z80_decode.specs.Instructions.{instruction_of};
 ghost use Rattle.z80_exec.specs.Access.Clauses.{done_of, memory_of};
 ghost use Rattle.z80_exec.specs.Sample.Foresight.{EndsForeseen};
 ghost use Rattle.z80_exec.specs.Sample.Samples as samples;

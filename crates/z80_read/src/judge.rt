@@ -1,5 +1,5 @@
 ghost use Rattle.std.specs.Prelude.{◌≡◌, ◌↔◌, map, IfOk, IfSome, IfNone, IsTrue};
-ghost use Rattle.z80_decode.specs.Instructions.{decoded};
+ghost use Rattle.z80_decode.specs.Instructions.{instruction_of};
 ghost use Rattle.md_disasm.specs.Texts80.{text_of};
 ghost use Rattle.md_asm_text.specs.Pieces as texts;
 ghost use Rattle.md_asm_text.specs.Shown.{shown};
@@ -41,7 +41,7 @@ fn meant(pieces: &[Piece<'_>], at: u16) -> Op80
 
 /// Whether bytes say the pieces at an address.
 fn is_said(alloc: Global, bytes: &[u8], pieces: &[Piece<'_>], at: u16) -> Result<bool, NoMemory>
-    ensures { IfOk result (λ said. IsTrue said ↔ (texts.pieces (text_of (decoded (judged.padded bytes.now)) at) ≡ map shown pieces.now)) }
+    ensures { IfOk result (λ said. IsTrue said ↔ (texts.pieces (text_of (instruction_of (judged.padded bytes.now)) at) ≡ map shown pieces.now)) }
 {
     let decoded = decode(&padded(bytes));
     let text = text80(alloc, &decoded, at)?;
@@ -53,8 +53,8 @@ fn is_said(alloc: Global, bytes: &[u8], pieces: &[Piece<'_>], at: u16) -> Result
 /// those of no instruction's text there.
 pub fn bytes_of(alloc: Global, pieces: &[Piece<'_>], at: u16) -> Result<Option<Bytes>, NoMemory>
     ensures some { IfOk result (λ found. IfSome found (λ bytes. bytes.items ≡ judged.tried (map shown pieces.now) at)) }
-    ensures said { IfOk result (λ found. IfSome found (λ bytes. texts.pieces (text_of (decoded (judged.padded bytes.items)) at) ≡ map shown pieces.now)) }
-    ensures none { IfOk result (λ found. IfNone found (texts.pieces (text_of (decoded (judged.padded (judged.tried (map shown pieces.now) at))) at) ≡ map shown pieces.now → ⊥)) }
+    ensures said { IfOk result (λ found. IfSome found (λ bytes. texts.pieces (text_of (instruction_of (judged.padded bytes.items)) at) ≡ map shown pieces.now)) }
+    ensures none { IfOk result (λ found. IfNone found (texts.pieces (text_of (instruction_of (judged.padded (judged.tried (map shown pieces.now) at))) at) ≡ map shown pieces.now → ⊥)) }
 {
     let bytes = encode(&meant(pieces, at));
     if is_said(alloc, bytes.as_slice(), pieces, at)? {

@@ -12,7 +12,7 @@ use Rattle.z80_decode.specs.declared.op80.Op80.TheVariants as ops
 use Rattle.md_word.proofs.Agree.{same_at}
 use Rattle.z80_decode.proofs.Table.{decoded_is_nested}
 use Rattle.z80_decode.specs.Fields.{memory_of, place_of, lower}
-use Rattle.z80_decode.specs.Instructions.{decoded}
+use Rattle.z80_decode.specs.Instructions.{instruction_of}
 use Rattle.z80_decode.specs.Nested.{of_bytes, bits, by_opcode, low_group, relative_jumps, names_hl, extended, nested}
 use Rattle.md_disasm.specs.Rows80.{Row80, row_of}
 use Rattle.md_disasm.specs.Texts80.{led, row_text, text_of}
@@ -89,27 +89,27 @@ nested_again at b0 b1 b2 b3 a h k l m = by_page (IsAgain at) b0 b1 b2 b3
     (λ none. plain_again at b0 b1 b2 a h k l)
     _ _ _ _ refl refl refl refl
 
-decoded_again : (bytes : List ℕ) (at : ℕ) → AreBytes bytes → at < 65536 → IsAgain at (decoded bytes)
+decoded_again : (bytes : List ℕ) (at : ℕ) → AreBytes bytes → at < 65536 → IsAgain at (instruction_of bytes)
 decoded_again bytes at h a = rw (decoded_is_nested bytes (h 0) (h 1) (h 3)) (nested_again at _ _ _ _ a (h 0) (h 1) (h 2) (h 3))
 
 -- ---- the law
 
 -- the instruction is made again of the pieces of its text
-pub meant_again : (bytes : List ℕ) (at : ℕ) → AreBytes bytes → at < 65536 → is_db (decoded bytes).op ≡ false
-    → meant (read_source (pieces (text_of (decoded bytes) at))) at ≡ (decoded bytes).op
+pub meant_again : (bytes : List ℕ) (at : ℕ) → AreBytes bytes → at < 65536 → is_db (instruction_of bytes).op ≡ false
+    → meant (read_source (pieces (text_of (instruction_of bytes) at))) at ≡ (instruction_of bytes).op
 meant_again bytes at h a none =
     let both = decoded_again bytes at h a none in
-    ap (λ (s : Source). meant s at) (source_again (row_of (decoded bytes).op at) both.0) ∙ both.1
+    ap (λ (s : Source). meant s at) (source_again (row_of (instruction_of bytes).op at) both.0) ∙ both.1
 
 whole_unless : (op : Op80) → is_db op ≡ false → IsTrue (is_whole op)
 whole_unless (ops.LonePrefix index) none = absurd (true≢false none)
 whole_unless _ none = refl
 
 -- the bytes that are tried for it decode to it, whatever follows them
-pub tried_again : (bytes rest : List ℕ) (at : ℕ) → AreBytes bytes → AreBytes rest → at < 65536 → is_db (decoded bytes).op ≡ false
-    → decoded (tried (pieces (text_of (decoded bytes) at)) at ++ rest) ≡ decoded bytes
+pub tried_again : (bytes rest : List ℕ) (at : ℕ) → AreBytes bytes → AreBytes rest → at < 65536 → is_db (instruction_of bytes).op ≡ false
+    → instruction_of (tried (pieces (text_of (instruction_of bytes) at)) at ++ rest) ≡ instruction_of bytes
 tried_again bytes rest at h k a none =
-    rw (meant_again bytes at h a none) (encoding_again bytes rest h k (whole_unless (decoded bytes).op none))
+    rw (meant_again bytes at h a none) (encoding_again bytes rest h k (whole_unless (instruction_of bytes).op none))
 
 -- ---- what is tried has never a directive's text
 
@@ -134,7 +134,7 @@ tried_db : (more : List Piece) (at : ℕ) → tried (texts.Word (codes "db") ∷
 unfolding encoded prefixes opcode_of operands
 tried_db more at = rw (meant_db more at) refl
 
-zero_is : (more : List ℕ) → AreBytes (0 ∷ more) → is_db (decoded (0 ∷ more)).op ≡ false
+zero_is : (more : List ℕ) → AreBytes (0 ∷ more) → is_db (instruction_of (0 ∷ more)).op ≡ false
 unfolding nested by_opcode low_group relative_jumps
 zero_is more h = rw (decoded_is_nested (0 ∷ more) (h 0) (h 1) (h 3)) refl
 
@@ -147,19 +147,19 @@ tried_zero d said at is text =
 
 -- so what is tried and says the pieces is no directive
 pub tried_is : (bytes more : List ℕ) (said : List Piece) (at : ℕ) → AreBytes (bytes ++ more) → bytes ≡ tried said at
-    → pieces (text_of (decoded (bytes ++ more)) at) ≡ said → (b : Bool) → is_db (decoded (bytes ++ more)).op ≡ b → b ≡ false
+    → pieces (text_of (instruction_of (bytes ++ more)) at) ≡ said → (b : Bool) → is_db (instruction_of (bytes ++ more)).op ≡ b → b ≡ false
 tried_is bytes more said at h are text false is = refl
 tried_is bytes more said at h are text true is =
-    let zero : bytes ≡ 0 ∷ [] = are ∙ tried_zero (decoded (bytes ++ more)) said at is text in
+    let zero : bytes ≡ 0 ∷ [] = are ∙ tried_zero (instruction_of (bytes ++ more)) said at is text in
     let all : AreBytes (0 ∷ more) = rw zero at h in
-    let here : is_db (decoded (0 ∷ more)).op ≡ true = rw zero at is in
+    let here : is_db (instruction_of (0 ∷ more)).op ≡ true = rw zero at is in
     sym here ∙ zero_is more all
 
 -- bytes that say the pieces, and are those that are tried for them, say them whatever follows
 pub said_again : (bytes more rest : List ℕ) (said : List Piece) (at : ℕ) → AreBytes (bytes ++ more) → AreBytes rest → at < 65536
-    → bytes ≡ tried said at → pieces (text_of (decoded (bytes ++ more)) at) ≡ said → decoded (bytes ++ rest) ≡ decoded (bytes ++ more)
+    → bytes ≡ tried said at → pieces (text_of (instruction_of (bytes ++ more)) at) ≡ said → instruction_of (bytes ++ rest) ≡ instruction_of (bytes ++ more)
 said_again bytes more rest said at h k a are text =
-    let none = tried_is bytes more said at h are text (is_db (decoded (bytes ++ more)).op) refl in
-    let again : decoded (tried said at ++ rest) ≡ decoded (bytes ++ more)
+    let none = tried_is bytes more said at h are text (is_db (instruction_of (bytes ++ more)).op) refl in
+    let again : instruction_of (tried said at ++ rest) ≡ instruction_of (bytes ++ more)
     = rw (sym text) (tried_again (bytes ++ more) rest at h k a none) in
-    ap (λ (l : List ℕ). decoded (l ++ rest)) are ∙ again
+    ap (λ (l : List ℕ). instruction_of (l ++ rest)) are ∙ again

@@ -11,7 +11,7 @@ use Rattle.z80_decode.specs.declared.op80.Op80.TheVariants as ops
 use Rattle.md_word.proofs.Agree.{range, same_at}
 use Rattle.z80_decode.proofs.Table.{decoded_is_nested}
 use Rattle.z80_decode.specs.Fields.{memory_of, place_of, lower, pair_of, stacked_of, condition_of, bit_of}
-use Rattle.z80_decode.specs.Instructions.{decoded}
+use Rattle.z80_decode.specs.Instructions.{instruction_of}
 use Rattle.z80_decode.specs.Nested.{of_bytes, bits, shift, arithmetic, accumulator, block_of, block_op, relative_jumps, pair_loads, memory_loads, pair_steps, step, number_loads, low_group, loads, returns, jumps, calls, control, by_opcode, low_names_hl, names_hl, ports, pairs_extended, modes, specials, extended, nested}
 use Rattle.z80_encode.specs.Coded80.{AreBytes}
 use Rattle.z80_encode.specs.Encoding80.{encoded, opcode_of, operands, prefixes}
@@ -79,15 +79,15 @@ nested_sized b0 b1 b2 b3 h k m = by_page IsSized b0 b1 b2 b3
     (λ none. same_at (λ w. sized (by_opcode indexes.Hl w b1 b2)) (λ w. true) 256 0 (sized_plain b1 b2) b0 (omega arith) (omega arith))
     _ _ _ _ refl refl refl refl
 
-decoded_sized : (bytes : List ℕ) → AreBytes bytes → IsSized (decoded bytes)
+decoded_sized : (bytes : List ℕ) → AreBytes bytes → IsSized (instruction_of bytes)
 decoded_sized bytes h = rw (decoded_is_nested bytes (h 0) (h 1) (h 3)) (nested_sized _ _ _ _ (h 0) (h 1) (h 3))
 
-pub encoded_long : (bytes : List ℕ) → AreBytes bytes → length (encoded (decoded bytes).op) ≡ (decoded bytes).length
+pub encoded_long : (bytes : List ℕ) → AreBytes bytes → length (encoded (instruction_of bytes).op) ≡ (instruction_of bytes).length
 encoded_long bytes h =
-    let parts = and_parts (length (encoded (decoded bytes).op) == (decoded bytes).length) (nat_le (decoded bytes).length 4) (decoded_sized bytes h) in
+    let parts = and_parts (length (encoded (instruction_of bytes).op) == (instruction_of bytes).length) (nat_le (instruction_of bytes).length 4) (decoded_sized bytes h) in
     eqb-true _ _ parts.0
 
-pub decoded_few : (bytes : List ℕ) → AreBytes bytes → (decoded bytes).length ≤ 4
+pub decoded_few : (bytes : List ℕ) → AreBytes bytes → (instruction_of bytes).length ≤ 4
 decoded_few bytes h =
-    let parts = and_parts (length (encoded (decoded bytes).op) == (decoded bytes).length) (nat_le (decoded bytes).length 4) (decoded_sized bytes h) in
+    let parts = and_parts (length (encoded (instruction_of bytes).op) == (instruction_of bytes).length) (nat_le (instruction_of bytes).length 4) (decoded_sized bytes h) in
     grind (arith, nat_tests)

@@ -2,7 +2,7 @@
 use Rattle.std.specs.Prelude.{◌≡◌, ℕ, ◌/◌, ◌%◌, ◌<◌, List, length, slice_index_or}
 use Rattle.std.specs.List.{All}
 use Rattle.m68k_decode.specs.Fields.{opcode}
-use Rattle.m68k_decode.specs.Instructions.{decoded}
+use Rattle.m68k_decode.specs.Instructions.{instruction_of}
 use Rattle.m68k_decode.specs.Ops.{IsInstruction}
 use Rattle.m68k_exec.specs.Access.Memory.{Memory, instruction_words}
 use Rattle.m68k_exec.specs.declared.sample.cache.CachedInstruction.{CachedInstruction}
@@ -11,7 +11,7 @@ use Rattle.m68k_exec.specs.declared.sample.cache.DecodeCache.{DecodeCache}
 -- this is the instruction at an address, with its first word
 pub record IsInstructionAt (address : ℕ) (memory : Memory) (found : CachedInstruction) : Type 0 where
   pub first : found.first ≡ opcode (instruction_words address memory)
-  pub decoded : found.decoded ≡ decoded (instruction_words address memory)
+  pub decoded : found.decoded ≡ instruction_of (instruction_words address memory)
   pub instruction : IsInstruction found.decoded
 
 -- no word of an instruction at this address lies in work RAM

@@ -6,7 +6,7 @@ use Rattle.md_word.specs.declared.main_bus.Request68.TheVariants.{Ack}
 use Rattle.md_word.specs.declared.regs.Regs.{Regs}
 use Rattle.md_word.specs.declared.spent.Spent.{Spent}
 use Rattle.m68k_decode.specs.Fields.{opcode}
-use Rattle.m68k_decode.specs.Instructions.{decoded}
+use Rattle.m68k_decode.specs.Instructions.{instruction_of}
 use Rattle.m68k_decode.specs.Ops.{IsOp, IsSpent}
 use Rattle.m68k_decode.specs.declared.decoded.Decoded.{Decoded}
 use Rattle.m68k_decode.specs.declared.op.Op.{Op}
@@ -142,13 +142,13 @@ sample_of cause found first regs memory =
 
 -- the instruction at the program counter
 abbrev pub named : Regs → Memory → Op
-named regs memory = (decoded (instruction_words regs.pc memory)).op
+named regs memory = (instruction_of (instruction_words regs.pc memory)).op
 
 -- what a sample comes to, or the request that waits for its answer
 unfoldable pub sampled : ℕ → Regs → Memory → Result Ended Stop
 sampled cause regs memory =
     let words = instruction_words regs.pc memory in
-    sample_of cause (decoded words) (opcode words) regs memory
+    sample_of cause (instruction_of words) (opcode words) regs memory
 
 -- what a step tells, with the registers and what was done then
 abbrev pub told_by : Step → Regs → Done → Result Ended Stop

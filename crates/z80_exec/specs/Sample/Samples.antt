@@ -3,7 +3,7 @@
 -- profile.
 use Rattle.std.specs.Prelude.{ℕ, ◌≡◌, ◌+◌, ◌*◌, ◌/◌, ◌%◌, ◌<◌, ◌≤◌, Bool, true, false, ◌==◌, ◌||◌, if◌then◌else◌, List, [], slice_index, Result, Ok, Err}
 use Rattle.md_word.specs.declared.sub_bus.Request80.{Request80}
-use Rattle.z80_decode.specs.Instructions.{decoded}
+use Rattle.z80_decode.specs.Instructions.{instruction_of}
 use Rattle.z80_decode.specs.declared.decoded80.Decoded80.{Decoded80}
 use Rattle.z80_decode.specs.declared.op80.Op80.{Op80}
 use Rattle.z80_decode.specs.declared.op80.Op80.TheVariants as ops
@@ -94,7 +94,7 @@ interrupt regs memory = entered (interrupt_time regs.mode) (enter regs memory no
 unfoldable pub sampled : ℕ → Regs80 → Memory → Result Ended Request80
 sampled cause regs memory =
     if cause == 0
-    then (let bytes = instruction_bytes regs.pc memory in instruction (decoded bytes) (slice_index bytes 0) regs memory)
+    then (let bytes = instruction_bytes regs.pc memory in instruction (instruction_of bytes) (slice_index bytes 0) regs memory)
     else interrupt regs memory
 
 -- what a step tells, with the registers and what was done then

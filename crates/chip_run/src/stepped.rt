@@ -1,7 +1,7 @@
 use md_word::Key;
 
 /// What a chip did under the lock, before its private work.
-pub(crate) enum Step<P> {
+pub(crate) enum Stepped<P> {
     /// The locked part of its access.
     Performed,
     /// It read the pins of its sample, and may make samples of them before this key.
