@@ -34,6 +34,7 @@ pub(crate) enum Turned {
 }
 
 /// The turn of the chip in a place, if one is held there.
+#[inline(always)]
 fn turn_place<C: ChipSet, N: Named, L: Ledger>(
     parts: &mut Parts<C>,
     book: &mut Book<L>,

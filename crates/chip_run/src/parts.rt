@@ -40,15 +40,25 @@ fn is_told(bounds: &[Key], number: u8, key: &Key) -> bool
     bound.cycle == key.cycle && bound.chip == key.chip
 }
 
+/// A bound becomes this key. Field by field: its padding is not copied.
+#[inline(always)]
+fn set_bound(bound: &mut Key, key: &Key)
+    ensures { bound.new ≡ key.now }
+{
+    bound.cycle = key.cycle;
+    bound.chip = key.chip;
+}
+
 impl<C: ChipSet> Parts<C> {
     /// Announces the chip.
+    #[inline(always)]
     pub(crate) fn announce(&mut self, chip: &C::Chip, number: u8)
         requires bounds { length self.old.bounds ≡ C.rules.count }
         requires number { number < C.rules.count }
         ensures { self.new ≡ record self.old { bounds = announced C.rules number chip.now self.old.bounds } }
     {
         let next = C::next(chip);
-        self.bounds[number as usize] = next.key;
+        set_bound(&mut self.bounds[number as usize], &next.key);
     }
 
     /// Announces the chip, and then makes the locked part of its access, or reads the pins of its sample, where
@@ -104,17 +114,18 @@ impl<C: ChipSet> Parts<C> {
         let next = C::next(chip);
         let i = number as usize;
         let told = is_told(&self.bounds, number, &next.key);
-        self.bounds[i] = next.key;
+        set_bound(&mut self.bounds[i], &next.key);
         if !told {
             return false;
         }
         if next.sample {
             return false;
         }
-        self.bounds[i] = Key {
+        let raised = Key {
             cycle: next.key.cycle + C::gap(number),
             chip: number,
         };
+        set_bound(&mut self.bounds[i], &raised);
         let entry = C::access(chip, &mut self.shared);
         self.journal.push_reserved(entry);
         true
@@ -139,7 +150,7 @@ impl<C: ChipSet> Parts<C> {
     {
         let next = C::next(chip);
         let i = number as usize;
-        self.bounds[i] = next.key;
+        set_bound(&mut self.bounds[i], &next.key);
         if !next.sample {
             return None;
         }
@@ -147,10 +158,11 @@ impl<C: ChipSet> Parts<C> {
         if !next.key.is_below(&end) {
             return None;
         }
-        self.bounds[i] = Key {
+        let raised = Key {
             cycle: next.key.cycle + C::gap(number),
             chip: number,
         };
+        set_bound(&mut self.bounds[i], &raised);
         Some(end)
     }
 }

@@ -90,6 +90,7 @@ fn announce_held<C: ChipSet, N: Named, L: Ledger>(
 
 /// The whole turn of a held chip: its access, the samples up to the end of its lease, and the next
 /// announcement.
+#[inline(always)]
 pub(crate) fn turn_held<C: ChipSet, N: Named, L: Ledger>(
     parts: &mut Parts<C>,
     book: &mut Book<L>,
