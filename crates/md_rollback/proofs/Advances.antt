@@ -1,18 +1,19 @@
 -- What an advance needs and leaves.
-use Rattle.std.proofs.Common.{◌≡◌, ◌≢◌, ◌∙◌, refl, sym, ap, subst, false, ℕ, ◌+◌, ◌-◌, ◌<◌, ◌≤◌, List, [], ◌∷◌, ◌++◌, length, get_or, take, drop, arith}
+use Rattle.std.proofs.Common.{◌≡◌, ◌≢◌, ◌∙◌, refl, sym, ap, subst, false, ℕ, ◌+◌, ◌-◌, ◌<◌, ◌≤◌, List, [], ◌∷◌, length, take, drop, arith}
 use Rattle.std.proofs.lemmas.List.{take_all}
-use Rattle.std.specs.Prelude.{reverse}
 use Rattle.md_pads.specs.Recording.{Frame, IsRecording, no_frames, recording_of}
 use Rattle.md_machine.specs.Console.{Console, journal, media_after, power_on, ran}
 use Rattle.md_machine.specs.Machines.{MachineValue}
 use Rattle.md_machine.specs.Media.{no_media}
 use Rattle.md_reached.specs.Reached.{IsReached}
+use Rattle.rollback_images.specs.Images.{AreImagesBelow, Image, Kept, image_at}
+use Rattle.rollback_images.proofs.Below.{dropped-below, reach-behind, reach-dropped, reach-later}
 use Rattle.rollback_inputs.specs.Inputs.{AreInputs, InputsValue, IsFixed, expected_frames, frame_at, most_frames}
-use Rattle.md_rollback.specs.Played.{AreImagesOf, IsImageOf, IsMachineOf, IsPlayed, IsPlayedAlike, KeepsReached}
-use Rattle.md_rollback.specs.Sessions.{IsSession}
 use Rattle.rollback_inputs.proofs.Expected.{frames-long, frames-small}
 use Rattle.rollback_inputs.proofs.FixedFrames.{back-within, fixed-next}
-use Rattle.md_rollback.proofs.Kept.{image-with, images-next}
+use Rattle.md_rollback.specs.Played.{AreMade, IsImageOf, IsMachineOf, IsPlayed, IsPlayedAlike, KeepsReached}
+use Rattle.md_rollback.specs.Sessions.{IsSession}
+use Rattle.md_rollback.proofs.Kept.{images-with}
 
 pub may-be-recorded : (inputs : InputsValue) (n : ℕ) (expected : List Frame) → AreInputs inputs → n ≤ 36000 → expected ≡ expected_frames inputs.local inputs.remote n → IsRecording (recording_of expected)
 may-be-recorded inputs n expected known few all =
@@ -29,55 +30,60 @@ pub record Found (inputs : InputsValue) (played expected : List Frame) (right : 
   pub differs : right < length played → frame_at played right ≢ frame_at expected right
 
 module _ (cart : List ℕ) (spelling : ℕ → Console → List ℕ) (is_ready is_own : ℕ → Console → Type 0) (window : ℕ) (inputs : InputsValue) (played expected : List Frame)
-    (kept : List (List ℕ)) (machine : MachineValue) (right : ℕ)
+    (kept : List Image) (machine : MachineValue) (right : ℕ)
     (session : IsSession cart spelling is_ready is_own window inputs played kept machine) (found : Found inputs played expected right) where
   pub expected-long : length expected ≡ length played + 1
   expected-long = ap length found.all ∙ frames-long inputs.local inputs.remote (length played + 1)
 
-  pub back-near : length played ≤ right + window
+  back-near : length played ≤ right + window
   back-near =
       back-within inputs.local inputs.remote played window right session.some session.fixed
       (λ less. subst (λ (x : List Frame). frame_at played right ≢ frame_at x right) found.all (found.differs less))
 
-  pub back-few : length played - right < length kept
-  back-few = omega (arith, back-near, found.within, session.images.count)
-
-  pub image-here : IsImageOf cart spelling is_own expected right (get_or kept (length played - right) [])
-  image-here =
-      let place : length played - (length played - right) ≡ right = omega (arith, found.within) in
-      image-with cart spelling is_own played expected right (get_or kept (length played - right) []) found.same
-      (subst (λ (n : ℕ). IsImageOf cart spelling is_own played n (get_or kept (length played - right) [])) place
-      (session.images.each (length played - right) back-few))
-
-  -- where none is newer than the last right one, the machine itself is that of the expected frames so far
-  pub machine-here : length played - right ≡ 0 → IsPlayedAlike cart expected right machine
-  machine-here none = record {
+  -- where all were right, the machine itself is that of the expected frames so far
+  pub machine-here : right + 1 ≡ length expected → IsPlayedAlike cart expected right machine
+  machine-here all = record {
     made_with = played;
     alike = λ f early. found.same f (omega (arith, early));
-    played = subst (λ (n : ℕ). IsPlayed cart played n machine) (omega (arith, none, found.within)) session.played_is;
+    played = subst (λ (n : ℕ). IsPlayed cart played n machine) (omega (arith, all, expected-long)) session.played_is;
   }
 
-  pub session-next : (new : MachineValue) (newer : List (List ℕ)) → AreInputs inputs → length played < most_frames → length played < inputs.confirmed + window
-      → IsPlayed cart expected (length expected) new → right + length newer ≡ length expected → AreImagesOf cart spelling is_own expected (right + 1) newer
-      → IsSession cart spelling is_ready is_own window inputs expected (take (window + 1) (reverse newer ++ drop (length played - right) kept)) new
-  session-next new newer known room order made count fresh = record {
-    some = session.some;
-    most = session.most;
-    few = omega (arith, expected-long, room);
-    keeps = session.keeps;
-    played_is = made;
-    images = images-next cart spelling is_own window right played expected kept newer expected-long found.within back-near found.same session.images (count ∙ expected-long) fresh;
-    fixed = λ f late.
-        subst (λ (x : List Frame). IsFixed inputs.local inputs.remote x f) (sym found.all)
-        (fixed-next inputs.local inputs.remote (length played) window inputs.confirmed known.confirmed_is order f (omega (arith, late, expected-long)));
-  }
+  module _ (newer : ℕ) (later : (j : ℕ) → j < newer → right < (image_at kept j).frames) where
+    too-late : (j : ℕ) → j < newer → length played - window < (image_at kept j).frames
+    too-late j less = omega (arith, later j less, back-near)
+
+    -- one of the images is early enough
+    pub back-few : newer < length kept
+    back-few = omega (arith, session.images.back.within, reach-behind (length played - window) newer kept too-late session.images.back)
+
+    pub images-here : (image_at kept newer).frames ≤ right → AreImagesBelow (IsImageOf cart spelling is_own expected) ((image_at kept newer).frames + 1) (drop newer kept)
+    images-here early =
+        images-with cart spelling is_own played expected right ((image_at kept newer).frames + 1) (drop newer kept) found.same (omega (arith, early))
+        (dropped-below (IsImageOf cart spelling is_own played) newer (length played + 1) kept back-few session.images.each)
+
+    pub session-next : (old new : Kept) (next : MachineValue) → AreInputs inputs → length played < most_frames → length played < inputs.confirmed + window
+        → IsPlayed cart expected (length expected) next → old.most ≡ window + 1 → AreMade cart spelling is_own expected (length expected) (record old { images = drop newer kept }) new
+        → IsSession cart spelling is_ready is_own window inputs expected new.images next
+    session-next old new next known room order made most fresh = record {
+      some = session.some;
+      most = session.most;
+      few = omega (arith, expected-long, room);
+      keeps = session.keeps;
+      played_is = made;
+      images = record {
+        each = fresh.each;
+        back = fresh.back window (length expected - window) most (omega arith)
+            (reach-later (length played - window) (length expected - window) (drop newer kept) (omega (arith, expected-long))
+            (reach-dropped (length played - window) newer kept too-late session.images.back));
+      };
+      fixed = λ f late.
+          subst (λ (x : List Frame). IsFixed inputs.local inputs.remote x f) (sym found.all)
+          (fixed-next inputs.local inputs.remote (length played) window inputs.confirmed known.confirmed_is order f (omega (arith, late, expected-long)));
+    }
 
 -- ---- the images
 
-pub replaced-is : (a b f g : ℕ) (newer kept : List (List ℕ)) → a ≡ b → f ≡ g → take a (reverse newer ++ drop f kept) ≡ take b (reverse newer ++ drop g kept)
-replaced-is a b f g newer kept one two = λ i. take (one i) (reverse newer ++ drop (two i) kept)
-
-pub one-pushed : (most window : ℕ) (image : List ℕ) (old : List (List ℕ)) → most ≡ window + 1 → old ≡ [] → take most (image ∷ old) ≡ image ∷ []
+pub one-pushed : (most window : ℕ) (image : Image) (old : List Image) → most ≡ window + 1 → old ≡ [] → take most (image ∷ old) ≡ image ∷ []
 one-pushed most window image old one two = (λ i. take (one i) (image ∷ two i)) ∙ take_all (window + 1) (image ∷ []) (omega arith)
 
 -- ---- the session at power-on
@@ -105,23 +111,19 @@ first-played cart m is reached =
       media = refl;
     })
 
-pub first-session : (cart : List ℕ) (spelling : ℕ → Console → List ℕ) (is_ready is_own : ℕ → Console → Type 0) (window : ℕ) (inputs : InputsValue) (kept : List (List ℕ)) (bytes : List ℕ) (m : MachineValue)
-    → 1 ≤ window → window ≤ 16 → KeepsReached cart is_ready → IsPlayed cart [] 0 m → IsImageOf cart spelling is_own [] 0 bytes → kept ≡ bytes ∷ []
+pub first-session : (cart : List ℕ) (spelling : ℕ → Console → List ℕ) (is_ready is_own : ℕ → Console → Type 0) (window : ℕ) (inputs : InputsValue) (kept : List Image) (bytes : List ℕ) (m : MachineValue)
+    → 1 ≤ window → window ≤ 16 → KeepsReached cart is_ready → IsPlayed cart [] 0 m → IsImageOf cart spelling is_own [] 0 bytes → kept ≡ record { frames = 0; bytes = bytes } ∷ []
     → IsSession cart spelling is_ready is_own window inputs [] kept m
 first-session cart spelling is_ready is_own window inputs kept bytes m some most keeps played image only =
-    subst (λ (x : List (List ℕ)). IsSession cart spelling is_ready is_own window inputs [] x m) (sym only) (record {
+    subst (λ (x : List Image). IsSession cart spelling is_ready is_own window inputs [] x m) (sym only) (record {
       some = some;
       most = most;
       few = omega arith;
       keeps = keeps;
       played_is = played;
-      images = record { count = omega arith; each = λ j less. one-image j less };
+      images = record { each = (omega arith, image, tt); back = record { place = 0; within = omega arith; early = omega arith } };
       fixed = λ f late. absurd (omega (arith, late));
-    }) where
-      one-image : (j : ℕ) → j < length (bytes ∷ []) → IsImageOf cart spelling is_own [] (length {A = Frame} [] - j) (get_or (bytes ∷ []) j [])
-      one-image j less =
-          let first : j ≡ 0 = omega (arith, less) in
-          subst (λ (n : ℕ). IsImageOf cart spelling is_own [] (length {A = Frame} [] - n) (get_or (bytes ∷ []) n [])) (sym first) image
+    })
 
 pub found-by : (inputs : InputsValue) (played expected a b : List Frame) (frames right : ℕ) → frames ≡ length played → expected ≡ expected_frames inputs.local inputs.remote (frames + 1)
     → a ≡ played → b ≡ expected → right ≤ length a → ((f : ℕ) → f < right → frame_at a f ≡ frame_at b f) → (right < length a → frame_at a right ≢ frame_at b right)

@@ -1,13 +1,11 @@
--- The images that a session keeps, once some of the last frames were made anew.
-use Rattle.std.proofs.Common.{◌≡◌, ◌∙◌, sym, ap, subst, ℕ, ◌+◌, ◌-◌, ◌<◌, ◌≤◌, inl, inr, List, [], ◌++◌, length, get_or, take, drop, arith, length-append, length-drop}
-use Rattle.std.specs.Prelude.{reverse}
-use Rattle.std.proofs.lemmas.List.{get_or-append_right, get_or-drop, get_or-reverse, get_or-take, get_or_append_left, length-reverse, length-take}
-use Rattle.std.proofs.lemmas.Bool.{cases_lt}
+-- The images that a session keeps, once frames were made.
+use Rattle.std.proofs.Common.{◌≡◌, ◌∙◌, refl, sym, ap, subst, ℕ, ◌+◌, ◌<◌, ◌≤◌, List, ◌∷◌, take, arith}
 use Rattle.md_pads.specs.Recording.{Frame}
-use Rattle.rollback_inputs.specs.Inputs.{frame_at}
 use Rattle.md_machine.specs.Console.{Console}
-use Rattle.md_rollback.specs.Played.{AreImagesOf, IsImageOf}
-use Rattle.md_rollback.specs.Sessions.{AreImages}
+use Rattle.rollback_images.specs.Images.{AreImagesBelow, Image, Kept, ReachBackTo}
+use Rattle.rollback_images.proofs.Below.{below-with, reach-pushed, taken-below, widened}
+use Rattle.rollback_inputs.specs.Inputs.{frame_at}
+use Rattle.md_rollback.specs.Played.{AreMade, IsImageOf}
 
 -- an image is that of another recording too, where both have the same frames before it
 pub image-with : (cart : List ℕ) (spelling : ℕ → Console → List ℕ) (is_own : ℕ → Console → Type 0) (one other : List Frame) (frames : ℕ) (bytes : List ℕ)
@@ -23,49 +21,43 @@ image-with cart spelling is_own one other frames bytes same is = record {
   all = is.all;
 }
 
-module _ (cart : List ℕ) (spelling : ℕ → Console → List ℕ) (is_own : ℕ → Console → Type 0) (window right : ℕ) (played expected : List Frame) (kept newer : List (List ℕ))
-    (long : length expected ≡ length played + 1) (within : right ≤ length played) (near : length played ≤ right + window)
-    (same : (f : ℕ) → f < right → frame_at played f ≡ frame_at expected f)
-    (images : AreImages cart spelling is_own window played kept) (count : right + length newer ≡ length played + 1)
-    (fresh : AreImagesOf cart spelling is_own expected (right + 1) newer) where
-  back : ℕ
-  back = length played - right
+pub images-with : (cart : List ℕ) (spelling : ℕ → Console → List ℕ) (is_own : ℕ → Console → Type 0) (one other : List Frame) (right end : ℕ) (images : List Image)
+    → ((f : ℕ) → f < right → frame_at one f ≡ frame_at other f) → end ≤ right + 1
+    → AreImagesBelow (IsImageOf cart spelling is_own one) end images → AreImagesBelow (IsImageOf cart spelling is_own other) end images
+images-with cart spelling is_own one other right end images same early are =
+    below-with (IsImageOf cart spelling is_own one) (IsImageOf cart spelling is_own other) right end images
+    (λ frames bytes less is. image-with cart spelling is_own one other frames bytes (λ f before. same f (omega (arith, before, less))) is) early are
 
-  all : List (List ℕ)
-  all = reverse newer ++ drop back kept
+-- no frame was made yet
+pub made-none : (cart : List ℕ) (spelling : ℕ → Console → List ℕ) (is_own : ℕ → Console → Type 0) (recording : List Frame) (frames : ℕ) (old : Kept)
+    → AreImagesBelow (IsImageOf cart spelling is_own recording) (frames + 1) old.images → AreMade cart spelling is_own recording frames old old
+made-none cart spelling is_own recording frames old are = record { each = are; back = λ window f some near reach. reach; rest = refl }
 
-  all-long : length all ≡ length newer + (length kept - back)
-  unfolding all
-  all-long = length-append (reverse newer) (drop back kept) ∙ ap (λ (n : ℕ). n + length (drop back kept)) (length-reverse newer) ∙ ap (λ (n : ℕ). length newer + n) (length-drop back kept)
+-- a frame was made, and no image kept
+pub made-unkept : (cart : List ℕ) (spelling : ℕ → Console → List ℕ) (is_own : ℕ → Console → Type 0) (recording : List Frame) (frames : ℕ) (old : Kept)
+    → AreImagesBelow (IsImageOf cart spelling is_own recording) (frames + 1) old.images → AreMade cart spelling is_own recording (frames + 1) old old
+made-unkept cart spelling is_own recording frames old are =
+    made-none cart spelling is_own recording (frames + 1) old (widened (IsImageOf cart spelling is_own recording) (frames + 1) (frames + 1 + 1) old.images (omega arith) are)
 
-  -- the newer ones come first, and behind them those from the last right one on
-  image-at : (j : ℕ) → j < length all → IsImageOf cart spelling is_own expected (length expected - j) (get_or all j [])
-  unfolding all back
-  image-at j less = elim (cases_lt j (length newer)) [
-    | inl early ↦ (
-        let place : length newer - 1 - j < length newer = omega (arith, early) in
-        let is : get_or all j [] ≡ get_or newer (length newer - 1 - j) [] =
-        get_or_append_left (reverse newer) (drop back kept) [] j (omega (arith, early, length-reverse newer)) ∙ get_or-reverse newer j [] early in
-        subst (IsImageOf cart spelling is_own expected (length expected - j)) (sym is)
-        (subst (λ (n : ℕ). IsImageOf cart spelling is_own expected n (get_or newer (length newer - 1 - j) [])) (omega (arith, early, count, long))
-        (fresh (length newer - 1 - j) place)))
-    | inr late ↦ (
-        let old : back + (j - length newer) < length kept = omega (arith, less, all-long, late) in
-        let is : get_or all j [] ≡ get_or kept (back + (j - length newer)) [] =
-        get_or-append_right (reverse newer) (drop back kept) (length newer) j [] (length-reverse newer) late ∙ get_or-drop back kept (j - length newer) [] in
-        subst (IsImageOf cart spelling is_own expected (length expected - j)) (sym is)
-        (image-with cart spelling is_own played expected (length expected - j) (get_or kept (back + (j - length newer)) [])
-        (λ f early. same f (omega (arith, early, late, long, count)))
-        (subst (λ (n : ℕ). IsImageOf cart spelling is_own played n (get_or kept (back + (j - length newer)) [])) (omega (arith, late, long, count, within))
-        (images.each (back + (j - length newer)) old))))
-  ]
+-- a frame was made, and its image kept
+pub made-kept : (cart : List ℕ) (spelling : ℕ → Console → List ℕ) (is_own : ℕ → Console → Type 0) (recording : List Frame) (frames : ℕ) (bytes : List ℕ) (old new : Kept)
+    → IsImageOf cart spelling is_own recording (frames + 1) bytes → AreImagesBelow (IsImageOf cart spelling is_own recording) (frames + 1) old.images
+    → new ≡ record old { images = take old.most (record { frames = frames + 1; bytes = bytes } ∷ old.images) } → AreMade cart spelling is_own recording (frames + 1) old new
+made-kept cart spelling is_own recording frames bytes old new one are is =
+    let image : Image = record { frames = frames + 1; bytes = bytes } in
+    let all : AreImagesBelow (IsImageOf cart spelling is_own recording) (frames + 1 + 1) (image ∷ old.images) = (omega arith, one, are) in
+    subst (AreMade cart spelling is_own recording (frames + 1) old) (sym is)
+    (record {
+      each = taken-below (IsImageOf cart spelling is_own recording) old.most (frames + 1 + 1) (image ∷ old.images) all;
+      back = λ window f some near reach. reach-pushed (IsImageOf cart spelling is_own recording) old.most window (frames + 1) f image old.images some near all reach;
+      rest = refl;
+    })
 
-  pub images-next : AreImages cart spelling is_own window expected (take (window + 1) (reverse newer ++ drop (length played - right) kept))
-  unfolding all back
-  images-next = record {
-    count = omega (arith, length-take (window + 1) all, all-long, long, count, near, within, images.count);
-    each = λ j less.
-        let few : j < length all = omega (arith, less, length-take (window + 1) all) in
-        let front : j < window + 1 = omega (arith, less, length-take (window + 1) all) in
-        subst (IsImageOf cart spelling is_own expected (length expected - j)) (sym (get_or-take (window + 1) all j [] front)) (image-at j few);
-  }
+-- one more
+pub made-next : (cart : List ℕ) (spelling : ℕ → Console → List ℕ) (is_own : ℕ → Console → Type 0) (recording : List Frame) (frames : ℕ) (old before new : Kept)
+    → AreMade cart spelling is_own recording frames old before → AreMade cart spelling is_own recording (frames + 1) before new → AreMade cart spelling is_own recording (frames + 1) old new
+made-next cart spelling is_own recording frames old before new made one = record {
+  each = one.each;
+  back = λ window f some near reach. one.back window f (ap (λ (k : Kept). k.most) made.rest ∙ some) near (made.back window f some (omega (arith, near)) reach);
+  rest = one.rest ∙ ap (λ (k : Kept). record k { images = new.images }) made.rest;
+}

@@ -1,7 +1,6 @@
 -- What a frame leaves of a run from power-on.
-use Rattle.std.proofs.Common.{◌≡◌, ◌∙◌, refl, sym, ap, subst, false, ℕ, zero, suc, ◌+◌, ◌*◌, ◌^◌, ◌<◌, ◌≤◌, List, [], ◌∷◌, ◌++◌, ◌⊎◌, inl, inr, length, take, Result, Ok, Err, arith}
-use Rattle.std.specs.Prelude.{All, reverse}
-use Rattle.std.proofs.lemmas.List.{get_or_append_left, get_or_push, length_push, reverse-append, take_all}
+use Rattle.std.proofs.Common.{◌≡◌, ◌∙◌, refl, sym, ap, subst, false, ℕ, ◌+◌, ◌*◌, ◌^◌, ◌<◌, ◌≤◌, List, [], ◌∷◌, ◌++◌, Result, Ok, Err, arith}
+use Rattle.std.specs.Prelude.{All}
 use Rattle.md_pads.specs.Recording.{Frame, IsFrame, Recorded, recording_of}
 use Rattle.md_pads.specs.declared.version.Version.{Version}
 use Rattle.md_pads.specs.declared.version.Version.TheVariants.{First}
@@ -21,8 +20,7 @@ use Rattle.md_reached.specs.Settling.{GoesOn}
 use Rattle.replays.specs.declared.fault.ReplayFault.{ReplayFault}
 use Rattle.recording_laws.specs.Recorded.{AreAlikeBelow, with_recording, with_frames}
 use Rattle.save_state.specs.States.{settled_console}
-use Rattle.rollback_images.specs.Images.{Kept}
-use Rattle.md_rollback.specs.Played.{AreImagesOf, AreMade, IsImageOf, IsKept, IsPlayed, IsPlayedAlike, IsRunAt, KeepsReached}
+use Rattle.md_rollback.specs.Played.{IsImageOf, IsPlayed, IsPlayedAlike, IsRunAt, KeepsReached}
 
 -- the recording of a run is that with which it began
 pub recording-is : (cart : List ℕ) (recording : List Frame) (at : ℕ) (m : Console) → IsRunAt cart recording at m → m.shared.recording ≡ recording_of recording
@@ -230,53 +228,3 @@ may-be-kept cart is_ready recording frames m within keeps played =
     let at : m.at ≡ frame * (frames + 1) = played.machine_is.at in
     subst (λ (n : ℕ). is_ready n m.console) (sym at)
     (keeps.later (frame * (frames + 1)) m.console (omega arith) (omega (arith, within)) played.cart_is played.reached)
-
--- one image more
-last-or-before : (j n : ℕ) → j < n + 1 → (j < n) ⊎ (j ≡ n)
-last-or-before j n less = grind arith
-
-images-push : (cart : List ℕ) (spelling : ℕ → Console → List ℕ) (is_own : ℕ → Console → Type 0) (recording : List Frame) (from at : ℕ) (old : List (List ℕ)) (image : List ℕ)
-    → from + length old ≡ at → IsImageOf cart spelling is_own recording (at + 1) image → AreImagesOf cart spelling is_own recording (from + 1) old
-    → AreImagesOf cart spelling is_own recording (from + 1) (old ++ image ∷ [])
-images-push cart spelling is_own recording from at old image count last before = λ j less.
-    elim (last-or-before j (length old) (omega (arith, less, length_push old image))) [
-      | inl early ↦ subst (IsImageOf cart spelling is_own recording ((from + 1) + j)) (sym (get_or_append_left old (image ∷ []) [] j early)) (before j early)
-      | inr here ↦ subst (IsImageOf cart spelling is_own recording ((from + 1) + j)) (sym (get_or_push old image [] j (sym here)))
-          (subst (λ (n : ℕ). IsImageOf cart spelling is_own recording n image) (omega (arith, here, count)) last)
-    ]
-
-taken : (a b : ℕ) (xs : List (List ℕ)) → a ≤ b → take a (take b xs) ≡ take a xs
-taken zero b xs less = refl
-taken (suc a) zero xs less = absurd (omega (arith, less))
-taken (suc a) (suc b) [] less = refl
-taken (suc a) (suc b) (x ∷ xs) less = ap (λ ys. x ∷ ys) (taken a b xs (omega (arith, less)))
-
-cut-again : (most : ℕ) (y : List ℕ) (ys : List (List ℕ)) → take most (y ∷ take most ys) ≡ take most (y ∷ ys)
-cut-again zero y ys = refl
-cut-again (suc m) y ys = ap (λ (xs : List (List ℕ)). y ∷ xs) (taken m (suc m) ys (omega arith))
-
-newest-first : (xs : List (List ℕ)) (y : List ℕ) → reverse (xs ++ y ∷ []) ≡ y ∷ reverse xs
-newest-first xs y = reverse-append xs (y ∷ [])
-
-pub made-none : (cart : List ℕ) (spelling : ℕ → Console → List ℕ) (is_own : ℕ → Console → Type 0) (recording : List Frame) (from : ℕ) (old : Kept)
-    → length old.images ≤ old.most → AreMade cart spelling is_own recording from from old old
-made-none cart spelling is_own recording from old few = record {
-  newer = [];
-  count = omega arith;
-  each = λ j less. absurd (omega (arith, less));
-  kept = sym (ap (λ (xs : List (List ℕ)). record old { images = xs }) (take_all old.most old.images few));
-}
-
-pub made-next : (cart : List ℕ) (spelling : ℕ → Console → List ℕ) (is_own : ℕ → Console → Type 0) (recording : List Frame) (from at : ℕ) (old before new : Kept)
-    → AreMade cart spelling is_own recording from at old before → IsKept cart spelling is_own recording (at + 1) before new → AreMade cart spelling is_own recording from (at + 1) old new
-made-next cart spelling is_own recording from at old before new made one =
-    let rest : List (List ℕ) = reverse made.newer ++ old.images in
-    record {
-      newer = made.newer ++ one.bytes ∷ [];
-      count = omega (arith, made.count, length_push made.newer one.bytes);
-      each = images-push cart spelling is_own recording from at made.newer one.bytes made.count one.image made.each;
-      kept = one.kept
-          ∙ ap (λ (k : Kept). record k { images = take k.most (one.bytes ∷ k.images) }) made.kept
-          ∙ ap (λ (xs : List (List ℕ)). record old { images = xs })
-          (cut-again old.most one.bytes rest ∙ ap (λ (xs : List (List ℕ)). take old.most (xs ++ old.images)) (sym (newest-first made.newer one.bytes)));
-    }

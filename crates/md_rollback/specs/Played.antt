@@ -1,5 +1,5 @@
 -- The machine of a run from power-on at the start of a frame of NTSC, and its image.
-use Rattle.std.specs.Prelude.{◌≡◌, ℕ, false, ◌+◌, ◌*◌, ◌<◌, ◌≤◌, List, [], ◌∷◌, ◌++◌, length, reverse, slice_index_or, take}
+use Rattle.std.specs.Prelude.{◌≡◌, ℕ, false, ◌+◌, ◌*◌, ◌≤◌, List, []}
 use Rattle.md_pads.specs.Recording.{Frame, Recorded, recording_of}
 use Rattle.md_word.specs.Clock.{frame, last_cycle}
 use Rattle.md_word.specs.declared.event.Entry.{Entry}
@@ -9,7 +9,7 @@ use Rattle.md_machine.specs.Media.{Media, no_media}
 use Rattle.md_reached.specs.Reached.{IsReached}
 use Rattle.recording_laws.specs.Recorded.{AreAlikeBelow}
 use Rattle.save_state.specs.States.{settled_console}
-use Rattle.rollback_images.specs.Images.{Kept}
+use Rattle.rollback_images.specs.Images.{AreImagesBelow, Kept, ReachBackTo}
 
 -- the machine that a run of NTSC from power-on with this cartridge and recording is at a cycle, seen with what stands
 -- below the cycle settled
@@ -51,23 +51,12 @@ pub record IsImageOf (cart : List ℕ) (spelling : ℕ → Console → List ℕ)
   pub own : is_own (frame * frames) (settled_console (frame * frames) kept)
   pub all : bytes ≡ spelling (frame * frames) (settled_console (frame * frames) kept)
 
--- the images are those after so many frames, and after each one more
-abbrev pub AreImagesOf : List ℕ → (ℕ → Console → List ℕ) → (ℕ → Console → Type 0) → List Frame → ℕ → List (List ℕ) → Type 0
-AreImagesOf cart spelling is_own recording first images =
-    (j : ℕ) → j < length images → IsImageOf cart spelling is_own recording (first + j) (slice_index_or images j [])
-
--- the image of the machine after so many frames was kept
-pub record IsKept (cart : List ℕ) (spelling : ℕ → Console → List ℕ) (is_own : ℕ → Console → Type 0) (recording : List Frame) (frames : ℕ) (old new : Kept) : Type 0 where
-  pub bytes : List ℕ
-  pub image : IsImageOf cart spelling is_own recording frames bytes
-  pub kept : new ≡ record old { images = take old.most (bytes ∷ old.images) }
-
--- those after each of the frames from one to another were
-pub record AreMade (cart : List ℕ) (spelling : ℕ → Console → List ℕ) (is_own : ℕ → Console → Type 0) (recording : List Frame) (from to : ℕ) (old new : Kept) : Type 0 where
-  pub newer : List (List ℕ)
-  pub count : from + length newer ≡ to
-  pub each : AreImagesOf cart spelling is_own recording (from + 1) newer
-  pub kept : new ≡ record old { images = take old.most (reverse newer ++ old.images) }
+-- once so many frames of a recording were made: the images are of that recording, each of fewer frames than the one in
+-- front of it, and reach back to a frame within the window where they did before
+pub record AreMade (cart : List ℕ) (spelling : ℕ → Console → List ℕ) (is_own : ℕ → Console → Type 0) (recording : List Frame) (frames : ℕ) (old new : Kept) : Type 0 where
+  pub each : AreImagesBelow (IsImageOf cart spelling is_own recording) (frames + 1) new.images
+  pub back : (window f : ℕ) → old.most ≡ window + 1 → frames ≤ f + window → ReachBackTo f old.images → ReachBackTo f new.images
+  pub rest : new ≡ record old { images = new.images }
 
 -- images may be kept of the machines of power-on with this cartridge, and of those that a run reaches
 pub record KeepsReached (cart : List ℕ) (is_ready : ℕ → Console → Type 0) : Type 0 where

@@ -1,9 +1,10 @@
 -- A session of two players.
-use Rattle.std.specs.Prelude.{◌≡◌, ℕ, ◌+◌, ◌-◌, ◌<◌, ◌≤◌, List, [], length, slice_index_or}
+use Rattle.std.specs.Prelude.{ℕ, ◌+◌, ◌-◌, ◌<◌, ◌≤◌, List, length}
 use Rattle.md_pads.specs.Recording.{Frame}
 use Rattle.md_machine.specs.Console.{Console}
 use Rattle.md_machine.specs.Machines.{MachineValue}
 use Rattle.rollback_inputs.specs.Inputs.{InputsValue, IsFixed, Words, most_frames}
+use Rattle.rollback_images.specs.Images.{AreImagesBelow, Image, ReachBackTo}
 use Rattle.md_rollback.specs.Played.{IsImageOf, IsPlayed, KeepsReached}
 
 -- a session as contracts see it
@@ -17,16 +18,16 @@ pub record SessionValue : Type 0 where
   pub frames : ℕ
   pub machine : MachineValue
 
--- the images are those of the last frames, newest first: one for each of the window, and one more, as far as
--- there are
-pub record AreImages (cart : List ℕ) (spelling : ℕ → Console → List ℕ) (is_own : ℕ → Console → Type 0) (window : ℕ) (played : List Frame) (kept : List (List ℕ)) : Type 0 where
-  pub count : length kept + (length played - window) ≡ length played + 1
-  pub each : (j : ℕ) → j < length kept → IsImageOf cart spelling is_own played (length played - j) (slice_index_or kept j [])
+-- the images are those of the machine after some of the frames that were played, newest first. One stands at or before
+-- each of the last frames, so many as the window has
+pub record AreImages (cart : List ℕ) (spelling : ℕ → Console → List ℕ) (is_own : ℕ → Console → Type 0) (window : ℕ) (played : List Frame) (images : List Image) : Type 0 where
+  pub each : AreImagesBelow (IsImageOf cart spelling is_own played) (length played + 1) images
+  pub back : ReachBackTo (length played - window) images
 
 -- what holds of each session: its window is 1 to 16, it played at most all frames, its machine is that of the
 -- frames that were played, and only the last frames may have been played with words that were not given
 pub record IsSession (cart : List ℕ) (spelling : ℕ → Console → List ℕ) (is_ready is_own : ℕ → Console → Type 0) (window : ℕ) (inputs : InputsValue)
-    (played : List Frame) (kept : List (List ℕ)) (machine : MachineValue) : Type 0 where
+    (played : List Frame) (kept : List Image) (machine : MachineValue) : Type 0 where
   pub some : 1 ≤ window
   pub most : window ≤ 16
   pub few : length played ≤ most_frames

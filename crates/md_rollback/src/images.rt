@@ -1,6 +1,7 @@
-ghost use Rattle.std.specs.Prelude.{◌≡◌, ◌≤◌, ◌<◌, ◌∷◌, [], drop, get_or, length, take, IfOk};
+ghost use Rattle.std.specs.Prelude.{◌≡◌, ◌≤◌, ◌<◌, ◌∷◌, ℕ, [], drop, length, take, IfOk};
 ghost use Rattle.md_word.specs.Clock.{last_cycle};
 ghost use Rattle.save_state.specs.States.{settled_console};
+ghost use Rattle.rollback_images.specs.Images.{image_at};
 
 use md_machine::Machine;
 use md_word::NoMemory;
@@ -9,8 +10,8 @@ use rollback_images::KeptImages;
 use std::alloc::Global;
 use std::marker::Model;
 
-/// The images of a session's last frames, and the lists in which the next one is made, so that none takes memory.
-/// Contracts see the images.
+/// The images of a session, and the lists in which the next one is made, so that none takes memory. Contracts see the
+/// images.
 #[derive(Drop)]
 pub(crate) struct Images {
     kept: KeptImages,
@@ -42,23 +43,40 @@ impl Images {
         })
     }
 
-    /// Keeps the image of a machine. The oldest one goes where there were as many as are kept.
-    pub(crate) fn keep<R: Replays>(&mut self, replays: &R, machine: &Machine)
+    /// Keeps the image of a machine after so many frames. The oldest one goes where there were as many as are kept.
+    pub(crate) fn keep<R: Replays>(&mut self, replays: &R, machine: &Machine, frames: usize)
         requires cart { machine.now.console.cart ≡ R.cart replays.now }
         requires cycle { machine.now.at ≤ last_cycle }
         requires size { self.old.size ≡ R.size replays.now }
-        ensures kept { self.new ≡ record self.old { images = take self.old.most (R.spelling replays.now machine.now.at (settled_console machine.now.at machine.now.console) ∷ self.old.images) } }
+        ensures kept { self.new ≡ record self.old { images = take self.old.most (record { frames = frames; bytes = R.spelling replays.now machine.now.at (settled_console machine.now.at machine.now.console) } ∷ self.old.images) } }
         ensures own { R.is_ready replays.now machine.now.at machine.now.console → R.is_own replays.now machine.now.at (settled_console machine.now.at machine.now.console) }
     {
         self.next.clear();
         replays.spell(machine, &mut self.apart, &mut self.next);
-        self.kept.push(&mut self.next);
+        self.kept.push(frames, &mut self.next);
+    }
+
+    /// How many images were kept after more than so many frames.
+    pub(crate) fn newer_than(&self, frames: usize) -> usize
+        ensures within { result ≤ length self.now.images }
+        ensures newer { (j : ℕ) → j < result → frames < (image_at self.now.images j).frames }
+        ensures next { result < length self.now.images → (image_at self.now.images result).frames ≤ frames }
+    {
+        self.kept.newer_than(frames)
+    }
+
+    /// After how many frames the image was kept that stands behind so many newer ones.
+    pub(crate) fn frames(&self, newer: usize) -> usize
+        requires { newer < length self.now.images }
+        ensures { result ≡ (image_at self.now.images newer).frames }
+    {
+        self.kept.frames(newer)
     }
 
     /// The image that stands behind so many newer ones.
     pub(crate) fn image(&self, newer: usize) -> &[u8]
         requires { newer < length self.now.images }
-        ensures { result.now ≡ get_or self.now.images newer [] }
+        ensures { result.now ≡ (image_at self.now.images newer).bytes }
     {
         self.kept.image(newer)
     }
@@ -66,8 +84,7 @@ impl Images {
     /// Drops the newest images, so many.
     pub(crate) fn drop_newest(&mut self, count: usize)
         requires { count ≤ length self.old.images }
-        ensures rest { self.new ≡ record self.old { images = drop count self.old.images } }
-        ensures within { length self.new.images ≤ self.new.most }
+        ensures { self.new ≡ record self.old { images = drop count self.old.images } }
     {
         self.kept.drop_newest(count);
     }

@@ -1,11 +1,12 @@
-ghost use Rattle.std.specs.Prelude.{◌≡◌, ◌≤◌, ◌<◌, ◌+◌, ◌*◌, ℕ, false, List, [], All, IfOk, IsTrue, OnErr, OnOk, drop, get_or, length};
+ghost use Rattle.std.specs.Prelude.{◌≡◌, ◌≤◌, ◌<◌, ◌+◌, ◌-◌, ◌*◌, ◌%◌, ◌↔◌, ℕ, false, List, [], All, IfOk, IsTrue, OnErr, OnOk, drop, length};
 ghost use Rattle.std.specs.Arc.{arc_value};
 ghost use Rattle.md_pads.specs.Recording.{Frame, IsFrame, IsRecording, recording_of};
 ghost use Rattle.md_pads.specs.declared.version.Version.TheVariants.{First};
 ghost use Rattle.md_word.specs.Clock.{frame as frame_length};
 ghost use Rattle.md_machine.specs.Media.{no_media};
 ghost use Rattle.rollback_inputs.specs.Inputs.{most_frames};
-ghost use Rattle.md_rollback.specs.Played.{AreMade, IsImageOf, IsKept, IsPlayed, IsPlayedAlike, KeepsReached};
+ghost use Rattle.rollback_images.specs.Images.{AreImagesBelow, image_at};
+ghost use Rattle.md_rollback.specs.Played.{AreMade, IsImageOf, IsPlayed, IsPlayedAlike, KeepsReached};
 
 use crate::images::Images;
 use crate::recording::shared_recording;
@@ -73,50 +74,78 @@ fn exchange(machine: &mut Machine, recording: Arc<Recording>)
     processors::valid_machine(machine);
 }
 
-/// Brings a machine to the start of a frame of a recording: it stands there already, `here`, or the image keeps one
-/// that does.
+/// Brings a machine to the start of a frame of a recording, and tells which: it stands at `right` already, `here`, or
+/// the image that stands behind so many newer ones keeps one, from which the frames up to `right` are the same.
 fn stand_at<R: Replays>(
     alloc: Global,
     replays: &R,
     machine: &mut Machine,
     here: bool,
-    bytes: &[u8],
+    images: &Images,
+    newer: usize,
     recording: Arc<Recording>,
-    frame: usize,
-) -> Result<(), NoMemory>
+    right: usize,
+) -> Result<usize, NoMemory>
     requires first { (arc_value recording).version ≡ First }
-    requires here { IsTrue here → IsPlayedAlike (R.cart replays.now) (arc_value recording).frames frame machine.old }
-    requires image { IsImageOf (R.cart replays.now) (R.spelling replays.now) (R.is_own replays.now) (arc_value recording).frames frame bytes.now }
+    requires here { IsTrue here → IsPlayedAlike (R.cart replays.now) (arc_value recording).frames right machine.old }
+    requires newer { newer < length images.now.images }
+    requires early { (image_at images.now.images newer).frames ≤ right }
+    requires image { IsImageOf (R.cart replays.now) (R.spelling replays.now) (R.is_own replays.now) (arc_value recording).frames (image_at images.now.images newer).frames (image_at images.now.images newer).bytes }
     requires buttons { All IsFrame (arc_value recording).frames }
-    ensures played { OnOk result (IsPlayed (R.cart replays.now) (arc_value recording).frames frame machine.new) }
+    ensures played { IfOk result (λ from. IsPlayed (R.cart replays.now) (arc_value recording).frames from machine.new) }
+    ensures between { IfOk result (λ from. ((image_at images.now.images newer).frames ≤ from) × (from ≤ right)) }
     ensures err { OnErr result (machine.new ≡ machine.old) }
 {
     if here {
         exchange(machine, recording);
-    } else {
-        *machine = resume(alloc, replays, bytes, recording, frame)?;
+        return Ok(right);
     }
-    Ok(())
+    let from = images.frames(newer);
+    *machine = resume(alloc, replays, images.image(newer), recording, from)?;
+    Ok(from)
 }
 
-/// Makes a frame, and keeps its image.
-fn play_kept<R: Replays>(replays: &R, machine: &mut Machine, frame: usize, images: &mut Images)
+/// Of the frames from the first wrong one on, or where none was wrong of the new one, one in so many keeps its image.
+const APART: usize = 4;
+
+/// Whether the image behind a frame is kept, where the frames from `right` on are made with other words than before,
+/// or for the first time. That behind the first of them is, since the frame behind it is the next that may turn out
+/// wrong where words come in their order, and from there on one in four: so no frame is more than three behind an
+/// image.
+fn is_kept(frame: usize, right: usize) -> bool
+    ensures { IsTrue result ↔ ((right ≤ frame) × ((frame - right) % 4 ≡ 0)) }
+{
+    frame >= right && (frame - right) % APART == 0
+}
+
+/// Makes a frame, and keeps the image behind it where it is to be kept.
+fn play_next<R: Replays>(
+    replays: &R,
+    machine: &mut Machine,
+    frame: usize,
+    kept: bool,
+    images: &mut Images,
+)
     requires keeps { KeepsReached (R.cart replays.now) (R.is_ready replays.now) }
     requires played { IsPlayed (R.cart replays.now) machine.old.console.shared.recording.frames frame machine.old }
     requires within { frame < most_frames }
     requires size { images.old.size ≡ R.size replays.now }
+    requires images { AreImagesBelow (IsImageOf (R.cart replays.now) (R.spelling replays.now) (R.is_own replays.now) machine.old.console.shared.recording.frames) (frame + 1) images.old.images }
     ensures played { IsPlayed (R.cart replays.now) machine.old.console.shared.recording.frames (frame + 1) machine.new }
-    ensures image { IsKept (R.cart replays.now) (R.spelling replays.now) (R.is_own replays.now) machine.old.console.shared.recording.frames (frame + 1) images.old images.new }
+    ensures images { AreMade (R.cart replays.now) (R.spelling replays.now) (R.is_own replays.now) machine.old.console.shared.recording.frames (frame + 1) images.old images.new }
 {
     play_frame(machine, frame);
-    images.keep(replays, machine);
+    if kept {
+        images.keep(replays, machine, frame + 1);
+    }
 }
 
-/// Makes the frames from one to another, and keeps their images.
+/// Makes the frames from one to another, and keeps the images behind some of those from `right` on.
 pub(crate) fn play<R: Replays>(
     replays: &R,
     machine: &mut Machine,
     from: usize,
+    right: usize,
     to: usize,
     images: &mut Images,
 )
@@ -125,18 +154,18 @@ pub(crate) fn play<R: Replays>(
     requires order { from ≤ to }
     requires within { to ≤ most_frames }
     requires size { images.old.size ≡ R.size replays.now }
-    requires few { length images.old.images ≤ images.old.most }
+    requires images { AreImagesBelow (IsImageOf (R.cart replays.now) (R.spelling replays.now) (R.is_own replays.now) machine.old.console.shared.recording.frames) (from + 1) images.old.images }
     ensures played { IsPlayed (R.cart replays.now) machine.old.console.shared.recording.frames to machine.new }
-    ensures images { AreMade (R.cart replays.now) (R.spelling replays.now) (R.is_own replays.now) machine.old.console.shared.recording.frames from to images.old images.new }
+    ensures images { AreMade (R.cart replays.now) (R.spelling replays.now) (R.is_own replays.now) machine.old.console.shared.recording.frames to images.old images.new }
 {
     for frame in from..to {
-        play_kept(replays, machine, frame, images);
+        play_next(replays, machine, frame, is_kept(frame, right), images);
     }
 }
 
-/// Brings a machine to the end of all frames of a recording, from the image on that stands behind so many newer ones,
-/// which is that of the start of one of them; where none is newer, from the machine itself. The images of the later
-/// frames and of the end come in place of the newer ones.
+/// Brings a machine to the end of all frames of a recording, of which those before `right` were the same: from itself
+/// where only the last frame is new, else from the image that stands behind so many newer ones. Images of some of the
+/// frames behind it come in place of the newer ones.
 pub(crate) fn remake<R: Replays>(
     alloc: Global,
     replays: &R,
@@ -149,28 +178,23 @@ pub(crate) fn remake<R: Replays>(
     requires keeps { KeepsReached (R.cart replays.now) (R.is_ready replays.now) }
     requires size { images.old.size ≡ R.size replays.now }
     requires newer { newer < length images.old.images }
-    requires here { newer ≡ 0 → IsPlayedAlike (R.cart replays.now) expected.now right machine.old }
+    requires early { (image_at images.old.images newer).frames ≤ right }
+    requires here { right + 1 ≡ length expected.now → IsPlayedAlike (R.cart replays.now) expected.now right machine.old }
     requires recording { IsRecording (recording_of expected.now) }
-    requires image { IsImageOf (R.cart replays.now) (R.spelling replays.now) (R.is_own replays.now) expected.now right (get_or images.old.images newer []) }
+    requires images { AreImagesBelow (IsImageOf (R.cart replays.now) (R.spelling replays.now) (R.is_own replays.now) expected.now) ((image_at images.old.images newer).frames + 1) (drop newer images.old.images) }
     requires order { right < length expected.now }
     requires within { length expected.now ≤ most_frames }
     ensures machine { OnOk result (IsPlayed (R.cart replays.now) expected.now (length expected.now) machine.new) }
-    ensures images { OnOk result (AreMade (R.cart replays.now) (R.spelling replays.now) (R.is_own replays.now) expected.now right (length expected.now)
+    ensures images { OnOk result (AreMade (R.cart replays.now) (R.spelling replays.now) (R.is_own replays.now) expected.now (length expected.now)
         (record images.old { images = drop newer images.old.images }) images.new) }
     ensures err { OnErr result ((images.new ≡ images.old) × (machine.new ≡ machine.old)) }
 {
     let recording = shared_recording(alloc, expected)?;
-    let here = newer == 0;
-    stand_at(
-        alloc,
-        replays,
-        machine,
-        here,
-        images.image(newer),
-        recording,
-        right,
+    let here = right + 1 == expected.len();
+    let from = stand_at(
+        alloc, replays, machine, here, images, newer, recording, right,
     )?;
     images.drop_newest(newer);
-    play(replays, machine, right, expected.len(), images);
+    play(replays, machine, from, right, expected.len(), images);
     Ok(())
 }

@@ -63,7 +63,7 @@ impl<R: Replays> Session<R> {
         saved::power_on_is_reached(machine.cart());
         let inputs = Inputs::make(alloc)?;
         let mut images = Images::make(alloc, window + 1, replays.image_size())?;
-        images.keep(&replays, &machine);
+        images.keep(&replays, &machine, 0);
         Ok(Session {
             alloc,
             replays,
@@ -124,12 +124,13 @@ impl<R: Replays> Session<R> {
         self.inputs.known();
         let expected = self.inputs.expected(self.alloc, frames + 1)?;
         let right = same_frames(self.played.as_slice(), expected.as_slice());
+        let newer = self.images.newer_than(right);
         remake(
             self.alloc,
             &self.replays,
             &mut self.machine,
             &mut self.images,
-            frames - right,
+            newer,
             expected.as_slice(),
             right,
         )?;

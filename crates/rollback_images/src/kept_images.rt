@@ -1,6 +1,6 @@
-ghost use Rattle.std.specs.Prelude.{◌≡◌, ◌≤◌, ◌<◌, ◌∷◌, [], drop, get_or, length, take, vec_capacity, IfOk};
+ghost use Rattle.std.specs.Prelude.{◌≡◌, ◌≤◌, ◌<◌, ◌∷◌, ℕ, [], drop, length, take, vec_capacity, IfOk};
 ghost use Rattle.std.specs.VecDeque.{deque_capacity};
-ghost use Rattle.rollback_images.specs.Images.{AreLists};
+ghost use Rattle.rollback_images.specs.Images.{AreSlots, image_at};
 
 use md_word::NoMemory;
 use std::alloc::Global;
@@ -8,11 +8,19 @@ use std::collections::VecDeque;
 use std::marker::Model;
 use std::mem::swap;
 
-/// The newest images, each in a list of its own with room for so many bytes. Contracts see them newest first.
+/// The list of an image, and after how many frames the image was kept.
+#[derive(Drop)]
+struct Slot {
+    frames: usize,
+    bytes: Vec<u8>,
+}
+
+/// The newest images, each in a list of its own with room for so many bytes, with the number of frames after which it
+/// was kept. Contracts see them newest first.
 #[derive(Drop)]
 pub struct KeptImages {
     /// The lists of the images, and behind them those that keep none: as many as images are kept at most.
-    lists: VecDeque<Vec<u8>>,
+    slots: VecDeque<Slot>,
     /// How many images there are.
     count: usize,
     /// How many bytes an image has at most.
@@ -22,26 +30,27 @@ pub struct KeptImages {
 impl Model for KeptImages {
     ghost use Rattle.std.specs.Prelude.{length, map, take};
     ghost use Rattle.std.specs.VecDeque.{deque_capacity};
-    ghost use Rattle.rollback_images.specs.Images.{AreLists, Kept};
+    ghost use Rattle.rollback_images.specs.Images.{AreSlots, Kept, image_of};
 
     ghost Value = { Kept };
 
-    ghost view = { λ k. record { most = length k.lists.items; size = k.size; images = map (λ list. list.items) (take k.count k.lists.items) } };
+    ghost view = { λ k. record { most = length k.slots.items; size = k.size; images = map image_of (take k.count k.slots.items) } };
 
-    ghost invariant = { λ k. AreLists k.lists.items (deque_capacity k.lists) k.count k.size };
+    ghost invariant = { λ k. AreSlots k.slots.items (deque_capacity k.slots) k.count k.size };
 }
 
 /// So many empty lists, each with room for an image.
-fn lists_of(alloc: Global, most: usize, size: usize) -> Result<VecDeque<Vec<u8>>, NoMemory>
+fn slots_of(alloc: Global, most: usize, size: usize) -> Result<VecDeque<Slot>, NoMemory>
     requires { 1 ≤ most }
-    ensures lists { IfOk result (λ lists. AreLists lists.items (deque_capacity lists) 0 size) }
-    ensures most { IfOk result (λ lists. length lists.items ≡ most) }
+    ensures slots { IfOk result (λ slots. AreSlots slots.items (deque_capacity slots) 0 size) }
+    ensures most { IfOk result (λ slots. length slots.items ≡ most) }
 {
-    let mut lists = VecDeque::with_capacity(alloc, most)?;
+    let mut slots = VecDeque::with_capacity(alloc, most)?;
     for _number in 0..most {
-        lists.push_back_reserved(Vec::with_capacity(alloc, size)?);
+        let bytes = Vec::with_capacity(alloc, size)?;
+        slots.push_back_reserved(Slot { frames: 0, bytes });
     }
-    Ok(lists)
+    Ok(slots)
 }
 
 impl KeptImages {
@@ -52,43 +61,65 @@ impl KeptImages {
         ensures size { IfOk result (λ kept. kept.size ≡ size) }
         ensures images { IfOk result (λ kept. kept.images ≡ []) }
     {
-        let lists = lists_of(alloc, most as usize, size)?;
+        let slots = slots_of(alloc, most as usize, size)?;
         Ok(KeptImages {
-            lists,
+            slots,
             count: 0,
             size,
         })
     }
 
-    /// Keeps an image, in its list. The oldest one goes where there were as many as are kept. Another list comes in
-    /// place of the image's, for the next one.
-    pub fn push(&mut self, image: &mut Vec<u8>)
+    /// Keeps an image, in its list, after so many frames. The oldest one goes where there were as many as are kept.
+    /// Another list comes in place of the image's, for the next one.
+    pub fn push(&mut self, frames: usize, image: &mut Vec<u8>)
         requires { self.old.size ≤ vec_capacity image.old }
-        ensures kept { self.new ≡ record self.old { images = take self.old.most (image.old.items ∷ self.old.images) } }
+        ensures kept { self.new ≡ record self.old { images = take self.old.most (record { frames = frames; bytes = image.old.items } ∷ self.old.images) } }
         ensures room { self.old.size ≤ vec_capacity image.new }
     {
-        if let Some(mut list) = self.lists.pop_back() {
-            swap(&mut list, image);
-            self.lists.push_front_reserved(list);
-            self.count = (self.count + 1).min(self.lists.len());
+        if let Some(slot) = self.slots.pop_back() {
+            let mut bytes = slot.bytes;
+            swap(&mut bytes, image);
+            self.slots.push_front_reserved(Slot { frames, bytes });
+            self.count = (self.count + 1).min(self.slots.len());
         }
+    }
+
+    /// How many images were kept after more than so many frames.
+    pub fn newer_than(&self, frames: usize) -> usize
+        ensures within { result ≤ length self.now.images }
+        ensures newer { (j : ℕ) → j < result → frames < (image_at self.now.images j).frames }
+        ensures next { result < length self.now.images → (image_at self.now.images result).frames ≤ frames }
+    {
+        for newer in 0..self.count {
+            if self.frames(newer) <= frames {
+                return newer;
+            }
+        }
+        self.count
+    }
+
+    /// After how many frames the image was kept that stands behind so many newer ones.
+    pub fn frames(&self, newer: usize) -> usize
+        requires { newer < length self.now.images }
+        ensures { result ≡ (image_at self.now.images newer).frames }
+    {
+        self.slots[newer].frames
     }
 
     /// The image that stands behind so many newer ones.
     pub fn image(&self, newer: usize) -> &[u8]
         requires { newer < length self.now.images }
-        ensures { result.now ≡ get_or self.now.images newer [] }
+        ensures { result.now ≡ (image_at self.now.images newer).bytes }
     {
-        &self.lists[newer]
+        &self.slots[newer].bytes
     }
 
     /// Drops the newest images, so many.
     pub fn drop_newest(&mut self, count: usize)
         requires { count ≤ length self.old.images }
-        ensures rest { self.new ≡ record self.old { images = drop count self.old.images } }
-        ensures within { length self.new.images ≤ self.new.most }
+        ensures { self.new ≡ record self.old { images = drop count self.old.images } }
     {
-        self.lists.rotate_left(count);
+        self.slots.rotate_left(count);
         self.count -= count;
     }
 }

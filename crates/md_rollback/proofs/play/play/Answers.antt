@@ -1,17 +1,23 @@
-use Rattle.std.proofs.Common.{◌+◌, ◌∙◌, refl, subst, List, ℕ, ap, arith}
+use Rattle.std.proofs.Common.{◌+◌, ◌∙◌, refl, sym, subst, List, ℕ, ap, arith}
 use Rattle.md_pads.specs.Recording.{Frame}
-use Rattle.rollback_images.specs.Images.{Kept}
-use Rattle.md_rollback.specs.Played.{AreMade, IsKept, IsPlayed}
-use Rattle.md_rollback.proofs.Steps.{frames-are, made-next, made-none}
+use Rattle.rollback_images.specs.Images.{AreImagesBelow, Kept}
+use Rattle.md_rollback.specs.Played.{AreMade, IsImageOf, IsPlayed}
+use Rattle.md_rollback.proofs.Kept.{made-next, made-none}
+use Rattle.md_rollback.proofs.Steps.{frames-are}
 use Rattle.md_rollback.proofs.play.play.Goals as goal
 
 pub loop-frame-init : goal.loop-frame-init
 loop-frame-init g c = record {
   played = c.requires.played;
   recording_is = refl;
-  made = made-none (g.R.Replays.cart c.args.replays.now) (g.R.Replays.spelling c.args.replays.now) (g.R.Replays.is_own c.args.replays.now) c.args.machine.now.console.shared.recording.frames c.args.from c.args.images.now c.requires.few;
+  made = made-none (g.R.Replays.cart c.args.replays.now) (g.R.Replays.spelling c.args.replays.now) (g.R.Replays.is_own c.args.replays.now) c.args.machine.now.console.shared.recording.frames c.args.from c.args.images.now c.requires.images;
   size = c.requires.size;
 }
+
+pub play_next-requires-clause-images : goal.play_next-requires-clause-images
+play_next-requires-clause-images g c =
+    subst (λ (r : List Frame). AreImagesBelow (IsImageOf (g.R.Replays.cart c.args.replays.now) (g.R.Replays.spelling c.args.replays.now) (g.R.Replays.is_own c.args.replays.now) r) (c.loop-frame.frame + 1) c.loop-frame.images.images)
+    (sym c.loop-frame.invariant.recording_is) c.loop-frame.invariant.made.each
 
 pub loop-frame-preserved : goal.loop-frame-preserved
 loop-frame-preserved g c =
@@ -19,13 +25,13 @@ loop-frame-preserved g c =
     let spelling = g.R.Replays.spelling c.args.replays.now in
     let is_own = g.R.Replays.is_own c.args.replays.now in
     let first = c.args.machine.now.console.shared.recording.frames in
-    let now = subst (λ (r : List Frame). IsPlayed cart r (c.loop-frame.frame + 1) c.play_kept.new.machine) c.loop-frame.invariant.recording_is c.play_kept.ensures.played in
-    let image = subst (λ (r : List Frame). IsKept cart spelling is_own r (c.loop-frame.frame + 1) c.loop-frame.images c.play_kept.new.images) c.loop-frame.invariant.recording_is c.play_kept.ensures.image in
+    let now = subst (λ (r : List Frame). IsPlayed cart r (c.loop-frame.frame + 1) c.play_next.new.machine) c.loop-frame.invariant.recording_is c.play_next.ensures.played in
+    let one = subst (λ (r : List Frame). AreMade cart spelling is_own r (c.loop-frame.frame + 1) c.loop-frame.images c.play_next.new.images) c.loop-frame.invariant.recording_is c.play_next.ensures.images in
     record {
       played = now;
-      recording_is = frames-are cart first _ c.play_kept.new.machine.console now.machine_is.run;
-      made = made-next cart spelling is_own first c.args.from c.loop-frame.frame c.args.images.now c.loop-frame.images c.play_kept.new.images c.loop-frame.invariant.made image;
-      size = ap (λ (k : Kept). k.size) image.kept ∙ c.loop-frame.invariant.size;
+      recording_is = frames-are cart first _ c.play_next.new.machine.console now.machine_is.run;
+      made = made-next cart spelling is_own first c.loop-frame.frame c.args.images.now c.loop-frame.images c.play_next.new.images c.loop-frame.invariant.made one;
+      size = ap (λ (k : Kept). k.size) one.rest ∙ c.loop-frame.invariant.size;
     }
 
 pub returns-clause-played : goal.returns-clause-played
@@ -35,5 +41,5 @@ returns-clause-played g c =
 
 pub returns-clause-images : goal.returns-clause-images
 returns-clause-images g c =
-    subst (λ (n : ℕ). AreMade (g.R.Replays.cart c.args.replays.now) (g.R.Replays.spelling c.args.replays.now) (g.R.Replays.is_own c.args.replays.now) c.args.machine.now.console.shared.recording.frames c.args.from n c.args.images.now c.loop-frame.images)
+    subst (λ (n : ℕ). AreMade (g.R.Replays.cart c.args.replays.now) (g.R.Replays.spelling c.args.replays.now) (g.R.Replays.is_own c.args.replays.now) c.args.machine.now.console.shared.recording.frames n c.args.images.now c.loop-frame.images)
     (omega (arith, c.loop-frame-test.false, c.loop-frame.auto.frame-end c.requires.order)) c.loop-frame.invariant.made

@@ -8,6 +8,6 @@ invariant-loop-frame g l =
     record {
       played : IsPlayed (g.R.Replays.cart l.replays) recording l.frame l.machine;
       recording_is : l.machine.console.shared.recording.frames ≡ recording;
-      made : AreMade (g.R.Replays.cart l.replays) (g.R.Replays.spelling l.replays) (g.R.Replays.is_own l.replays) recording l.from l.frame l.initial.images l.images;
+      made : AreMade (g.R.Replays.cart l.replays) (g.R.Replays.spelling l.replays) (g.R.Replays.is_own l.replays) recording l.frame l.initial.images l.images;
       size : l.images.size ≡ g.R.Replays.size l.replays;
     }

@@ -1,13 +1,12 @@
-use Rattle.std.proofs.Common.{◌≡◌, ◌∙◌, ◌+◌, ◌-◌, ap, sym, subst, List, [], ◌++◌, ℕ, length, take, drop, arith}
-use Rattle.std.specs.Prelude.{reverse, slice_index_or}
+use Rattle.std.proofs.Common.{◌≡◌, ◌∙◌, ◌+◌, ◌<◌, ap, sym, subst, List, ℕ, length, drop, arith}
 use Rattle.md_pads.specs.Recording.{Frame, IsRecording, recording_of}
 use Rattle.md_machine.specs.Machines.{MachineValue}
-use Rattle.rollback_images.specs.Images.{Kept}
+use Rattle.rollback_images.specs.Images.{AreImagesBelow, Kept, image_at}
 use Rattle.rollback_inputs.specs.Inputs.{expected_frames}
+use Rattle.rollback_inputs.proofs.Expected.{frames-long}
 use Rattle.md_rollback.specs.Played.{AreMade, IsImageOf, IsMachineOf, IsPlayed, IsPlayedAlike}
 use Rattle.md_rollback.specs.Sessions.{IsSession, SessionValue}
-use Rattle.md_rollback.proofs.Advances.{back-few, expected-long, found-by, image-here, machine-here, may-be-recorded, replaced-is, session-next}
-use Rattle.rollback_inputs.proofs.Expected.{frames-long}
+use Rattle.md_rollback.proofs.Advances.{back-few, expected-long, found-by, images-here, machine-here, may-be-recorded, session-next}
 use Rattle.md_rollback.proofs.session.Session.advance.Goals as goal
 
 pub same_frames-right-requires : goal.same_frames-right-requires
@@ -30,7 +29,25 @@ remake-requires-clause-newer g c =
     let found = found-by c.self.inside.inputs c.self.inside.played.items c.in_ok-expected.expected.items c.as_slice.result.now c.as_slice-2.result.now c.len-frames.result c.same_frames-right.result
     (c.len-frames.ensures ∙ c.self.inside.played.ok.0) c.in_ok-expected.ensures c.as_slice.ensures.value c.as_slice-2.ensures.value
     c.same_frames-right.ensures.within c.same_frames-right.ensures.same c.same_frames-right.ensures.differs in
-    omega (arith, many, back-few cart spelling is_ready is_own c.self.inside.window inputs played expected kept c.self.inside.machine right was found)
+    back-few cart spelling is_ready is_own c.self.inside.window inputs played expected kept c.self.inside.machine right was found c.newer_than-newer.result c.newer_than-newer.ensures.newer
+
+pub remake-requires-clause-early : goal.remake-requires-clause-early
+remake-requires-clause-early g c =
+    let cart = g.R.Replays.cart c.self.inside.replays in
+    let spelling = g.R.Replays.spelling c.self.inside.replays in
+    let is_ready = g.R.Replays.is_ready c.self.inside.replays in
+    let is_own = g.R.Replays.is_own c.self.inside.replays in
+    let was = c.self.invariant.0 in
+    let inputs = c.self.inside.inputs in
+    let played = c.self.inside.played.items in
+    let expected = c.in_ok-expected.expected.items in
+    let kept = c.self.inside.images.images in
+    let right = c.same_frames-right.result in
+    let many : c.len-frames.result ≡ length c.self.inside.played.items = c.len-frames.ensures ∙ c.self.inside.played.ok.0 in
+    let found = found-by c.self.inside.inputs c.self.inside.played.items c.in_ok-expected.expected.items c.as_slice.result.now c.as_slice-2.result.now c.len-frames.result c.same_frames-right.result
+    (c.len-frames.ensures ∙ c.self.inside.played.ok.0) c.in_ok-expected.ensures c.as_slice.ensures.value c.as_slice-2.ensures.value
+    c.same_frames-right.ensures.within c.same_frames-right.ensures.same c.same_frames-right.ensures.differs in
+    c.newer_than-newer.ensures.next (back-few cart spelling is_ready is_own c.self.inside.window inputs played expected kept c.self.inside.machine right was found c.newer_than-newer.result c.newer_than-newer.ensures.newer)
 
 pub remake-requires-clause-recording : goal.remake-requires-clause-recording
 remake-requires-clause-recording g c =
@@ -39,7 +56,7 @@ remake-requires-clause-recording g c =
     (omega (arith, c.if-frames-eq-MOST_FRAMES.false, c.self.invariant.0.few, c.len-frames.ensures ∙ c.self.inside.played.ok.0)) c.in_ok-expected.ensures)
 
 pub remake-requires-clause-here : goal.remake-requires-clause-here
-remake-requires-clause-here g c = λ none.
+remake-requires-clause-here g c = λ all.
     let cart = g.R.Replays.cart c.self.inside.replays in
     let spelling = g.R.Replays.spelling c.self.inside.replays in
     let is_ready = g.R.Replays.is_ready c.self.inside.replays in
@@ -55,10 +72,10 @@ remake-requires-clause-here g c = λ none.
     (c.len-frames.ensures ∙ c.self.inside.played.ok.0) c.in_ok-expected.ensures c.as_slice.ensures.value c.as_slice-2.ensures.value
     c.same_frames-right.ensures.within c.same_frames-right.ensures.same c.same_frames-right.ensures.differs in
     subst (λ (x : List Frame). IsPlayedAlike cart x right c.self.inside.machine) (sym c.as_slice-3.ensures.value)
-    (machine-here cart spelling is_ready is_own c.self.inside.window inputs played expected kept c.self.inside.machine right was found (omega (arith, none, many)))
+    (machine-here cart spelling is_ready is_own c.self.inside.window inputs played expected kept c.self.inside.machine right was found (all ∙ ap length c.as_slice-3.ensures.value))
 
-pub remake-requires-clause-image : goal.remake-requires-clause-image
-remake-requires-clause-image g c =
+pub remake-requires-clause-images : goal.remake-requires-clause-images
+remake-requires-clause-images g c =
     let cart = g.R.Replays.cart c.self.inside.replays in
     let spelling = g.R.Replays.spelling c.self.inside.replays in
     let is_ready = g.R.Replays.is_ready c.self.inside.replays in
@@ -73,10 +90,10 @@ remake-requires-clause-image g c =
     let found = found-by c.self.inside.inputs c.self.inside.played.items c.in_ok-expected.expected.items c.as_slice.result.now c.as_slice-2.result.now c.len-frames.result c.same_frames-right.result
     (c.len-frames.ensures ∙ c.self.inside.played.ok.0) c.in_ok-expected.ensures c.as_slice.ensures.value c.as_slice-2.ensures.value
     c.same_frames-right.ensures.within c.same_frames-right.ensures.same c.same_frames-right.ensures.differs in
-    subst (λ (x : List Frame). IsImageOf cart spelling is_own x right (slice_index_or kept (c.len-frames.result - right) [])) (sym c.as_slice-3.ensures.value)
-    (subst (IsImageOf cart spelling is_own expected right)
-    (ap (λ (n : ℕ). slice_index_or kept (n - right) []) (sym many))
-    (image-here cart spelling is_ready is_own c.self.inside.window inputs played expected kept c.self.inside.machine right was found))
+    let newer = c.newer_than-newer.result in
+    let few : newer < length kept = back-few cart spelling is_ready is_own c.self.inside.window inputs played expected kept c.self.inside.machine right was found c.newer_than-newer.result c.newer_than-newer.ensures.newer in
+    subst (λ (x : List Frame). AreImagesBelow (IsImageOf cart spelling is_own x) ((image_at kept newer).frames + 1) (drop newer kept)) (sym c.as_slice-3.ensures.value)
+    (images-here cart spelling is_ready is_own c.self.inside.window inputs played expected kept c.self.inside.machine right was found newer c.newer_than-newer.ensures.newer (c.newer_than-newer.ensures.next few))
 
 pub remake-requires-clause-order : goal.remake-requires-clause-order
 remake-requires-clause-order g c =
@@ -144,18 +161,14 @@ invariant_of-self-2 g c =
     c.same_frames-right.ensures.within c.same_frames-right.ensures.same c.same_frames-right.ensures.differs in
     let now : IsPlayed cart c.in_ok-expected.expected.items (length c.in_ok-expected.expected.items) c.remake.new.machine =
     subst (λ (x : List Frame). IsPlayed cart x (length x) c.remake.new.machine) c.as_slice-3.ensures.value c.in_ok-remake.ensures.machine in
-    let made : AreMade cart spelling is_own expected right (length expected) (record c.self.inside.images { images = drop (c.len-frames.result - right) kept }) c.remake.new.images =
-    subst (λ (x : List Frame). AreMade cart spelling is_own x right (length x) (record c.self.inside.images { images = drop (c.len-frames.result - right) kept }) c.remake.new.images)
-    c.as_slice-3.ensures.value c.in_ok-remake.ensures.images in
-    let next = session-next cart spelling is_ready is_own c.self.inside.window inputs played expected kept c.self.inside.machine right was found c.remake.new.machine made.newer c.known.ensures
-    (omega (arith, c.if-frames-eq-MOST_FRAMES.false, was.few, many))
-    (omega (arith, c.if-frames-confirmed.false, c.confirmed-confirmed.ensures.confirmed, many)) now made.count made.each in
-    let images : c.remake.new.images.images ≡ take (c.self.inside.window + 1) (reverse made.newer ++ drop (length played - right) kept) =
-    ap (λ (k : Kept). k.images) made.kept
-    ∙ replaced-is c.self.inside.images.most (c.self.inside.window + 1) (c.len-frames.result - right) (length played - right) made.newer kept c.self.invariant.1 (ap (λ (n : ℕ). n - right) many) in (
-      subst (λ (x : List (List ℕ)). IsSession cart spelling is_ready is_own c.self.inside.window inputs expected x c.remake.new.machine) (sym images) next,
-      ap (λ (k : Kept). k.most) made.kept ∙ c.self.invariant.1,
-      ap (λ (k : Kept). k.size) made.kept ∙ c.self.invariant.2,
+    let newer = c.newer_than-newer.result in
+    let made : AreMade cart spelling is_own expected (length expected) (record c.self.inside.images { images = drop newer kept }) c.remake.new.images =
+    subst (λ (x : List Frame). AreMade cart spelling is_own x (length x) (record c.self.inside.images { images = drop newer kept }) c.remake.new.images) c.as_slice-3.ensures.value c.in_ok-remake.ensures.images in (
+      session-next cart spelling is_ready is_own c.self.inside.window inputs played expected kept c.self.inside.machine right was found newer c.newer_than-newer.ensures.newer c.self.inside.images c.remake.new.images c.remake.new.machine c.known.ensures
+          (omega (arith, c.if-frames-eq-MOST_FRAMES.false, was.few, many))
+          (omega (arith, c.if-frames-confirmed.false, c.confirmed-confirmed.ensures.confirmed, many)) now c.self.invariant.1 made,
+      ap (λ (k : Kept). k.most) made.rest ∙ c.self.invariant.1,
+      ap (λ (k : Kept). k.size) made.rest ∙ c.self.invariant.2,
     )
 
 pub returns-clause-frames : goal.returns-clause-frames

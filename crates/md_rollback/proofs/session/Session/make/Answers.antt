@@ -24,9 +24,9 @@ invariant_of-result g c =
     let image = image-made cart spelling is_own [] 0 c.args.machine played (c.keep.ensures.own ready) in
     let bytes : List ℕ = spelling c.args.machine.at (settled_console c.args.machine.at c.args.machine.console) in
     let none = c.in_ok-images.ensures in
-    let only : c.keep.new.self.images ≡ bytes ∷ [] =
+    let only : c.keep.new.self.images ≡ record { frames = 0; bytes = bytes } ∷ [] =
     ap (λ (k : Kept). k.images) c.keep.ensures.kept
-    ∙ one-pushed c.in_ok-images.images.most c.args.window bytes c.in_ok-images.images.images (ap (λ (k : Kept). k.most) none) (ap (λ (k : Kept). k.images) none) in (
+    ∙ one-pushed c.in_ok-images.images.most c.args.window (record { frames = 0; bytes = bytes }) c.in_ok-images.images.images (ap (λ (k : Kept). k.most) none) (ap (λ (k : Kept). k.images) none) in (
       subst (λ (p : List Frame). IsSession cart spelling is_ready is_own c.args.window c.in_ok-inputs.inputs p c.keep.new.self.images c.args.machine) (sym c.new.ensures.items)
           (first-session cart spelling is_ready is_own c.args.window c.in_ok-inputs.inputs c.keep.new.self.images bytes c.args.machine c.requires.some c.requires.most c.requires.keeps played image only),
       ap (λ (k : Kept). k.most) (c.keep.ensures.kept) ∙ ap (λ (k : Kept). k.most) none,
