@@ -10,7 +10,8 @@ instructions that each frame has some 9,400 of, `scale`, `chord` and `show` are 
 `transfer` moves 7,500 bytes into the VDP's memory in the vertical blanking of each frame, `data` writes a
 word to the VDP's data port 5,818 times a frame, and in `busy` the Z80 writes the FM chip's converter 1,810
 times a frame, while the 68000 sleeps and writes 275 words in each vertical interrupt. Frames are
-drawn in each, and written in none. Then it runs `mix`, `chord` and `show` with 2, 3 and 5 workers.
+drawn in each, and written in none. Then it runs `mix`, `chord` and `show` with 2, 3 and 5 workers
+(workers.py compares several workers with one).
 The times are those of the clock on the wall, the program's start and the writing of its files included;
 the switches are those of all its threads, those that wait and those that are made to. Of `idle` and `mix`
 the moves are known, and a second line has the nanoseconds of one: the 68000's, one an instruction, the
@@ -137,23 +138,28 @@ def memory(run):
     return max((int(line.split()[1]) for line in lines if line.startswith("VmHWM:")), default=0)
 
 
-def measure(name, image, frames, folder, workers=1):
+def run(image, frames, folder, workers=1):
+    """The seconds of a run, its context switches, and the peak of its memory in KiB."""
     words = [PROGRAM, "run", image, "--cycles", str(frames * FRAME), "--workers", str(workers)]
     words += ["--sound", folder / "sound.wav", "--journal", folder / "journal"]
     start = time.perf_counter()
-    run = subprocess.Popen(words, stdout=subprocess.DEVNULL)
+    job = subprocess.Popen(words, stdout=subprocess.DEVNULL)
     peak = 0
     while True:
-        ended, status, used = os.wait4(run.pid, os.WNOHANG)
+        ended, status, used = os.wait4(job.pid, os.WNOHANG)
         if ended:
             break
-        peak = max(peak, memory(run))
+        peak = max(peak, memory(job))
         time.sleep(0.005)
     seconds = time.perf_counter() - start
-    run.returncode = os.waitstatus_to_exitcode(status)
-    if run.returncode != 0:
-        sys.exit(f"{name}: status {run.returncode}")
-    switches = used.ru_nvcsw + used.ru_nivcsw
+    job.returncode = os.waitstatus_to_exitcode(status)
+    if job.returncode != 0:
+        sys.exit(f"{image}: status {job.returncode}")
+    return seconds, used.ru_nvcsw + used.ru_nivcsw, peak
+
+
+def measure(name, image, frames, folder, workers=1):
+    seconds, switches, peak = run(image, frames, folder, workers)
     print(
         f"{name}, workers {workers}: {frames / seconds:.0f} frames a second, "
         f"{switches} context switches, {peak / 1024:.1f} MiB at most",
@@ -161,6 +167,19 @@ def measure(name, image, frames, folder, workers=1):
     )
     if name in MOVES and workers == 1:
         print(f"{name}: {seconds / frames / MOVES[name] * 1e9:.1f} nanoseconds a move")
+
+
+def images(folder):
+    """The eight cartridges, made in a folder, by their names."""
+    texts = {"idle": IDLE, "mix": MIX, "transfer": TRANSFER, "data": DATA, "busy": BUSY}
+    made = {}
+    for name in ("idle", "mix", "scale", "chord", "transfer", "data", "busy", "show"):
+        source, made[name] = TOP / "examples" / name / f"{name}.asm", folder / f"{name}.bin"
+        if name in texts:
+            source = folder / f"{name}.asm"
+            source.write_text(texts[name])
+        build(source, made[name])
+    return made
 
 
 def main():
@@ -173,20 +192,12 @@ def main():
             image = pathlib.Path(sys.argv[2])
             measure(image.name, image, frames, folder)
             return
-        sources = {
-            example: TOP / "examples" / example / f"{example}.asm"
-            for example in ("scale", "chord", "show")
-        }
-        for cartridge, text in (("idle", IDLE), ("mix", MIX), ("transfer", TRANSFER), ("data", DATA), ("busy", BUSY)):
-            sources[cartridge] = folder / f"{cartridge}.asm"
-            sources[cartridge].write_text(text)
-        for cartridge in ("idle", "mix", "scale", "chord", "transfer", "data", "busy", "show"):
-            image = folder / f"{cartridge}.bin"
-            build(sources[cartridge], image)
+        made = images(folder)
+        for cartridge, image in made.items():
             measure(cartridge, image, frames, folder)
         for cartridge in ("mix", "chord", "show"):
             for workers in (2, 3, 5):
-                measure(cartridge, folder / f"{cartridge}.bin", frames, folder, workers)
+                measure(cartridge, made[cartridge], frames, folder, workers)
 
 
 if __name__ == "__main__":
