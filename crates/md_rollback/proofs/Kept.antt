@@ -2,7 +2,7 @@
 use Rattle.std.proofs.Common.{◌≡◌, ◌∙◌, refl, sym, ap, subst, ℕ, ◌+◌, ◌<◌, ◌≤◌, List, ◌∷◌, take, arith}
 use Rattle.md_pads.specs.Recording.{Frame}
 use Rattle.md_machine.specs.Console.{Console}
-use Rattle.rollback_images.specs.Images.{AreImagesBelow, Image, Kept, ReachBackTo}
+use Rattle.rollback_images.specs.Images.{AreImagesBelow, Image, Kept}
 use Rattle.rollback_images.proofs.Below.{below-with, reach-pushed, taken-below, widened}
 use Rattle.rollback_inputs.specs.Inputs.{frame_at}
 use Rattle.md_rollback.specs.Played.{AreMade, IsImageOf}

@@ -1,6 +1,5 @@
 use Rattle.std.proofs.Common.{ap, ◌∙◌}
 use Rattle.std.specs.Arc.{arc_value}
-use Rattle.md_machine.specs.Machines.{MachineValue}
 use Rattle.md_pads.specs.declared.version.Version.{Version}
 use Rattle.recording_laws.specs.Recorded.{with_recording}
 use Rattle.md_rollback.proofs.Steps.{exchanged-machine}
