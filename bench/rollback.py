@@ -1,24 +1,25 @@
 #!/usr/bin/env python3
 """How long a frame of a session of two players takes, with the program that `rt ci` has built.
 
-    bench/rollback.py [--frames FRAMES]
+    bench/rollback.py [--frames FRAMES] [--rounds ROUNDS]
 
-Plays FRAMES frames of examples/show from power-on, 300 if not given: by `run` without an output; in a session where
-all buttons are known before their frame; and in one where player 2 is eight frames late and was expected wrongly each
-time, so that eight frames are played again for each new one. Prints milliseconds a frame, the program's start taken
-off, and what a session's frame takes of a run's: the medians of seven rounds, in each of which all are timed, since a
-clock drifts from minute to minute.
+Plays examples/show from power-on in a session where all buttons are known before their frame, and in one where player 2
+is eight frames late and was expected wrongly each time, so that eight frames are played again for each new one. The
+last makes FRAMES new frames, 120 if not given, the other eight times as many. Beside each a `run` without an output
+plays about as many frames. Both share one processor, and take turns on it by the millisecond, since a clock drifts from
+second to second: so it is the processor time of each that counts. Prints milliseconds a frame of the run, and what a
+session's frame takes of it: the median of ROUNDS rounds, 9 if not given, the least and the greatest.
 """
 import argparse
+import os
 import statistics
+import subprocess
 import sys
-import time
 
 import expected
 import hostile
 
 LATE = 8
-ROUNDS = 7
 
 
 def buttons(frame):
@@ -43,62 +44,50 @@ def late(frames):
         yield "a"
 
 
-def seconds(call):
-    """What a call takes."""
-    start = time.perf_counter()
-    call()
-    return time.perf_counter() - start
+def together(folder, processor, commands):
+    """The processor seconds of several runs of the program that share one processor."""
+
+    def bind():
+        os.sched_setaffinity(0, {processor})
+
+    how = {"cwd": folder, "stdout": subprocess.DEVNULL, "preexec_fn": bind}
+    jobs = [subprocess.Popen([hostile.PROGRAM, *map(str, words)], **how) for words in commands]
+    used = []
+    for job in jobs:
+        _, status, spent = os.wait4(job.pid, 0)
+        job.returncode = os.waitstatus_to_exitcode(status)
+        if job.returncode != 0:
+            sys.exit(f"{job.args}: status {job.returncode}")
+        used.append(spent.ru_utime + spent.ru_stime)
+    return used
 
 
-def session(folder, lines, frames):
-    """The seconds of a session with these lines."""
-    (folder / "inputs").write_text("".join(f"{line}\n" for line in lines))
-
-    def call():
-        status, text = hostile.run(folder, "rollback", "game.bin", "inputs", "--window", 16, timeout=3_600)
-        if status != 0 or not text.startswith(f"frames {frames}\n"):
-            sys.exit(f"status {status} with {text[-200:]!r}")
-
-    return seconds(call)
-
-
-def plain(folder, frames):
-    """The seconds of a run of so many frames."""
-
-    def call():
-        status, text = hostile.run(folder, "run", "game.bin", "--cycles", frames * expected.FRAME, timeout=3_600)
-        if status != 0:
-            sys.exit(f"status {status} with {text[-200:]!r}")
-
-    return seconds(call)
-
-
-def of_run(folder, frames):
-    """The seconds of a run's frame."""
-    return (plain(folder, frames) - plain(folder, 1)) / (frames - 1)
-
-
-def of_session(folder, lines, frames):
-    """The seconds of a session's frame."""
-    return (session(folder, lines(frames), frames) - session(folder, lines(LATE), LATE)) / (frames - LATE)
+def measure(folder, processor, lines, first, new, played):
+    """The seconds of a run's frame, and of one of a session: it begins with so many frames that each is played once,
+    and then has so many new ones, for each of which so many are played."""
+    (folder / "inputs").write_text("".join(f"{line}\n" for line in lines(first + new)))
+    frames = first + new * played
+    commands = [("run", "game.bin", "--cycles", frames * expected.FRAME), ("rollback", "game.bin", "inputs", "--window", 16)]
+    run, session = together(folder, processor, commands)
+    return run / frames, (session - first * run / frames) / new
 
 
 def main():
     parser = argparse.ArgumentParser(description=__doc__, formatter_class=argparse.RawTextHelpFormatter)
-    parser.add_argument("--frames", type=int, default=300)
-    frames = parser.parse_args().frames
+    parser.add_argument("--frames", type=int, default=120)
+    parser.add_argument("--rounds", type=int, default=9)
+    words = parser.parse_args()
+    processor = max(os.sched_getaffinity(0))
     with hostile.folder_of("show") as folder:
-        each = [of_run(folder, frames)]
-        taken = {"known": [], "eight again": []}
-        for _ in range(ROUNDS):
-            for title, lines in (("known", known), ("eight again", late)):
-                taken[title].append(of_session(folder, lines, frames))
-            each.append(of_run(folder, frames))
-        print(f"run: {1_000 * statistics.median(each):.3f} ms a frame")
-        for title, times in taken.items():
-            parts = [2 * one / (before + after) for one, before, after in zip(times, each, each[1:])]
-            middle = statistics.median(times)
-            print(f"{title}: {1_000 * middle:.3f} ms a frame, {statistics.median(parts):.2f} of a run's")
+        for title, lines, first, new, played in (
+            ("known", known, 0, LATE * words.frames, 1),
+            ("eight again", late, LATE, words.frames, LATE + 1),
+        ):
+            taken = [measure(folder, processor, lines, first, new, played) for _ in range(words.rounds)]
+            parts = [session / run for run, session in taken]
+            frame = 1_000 * statistics.median(run for run, _ in taken)
+            middle = statistics.median(parts)
+            print(f"{title}: {middle:.2f} of a run's {frame:.3f} ms ({min(parts):.2f} to {max(parts):.2f})", flush=True)
 
 
 if __name__ == "__main__":
