@@ -11,7 +11,7 @@ type Row = (&'static [u8], u32, u64, u64, &'static [u8]);
 /// What is pressed in the row: 0001h and 0080h, 0001h and 0010h, nothing.
 const PRESSED: &[u8] = b"MDREC001\0\0\0\x03\0\x01\0\x80\0\x01\0\x10\0\0\0\0";
 
-static ROWS: [Row; 9] = [
+static ROWS: [Row; 10] = [
     (
         b"l 0 1\na\nl 1 1\na\nr 1 10\nr 0 80\nl 2 0\nr 2 0\na\n",
         4,
@@ -75,16 +75,24 @@ static ROWS: [Row; 9] = [
         0,
         b"MDREC001\0\0\0\x03\0\0\0\0\0\0\0\0\0\x40\0\0",
     ),
+    // six frames are made again, and then one between two images that were kept turns out to be another
+    (
+        b"a\na\na\na\na\na\nr 0 80\na\nr 2 10\na\n",
+        16,
+        8,
+        0,
+        b"MDREC001\0\0\0\x08\0\0\0\x80\0\0\0\x80\0\0\0\x10\0\0\0\x10\0\0\0\x10\0\0\0\x10\0\0\0\x10\0\0\0\x10",
+    ),
     // nothing is known at all
     (b"a\na\na\n", 3, 3, 0, b"MDREC001\0\0\0\0"),
 ];
 
 /// The words of a run of so many frames of 896,040 cycles.
 fn run_words(frames: u64) -> &'static str {
-    if frames == 4 {
-        "run Z --cycles 3584160 --in P --save S"
-    } else {
-        "run Z --cycles 2688120 --in P --save S"
+    match frames {
+        8 => "run Z --cycles 7168320 --in P --save S",
+        4 => "run Z --cycles 3584160 --in P --save S",
+        _ => "run Z --cycles 2688120 --in P --save S",
     }
 }
 
