@@ -1,3 +1,5 @@
+use crate::filled::put;
+use std::alloc::Global;
 use std::test::Fail;
 use vdp_dma::{busy, settle, transfer_word};
 use vdp_ports::VdpState;
@@ -51,70 +53,72 @@ fn has_left(vdp: &mut VdpState, behind: u32, left: u32, is_busy: bool) -> bool {
     found == is_busy && vdp.left == left
 }
 
-/// The first row that is otherwise.
-fn first_wrong(vdp: &mut VdpState) -> Option<u32> {
+/// Fills all, and fails with the cycle of the first row that is otherwise.
+fn fill_all(vdp: &mut VdpState) -> Result<(), Fail> {
+    prepared(vdp, 0x80, 0, 1, 0);
+    begin_fill(vdp, 0, START, 0xab12);
     for (behind, left, is_busy) in LEFT {
         if !has_left(vdp, behind, left, is_busy) {
-            return Some(behind);
+            return Err(Fail::from(behind));
         }
     }
-    None
+    Ok(())
 }
 
 #[test]
 fn a_fill_of_length_0_fills_all(rt: HostRuntime) -> Result<(), Fail> {
     let mut vdp = VdpState::power_on(rt.alloc(), false)?;
-    prepared(&mut vdp, 0x80, 0, 1, 0);
-    begin_fill(&mut vdp, 0, START, 0xab12);
-    assert_eq!(rt; first_wrong(&mut vdp), None);
+    fill_all(&mut vdp)?;
     assert!(rt; *vdp.vram == [0xab; 65_536]);
     Ok(())
 }
 
-/// Lets a fill of 40 bytes with the increment 3 begin, whose data write is at 100h.
-fn begin_by_threes(vdp: &mut VdpState) {
-    prepared(vdp, 0x80, 40, 3, 0);
-    begin_fill(vdp, 0x100, START, 0x1234);
+/// A fill of 40 bytes with the increment 3, whose data write is at 100h, as it was settled at these cycles.
+pub(crate) fn by_threes(alloc: Global, cycles: &[u32]) -> Result<VdpState, Fail> {
+    let mut vdp = VdpState::power_on(alloc, false)?;
+    prepared(&mut vdp, 0x80, 40, 3, 0);
+    begin_fill(&mut vdp, 0x100, START, 0x1234);
+    for cycle in cycles {
+        settle(&mut vdp, u64::from(*cycle));
+    }
+    Ok(vdp)
 }
 
 // The data write puts 12h at 100h and 34h at 101h, and the address rises to
 // 103h. Below cycle 300 there are 17 bytes, at 102h, 107h, 108h and so on up to 132h: at 103h + 3k
 // with bit 0 inverted.
-fn is_settled(vdp: &VdpState) -> bool {
+pub(crate) fn is_settled(vdp: &VdpState) -> bool {
     (vdp.left, vdp.address, vdp.next_stamp) == (23, 0x136, 1306)
 }
 
-/// Whether the byte stands at its places, and nowhere else.
+/// Whether the bytes stand at their places, and nothing elsewhere.
 fn is_filled(vram: &[u8; 65_536]) -> bool {
+    let mut want = [0; 65_536];
+    want[0x100] = 0x12;
+    want[0x101] = 0x34;
     for k in 0..17 {
-        if vram[(0x103 + 3 * k) ^ 1] != 0x12 {
-            return false;
-        }
+        want[(0x103 + 3 * k) ^ 1] = 0x12;
     }
-    vram.iter().filter(|&&byte| byte == 0x12).count() == 18
+    *vram == want
+}
+
+/// Whether the fill has these bytes, as it was settled at these cycles.
+fn ends(alloc: Global, cycles: &[u32]) -> Result<bool, Fail> {
+    let vdp = by_threes(alloc, cycles)?;
+    Ok(is_settled(&vdp) && is_filled(&vdp.vram))
 }
 
 #[test]
 fn settling_twice_is_settling_once(rt: HostRuntime) -> Result<(), Fail> {
-    let mut once = VdpState::power_on(rt.alloc(), false)?;
-    begin_by_threes(&mut once);
-    settle(&mut once, 1300);
-    assert!(rt; is_settled(&once) && is_filled(&once.vram));
-    let mut twice = VdpState::power_on(rt.alloc(), false)?;
-    begin_by_threes(&mut twice);
-    settle(&mut twice, 1100);
-    let left = twice.left;
-    settle(&mut twice, 1300);
-    assert!(rt; left == 35 && is_settled(&twice) && *once.vram == *twice.vram);
+    let left = by_threes(rt.alloc(), &[1100])?.left;
+    assert!(rt; left == 35 && ends(rt.alloc(), &[1300])? && ends(rt.alloc(), &[1100, 1300])?);
     Ok(())
 }
 
 // A copy of four bytes from 0 to 1: each byte is read as the one before it left it.
 fn begin_copy(vdp: &mut VdpState) {
     prepared(vdp, 0xc0, 4, 1, 0);
-    for (place, byte) in [7, 1, 2, 3, 4, 5].into_iter().enumerate() {
-        vdp.vram[place] = byte;
-    }
+    put(vdp.vram.as_mut_slice(), 0, &[7, 1, 2, 3, 4, 5]);
     vdp.control_write(u64::from(START), 0x0001);
     vdp.control_write(u64::from(START), 0x00c0);
 }
@@ -125,33 +129,41 @@ fn begins_with(vdp: &mut VdpState, cycle: u32, bytes: &[u8]) -> bool {
     vdp.vram.starts_with(bytes)
 }
 
+/// Whether the copy's address is known at once, and its bytes come below their cycles.
+fn is_copied(vdp: &mut VdpState) -> bool {
+    begin_copy(vdp);
+    let address = vdp.a;
+    let two = begins_with(vdp, START + 34 * 2 + 1, &[7, 7, 7, 3, 4, 5]);
+    let four = begins_with(vdp, START + 34 * 4 + 1, &[7, 7, 7, 7, 7, 5]);
+    address == 5 && two && four && vdp.dma_kind == 0
+}
+
 #[test]
 fn a_copy_reads_what_it_has_written(rt: HostRuntime) -> Result<(), Fail> {
-    let mut vdp = VdpState::power_on(rt.alloc(), false)?;
-    begin_copy(&mut vdp);
-    let address = vdp.a;
-    let two = begins_with(&mut vdp, START + 34 * 2 + 1, &[7, 7, 7, 3, 4, 5]);
-    let four = begins_with(&mut vdp, START + 34 * 4 + 1, &[7, 7, 7, 7, 7, 5]);
-    assert!(rt; address == 5 && two && four && vdp.dma_kind == 0);
+    assert!(rt; is_copied(&mut VdpState::power_on(rt.alloc(), false)?));
     Ok(())
 }
 
 // Registers 21 to 23 of 34h, 12h and 7fh: 68h and 2400h, and 127 times 20000h.
 /// Whether the transfer is told, and begins at once.
 fn is_told(vdp: &mut VdpState) -> bool {
+    prepared(vdp, 0x7f, 0, 2, 0x34);
+    set(vdp, &[(22, 0x12)]);
     let first = vdp.control_write(0, 0x4000);
     let second = vdp.control_write(0, 0x0080);
     first.is_none() && second == Some((0xfe_2468, 65536)) && !busy(vdp, 0)
 }
 
+/// Whether it is, and then takes its words.
+fn is_transferred(vdp: &mut VdpState) -> bool {
+    let told = is_told(vdp);
+    transfer_word(vdp, 0x1234);
+    transfer_word(vdp, 0x5678);
+    told && vdp.vram.starts_with(&[0x12, 0x34, 0x56, 0x78])
+}
+
 #[test]
 fn a_transfer_of_length_0_has_65536_words(rt: HostRuntime) -> Result<(), Fail> {
-    let mut vdp = VdpState::power_on(rt.alloc(), false)?;
-    prepared(&mut vdp, 0x7f, 0, 2, 0x34);
-    set(&mut vdp, &[(22, 0x12)]);
-    let told = is_told(&mut vdp);
-    transfer_word(&mut vdp, 0x1234);
-    transfer_word(&mut vdp, 0x5678);
-    assert!(rt; told && vdp.vram.starts_with(&[0x12, 0x34, 0x56, 0x78]));
+    assert!(rt; is_transferred(&mut VdpState::power_on(rt.alloc(), false)?));
     Ok(())
 }

@@ -1,6 +1,7 @@
 // The bytes of a saved state that keep the drawing half of the VDP: the cycle of the next line's event,
 // high byte first, whether the last line had too many sprites and whether two met, and from 10 on the
 // picture, 960 bytes a row: 224 rows, and behind them 16 that only a picture for PAL has.
+use crate::filled::changed;
 use crate::frames::make_event;
 use md_word::Unspell;
 use std::alloc::Global;
@@ -10,82 +11,72 @@ use vdp_ports::VdpState;
 
 const LENGTH: usize = 230_410;
 
-/// The bytes that keep a chip.
-fn spelled(alloc: Global, chip: &ChipVdp, at: u64) -> Result<Vec<u8>, Fail> {
-    let mut bytes = Vec::with_capacity(alloc, LENGTH)?;
-    chip.spell(at, &mut bytes);
-    Ok(bytes)
-}
-
-/// The place at which the bytes are refused.
-fn place_of(alloc: Global, bytes: &[u8], at: u64) -> Result<Option<u64>, Fail> {
-    match ChipVdp::unspell(alloc, bytes, at, false) {
+/// The place at which so many bytes of 0 with these changes are refused at a cycle.
+fn refused(
+    alloc: Global,
+    length: usize,
+    at: u64,
+    changes: &[(usize, &[u8])],
+) -> Result<Option<u64>, Fail> {
+    match ChipVdp::unspell(alloc, &changed(alloc, length, changes)?, at, false) {
         Ok(_) => Ok(None),
         Err(Unspell::Rule { place }) => Ok(Some(place)),
         Err(Unspell::NoMemory) => Err(Fail::from("no memory")),
     }
 }
 
-/// The cycle of a state, that of the next line, both flags, a place in the picture where 1 stands, and
+/// The cycle of a state, that of the next line, both flags, a place in the picture and the byte there, and
 /// the place of the refusal.
-type Row = (u64, u64, [u8; 2], Option<usize>, Option<u64>);
+type Row = (u64, u64, [u8; 2], (usize, u8), Option<u64>);
 
 // The next line is the first from the state's cycle on. Rows behind the line of the last cycle below the
 // state are not drawn: below 1,000 that is line 0, below 3,421 line 1, and below 766,081 line 224,
 // behind which all rows are drawn. A frame has 896,040 cycles, and then row 0 is the last one again.
 const ROWS: [Row; 19] = [
-    (0, 0, [0, 0], None, None),
-    (0, 3420, [0, 0], None, Some(0)),
-    (0, 0, [0, 0], Some(0), Some(10)),
-    (1000, 3420, [0, 0], None, None),
-    (1000, 3420, [1, 1], None, None),
-    (1000, 3421, [0, 0], None, Some(0)),
-    (1000, 0, [0, 0], None, Some(0)),
-    (1000, 6840, [0, 0], None, Some(0)),
-    (3420, 3420, [0, 0], None, None),
-    (1000, 3420, [2, 0], None, Some(8)),
-    (1000, 3420, [0, 2], None, Some(8)),
-    (1000, 3420, [0, 0], Some(959), None),
-    (1000, 3420, [0, 0], Some(960), Some(10)),
-    (3421, 6840, [0, 0], Some(960), None),
-    (3421, 6840, [0, 0], Some(1920), Some(10)),
-    (766_081, 769_500, [0, 0], Some(215_039), None),
-    (766_081, 769_500, [0, 0], Some(215_040), Some(10)),
-    (896_040, 896_040, [0, 0], Some(215_039), None),
-    (896_041, 899_460, [0, 0], Some(960), Some(10)),
+    (0, 0, [0, 0], (0, 0), None),
+    (0, 3420, [0, 0], (0, 0), Some(0)),
+    (0, 0, [0, 0], (0, 1), Some(10)),
+    (1000, 3420, [0, 0], (0, 0), None),
+    (1000, 3420, [1, 1], (0, 0), None),
+    (1000, 3421, [0, 0], (0, 0), Some(0)),
+    (1000, 0, [0, 0], (0, 0), Some(0)),
+    (1000, 6840, [0, 0], (0, 0), Some(0)),
+    (3420, 3420, [0, 0], (0, 0), None),
+    (1000, 3420, [2, 0], (0, 0), Some(8)),
+    (1000, 3420, [0, 2], (0, 0), Some(8)),
+    (1000, 3420, [0, 0], (959, 1), None),
+    (1000, 3420, [0, 0], (960, 1), Some(10)),
+    (3421, 6840, [0, 0], (960, 1), None),
+    (3421, 6840, [0, 0], (1920, 1), Some(10)),
+    (766_081, 769_500, [0, 0], (215_039, 1), None),
+    (766_081, 769_500, [0, 0], (215_040, 1), Some(10)),
+    (896_040, 896_040, [0, 0], (215_039, 1), None),
+    (896_041, 899_460, [0, 0], (960, 1), Some(10)),
 ];
 
-/// Bytes of these fields.
-fn bytes_of(alloc: Global, row: &Row) -> Result<Vec<u8>, Fail> {
-    let (_, next, flags, place, _) = row;
-    let mut bytes = Vec::with_capacity(alloc, LENGTH)?;
-    bytes.extend_from_slice(&next.to_be_bytes())?;
-    bytes.extend_from_slice(flags)?;
-    bytes.resize(LENGTH, 0)?;
-    if let Some(place) = place {
-        for byte in bytes.iter_mut().skip(10).skip(*place).take(1) {
-            *byte = 1;
-        }
-    }
-    Ok(bytes)
-}
-
-/// The place at which the bytes of a row are refused.
-fn refused(alloc: Global, row: &Row) -> Result<Option<u64>, Fail> {
-    place_of(alloc, &bytes_of(alloc, row)?, row.0)
+/// The place at which the bytes of a row's fields are refused.
+fn refused_row(alloc: Global, row: &Row) -> Result<Option<u64>, Fail> {
+    let (at, next, flags, (place, byte), _) = row;
+    refused(
+        alloc,
+        LENGTH,
+        *at,
+        &[
+            (0, &next.to_be_bytes()),
+            (8, flags),
+            (place.wrapping_add(10), &[*byte]),
+        ],
+    )
 }
 
 #[test]
 fn each_rule_of_the_drawing_half(rt: HostRuntime) -> Result<(), Fail> {
     for (number, row) in ROWS.iter().enumerate() {
-        assert!(rt; refused(rt.alloc(), row)? == row.4, "row {number}");
+        if refused_row(rt.alloc(), row)? != row.4 {
+            return Err(Fail::from(number));
+        }
     }
     Ok(())
-}
-
-/// The place at which so many bytes of 0 are refused.
-fn refused_length(alloc: Global, length: usize) -> Result<Option<u64>, Fail> {
-    place_of(alloc, &vec![in alloc; 0; length]?, 0)
 }
 
 const LENGTHS: [(usize, u64); 4] = [(0, 0), (9, 9), (230_409, 230_409), (230_411, 230_410)];
@@ -93,10 +84,9 @@ const LENGTHS: [(usize, u64); 4] = [(0, 0), (9, 9), (230_409, 230_409), (230_411
 #[test]
 fn other_lengths_of_the_drawing_half(rt: HostRuntime) -> Result<(), Fail> {
     for (length, place) in LENGTHS {
-        assert!(rt;
-            refused_length(rt.alloc(), length)? == Some(place),
-            "{length}"
-        );
+        if refused(rt.alloc(), length, 0, &[])? != Some(place) {
+            return Err(Fail::from(length));
+        }
     }
     Ok(())
 }
@@ -122,36 +112,46 @@ fn make_events(
     Ok(())
 }
 
+/// The bytes that keep a chip at a cycle, and behind them its frame, where it has one.
+fn spelled(alloc: Global, chip: &ChipVdp, at: u64) -> Result<Vec<u8>, Fail> {
+    let mut bytes = Vec::with_capacity(alloc, LENGTH)?;
+    chip.spell(at, &mut bytes);
+    bytes.extend_from_slice(chip.frame().unwrap_or(&[]))?;
+    Ok(bytes)
+}
+
+/// A chip behind 100 lines of white.
+fn amid(alloc: Global) -> Result<ChipVdp, Fail> {
+    let mut chip = ChipVdp::power_on(alloc, false)?;
+    make_events(alloc, &mut chip, (0, 100), 0x0eee)?;
+    Ok(chip)
+}
+
 /// Whether the bytes are those behind 100 lines of white, whose next event stands at 342,000, 0537F0h.
 fn are_amid(bytes: &[u8]) -> bool {
     bytes.starts_with(&[0, 0, 0, 0, 0, 0x05, 0x37, 0xf0, 0, 0, 252])
         && bytes.get(96_009..96_011) == Some([252, 0].as_slice())
 }
 
-/// The bytes of a chip whose lines from 100 on are red, or none where it has no frame then.
-fn later(alloc: Global, chip: &mut ChipVdp) -> Result<Vec<u8>, Fail> {
-    make_events(alloc, chip, (100, 225), 0x000e)?;
-    if chip.frame().is_some() {
-        spelled(alloc, chip, 769_500)
-    } else {
-        Ok(Vec::new(alloc))
+/// The chip that is read of the bytes of the one amid its picture.
+fn again(alloc: Global) -> Result<ChipVdp, Fail> {
+    let bytes = spelled(alloc, &amid(alloc)?, 342_000)?;
+    if !are_amid(&bytes) {
+        return Err(Fail::from("other bytes"));
     }
+    ChipVdp::unspell(alloc, &bytes, 342_000, false).map_err(|_| Fail::from("refused"))
 }
 
-/// Whether a chip and the one that is read of its bytes go on in the same way.
-fn go_on_alike(alloc: Global, chip: &mut ChipVdp, bytes: &[u8]) -> Result<bool, Fail> {
-    let again = ChipVdp::unspell(alloc, bytes, 342_000, false);
-    let mut again = again.map_err(|_| Fail::from("refused"))?;
-    let one = later(alloc, chip)?;
-    let other = later(alloc, &mut again)?;
-    Ok(one.len() == LENGTH && one.as_slice() == other.as_slice() && again.frame() == chip.frame())
+/// The bytes and the frame of a chip whose lines from 100 on are red.
+fn later(alloc: Global, mut chip: ChipVdp) -> Result<Vec<u8>, Fail> {
+    make_events(alloc, &mut chip, (100, 225), 0x000e)?;
+    spelled(alloc, &chip, 769_500)
 }
 
 #[test]
 fn a_picture_goes_on_as_it_was_kept(rt: HostRuntime) -> Result<(), Fail> {
-    let mut chip = ChipVdp::power_on(rt.alloc(), false)?;
-    make_events(rt.alloc(), &mut chip, (0, 100), 0x0eee)?;
-    let bytes = spelled(rt.alloc(), &chip, 342_000)?;
-    assert!(rt; are_amid(&bytes) && go_on_alike(rt.alloc(), &mut chip, &bytes)?);
+    let one = later(rt.alloc(), amid(rt.alloc())?)?;
+    let other = later(rt.alloc(), again(rt.alloc())?)?;
+    assert!(rt; one.len() == LENGTH + 215_040 && one.as_slice() == other.as_slice());
     Ok(())
 }

@@ -1,3 +1,4 @@
+use crate::filled::{Run, filled};
 use md_word::clock::{LAST_CYCLE, LINE};
 use std::test::Fail;
 use vdp_chip::ChipVdp;
@@ -18,59 +19,32 @@ pub(crate) fn make_event(chip: &mut ChipVdp, vdp: &VdpState, line: u32) {
     chip.answer_with(view, &sprites, note);
 }
 
-/// The bytes of a dot of the frame that is kept.
-pub(crate) fn dot(chip: &ChipVdp, y: usize, x: usize) -> Option<[u8; 3]> {
-    let frame = chip.frame()?;
+/// The bytes of a dot of the frame that is kept, or none where none is.
+fn dot(chip: &ChipVdp, y: usize, x: usize) -> &[u8] {
+    let frame = chip.frame().unwrap_or(&[]);
     let at = y.wrapping_mul(320).wrapping_add(x).wrapping_mul(3);
-    match frame.get(at..)? {
-        [red, green, blue, ..] => Some([*red, *green, *blue]),
-        _ => None,
-    }
+    frame.get(at..at.wrapping_add(3)).unwrap_or(&[])
 }
 
-/// The first dot of these whose bytes are others in the frame that is kept.
-pub(crate) fn first_wrong(
-    chip: &ChipVdp,
-    dots: &[(usize, usize, [u8; 3])],
-) -> Option<(usize, usize)> {
-    for &(y, x, bytes) in dots {
-        if dot(chip, y, x) != Some(bytes) {
-            return Some((y, x));
+/// Fails with the number of the first dot of these whose bytes are others in the frame that is kept.
+pub(crate) fn show(chip: &ChipVdp, dots: &[(usize, usize, [u8; 3])]) -> Result<(), Fail> {
+    for (number, (y, x, bytes)) in dots.iter().enumerate() {
+        if dot(chip, *y, *x) != bytes.as_slice() {
+            return Err(Fail::from(number));
         }
     }
-    None
+    Ok(())
 }
 
-/// Makes pattern 1 one of index 1.
-fn fill_pattern(vdp: &mut VdpState) {
-    for k in 0..32 {
-        vdp.vram[32 + k] = 0x11;
-    }
-}
+const REGISTERS: [(usize, u8); 2] = [(PLANE_B, 0x07), (SPRITES, 0x78)];
 
-/// Fills plane B, at E000h, with pattern 1.
-fn fill_plane(vdp: &mut VdpState) {
-    for k in 0..1024 {
-        vdp.vram[0xe001 + 2 * k] = 1;
-    }
-}
-
-/// Puts a sprite of one cell of colour 49 at (160, 208).
-fn put_sprite(vdp: &mut VdpState) {
-    let sprite = [1, 80, 0, 0, 0x60, 1, 1, 32];
-    for k in 0..8 {
-        vdp.vram[0xf000 + k] = sprite[k];
-    }
-}
-
-fn prepare(vdp: &mut VdpState) {
-    vdp.registers[PLANE_B] = 0x07;
-    vdp.registers[SPRITES] = 0x78;
-    vdp.cram[49] = 0x0e00;
-    fill_pattern(vdp);
-    fill_plane(vdp);
-    put_sprite(vdp);
-}
+// Pattern 1 of index 1, plane B, at E000h, of it, and a sprite of one cell of colour 49 at (160, 208).
+const RUNS: [Run; 4] = [
+    (0x0020, 0x1111_1111, 8),
+    (0xe000, 0x0001_0001, 512),
+    (0xf000, 0x0150_0000, 1),
+    (0xf004, 0x6001_0120, 1),
+];
 
 /// The VDP as it is drawn: lines 0 to 99 with the display off and a red of their own behind, 100 to
 /// 199 in the 256 mode with white behind, the others in the 320 mode.
@@ -104,37 +78,38 @@ const DOTS: [(usize, usize, [u8; 3]); 14] = [
 
 /// Makes the events of the picture's lines.
 fn make_lines(chip: &mut ChipVdp, vdp: &mut VdpState) {
+    vdp.cram[49] = 0x0e00;
     for line in 0..224u16 {
         set_line(vdp, line);
         make_event(chip, vdp, u32::from(line));
     }
 }
 
-/// Whether the frame is there behind line 224 alone, and has its dots.
-fn has_rows(chip: &mut ChipVdp, vdp: &mut VdpState) -> bool {
+/// Fails where the frame is not there behind line 224 alone, or has other dots.
+fn have_rows(chip: &mut ChipVdp, vdp: &mut VdpState) -> Result<(), Fail> {
     make_lines(chip, vdp);
     let early = chip.frame().is_some();
     make_event(chip, vdp, 224);
-    !early && chip.next().key.cycle == 225 * LINE && first_wrong(chip, &DOTS).is_none()
+    if early || chip.next().key.cycle != 225 * LINE {
+        return Err(Fail::from("another line"));
+    }
+    show(chip, &DOTS)
 }
 
 #[test]
 fn a_frame_has_the_rows_of_its_lines(rt: HostRuntime) -> Result<(), Fail> {
-    let mut vdp = VdpState::power_on(rt.alloc(), false)?;
     let mut chip = ChipVdp::power_on(rt.alloc(), false)?;
-    prepare(&mut vdp);
-    assert!(rt; has_rows(&mut chip, &mut vdp));
-    Ok(())
+    have_rows(&mut chip, &mut filled(rt.alloc(), &REGISTERS, &RUNS)?)
 }
 
 // How many events are made, with which colour behind, and the first dot of the frame then: that of
 // the first frame stays until line 224 of the second one.
-const EVENTS: [(u16, u16, Option<[u8; 3]>); 5] = [
-    (224, 0x0eee, None),
-    (1, 0x0eee, Some([252, 252, 252])),
-    (38, 0x000e, Some([252, 252, 252])),
-    (223, 0x000e, Some([252, 252, 252])),
-    (1, 0x00e0, Some([252, 0, 0])),
+const EVENTS: [(u16, u16, &[u8]); 5] = [
+    (224, 0x0eee, &[]),
+    (1, 0x0eee, &[252, 252, 252]),
+    (38, 0x000e, &[252, 252, 252]),
+    (223, 0x000e, &[252, 252, 252]),
+    (1, 0x00e0, &[252, 0, 0]),
 ];
 
 /// Makes so many events of line 0.
@@ -144,16 +119,16 @@ fn make_events(chip: &mut ChipVdp, vdp: &VdpState, count: u16) {
     }
 }
 
-/// The colour of the first row behind which the first dot is another.
-fn first_wrong_event(chip: &mut ChipVdp, vdp: &mut VdpState) -> Option<u16> {
+/// Fails with the colour of the first row behind which the first dot is another.
+fn draw(chip: &mut ChipVdp, vdp: &mut VdpState) -> Result<(), Fail> {
     for (count, colour, first) in EVENTS {
         vdp.cram[0] = colour;
         make_events(chip, vdp, count);
         if dot(chip, 0, 0) != first {
-            return Some(colour);
+            return Err(Fail::from(colour));
         }
     }
-    None
+    Ok(())
 }
 
 /// Whether the next event is that of line 225 of the second frame, and a frame is let go.
@@ -165,9 +140,8 @@ fn is_dropped(chip: &mut ChipVdp) -> bool {
 
 #[test]
 fn a_frame_stays_while_the_next_one_is_drawn(rt: HostRuntime) -> Result<(), Fail> {
-    let mut vdp = VdpState::power_on(rt.alloc(), false)?;
     let mut chip = ChipVdp::power_on(rt.alloc(), false)?;
-    let wrong = first_wrong_event(&mut chip, &mut vdp);
-    assert!(rt; wrong.is_none() && is_dropped(&mut chip));
+    draw(&mut chip, &mut VdpState::power_on(rt.alloc(), false)?)?;
+    assert!(rt; is_dropped(&mut chip));
     Ok(())
 }

@@ -6,6 +6,8 @@ mod dma;
 #[cfg(test)]
 mod drawing;
 #[cfg(test)]
+mod filled;
+#[cfg(test)]
 mod frames;
 #[cfg(test)]
 mod lines;

@@ -77,20 +77,31 @@ fn lines_and_blanking(rt: HostRuntime) {
 
 // The lines of a frame of PAL that lie in the vertical blanking, by the height of the display, and the
 // first cycles of the frame behind it.
+const BLANK: [(u32, bool, bool); 4] = [
+    (223, false, false),
+    (224, true, false),
+    (239, true, false),
+    (240, true, true),
+];
+
+/// Whether a line is blank so by both heights.
+fn is_blank(line: u32, low: bool, high: bool) -> bool {
+    let cycle = 3420 * u64::from(line);
+    blank(cycle, true, true, false) == (false, low)
+        && blank(cycle, true, true, true) == (false, high)
+}
+
+/// The frame and the line of a cycle on PAL.
+fn place_of(cycle: u64) -> (u64, u32) {
+    (frame_of(cycle, true), line_of(cycle, true))
+}
+
 #[test]
 fn blanking_of_pal(rt: HostRuntime) {
-    for (line, low, high) in [
-        (223, false, false),
-        (224, true, false),
-        (239, true, false),
-        (240, true, true),
-    ] {
-        let cycle = 3420 * line;
-        assert!(rt; blank(cycle, true, true, false) == (false, low), "{line}");
-        assert!(rt; blank(cycle, true, true, true) == (false, high), "{line}");
+    for (line, low, high) in BLANK {
+        assert!(rt; is_blank(line, low, high), "{line}");
     }
-    assert!(rt; (frame_of(1_070_459, true), line_of(1_070_459, true)) == (0, 312));
-    assert!(rt; (frame_of(1_070_460, true), line_of(1_070_460, true)) == (1, 0));
+    assert!(rt; place_of(1_070_459) == (0, 312) && place_of(1_070_460) == (1, 0));
 }
 
 /// The height of the display behind the event of a line, with these two bits of register 1.
@@ -100,28 +111,37 @@ fn tall_behind(vdp: &mut VdpState, line: u32, mode: u8) -> bool {
     vdp.tall
 }
 
+/// The heights behind the events of four lines, of which the second and the fourth are lines 0.
+fn heights(vdp: &mut VdpState) -> [bool; 4] {
+    [
+        tall_behind(vdp, 312, 0x08),
+        tall_behind(vdp, 313, 0x08),
+        tall_behind(vdp, 314, 0),
+        tall_behind(vdp, 626, 0),
+    ]
+}
+
 // The event of line 0 takes bit 3 of register 1, on PAL alone; another line does not.
 #[test]
 fn the_height_is_taken_at_line_0(rt: HostRuntime) -> Result<(), Fail> {
-    let mut vdp = VdpState::power_on(rt.alloc(), true)?;
-    assert!(rt; !tall_behind(&mut vdp, 312, 0x08));
-    assert!(rt; tall_behind(&mut vdp, 313, 0x08));
-    assert!(rt; tall_behind(&mut vdp, 314, 0));
-    assert!(rt; !tall_behind(&mut vdp, 626, 0));
-    let mut other = VdpState::power_on(rt.alloc(), false)?;
-    assert!(rt; !tall_behind(&mut other, 0, 0x08));
+    let on_pal = heights(&mut VdpState::power_on(rt.alloc(), true)?);
+    let on_ntsc = tall_behind(&mut VdpState::power_on(rt.alloc(), false)?, 0, 0x08);
+    assert!(rt; on_pal == [false, true, true, false] && !on_ntsc);
     Ok(())
 }
 
-// The vertical interrupt of a high display comes on line 240.
+/// Whether the vertical interrupt of a high display comes on line 240, and not on line 224.
+fn comes_on_line_240(vdp: &mut VdpState) -> bool {
+    let tall = tall_behind(vdp, 0, 0x08);
+    start_line(vdp, 3420 * 224);
+    let early = vdp.vertical;
+    start_line(vdp, 3420 * 240);
+    tall && !early && vdp.vertical && (vdp.int_from, vdp.int_to) == (820_800, 824_220)
+}
+
 #[test]
 fn the_interrupt_of_a_high_display(rt: HostRuntime) -> Result<(), Fail> {
-    let mut vdp = VdpState::power_on(rt.alloc(), true)?;
-    assert!(rt; tall_behind(&mut vdp, 0, 0x08));
-    start_line(&mut vdp, 3420 * 224);
-    assert!(rt; !vdp.vertical);
-    start_line(&mut vdp, 3420 * 240);
-    assert!(rt; vdp.vertical && (vdp.int_from, vdp.int_to) == (820_800, 824_220));
+    assert!(rt; comes_on_line_240(&mut VdpState::power_on(rt.alloc(), true)?));
     Ok(())
 }
 
@@ -135,21 +155,21 @@ fn has_its_interrupts(vdp: &mut VdpState, line: u32) -> bool {
     vdp.horizontal == (line < 224 && line % 3 == 0) && vdp.vertical == (line == 224)
 }
 
-/// The first line of a frame with other interrupts.
-fn first_wrong(vdp: &mut VdpState) -> Option<u32> {
+/// Fails with the first line of a frame with other interrupts.
+fn interrupt(vdp: &mut VdpState) -> Result<(), Fail> {
+    vdp.registers[10] = 2;
     for line in 0..262u32 {
         if !has_its_interrupts(vdp, line) {
-            return Some(line);
+            return Err(Fail::from(line));
         }
     }
-    None
+    Ok(())
 }
 
 #[test]
 fn interrupts_of_a_frame(rt: HostRuntime) -> Result<(), Fail> {
     let mut vdp = VdpState::power_on(rt.alloc(), false)?;
-    vdp.registers[10] = 2;
-    assert_eq!(rt; first_wrong(&mut vdp), None);
+    interrupt(&mut vdp)?;
     assert!(rt; (vdp.int_from, vdp.int_to) == (766_080, 769_500));
     Ok(())
 }

@@ -1,5 +1,7 @@
 // One picture in which each part of the drawing shows somewhere, and its dots as worked out by hand.
-use crate::frames::{first_wrong, make_event};
+use crate::filled::{Run, filled, put_long};
+use crate::frames::{make_event, show};
+use std::alloc::Global;
 use std::test::Fail;
 use vdp_chip::ChipVdp;
 use vdp_ports::VdpState;
@@ -22,8 +24,7 @@ const REGISTERS: [(usize, u8); 12] = [
     (18, 0x02),
 ];
 
-// Where longs stand in the video memory, the long, and how often it stands there.
-const RUNS: [(u16, u32, u16); 28] = [
+const RUNS: [Run; 28] = [
     // patterns 1 to 11: a colour, 2 beside 3, 4 over 5, one dot of 6, 14, 15, 7 on the left, 8 to 11
     (0x0020, 0x1111_1111, 8),
     (0x0040, 0x2222_3333, 8),
@@ -94,22 +95,6 @@ const SPRITES: [(u32, u32); 25] = [
     (0x0120_0000, 0x4008_0170),
 ];
 
-/// Puts a long into the video memory, where it has room.
-fn put_long(vdp: &mut VdpState, at: usize, long: u32) {
-    let bytes = long.to_be_bytes();
-    if at < 65_533 {
-        for k in 0..4 {
-            vdp.vram[at + k] = bytes[k];
-        }
-    }
-}
-
-fn put_run(vdp: &mut VdpState, at: u16, long: u32, count: u16) {
-    for n in 0..count {
-        put_long(vdp, usize::from(at) + 4 * usize::from(n), long);
-    }
-}
-
 fn put_sprites(vdp: &mut VdpState) {
     let mut at = 0xdc00u16;
     for (head, tail) in SPRITES {
@@ -127,24 +112,19 @@ fn put_colours(vdp: &mut VdpState) {
     }
 }
 
-fn put_registers(vdp: &mut VdpState) {
-    for (number, value) in REGISTERS {
-        if number < 24 {
-            vdp.registers[number] = value;
-        }
-    }
-}
-
-fn prepare(vdp: &mut VdpState) {
-    put_registers(vdp);
-    put_colours(vdp);
-    for (at, long, count) in RUNS {
-        put_run(vdp, at, long, count);
-    }
-    put_sprites(vdp);
-    // plane A 230 down in column 16, and plane B 8 down in column 3
+/// Scrolls plane A 230 down in column 16, and plane B 8 down in column 3.
+fn put_scrolls(vdp: &mut VdpState) {
     vdp.vsram[32] = 230;
     vdp.vsram[7] = 8;
+}
+
+/// The VDP of the picture.
+fn prepared(alloc: Global) -> Result<VdpState, Fail> {
+    let mut vdp = filled(alloc, &REGISTERS, &RUNS)?;
+    put_colours(&mut vdp);
+    put_sprites(&mut vdp);
+    put_scrolls(&mut vdp);
+    Ok(vdp)
 }
 
 // Row, place and bytes. A colour of palette p prints as 36 (c modulo 8), 72 p, and 144 from c 8 on, half of
@@ -226,10 +206,7 @@ fn make_events(chip: &mut ChipVdp, vdp: &VdpState) {
 
 #[test]
 fn a_picture_with_each_part_of_the_drawing(rt: HostRuntime) -> Result<(), Fail> {
-    let mut vdp = VdpState::power_on(rt.alloc(), false)?;
     let mut chip = ChipVdp::power_on(rt.alloc(), false)?;
-    prepare(&mut vdp);
-    make_events(&mut chip, &vdp);
-    assert_eq!(rt; first_wrong(&chip, &DOTS), None);
-    Ok(())
+    make_events(&mut chip, &prepared(rt.alloc())?);
+    show(&chip, &DOTS)
 }

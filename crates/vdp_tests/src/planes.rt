@@ -1,3 +1,5 @@
+use crate::filled::{Run, filled, put, put_long, put_runs};
+use std::alloc::Global;
 use std::test::Fail;
 use vdp_planes::register::{
     BACKDROP, MODE_2, MODE_4, PLANE_A, PLANE_B, PLANE_SIZE, SCROLLS, SPRITES, WINDOW,
@@ -7,36 +9,35 @@ use vdp_planes::{Dot, draw_plane, mix_dots, scene_of};
 use vdp_ports::VdpState;
 use vdp_sprites::draw_sprites;
 
-/// Puts a word at an even address of VRAM.
-fn put(vdp: &mut VdpState, address: u16, word: u16) {
-    vdp.vram[usize::from(address)] = (word >> 8) as u8;
-    vdp.vram[usize::from(address | 1)] = (word & 0xff) as u8;
+// The display is on, with the 320 mode, plane A at C000h, plane B at E000h, the window at D000h, the
+// sprites at F000h and the scrolls at FC00h.
+const REGISTERS: [(usize, u8); 7] = [
+    (MODE_2, 0x40),
+    (MODE_4, 0x01),
+    (PLANE_A, 0x30),
+    (PLANE_B, 0x07),
+    (WINDOW, 0x34),
+    (SPRITES, 0x78),
+    (SCROLLS, 0x3f),
+];
+
+// Pattern 1 has pixels of index 1, pattern 2 of index 14, pattern 3 of index 15. There is one sprite,
+// one cell large, at the upper left corner.
+const RUNS: [Run; 5] = [
+    (0x0020, 0x1111_1111, 8),
+    (0x0040, 0xeeee_eeee, 8),
+    (0x0060, 0xffff_ffff, 8),
+    (0xf000, 0x0080_0000, 1),
+    (0xf004, 0x0000_0080, 1),
+];
+
+fn prepared(alloc: Global) -> Result<VdpState, Fail> {
+    filled(alloc, &REGISTERS, &RUNS)
 }
 
-/// Fills the pattern of a number below 64 with two pixels.
-fn fill_pattern(vdp: &mut VdpState, number: u8, pixels: u8) {
-    let at = usize::from(number % 64) * 32;
-    for k in 0..32 {
-        vdp.vram[at + k] = pixels;
-    }
-}
-
-/// Turns the display on, with plane A at C000h, plane B at E000h, the window at D000h, the sprites at
-/// F000h and the scrolls at FC00h. Pattern 1 has pixels of index 1, pattern 2 of index 14, pattern 3
-/// of index 15. There is one sprite, one cell large, at the upper left corner.
-fn prepare(vdp: &mut VdpState, mode: u8) {
-    vdp.registers[MODE_2] = 0x40;
-    vdp.registers[MODE_4] = mode;
-    vdp.registers[PLANE_A] = 0x30;
-    vdp.registers[PLANE_B] = 0x07;
-    vdp.registers[WINDOW] = 0x34;
-    vdp.registers[SPRITES] = 0x78;
-    vdp.registers[SCROLLS] = 0x3f;
-    fill_pattern(vdp, 1, 0x11);
-    fill_pattern(vdp, 2, 0xee);
-    fill_pattern(vdp, 3, 0xff);
-    put(vdp, 0xf000, 128);
-    put(vdp, 0xf006, 128);
+/// Puts a word at an address of VRAM.
+fn put_word(vdp: &mut VdpState, address: usize, word: u16) {
+    put(vdp.vram.as_mut_slice(), address, &word.to_be_bytes());
 }
 
 /// Draws a line of the picture.
@@ -71,29 +72,23 @@ const LEVELS: [Level; 8] = [
 /// Whether the upper left dot has the bytes of its row.
 fn is_printed(vdp: &mut VdpState, row: &Level) -> bool {
     let &(word, mode, name, sprite, bytes) = row;
-    prepare(vdp, mode);
+    vdp.registers[MODE_4] = mode;
     vdp.cram[17] = word;
-    put(vdp, 0xc000, name);
-    put(vdp, 0xf004, sprite);
+    put_word(vdp, 0xc000, name);
+    put_word(vdp, 0xf004, sprite);
     let mut rgb = [1; 960];
     draw(vdp, 0, &mut rgb);
     [rgb[0], rgb[1], rgb[2]] == bytes
 }
 
-/// The first row that is printed otherwise.
-fn first_wrong_level(vdp: &mut VdpState) -> Option<usize> {
-    for (number, row) in LEVELS.iter().enumerate() {
-        if !is_printed(vdp, row) {
-            return Some(number);
-        }
-    }
-    None
-}
-
 #[test]
 fn levels_are_printed(rt: HostRuntime) -> Result<(), Fail> {
-    let mut vdp = VdpState::power_on(rt.alloc(), false)?;
-    assert_eq!(rt; first_wrong_level(&mut vdp), None);
+    let mut vdp = prepared(rt.alloc())?;
+    for (number, row) in LEVELS.iter().enumerate() {
+        if !is_printed(&mut vdp, row) {
+            return Err(Fail::from(number));
+        }
+    }
     Ok(())
 }
 
@@ -113,61 +108,57 @@ const ORDER: [(u16, u16, u16, u8); 9] = [
 
 /// The red of the upper left dot.
 fn first_red(vdp: &mut VdpState, a: u16, b: u16, sprite: u16) -> u8 {
-    put(vdp, 0xc000, a);
-    put(vdp, 0xe000, b);
-    put(vdp, 0xf004, sprite);
+    put_word(vdp, 0xc000, a);
+    put_word(vdp, 0xe000, b);
+    put_word(vdp, 0xf004, sprite);
     let mut rgb = [1; 960];
     draw(vdp, 0, &mut rgb);
     rgb[0]
 }
 
-/// The first row that is in another order.
-fn first_wrong_order(vdp: &mut VdpState) -> Option<usize> {
-    for (number, (a, b, sprite, palette)) in ORDER.into_iter().enumerate() {
-        if first_red(vdp, a, b, sprite) != 36 * palette {
-            return Some(number);
-        }
-    }
-    None
-}
-
-// The red of a palette's colours is its number, and the backdrop is colour 2.
-#[test]
-fn planes_and_sprites_stand_in_order(rt: HostRuntime) -> Result<(), Fail> {
-    let mut vdp = VdpState::power_on(rt.alloc(), false)?;
-    prepare(&mut vdp, 0x01);
+/// Makes the red of a palette's colours its number, and the backdrop colour 2.
+fn put_colours(vdp: &mut VdpState) {
     vdp.registers[BACKDROP] = 2;
     vdp.cram[17] = 2;
     vdp.cram[33] = 4;
     vdp.cram[49] = 6;
-    assert_eq!(rt; first_wrong_order(&mut vdp), None);
-    Ok(())
 }
 
-/// The first place of a line at which its byte is not that of the borders or of the picture.
-fn first_wrong(vdp: &VdpState) -> Option<usize> {
-    let mut rgb = [1; 960];
-    draw(vdp, 100, &mut rgb);
-    for (place, byte) in rgb.iter().enumerate() {
-        let want = if place < 96 || place >= 864 { 252 } else { 0 };
-        if *byte != want {
-            return Some(place);
+#[test]
+fn planes_and_sprites_stand_in_order(rt: HostRuntime) -> Result<(), Fail> {
+    let mut vdp = prepared(rt.alloc())?;
+    put_colours(&mut vdp);
+    for (number, (a, b, sprite, palette)) in ORDER.iter().enumerate() {
+        if u16::from(first_red(&mut vdp, *a, *b, *sprite)) != 36 * u16::from(*palette) {
+            return Err(Fail::from(number));
         }
     }
-    None
+    Ok(())
 }
 
 // In the 256 mode 32 dots of the backdrop, white, stand on each side of the picture, which is black
 // where plane B is opaque.
+fn bordered() -> [u8; 960] {
+    let mut rgb = [0; 960];
+    for k in 0..96 {
+        rgb[k] = 252;
+        rgb[864 + k] = 252;
+    }
+    rgb
+}
+
+fn has_borders(mut vdp: VdpState) -> bool {
+    vdp.registers[MODE_4] = 0x00;
+    vdp.cram[0] = 0x0eee;
+    put_runs(&mut vdp, &[(0xe000, 0x0001_0001, 512)]);
+    let mut rgb = [1; 960];
+    draw(&vdp, 100, &mut rgb);
+    rgb == bordered()
+}
+
 #[test]
 fn the_narrow_picture_has_borders(rt: HostRuntime) -> Result<(), Fail> {
-    let mut vdp = VdpState::power_on(rt.alloc(), false)?;
-    prepare(&mut vdp, 0x00);
-    vdp.cram[0] = 0x0eee;
-    for k in 0..1024u16 {
-        put(&mut vdp, 0xe000 + 2 * k, 1);
-    }
-    assert_eq!(rt; first_wrong(&vdp), None);
+    assert!(rt; has_borders(prepared(rt.alloc())?));
     Ok(())
 }
 
@@ -191,16 +182,18 @@ fn is_scrolled(vdp: &VdpState) -> bool {
 
 // A plane of 64 by 32 cells, scrolled by 511 to the right and by 1,023 up: the dot at (0, 0) is that
 // of column 1 and row 255, and the one at (7, 0) is in the next cell.
+fn scroll(vdp: &mut VdpState) {
+    vdp.registers[PLANE_SIZE] = 0x01;
+    vdp.vsram[0] = 1023;
+    put_word(vdp, 0xfc00, 511);
+    put_long(vdp, 0xc000 + 2 * 31 * 64, 0x2004_c803);
+    put_word(vdp, 4 * 32 + 28, 0x5abc);
+}
+
 #[test]
 fn a_plane_is_scrolled(rt: HostRuntime) -> Result<(), Fail> {
-    let mut vdp = VdpState::power_on(rt.alloc(), false)?;
-    prepare(&mut vdp, 0x01);
-    vdp.registers[PLANE_SIZE] = 0x01;
-    put(&mut vdp, 0xfc00, 511);
-    vdp.vsram[0] = 1023;
-    put(&mut vdp, 0xc000 + 2 * 31 * 64, 0x2004);
-    put(&mut vdp, 0xc002 + 2 * 31 * 64, 0xc803);
-    put(&mut vdp, 4 * 32 + 28, 0x5abc);
+    let mut vdp = prepared(rt.alloc())?;
+    scroll(&mut vdp);
     assert!(rt; is_scrolled(&vdp));
     Ok(())
 }
@@ -220,32 +213,24 @@ const EDGES: [(u8, u8, u8, usize, u8); 10] = [
     (0x05, 0x02, 0, 319, 2),
 ];
 
-/// Fills plane A with palette 1, and the window with palette 2.
-fn fill_both(vdp: &mut VdpState) {
-    for k in 0..1024u16 {
-        put(vdp, 0xc000 + 2 * k, 0x2001);
-        put(vdp, 0xd000 + 4 * k, 0x4001);
-        put(vdp, 0xd002 + 4 * k, 0x4001);
-    }
-}
+// Plane A of palette 1, and the window of palette 2.
+const BOTH: [Run; 2] = [(0xc000, 0x2001_2001, 512), (0xd000, 0x4001_4001, 1024)];
 
-/// The first row at which the other plane is seen.
-fn first_wrong_edge(vdp: &mut VdpState) -> Option<usize> {
-    for (number, (across, down, y, x, palette)) in EDGES.into_iter().enumerate() {
-        vdp.registers[WINDOW_ACROSS] = across;
-        vdp.registers[WINDOW_DOWN] = down;
-        if dot(vdp, u32::from(y), x).colour() / 16 != palette {
-            return Some(number);
-        }
-    }
-    None
+/// The palette of a dot with these registers 17 and 18.
+fn palette_of(vdp: &mut VdpState, across: u8, down: u8, y: u8, x: usize) -> u8 {
+    vdp.registers[WINDOW_ACROSS] = across;
+    vdp.registers[WINDOW_DOWN] = down;
+    dot(vdp, u32::from(y), x).colour() / 16
 }
 
 #[test]
 fn the_window_takes_the_place_of_plane_a(rt: HostRuntime) -> Result<(), Fail> {
-    let mut vdp = VdpState::power_on(rt.alloc(), false)?;
-    prepare(&mut vdp, 0x01);
-    fill_both(&mut vdp);
-    assert_eq!(rt; first_wrong_edge(&mut vdp), None);
+    let mut vdp = prepared(rt.alloc())?;
+    put_runs(&mut vdp, &BOTH);
+    for (number, (across, down, y, x, palette)) in EDGES.iter().enumerate() {
+        if palette_of(&mut vdp, *across, *down, *y, *x) != *palette {
+            return Err(Fail::from(number));
+        }
+    }
     Ok(())
 }

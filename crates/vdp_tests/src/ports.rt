@@ -27,15 +27,15 @@ fn carried_out(vdp: &mut VdpState, access: Access) -> (u16, u16) {
     }
 }
 
-/// Makes accesses, and tells the place of the first that reads another word.
-fn first_wrong(vdp: &mut VdpState, accesses: &[Access]) -> Option<usize> {
+/// Makes accesses, and fails with the place of the first that reads another word.
+fn make(vdp: &mut VdpState, accesses: &[Access]) -> Result<(), Fail> {
     for (place, access) in accesses.iter().enumerate() {
         let (want, read) = carried_out(vdp, *access);
         if read != want {
-            return Some(place);
+            return Err(Fail::from(place));
         }
     }
-    None
+    Ok(())
 }
 
 use Access::{Control, Read, Status, Write};
@@ -86,8 +86,7 @@ const MEMORIES: [Access; 33] = [
 #[test]
 fn memories_are_written_and_read_back(rt: HostRuntime) -> Result<(), Fail> {
     let mut vdp = VdpState::power_on(rt.alloc(), false)?;
-    assert_eq!(rt; first_wrong(&mut vdp, &MEMORIES), None);
-    Ok(())
+    make(&mut vdp, &MEMORIES)
 }
 
 // A first word waits: a register write behind it is its second word, which gives code 1 with bits 5
@@ -99,21 +98,25 @@ const PENDING: [Access; 4] = [
     Status(0x0200),
 ];
 
-fn waits(vdp: &mut VdpState) -> bool {
-    first_wrong(vdp, &PENDING).is_none() && vdp.a == 0x8000 && vdp.registers[15] == 0
+/// Register 15 and the address, and then register 15 behind a word that sets it.
+fn set(vdp: &mut VdpState) -> (u8, u16, u8) {
+    let (before, address) = (vdp.registers[15], vdp.a);
+    vdp.control_write(0, 0x8f02);
+    (before, address, vdp.register(15))
 }
 
 #[test]
 fn a_first_word_waits_for_its_second(rt: HostRuntime) -> Result<(), Fail> {
     let mut vdp = VdpState::power_on(rt.alloc(), false)?;
-    assert!(rt; waits(&mut vdp));
-    vdp.control_write(0, 0x8f02);
-    assert!(rt; vdp.register(15) == 2);
+    make(&mut vdp, &PENDING)?;
+    assert!(rt; set(&mut vdp) == (0, 0x8000, 2));
     Ok(())
 }
 
-/// Whether both interrupts are shown by their levels, the higher one first.
+/// Whether both interrupts, once they are let through, are shown by their levels, the higher one first.
 fn are_acknowledged(vdp: &mut VdpState) -> bool {
+    vdp.control_write(0, 0x8010);
+    vdp.control_write(0, 0x8120);
     vdp.vertical = true;
     vdp.horizontal = true;
     for level in [6, 4, 0] {
@@ -127,9 +130,6 @@ fn are_acknowledged(vdp: &mut VdpState) -> bool {
 
 #[test]
 fn interrupts_are_acknowledged_by_their_level(rt: HostRuntime) -> Result<(), Fail> {
-    let mut vdp = VdpState::power_on(rt.alloc(), false)?;
-    vdp.control_write(0, 0x8010);
-    vdp.control_write(0, 0x8120);
-    assert!(rt; are_acknowledged(&mut vdp));
+    assert!(rt; are_acknowledged(&mut VdpState::power_on(rt.alloc(), false)?));
     Ok(())
 }

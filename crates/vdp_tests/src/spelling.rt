@@ -2,6 +2,8 @@
 // fields: registers 0, VRAM 24, CRAM 65,560, VSRAM 65,688, then pending, code, address, armed and what goes
 // on from 65,768 on, flags 65,791, line counter 65,795, the Z80's interrupt 65,796 and the height of the
 // display 65,812.
+use crate::dma::{by_threes, is_settled};
+use crate::filled::changed;
 use md_word::Unspell;
 use std::alloc::Global;
 use std::test::Fail;
@@ -9,18 +11,6 @@ use vdp_dma::settle;
 use vdp_ports::VdpState;
 
 const LENGTH: usize = 65_813;
-
-/// Bytes of 0: a VDP at power-on.
-fn zeros(alloc: Global) -> Result<Vec<u8>, Fail> {
-    Ok(vec![in alloc; 0; LENGTH]?)
-}
-
-/// Puts bytes at a place.
-fn put(bytes: &mut [u8], place: usize, values: &[u8]) {
-    for (byte, value) in bytes.iter_mut().skip(place).zip(values) {
-        *byte = *value;
-    }
-}
 
 /// The bytes that keep a VDP.
 fn spelled(alloc: Global, vdp: &VdpState, at: u64) -> Result<Vec<u8>, Fail> {
@@ -34,22 +24,18 @@ fn kept(alloc: Global, bytes: &[u8], at: u64) -> Result<VdpState, Fail> {
     VdpState::unspell(alloc, bytes, at, false).map_err(|_| Fail::from("refused"))
 }
 
-/// The place at which the bytes are refused.
-fn place_of(alloc: Global, bytes: &[u8], at: u64) -> Result<Option<u64>, Fail> {
-    match VdpState::unspell(alloc, bytes, at, false) {
+/// The place at which so many bytes of 0 with these changes, each from a place on, are refused at a cycle.
+fn refused(
+    alloc: Global,
+    length: usize,
+    at: u64,
+    changes: &[(usize, &[u8])],
+) -> Result<Option<u64>, Fail> {
+    match VdpState::unspell(alloc, &changed(alloc, length, changes)?, at, false) {
         Ok(_) => Ok(None),
         Err(Unspell::Rule { place }) => Ok(Some(place)),
         Err(Unspell::NoMemory) => Err(Fail::from("no memory")),
     }
-}
-
-/// The place at which bytes of 0 with these changes, each from a place on, are refused at a cycle.
-fn refused(alloc: Global, at: u64, changes: &[(usize, &[u8])]) -> Result<Option<u64>, Fail> {
-    let mut bytes = zeros(alloc)?;
-    for &(place, values) in changes {
-        put(&mut bytes, place, values);
-    }
-    place_of(alloc, &bytes, at)
 }
 
 // Each rule broken once: the byte that is changed, its value, and the place of the refusal.
@@ -80,8 +66,9 @@ const BROKEN: [(usize, u8, u64); 21] = [
 #[test]
 fn each_rule_is_looked_at(rt: HostRuntime) -> Result<(), Fail> {
     for (offset, value, place) in BROKEN {
-        let found = refused(rt.alloc(), 1000, &[(offset, &[value])])?;
-        assert!(rt; found == Some(place), "{offset}");
+        if refused(rt.alloc(), LENGTH, 1000, &[(offset, &[value])])? != Some(place) {
+            return Err(Fail::from(offset));
+        }
     }
     Ok(())
 }
@@ -119,6 +106,7 @@ fn refused_going(alloc: Global, row: &Going) -> Result<Option<u64>, Fail> {
     let (kind, byte, source, left, next, _) = *row;
     refused(
         alloc,
+        LENGTH,
         1000,
         &[
             (65_773, &[kind, byte]),
@@ -132,26 +120,27 @@ fn refused_going(alloc: Global, row: &Going) -> Result<Option<u64>, Fail> {
 /// The place at which an interval is refused.
 fn refused_interval(alloc: Global, from: u64, to: u64, at: u64) -> Result<Option<u64>, Fail> {
     let changes: [(usize, &[u8]); 2] = [(65_796, &from.to_be_bytes()), (65_804, &to.to_be_bytes())];
-    refused(alloc, at, &changes)
+    refused(alloc, LENGTH, at, &changes)
 }
 
-#[test]
-fn rules_on_several_fields(rt: HostRuntime) -> Result<(), Fail> {
+/// Fails with the number of the first row of what goes on that is refused otherwise.
+fn refuse_going(alloc: Global) -> Result<(), Fail> {
     for (number, row) in GOING.iter().enumerate() {
-        assert!(rt; refused_going(rt.alloc(), row)? == row.5, "row {number}");
-    }
-    for (from, to, at, place) in INTERVALS {
-        assert!(rt;
-            refused_interval(rt.alloc(), from, to, at)? == place,
-            "{from}"
-        );
+        if refused_going(alloc, row)? != row.5 {
+            return Err(Fail::from(number));
+        }
     }
     Ok(())
 }
 
-/// The place at which so many bytes of 0 are refused.
-fn refused_length(alloc: Global, length: usize) -> Result<Option<u64>, Fail> {
-    place_of(alloc, &vec![in alloc; 0; length]?, 1000)
+#[test]
+fn rules_on_several_fields(rt: HostRuntime) -> Result<(), Fail> {
+    for (from, to, at, place) in INTERVALS {
+        if refused_interval(rt.alloc(), from, to, at)? != place {
+            return Err(Fail::from(from));
+        }
+    }
+    refuse_going(rt.alloc())
 }
 
 const LENGTHS: [(usize, Option<u64>); 4] = [
@@ -164,7 +153,9 @@ const LENGTHS: [(usize, Option<u64>); 4] = [
 #[test]
 fn other_lengths_are_refused(rt: HostRuntime) -> Result<(), Fail> {
     for (length, place) in LENGTHS {
-        assert!(rt; refused_length(rt.alloc(), length)? == place, "{length}");
+        if refused(rt.alloc(), length, 1000, &[])? != place {
+            return Err(Fail::from(length));
+        }
     }
     Ok(())
 }
@@ -177,52 +168,42 @@ const AMID: [u8; 45] = [
     0, 0, 0, 0, 0, 0, 0, 0, 0, 0, 0, 0, 0, 0, 0, 0, 0, 0, 0, 0, 0, 0,
 ];
 
-/// The fill at 1100.
-fn filling(alloc: Global) -> Result<VdpState, Fail> {
-    let mut vdp = VdpState::power_on(alloc, false)?;
-    for word in [0x8110, 0x8f03, 0x9328, 0x9780, 0x4100, 0x0080] {
-        vdp.control_write(0, word);
-    }
-    vdp.data_write(1000, 0x1234);
-    settle(&mut vdp, 1100);
-    Ok(vdp)
-}
-
 /// Whether the bytes are those of the fill.
 fn are_amid(bytes: &[u8]) -> bool {
     bytes.get(65_768..) == Some(AMID.as_slice())
         && bytes.get(280..283) == Some([0x12, 0x34, 0x12].as_slice())
 }
 
-/// The bytes of the fill at 1300, or none where it has gone on otherwise.
-fn later(alloc: Global, vdp: &mut VdpState) -> Result<Vec<u8>, Fail> {
-    settle(vdp, 1300);
-    if (vdp.left, vdp.address, vdp.next_stamp) == (23, 0x136, 1306) {
-        spelled(alloc, vdp, 1300)
-    } else {
-        Ok(Vec::new(alloc))
+/// The fill that is read of the bytes of the one at 1100.
+fn again(alloc: Global) -> Result<VdpState, Fail> {
+    let bytes = spelled(alloc, &by_threes(alloc, &[1100])?, 1100)?;
+    if !are_amid(&bytes) {
+        return Err(Fail::from("other bytes"));
     }
+    kept(alloc, &bytes, 1100)
 }
 
-/// Whether the fill and the one that is read of its bytes go on in the same way.
-fn go_on_alike(alloc: Global, vdp: &mut VdpState, bytes: &[u8]) -> Result<bool, Fail> {
-    let one = later(alloc, vdp)?;
-    let other = later(alloc, &mut kept(alloc, bytes, 1100)?)?;
-    Ok(one.len() == LENGTH && one.as_slice() == other.as_slice())
+/// The bytes of the fill at 1300.
+fn later(alloc: Global, mut vdp: VdpState) -> Result<Vec<u8>, Fail> {
+    settle(&mut vdp, 1300);
+    if !is_settled(&vdp) {
+        return Err(Fail::from("not settled"));
+    }
+    spelled(alloc, &vdp, 1300)
 }
 
 #[test]
 fn a_fill_goes_on_as_it_was_kept(rt: HostRuntime) -> Result<(), Fail> {
-    let mut vdp = filling(rt.alloc())?;
-    let bytes = spelled(rt.alloc(), &vdp, 1100)?;
-    assert!(rt; are_amid(&bytes) && go_on_alike(rt.alloc(), &mut vdp, &bytes)?);
+    let one = later(rt.alloc(), by_threes(rt.alloc(), &[1100])?)?;
+    let other = later(rt.alloc(), again(rt.alloc())?)?;
+    assert!(rt; one.len() == LENGTH && one.as_slice() == other.as_slice());
     Ok(())
 }
 
 /// Whether bytes are read and then spelled again.
 fn is_again(alloc: Global, bytes: &[u8]) -> Result<bool, Fail> {
-    let again = spelled(alloc, &kept(alloc, bytes, 1)?, 1)?;
-    Ok(again.as_slice() == bytes)
+    let vdp = kept(alloc, bytes, 1)?;
+    Ok(spelled(alloc, &vdp, 1)?.as_slice() == bytes)
 }
 
 // At power-on all is 0.

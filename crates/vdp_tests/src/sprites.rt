@@ -1,3 +1,4 @@
+use crate::filled::{Run, filled, put_long};
 use std::alloc::Global;
 use std::test::Fail;
 use vdp_planes::register::{MODE_2, MODE_4, SPRITES};
@@ -7,41 +8,32 @@ use vdp_sprites::sprite_line;
 
 /// Puts sprite `number`, which is `further` cells wider than one, into the table at F000h, on line 0.
 fn put_sprite(vdp: &mut VdpState, number: u8, x: u16, further: u8, link: u8) {
-    let at = 0xf000 + usize::from(number % 128) * 8;
-    let entry = [
-        0,
-        128,
-        further % 4 * 4,
-        link,
-        0,
-        1,
-        (x >> 8) as u8,
-        (x & 0xff) as u8,
-    ];
-    for k in 0..8 {
-        vdp.vram[at + k] = entry[k];
-    }
+    let at = 0xf000 + usize::from(number) * 8;
+    let size = u32::from(further % 4) * 0x400;
+    put_long(vdp, at, 0x0080_0000 + size + u32::from(link));
+    put_long(vdp, at + 4, 0x0001_0000 + u32::from(x));
 }
 
-/// Makes patterns 1 to 4 opaque.
-fn fill_patterns(vdp: &mut VdpState) {
-    for k in 0..128 {
-        vdp.vram[32 + k] = 0x11;
-    }
-}
+const REGISTERS: [(usize, u8); 3] = [(MODE_2, 0x40), (MODE_4, 0x01), (SPRITES, 0x78)];
+
+// Patterns 1 to 4 are opaque.
+const PATTERNS: [Run; 1] = [(0x0020, 0x1111_1111, 32)];
 
 /// Puts nineteen sprites of 16 dots, each 8 to the right of the one before, one of 32 at 200 and one
 /// more at 280.
-fn prepare(vdp: &mut VdpState) {
-    vdp.registers[MODE_2] = 0x40;
-    vdp.registers[MODE_4] = 0x01;
-    vdp.registers[SPRITES] = 0x78;
-    fill_patterns(vdp);
+fn put_sprites(vdp: &mut VdpState) {
     for n in 0..19u8 {
         put_sprite(vdp, n, 128 + 8 * u16::from(n), 1, n + 1);
     }
     put_sprite(vdp, 19, 128 + 200, 3, 20);
     put_sprite(vdp, 20, 128 + 280, 1, 0);
+}
+
+/// A VDP with these sprites.
+fn prepared(alloc: Global) -> Result<VdpState, Fail> {
+    let mut vdp = filled(alloc, &REGISTERS, &PATTERNS)?;
+    put_sprites(&mut vdp);
+    Ok(vdp)
 }
 
 /// A view of which nothing is filled.
@@ -80,25 +72,22 @@ fn has_stretches(view: &LineView, first: usize, second: usize) -> bool {
     note.overflow && note.collision && are_opaque(&dots, first, second)
 }
 
-/// The fifth sprite's first place at which the line is otherwise.
-fn first_wrong(vdp: &mut VdpState, view: &mut LineView) -> Option<u16> {
+/// Fails with the fifth sprite's first place at which the line is otherwise.
+fn be_limited(vdp: &mut VdpState, view: &mut LineView) -> Result<(), Fail> {
     for (x, first, second) in STRETCHES {
         put_sprite(vdp, 4, x, 1, 5);
         fill_view(view, vdp);
         if !has_stretches(view, first, second) {
-            return Some(x);
+            return Err(Fail::from(x));
         }
     }
-    None
+    Ok(())
 }
 
 #[test]
 fn a_line_has_its_limits(rt: HostRuntime) -> Result<(), Fail> {
-    let mut vdp = VdpState::power_on(rt.alloc(), false)?;
-    prepare(&mut vdp);
     let mut view = blank_view(rt.alloc())?;
-    assert_eq!(rt; first_wrong(&mut vdp, &mut view), None);
-    Ok(())
+    be_limited(&mut prepared(rt.alloc())?, &mut view)
 }
 
 /// Bytes of the dots beside the ends of both stretches, as line 0 is drawn.
@@ -114,14 +103,18 @@ fn drawn(view: &LineView) -> [u8; 5] {
     [rgb[479], rgb[480], rgb[600], rgb[647], rgb[648]]
 }
 
-// With the sprites of before, whose colour is white.
+/// A view of the sprites of before, whose colour is white.
+fn white_view(alloc: Global) -> Result<Box<LineView>, Fail> {
+    let mut vdp = prepared(alloc)?;
+    vdp.cram[1] = 0x0eee;
+    let mut view = blank_view(alloc)?;
+    fill_view(&mut view, &vdp);
+    Ok(view)
+}
+
 #[test]
 fn a_view_is_drawn(rt: HostRuntime) -> Result<(), Fail> {
-    let mut vdp = VdpState::power_on(rt.alloc(), false)?;
-    prepare(&mut vdp);
-    vdp.cram[1] = 0x0eee;
-    let mut view = blank_view(rt.alloc())?;
-    fill_view(&mut view, &vdp);
+    let view = white_view(rt.alloc())?;
     assert!(rt; drawn(&view) == [252, 0, 252, 252, 0]);
     Ok(())
 }
