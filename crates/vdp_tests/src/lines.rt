@@ -75,8 +75,8 @@ fn lines_and_blanking(rt: HostRuntime) {
     }
 }
 
-// The lines of a frame of PAL that lie in the vertical blanking, by the height of the display, and the
-// first cycles of the frame behind it.
+// Lines of a frame of PAL, and whether they lie in the vertical blanking of a display of 224 lines and
+// of one of 240 lines.
 const BLANK: [(u32, bool, bool); 4] = [
     (223, false, false),
     (224, true, false),
