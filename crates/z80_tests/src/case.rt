@@ -312,27 +312,25 @@ impl Case {
         answers: &mut ArrayVec<u8, 4>,
         regs: &mut Regs80,
         progress: &mut Progress80,
-    ) -> Option<&'static str> {
+    ) -> &'static str {
         for (access, answer) in self.accesses.as_slice() {
-            match self.asked(cart, answers, regs, progress) {
-                Some(found) if found == *access => {}
-                Some(_) => return Some("another request"),
-                None => return Some("a request missing"),
+            if self.asked(cart, answers, regs, progress) != Some(*access) {
+                return "another request or none";
             }
             if !answers.is_full() {
                 answers.push(*answer);
             }
         }
-        None
+        ""
     }
 
-    /// Runs it and says what differs.
-    pub fn differs(&self, cart: &Cart) -> Option<&'static str> {
+    /// Runs it and says what differs, or nothing.
+    pub fn differs(&self, cart: &Cart) -> &'static str {
         let mut answers = ArrayVec::new();
         let mut progress = Progress80::new();
         let mut regs = self.before;
         let early = self.differs_before(cart, &mut answers, &mut regs, &mut progress);
-        if early.is_some() {
+        if !early.is_empty() {
             return early;
         }
         match go(
@@ -343,29 +341,24 @@ impl Case {
             self.cause,
             &mut progress,
         ) {
-            Step80::Need(_) => Some("a request more"),
+            Step80::Need(_) => "a request more",
             Step80::Done(finish) => self.difference(&finish, &regs, progress.writes.as_slice()),
         }
     }
 
-    fn difference(
-        &self,
-        finish: &Finish80,
-        regs: &Regs80,
-        writes: &[(u16, u8)],
-    ) -> Option<&'static str> {
+    fn difference(&self, finish: &Finish80, regs: &Regs80, writes: &[(u16, u8)]) -> &'static str {
         if words(regs) != words(&self.after) {
-            Some("registers of 16 bits")
+            "registers of 16 bits"
         } else if bytes(regs) != bytes(&self.after) {
-            Some("I, R or what interrupts look at")
+            "I, R or what interrupts look at"
         } else if writes != self.writes.as_slice() {
-            Some("private writes")
+            "private writes"
         } else if finish.t != self.t {
-            Some("clocks")
+            "clocks"
         } else if finish.halted != self.halted || finish.after_ei != self.after_ei {
-            Some("halt or EI")
+            "halt or EI"
         } else {
-            None
+            ""
         }
     }
 }

@@ -1,10 +1,10 @@
-// An instruction as the manual names it: its name and its operands.
+// An instruction as the manual writes it: its form and its operands.
 use z80_decode::{
     Bit, Block, Condition, Index, InterruptMode, Op80, Pair, Place8, Special, Task80,
 };
 
-/// A name and two operands as text; the numbers in them, a displacement, and a number or address.
-pub type Named = ([&'static str; 3], [u16; 2]);
+/// Two operands as texts; the numbers in them, a displacement, and a number or address.
+pub type Operands = (&'static str, &'static str, u16, u16);
 
 fn place(place: Place8) -> (&'static str, u16, u16) {
     match place {
@@ -129,125 +129,152 @@ fn task(task: Task80) -> &'static str {
     }
 }
 
-/// The bit that an operation names.
-fn task_bit(task: Task80) -> &'static str {
-    match task {
-        Task80::Res(number) | Task80::Set(number) => bit(number),
-        _ => "",
-    }
-}
-
 fn stepped(
     block: Block,
     up: &'static str,
     down: &'static str,
     up_repeated: &'static str,
     down_repeated: &'static str,
-) -> Named {
+) -> Operands {
     let name = match block {
         Block::Increment => up,
         Block::Decrement => down,
         Block::IncrementRepeat => up_repeated,
         Block::DecrementRepeat => down_repeated,
     };
-    ([name, "", ""], [0, 0])
+    (name, "", 0, 0)
 }
 
-fn plain(name: &'static str) -> Named {
-    ([name, "", ""], [0, 0])
+fn alone(at: Place8) -> Operands {
+    let (text, displacement, number) = place(at);
+    (text, "", displacement, number)
 }
 
-/// An operation on a place, and the bit that it names before it.
-fn on_place(name: &'static str, number: &'static str, at: Place8) -> Named {
-    let (text, displacement, value) = place(at);
-    if number.is_empty() {
-        ([name, text, ""], [displacement, value])
-    } else {
-        ([name, number, text], [displacement, value])
-    }
+/// What stands before a place, and the place.
+fn on_place(first: &'static str, at: Place8) -> Operands {
+    let (text, displacement, number) = place(at);
+    (first, text, displacement, number)
 }
 
-fn load(target: Place8, source: Place8) -> Named {
+fn load(target: Place8, source: Place8) -> Operands {
     let (to, displaced_to, address_to) = place(target);
     let (from, displaced_from, address_from) = place(source);
     (
-        ["ld", to, from],
-        [displaced_to | displaced_from, address_to | address_from],
+        to,
+        from,
+        displaced_to | displaced_from,
+        address_to | address_from,
     )
 }
 
-/// The name of an instruction of jumps, calls, ports and control.
-fn control(op: Op80) -> Named {
+/// What an instruction works on, in the order of its form.
+pub fn operands(op: Op80) -> Operands {
     match op {
-        Op80::Jump(address) => (["jp", "nn", ""], [0, address]),
-        Op80::JumpIf(on, address) => (["jp", condition(on), "nn"], [0, address]),
-        Op80::JumpRelative(by) => (["jr", "e", ""], [u16::from(by), 0]),
-        Op80::JumpRelativeIf(on, by) => (["jr", condition(on), "e"], [u16::from(by), 0]),
-        Op80::JumpIndex(register) => (["jp ()", index(register), ""], [0, 0]),
-        Op80::DecrementAndJump(by) => (["djnz", "e", ""], [u16::from(by), 0]),
-        Op80::Call(address) => (["call", "nn", ""], [0, address]),
-        Op80::CallIf(on, address) => (["call", condition(on), "nn"], [0, address]),
-        Op80::Return => plain("ret"),
-        Op80::ReturnIf(on) => (["ret", condition(on), ""], [0, 0]),
-        Op80::ReturnFromInterrupt => plain("reti"),
-        Op80::ReturnFromNonMaskable => plain("retn"),
-        Op80::Restart(address) => (["rst", "p", ""], [0, u16::from(address)]),
-        Op80::InputAtNumber(number) => (["in", "a", "(n)"], [0, u16::from(number)]),
-        Op80::Input(at) => on_place("in (c)", "", at),
-        Op80::BlockInput(block) => stepped(block, "ini", "ind", "inir", "indr"),
-        Op80::OutputAtNumber(number) => (["out", "(n)", "a"], [0, u16::from(number)]),
-        Op80::Output(at) => on_place("out (c)", "", at),
+        Op80::Load(target, source) => load(target, source),
+        Op80::LoadFromSpecial(register) | Op80::LoadToSpecial(register) => {
+            (special(register), "", 0, 0)
+        }
+        Op80::LoadPair(register, number)
+        | Op80::LoadPairExtended(register, number)
+        | Op80::StorePairExtended(number, register) => (pair(register), "", 0, number),
+        Op80::LoadIndex(register, address) | Op80::StoreIndex(address, register) => {
+            (index(register), "", 0, address)
+        }
+        Op80::Push(register)
+        | Op80::Pop(register)
+        | Op80::AddPairWithCarry(register)
+        | Op80::SubtractPairWithCarry(register)
+        | Op80::IncrementPair(register)
+        | Op80::DecrementPair(register) => (pair(register), "", 0, 0),
+        Op80::LoadStackPointer(register)
+        | Op80::ExchangeStack(register)
+        | Op80::JumpIndex(register)
+        | Op80::LonePrefix(register) => (index(register), "", 0, 0),
+        Op80::AddPair(register, added) => (index(register), pair(added), 0, 0),
+        Op80::BlockLoad(block) | Op80::BlockCompare(block) | Op80::BlockInput(block) => {
+            stepped(block, "i", "d", "ir", "dr")
+        }
         Op80::BlockOutput(block) => stepped(block, "outi", "outd", "otir", "otdr"),
-        Op80::LonePrefix(register) => (["prefix", index(register), ""], [0, 0]),
-        Op80::Undefined(opcode) => (["undefined", "", ""], [u16::from(opcode), 0]),
-        _ => plain("other"),
+        Op80::TestBit(number, at) | Op80::Change(Task80::Res(number) | Task80::Set(number), at) =>
+            on_place(bit(number), at),
+        Op80::Arithmetic(operation, at) | Op80::Step(operation, at) | Op80::Change(operation, at) =>
+            on_place(task(operation), at),
+        Op80::Input(at) | Op80::Output(at) => alone(at),
+        Op80::Accumulator(operation) => (task(operation), "", 0, 0),
+        Op80::SetInterruptMode(number) => (mode(number), "", 0, 0),
+        Op80::JumpIf(on, address) | Op80::CallIf(on, address) => (condition(on), "", 0, address),
+        Op80::JumpRelativeIf(on, by) => (condition(on), "", u16::from(by), 0),
+        Op80::ReturnIf(on) => (condition(on), "", 0, 0),
+        Op80::Jump(address) | Op80::Call(address) => ("", "", 0, address),
+        Op80::JumpRelative(by) | Op80::DecrementAndJump(by) | Op80::Undefined(by) => {
+            ("", "", u16::from(by), 0)
+        }
+        Op80::Restart(number) | Op80::InputAtNumber(number) | Op80::OutputAtNumber(number) => {
+            ("", "", 0, u16::from(number))
+        }
+        _ => ("", "", 0, 0),
     }
 }
 
-/// The name of an instruction.
-pub fn name_of(op: Op80) -> Named {
+/// The form of an instruction, with `%` for each operand.
+pub fn form(op: Op80) -> &'static str {
     match op {
-        Op80::Load(target, source) => load(target, source),
-        Op80::LoadFromSpecial(register) => (["ld", "a", special(register)], [0, 0]),
-        Op80::LoadToSpecial(register) => (["ld", special(register), "a"], [0, 0]),
-        Op80::LoadPair(register, number) => (["ld", pair(register), "nn"], [0, number]),
-        Op80::LoadIndex(register, address) => (["ld", index(register), "(nn)"], [0, address]),
-        Op80::LoadPairExtended(register, address) => (
-            ["ld ed", pair(register), "(nn)"],
-            [0, address],
-        ),
-        Op80::StoreIndex(address, register) => (["ld", "(nn)", index(register)], [0, address]),
-        Op80::StorePairExtended(address, register) => (
-            ["ld ed", "(nn)", pair(register)],
-            [0, address],
-        ),
-        Op80::LoadStackPointer(register) => (["ld", "sp", index(register)], [0, 0]),
-        Op80::Push(register) => (["push", pair(register), ""], [0, 0]),
-        Op80::Pop(register) => (["pop", pair(register), ""], [0, 0]),
-        Op80::ExchangeDeHl => (["ex", "de", "hl"], [0, 0]),
-        Op80::ExchangeAf => (["ex", "af", "af'"], [0, 0]),
-        Op80::ExchangeAll => plain("exx"),
-        Op80::ExchangeStack(register) => (["ex", "(sp)", index(register)], [0, 0]),
-        Op80::BlockLoad(block) => stepped(block, "ldi", "ldd", "ldir", "lddr"),
-        Op80::BlockCompare(block) => stepped(block, "cpi", "cpd", "cpir", "cpdr"),
-        Op80::Arithmetic(operation, at) => on_place(task(operation), "", at),
-        Op80::Step(operation, at) => on_place(task(operation), "", at),
-        Op80::Accumulator(operation) => plain(task(operation)),
-        Op80::Negate => plain("neg"),
-        Op80::Nop => plain("nop"),
-        Op80::Halt => plain("halt"),
-        Op80::DisableInterrupts => plain("di"),
-        Op80::EnableInterrupts => plain("ei"),
-        Op80::SetInterruptMode(number) => (["im", mode(number), ""], [0, 0]),
-        Op80::AddPair(register, added) => (["add", index(register), pair(added)], [0, 0]),
-        Op80::AddPairWithCarry(added) => (["adc", "hl", pair(added)], [0, 0]),
-        Op80::SubtractPairWithCarry(taken) => (["sbc", "hl", pair(taken)], [0, 0]),
-        Op80::IncrementPair(register) => (["inc", pair(register), ""], [0, 0]),
-        Op80::DecrementPair(register) => (["dec", pair(register), ""], [0, 0]),
-        Op80::Change(operation, at) => on_place(task(operation), task_bit(operation), at),
-        Op80::TestBit(number, at) => on_place("bit", bit(number), at),
-        Op80::RotateDigitsLeft => plain("rld"),
-        Op80::RotateDigitsRight => plain("rrd"),
-        _ => control(op),
+        Op80::Load(..) => "ld %,%",
+        Op80::LoadFromSpecial(_) => "ld a,%",
+        Op80::LoadToSpecial(_) => "ld %,a",
+        Op80::LoadPair(..) => "ld %,nn",
+        Op80::LoadIndex(..) => "ld %,(nn)",
+        Op80::LoadPairExtended(..) => "ld ed %,(nn)",
+        Op80::StoreIndex(..) => "ld (nn),%",
+        Op80::StorePairExtended(..) => "ld ed (nn),%",
+        Op80::LoadStackPointer(_) => "ld sp,%",
+        Op80::Push(_) => "push %",
+        Op80::Pop(_) => "pop %",
+        Op80::ExchangeDeHl => "ex de,hl",
+        Op80::ExchangeAf => "ex af,af'",
+        Op80::ExchangeAll => "exx",
+        Op80::ExchangeStack(_) => "ex (sp),%",
+        Op80::BlockLoad(_) => "ld%",
+        Op80::BlockCompare(_) => "cp%",
+        Op80::Arithmetic(..) | Op80::Step(..) => "% %",
+        Op80::Accumulator(_) => "%",
+        Op80::Negate => "neg",
+        Op80::Nop => "nop",
+        Op80::Halt => "halt",
+        Op80::DisableInterrupts => "di",
+        Op80::EnableInterrupts => "ei",
+        Op80::SetInterruptMode(_) => "im %",
+        Op80::AddPair(..) => "add %,%",
+        Op80::AddPairWithCarry(_) => "adc hl,%",
+        Op80::SubtractPairWithCarry(_) => "sbc hl,%",
+        Op80::IncrementPair(_) => "inc %",
+        Op80::DecrementPair(_) => "dec %",
+        Op80::TestBit(..) => "bit %,%",
+        Op80::Change(Task80::Res(_), _) => "res %,%",
+        Op80::Change(Task80::Set(_), _) => "set %,%",
+        Op80::Change(..) => "% %",
+        Op80::RotateDigitsLeft => "rld",
+        Op80::RotateDigitsRight => "rrd",
+        Op80::Jump(_) => "jp nn",
+        Op80::JumpIf(..) => "jp %,nn",
+        Op80::JumpRelative(_) => "jr e",
+        Op80::JumpRelativeIf(..) => "jr %,e",
+        Op80::JumpIndex(_) => "jp () %",
+        Op80::DecrementAndJump(_) => "djnz e",
+        Op80::Call(_) => "call nn",
+        Op80::CallIf(..) => "call %,nn",
+        Op80::Return => "ret",
+        Op80::ReturnIf(_) => "ret %",
+        Op80::ReturnFromInterrupt => "reti",
+        Op80::ReturnFromNonMaskable => "retn",
+        Op80::Restart(_) => "rst p",
+        Op80::InputAtNumber(_) => "in a,(n)",
+        Op80::Input(_) => "in (c) %",
+        Op80::BlockInput(_) => "in%",
+        Op80::OutputAtNumber(_) => "out (n),a",
+        Op80::Output(_) => "out (c) %",
+        Op80::BlockOutput(_) => "%",
+        Op80::LonePrefix(_) => "prefix %",
+        Op80::Undefined(_) => "undefined",
     }
 }

@@ -1,8 +1,8 @@
-// Tables of samples, worked out by hand from Zilog UM0080, "Z80 Instruction Description", a table for
-// each of its groups, many of them its own examples; interrupts after "Interrupt Response". Bits 5
-// and 3 of F, the memory map, ports, undefined opcodes and the order of accesses after this project's
-// profile. Flags are S, Z, H, P/V, N and C as bits 7, 6, 4, 2, 1 and 0. The form of a line stands in
-// case.rt.
+// Tables of samples, worked out by hand from Zilog UM0080, "Z80 Instruction Description", with the
+// titles of its groups above their samples, many of them its own examples; interrupts after "Interrupt
+// Response". Bits 5 and 3 of F, the memory map, ports, undefined opcodes and the order of accesses after
+// this project's profile. Flags are S, Z, H, P/V, N and C as bits 7, 6, 4, 2, 1 and 0. The form of a
+// line stands in case.rt.
 use crate::case::{Case, cartridge};
 use rom_header::Cart;
 use std::alloc::Global;
@@ -11,30 +11,37 @@ use z80_decode::InterruptMode;
 use z80_exec::Regs80;
 use z80_parcel::{first, store_bytes};
 
-/// Runs a line.
-fn hold_line(alloc: Global, cart: &Cart, line: &str) -> Result<(), Fail> {
-    let parcel = first(alloc).map_err(|_| Fail::from("no memory"))?;
-    match Case::read(parcel, line).differs(cart) {
-        Some(other) => Err(Fail::from(format!(in alloc; "{other}: {line}")?)),
-        None => Ok(()),
-    }
+/// What differs from a line, or nothing.
+fn differs(alloc: Global, cart: &Cart, line: &str) -> Result<&'static str, Fail> {
+    let Ok(parcel) = first(alloc) else {
+        return Err(Fail::from("no memory"));
+    };
+    Ok(Case::read(parcel, line).differs(cart))
 }
 
-/// Runs the lines of tables.
-fn hold(alloc: Global, tables: &[&str]) -> Result<(), Fail> {
+/// Runs a line.
+fn hold_line(alloc: Global, cart: &Cart, line: &str) -> Result<(), Fail> {
+    let other = differs(alloc, cart, line)?;
+    if other.is_empty() {
+        return Ok(());
+    }
+    Err(Fail::from(format!(in alloc; "{other}: {line}")?))
+}
+
+/// Runs the lines of a table.
+fn hold(alloc: Global, table: &str) -> Result<(), Fail> {
     let cart = cartridge(alloc)?;
-    for table in tables {
-        for line in table.lines() {
-            if line.contains("->") {
-                hold_line(alloc, &cart, line)?;
-            }
+    for line in table.lines() {
+        if line.contains("->") {
+            hold_line(alloc, &cart, line)?;
         }
     }
     Ok(())
 }
 
-/// "8-Bit Load Group", with each part of the memory map.
-const BYTES: &str = "
+/// Loads, exchanges and blocks.
+const LOADS_AND_BLOCKS: &str = "
+8-Bit Load Group, with each part of the memory map.
 41 -> BC=1313 T=4 ; LD B,C
 7C -> AF=1600 T=4 ; LD A,H
 06 28 -> BC=2813 T=7 ; LD B,28h
@@ -82,10 +89,7 @@ ED 5F R=7F -> AF=0100 R=01 T=9 ; LD A,R
 ED 5F R=FE IFF=10 -> AF=8080 R=80 T=9
 ED 47 AF=3F00 -> I=3F R=02 T=9 ; LD I,A
 ED 4F AF=FF00 -> R=FF T=9 ; LD R,A
-";
-
-/// "16-Bit Load Group".
-const WORDS: &str = "
+16-Bit Load Group.
 01 34 12 -> BC=1234 T=10 ; LD BC,1234h
 31 FE 1F -> SP=1FFE T=10 ; LD SP,1FFEh
 DD 21 A2 45 -> IX=45A2 R=02 T=14 ; LD IX,45A2h
@@ -108,10 +112,7 @@ DD E5 SP=0001 -> .0000=18 SP=FFFF R=02 T=15 ; PUSH IX
 E1 SP=1000 @1000=55 @1001=33 -> HL=3355 SP=1002 T=10 ; POP HL
 F1 SP=1000 @1000=FF @1001=33 -> AF=33FF SP=1002 T=10 ; POP AF
 FD E1 SP=5FFF -> r:5FFF=55 IY=FF55 SP=6001 R=02 T=14 ; POP IY
-";
-
-/// "Exchange, Block Transfer, Block Search Group".
-const BLOCKS: &str = "
+Exchange, Block Transfer, Block Search Group.
 EB -> DE=1617 HL=1415 T=4 ; EX DE,HL
 08 AF=9900 -> AF=A1A2 AF'=9900 T=4 ; EX AF,AF'
 D9 -> BC=B1B2 DE=D1D2 HL=E1E2 BC'=1213 DE'=1415 HL'=1617 T=4 ; EXX
@@ -134,8 +135,9 @@ ED A9 HL=4000 AF=1000 BC=0001 -> r:4000=01 HL=3FFF BC=0000 AF=1012 R=02 T=16 ; C
 ED B9 HL=1111 AF=0000 BC=0001 @1111=01 -> HL=1110 BC=0000 AF=0092 R=02 T=16 ; CPDR
 ";
 
-/// "8-Bit Arithmetic Group".
-const ARITHMETIC: &str = "
+/// Arithmetic and bits.
+const OPERATIONS: &str = "
+8-Bit Arithmetic Group.
 80 AF=4400 BC=1100 -> AF=5500 T=4 ; ADD A,B
 86 AF=A000 @1617=70 -> AF=1001 T=7 ; ADD A,(HL)
 DD 86 05 AF=1100 @181E=22 -> AF=3300 R=02 T=19 ; ADD A,(IX+5)
@@ -156,10 +158,7 @@ DD 34 10 IX=1000 @1010=FF -> .1010=00 AF=0050 R=02 T=23 ; INC (IX+10h)
 15 DE=2A15 -> DE=2915 AF=0002 T=4 ; DEC D
 DD 2D IX=1800 -> IX=18FF AF=0092 R=02 T=8 ; DEC IXL
 35 HL=7F11 -> w:7F11=FE AF=0082 T=11 ; DEC (HL)
-";
-
-/// "General-Purpose Arithmetic and CPU Control Groups".
-const GENERAL: &str = "
+General-Purpose Arithmetic and CPU Control Groups.
 27 AF=3C00 -> AF=4214 T=4 ; DAA
 2F AF=B400 -> AF=4B12 T=4 ; CPL
 ED 44 AF=9800 -> AF=6813 R=02 T=8 ; NEG
@@ -172,10 +171,7 @@ FB -> IFF=11 EI T=4 ; EI
 ED 46 IM=2 -> IM=0 R=02 T=8 ; IM 0
 ED 56 -> IM=1 R=02 T=8 ; IM 1
 ED 5E -> IM=2 R=02 T=8 ; IM 2
-";
-
-/// "16-Bit Arithmetic Group".
-const PAIRS: &str = "
+16-Bit Arithmetic Group.
 09 HL=4242 BC=1111 AF=00C6 -> HL=5353 AF=00C4 T=11 ; ADD HL,BC
 39 HL=8000 SP=8800 -> HL=0800 AF=0001 T=11 ; ADD HL,SP
 DD 29 IX=0888 -> IX=1110 AF=0010 R=02 T=15 ; ADD IX,IX
@@ -188,10 +184,7 @@ ED 72 HL=0000 SP=0000 AF=0001 -> HL=FFFF AF=0093 R=02 T=15 ; SBC HL,SP
 DD 23 IX=3300 -> IX=3301 R=02 T=10 ; INC IX
 3B SP=1001 -> SP=1000 T=6 ; DEC SP
 FD 2B IY=0000 -> IY=FFFF R=02 T=10 ; DEC IY
-";
-
-/// "Rotate and Shift Group" and "Bit Set, Reset, and Test Group".
-const BITS: &str = "
+Rotate and Shift Group and Bit Set, Reset, and Test Group.
 07 AF=8800 -> AF=1101 T=4 ; RLCA
 17 AF=7601 -> AF=ED00 T=4 ; RLA
 CB 05 HL=1088 -> HL=1011 AF=0005 R=02 T=8 ; RLC L
@@ -214,8 +207,9 @@ CB B2 DE=FF15 -> DE=BF15 R=02 T=8 ; RES 6,D
 FD CB 03 B6 IY=1000 @1003=FF -> .1003=BF R=02 T=23 ; RES 6,(IY+3)
 ";
 
-/// "Jump Group".
-const JUMPS: &str = "
+/// Jumps, calls, ports and interrupts.
+const CONTROL: &str = "
+Jump Group.
 C3 00 12 -> PC=1200 T=10 ; JP 1200h
 DA 20 15 AF=0001 -> PC=1520 T=10 ; JP C,1520h
 DA 20 15 -> T=10
@@ -234,10 +228,7 @@ DD E9 IX=4800 -> PC=4800 R=02 T=8 ; JP (IX)
 10 FE BC=0213 -> BC=0113 PC=0100 T=13 ; DJNZ 0100h
 10 FE BC=0113 -> BC=0013 T=8
 10 05 BC=0013 -> BC=FF13 PC=0107 T=13 ; DJNZ 0107h
-";
-
-/// "Call and Return Group".
-const CALLS: &str = "
+Call and Return Group.
 CD 35 21 SP=1007 -> .1006=01 .1005=03 SP=1005 PC=2135 T=17 ; CALL 2135h
 D4 35 21 SP=4002 -> w:4001=01 w:4000=03 SP=4000 PC=2135 T=17 ; CALL NC,2135h
 D4 35 21 AF=0001 -> T=10
@@ -248,10 +239,7 @@ F8 -> T=5
 ED 4D IFF=01 SP=1000 @1000=B5 @1001=18 -> SP=1002 PC=18B5 R=02 T=14 ; RETI
 ED 45 IFF=01 SP=1000 @1000=B5 @1001=18 -> IFF=11 SP=1002 PC=18B5 R=02 T=14 ; RETN
 DF SP=1000 -> .0FFF=01 .0FFE=01 SP=0FFE PC=0018 T=11 ; RST 18h
-";
-
-/// "Input and Output Group": each port reads as FFh.
-const PORTS: &str = "
+Input and Output Group: each port reads as FFh.
 DB 01 AF=2345 -> AF=FF45 T=11 ; IN A,(1)
 ED 50 AF=0001 -> DE=FF15 AF=0085 R=02 T=12 ; IN D,(C)
 D3 01 -> T=11 ; OUT (1),A
@@ -262,10 +250,7 @@ ED AA BC=0107 HL=1000 -> .1000=FF HL=0FFF BC=0007 AF=0042 R=02 T=16 ; IND
 ED BA BC=0007 HL=1000 -> .1000=FF HL=0FFF BC=FF07 AF=0002 PC=0100 R=02 T=21 ; INDR
 ED A3 BC=1007 HL=4000 AF=0041 -> r:4000=59 HL=4001 BC=0F07 AF=0003 R=02 T=16 ; OUTI
 ED BB BC=0107 HL=1000 -> HL=0FFF BC=0007 AF=0042 R=02 T=16 ; OTDR
-";
-
-/// Prefixes alone, opcodes that are none, and instructions outside RAM.
-const FETCHES: &str = "
+Prefixes alone, opcodes that are none, and instructions outside RAM.
 DD 00 -> PC=0101 T=4
 FD DD 21 34 12 -> PC=0101 T=4
 DD ED 44 -> PC=0101 T=4
@@ -279,11 +264,8 @@ PC=FFFF BANK=001 SP=1000 -> .0FFF=00 .0FFE=00 SP=0FFE PC=0038 T=11
 PC=8021 -> HL=2322 PC=8024 T=10 ; LD HL,2322h
 PC=8006 BANK=001 AF=0100 @1617=02 -> AF=0300 PC=8007 T=7 ; ADD A,(HL)
 PC=3FFF @1FFF=3E -> AF=FF00 PC=4001 T=7 ; LD A,FFh
-";
-
-/// "Interrupt Response", in modes 0, 1 and 2. The reads of mode 2 see the pushes, and the bank
-/// register as they have left it.
-const INTERRUPTS: &str = "
+Interrupt Response, in modes 0, 1 and 2. The reads of mode 2 see the pushes, and the bank register as
+they have left it.
 CAUSE=1 IFF=11 IM=0 SP=1000 -> .0FFF=01 .0FFE=00 SP=0FFE IFF=00 PC=0038 T=13
 CAUSE=1 IFF=11 IM=1 SP=4002 R=55 -> w:4001=01 w:4000=00 SP=4000 IFF=00 PC=0038 T=13
 CAUSE=1 IFF=11 IM=2 I=12 SP=1000 @12FF=34 @1300=05 -> .0FFF=01 .0FFE=00 SP=0FFE IFF=00 PC=0534 T=19
@@ -296,17 +278,17 @@ CAUSE=1 IM=2 I=FF BANK=1FF SP=1000 @0000=12 -> .0FFF=01 .0FFE=00 SP=0FFE PC=12FF
 
 #[test]
 fn loads_and_blocks(rt: HostRuntime) -> Result<(), Fail> {
-    hold(rt.alloc(), &[BYTES, WORDS, BLOCKS])
+    hold(rt.alloc(), LOADS_AND_BLOCKS)
 }
 
 #[test]
 fn operations(rt: HostRuntime) -> Result<(), Fail> {
-    hold(rt.alloc(), &[ARITHMETIC, GENERAL, PAIRS, BITS])
+    hold(rt.alloc(), OPERATIONS)
 }
 
 #[test]
 fn control_and_interrupts(rt: HostRuntime) -> Result<(), Fail> {
-    hold(rt.alloc(), &[JUMPS, CALLS, PORTS, FETCHES, INTERRUPTS])
+    hold(rt.alloc(), CONTROL)
 }
 
 // Nine writes set the bank register, A15 first; a write elsewhere is lost, and one above the RAM's
@@ -327,7 +309,9 @@ static BANK_WRITES: [(u16, u8); 11] = [
 
 #[test]
 fn nine_writes_set_the_bank(rt: HostRuntime) -> Result<(), Fail> {
-    let mut parcel = first(rt.alloc()).map_err(|_| Fail::from("no memory"))?;
+    let Ok(mut parcel) = first(rt.alloc()) else {
+        return Err(Fail::from("no memory"));
+    };
     parcel.bank = 0x0ff;
     store_bytes(&BANK_WRITES, &mut parcel);
     assert!(rt; parcel.bank == 0x155 && parcel.ram[5] == 0xa5);
