@@ -50,6 +50,10 @@ pub struct Case {
     stopped: bool,
     halted: bool,
     trace: bool,
+    /// Where the next word of the instruction stands.
+    next: u32,
+    /// The arrow was read.
+    behind: bool,
 }
 
 /// A number in hexadecimal.
@@ -89,23 +93,37 @@ fn set(regs: &mut Regs, name: &[u8], value: u32) {
     }
 }
 
+/// The registers where nothing is said of them.
+fn registers() -> Regs {
+    Regs {
+        d: [0; 8],
+        a: [0; 7],
+        usp: 0xff_8000,
+        ssp: 0xff_f000,
+        pc: START,
+        sr: 0x2700,
+    }
+}
+
+/// The stack pointers, the program counter and the status register.
+fn specials(regs: &Regs) -> [u32; 4] {
+    [regs.usp, regs.ssp, regs.pc, u32::from(regs.sr)]
+}
+
+/// Whether it stopped, whether it halted, and whether a trace comes.
+fn marks_of(finish: &Finish) -> [bool; 3] {
+    [finish.stopped, finish.halted, finish.trace]
+}
+
 impl Case {
-    /// Of a line.
-    pub fn read(line: &str) -> Case {
-        let regs = Regs {
-            d: [0; 8],
-            a: [0; 7],
-            usp: 0xff_8000,
-            ssp: 0xff_f000,
-            pc: START,
-            sr: 0x2700,
-        };
-        let mut case = Case {
+    /// Of nothing.
+    fn begun() -> Case {
+        Case {
             rom: image(),
             ram: [0; 65536],
             cause: 0,
-            before: regs,
-            after: regs,
+            before: registers(),
+            after: registers(),
             accesses: ArrayVec::new(),
             writes: ArrayVec::new(),
             spent: Spent {
@@ -118,29 +136,37 @@ impl Case {
             stopped: false,
             halted: false,
             trace: false,
-        };
-        let mut next = START;
-        let mut arrow = false;
+            next: START,
+            behind: false,
+        }
+    }
+
+    /// Of a line.
+    pub fn read(line: &str) -> Case {
+        let mut case = Case::begun();
         for token in line.split_whitespace() {
             if token == ";" {
                 break;
             }
-            if token == "->" {
-                case.after = Regs {
-                    pc: next,
-                    ..case.before
-                };
-                arrow = true;
-            } else if arrow {
-                case.expect(token);
-            } else if token.len() == 4 {
-                case.put(next, word(token.as_bytes()));
-                next = next.wrapping_add(2);
-            } else {
-                case.set_up(token);
-            }
+            case.take(token);
         }
         case
+    }
+
+    /// Takes what stands next in a line.
+    fn take(&mut self, token: &str) {
+        if token == "->" {
+            self.behind = true;
+            self.after = self.before;
+            self.after.pc = self.next;
+        } else if self.behind {
+            self.expect(token);
+        } else if token.len() == 4 {
+            self.put(self.next, word(token.as_bytes()));
+            self.next = self.next.wrapping_add(2);
+        } else {
+            self.set_up(token);
+        }
     }
 
     /// A word in work RAM or, below it, in the cartridge.
@@ -284,25 +310,19 @@ impl Case {
             accesses: (self.accesses.len() % 0x100) as u8,
             ..self.spent
         };
-        let parts = [
-            (regs.d == self.after.d, "data registers"),
-            (regs.a == self.after.a, "address registers"),
-            (regs.usp == self.after.usp, "user stack pointer"),
-            (regs.ssp == self.after.ssp, "supervisor stack pointer"),
-            (regs.pc == self.after.pc, "program counter"),
-            (regs.sr == self.after.sr, "status register"),
-            (writes == self.writes.as_slice(), "private writes"),
-            (finish.spent == spent, "what was spent"),
-            (finish.stopped == self.stopped, "stopped"),
-            (finish.halted == self.halted, "halted"),
-            (finish.trace == self.trace, "trace"),
-        ];
-        for (same, part) in parts {
-            if !same {
-                return Some(part);
-            }
+        if regs.d != self.after.d || regs.a != self.after.a {
+            Some("registers")
+        } else if specials(regs) != specials(&self.after) {
+            Some("stack pointers, program counter or status register")
+        } else if writes != self.writes.as_slice() {
+            Some("private writes")
+        } else if finish.spent != spent {
+            Some("what was spent")
+        } else if marks_of(finish) != [self.stopped, self.halted, self.trace] {
+            Some("stopped, halted or trace")
+        } else {
+            None
         }
-        None
     }
 }
 

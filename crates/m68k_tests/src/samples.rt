@@ -14,20 +14,19 @@ fn hold_line(alloc: Global, line: &str) -> Result<(), Fail> {
     }
 }
 
-/// Runs the lines of tables.
-fn hold(alloc: Global, tables: &[&str]) -> Result<(), Fail> {
-    for table in tables {
-        for line in table.lines() {
-            if line.contains("->") {
-                hold_line(alloc, line)?;
-            }
+/// Runs the lines of a table.
+fn hold(alloc: Global, table: &str) -> Result<(), Fail> {
+    for line in table.lines() {
+        if line.contains("->") {
+            hold_line(alloc, line)?;
         }
     }
     Ok(())
 }
 
-/// ORI to MOVEP.
-const DIGIT_0: &str = "
+/// Digits 0 to 3, and the addresses of accesses.
+const IMMEDIATES_BITS_AND_MOVES: &str = "
+ORI to MOVEP.
 0000 000F D0=12345670 -> D0=1234567F ; ORI.B #$0F,D0
 0241 00F0 D1=AAAA8F0F -> D1=AAAA0000 SR=2704 ; ANDI.W #$F0,D1
 0490 0000 0001 A0=00FF0100 -> @FF0100=FFFF @FF0102=FFFF SR=2719 ; SUBI.L #1,(A0)
@@ -46,11 +45,20 @@ const DIGIT_0: &str = "
 03C8 0000 D1=11223344 A0=00C00000 -> w:C00000=11 w:C00002=22 w:C00004=33 w:C00006=44 ; MOVEP.L D1,0(A0)
 0308 0001 D1=AAAAAAAA A0=00FF0100 @FF0100=0012 @FF0102=0034 -> D1=AAAA1234 ; MOVEP.W 1(A0),D1
 027C 0000 SR=0015 -> !0200/0015 PC=00008010 SR=2015 E=8 ; ANDI #0,SR, of a user
-";
-
-/// Bytes at the first and last address of each shared part, and beside them; a word at the end of
-/// the ports; a byte behind two private writes, at any address of it.
-const ACCESSES: &str = "
+MOVE and MOVEA, of shared longs with no answer, one and two.
+2080 D0=89ABCDEF A0=00C00004 -> W:C00004=89AB W:C00006=CDEF SR=2708 ; MOVE.L D0,(A0)
+2218 A0=00C00000 -> R:C00000=1234 R:C00002=5678 D1=12345678 A0=00C00004 ; MOVE.L (A0)+,D1
+103C 0080 D0=FFFFFF00 -> D0=FFFFFF80 SR=2708 ; MOVE.B #$80,D0
+3290 A0=00C00008 A1=00FF0000 -> R:C00008=8000 @FF0000=8000 SR=2708 ; MOVE.W (A0),(A1)
+2108 A0=00FF0104 -> A0=00FF0100 @FF0100=00FF @FF0102=0104 ; MOVE.L A0,-(A0)
+347C 8000 SR=271F -> A2=FFFF8000 ; MOVEA.W #$8000,A2
+3230 0004 D0=0000FFFE A0=00FF0100 @FF0102=7FFF -> D1=00007FFF ; MOVE.W 4(A0,D0.W),D1
+13C0 00FF 0000 D0=00000055 -> .FF0000=55 ; MOVE.B D0,$FF0000
+1218 A0=00A00000 -> r:A00000=0080 A0=00A00001 D1=00000080 SR=2708 ; MOVE.B (A0)+,D1
+3010 A0=00900000 -> D0=0000FFFF SR=2708 ; MOVE.W (A0),D0, where there is nothing
+3080 D0=00000001 A0=00000100 -> ; MOVE.W D0,(A0), into the cartridge
+Bytes at the first and last address of each shared part, and beside them; a word at the end of the ports;
+a byte behind two private writes, at any address of it.
 1010 A0=00A00000 -> r:A00000=12 D0=00000012 ; MOVE.B (A0),D0
 1010 A0=00A0FFFF -> r:A0FFFF=12 D0=00000012
 1010 A0=00A10000 -> r:A10000=12 D0=00000012
@@ -82,23 +90,9 @@ const ACCESSES: &str = "
 10A8 FFFF A0=00FF0011 @FF0010=7F00 -> .FF0011=7F ; MOVE.B -1(A0),(A0)
 ";
 
-/// MOVE and MOVEA, of shared longs with no answer, one and two.
-const MOVES: &str = "
-2080 D0=89ABCDEF A0=00C00004 -> W:C00004=89AB W:C00006=CDEF SR=2708 ; MOVE.L D0,(A0)
-2218 A0=00C00000 -> R:C00000=1234 R:C00002=5678 D1=12345678 A0=00C00004 ; MOVE.L (A0)+,D1
-103C 0080 D0=FFFFFF00 -> D0=FFFFFF80 SR=2708 ; MOVE.B #$80,D0
-3290 A0=00C00008 A1=00FF0000 -> R:C00008=8000 @FF0000=8000 SR=2708 ; MOVE.W (A0),(A1)
-2108 A0=00FF0104 -> A0=00FF0100 @FF0100=00FF @FF0102=0104 ; MOVE.L A0,-(A0)
-347C 8000 SR=271F -> A2=FFFF8000 ; MOVEA.W #$8000,A2
-3230 0004 D0=0000FFFE A0=00FF0100 @FF0102=7FFF -> D1=00007FFF ; MOVE.W 4(A0,D0.W),D1
-13C0 00FF 0000 D0=00000055 -> .FF0000=55 ; MOVE.B D0,$FF0000
-1218 A0=00A00000 -> r:A00000=0080 A0=00A00001 D1=00000080 SR=2708 ; MOVE.B (A0)+,D1
-3010 A0=00900000 -> D0=0000FFFF SR=2708 ; MOVE.W (A0),D0, where there is nothing
-3080 D0=00000001 A0=00000100 -> ; MOVE.W D0,(A0), into the cartridge
-";
-
-/// The instructions of digit 4 on operands.
-const OPERANDS: &str = "
+/// Digit 4, and jumps, branches and conditions.
+const OPERANDS_AND_CONTROL: &str = "
+The instructions of digit 4 on operands.
 4000 SR=2714 -> D0=000000FF SR=2719 ; NEGX.B D0
 4250 A0=00C00004 -> R:C00004=FFFF W:C00004=0000 SR=2704 ; CLR.W (A0)
 4481 D1=80000000 -> D1=80000000 SR=271B ; NEG.L D1
@@ -122,10 +116,7 @@ const OPERANDS: &str = "
 4AC0 -> D0=00000080 SR=2704 ; TAS D0
 41FA 0008 -> A0=0000020A ; LEA 8(PC),A0
 4181 D0=00000005 D1=00000005 -> ; CHK D1,D0
-";
-
-/// The stack, jumps, branches and conditions.
-const CONTROL: &str = "
+The stack, jumps, branches and conditions.
 4E56 FFF8 A6=11223344 -> SS=00FFEFF4 A6=00FFEFFC @FFEFFC=1122 @FFEFFE=3344 ; LINK A6,#-8
 4E57 0000 -> SS=00FFEFFC @FFEFFC=00FF @FFEFFE=EFFC ; LINK A7,#0
 4E5E A6=00FF0100 @FF0100=0102 @FF0102=0304 -> SS=00FF0104 A6=01020304 ; UNLK A6
@@ -154,8 +145,9 @@ const CONTROL: &str = "
 64FF -> PC=00000201 TAKEN ; BCC *+1
 ";
 
-/// Digits 5 and 7 to D on operands.
-const ARITHMETIC: &str = "
+/// Arithmetic, and what ends in an exception.
+const ARITHMETIC_AND_EXCEPTIONS: &str = "
+Digits 5 and 7 to D on operands.
 5088 A0=FFFFFFFF -> A0=00000007 ; ADDQ.L #8,A0
 5300 D0=00000100 -> D0=000001FF SR=2719 ; SUBQ.B #1,D0
 7AFF -> D5=FFFFFFFF SR=2708 ; MOVEQ #-1,D5
@@ -184,10 +176,7 @@ E2A8 D0=80000000 D1=00000020 -> D0=00000000 SR=2715 N=20 ; LSR.L D1,D0
 E350 D0=00008000 SR=2710 -> D0=00000001 SR=2711 N=1 ; ROXL.W #1,D0
 E238 D0=00000081 D1=00000040 SR=2711 -> SR=2718 ; ROR.B D1,D0, 64 times
 E0D0 A0=00C00004 -> R:C00004=8001 W:C00004=C000 SR=2719 ; ASR.W (A0)
-";
-
-/// Each exception, traces, interrupts and halts.
-const EXCEPTIONS: &str = "
+Each exception, traces, interrupts and halts.
 3018 A0=00FF0101 -> @FFEFFC=0000 @FFEFFE=0202 @FFEFFA=2700 @FFEFF8=3018 @FFEFF4=00FF @FFEFF6=0101 @FFEFF2=0015 SS=00FFEFF2 PC=00008006 E=3 ; MOVE.W (A0)+,D0
 32D8 A0=00C00004 A1=00FF0001 SR=0000 -> R:C00004=1111 @FFEFFC=0000 @FFEFFE=0202 @FFEFFA=0000 @FFEFF8=32D8 @FFEFF4=00FF @FFEFF6=0001 @FFEFF2=0001 SS=00FFEFF2 PC=00008006 SR=2000 E=3 ; MOVE.W (A0)+,(A1)+, of a user
 PC=00000201 -> @FFEFFC=0000 @FFEFFE=0203 @FFEFFA=2700 @FFEFF8=FFFF @FFEFF4=0000 @FFEFF6=0201 @FFEFF2=0016 SS=00FFEFF2 PC=00008006 E=3 ; at an odd address
@@ -239,15 +228,15 @@ fn thirty_two_accesses(rt: HostRuntime) -> Result<(), Fail> {
 
 #[test]
 fn immediates_bits_and_moves(rt: HostRuntime) -> Result<(), Fail> {
-    hold(rt.alloc(), &[DIGIT_0, MOVES, ACCESSES])
+    hold(rt.alloc(), IMMEDIATES_BITS_AND_MOVES)
 }
 
 #[test]
 fn operands_and_control(rt: HostRuntime) -> Result<(), Fail> {
-    hold(rt.alloc(), &[OPERANDS, CONTROL])
+    hold(rt.alloc(), OPERANDS_AND_CONTROL)
 }
 
 #[test]
 fn arithmetic_and_exceptions(rt: HostRuntime) -> Result<(), Fail> {
-    hold(rt.alloc(), &[ARITHMETIC, EXCEPTIONS])
+    hold(rt.alloc(), ARITHMETIC_AND_EXCEPTIONS)
 }
