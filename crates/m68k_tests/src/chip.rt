@@ -29,22 +29,25 @@ enum Event {
     Stacked([u8; 6]),
 }
 
-/// The 68000 at power-on, with a cartridge of 512 bytes that has this program at CODE.
-fn with_program(alloc: Global, stack: u32, pc: u32, program: &[u16]) -> Result<Chip68, Fail> {
+/// A cartridge of 512 bytes that has this program at CODE.
+fn image_of(stack: u32, pc: u32, program: &[u16]) -> [u8; 512] {
     let mut image = [0; 512];
     put(&mut image, 0, &stack.to_be_bytes());
     put(&mut image, 4, &pc.to_be_bytes());
     put(&mut image, 0x100, b"SEGA");
-    for (number, word) in program.iter().enumerate() {
-        put(
-            &mut image,
-            CODE.wrapping_add(number.wrapping_mul(2)),
-            &word.to_be_bytes(),
-        );
+    let mut place = CODE;
+    for word in program {
+        put(&mut image, place, &word.to_be_bytes());
+        place = place.wrapping_add(2);
     }
+    image
+}
+
+/// The 68000 at power-on, with this cartridge.
+fn with_program(alloc: Global, stack: u32, pc: u32, program: &[u16]) -> Result<Chip68, Fail> {
+    let image = image_of(stack, pc, program);
     let cart = Cart::accept(alloc, image.to_vec(alloc)?)?;
-    let cart = Arc::new(alloc, cart)?;
-    powered_on(alloc, cart)
+    powered_on(alloc, Arc::new(alloc, cart)?)
 }
 
 fn pins(level: u8) -> Pins68 {
@@ -104,7 +107,7 @@ fn follow(alloc: Global, chip: &mut Chip68, events: &[Event]) -> Result<(), Fail
 }
 
 /// The stack pointer and the program counter at power-on, a program, and what comes of it.
-type Run = (u32, u32, &'static [u16], &'static [Event]);
+type Run<'a> = (u32, u32, &'a [u16], &'a [Event]);
 
 /// Follows a program at power-on.
 fn runs(alloc: Global, run: &Run) -> Result<(), Fail> {
@@ -127,13 +130,13 @@ const TIMES: [([u16; 2], u32); 5] = [
 #[test]
 fn times_of_instructions(rt: HostRuntime) -> Result<(), Fail> {
     for ([first, second], cycles) in TIMES {
-        let mut chip = with_program(rt.alloc(), 0xff_f000, 0x1c0, &[0x72ff, first, second])?;
+        let program = [0x72ff, first, second];
         let events = [
             Event::Sample(0, 0),
             Event::Sample(28, 0),
             Event::Sample(28 + u64::from(cycles), 0),
         ];
-        follow(rt.alloc(), &mut chip, &events)?;
+        runs(rt.alloc(), &(0xff_f000, 0x1c0, &program, &events))?;
     }
     Ok(())
 }
@@ -237,18 +240,21 @@ fn written(k: u32) -> Event {
     Event::Access(112 + 28 * u64::from(k), Request68::Write16(address, value))
 }
 
+/// Two samples, the accesses of MOVEM, and a sample behind them.
+fn events_of_movem() -> [Event; 35] {
+    let mut events = [Event::Sample(0, 0); 35];
+    events[1] = Event::Sample(84, 0);
+    for k in 0..32u8 {
+        events[usize::from(k) + 2] = written(u32::from(k));
+    }
+    events[34] = Event::Sample(1_036, 0);
+    events
+}
+
 // MOVEM.L D0-D7/A0-A7,(A1) with A1 = A00000h: 32 accesses, and 8 + 8 · 16 clocks.
 #[test]
 fn thirty_two_accesses(rt: HostRuntime) -> Result<(), Fail> {
     let program = [0x43f9, 0x00a0, 0x0000, 0x48d1, 0xffff];
-    let mut chip = with_program(rt.alloc(), 0xff_f000, 0x1c0, &program)?;
-    follow(
-        rt.alloc(),
-        &mut chip,
-        &[Event::Sample(0, 0), Event::Sample(84, 0)],
-    )?;
-    for k in 0..32u32 {
-        follow(rt.alloc(), &mut chip, &[written(k)])?;
-    }
-    follow(rt.alloc(), &mut chip, &[Event::Sample(1_036, 0)])
+    let events = events_of_movem();
+    runs(rt.alloc(), &(0xff_f000, 0x1c0, &program, &events))
 }

@@ -235,29 +235,27 @@ fn refused_halt(alloc: Global, row: &Halt) -> Result<Option<u64>, Fail> {
 }
 
 #[test]
-fn rules_on_several_fields(rt: HostRuntime) -> Result<(), Fail> {
+fn rules_on_a_transfer(rt: HostRuntime) -> Result<(), Fail> {
     for (number, row) in TRANSFERS.iter().enumerate() {
         assert!(rt; refused_transfer(rt.alloc(), row)? == row.4, "row {number}");
-    }
-    for row in HALTS {
-        assert!(rt; refused_halt(rt.alloc(), &row)? == row.3, "{}", row.0);
     }
     Ok(())
 }
 
-/// The place at which an instruction with these answers is refused at a cycle.
-fn place_amid(
-    alloc: Global,
-    instruction: &[u8],
-    answers: &[u8],
-    at: u64,
-) -> Result<Option<u64>, Fail> {
-    place_of(alloc, &at_access(alloc, instruction, answers)?, at)
+#[test]
+fn rules_on_a_halt(rt: HostRuntime) -> Result<(), Fail> {
+    for (number, row) in HALTS.iter().enumerate() {
+        assert!(rt; refused_halt(rt.alloc(), row)? == row.3, "row {number}");
+    }
+    Ok(())
 }
 
-// An instruction, its answers, the cycle, and the place of the refusal. An instruction is to wait for one
-// answer more. A byte was answered by a byte, a write by 0. It began below the cycle.
-const ANSWERED: [(&[u8], &[u8], u64, Option<u64>); 9] = [
+/// An instruction, its answers, the cycle, and the place of the refusal.
+type Answered = (&'static [u8], &'static [u8], u64, Option<u64>);
+
+// An instruction is to wait for one answer more. A byte was answered by a byte, a write by 0. It began
+// below the cycle.
+const ANSWERED: [Answered; 9] = [
     (&NOTHING, &[], 1001, Some(178)),
     (&LOAD_BYTE, &[], 1001, None),
     (&LOAD_BYTE, &[0x00, 0x12], 1001, Some(178)),
@@ -269,10 +267,17 @@ const ANSWERED: [(&[u8], &[u8], u64, Option<u64>); 9] = [
     (&LOAD_BYTE, &[], 1000, Some(9)),
 ];
 
+/// Whether an instruction amid its answers is refused where its row says.
+fn is_placed(alloc: Global, row: &Answered) -> Result<bool, Fail> {
+    let &(instruction, answers, at, place) = row;
+    let bytes = at_access(alloc, instruction, answers)?;
+    Ok(place_of(alloc, &bytes, at)? == place)
+}
+
 #[test]
 fn answers_fit_their_accesses(rt: HostRuntime) -> Result<(), Fail> {
-    for (instruction, answers, at, place) in ANSWERED {
-        assert!(rt; place_amid(rt.alloc(), instruction, answers, at)? == place);
+    for (number, row) in ANSWERED.iter().enumerate() {
+        assert!(rt; is_placed(rt.alloc(), row)?, "row {number}");
     }
     Ok(())
 }
