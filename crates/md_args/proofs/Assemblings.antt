@@ -6,11 +6,12 @@ use Rattle.clap.specs.Simple.{built}
 use Rattle.clap.specs.Walk.{Rule, Text, is_empty, nothing_held, rows_after}
 use Rattle.clap.proofs.FaultLemmas.{leaf_fault}
 use Rattle.md_args.specs.Given.{Argument, value_in}
-use Rattle.md_args.specs.Parse.{asm_app, assembling_parsed, parse_of}
+use Rattle.md_args.specs.Parse.{app_for, parse_of}
+use Rattle.md_args.specs.declared.verb.Verb.TheVariants as verb
 use Rattle.md_args.specs.Words.{assembling_by, assembling_given, assembling_of}
 use Rattle.md_args.proofs.Commands.{is_none}
 use Rattle.md_args.proofs.Lookups.{AreFound, options_found, option_rule, word_rule}
-use Rattle.md_args.proofs.Parsed.{means, options_have_none, parsed}
+use Rattle.md_args.proofs.Parsed.{means, options_have_none, parsed, parsed_as}
 use Rattle.md_args.proofs.Rows.{given_is, row}
 use Rattle.md_args.proofs.Turns.{lacks}
 use Rattle.md_args.proofs.Walks.{AreTexts}
@@ -37,14 +38,14 @@ asm_wants : (arguments : List Argument) → lacks asm_rules (map row arguments) 
 asm_wants arguments is =
     asm_without (value_in arguments) _ _ (sym (given_is arguments (codes "source"))) (sym (given_is arguments (codes "output"))) is
 
-asm_parse_is : (words : List Text) → parse_of asm_app words ≡ parsed (codes "asm") asm_rules words
-unfolding asm_app
-asm_parse_is words = ap (λ kinds. cond (is_empty kinds) (Some (rows_after asm_rules [] words)) None) (leaf_fault (built asm_app) nothing_held words refl)
+asm_parse_is : (words : List Text) → parse_of (app_for verb.Asm) words ≡ parsed (codes "asm") asm_rules words
+unfolding app_for
+asm_parse_is words = ap (λ kinds. cond (is_empty kinds) (Some (rows_after asm_rules [] words)) None) (leaf_fault (built (app_for verb.Asm)) nothing_held words refl)
 
 asm_found : AreFound asm_rules (codes "list" ∷ []) []
 asm_found = options_found asm_rules asm_arguments (λ name. refl) (refl, tt)
 
-pub asm_means : (words : List Text) → AreTexts words → assembling_parsed words ≡ assembling_of words
+pub asm_means : (words : List Text) → AreTexts words → parsed_as verb.Asm assembling_by words ≡ assembling_of words
 asm_means words texts =
     ap (option_and_then _) (asm_parse_is words)
     ∙ means (codes "asm") asm_rules (codes "source" ∷ codes "output" ∷ []) (codes "list" ∷ []) [] asm_found (λ letter. refl)

@@ -8,11 +8,13 @@ use Rattle.clap.specs.Simple.{built}
 use Rattle.clap.specs.Walk.{Rule, Text, is_empty, nothing_held, rows_after}
 use Rattle.clap.proofs.FaultLemmas.{leaf_fault}
 use Rattle.md_args.specs.Given.{Argument, value_in}
-use Rattle.md_args.specs.Parse.{conversion_app, conversion_parsed, info_app, info_parsed, parse_of, run_app, run_parsed}
+use Rattle.md_args.specs.Parse.{app_for, found_by, parse_of}
 use Rattle.md_args.specs.Words.{Values, conversion_by, conversion_given, conversion_of, info_by, info_of, run_by, run_from, run_flags, run_of, run_options, values_by, workers_of}
 use Rattle.md_args.specs.declared.convert_words.Product.{Product}
+use Rattle.md_args.specs.declared.convert_words.Product.TheVariants.{Vgm, Sound}
+use Rattle.md_args.specs.declared.verb.Verb.TheVariants as verb
 use Rattle.md_args.proofs.Lookups.{AreFound, all_found, options_found, flag_found, flag_rule, option_rule, word_rule}
-use Rattle.md_args.proofs.Parsed.{means, options_have_none, parsed}
+use Rattle.md_args.proofs.Parsed.{means, options_have_none, parsed, parsed_as}
 use Rattle.md_args.proofs.Rows.{given_is, row}
 use Rattle.md_args.proofs.Turns.{lacks}
 use Rattle.md_args.proofs.Walks.{AreTexts}
@@ -46,14 +48,14 @@ info_wants arguments is =
     let absent : value_in arguments (codes "rom") ≡ None = is_none _ (sym (given_is arguments (codes "rom")) ∙ rom_wanted _ is) in
     rw (absent) refl
 
-info_parse_is : (words : List Text) → parse_of info_app words ≡ parsed (codes "info") (rom ∷ []) words
-unfolding info_app
-info_parse_is words = ap (λ kinds. cond (is_empty kinds) (Some (rows_after (rom ∷ []) [] words)) None) (leaf_fault (built info_app) nothing_held words refl)
+info_parse_is : (words : List Text) → parse_of (app_for verb.Info) words ≡ parsed (codes "info") (rom ∷ []) words
+unfolding app_for
+info_parse_is words = ap (λ kinds. cond (is_empty kinds) (Some (rows_after (rom ∷ []) [] words)) None) (leaf_fault (built (app_for verb.Info)) nothing_held words refl)
 
 info_found : AreFound (rom ∷ []) [] []
 info_found = options_found (rom ∷ []) [] (λ name. refl) tt
 
-pub info_means : (words : List Text) → AreTexts words → info_parsed words ≡ info_of words
+pub info_means : (words : List Text) → AreTexts words → parsed_as verb.Info info_by words ≡ info_of words
 info_means words texts =
     ap (option_and_then _) (info_parse_is words)
     ∙ means (codes "info") (rom ∷ []) (codes "rom" ∷ []) [] [] info_found (λ letter. refl) (refl, refl, refl) (refl, tt) info_by info_wants words texts
@@ -77,14 +79,14 @@ run_wants : (arguments : List Argument) → lacks run_rules (map row arguments) 
 run_wants arguments is =
     run_without (value_in arguments) _ _ (sym (given_is arguments (codes "rom"))) (sym (given_is arguments (codes "cycles"))) is
 
-run_parse_is : (words : List Text) → parse_of run_app words ≡ parsed (codes "run") run_rules words
-unfolding run_app
-run_parse_is words = ap (λ kinds. cond (is_empty kinds) (Some (rows_after run_rules [] words)) None) (leaf_fault (built run_app) nothing_held words refl)
+run_parse_is : (words : List Text) → parse_of (app_for verb.Run) words ≡ parsed (codes "run") run_rules words
+unfolding app_for
+run_parse_is words = ap (λ kinds. cond (is_empty kinds) (Some (rows_after run_rules [] words)) None) (leaf_fault (built (app_for verb.Run)) nothing_held words refl)
 
 run_found : AreFound run_rules run_options run_flags
 run_found = all_found run_rules (codes "pal") run_arguments (λ name. refl) refl (refl, (refl, (refl, (refl, (refl, (refl, (refl, (refl, tt))))))))
 
-pub run_means : (words : List Text) → AreTexts words → run_parsed words ≡ run_of words
+pub run_means : (words : List Text) → AreTexts words → parsed_as verb.Run run_by words ≡ run_of words
 run_means words texts =
     ap (option_and_then _) (run_parse_is words)
     ∙ means (codes "run") run_rules (codes "rom" ∷ []) run_options run_flags run_found (λ letter. refl) (refl, refl, refl) (refl, (refl, options_have_none run_arguments)) run_by run_wants words texts
@@ -107,13 +109,24 @@ conversion_wants : (product : Product) (arguments : List Argument) → lacks con
 conversion_wants product arguments is =
     conversion_without product (value_in arguments) _ _ (sym (given_is arguments (codes "input"))) (sym (given_is arguments (codes "output"))) is
 
-conversion_parse_is : (name : Text) (words : List Text) → parse_of (conversion_app name) words ≡ parsed name conversion_rules words
-unfolding conversion_app
-conversion_parse_is name words =
-    ap (λ kinds. cond (is_empty kinds) (Some (rows_after conversion_rules [] words)) None) (leaf_fault (built (conversion_app name)) nothing_held words refl)
-
-pub conversion_means : (name : Text) (product : Product) (words : List Text) → AreTexts words → conversion_parsed name product words ≡ conversion_of product words
+conversion_means : (name : Text) (product : Product) (words : List Text) → AreTexts words
+    → option_and_then (λ rows. conversion_by product (found_by rows)) (parsed name conversion_rules words) ≡ conversion_of product words
 conversion_means name product words texts =
-    ap (option_and_then _) (conversion_parse_is name words)
-    ∙ means name conversion_rules (codes "input" ∷ codes "output" ∷ []) [] (codes "pal" ∷ []) (flag_found conversion_rules (codes "pal") (λ other. refl)) (λ letter. refl)
+    means name conversion_rules (codes "input" ∷ codes "output" ∷ []) [] (codes "pal" ∷ []) (flag_found conversion_rules (codes "pal") (λ other. refl)) (λ letter. refl)
     ((refl, refl, (refl, refl, refl))) (refl, (refl, (refl, tt))) (conversion_by product) (conversion_wants product) words texts
+
+vgm_parse_is : (words : List Text) → parse_of (app_for verb.Vgm) words ≡ parsed (codes "vgm") conversion_rules words
+unfolding app_for
+vgm_parse_is words =
+    ap (λ kinds. cond (is_empty kinds) (Some (rows_after conversion_rules [] words)) None) (leaf_fault (built (app_for verb.Vgm)) nothing_held words refl)
+
+pub vgm_means : (words : List Text) → AreTexts words → parsed_as verb.Vgm (conversion_by Vgm) words ≡ conversion_of Vgm words
+vgm_means words texts = ap (option_and_then _) (vgm_parse_is words) ∙ conversion_means (codes "vgm") Vgm words texts
+
+play_parse_is : (words : List Text) → parse_of (app_for verb.Play) words ≡ parsed (codes "play") conversion_rules words
+unfolding app_for
+play_parse_is words =
+    ap (λ kinds. cond (is_empty kinds) (Some (rows_after conversion_rules [] words)) None) (leaf_fault (built (app_for verb.Play)) nothing_held words refl)
+
+pub play_means : (words : List Text) → AreTexts words → parsed_as verb.Play (conversion_by Sound) words ≡ conversion_of Sound words
+play_means words texts = ap (option_and_then _) (play_parse_is words) ∙ conversion_means (codes "play") Sound words texts

@@ -6,11 +6,12 @@ use Rattle.clap.specs.Simple.{built}
 use Rattle.clap.specs.Walk.{Rule, Text, is_empty, nothing_held, rows_after}
 use Rattle.clap.proofs.FaultLemmas.{leaf_fault}
 use Rattle.md_args.specs.Given.{Argument, value_in}
-use Rattle.md_args.specs.Parse.{debug_app, debugging_parsed, parse_of}
+use Rattle.md_args.specs.Parse.{app_for, parse_of}
+use Rattle.md_args.specs.declared.verb.Verb.TheVariants as verb
 use Rattle.md_args.specs.Words.{debugging_by, debugging_given, debugging_of}
 use Rattle.md_args.proofs.Commands.{is_none}
 use Rattle.md_args.proofs.Lookups.{AreFound, options_found, word_rule}
-use Rattle.md_args.proofs.Parsed.{means, parsed}
+use Rattle.md_args.proofs.Parsed.{means, parsed, parsed_as}
 use Rattle.md_args.proofs.Rows.{given_is, row}
 use Rattle.md_args.proofs.Turns.{lacks}
 use Rattle.md_args.proofs.Walks.{AreTexts}
@@ -33,14 +34,14 @@ debug_wants : (arguments : List Argument) → lacks debug_rules (map row argumen
 debug_wants arguments is =
     debug_without (value_in arguments) _ _ (sym (given_is arguments (codes "rom"))) (sym (given_is arguments (codes "script"))) is
 
-debug_parse_is : (words : List Text) → parse_of debug_app words ≡ parsed (codes "debug") debug_rules words
-unfolding debug_app
-debug_parse_is words = ap (λ kinds. cond (is_empty kinds) (Some (rows_after debug_rules [] words)) None) (leaf_fault (built debug_app) nothing_held words refl)
+debug_parse_is : (words : List Text) → parse_of (app_for verb.Debug) words ≡ parsed (codes "debug") debug_rules words
+unfolding app_for
+debug_parse_is words = ap (λ kinds. cond (is_empty kinds) (Some (rows_after debug_rules [] words)) None) (leaf_fault (built (app_for verb.Debug)) nothing_held words refl)
 
 debug_found : AreFound debug_rules [] []
 debug_found = options_found debug_rules [] (λ name. refl) tt
 
-pub debug_means : (words : List Text) → AreTexts words → debugging_parsed words ≡ debugging_of words
+pub debug_means : (words : List Text) → AreTexts words → parsed_as verb.Debug debugging_by words ≡ debugging_of words
 debug_means words texts =
     ap (option_and_then _) (debug_parse_is words)
     ∙ means (codes "debug") debug_rules (codes "rom" ∷ codes "script" ∷ []) [] [] debug_found (λ letter. refl)

@@ -6,11 +6,12 @@ use Rattle.clap.specs.Simple.{built}
 use Rattle.clap.specs.Walk.{Rule, Text, is_empty, nothing_held, rows_after}
 use Rattle.clap.proofs.FaultLemmas.{leaf_fault}
 use Rattle.md_args.specs.Given.{Argument, value_in}
-use Rattle.md_args.specs.Parse.{demo_app, demo_parsed, parse_of}
+use Rattle.md_args.specs.Parse.{app_for, parse_of}
+use Rattle.md_args.specs.declared.verb.Verb.TheVariants as verb
 use Rattle.md_args.specs.Words.{demo_by, demo_from, demo_of}
 use Rattle.md_args.proofs.Commands.{is_none}
 use Rattle.md_args.proofs.Lookups.{AreFound, all_found, flag_rule, option_rule, word_rule}
-use Rattle.md_args.proofs.Parsed.{means, options_have_none, parsed}
+use Rattle.md_args.proofs.Parsed.{means, options_have_none, parsed, parsed_as}
 use Rattle.md_args.proofs.Rows.{given_is, row}
 use Rattle.md_args.proofs.Turns.{lacks}
 use Rattle.md_args.proofs.Walks.{AreTexts}
@@ -44,14 +45,14 @@ demo_wants : (arguments : List Argument) → lacks demo_rules (map row arguments
 demo_wants arguments is =
     demo_without (value_in arguments) _ _ _ (sym (given_is arguments (codes "number"))) (sym (given_is arguments (codes "cycles"))) (sym (given_is arguments (codes "workers"))) is
 
-demo_parse_is : (words : List Text) → parse_of demo_app words ≡ parsed (codes "demo") demo_rules words
-unfolding demo_app
-demo_parse_is words = ap (λ kinds. cond (is_empty kinds) (Some (rows_after demo_rules [] words)) None) (leaf_fault (built demo_app) nothing_held words refl)
+demo_parse_is : (words : List Text) → parse_of (app_for verb.Demo) words ≡ parsed (codes "demo") demo_rules words
+unfolding app_for
+demo_parse_is words = ap (λ kinds. cond (is_empty kinds) (Some (rows_after demo_rules [] words)) None) (leaf_fault (built (app_for verb.Demo)) nothing_held words refl)
 
 demo_found : AreFound demo_rules (codes "cycles" ∷ codes "workers" ∷ []) (codes "pal" ∷ [])
 demo_found = all_found demo_rules (codes "pal") demo_arguments (λ name. refl) refl (refl, (refl, tt))
 
-pub demo_means : (words : List Text) → AreTexts words → demo_parsed words ≡ demo_of words
+pub demo_means : (words : List Text) → AreTexts words → parsed_as verb.Demo demo_by words ≡ demo_of words
 demo_means words texts =
     ap (option_and_then _) (demo_parse_is words)
     ∙ means (codes "demo") demo_rules (codes "number" ∷ []) (codes "cycles" ∷ codes "workers" ∷ []) (codes "pal" ∷ []) demo_found (λ letter. refl) (refl, refl, refl) (refl, (refl, options_have_none demo_arguments)) demo_by demo_wants words texts

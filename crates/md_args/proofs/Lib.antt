@@ -16,4 +16,5 @@ pub mod Simple
 pub mod Spellings
 pub mod Tails
 pub mod Turns
+pub mod Verbs
 pub mod Walks

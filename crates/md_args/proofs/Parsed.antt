@@ -6,7 +6,8 @@ use Rattle.clap.specs.Kinds.{Kinds, check_kinds, or_else}
 use Rattle.clap.specs.Faults.{check_fault, defaults_fault, level_fault, settle_fault, walk_fault}
 use Rattle.clap.specs.Walk.{Row, Rule, Text, arg_by_short, has_row, idle, is_empty, nothing_held, rows_after, settled, walk, walk_from, with_default}
 use Rattle.md_args.specs.Given.{Argument, are_single, between, given, meant_by, value_in}
-use Rattle.md_args.specs.Parse.{found_by}
+use Rattle.md_args.specs.Parse.{app_for, found_by, parse_of}
+use Rattle.md_args.specs.declared.verb.Verb.{Verb}
 use Rattle.md_args.proofs.Lookups.{AreFound, option_rule}
 use Rattle.md_args.proofs.Rows.{found_is, put_single, row}
 use Rattle.md_args.proofs.Turns.{at, complete, fine_both, if_fine, lacks, outcome, shape}
@@ -49,6 +50,10 @@ some_kinds n false is = refl
 when_fine : (kinds : Kinds) (found : Option (List Row)) → cond (is_empty kinds) found None ≡ if_fine kinds found
 when_fine [] found = refl
 when_fine (kind ∷ kinds) found = rw (some_kinds (length kinds) _ refl) refl
+
+-- what is made of the rows that the command of a verb finds
+abbrev pub parsed_as : {X : Type 0} → Verb → ((Text → Option Text) → Option X) → List Text → Option X
+parsed_as verb meaning words = option_and_then (λ rows. meaning (found_by rows)) (parse_of (app_for verb) words)
 
 -- what `clap` finds with a command of these arguments, or none where it refuses the words
 abbrev pub parsed : Text → List Rule → List Text → Option (List Row)

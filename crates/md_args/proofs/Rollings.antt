@@ -6,11 +6,12 @@ use Rattle.clap.specs.Simple.{built}
 use Rattle.clap.specs.Walk.{Rule, Text, is_empty, nothing_held, rows_after}
 use Rattle.clap.proofs.FaultLemmas.{leaf_fault}
 use Rattle.md_args.specs.Given.{Argument, value_in}
-use Rattle.md_args.specs.Parse.{parse_of, rollback_app, rolling_parsed}
+use Rattle.md_args.specs.Parse.{app_for, parse_of}
+use Rattle.md_args.specs.declared.verb.Verb.TheVariants as verb
 use Rattle.md_args.specs.Words.{rolling_by, rolling_from, rolling_of, wanted_window}
 use Rattle.md_args.proofs.Commands.{is_none}
 use Rattle.md_args.proofs.Lookups.{AreFound, options_found, option_rule, word_rule}
-use Rattle.md_args.proofs.Parsed.{means, options_have_none, parsed}
+use Rattle.md_args.proofs.Parsed.{means, options_have_none, parsed, parsed_as}
 use Rattle.md_args.proofs.Rows.{given_is, row}
 use Rattle.md_args.proofs.Turns.{lacks}
 use Rattle.md_args.proofs.Walks.{AreTexts}
@@ -46,15 +47,15 @@ rollback_wants : (arguments : List Argument) → lacks rollback_rules (map row a
 rollback_wants arguments is =
     rollback_without (value_in arguments) _ _ _ (sym (given_is arguments (codes "rom"))) (sym (given_is arguments (codes "inputs"))) (sym (given_is arguments (codes "window"))) is
 
-rollback_parse_is : (words : List Text) → parse_of rollback_app words ≡ parsed (codes "rollback") rollback_rules words
-unfolding rollback_app
+rollback_parse_is : (words : List Text) → parse_of (app_for verb.Rollback) words ≡ parsed (codes "rollback") rollback_rules words
+unfolding app_for
 rollback_parse_is words =
-    ap (λ kinds. cond (is_empty kinds) (Some (rows_after rollback_rules [] words)) None) (leaf_fault (built rollback_app) nothing_held words refl)
+    ap (λ kinds. cond (is_empty kinds) (Some (rows_after rollback_rules [] words)) None) (leaf_fault (built (app_for verb.Rollback)) nothing_held words refl)
 
 rollback_found : AreFound rollback_rules (codes "window" ∷ []) []
 rollback_found = options_found rollback_rules rollback_arguments (λ name. refl) (refl, tt)
 
-pub rollback_means : (words : List Text) → AreTexts words → rolling_parsed words ≡ rolling_of words
+pub rollback_means : (words : List Text) → AreTexts words → parsed_as verb.Rollback rolling_by words ≡ rolling_of words
 rollback_means words texts =
     ap (option_and_then _) (rollback_parse_is words)
     ∙ means (codes "rollback") rollback_rules (codes "rom" ∷ codes "inputs" ∷ []) (codes "window" ∷ []) [] rollback_found (λ letter. refl)

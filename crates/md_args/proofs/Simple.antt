@@ -6,35 +6,20 @@ use Rattle.clap.specs.Matches.{found_of}
 use Rattle.clap.specs.Simple.{App}
 use Rattle.clap.specs.Walk.{Row, Text, rows_of}
 use Rattle.clap.specs.declared.parser.matches.ArgMatches.{ArgMatches}
-use Rattle.md_args.specs.Parse.{asm_app, conversion_app, debug_app, demo_app, info_app, parse_of, rollback_app, run_app}
+use Rattle.md_args.specs.Parse.{app_for, parse_of}
+use Rattle.md_args.specs.declared.verb.Verb.{Verb}
+use Rattle.md_args.specs.declared.verb.Verb.TheVariants as verb
 
-pub info_is_simple : is_simple_and_free info_app ≡ true
-unfolding info_app
-info_is_simple = refl
-
-pub run_is_simple : is_simple_and_free run_app ≡ true
-unfolding run_app
-run_is_simple = refl
-
-pub demo_is_simple : is_simple_and_free demo_app ≡ true
-unfolding demo_app
-demo_is_simple = refl
-
-pub conversion_is_simple : (name : Text) → is_simple_and_free (conversion_app name) ≡ true
-unfolding conversion_app
-conversion_is_simple name = refl
-
-pub asm_is_simple : is_simple_and_free asm_app ≡ true
-unfolding asm_app
-asm_is_simple = refl
-
-pub debug_is_simple : is_simple_and_free debug_app ≡ true
-unfolding debug_app
-debug_is_simple = refl
-
-pub rollback_is_simple : is_simple_and_free rollback_app ≡ true
-unfolding rollback_app
-rollback_is_simple = refl
+pub is_simple : (verb : Verb) → is_simple_and_free (app_for verb) ≡ true
+unfolding app_for
+is_simple verb.Info = refl
+is_simple verb.Run = refl
+is_simple verb.Demo = refl
+is_simple verb.Vgm = refl
+is_simple verb.Play = refl
+is_simple verb.Asm = refl
+is_simple verb.Debug = refl
+is_simple verb.Rollback = refl
 
 abbrev pub rows_in : Option ArgMatches → Option (List Row)
 rows_in = option_map (λ m. rows_of (found_of m))

@@ -1,36 +1,20 @@
-ghost use Rattle.std.specs.Prelude.{◌≡◌, ◌∷◌, [], IfOk, Some, map, string_bytes, true};
+ghost use Rattle.std.specs.Prelude.{◌≡◌, ◌∷◌, [], Some, true};
 ghost use Rattle.std.specs.Option.{option_copied, option_map};
 ghost use Rattle.clap.specs.Matches.{found_of};
 ghost use Rattle.clap.specs.Walk.{rows_of};
 ghost use Rattle.md_args.specs.Parse.{found_by};
-ghost use Rattle.md_args.specs.Shown.{shown_assembling};
+ghost use Rattle.md_args.specs.Shown.{shown_command};
 ghost use Rattle.md_args.specs.Words as meaning;
 
 use crate::asm_words::AsmWords;
-use crate::building::asm_command;
+use crate::command_words::CommandWords;
 use crate::names::are_names;
-use crate::parse::parse;
 use crate::reading::value;
 use clap::ArgMatches;
-use std::alloc::{AllocError, Global};
-
-/// Reads the words of `asm` behind its command.
-pub(crate) fn read_asm<'a>(
-    alloc: Global,
-    words: &'a [String],
-) -> Result<Option<AsmWords<'a>>, AllocError>
-    ensures { IfOk result (λ found. option_map shown_assembling found ≡ meaning.assembling_of (map string_bytes words.now)) }
-{
-    let command = asm_command(alloc)?;
-    match parse(command, words)? {
-        Some(matches) => Ok(asm_chosen(&matches)),
-        None => Ok(None),
-    }
-}
 
 /// The assembly that the matches have.
-fn asm_chosen<'a>(matches: &ArgMatches<'a>) -> Option<AsmWords<'a>>
-    ensures { option_map shown_assembling result ≡ meaning.assembling_by (found_by (rows_of (found_of matches.now))) }
+pub(crate) fn asm_chosen<'a>(matches: &ArgMatches<'a>) -> Option<CommandWords<'a>>
+    ensures { option_map shown_command result ≡ option_map meaning.Assemble (meaning.assembling_by (found_by (rows_of (found_of matches.now)))) }
 {
     asm_given(
         value(matches, "source"),
@@ -52,17 +36,17 @@ fn asm_given<'a>(
     source: Option<&'a str>,
     output: Option<&'a str>,
     list: Option<&'a str>,
-) -> Option<AsmWords<'a>>
-    ensures { option_map shown_assembling result ≡ meaning.assembling_given (option_copied source.entry) (option_copied output.entry) (option_copied list.entry) }
+) -> Option<CommandWords<'a>>
+    ensures { option_map shown_command result ≡ option_map meaning.Assemble (meaning.assembling_given (option_copied source.entry) (option_copied output.entry) (option_copied list.entry)) }
 {
     match (source, output) {
         (Some(source), Some(output)) => {
             if have_names(source, output, list) {
-                Some(AsmWords {
+                Some(CommandWords::Assemble(AsmWords {
                     source,
                     output,
                     list,
-                })
+                }))
             } else {
                 None
             }

@@ -1,89 +1,18 @@
-ghost use Rattle.std.specs.Prelude.{◌≡◌, IfOk};
+ghost use Rattle.std.specs.Prelude.{◌≡◌, IfOk, false, fold, map};
 ghost use Rattle.clap.specs.Simple.{app_of, with_rule};
+ghost use Rattle.clap.specs.Walk.{rule_of};
 ghost use Rattle.md_args.specs.Parse as meaning;
 
+use crate::parameter::Parameter;
+use crate::verb::Verb;
 use clap::{Arg, ArgAction, Command};
 use std::alloc::{AllocError, Global};
 
-/// The command `info ROM`, behind its word.
-#[tactic(auto, unfolding(crate::specs::Parse::info_app))]
-pub(crate) fn info_command<'a>(alloc: Global) -> Result<Command<'a>, AllocError>
-    ensures { IfOk result (λ command. app_of command ≡ meaning.info_app) }
+/// The command of a verb, behind its word.
+pub(crate) fn command_for<'a>(alloc: Global, verb: Verb) -> Result<Command<'a>, AllocError>
+    ensures { IfOk result (λ command. app_of command ≡ meaning.app_for verb) }
 {
-    with_wanted_word(bare(alloc, "info"), alloc, "rom")
-}
-
-/// The command
-/// `run ROM --cycles N --in P --load S --save S --frames F --sound W --journal J --workers K --pal`,
-/// behind its word.
-pub(crate) fn run_command<'a>(alloc: Global) -> Result<Command<'a>, AllocError>
-    ensures { IfOk result (λ command. app_of command ≡ meaning.run_app) }
-{
-    let rom = with_wanted_word(bare(alloc, "run"), alloc, "rom")?;
-    let pal = with_flag(rom, alloc, "pal")?;
-    let cycles = with_wanted_option(pal, alloc, "cycles")?;
-    let recording = with_option(cycles, alloc, "in")?;
-    let load = with_option(recording, alloc, "load")?;
-    let save = with_option(load, alloc, "save")?;
-    let frames = with_option(save, alloc, "frames")?;
-    let sound = with_option(frames, alloc, "sound")?;
-    let journal = with_option(sound, alloc, "journal")?;
-    let workers = with_option(journal, alloc, "workers")?;
-    Ok(workers)
-}
-
-/// The command `demo NUMBER --cycles N --workers W --pal`, behind its word.
-pub(crate) fn demo_command<'a>(alloc: Global) -> Result<Command<'a>, AllocError>
-    ensures { IfOk result (λ command. app_of command ≡ meaning.demo_app) }
-{
-    let number = with_wanted_word(bare(alloc, "demo"), alloc, "number")?;
-    let pal = with_flag(number, alloc, "pal")?;
-    let cycles = with_wanted_option(pal, alloc, "cycles")?;
-    let workers = with_wanted_option(cycles, alloc, "workers")?;
-    Ok(workers)
-}
-
-/// A command of this name, as `vgm JOURNAL OUT --pal` and `play VGM OUT --pal`, behind its word.
-#[tactic(auto, unfolding(crate::specs::Parse::conversion_app))]
-pub(crate) fn conversion_command<'a>(
-    alloc: Global,
-    name: &'a str,
-) -> Result<Command<'a>, AllocError>
-    ensures { IfOk result (λ command. app_of command ≡ meaning.conversion_app name.entry.now) }
-{
-    let input = with_wanted_word(bare(alloc, name), alloc, "input")?;
-    let output = with_wanted_word(input, alloc, "output")?;
-    let pal = with_flag(output, alloc, "pal")?;
-    Ok(pal)
-}
-
-/// The command `asm SOURCE OUT --list L`, behind its word.
-pub(crate) fn asm_command<'a>(alloc: Global) -> Result<Command<'a>, AllocError>
-    ensures { IfOk result (λ command. app_of command ≡ meaning.asm_app) }
-{
-    let source = with_wanted_word(bare(alloc, "asm"), alloc, "source")?;
-    let output = with_wanted_word(source, alloc, "output")?;
-    let list = with_option(output, alloc, "list")?;
-    Ok(list)
-}
-
-/// The command `debug ROM SCRIPT`, behind its word.
-pub(crate) fn debug_command<'a>(alloc: Global) -> Result<Command<'a>, AllocError>
-    ensures { IfOk result (λ command. app_of command ≡ meaning.debug_app) }
-{
-    let rom = with_wanted_word(bare(alloc, "debug"), alloc, "rom")?;
-    let script = with_wanted_word(rom, alloc, "script")?;
-    Ok(script)
-}
-
-/// The command `rollback ROM INPUTS --window W`, behind its word.
-pub(crate) fn rollback_command<'a>(alloc: Global) -> Result<Command<'a>, AllocError>
-    ensures { IfOk result (λ command. app_of command ≡ meaning.rollback_app) }
-{
-    let rom = with_wanted_word(bare(alloc, "rollback"), alloc, "rom")?;
-    let inputs = with_wanted_word(rom, alloc, "inputs")?;
-    let window = with_wanted_option(inputs, alloc, "window")?;
-    Ok(window)
+    with_each(bare(alloc, verb.name()), alloc, verb.parameters())
 }
 
 /// A command with no argument yet, which reads no program's name and has no help.
@@ -95,54 +24,55 @@ fn bare<'a>(alloc: Global, name: &'a str) -> Command<'a>
         .disable_help_flag(true)
 }
 
-/// Adds a positional word that has to be there.
-fn with_wanted_word<'a>(
+/// Adds what the command takes, in this order.
+fn with_each<'a>(
     command: Command<'a>,
     alloc: Global,
-    name: &'a str,
+    parameters: &[Parameter<'a>],
 ) -> Result<Command<'a>, AllocError>
-    ensures { IfOk result (λ c. app_of c ≡ with_rule (app_of command.entry) (meaning.required (meaning.positional name.entry.now))) }
+    ensures { IfOk result (λ c. app_of c ≡ fold with_rule (app_of command.entry) (map meaning.rule_for parameters.now)) }
 {
-    let arg = Arg::new(alloc, name).required(true);
-    command.arg(arg)
+    match parameters {
+        [] => Ok(command),
+        [parameter, rest @ ..] => {
+            let first = with_parameter(command, alloc, *parameter)?;
+            with_each(first, alloc, rest)
+        }
+    }
 }
 
-/// Adds an option that has to be there.
-fn with_wanted_option<'a>(
+/// Adds one that the command takes.
+fn with_parameter<'a>(
     command: Command<'a>,
     alloc: Global,
-    name: &'a str,
+    parameter: Parameter<'a>,
 ) -> Result<Command<'a>, AllocError>
-    ensures { IfOk result (λ c. app_of c ≡ with_rule (app_of command.entry) (meaning.required (meaning.option name.entry.now))) }
+    ensures { IfOk result (λ c. app_of c ≡ with_rule (app_of command.entry) (meaning.rule_for parameter.entry)) }
 {
-    let arg = Arg::new(alloc, name).long(name).required(true);
-    command.arg(arg)
+    command.arg(argument(alloc, parameter))
 }
 
-/// Adds an option.
-fn with_option<'a>(
-    command: Command<'a>,
-    alloc: Global,
-    name: &'a str,
-) -> Result<Command<'a>, AllocError>
-    ensures { IfOk result (λ c. app_of c ≡ with_rule (app_of command.entry) (meaning.option name.entry.now)) }
+/// What `clap` knows of it.
+fn argument<'a>(alloc: Global, parameter: Parameter<'a>) -> Arg<'a>
+    ensures rule { rule_of result ≡ meaning.rule_for parameter.entry }
+    ensures local { result.global ≡ false }
 {
-    let arg = Arg::new(alloc, name).long(name);
-    command.arg(arg)
+    match parameter {
+        Parameter::Word(name) => Arg::new(alloc, name).required(true),
+        Parameter::Flag(name) => flag(alloc, name),
+        Parameter::Wanted(name) => Arg::new(alloc, name).long(name).required(true),
+        Parameter::Option(name) => Arg::new(alloc, name).long(name),
+    }
 }
 
-/// Adds a flag: an option without a value. Where it stands, its value is empty.
-fn with_flag<'a>(
-    command: Command<'a>,
-    alloc: Global,
-    name: &'a str,
-) -> Result<Command<'a>, AllocError>
-    ensures { IfOk result (λ c. app_of c ≡ with_rule (app_of command.entry) (meaning.flag name.entry.now)) }
+/// An option without a value. Where it stands, its value is empty.
+fn flag<'a>(alloc: Global, name: &'a str) -> Arg<'a>
+    ensures rule { rule_of result ≡ meaning.flag name.entry.now }
+    ensures local { result.global ≡ false }
 {
-    let arg = Arg::new(alloc, name)
+    Arg::new(alloc, name)
         .long(name)
         .action(ArgAction::Set)
         .num_args(0usize)
-        .default_missing_value("");
-    command.arg(arg)
+        .default_missing_value("")
 }

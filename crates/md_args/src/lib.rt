@@ -14,12 +14,14 @@ mod demo_words;
 pub mod laws;
 mod names;
 mod numbers;
+mod parameter;
 mod parse;
 mod reading;
 mod rollback_reading;
 mod rollback_words;
 mod run_values;
 mod run_words;
+mod verb;
 
 pub use asm_words::AsmWords;
 pub use command_words::CommandWords;

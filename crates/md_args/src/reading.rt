@@ -2,23 +2,24 @@ ghost use Rattle.std.specs.Prelude.{◌≡◌, IfOk, map, option_and_then, strin
 ghost use Rattle.std.specs.Option.{option_copied, option_map};
 ghost use Rattle.clap.specs.Matches.{found_of};
 ghost use Rattle.clap.specs.Walk.{rows_of};
-ghost use Rattle.md_args.specs.Parse.{found_by};
-ghost use Rattle.md_args.specs.Shown.{shown_command, shown_run, shown_values};
+ghost use Rattle.md_args.specs.Parse.{asked_by, chosen_by, found_by};
+ghost use Rattle.md_args.specs.Shown.{shown_command, shown_values};
 ghost use Rattle.md_args.specs.Words as meaning;
 
-use crate::asm_reading::read_asm;
-use crate::building::{info_command, run_command};
+use crate::asm_reading::asm_chosen;
+use crate::building::command_for;
 use crate::command_words::CommandWords;
-use crate::convert_reading::read_conversion;
+use crate::convert_reading::conversion_chosen;
 use crate::convert_words::Product;
-use crate::debug_reading::read_debug;
-use crate::demo_reading::read_demo;
+use crate::debug_reading::debug_chosen;
+use crate::demo_reading::demo_chosen;
 use crate::names::{have_names, is_name};
 use crate::numbers::{read_number, read_workers};
 use crate::parse::parse;
-use crate::rollback_reading::read_rollback;
+use crate::rollback_reading::rollback_chosen;
 use crate::run_values::RunValues;
 use crate::run_words::RunWords;
+use crate::verb::Verb;
 use clap::ArgMatches;
 use std::alloc::{AllocError, Global};
 
@@ -43,100 +44,56 @@ pub fn read_words<'a>(
     let [command, rest @ ..] = words else {
         return Ok(None);
     };
-    if command.as_str() == "info" {
-        return match read_info(alloc, rest) {
-            Ok(Some(rom)) => Ok(Some(CommandWords::Info(rom))),
-            Ok(None) => Ok(None),
-            Err(error) => Err(error),
-        };
-    }
-    if command.as_str() == "run" {
-        return match read_run(alloc, rest) {
-            Ok(Some(run)) => Ok(Some(CommandWords::Run(run))),
-            Ok(None) => Ok(None),
-            Err(error) => Err(error),
-        };
-    }
-    if command.as_str() == "demo" {
-        return match read_demo(alloc, rest) {
-            Ok(Some(demo)) => Ok(Some(CommandWords::Demo(demo))),
-            Ok(None) => Ok(None),
-            Err(error) => Err(error),
-        };
-    }
-    if command.as_str() == "vgm" {
-        return match read_conversion(alloc, "vgm", Product::Vgm, rest) {
-            Ok(Some(words)) => Ok(Some(CommandWords::Convert(words))),
-            Ok(None) => Ok(None),
-            Err(error) => Err(error),
-        };
-    }
-    if command.as_str() == "play" {
-        return match read_conversion(alloc, "play", Product::Sound, rest) {
-            Ok(Some(words)) => Ok(Some(CommandWords::Convert(words))),
-            Ok(None) => Ok(None),
-            Err(error) => Err(error),
-        };
-    }
-    if command.as_str() == "asm" {
-        return match read_asm(alloc, rest) {
-            Ok(Some(words)) => Ok(Some(CommandWords::Assemble(words))),
-            Ok(None) => Ok(None),
-            Err(error) => Err(error),
-        };
-    }
-    if command.as_str() == "debug" {
-        return match read_debug(alloc, rest) {
-            Ok(Some(words)) => Ok(Some(CommandWords::Debug(words))),
-            Ok(None) => Ok(None),
-            Err(error) => Err(error),
-        };
-    }
-    if command.as_str() == "rollback" {
-        return match read_rollback(alloc, rest) {
-            Ok(Some(words)) => Ok(Some(CommandWords::Rollback(words))),
-            Ok(None) => Ok(None),
-            Err(error) => Err(error),
-        };
-    }
-    Ok(None)
-}
-
-/// Reads the words of `info` behind its command.
-fn read_info<'a>(alloc: Global, words: &'a [String]) -> Result<Option<&'a str>, AllocError>
-    ensures { IfOk result (λ rom. option_copied rom ≡ meaning.info_of (map string_bytes words.now)) }
-{
-    let command = info_command(alloc)?;
-    match parse(command, words)? {
-        Some(matches) => Ok(name_given(value(&matches, "rom"))),
+    match Verb::read(command) {
+        Some(verb) => read_behind(alloc, verb, rest),
         None => Ok(None),
     }
 }
 
-/// A value that can be a name.
-fn name_given(word: Option<&str>) -> Option<&str>
-    ensures { option_copied result ≡ meaning.info_from (option_copied word.entry) }
+/// Reads the words behind a verb.
+fn read_behind<'a>(
+    alloc: Global,
+    verb: Verb,
+    words: &'a [String],
+) -> Result<Option<CommandWords<'a>>, AllocError>
+    ensures { IfOk result (λ command. option_map shown_command command ≡ asked_by verb (map string_bytes words.now)) }
+{
+    let command = command_for(alloc, verb)?;
+    match parse(command, words)? {
+        Some(matches) => Ok(chosen(verb, &matches)),
+        None => Ok(None),
+    }
+}
+
+/// What a verb asks for with what the matches have.
+fn chosen<'a>(verb: Verb, matches: &ArgMatches<'a>) -> Option<CommandWords<'a>>
+    ensures { option_map shown_command result ≡ chosen_by verb (found_by (rows_of (found_of matches.now))) }
+{
+    match verb {
+        Verb::Info => info_given(value(matches, "rom")),
+        Verb::Run => run_chosen(matches),
+        Verb::Demo => demo_chosen(matches),
+        Verb::Vgm => conversion_chosen(Product::Vgm, matches),
+        Verb::Play => conversion_chosen(Product::Sound, matches),
+        Verb::Asm => asm_chosen(matches),
+        Verb::Debug => debug_chosen(matches),
+        Verb::Rollback => rollback_chosen(matches),
+    }
+}
+
+/// The lines of a header, if what is given can be the cartridge's name.
+fn info_given<'a>(word: Option<&'a str>) -> Option<CommandWords<'a>>
+    ensures { option_map shown_command result ≡ option_map meaning.Info (meaning.info_from (option_copied word.entry)) }
 {
     match word {
-        Some(word) if is_name(word) => Some(word),
+        Some(word) if is_name(word) => Some(CommandWords::Info(word)),
         _ => None,
     }
 }
 
-/// Reads the words of a run behind its command.
-fn read_run<'a>(alloc: Global, words: &'a [String]) -> Result<Option<RunWords<'a>>, AllocError>
-    ensures { IfOk result (λ run. option_map shown_run run ≡ meaning.run_of (map string_bytes words.now)) }
-{
-    let command = run_command(alloc)?;
-    match parse(command, words)? {
-        Some(matches) => Ok(run_chosen(&matches)),
-        None => Ok(None),
-    }
-}
-
 /// The run that the matches have.
-fn run_chosen<'a>(matches: &ArgMatches<'a>) -> Option<RunWords<'a>>
-    ensures { option_map shown_run result ≡ meaning.run_by (found_by (rows_of (found_of matches.now))) }
+fn run_chosen<'a>(matches: &ArgMatches<'a>) -> Option<CommandWords<'a>>
+    ensures { option_map shown_command result ≡ option_map meaning.RunCart (meaning.run_by (found_by (rows_of (found_of matches.now)))) }
 {
     run_given(&values_of(matches))
 }
@@ -167,8 +124,8 @@ pub(crate) fn value<'a>(matches: &ArgMatches<'a>, name: &str) -> Option<&'a str>
 }
 
 /// The run of these values, if those that it needs are there and all can be read.
-fn run_given<'a>(values: &RunValues<'a>) -> Option<RunWords<'a>>
-    ensures { option_map shown_run result ≡ meaning.run_given (shown_values values.now) }
+fn run_given<'a>(values: &RunValues<'a>) -> Option<CommandWords<'a>>
+    ensures { option_map shown_command result ≡ option_map meaning.RunCart (meaning.run_given (shown_values values.now)) }
 {
     if !have_names(values) {
         return None;
@@ -181,7 +138,7 @@ fn run_given<'a>(values: &RunValues<'a>) -> Option<RunWords<'a>>
         count(values.cycles),
         read_workers(values.workers),
     ) {
-        (Some(rom), Some(cycles), Some(workers)) => Some(RunWords {
+        (Some(rom), Some(cycles), Some(workers)) => Some(CommandWords::Run(RunWords {
             rom,
             cycles,
             recording: values.recording,
@@ -192,7 +149,7 @@ fn run_given<'a>(values: &RunValues<'a>) -> Option<RunWords<'a>>
             journal: values.journal,
             workers,
             pal: values.pal.is_some(),
-        }),
+        })),
         _ => None,
     }
 }

@@ -1,36 +1,20 @@
-ghost use Rattle.std.specs.Prelude.{◌≡◌, ◌≤◌, IfOk, IfSome, map, string_bytes};
+ghost use Rattle.std.specs.Prelude.{◌≡◌, ◌≤◌, IfSome};
 ghost use Rattle.std.specs.Option.{option_copied, option_map};
 ghost use Rattle.clap.specs.Matches.{found_of};
 ghost use Rattle.clap.specs.Walk.{rows_of};
 ghost use Rattle.md_args.specs.Parse.{found_by};
-ghost use Rattle.md_args.specs.Shown.{shown_rolling};
+ghost use Rattle.md_args.specs.Shown.{shown_command};
 ghost use Rattle.md_args.specs.Words as meaning;
 
-use crate::building::rollback_command;
+use crate::command_words::CommandWords;
 use crate::names::are_names;
-use crate::parse::parse;
 use crate::reading::{count, value};
 use crate::rollback_words::RollbackWords;
 use clap::ArgMatches;
-use std::alloc::{AllocError, Global};
-
-/// Reads the words of `rollback` behind its command.
-pub(crate) fn read_rollback<'a>(
-    alloc: Global,
-    words: &'a [String],
-) -> Result<Option<RollbackWords<'a>>, AllocError>
-    ensures { IfOk result (λ found. option_map shown_rolling found ≡ meaning.rolling_of (map string_bytes words.now)) }
-{
-    let command = rollback_command(alloc)?;
-    match parse(command, words)? {
-        Some(matches) => Ok(rollback_chosen(&matches)),
-        None => Ok(None),
-    }
-}
 
 /// The session that the matches have.
-fn rollback_chosen<'a>(matches: &ArgMatches<'a>) -> Option<RollbackWords<'a>>
-    ensures { option_map shown_rolling result ≡ meaning.rolling_by (found_by (rows_of (found_of matches.now))) }
+pub(crate) fn rollback_chosen<'a>(matches: &ArgMatches<'a>) -> Option<CommandWords<'a>>
+    ensures { option_map shown_command result ≡ option_map meaning.Rollback (meaning.rolling_by (found_by (rows_of (found_of matches.now)))) }
 {
     rollback_given(
         value(matches, "rom"),
@@ -44,16 +28,16 @@ fn rollback_given<'a>(
     rom: Option<&'a str>,
     inputs: Option<&'a str>,
     window: Option<&'a str>,
-) -> Option<RollbackWords<'a>>
-    ensures { option_map shown_rolling result ≡ meaning.rolling_given (option_copied rom.entry) (option_copied inputs.entry) (option_copied window.entry) }
+) -> Option<CommandWords<'a>>
+    ensures { option_map shown_command result ≡ option_map meaning.Rollback (meaning.rolling_given (option_copied rom.entry) (option_copied inputs.entry) (option_copied window.entry)) }
 {
     match (rom, inputs, wanted_window(window)) {
         (Some(rom), Some(inputs), Some(window)) if are_names(&[Some(rom), Some(inputs)]) => {
-            Some(RollbackWords {
+            Some(CommandWords::Rollback(RollbackWords {
                 rom,
                 inputs,
                 window,
-            })
+            }))
         }
         _ => None,
     }
