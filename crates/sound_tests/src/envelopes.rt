@@ -90,9 +90,9 @@ fn is_right(row: &Row) -> bool {
         state: row.state,
         on: true,
     };
-    for (counter, want) in row.counters.iter().zip(&row.want) {
-        envelope.tick(*counter, row.rate % 64, row.level.min(992));
-        if envelope.v != *want {
+    for k in 0..4 {
+        envelope.tick(row.counters[k], row.rate % 64, row.level.min(992));
+        if envelope.v != row.want[k] {
             return false;
         }
     }

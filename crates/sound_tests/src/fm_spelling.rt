@@ -1,6 +1,6 @@
 // The bytes of a saved state that keep the FM chip, at the cycle 20,000, whose last batch is at 16,128
 // (3F00h). The places of its fields stand in spelling.rt.
-use crate::spelling::{AT, Chip, FM, FM_PORT, Piece, Row, hold, state};
+use crate::spelling::{AT, Chip, FM, FM_PORT, Piece, Row, hold, put, state};
 use fm_chip::FmSynth;
 use fm_port::{FmList, FmPort, FmWrite};
 use md_word::Key;
@@ -102,7 +102,7 @@ static OF_THE_FM_CHIPS_PORT: [Row; 14] = [
 #[test]
 fn rules_of_the_fm_chips_port(rt: HostRuntime) -> Result<(), Fail> {
     let bytes = state(rt.alloc(), FM_PORT, &TIMED)?;
-    hold(&rt, rt.alloc(), Chip::FmPort, &bytes, &OF_THE_FM_CHIPS_PORT)
+    hold(rt.alloc(), Chip::FmPort, &bytes, &OF_THE_FM_CHIPS_PORT)
 }
 
 // The oscillator on, and a note of the algorithm 4 with feedback on channel 1.
@@ -170,12 +170,8 @@ fn an_fm_synthesis_runs_on(rt: HostRuntime) -> Result<(), Fail> {
 /// The FM synthesis at power-on: every operator at 1,023 (03FFh) in release, which is 3, and all else 0.
 fn fm(alloc: Global) -> Result<Vec<u8>, Fail> {
     let mut bytes = vec![in alloc; 0; FM]?;
-    for operator in bytes.iter_mut().skip(529).take(192).enumerate() {
-        match operator {
-            (place, byte) if place % 8 == 0 || place % 8 == 2 => *byte = 3,
-            (place, byte) if place % 8 == 1 => *byte = 0xff,
-            _ => {}
-        }
+    for n in 0..24 {
+        put(&mut bytes, 529 + 8 * n, &[3, 0xff, 3]);
     }
     Ok(bytes)
 }
@@ -205,5 +201,5 @@ fn rules_of_the_fm_chip(rt: HostRuntime) -> Result<(), Fail> {
     let bytes = fm(rt.alloc())?;
     let start = spelled_fm(rt.alloc(), &FmSynth::power_on(), 0)?;
     assert!(rt; start.as_slice() == bytes.as_slice());
-    hold(&rt, rt.alloc(), Chip::Fm, &bytes, &OF_THE_FM_CHIP)
+    hold(rt.alloc(), Chip::Fm, &bytes, &OF_THE_FM_CHIP)
 }

@@ -44,48 +44,60 @@ fn put(fm: &mut FmPort, psg: &mut PsgPort, from: u64, to: u64) {
     }
 }
 
+/// Puts the bytes of so many batches from a batch on, where these are put at a time.
+fn put_batches(fm: &mut FmPort, psg: &mut PsgPort, n: u8, at_a_time: u8) {
+    if at_a_time != 0 && n % at_a_time == 0 {
+        let (from, count) = (u64::from(n), u64::from(at_a_time));
+        put(fm, psg, from * BATCH, (from + count) * BATCH);
+    }
+}
+
+/// The sums of the FM chip in a batch.
+fn sides(port: &mut FmPort, fm: &mut FmSynth, list: &mut FmList, n: u8) -> [(i32, i32); 16] {
+    let mut sides = [(0, 0); 16];
+    port.take((u64::from(n) + 1) * BATCH, list);
+    fm.batch(16 * u64::from(n), list, &mut sides);
+    sides
+}
+
+/// The levels of the PSG in a batch.
+fn levels(port: &mut PsgPort, psg: &mut PsgSynth, list: &mut PsgList, n: u8) -> [i32; 16] {
+    let mut levels = [0; 16];
+    port.take((u64::from(n) + 1) * BATCH, list);
+    psg.batch(16 * u64::from(n), list, &mut levels);
+    levels
+}
+
+fn mixed(sides: &[(i32, i32); 16], levels: &[i32; 16]) -> [(i16, i16); 16] {
+    let mut pairs = [(0, 0); 16];
+    for k in 0..16 {
+        pairs[k] = mix(sides[k], levels[k]);
+    }
+    pairs
+}
+
 /// The pairs of four batches. The ports take the bytes of so many batches at a time, and the chips
 /// drain them at each batch.
-fn pairs_of(at_a_time: u64, pairs: &mut [(i16, i16); 64]) {
+fn pairs_of(at_a_time: u8) -> [[(i16, i16); 16]; 4] {
     let (mut fm_port, mut psg_port) = (FmPort::power_on(), PsgPort::power_on());
     let (mut fm, mut psg) = (FmSynth::power_on(), PsgSynth::power_on());
     let (mut fm_list, mut psg_list) = (FmList::new(), PsgList::new());
-    for n in 0..4_u64 {
-        if at_a_time == 4 && n == 0 {
-            put(&mut fm_port, &mut psg_port, 0, 4 * BATCH);
-        }
-        if at_a_time == 1 {
-            put(&mut fm_port, &mut psg_port, n * BATCH, (n + 1) * BATCH);
-        }
-        if at_a_time == 2 && n % 2 == 0 {
-            put(&mut fm_port, &mut psg_port, n * BATCH, (n + 2) * BATCH);
-        }
-        let mut sides = [(0, 0); 16];
-        let mut levels = [0; 16];
-        fm_port.take((n + 1) * BATCH, &mut fm_list);
-        psg_port.take((n + 1) * BATCH, &mut psg_list);
-        fm.batch(16 * n, &fm_list, &mut sides);
-        psg.batch(16 * n, &psg_list, &mut levels);
-        for k in 0..16 {
-            let place = 16 * n as usize + k;
-            if place < pairs.len() {
-                pairs[place] = mix(sides[k], levels[k]);
-            }
-        }
+    let mut pairs = [[(0, 0); 16]; 4];
+    for n in 0..4_u8 {
+        put_batches(&mut fm_port, &mut psg_port, n, at_a_time);
+        let sides = sides(&mut fm_port, &mut fm, &mut fm_list, n);
+        let levels = levels(&mut psg_port, &mut psg, &mut psg_list, n);
+        pairs[usize::from(n)] = mixed(&sides, &levels);
     }
+    pairs
 }
 
 // The same writes give the same pairs, whether they come batch by batch, all before the first, or in
 // two halves with a cut between.
 #[test]
 fn cuts_change_no_pair(rt: HostRuntime) {
-    let mut each = [(0, 0); 64];
-    pairs_of(1, &mut each);
-    for at_a_time in [2, 4] {
-        let mut pairs = [(0, 0); 64];
-        pairs_of(at_a_time, &mut pairs);
-        assert!(rt; pairs == each, "{at_a_time}");
-    }
+    let each = pairs_of(1);
+    assert!(rt; pairs_of(2) == each && pairs_of(4) == each);
 }
 
 /// The first three pairs of a batch, in which the converter is given a byte and its sides.

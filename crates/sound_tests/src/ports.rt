@@ -55,18 +55,28 @@ fn full() -> FmPort {
     port
 }
 
+/// How many writes a port hands on below 10,000.
+fn handed_on(port: &mut FmPort) -> usize {
+    let mut list = FmList::new();
+    port.take(10_000, &mut list);
+    list.len()
+}
+
+/// What a port shows at 20,000, once it is reset at 10,000.
+fn shown_behind_a_reset(port: &mut FmPort) -> u8 {
+    port.reset(Key {
+        cycle: 10_000,
+        chip: 0,
+    });
+    port.status(20_000)
+}
+
 // A port that holds 1,024 writes takes no more into its list, but its latches and timers still do:
 // the timer that is started then overflows. A reset stops it.
 #[test]
 fn a_full_port_still_latches(rt: HostRuntime) {
     let mut port = full();
-    let mut list = FmList::new();
-    assert!(rt; port.status(3_007) == 0 && port.status(3_008) == 1);
-    port.take(10_000, &mut list);
-    assert!(rt; list.len() == 1_024);
-    port.reset(Key {
-        cycle: 10_000,
-        chip: 0,
-    });
-    assert!(rt; port.status(20_000) == 0);
+    let overflows = [port.status(3_007), port.status(3_008)];
+    assert!(rt; overflows == [0, 1] && handed_on(&mut port) == 1_024);
+    assert!(rt; shown_behind_a_reset(&mut port) == 0);
 }

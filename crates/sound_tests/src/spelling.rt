@@ -12,7 +12,6 @@ use fm_port::FmPort;
 use md_word::{Key, Unspell};
 use psg_sound::{PsgList, PsgPort, PsgSynth, PsgWrite};
 use std::alloc::Global;
-use std::process::Abort;
 use std::test::Fail;
 
 pub const AT: u64 = 20_000;
@@ -51,19 +50,34 @@ fn place_of(alloc: Global, chip: Chip, bytes: &[u8]) -> Option<u64> {
 /// A place, and the bytes that stand from there on.
 pub type Piece = (usize, &'static [u8]);
 
+/// Puts bytes at a place, as far as there is room.
+pub fn put(bytes: &mut [u8], place: usize, values: &[u8]) {
+    let mut at = place;
+    for value in values {
+        if at < bytes.len() {
+            bytes[at] = *value;
+        }
+        at = at.wrapping_add(1);
+    }
+}
+
 /// So many bytes of these pieces, and else of 0.
 pub fn state(alloc: Global, length: usize, pieces: &[Piece]) -> Result<Vec<u8>, Fail> {
     let mut bytes = vec![in alloc; 0; length]?;
     for (place, values) in pieces {
-        for (byte, value) in bytes.iter_mut().skip(*place).zip(*values) {
-            *byte = *value;
-        }
+        put(&mut bytes, *place, values);
     }
     Ok(bytes)
 }
 
 /// The bytes that are changed, and the place of the refusal.
 pub type Row = (&'static [(usize, u8)], Option<u64>);
+
+fn change(bytes: &mut [u8], changes: &[(usize, u8)]) {
+    for (place, value) in changes {
+        put(bytes, *place, &[*value]);
+    }
+}
 
 /// The place at which the bytes are refused once some of them are changed.
 fn place_with(
@@ -73,25 +87,16 @@ fn place_with(
     changes: &[(usize, u8)],
 ) -> Result<Option<u64>, Fail> {
     let mut changed = bytes.to_vec(alloc)?;
-    for (place, value) in changes {
-        if let Some(byte) = changed.get_mut(*place) {
-            *byte = *value;
-        }
-    }
+    change(&mut changed, changes);
     Ok(place_of(alloc, chip, &changed))
 }
 
-/// Asserts that the bytes with the changes of each row are refused where it says.
-pub fn hold(
-    rt: &impl Abort,
-    alloc: Global,
-    chip: Chip,
-    bytes: &[u8],
-    rows: &[Row],
-) -> Result<(), Fail> {
+/// Fails with the number of the first row with whose changes the bytes are not refused where it says.
+pub fn hold(alloc: Global, chip: Chip, bytes: &[u8], rows: &[Row]) -> Result<(), Fail> {
     for (number, (changes, place)) in rows.iter().enumerate() {
-        let found = place_with(alloc, chip, bytes, changes)?;
-        assert!(rt; found == *place, "row {number}");
+        if place_with(alloc, chip, bytes, changes)? != *place {
+            return Err(Fail::from(number));
+        }
     }
     Ok(())
 }
@@ -218,7 +223,7 @@ static OF_THE_PSGS_PORT: [Row; 11] = [
 #[test]
 fn rules_of_the_psgs_port(rt: HostRuntime) -> Result<(), Fail> {
     let bytes = state(rt.alloc(), PSG_PORT, &HOLDING)?;
-    hold(&rt, rt.alloc(), Chip::PsgPort, &bytes, &OF_THE_PSGS_PORT)
+    hold(rt.alloc(), Chip::PsgPort, &bytes, &OF_THE_PSGS_PORT)
 }
 
 // Each rule of the synthesis broken once, at the field's own place.
@@ -245,7 +250,7 @@ static OF_THE_PSG: [Row; 17] = [
 #[test]
 fn rules_of_the_psg(rt: HostRuntime) -> Result<(), Fail> {
     let bytes = state(rt.alloc(), PSG, &SILENT)?;
-    hold(&rt, rt.alloc(), Chip::Psg, &bytes, &OF_THE_PSG)
+    hold(rt.alloc(), Chip::Psg, &bytes, &OF_THE_PSG)
 }
 
 /// The place at which so many bytes of 0 are refused.
@@ -273,8 +278,9 @@ const LENGTHS: [(Chip, usize, usize); 12] = [
 #[test]
 fn lengths_are_exact(rt: HostRuntime) -> Result<(), Fail> {
     for (chip, length, place) in LENGTHS {
-        let found = refused_length(rt.alloc(), chip, length)?;
-        assert!(rt; found == Some(place as u64), "{length}");
+        if refused_length(rt.alloc(), chip, length)? != Some(place as u64) {
+            return Err(Fail::from(length));
+        }
     }
     Ok(())
 }
