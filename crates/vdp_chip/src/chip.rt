@@ -1,9 +1,12 @@
-ghost use Rattle.std.specs.Prelude.{◌≡◌, ◌^◌, ◌<◌, IfOk, None, true, false, option_copied};
+ghost use Rattle.std.specs.Prelude.{◌≡◌, ◌^◌, ◌<◌, List, IfOk, None, true, false, option_copied};
 ghost use Rattle.vdp_planes.specs.View.{AllColours, seen};
-ghost use Rattle.vdp_chip.specs.Picture.{blank};
+ghost use Rattle.vdp_planes.specs.Dots.{Dot};
+ghost use Rattle.vdp_planes.specs.declared.view.LineView.{LineView};
+ghost use Rattle.vdp_time.specs.Lines.{line_of};
+ghost use Rattle.vdp_chip.specs.Picture.{blank, row_of};
 ghost use Rattle.vdp_chip.specs.Drawing.{IsDrawing, answered, at_power_on, line_drawn, next_of};
 
-use crate::kept::{Kept, draw};
+use crate::kept::{Kept, draw, place};
 use crate::picture::PICTURE;
 use md_word::clock::LINE;
 use md_word::region::picture_length;
@@ -137,6 +140,27 @@ impl ChipVdp {
             scene,
             line,
             sprites,
+            self.kept,
+            &mut self.picture,
+            &mut self.aside,
+        );
+        self.note = note;
+        self.next += LINE;
+    }
+
+    /// `draw_line` with the row of the picture as it comes to be, and what the line's sprites have set.
+    #[tactic(auto, unfolding(crate::specs::Drawing::line_drawn, crate::specs::Drawing::picture_after))]
+    pub fn place_line(&mut self, row: &[u8], note: SpriteNote)
+        requires row { (view : LineView) × (sprites : List Dot) × (row.now ≡ row_of view sprites (line_of self.old.next self.old.pal)) }
+        requires cycle { self.old.next < 2 ^ 50 }
+        ensures { (view : LineView) (sprites : List Dot) → row.now ≡ row_of view sprites (line_of self.old.next self.old.pal)
+            → self.new ≡ line_drawn view sprites note self.old }
+    {
+        let line = line_of(self.next, self.pal);
+        self.kept = place(
+            self.pal,
+            line,
+            row,
             self.kept,
             &mut self.picture,
             &mut self.aside,

@@ -10,4 +10,4 @@ mod saved;
 mod spelling;
 
 pub use chip::ChipVdp;
-pub use picture::clear_dots;
+pub use picture::{clear_dots, fill_row};

@@ -1,7 +1,7 @@
 ghost use Rattle.std.specs.Prelude.{◌≡◌, ℕ, ◌<◌, true, false, length, slice_index, slice_set};
 ghost use Rattle.vdp_planes.specs.Planes.{plane_dot};
 ghost use Rattle.vdp_planes.specs.View.{AllColours, clear, dot_at, has_bit, register, seen};
-ghost use Rattle.vdp_chip.specs.Picture.{blank, line_row, memory_length, row_of, with_row, without_bit_6};
+ghost use Rattle.vdp_chip.specs.Picture.{blank, line_row, memory_length, row_length, row_of, with_row, without_bit_6};
 
 use vdp_planes::register::MODE_2;
 use vdp_planes::{Dot, Scene, draw_plane, mix_dots};
@@ -47,17 +47,17 @@ pub fn clear_dots() -> [Dot; 320]
     [Dot::new(0, false); 320]
 }
 
-/// Draws a row of the picture from the two planes and the sprites' dots. Behind the lines of the display
+/// Fills a row of the picture from the two planes and the sprites' dots. Behind the lines of the display
 /// it shows the backdrop.
 #[tactic(auto, unfolding(crate::specs::Picture::row_of, crate::specs::Picture::on_row, crate::specs::Picture::hidden))]
-pub fn draw_row(scene: &Scene, line: u32, sprites: &[Dot; 320], picture: &mut [u8; PICTURE])
+pub fn fill_row(scene: &Scene, line: u32, sprites: &[Dot; 320], row: &mut [u8])
     requires line { line < 240 }
     requires colours { AllColours sprites.now }
-    requires whole { length picture.old ≡ memory_length }
-    ensures { picture.new ≡ with_row line (row_of (seen scene.now) sprites.now line) picture.old }
+    requires whole { length row.old ≡ row_length }
+    ensures { row.new ≡ row_of (seen scene.now) sprites.now line }
 {
     if line < scene.height() {
-        draw_line(scene, line, sprites, picture);
+        fill_line(scene, line, sprites, row);
     } else {
         let registers = without_display(scene.registers);
         let hidden = Scene {
@@ -68,7 +68,7 @@ pub fn draw_row(scene: &Scene, line: u32, sprites: &[Dot; 320], picture: &mut [u
             pal: scene.pal,
             tall: scene.tall,
         };
-        draw_line(&hidden, line, sprites, picture);
+        fill_line(&hidden, line, sprites, row);
     }
 }
 
@@ -81,16 +81,37 @@ fn without_display(registers: &[u8; 24]) -> [u8; 24]
     off
 }
 
-/// Draws a line as a scene has it as a row of the picture.
-fn draw_line(scene: &Scene, line: u32, sprites: &[Dot; 320], picture: &mut [u8; PICTURE])
+/// Fills a row with a line as a scene has it.
+fn fill_line(scene: &Scene, line: u32, sprites: &[Dot; 320], row: &mut [u8])
     requires line { line < 240 }
     requires colours { AllColours sprites.now }
-    requires whole { length picture.old ≡ memory_length }
-    ensures { picture.new ≡ with_row line (line_row (seen scene.now) sprites.now line) picture.old }
+    requires whole { length row.old ≡ row_length }
+    ensures { row.new ≡ line_row (seen scene.now) sprites.now line }
 {
     let mut a = clear_dots();
     let mut b = clear_dots();
     draw_planes(scene, line, &mut a, &mut b);
+    mix_dots(scene, &a, &b, sprites, row);
+}
+
+/// Draws a row of the picture where it stands.
+pub fn draw_row(scene: &Scene, line: u32, sprites: &[Dot; 320], picture: &mut [u8; PICTURE])
+    requires line { line < 240 }
+    requires colours { AllColours sprites.now }
+    requires whole { length picture.old ≡ memory_length }
+    ensures { picture.new ≡ with_row line (row_of (seen scene.now) sprites.now line) picture.old }
+{
     let at = line as usize * ROW;
-    mix_dots(scene, &a, &b, sprites, &mut picture[at..at + ROW]);
+    fill_row(scene, line, sprites, &mut picture[at..at + ROW]);
+}
+
+/// Puts a row into the picture.
+pub fn put_row(row: &[u8], line: u32, picture: &mut [u8; PICTURE])
+    requires line { line < 240 }
+    requires row { length row.now ≡ row_length }
+    requires whole { length picture.old ≡ memory_length }
+    ensures { picture.new ≡ with_row line row.now picture.old }
+{
+    let at = line as usize * ROW;
+    picture[at..at + ROW].copy_from_slice(row);
 }

@@ -92,7 +92,7 @@ fn other_lengths_of_the_drawing_half(rt: HostRuntime) -> Result<(), Fail> {
 }
 
 /// A VDP that shows the backdrop alone, of this colour.
-fn backdrop(alloc: Global, colour: u16) -> Result<VdpState, Fail> {
+pub(crate) fn backdrop(alloc: Global, colour: u16) -> Result<VdpState, Fail> {
     let mut vdp = VdpState::power_on(alloc, false)?;
     vdp.cram[0] = colour;
     Ok(vdp)

@@ -1,0 +1,14 @@
+//! Lines of the picture that are drawn ahead of their events: a sheet of them with the view that they are
+//! drawn from, and the tray on which it goes to the one who draws and comes back.
+//!
+//! A line that was drawn ahead is the line where the VDP is still what the sheet's view shows of it; else it is
+//! of no use, and nothing is lost.
+#![tactic(auto)]
+
+mod line;
+mod sheet;
+mod tray;
+
+pub use line::draw_line_sprites;
+pub use sheet::Sheet;
+pub use tray::Tray;

@@ -1,0 +1,138 @@
+ghost use Rattle.std.specs.Prelude.{◌≡◌, ℕ, ◌+◌, ◌<◌, ◌≤◌, true, length};
+ghost use Rattle.vdp_planes.specs.View.{display_height, view_of};
+ghost use Rattle.vdp_ahead.specs.Lines as lines;
+ghost use Rattle.vdp_ahead.specs.Sheets.{SheetValue};
+
+use crate::line::draw_line;
+use md_word::NoMemory;
+use std::alloc::Global;
+use std::marker::Model;
+use vdp_planes::{LineView, SpriteNote, fill_view};
+use vdp_ports::VdpState;
+
+/// Bytes of a row: red, green and blue of 320 dots.
+const ROW: usize = 960;
+
+/// The rows of a picture at most.
+const ROWS: usize = 240;
+
+/// Lines of a picture from one on, with the view that they are drawn from: some 300 KB.
+#[derive(Drop)]
+pub struct Sheet {
+    view: LineView,
+    from: u32,
+    to: u32,
+    rows: [[u8; ROW]; ROWS],
+    notes: [SpriteNote; ROWS],
+}
+
+impl Model for Sheet {
+    ghost use Rattle.vdp_ahead.specs.Sheets.{AreDrawn, SheetValue};
+
+    ghost Value = { SheetValue };
+
+    ghost view = { λ s. record { view = s.view; from = s.from; to = s.to } };
+
+    ghost invariant = { λ s. AreDrawn (record { view = s.view; from = s.from; to = s.to }) s.rows s.notes };
+}
+
+impl Sheet {
+    /// A sheet without a line.
+    pub fn blank(alloc: Global) -> Result<Box<Sheet>, NoMemory> {
+        let sheet = Sheet {
+            view: LineView {
+                registers: [0; 24],
+                vram: [0; 65536],
+                cram: [0; 64],
+                vsram: [0; 40],
+                pal: false,
+                tall: false,
+            },
+            from: 0,
+            to: 0,
+            rows: [[0; ROW]; ROWS],
+            notes: [SpriteNote {
+                overflow: false,
+                collision: false,
+            }; ROWS],
+        };
+        match Box::new(alloc, sheet) {
+            Ok(sheet) => Ok(sheet),
+            Err(_) => Err(NoMemory),
+        }
+    }
+
+    /// Takes the VDP's registers and memories as they stand, for lines of a picture of a region from this one
+    /// on, of which none is drawn yet: a copy of 64 KiB.
+    pub fn begin(&mut self, state: &VdpState, pal: bool, from: u32)
+        requires { from ≤ 240 }
+        ensures { self.new ≡ record { view = view_of pal state.now; from = from; to = from } }
+    {
+        self.from = from;
+        self.to = from;
+        self.view.pal = pal;
+        fill_view(&mut self.view, state);
+    }
+
+    /// Draws the next line.
+    fn draw_next(&mut self)
+        requires below { self.old.to < display_height self.old.view }
+        requires few { self.old.to < 240 }
+        ensures { self.new ≡ record self.old { to = self.old.to + 1 } }
+    {
+        let line = self.to;
+        let row = &mut self.rows[line as usize];
+        let note = draw_line(&self.view, line, row);
+        self.notes[line as usize] = note;
+        self.to = line + 1;
+    }
+
+    /// Draws the lines of the display that are not drawn.
+    pub fn draw(&mut self)
+        ensures view { self.new.view ≡ self.old.view }
+        ensures from { self.new.from ≡ self.old.from }
+    {
+        let end = self.view.scene().height();
+        for _ in self.to..end {
+            self.draw_next();
+        }
+    }
+
+    /// Whether the VDP is what the view shows of it.
+    pub fn is_of(&self, state: &VdpState) -> bool
+        ensures { result ≡ true → self.now.view ≡ view_of self.now.view.pal state.now }
+    {
+        self.view.tall == state.tall
+            && self.view.registers == state.registers
+            && self.view.cram == state.cram
+            && self.view.vsram == state.vsram
+            && self.view.vram == *state.vram
+    }
+
+    /// Whether a line of a picture of a region is drawn.
+    pub fn has(&self, line: u32, pal: bool) -> bool
+        ensures region { result ≡ true → self.now.view.pal ≡ pal }
+        ensures from { result ≡ true → self.now.from ≤ line }
+        ensures to { result ≡ true → line < self.now.to }
+    {
+        self.view.pal == pal && self.from <= line && line < self.to
+    }
+
+    /// The row of a line.
+    pub fn row(&self, line: u32) -> &[u8]
+        requires from { self.now.from ≤ line }
+        requires to { line < self.now.to }
+        ensures { result.now ≡ lines.row_on line self.now.view }
+    {
+        &self.rows[line as usize]
+    }
+
+    /// What the sprites of a line set.
+    pub fn note(&self, line: u32) -> SpriteNote
+        requires from { self.now.from ≤ line }
+        requires to { line < self.now.to }
+        ensures { result ≡ lines.note_on line self.now.view }
+    {
+        self.notes[line as usize]
+    }
+}
