@@ -1,10 +1,10 @@
 // The FM chip as both processors find it, worked out from the Genesis Software Manual's FM addresses and
 // the timers of the YM2608 Application Manual: a period of timer A is 1,008 cycles for each of 1,024
 // less its number, one of timer B 16,128 for each of 256 less its number.
-use crate::board::{board, key_of, main};
+use crate::board::{access, board, key_of, main};
 use crate::lines::{grant, sub};
 use bus_shared::{Answer, Request, Shared, carry_out};
-use fm_port::FmList;
+use fm_port::{FmList, FmWrite};
 use md_word::{Answer80, Request68, Request80};
 use std::alloc::Global;
 use std::test::Fail;
@@ -17,12 +17,12 @@ fn write(shared: &mut Shared, cycle: u32, address: u32, value: u8) {
 
 /// What the 68000 reads of the FM chip.
 fn status(shared: &mut Shared, cycle: u32) -> u16 {
-    main(shared, cycle, Request68::Read8(0xa0_4000)).0
+    main(shared, cycle, Request68::Read8(0xa0_4000))
 }
 
 /// A board whose FM chip the 68000 finds.
 fn granted(alloc: Global) -> Result<Shared, Fail> {
-    let mut shared = board(alloc, b"MDREC001\0\0\0\0")?;
+    let mut shared = board(alloc)?;
     grant(&mut shared, alloc, 84)?;
     Ok(shared)
 }
@@ -49,8 +49,17 @@ fn around(shared: &mut Shared, cycle: u32) -> [u16; 2] {
 
 /// The status read as a word, as the 68000 and the journal find it.
 fn status_word(shared: &mut Shared, cycle: u32) -> [u16; 2] {
-    let (value, entry) = main(shared, cycle, Request68::Read16(0xa0_5ffe));
-    [value, entry.value]
+    let (answer, entry) = access(shared, cycle, Request68::Read16(0xa0_5ffe));
+    [answer.value, entry.value]
+}
+
+/// The status around the first overflow, as a word, and around the second, once the flag is cleared.
+fn overflows(shared: &mut Shared) -> [[u16; 2]; 3] {
+    start_timer(shared);
+    let first = around(shared, 3_008);
+    let word = status_word(shared, 3_036);
+    write(shared, 3_100, 1, 0x15);
+    [first, word, around(shared, 4_016)]
 }
 
 // Timer A's number is 1,023: it overflows 1,008 cycles behind its start at 2,000, then each 1,008.
@@ -58,13 +67,7 @@ fn status_word(shared: &mut Shared, cycle: u32) -> [u16; 2] {
 // next overflow.
 #[test]
 fn timer_a_overflows(rt: HostRuntime) -> Result<(), Fail> {
-    let mut shared = granted(rt.alloc())?;
-    start_timer(&mut shared);
-    let first = around(&mut shared, 3_008);
-    let word = status_word(&mut shared, 3_036);
-    write(&mut shared, 3_100, 1, 0x15);
-    let second = around(&mut shared, 4_016);
-    assert!(rt; [first, word, second] == [[0, 1], [0x101, 0x101], [0, 1]]);
+    assert!(rt; overflows(&mut granted(rt.alloc())?) == [[0, 1], [0x101, 0x101], [0, 1]]);
     Ok(())
 }
 
@@ -72,66 +75,90 @@ fn timer_a_overflows(rt: HostRuntime) -> Result<(), Fail> {
 fn is_read(shared: &mut Shared, cycle: u32, want: u8) -> bool {
     let (answer, entry) = sub(shared, cycle, Request80::Read(0x4003));
     let told = (entry.kind, entry.address, entry.value) == (6, 0x4003, u16::from(want));
-    match answer {
-        Some(Answer80::Value(value)) => told && value == want,
+    match &answer {
+        Some(Answer80::Value(value)) => told && *value == want,
         _ => false,
     }
+}
+
+/// Starts timer B by both processors.
+fn start_together(shared: &mut Shared) {
+    write(shared, 1_000, 0, 0x26);
+    sub(shared, 1_050, Request80::Write(0x4001, 0xff));
+    sub(shared, 1_100, Request80::Write(0x5ffc, 0x27));
+    write(shared, 1_200, 1, 0x0a);
+}
+
+/// Whether timer B overflows, and no more behind a reset.
+fn is_shared(shared: &mut Shared) -> bool {
+    start_together(shared);
+    let overflows = is_read(shared, 17_327, 0) && is_read(shared, 17_328, 2);
+    main(shared, 17_400, Request68::Write16(0xa1_1200, 0));
+    overflows && status(shared, 40_000) == 0
 }
 
 // The Z80 sees the same chip, whose register was latched by the 68000: timer B's number is 255. A reset
 // makes the latches and the timers 0, also where it was held already.
 #[test]
 fn both_processors_share_the_chip(rt: HostRuntime) -> Result<(), Fail> {
-    let mut shared = granted(rt.alloc())?;
-    write(&mut shared, 1_000, 0, 0x26);
-    sub(&mut shared, 1_050, Request80::Write(0x4001, 0xff));
-    sub(&mut shared, 1_100, Request80::Write(0x5ffc, 0x27));
-    write(&mut shared, 1_200, 1, 0x0a);
-    let overflows = is_read(&mut shared, 17_327, 0) && is_read(&mut shared, 17_328, 2);
-    main(&mut shared, 17_400, Request68::Write16(0xa1_1200, 0));
-    assert!(rt; overflows && status(&mut shared, 40_000) == 0);
+    assert!(rt; is_shared(&mut granted(rt.alloc())?));
     Ok(())
+}
+
+/// Fails where what is written without the grant is shown or handed on.
+fn stand_behind_the_grant(shared: &mut Shared, alloc: Global) -> Result<(), Fail> {
+    write(shared, 28, 0, 0x28);
+    write(shared, 56, 1, 0xf0);
+    if status(shared, 84) != 0xff {
+        return Err(Fail::from("the status"));
+    }
+    hand(shared, alloc, &[(16_128, &[])])
 }
 
 // Without the grant a read gives FFh, and a write is lost.
 #[test]
 fn the_chip_stands_behind_the_grant(rt: HostRuntime) -> Result<(), Fail> {
-    let mut shared = board(rt.alloc(), b"MDREC001\0\0\0\0")?;
-    write(&mut shared, 28, 0, 0x28);
-    write(&mut shared, 56, 1, 0xf0);
-    let status = status(&mut shared, 84);
-    assert!(rt; status == 0xff && is_handed(&mut shared, rt.alloc(), 16_128, &[])?);
-    Ok(())
+    stand_behind_the_grant(&mut board(rt.alloc())?, rt.alloc())
 }
 
 /// A write that a batch of the FM synthesis was handed: its cycle, its chip, and its port, register and
 /// value.
 type HandedWrite = (u64, u8, u8, u8, u8);
 
-/// The fields of the writes of a list.
-fn writes_of(alloc: Global, list: &FmList) -> Result<Vec<HandedWrite>, Fail> {
-    let mut writes = Vec::new(alloc);
-    for write in list.as_slice() {
-        let key = write.key;
-        writes.push((key.cycle, key.chip, write.port, write.register, write.value))?;
+fn is_write(write: &FmWrite, want: &HandedWrite) -> bool {
+    let key = write.key;
+    (key.cycle, key.chip, write.port, write.register, write.value) == *want
+}
+
+/// Whether a list has these writes, and no others.
+fn has_writes(list: &FmList, want: &[HandedWrite]) -> bool {
+    for (place, write) in list.as_slice().iter().enumerate() {
+        match want.get(place) {
+            Some(want) if is_write(write, want) => {}
+            _ => return false,
+        }
     }
-    Ok(writes)
+    list.len() == want.len()
 }
 
 /// Whether the batch at a cycle is handed these writes, and its entry tells their number.
-fn is_handed(
-    shared: &mut Shared,
-    alloc: Global,
-    cycle: u32,
-    want: &[HandedWrite],
-) -> Result<bool, Fail> {
-    let list = Request::Fm(Box::new(alloc, FmList::new())?);
-    let (answer, entry) = carry_out(shared, key_of(cycle, 3), list);
+fn is_handed(shared: &mut Shared, list: Box<FmList>, cycle: u32, want: &[HandedWrite]) -> bool {
+    let (answer, entry) = carry_out(shared, key_of(cycle, 3), Request::Fm(list));
     let told = usize::from(entry.value) == want.len() && entry.address == cycle / 16_128;
     match answer {
-        Answer::Fm(list) => Ok(told && writes_of(alloc, &list)?.as_slice() == want),
-        _ => Ok(false),
+        Answer::Fm(list) => told && has_writes(&list, want),
+        _ => false,
     }
+}
+
+/// Fails with the cycle of the first batch that is handed something else.
+fn hand(shared: &mut Shared, alloc: Global, batches: &[(u32, &[HandedWrite])]) -> Result<(), Fail> {
+    for &(cycle, want) in batches {
+        if !is_handed(shared, Box::new(alloc, FmList::new())?, cycle, want) {
+            return Err(Fail::from(cycle));
+        }
+    }
+    Ok(())
 }
 
 /// Writes by both processors.
@@ -146,14 +173,19 @@ fn write_all(shared: &mut Shared) {
     write(shared, 16_128, 1, 0x12);
 }
 
-const FIRST_BATCH: [HandedWrite; 4] = [
-    (1_028, 0, 0, 0x30, 0x71),
-    (1_145, 1, 1, 0xb4, 0xc0),
-    (1_228, 0, 1, 0xb6, 0x80),
-    (1_300, 0, 2, 0, 0),
+// The cycles of batches, and what each is handed: the writes below it.
+const BATCHES: [(u32, &[HandedWrite]); 2] = [
+    (
+        16_128,
+        &[
+            (1_028, 0, 0, 0x30, 0x71),
+            (1_145, 1, 1, 0xb4, 0xc0),
+            (1_228, 0, 1, 0xb6, 0x80),
+            (1_300, 0, 2, 0, 0),
+        ],
+    ),
+    (32_256, &[(16_128, 0, 0, 0, 0x12)]),
 ];
-
-const SECOND_BATCH: [HandedWrite; 1] = [(16_128, 0, 0, 0, 0x12)];
 
 // Addresses 0 and 2 latch a register of port 0 and 1; 1 and 3 write it. A word is written by its upper
 // byte. The batch takes what is stamped below it; a reset is a write of port 2.
@@ -161,7 +193,5 @@ const SECOND_BATCH: [HandedWrite; 1] = [(16_128, 0, 0, 0, 0x12)];
 fn writes_are_handed_to_the_synthesis(rt: HostRuntime) -> Result<(), Fail> {
     let mut shared = granted(rt.alloc())?;
     write_all(&mut shared);
-    let first = is_handed(&mut shared, rt.alloc(), 16_128, &FIRST_BATCH)?;
-    assert!(rt; first && is_handed(&mut shared, rt.alloc(), 32_256, &SECOND_BATCH)?);
-    Ok(())
+    hand(&mut shared, rt.alloc(), &BATCHES)
 }

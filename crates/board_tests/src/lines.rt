@@ -34,15 +34,27 @@ const BEHIND_THE_GRANT: [(Request68, u32, u16); 5] = [
     (Request68::Write8(0xa0_9000, 0x12), 0xa0_9000, 0xff),
 ];
 
-/// The first address that reads otherwise.
-fn first_wrong_byte(shared: &mut Shared) -> Option<u32> {
-    for (write, address, want) in BEHIND_THE_GRANT {
-        main(shared, 140, write);
-        if main(shared, 168, Request68::Read8(address)).0 != want {
-            return Some(address);
+/// Fails with the number of the first write behind which its address reads otherwise.
+fn write_behind(shared: &mut Shared) -> Result<(), Fail> {
+    for (number, (write, address, want)) in BEHIND_THE_GRANT.iter().enumerate() {
+        main(shared, 140, *write);
+        if main(shared, 168, Request68::Read8(*address)) != *want {
+            return Err(Fail::from(number));
         }
     }
-    None
+    Ok(())
+}
+
+/// What a byte of the RAM reads without the grant, once it is written.
+fn before(shared: &mut Shared) -> u16 {
+    main(shared, 28, Request68::Write8(0xa0_0000, 0x55));
+    main(shared, 56, Request68::Read8(0xa0_0000))
+}
+
+/// What a word of the RAM reads, and the bus request.
+fn word_and_line(shared: &mut Shared) -> [u16; 2] {
+    let word = main(shared, 196, Request68::Read16(0xa0_0004));
+    [word, main(shared, 224, Request68::Read8(0xa1_1100))]
 }
 
 // Without the grant a read gives FFh, and a write is lost. With it the 68000 reads what it wrote into
@@ -50,14 +62,11 @@ fn first_wrong_byte(shared: &mut Shared) -> Option<u32> {
 // byte for the PSG is held, and from 8000h on nothing answers.
 #[test]
 fn the_ram_of_the_z80_behind_the_grant(rt: HostRuntime) -> Result<(), Fail> {
-    let mut shared = board(rt.alloc(), b"MDREC001\0\0\0\0")?;
-    main(&mut shared, 28, Request68::Write8(0xa0_0000, 0x55));
-    let before = main(&mut shared, 56, Request68::Read8(0xa0_0000)).0;
+    let mut shared = board(rt.alloc())?;
+    let before = before(&mut shared);
     grant(&mut shared, rt.alloc(), 84)?;
-    assert_eq!(rt; first_wrong_byte(&mut shared), None);
-    let word = main(&mut shared, 196, Request68::Read16(0xa0_0004)).0;
-    let line = main(&mut shared, 224, Request68::Read8(0xa1_1100)).0;
-    assert!(rt; [before, word, line] == [0xff, 0x5656, 0]);
+    write_behind(&mut shared)?;
+    assert!(rt; before == 0xff && word_and_line(&mut shared) == [0x5656, 0]);
     Ok(())
 }
 
@@ -73,37 +82,42 @@ fn yielded(shared: &mut Shared, cycle: u32, parcel: Parcel) -> (Option<Parcel>, 
     }
 }
 
-/// None where the answer is neither the RAM nor that there is none.
-fn taken_back(shared: &mut Shared, cycle: u32) -> Option<Moved> {
+/// The kind is 0 where the answer is neither the RAM nor that there is none.
+fn taken_back(shared: &mut Shared, cycle: u32) -> Moved {
     let (answer, entry) = sub(shared, cycle, Request80::Take);
-    match answer {
-        Some(Answer80::Back(_)) => Some((true, entry.kind, entry.value)),
-        Some(Answer80::Done) => Some((false, entry.kind, entry.value)),
-        _ => None,
+    match &answer {
+        Some(Answer80::Back(_)) => (true, entry.kind, entry.value),
+        Some(Answer80::Done) => (false, entry.kind, entry.value),
+        _ => (false, 0, 0),
     }
 }
 
 /// What comes of a yield and a take while the line is set, and of a take while it is clear.
-fn all_moved(shared: &mut Shared, parcel: Parcel) -> [Option<Moved>; 3] {
+fn all_moved(shared: &mut Shared, parcel: Parcel) -> [Moved; 3] {
     main(shared, 84, Request68::Write8(0xa1_1100, 1));
     let (_, kept) = yielded(shared, 120, parcel);
     let none = taken_back(shared, 225);
     main(shared, 252, Request68::Write8(0xa1_1100, 0));
-    [Some(kept), none, taken_back(shared, 330)]
+    [kept, none, taken_back(shared, 330)]
+}
+
+/// Fails where the RAM moves otherwise.
+fn move_all(shared: &mut Shared, parcel: Parcel) -> Result<(), Fail> {
+    let (Some(parcel), (_, 8, 0)) = yielded(shared, 60, parcel) else {
+        return Err(Fail::from("the RAM was kept"));
+    };
+    if all_moved(shared, parcel) != [(false, 8, 1), (false, 9, 0), (true, 9, 1)] {
+        return Err(Fail::from("the RAM moved otherwise"));
+    }
+    Ok(())
 }
 
 // A yield whose line is clear again gives the RAM back, and so does a take whose line is clear; one
 // whose line is set does not. The values in the journal are 0, 1 and 0.
 #[test]
 fn ram_moves_where_the_line_says_so(rt: HostRuntime) -> Result<(), Fail> {
-    let mut shared = board(rt.alloc(), b"MDREC001\0\0\0\0")?;
     let parcel = first(rt.alloc()).map_err(|_| Fail::from("no memory"))?;
-    let (Some(parcel), (_, 8, 0)) = yielded(&mut shared, 60, parcel) else {
-        return Err(Fail::from("the RAM was kept"));
-    };
-    let want = [Some((false, 8, 1)), Some((false, 9, 0)), Some((true, 9, 1))];
-    assert!(rt; all_moved(&mut shared, parcel) == want);
-    Ok(())
+    move_all(&mut board(rt.alloc())?, parcel)
 }
 
 // Each write of 0 to bit 8 of the reset holds it and is counted, also where it was held; 1 releases it.
@@ -116,21 +130,19 @@ const RESETS: [(Request68, bool, u64); 5] = [
     (Request68::Write8(0xa1_1200, 1), false, 2),
 ];
 
-/// The first write behind which the pins show something else.
-fn first_wrong_reset(shared: &mut Shared) -> Option<usize> {
-    for (number, (write, reset, resets)) in RESETS.into_iter().enumerate() {
-        main(shared, 28, write);
+/// Fails with the number of the first write behind which the pins show something else.
+fn reset(shared: &mut Shared) -> Result<(), Fail> {
+    for (number, (write, reset, resets)) in RESETS.iter().enumerate() {
+        main(shared, 28, *write);
         let pins = pins80(shared);
-        if pins.reset != reset || pins.resets != resets {
-            return Some(number);
+        if pins.reset != *reset || pins.resets != *resets {
+            return Err(Fail::from(number));
         }
     }
-    None
+    Ok(())
 }
 
 #[test]
 fn resets_are_counted(rt: HostRuntime) -> Result<(), Fail> {
-    let mut shared = board(rt.alloc(), b"MDREC001\0\0\0\0")?;
-    assert_eq!(rt; first_wrong_reset(&mut shared), None);
-    Ok(())
+    reset(&mut board(rt.alloc())?)
 }

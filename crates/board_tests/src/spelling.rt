@@ -4,12 +4,10 @@
 // the last falls at 88,389, 88,390, 88,398 and 88,399; where the
 // bus has the Z80's RAM, that and the bank register, at 8,192, stand in front, so that all others come
 // 8,194 later.
-use crate::board::{board, main};
+use crate::board::{NOTHING, board, main, recording};
 use bus_shared::Shared;
-use md_pads::Recording;
 use md_word::{Request68, Unspell};
 use std::alloc::Global;
-use std::sync::Arc;
 use std::test::Fail;
 
 const SHORT: usize = 88_407;
@@ -17,11 +15,7 @@ const SHORT: usize = 88_407;
 const LONG: usize = 96_601;
 
 /// The cycle of the states.
-const AT: u64 = 1;
-
-fn recording(alloc: Global) -> Result<Arc<Recording>, Fail> {
-    Ok(Arc::new(alloc, Recording::read(alloc, b"MDREC001\0\0\0\0")?)?)
-}
+const AT: u32 = 1;
 
 /// So many bytes of 0 but for the reset, which is held at power-on.
 fn bytes(alloc: Global, length: usize) -> Result<Vec<u8>, Fail> {
@@ -32,29 +26,39 @@ fn bytes(alloc: Global, length: usize) -> Result<Vec<u8>, Fail> {
 
 fn put(bytes: &mut [u8], change: (usize, u8)) {
     let (place, value) = change;
-    for byte in bytes.iter_mut().skip(place).take(1) {
-        *byte = value;
+    if place < bytes.len() {
+        bytes[place] = value;
     }
 }
 
-/// The board that the bytes keep is spelled by them.
+/// The bytes that keep a board at a cycle.
+fn spelled(alloc: Global, shared: &Shared, at: u32) -> Result<Vec<u8>, Fail> {
+    let mut bytes = Vec::with_capacity(alloc, LONG)?;
+    shared.spell(u64::from(at), &mut bytes);
+    Ok(bytes)
+}
+
+/// The board that the bytes keep.
+fn kept(alloc: Global, bytes: &[u8]) -> Result<Shared, Fail> {
+    let recording = recording(alloc, NOTHING)?;
+    Shared::unspell(alloc, bytes, u64::from(AT), recording, false).map_err(|_| Fail::from(
+        "refused",
+    ))
+}
+
+/// Whether the board that the bytes keep is spelled by them.
 fn is_again(alloc: Global, bytes: &[u8]) -> Result<bool, Fail> {
-    match Shared::unspell(alloc, bytes, AT, recording(alloc)?, false) {
-        Ok(shared) => {
-            let mut again = Vec::with_capacity(alloc, LONG)?;
-            shared.spell(AT, &mut again);
-            Ok(again.as_slice() == bytes)
-        }
-        Err(_) => Err(Fail::from("refused")),
-    }
+    let again = spelled(alloc, &kept(alloc, bytes)?, AT)?;
+    Ok(again.as_slice() == bytes)
 }
 
 /// The place at which the bytes are refused.
 fn place_of(alloc: Global, bytes: &[u8]) -> Result<Option<u64>, Fail> {
-    match Shared::unspell(alloc, bytes, AT, recording(alloc)?, false) {
-        Ok(_) => Ok(None),
-        Err(Unspell::Rule { place }) => Ok(Some(place)),
-        Err(Unspell::NoMemory) => Err(Fail::from("no memory")),
+    let recording = recording(alloc, NOTHING)?;
+    match Shared::unspell(alloc, bytes, u64::from(AT), recording, false).err() {
+        None => Ok(None),
+        Some(Unspell::Rule { place }) => Ok(Some(place)),
+        Some(Unspell::NoMemory) => Err(Fail::from("no memory")),
     }
 }
 
@@ -75,9 +79,10 @@ const ANY_BYTES: [(usize, [(usize, u8); 3]); 2] = [
 // With the Z80's RAM and without it, in any bytes that no rule speaks of.
 #[test]
 fn what_is_read_is_spelled_so(rt: HostRuntime) -> Result<(), Fail> {
-    for (length, changes) in ANY_BYTES {
-        let bytes = changed(rt.alloc(), length, &changes)?;
-        assert!(rt; is_again(rt.alloc(), &bytes)?, "{length}");
+    for (length, changes) in &ANY_BYTES {
+        if !is_again(rt.alloc(), &changed(rt.alloc(), *length, changes)?)? {
+            return Err(Fail::from(*length));
+        }
     }
     Ok(())
 }
@@ -116,11 +121,10 @@ fn refused(alloc: Global, length: usize, changes: &[(usize, u8)]) -> Result<Opti
 
 #[test]
 fn the_first_rule_that_fails_tells_the_place(rt: HostRuntime) -> Result<(), Fail> {
-    for (length, changes, place) in BROKEN {
-        assert!(rt;
-            refused(rt.alloc(), length, &changes)? == Some(place),
-            "{place}"
-        );
+    for (length, changes, place) in &BROKEN {
+        if refused(rt.alloc(), *length, changes)? != Some(*place) {
+            return Err(Fail::from(*place));
+        }
     }
     Ok(())
 }
@@ -140,7 +144,7 @@ const FILL: [(u32, u16); 9] = [
 /// A board whose VDP was given these control words and this data word at cycle 100, and which was asked
 /// for the Z80's bus.
 fn filling(alloc: Global) -> Result<Shared, Fail> {
-    let mut shared = board(alloc, b"MDREC001\0\0\0\0")?;
+    let mut shared = board(alloc)?;
     for (address, word) in FILL {
         main(&mut shared, 100, Request68::Write16(address, word));
     }
@@ -166,18 +170,24 @@ fn is_spelled(
     vram: &[u8],
     left: u8,
 ) -> Result<bool, Fail> {
-    let mut state = Vec::with_capacity(alloc, LONG)?;
-    shared.spell(u64::from(at), &mut state);
+    let state = spelled(alloc, shared, at)?;
     let first = state.get(24..28) == Some(vram);
     Ok(first && state.get(65_782) == Some(&left) && state.len() == SHORT)
+}
+
+/// Fails with the first cycle whose state has other bytes.
+fn be_settled(alloc: Global, shared: &Shared) -> Result<(), Fail> {
+    for (at, vram, left) in FILLED {
+        if !is_spelled(alloc, shared, at, &vram, left)? {
+            return Err(Fail::from(at));
+        }
+    }
+    Ok(())
 }
 
 // The board stays as it is.
 #[test]
 fn a_fill_is_settled_in_what_is_spelled(rt: HostRuntime) -> Result<(), Fail> {
     let shared = filling(rt.alloc())?;
-    for (at, vram, left) in FILLED {
-        assert!(rt; is_spelled(rt.alloc(), &shared, at, &vram, left)?, "{at}");
-    }
-    Ok(())
+    be_settled(rt.alloc(), &shared)
 }

@@ -1,14 +1,10 @@
 // The VDP on the board, worked out from the Genesis Technical Overview: its ports, its status, the HV
 // counter, DMA and the interrupts. Cycles are those of the master clock. The accesses of a test stand
-// in a function, which counts the rows of a table that come to something else.
-ghost use Rattle.std.specs.Prelude.{◌≡◌};
-ghost use Rattle.bus_shared.specs.Accesses.{chip_of};
-
+// in a function, which fails with the first row of a table that comes to something else.
+use crate::board::{NONE_SET, access, board, key_of, line, main};
 use bus_shared::{Request, Shared, carry_out, pins68, pins80, start_line};
-use md_pads::Recording;
-use md_word::{Answer68, Entry, Key, Request68, Transfer};
+use md_word::{Request68, Transfer};
 use std::alloc::Global;
-use std::sync::Arc;
 use std::test::Fail;
 use vdp_planes::{LineView, SpriteNote};
 
@@ -16,44 +12,11 @@ const DATA: u32 = 0xc0_0000;
 
 const CONTROL: u32 = 0xc0_0004;
 
-const NO_ANSWER: Answer68 = Answer68 {
-    value: 0xdead,
-    transfer: None,
-    cost: 0xdead,
-};
-
 const NO_TRANSFER: Transfer = Transfer {
     source: 0,
     words: 0,
     cost: 0,
 };
-
-/// A line without sprites has set nothing.
-const NONE_SET: SpriteNote = SpriteNote {
-    overflow: false,
-    collision: false,
-};
-
-/// A board of whose pads nothing is recorded.
-fn board(alloc: Global) -> Result<Shared, Fail> {
-    let recording = Arc::new(alloc, Recording::read(alloc, b"MDREC001\0\0\0\0")?)?;
-    Shared::power_on(alloc, recording, false).map_err(|_| Fail::from("no memory"))
-}
-
-/// Carries out an access of the 68000 at a cycle.
-fn access(shared: &mut Shared, cycle: u32, request: Request68) -> (Answer68, Entry) {
-    let key = Key {
-        cycle: u64::from(cycle),
-        chip: 0,
-    };
-    let (answer, entry) = carry_out(shared, key, Request::Main(request));
-    (answer.main().unwrap_or(NO_ANSWER), entry)
-}
-
-/// The value that an access gives.
-fn value(shared: &mut Shared, cycle: u32, request: Request68) -> u16 {
-    access(shared, cycle, request).0.value
-}
 
 /// Writes words to the control port at a cycle.
 fn control(shared: &mut Shared, cycle: u32, words: &[u16]) {
@@ -70,64 +33,52 @@ fn data(shared: &mut Shared, cycle: u32, word: u16) {
 /// The word of VRAM at an address below 4000h, as the data port reads it at a cycle.
 fn vram(shared: &mut Shared, cycle: u32, address: u16) -> u16 {
     control(shared, cycle, &[address % 0x4000, 0]);
-    value(shared, cycle, Request68::Read16(DATA))
-}
-
-/// Starts the line of a cycle: the level after it, as the entry tells it.
-fn line(shared: &mut Shared, cycle: u32) -> (u32, u16) {
-    let key = Key {
-        cycle: u64::from(cycle),
-        chip: 2,
-    };
-    let entry = start_line(shared, key, NONE_SET);
-    (entry.address, entry.value)
+    main(shared, cycle, Request68::Read16(DATA))
 }
 
 /// Starts the line of a cycle behind one whose sprites have set this.
 fn line_behind(shared: &mut Shared, cycle: u32, overflow: bool, collision: bool) {
-    let key = Key {
-        cycle: u64::from(cycle),
-        chip: 2,
+    let note = SpriteNote {
+        overflow,
+        collision,
     };
-    start_line(
-        shared,
-        key,
-        SpriteNote {
-            overflow,
-            collision,
-        },
-    );
+    start_line(shared, key_of(cycle, 2), note);
 }
 
 // What the sprites of the line before have set joins the status, bits 6 and 5, at the start of a line,
 // and stays until the status is read: cycles of lines, what was set, and the status 28 cycles later, of
 // which bit 9 is 1 and bit 3 the vertical blanking of a display that is off.
-fn set_by_sprites(shared: &mut Shared) -> u32 {
-    let rows = [
-        (0, true, false, 0x248),
-        (3_420, false, true, 0x228),
-        (6_840, true, true, 0x268),
-        (10_260, false, false, 0x208),
-    ];
-    let mut wrong = 0;
-    for (cycle, overflow, collision, status) in rows {
-        line_behind(shared, cycle, overflow, collision);
-        let read = value(shared, cycle.wrapping_add(28), Request68::Read16(CONTROL));
-        if read != status {
-            wrong = 1;
-        }
-    }
+const SET: [(u32, bool, bool, u16); 4] = [
+    (0, true, false, 0x248),
+    (3_420, false, true, 0x228),
+    (6_840, true, true, 0x268),
+    (10_260, false, false, 0x208),
+];
+
+/// The status behind two lines of which the status is read behind the second alone.
+fn set_by_two_lines(shared: &mut Shared) -> u16 {
     line_behind(shared, 13_680, true, false);
     line_behind(shared, 17_100, false, true);
-    let both = value(shared, 17_128, Request68::Read16(CONTROL));
-    if both != 0x268 { 1 } else { wrong }
+    main(shared, 17_128, Request68::Read16(CONTROL))
+}
+
+/// Fails with the cycle of the first line behind which the status is another.
+fn set_by_sprites(shared: &mut Shared) -> Result<(), Fail> {
+    for (cycle, overflow, collision, status) in SET {
+        line_behind(shared, cycle, overflow, collision);
+        if main(shared, cycle.wrapping_add(28), Request68::Read16(CONTROL)) != status {
+            return Err(Fail::from(cycle));
+        }
+    }
+    if set_by_two_lines(shared) != 0x268 {
+        return Err(Fail::from("two lines"));
+    }
+    Ok(())
 }
 
 #[test]
 fn sprites_of_the_line_before_join_the_status(rt: HostRuntime) -> Result<(), Fail> {
-    let mut shared = board(rt.alloc())?;
-    assert!(rt; set_by_sprites(&mut shared) == 0);
-    Ok(())
+    set_by_sprites(&mut board(rt.alloc())?)
 }
 
 /// A view of which nothing is filled.
@@ -146,11 +97,7 @@ fn blank_view(alloc: Global) -> Result<Box<LineView>, Fail> {
 /// The view that the start of a line hands back, as a byte of VRAM, register 1, CRAM word 1 and VSRAM
 /// word 1.
 fn shown(shared: &mut Shared, cycle: u32, view: Box<LineView>, at: usize) -> [u16; 4] {
-    let key = Key {
-        cycle: u64::from(cycle),
-        chip: 2,
-    };
-    let (answer, _) = carry_out(shared, key, Request::Line(view, NONE_SET));
+    let (answer, _) = carry_out(shared, key_of(cycle, 2), Request::Line(view, NONE_SET));
     match answer.line_view() {
         Some(view) => [
             u16::from(view.vram[at % 65536]),
@@ -227,32 +174,30 @@ const PORTS: [[u16; 3]; 16] = [
 /// The byte at an even address, the byte at the odd one behind it, and the word.
 fn port(shared: &mut Shared, even: u32) -> [u16; 3] {
     [
-        value(shared, 2566, Request68::Read8(even)),
-        value(shared, 2566, Request68::Read8(even.wrapping_add(1))),
-        value(shared, 2566, Request68::Read16(even)),
+        main(shared, 2566, Request68::Read8(even)),
+        main(shared, 2566, Request68::Read8(even.wrapping_add(1))),
+        main(shared, 2566, Request68::Read16(even)),
     ]
 }
 
-/// The first even address that reads otherwise.
-fn first_wrong_port(shared: &mut Shared) -> Option<u32> {
+/// Fails with the first even address that reads otherwise.
+fn read_ports(shared: &mut Shared) -> Result<(), Fail> {
+    control(shared, 28, &[0x4000, 0]);
+    data(shared, 28, 0x1234);
+    control(shared, 56, &[0x8140, 0, 0]);
     let mut even = DATA;
     for want in PORTS {
         if port(shared, even) != want {
-            return Some(even);
+            return Err(Fail::from(even));
         }
         even = even.wrapping_add(2);
     }
-    None
+    Ok(())
 }
 
 #[test]
 fn each_port_as_byte_and_word(rt: HostRuntime) -> Result<(), Fail> {
-    let mut shared = board(rt.alloc())?;
-    control(&mut shared, 28, &[0x4000, 0]);
-    data(&mut shared, 28, 0x1234);
-    control(&mut shared, 56, &[0x8140, 0, 0]);
-    assert_eq!(rt; first_wrong_port(&mut shared), None);
-    Ok(())
+    read_ports(&mut board(rt.alloc())?)
 }
 
 // A write to the area while the address stands at 0 of VRAM and register 15 is 0, and the word of VRAM
@@ -278,49 +223,56 @@ fn written(shared: &mut Shared, write: Request68) -> u16 {
     vram(shared, 84, 0)
 }
 
-fn wrong_writes(shared: &mut Shared) -> u32 {
-    let mut wrong = 0u32;
-    for (write, want) in WRITES {
-        if written(shared, write) != want {
-            wrong = wrong.wrapping_add(1);
+fn write_ports(shared: &mut Shared) -> Result<(), Fail> {
+    for (number, (write, want)) in WRITES.iter().enumerate() {
+        if written(shared, *write) != *want {
+            return Err(Fail::from(number));
         }
     }
-    wrong
+    Ok(())
 }
 
 #[test]
 fn writes_to_each_port(rt: HostRuntime) -> Result<(), Fail> {
-    let mut shared = board(rt.alloc())?;
-    assert!(rt; wrong_writes(&mut shared) == 0);
-    Ok(())
+    write_ports(&mut board(rt.alloc())?)
 }
 
 // The bytes 40h and 0 at the control port are the words 4040h and 0: 1234h goes to 40h. A word with the
 // upper bits 10 that comes second, 8f02h, gives A15 and sets no register: 5678h and then 9abch go to
 // 8000h, since register 15 stays 0. After a status read 8f02h sets register 15 to 2, and the address is
 // 8002h after a read.
-fn control_words(shared: &mut Shared) -> [u32; 3] {
+fn by_bytes(shared: &mut Shared) -> u16 {
     access(shared, 28, Request68::Write8(0xc0_0004, 0x40));
     access(shared, 56, Request68::Write8(0xc0_0007, 0));
     data(shared, 84, 0x1234);
-    let bytes = vram(shared, 112, 0x40);
+    vram(shared, 112, 0x40)
+}
+
+fn second_word(shared: &mut Shared) -> u16 {
     control(shared, 140, &[0x4000, 0x8f02]);
     data(shared, 168, 0x5678);
     data(shared, 196, 0x9abc);
     control(shared, 224, &[0, 2]);
-    let second = value(shared, 252, Request68::Read16(DATA));
+    main(shared, 252, Request68::Read16(DATA))
+}
+
+fn address_behind_a_status(shared: &mut Shared) -> u32 {
     control(shared, 280, &[0]);
-    value(shared, 308, Request68::Read16(CONTROL));
+    main(shared, 308, Request68::Read16(CONTROL));
     control(shared, 336, &[0x8f02]);
-    value(shared, 364, Request68::Read16(DATA));
-    let (_, entry) = access(shared, 392, Request68::Word(0));
-    [u32::from(bytes), u32::from(second), entry.address]
+    main(shared, 364, Request68::Read16(DATA));
+    access(shared, 392, Request68::Word(0)).1.address
+}
+
+fn control_words(shared: &mut Shared) -> (u16, u16, u32) {
+    let bytes = by_bytes(shared);
+    let second = second_word(shared);
+    (bytes, second, address_behind_a_status(shared))
 }
 
 #[test]
 fn second_words_set_no_register(rt: HostRuntime) -> Result<(), Fail> {
-    let mut shared = board(rt.alloc())?;
-    assert!(rt; control_words(&mut shared) == [0x1234, 0x9abc, 0x8002]);
+    assert!(rt; control_words(&mut board(rt.alloc())?) == (0x1234, 0x9abc, 0x8002));
     Ok(())
 }
 
@@ -335,24 +287,21 @@ const COUNTERS: [(u32, u16, u16); 4] = [
 /// The counters at a cycle in a mode.
 fn counters(shared: &mut Shared, cycle: u32, mode: u16) -> u16 {
     control(shared, cycle, &[mode]);
-    value(shared, cycle, Request68::Read16(0xc0_0008))
+    main(shared, cycle, Request68::Read16(0xc0_0008))
 }
 
-fn wrong_counters(shared: &mut Shared) -> u32 {
-    let mut wrong = 0u32;
-    for (cycle, mode, want) in COUNTERS {
-        if counters(shared, cycle, mode) != want {
-            wrong = wrong.wrapping_add(1);
+fn read_counters(shared: &mut Shared) -> Result<(), Fail> {
+    for (number, (cycle, mode, want)) in COUNTERS.iter().enumerate() {
+        if counters(shared, *cycle, *mode) != *want {
+            return Err(Fail::from(number));
         }
     }
-    wrong
+    Ok(())
 }
 
 #[test]
 fn the_counters_are_read(rt: HostRuntime) -> Result<(), Fail> {
-    let mut shared = board(rt.alloc())?;
-    assert!(rt; wrong_counters(&mut shared) == 0);
-    Ok(())
+    read_counters(&mut board(rt.alloc())?)
 }
 
 // A fill of all of VRAM with abh, whose data write at 1,000 puts ab12h at 0. Byte k is stamped
@@ -380,27 +329,25 @@ fn begin_fill(shared: &mut Shared) {
 
 /// The status and then the word of VRAM at an address, at a cycle.
 fn looked_at(shared: &mut Shared, cycle: u32, address: u16) -> [u16; 2] {
-    let status = value(shared, cycle, Request68::Read16(CONTROL));
+    let status = main(shared, cycle, Request68::Read16(CONTROL));
     [vram(shared, cycle, address), status]
 }
 
-/// How many looks tell something else than their row.
-fn wrong_looks(shared: &mut Shared, rows: &[(u32, u16, [u16; 2])]) -> u32 {
-    let mut wrong = 0u32;
-    for &(cycle, address, want) in rows {
-        if looked_at(shared, cycle, address) != want {
-            wrong = wrong.wrapping_add(1);
+/// Fails with the number of the first look that tells something else than its row.
+fn look(shared: &mut Shared, rows: &[(u32, u16, [u16; 2])]) -> Result<(), Fail> {
+    for (number, (cycle, address, want)) in rows.iter().enumerate() {
+        if looked_at(shared, *cycle, *address) != *want {
+            return Err(Fail::from(number));
         }
     }
-    wrong
+    Ok(())
 }
 
 #[test]
 fn a_fill_is_made_as_it_is_looked_at(rt: HostRuntime) -> Result<(), Fail> {
     let mut shared = board(rt.alloc())?;
     begin_fill(&mut shared);
-    assert!(rt; wrong_looks(&mut shared, &FILLED) == 0);
-    Ok(())
+    look(&mut shared, &FILLED)
 }
 
 // A copy of four bytes from 0 to 10h that starts at 1,000: byte k is stamped 1,000 + 34·(k + 1). The
@@ -431,8 +378,7 @@ fn begin_copy(shared: &mut Shared) {
 fn a_copy_is_made_as_it_is_looked_at(rt: HostRuntime) -> Result<(), Fail> {
     let mut shared = board(rt.alloc())?;
     begin_copy(&mut shared);
-    assert!(rt; wrong_looks(&mut shared, &COPIED) == 0);
-    Ok(())
+    look(&mut shared, &COPIED)
 }
 
 // The word that sets register 1, the cycles of the second control word and of the transferred word,
@@ -472,27 +418,29 @@ fn taken(shared: &mut Shared, cycle: u32) -> [u32; 4] {
 }
 
 // The source is 34h·2 + 12h·200h + 7fh·20000h.
-fn wrong_transfers(shared: &mut Shared) -> u32 {
-    let mut wrong = 0u32;
-    for (register, write, word, first, next) in COSTS {
-        control(shared, write, &[register]);
-        if started(shared, write) != [0xfe_2468, 2, u32::from(first)] {
-            wrong = wrong.wrapping_add(1);
-        }
-        if taken(shared, word) != [5, 0x100, 0x1234, u32::from(next)] {
-            wrong = wrong.wrapping_add(1);
+fn is_transferred(shared: &mut Shared, row: &(u16, u32, u32, u16, u16)) -> bool {
+    let &(register, write, word, first, next) = row;
+    control(shared, write, &[register]);
+    let started = started(shared, write);
+    let taken = taken(shared, word);
+    started == [0xfe_2468, 2, u32::from(first)] && taken == [5, 0x100, 0x1234, u32::from(next)]
+}
+
+fn transfer(shared: &mut Shared) -> Result<(), Fail> {
+    prepare_transfer(shared);
+    for (number, row) in COSTS.iter().enumerate() {
+        if !is_transferred(shared, row) {
+            return Err(Fail::from(number));
         }
     }
-    wrong
+    Ok(())
 }
 
 #[test]
 fn a_transfer_is_told_with_its_costs(rt: HostRuntime) -> Result<(), Fail> {
     let mut shared = board(rt.alloc())?;
-    prepare_transfer(&mut shared);
-    let wrong = wrong_transfers(&mut shared);
-    let word = vram(&mut shared, 1_000_000, 0x100);
-    assert!(rt; wrong == 0 && word == 0x1234);
+    transfer(&mut shared)?;
+    assert!(rt; vram(&mut shared, 1_000_000, 0x100) == 0x1234);
     Ok(())
 }
 
@@ -500,7 +448,7 @@ fn a_transfer_is_told_with_its_costs(rt: HostRuntime) -> Result<(), Fail> {
 /// as the entry and the pins tell them, and the level after the interrupt is taken.
 fn line_taken(shared: &mut Shared, number: u32) -> [u32; 4] {
     let cycle = number.wrapping_mul(3420);
-    let (address, told) = line(shared, cycle);
+    let (_, address, told) = line(shared, cycle);
     let level = pins68(shared).level;
     access(shared, cycle, Request68::Ack(level));
     [
@@ -513,28 +461,36 @@ fn line_taken(shared: &mut Shared, number: u32) -> [u32; 4] {
 
 // With register 10 of 100 the horizontal interrupt comes on lines 0, 101 and 202, and the vertical one
 // on line 224; each is taken before the next line. The Z80's is asked for during line 224.
-fn wrong_lines(shared: &mut Shared) -> u32 {
+fn level_of(number: u32) -> u32 {
+    match number {
+        0 | 101 | 202 => 4,
+        224 => 6,
+        _ => 0,
+    }
+}
+
+fn take_lines(shared: &mut Shared) -> Result<(), Fail> {
     control(shared, 0, &[0x8010, 0x8120, 0x8a64]);
-    let mut wrong = 0u32;
     for number in 0..262u32 {
-        let level = match number {
-            0 | 101 | 202 => 4,
-            224 => 6,
-            _ => 0,
-        };
+        let level = level_of(number);
         if line_taken(shared, number) != [number, level, level, 0] {
-            wrong = wrong.wrapping_add(1);
+            return Err(Fail::from(number));
         }
     }
-    wrong
+    Ok(())
+}
+
+/// The interval of the Z80's latest interrupt.
+fn interval(shared: &Shared) -> (u64, u64) {
+    let pins = pins80(shared);
+    (pins.int_from, pins.int_to)
 }
 
 #[test]
 fn interrupts_of_a_frame(rt: HostRuntime) -> Result<(), Fail> {
     let mut shared = board(rt.alloc())?;
-    let wrong = wrong_lines(&mut shared);
-    let pins = pins80(&shared);
-    assert!(rt; wrong == 0 && pins.int_from == 766_080 && pins.int_to == 769_500);
+    take_lines(&mut shared)?;
+    assert!(rt; interval(&shared) == (766_080, 769_500));
     Ok(())
 }
 
@@ -563,22 +519,19 @@ fn level_after(shared: &mut Shared, request: Request68) -> [u16; 3] {
     ]
 }
 
-fn wrong_levels(shared: &mut Shared) -> u32 {
+fn take_levels(shared: &mut Shared) -> Result<(), Fail> {
     control(shared, 0, &[0x8010, 0x8120]);
     line(shared, 0);
     line(shared, 766_080);
-    let mut wrong = 0u32;
-    for (request, want) in TAKEN {
-        if level_after(shared, request) != want {
-            wrong = wrong.wrapping_add(1);
+    for (number, (request, want)) in TAKEN.iter().enumerate() {
+        if level_after(shared, *request) != *want {
+            return Err(Fail::from(number));
         }
     }
-    wrong
+    Ok(())
 }
 
 #[test]
 fn level_6_is_taken_before_level_4(rt: HostRuntime) -> Result<(), Fail> {
-    let mut shared = board(rt.alloc())?;
-    assert!(rt; wrong_levels(&mut shared) == 0);
-    Ok(())
+    take_levels(&mut board(rt.alloc())?)
 }

@@ -7,5 +7,6 @@ pub mod Unseen
 pub mod Values
 pub mod Ports
 pub mod Ruled
+pub mod Shown
 pub mod SavedLaws
 pub mod SpellingLaws

@@ -1,4 +1,4 @@
-ghost use Rattle.std.specs.Prelude.{◌≡◌, ◌^◌, ◌<◌, ◌≤◌, IfOk, None};
+ghost use Rattle.std.specs.Prelude.{◌≡◌, ◌^◌, ◌<◌, ◌≤◌, IfOk, IfSome, None, true, false};
 ghost use Rattle.std.specs.Arc.{arc_value};
 ghost use Rattle.md_word.specs.Map.{area_of};
 ghost use Rattle.fm_port.specs.Port as fm_ports;
@@ -36,8 +36,10 @@ use psg_sound::{PsgList, PsgPort};
 use std::alloc::Global;
 use std::marker::Model;
 use std::sync::Arc;
+use vdp_ahead::Sheet;
 use vdp_planes::{Scene, SpriteNote, scene_of};
 use vdp_ports::VdpState;
+use vdp_time::line_of;
 use z80_parcel::{RAM_END, known, read, store_byte};
 
 /// The version register: an overseas console of NTSC, or one of PAL, without an expansion unit.
@@ -68,19 +70,24 @@ pub struct Shared {
     pub(crate) resets: u64,
     pub(crate) parcel: Option<Parcel>,
     pub(crate) vdp: Box<VdpState>,
+    /// Lines that were drawn ahead, where a sheet of them lies on the board.
+    pub(crate) sheet: Option<Box<Sheet>>,
+    /// Whether the VDP is what that sheet shows of it.
+    pub(crate) fits: bool,
 }
 
 impl Model for Shared {
     ghost use Rattle.std.specs.Arc.{arc_value};
     ghost use Rattle.std.specs.Prelude.{option_map};
     ghost use Rattle.bus_shared.specs.Board.{Board, IsBoard};
+    ghost use Rattle.bus_shared.specs.Sheets.{Fits};
     ghost use Rattle.z80_parcel.specs.Parcels.{store_of};
 
     ghost Value = { Board };
 
     ghost view = { λ s. record { recording = arc_value s.recording; pads = s.pads; port1 = s.port1; port2 = s.port2; psg = s.psg.value; fm = s.fm.value; request = s.request; reset = s.reset; resets = s.resets; store = option_map store_of s.parcel; vdp = s.vdp.value } };
 
-    ghost invariant = { λ s. IsBoard (record { recording = arc_value s.recording; pads = s.pads; port1 = s.port1; port2 = s.port2; psg = s.psg.value; fm = s.fm.value; request = s.request; reset = s.reset; resets = s.resets; store = option_map store_of s.parcel; vdp = s.vdp.value }) };
+    ghost invariant = { λ s. IsBoard (record { recording = arc_value s.recording; pads = s.pads; port1 = s.port1; port2 = s.port2; psg = s.psg.value; fm = s.fm.value; request = s.request; reset = s.reset; resets = s.resets; store = option_map store_of s.parcel; vdp = s.vdp.value }) × Fits s.fits (option_map (λ b. b.value) s.sheet) s.vdp.value };
 }
 
 impl Shared {
@@ -103,6 +110,8 @@ impl Shared {
             resets: 0,
             parcel: None,
             vdp: power_on(alloc, pal)?,
+            sheet: None,
+            fits: false,
         })
     }
 
@@ -127,6 +136,44 @@ impl Shared {
         ensures { result ≡ self.now.vdp.pal }
     {
         self.vdp.pal
+    }
+
+    /// Begins a sheet of lines of a picture of a region, from this one on, with the VDP as it stands.
+    pub fn begin_sheet(&self, sheet: &mut Sheet, pal: bool, from: u32)
+        requires { from ≤ 240 }
+        ensures { sheet.new ≡ record { view = view_of pal self.now.vdp; from = from; to = from } }
+    {
+        sheet.begin(&self.vdp, pal, from);
+    }
+
+    /// Lays a sheet on the board. It is of use as long as the VDP is what the sheet shows of it.
+    pub fn lay_sheet(&mut self, sheet: Box<Sheet>)
+        ensures { self.new ≡ self.old }
+    {
+        self.fits = sheet.is_of(&self.vdp);
+        self.sheet = Some(sheet);
+    }
+
+    /// Takes the sheet off the board, if one lies there.
+    pub fn take_sheet(&mut self) -> Option<Box<Sheet>>
+        ensures { self.new ≡ self.old }
+    {
+        self.fits = false;
+        self.sheet.take()
+    }
+
+    /// The sheet on the board, if one lies there and the VDP is what it shows.
+    #[inline]
+    pub fn sheet(&self) -> Option<&Sheet>
+        ensures { IfSome result (λ s. s.now.view ≡ view_of s.now.view.pal self.now.vdp) }
+    {
+        if !self.fits {
+            return None;
+        }
+        match &self.sheet {
+            Some(sheet) => Some(sheet),
+            None => None,
+        }
     }
 
     /// Tells what holds of every board.
@@ -212,6 +259,7 @@ impl Shared {
         ensures value { result ≡ video.port_word (video.port_at address) key.cycle self.old.vdp }
         ensures board { self.new ≡ video.video_read self.old key address }
     {
+        self.fits = stays(self.fits, self.vdp.left, false);
         read_port(VideoPort::at(address), &mut self.vdp, key.cycle)
     }
 
@@ -313,6 +361,7 @@ impl Shared {
         ensures board { self.new ≡ record self.old { vdp = video.port_written port key.cycle word self.old.vdp } }
         ensures transfer { result ≡ video.port_transfer port key.cycle word self.old.vdp }
     {
+        self.fits = false;
         write_port(port, &mut self.vdp, key.cycle, word)
     }
 
@@ -404,6 +453,7 @@ impl Shared {
         ensures cost { result ≡ video.word_cost key.cycle self.old.vdp }
         ensures board { self.new ≡ video.word_taken self.old key word }
     {
+        self.fits = false;
         take_word(&mut self.vdp, key.cycle, word)
     }
 
@@ -527,6 +577,8 @@ impl Shared {
         requires { cycle ≤ 2 ^ 50 }
         ensures { self.new ≡ accesses.line_board self.old cycle note }
     {
+        let first = line_of(cycle, self.vdp.pal) == 0;
+        self.fits = stays(self.fits, self.vdp.left, first);
         begin_line(&mut self.vdp, cycle, note);
         self.change_pads(cycle);
     }
@@ -548,6 +600,16 @@ impl Shared {
     {
         self.psg.take(cycle, into);
     }
+}
+
+/// Whether a sheet that fits goes on to fit: no byte of a fill or copy is left, and the height is not latched.
+#[inline(always)]
+fn stays(fits: bool, left: u32, is_latched: bool) -> bool
+    ensures fits { result ≡ true → fits ≡ true }
+    ensures still { result ≡ true → left ≡ 0 }
+    ensures kept { result ≡ true → is_latched ≡ false }
+{
+    fits && left == 0 && !is_latched
 }
 
 /// The answer to an access that gives a value, 0 where it gives none.

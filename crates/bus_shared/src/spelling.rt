@@ -200,6 +200,8 @@ fn board_of(
         resets: lines.resets,
         parcel,
         vdp: Box::new(alloc, vdp)?,
+        sheet: None,
+        fits: false,
     })
 }
 

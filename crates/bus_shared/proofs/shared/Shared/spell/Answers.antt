@@ -12,7 +12,7 @@ use Rattle.bus_shared.proofs.shared.Shared.spell.Goals as goal
 pub put_store-requires : goal.put_store-requires
 put_store-requires c =
     let store = option_map store_of c.self.inside.parcel in
-    omega (arith, c.requires.room, store_long store c.self.invariant.store, board_long (is_some store), ap (λ (b : Board). board_size (is_some b.store)) c.self.view_is)
+    omega (arith, c.requires.room, store_long store c.self.invariant.0.store, board_long (is_some store), ap (λ (b : Board). board_size (is_some b.store)) c.self.view_is)
 
 pub spell-requires-clause-room : goal.spell-requires-clause-room
 spell-requires-clause-room c =
@@ -20,7 +20,7 @@ spell-requires-clause-room c =
     omega (
       arith,
       c.requires.room,
-      store_long store c.self.invariant.store,
+      store_long store c.self.invariant.0.store,
       board_long (is_some store),
       ap (λ (b : Board). board_size (is_some b.store)) c.self.view_is,
       c.put_store.ensures.length,
@@ -33,7 +33,7 @@ spell-requires-2-clause-room c =
     omega (
       arith,
       c.requires.room,
-      store_long store c.self.invariant.store,
+      store_long store c.self.invariant.0.store,
       board_long (is_some store),
       ap (λ (b : Board). board_size (is_some b.store)) c.self.view_is,
       c.put_store.ensures.length,
@@ -48,7 +48,7 @@ spell-requires-3 c =
     omega (
       arith,
       c.requires.room,
-      store_long store c.self.invariant.store,
+      store_long store c.self.invariant.0.store,
       board_long (is_some store),
       ap (λ (b : Board). board_size (is_some b.store)) c.self.view_is,
       c.put_store.ensures.length,
@@ -66,7 +66,7 @@ put-requires c =
     omega (
       arith,
       c.requires.room,
-      store_long store c.self.invariant.store,
+      store_long store c.self.invariant.0.store,
       board_long (is_some store),
       ap (λ (b : Board). board_size (is_some b.store)) c.self.view_is,
       c.put_store.ensures.length,
@@ -90,7 +90,7 @@ returns-clause-length c =
     let store = option_map store_of c.self.inside.parcel in
     omega (
       arith,
-      store_long store c.self.invariant.store,
+      store_long store c.self.invariant.0.store,
       board_long (is_some store),
       ap (λ (b : Board). board_size (is_some b.store)) c.self.view_is,
       c.put_store.ensures.length,
@@ -103,7 +103,7 @@ returns-clause-length c =
 
 pub returns-clause-kept : goal.returns-clause-kept
 returns-clause-kept c = rw (← c.self.view_is) (λ is.
-    board_spelled c.args.at _ c.requires.cycle c.self.invariant is
+    board_spelled c.args.at _ c.requires.cycle c.self.invariant.0 is
     (rw c.deref.ensures at (c.spell.ensures.kept c.args.at (omega arith) (rw c.deref.ensures is.vdp)))
     (rw c.deref-2.ensures at (c.spell-2.ensures.kept (rw c.deref-2.ensures is.timers) (rw c.deref-2.ensures is.fm)))
     (rw c.deref-3.ensures at (c.spell-3.ensures.kept c.args.at (rw c.deref-3.ensures is.psg))))
