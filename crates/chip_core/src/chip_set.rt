@@ -1,6 +1,7 @@
 ghost use Rattle.std.specs.Prelude.{◌≡◌, ℕ, ◌^◌, ◌<◌, ◌≤◌, true, false, List};
 
 use md_word::{Entry, Key, Next};
+use std::sync::Wait;
 
 /// Up to five chips, numbered from 0, that share a state.
 ///
@@ -18,6 +19,10 @@ pub trait ChipSet: Send + Sync {
 
     /// The input pins of one chip.
     type Pins: Send + Drop;
+
+    /// Where a chip lays errands: work that it asks for ahead of its events, and goes without where nobody does
+    /// it. What contracts see hangs on none.
+    type Errands: Send + Sync + Drop;
 
     /// What the calls compute.
     ghost rules: { Rules Self.Chip Self.Shared Self.Pins };
@@ -102,6 +107,19 @@ pub trait ChipSet: Send + Sync {
     fn is_dear(_chip: &Self::Chip) -> bool {
         true
     }
+
+    /// The place where these chips lay their errands, if any of them does.
+    fn errands(_chips: &[Self::Chip]) -> Option<Self::Errands> {
+        None
+    }
+
+    /// Whether an errand lies there that nobody has begun. It is asked again and again, so it must be cheap.
+    fn has_errand(_errands: &Self::Errands) -> bool {
+        false
+    }
+
+    /// Runs an errand, if one lies there that nobody has begun.
+    fn run_errand<R: Wait>(_rt: &R, _errands: &Self::Errands) {}
 
     /// The least number of cycles between two events of the chip: 1 to 2^50.
     fn gap(chip: u8) -> u64

@@ -13,12 +13,13 @@ use std::sync::ledger::Ledger;
 use std::sync::{Condvar, Mutex, Wait};
 
 /// The bus lock of a run: what the chips share behind one lock, and where workers wait for it to
-/// change.
+/// change. With it the place where the chips lay their errands, if any does.
 #[derive(Drop)]
 pub struct Bus<C: ChipSet, N: Named, L0: Ledger, L1: Ledger, L2: Ledger, L3: Ledger, L4: Ledger> {
     lock: Mutex<Locked<C, N, L0, L1, L2, L3, L4>>,
     moved: Condvar,
     end: u64,
+    errands: Option<C::Errands>,
     ghost ends: { end ≡ N.end },
 }
 
@@ -32,14 +33,24 @@ impl<C: ChipSet, N: Named, L0: Ledger, L1: Ledger, L2: Ledger, L3: Ledger, L4: L
     L4,
 > {
     /// The bus with this value behind its lock.
-    pub(crate) fn over(locked: Locked<C, N, L0, L1, L2, L3, L4>, end: u64) -> Self
+    pub(crate) fn over(
+        locked: Locked<C, N, L0, L1, L2, L3, L4>,
+        end: u64,
+        errands: Option<C::Errands>,
+    ) -> Self
         requires { end ≡ N.end }
     {
         Bus {
             lock: Mutex::new(locked),
             moved: Condvar::new(),
             end,
+            errands,
         }
+    }
+
+    /// The place where the chips lay their errands, if any of them does.
+    pub(crate) fn errands(&self) -> &Option<C::Errands> {
+        &self.errands
     }
 
     /// One look at the held chips under one lock. It ends with a wait where none of them can move
@@ -200,6 +211,7 @@ impl<C: ChipSet, N: Named, L0: Ledger, L1: Ledger, L2: Ledger, L3: Ledger, L4: L
             lock,
             moved: _,
             end: _,
+            errands: _,
         } = self;
         lock.into_inner()
     }

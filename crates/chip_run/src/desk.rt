@@ -13,11 +13,34 @@ use std::thread::yield_now;
 /// How often a helper looks for work before it sleeps.
 const LOOKS: u32 = 20_000;
 
+/// How often it looks for an errand before it ends, where no more work comes.
+const LAST_LOOKS: u32 = 1_000;
+
 /// How often the leader looks for a chip before it lets other threads run.
 const GLANCES: u32 = 1_000;
 
 /// How often it lets them run before it does work of another chip.
 const YIELDS: u32 = 100;
+
+/// Whether an errand lies there that nobody has begun.
+fn has_errand<C: ChipSet>(errands: &Option<C::Errands>) -> bool {
+    match errands {
+        Some(errands) => C::has_errand(errands),
+        None => false,
+    }
+}
+
+/// Runs an errand, if one lies there that nobody has begun; answers whether one did.
+fn run_errand<C: ChipSet, R: Wait>(rt: &R, errands: &Option<C::Errands>) -> bool {
+    let Some(errands) = errands else {
+        return false;
+    };
+    if !C::has_errand(errands) {
+        return false;
+    }
+    C::run_errand(rt, errands);
+    true
+}
 
 /// What a worker finds on the desk.
 #[derive(Clone, Copy)]
@@ -154,8 +177,9 @@ impl<C: ChipSet, N: Named, L0: Ledger, L1: Ledger, L2: Ledger, L3: Ledger, L4: L
 /// Where the worker that takes the turns of all chips, the leader, lays chips whose private work is dear, and
 /// from where helpers take them and lay them back once that work is done.
 ///
-/// The leader sleeps nowhere: it does work that nobody has begun itself. Of the helpers one at most looks for
-/// work, and the others sleep.
+/// The leader sleeps nowhere: it does work that nobody has begun itself. As long as more work may come, one of
+/// the helpers at most looks for it, and the others sleep. A helper that finds none runs an errand where one
+/// lies, but an errand wakes nobody.
 #[derive(Drop)]
 pub(crate) struct Desk<
     C: ChipSet,
@@ -172,6 +196,8 @@ pub(crate) struct Desk<
     changes: AtomicU64,
     /// Whether a helper looks for work without sleeping.
     watched: AtomicBool,
+    /// Whether the run has ended.
+    ended: AtomicBool,
 }
 
 impl<C: ChipSet, N: Named, L0: Ledger, L1: Ledger, L2: Ledger, L3: Ledger, L4: Ledger> Desk<
@@ -195,6 +221,7 @@ impl<C: ChipSet, N: Named, L0: Ledger, L1: Ledger, L2: Ledger, L3: Ledger, L4: L
             work: Condvar::new(),
             changes: AtomicU64::new(0),
             watched: AtomicBool::new(false),
+            ended: AtomicBool::new(false),
         }
     }
 
@@ -372,8 +399,8 @@ impl<C: ChipSet, N: Named, L0: Ledger, L1: Ledger, L2: Ledger, L3: Ledger, L4: L
         false
     }
 
-    /// Does due private work until no more comes.
-    pub(crate) fn help<R: Wait>(&self, rt: &R) {
+    /// Does due private work until no more comes, and runs errands where none is due.
+    pub(crate) fn help<R: Wait>(&self, rt: &R, errands: &Option<C::Errands>) {
         for _ in rt.forever() {
             let seen = self.changes.load(Ordering::SeqCst);
             let mut one = Helds::none();
@@ -382,21 +409,32 @@ impl<C: ChipSet, N: Named, L0: Ledger, L1: Ledger, L2: Ledger, L3: Ledger, L4: L
                     one.settle(chip);
                     self.lay_done(rt, &mut one, chip);
                 }
-                Found::Nothing => self.wait_for_change(rt, seen),
-                Found::Over => return,
+                Found::Nothing => {
+                    if !run_errand::<C, R>(rt, errands) {
+                        self.wait_for_change(rt, seen, errands);
+                    }
+                }
+                Found::Over => {
+                    self.linger(rt, errands);
+                    return;
+                }
             }
         }
         unreachable!()
     }
 
-    /// Waits for a change after so many: it looks for a while where no other helper does, and then sleeps.
+    /// Waits for a change after so many: it looks for a while where no other helper does, and then sleeps, but
+    /// not while an errand lies there.
     ///
     /// No change is missed: it is counted before the one who makes it looks for a watch, and a helper ends its
     /// watch before it looks at the count for the last time, under the lock under which it is woken.
-    fn wait_for_change<R: Wait>(&self, rt: &R, seen: u64) {
+    fn wait_for_change<R: Wait>(&self, rt: &R, seen: u64, errands: &Option<C::Errands>) {
         if !self.watched.swap(true, Ordering::SeqCst) {
-            self.look(seen);
+            self.look(seen, errands, LOOKS);
             self.watched.store(false, Ordering::SeqCst);
+        }
+        if has_errand::<C>(errands) {
+            return;
         }
         let guard = self.lock.lock(rt);
         if self.changes.load(Ordering::SeqCst) == seen {
@@ -404,13 +442,29 @@ impl<C: ChipSet, N: Named, L0: Ledger, L1: Ledger, L2: Ledger, L3: Ledger, L4: L
         }
     }
 
-    /// Looks for a change after so many until one comes, or for a while.
-    fn look(&self, seen: u64) {
-        for _ in 0..LOOKS {
-            if self.changes.load(Ordering::SeqCst) != seen {
+    /// Looks for a change after so many, or for an errand, until there is one, so often at most.
+    fn look(&self, seen: u64, errands: &Option<C::Errands>, times: u32) {
+        for _ in 0..times {
+            if self.changes.load(Ordering::SeqCst) != seen || has_errand::<C>(errands) {
                 return;
             }
             spin_loop();
+        }
+    }
+
+    /// Looks for an errand for a while, and runs it, as long as the run has not ended: from there the leader
+    /// waits for the helper.
+    ///
+    /// No end is missed: the run is marked as ended before that is counted as a change, and a helper reads the
+    /// count before the mark.
+    fn linger<R: Wait>(&self, rt: &R, errands: &Option<C::Errands>) {
+        let seen = self.changes.load(Ordering::SeqCst);
+        if errands.is_none() || self.ended.load(Ordering::SeqCst) {
+            return;
+        }
+        self.look(seen, errands, LAST_LOOKS);
+        if !self.ended.load(Ordering::SeqCst) {
+            run_errand::<C, R>(rt, errands);
         }
     }
 
@@ -421,8 +475,14 @@ impl<C: ChipSet, N: Named, L0: Ledger, L1: Ledger, L2: Ledger, L3: Ledger, L4: L
         }
     }
 
+    /// Tells all helpers that the run has ended.
+    pub(crate) fn end<R: Wait>(&self, rt: &R) {
+        self.ended.store(true, Ordering::SeqCst);
+        self.close(rt);
+    }
+
     /// Tells all helpers that no more work comes.
-    pub(crate) fn close<R: Wait>(&self, rt: &R) {
+    fn close<R: Wait>(&self, rt: &R) {
         let mut guard = self.lock.lock(rt);
         let laid = &mut *guard;
         laid.close();

@@ -15,7 +15,7 @@ use std::thread::{Scope, Threads};
 
 /// Starts a thread for each worker below the last, whose chip lies on the desk until it begins, and takes the
 /// turns of the other chips, and of each thread's chip once it lies on the desk: a thread makes its chip's next
-/// event with its private work, and then helps.
+/// event with its private work, and then helps, and runs errands where there is nothing to help with.
 ///
 /// A chip that comes to be the next before its thread has begun is taken from the desk, so that nobody waits for
 /// a thread to start. So is that of a thread that is refused.
@@ -50,7 +50,7 @@ fn spread<
 {
     if worker >= last {
         bus.take_turns(rt, desk, helds, gate);
-        desk.close(rt);
+        desk.end(rt);
         return;
     }
     desk.lay_waiting(rt, helds, worker);
@@ -61,7 +61,7 @@ fn spread<
         let _ = &worker;
         if !alone.load(Ordering::SeqCst) {
             bus.begin(rt, desk, worker, gate);
-            desk.help(rt);
+            desk.help(rt, bus.errands());
         }
     };
     match scope.spawn(job) {
@@ -98,7 +98,7 @@ fn threads(workers: u32, dear: u8) -> u8
 /// The others are threads of their own, of which no more start than there are chips whose work is dear, but one
 /// at least. Each begins with the chip of its number, as the caller does with the rest, unless the caller comes
 /// to that chip first. From there the caller takes that chip's turns too, and the thread helps it with private
-/// work that is dear.
+/// work that is dear, and runs the errands that chips lay.
 pub fn work<
     C: ChipSet,
     N: Named,

@@ -2,7 +2,6 @@
 use Rattle.std.specs.Prelude.{◌≡◌, ℕ, ◌+◌, ◌<◌, ◌≤◌, ◌&&◌, nat_lt, not, Bool, true, false, List, Option, Some, None, is_some, option_map}
 use Rattle.std.proofs.Common.{refl, sym, ap, ◌∙◌, arith, inl, inr}
 use Rattle.std.proofs.lemmas.Bool.{cases_Bool, le-ltb, ltb-false, ltb-true}
-use Rattle.std.proofs.lemmas.List.FromFn.{get_or-map-range_with_len}
 use Rattle.md_word.specs.Clock.{line}
 use Rattle.md_word.specs.Region.{height, rows}
 use Rattle.vdp_ports.specs.Vdp.{Vdp}
@@ -10,15 +9,16 @@ use Rattle.vdp_time.specs.Lines.{line_of}
 use Rattle.vdp_planes.specs.Dots.{Dot}
 use Rattle.vdp_planes.specs.declared.view.LineView.{LineView}
 use Rattle.vdp_planes.specs.declared.view.SpriteNote.{SpriteNote}
-use Rattle.vdp_planes.specs.View.{clear, display_height, dot_at, view_of}
+use Rattle.vdp_planes.specs.View.{display_height, dot_at, view_of}
 use Rattle.vdp_sprites.specs.Sprites.{sprite_dot}
 use Rattle.vdp_chip.specs.Drawing.{Drawing, IsDrawing, answered, line_drawn, picture_after}
 use Rattle.vdp_chip.specs.Picture.{cleared, drawn, finished, row_of}
 use Rattle.vdp_chip.proofs.Lined.{drawing_drawn}
-use Rattle.vdp_chip.proofs.Rows.{row_hidden, row_same}
+use Rattle.vdp_ahead.specs.Lines.{note_on, sprites_on}
+use Rattle.vdp_ahead.proofs.Drawn.{row_drawn}
 use Rattle.bus_shared.specs.Video.{line_view}
 use Rattle.md_machine.specs.Parts.{IsDraw}
-use Rattle.md_machine.specs.Lines.{drawn_from, note_on, sprites_on, told_view, untold}
+use Rattle.md_machine.specs.Lines.{drawn_from, told_view, untold}
 
 -- where the view is, is no matter of the picture
 pub drawing-wherever : (b : Bool) (d : Drawing) → IsDrawing d → IsDrawing (record d { has_view = b })
@@ -60,11 +60,6 @@ line-same view s t note d same =
     record d { next = d.next + line; note = note; picture = picture; frame = finished d.pal number picture d.frame })
     same
 
--- the dots of the sprites, by their places
-sprites-at : (view : LineView) (y x : ℕ) → nat_lt y (display_height view) ≡ true → x < 320 → dot_at (sprites_on y view) x ≡ sprite_dot view y x
-unfolding sprites_on
-sprites-at view y x below within = rw below (get_or-map-range_with_len (sprite_dot view y) 0 320 x x clear within (omega arith))
-
 -- behind the picture it is no matter from what a line is drawn
 unseen-view : (v w : LineView) (s t : List Dot) (note : SpriteNote) (d : Drawing) → nat_lt (line_of d.next d.pal) (rows d.pal) ≡ false → line_drawn v s note d ≡ line_drawn w t note d
 unfolding line_drawn picture_after drawn
@@ -80,13 +75,7 @@ line-made : (view : LineView) (s : List Dot) (note : SpriteNote) (d : Drawing) �
     → line_drawn view s note d ≡ drawn_from view d
 unfolding drawn_from
 line-made view s note d noted dots =
-    let y = line_of d.next d.pal in
-    elim (cases_Bool (nat_lt y (display_height view))) [
-      | inl below ↦ (let low : y < display_height view = ltb-true y (display_height view) below in
-          rw noted (line-same view s (sprites_on y view) (note_on y view) d
-          (row_same view s (sprites_on y view) y (λ x within. dots low x within ∙ sym (sprites-at view y x below within)))))
-      | inr behind ↦ rw noted (line-same view s (sprites_on y view) (note_on y view) d (row_hidden view s (sprites_on y view) y (ltb-false y (display_height view) behind)))
-    ]
+    rw noted (line-same view s (sprites_on (line_of d.next d.pal) view) (note_on (line_of d.next d.pal) view) d (row_drawn view s (line_of d.next d.pal) dots))
 
 -- the display has no line behind the picture
 height-within : (pal tall : Bool) → height (pal && tall) ≤ rows pal
@@ -142,3 +131,12 @@ pub straight_drawn : (view : LineView) (s : List Dot) (note : SpriteNote) (d : D
     → line_drawn view s note d ≡ record (drawn_from (told_view d.next view) (record d { has_view = false })) { has_view = true }
 straight_drawn view s note d home same noted dots =
     line-made view s note d noted dots ∙ sym (told-drawn view d same) ∙ sym (drawn-home (told_view d.next view) d home)
+
+-- a line whose row was drawn ahead
+pub placed_drawn : (view : LineView) (note : SpriteNote) (d after : Drawing) → d.has_view ≡ true → view.pal ≡ d.pal → note ≡ note_on (line_of d.next d.pal) view
+    → after ≡ line_drawn view (sprites_on (line_of d.next d.pal) view) note d
+    → after ≡ record (drawn_from (told_view d.next view) (record d { has_view = false })) { has_view = true }
+unfolding drawn_from
+placed_drawn view note d after home same noted placed =
+    placed ∙ ap (λ (n : SpriteNote). line_drawn view (sprites_on (line_of d.next d.pal) view) n d) noted
+    ∙ sym (told-drawn view d same) ∙ sym (drawn-home (told_view d.next view) d home)

@@ -1,25 +1,11 @@
 -- The event of a line, as the drawing half of the VDP makes it from what the board shows. Genesis
 -- Technical Overview, the display and sprites; the places of the events are this project's profile.
-use Rattle.std.specs.Prelude.{ℕ, nat_lt, Bool, true, false, if◌then◌else◌, List, [], ◌∷◌, map, Option, Some, None}
-use Rattle.std.specs.List.{range_with_len}
+use Rattle.std.specs.Prelude.{ℕ, nat_lt, Bool, true, false, if◌then◌else◌, List, [], ◌∷◌, Option, Some, None}
 use Rattle.md_word.specs.Region.{rows}
 use Rattle.vdp_time.specs.Lines.{line_of}
-use Rattle.vdp_planes.specs.Dots.{Dot}
-use Rattle.vdp_planes.specs.View.{display_height}
 use Rattle.vdp_planes.specs.declared.view.LineView.{LineView}
-use Rattle.vdp_planes.specs.declared.view.SpriteNote.{SpriteNote}
-use Rattle.vdp_sprites.specs.Sprites.{collides, overflow, parts, sprite_dot}
+use Rattle.vdp_ahead.specs.Lines.{note_on, sprites_on}
 use Rattle.vdp_chip.specs.Drawing.{Drawing, line_drawn}
-
--- the dots of the sprites of a line; behind the lines of the display none are drawn
-unfoldable pub sprites_on : ℕ → LineView → List Dot
-sprites_on y view = if nat_lt y (display_height view) then map (sprite_dot view y) (range_with_len 0 320) else []
-
--- what they set
-unfoldable pub note_on : ℕ → LineView → SpriteNote
-note_on y view =
-    if nat_lt y (display_height view) then record { overflow = overflow view y; collision = collides view y (parts view y) }
-    else record { overflow = false; collision = false }
 
 -- the event of the next line, drawn from a view
 unfoldable pub drawn_from : LineView → Drawing → Drawing

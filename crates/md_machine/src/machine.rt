@@ -71,7 +71,8 @@ impl Model for Machine {
 
 impl Machine {
     /// The machine at power-on, of a region, with this cartridge and this recording of the pads. All
-    /// memory that it ever needs is taken here.
+    /// memory that it ever needs is taken here, but what it asks for once several workers make a segment,
+    /// to draw lines ahead, and does without where there is none.
     pub fn power_on(
         alloc: Global,
         cart: Arc<Cart>,
@@ -188,7 +189,8 @@ impl Machine {
     ///
     /// Each other worker is a thread of its own with the chip of its number. The caller serves the
     /// other chips, and with them the chip of each thread that the system refuses to start. A worker
-    /// passes the gate before it looks for the turn of a chip.
+    /// passes the gate before it looks for the turn of a chip. Lines of the picture may be drawn ahead of
+    /// their events; one whose VDP is another by then is drawn anew.
     pub fn segment<R: Threads + Wait + Sync, G: Gate>(
         &mut self,
         rt: &R,

@@ -31,7 +31,7 @@ impl Machine {
     /// The machine at a cycle that these parts make: chips without an answer that waits, the drawing
     /// half with its view, and the board of its region. Its batches of samples come next at the first multiple of
     /// 16,128 from `at` on, at 16,128 where `at` is 0. It holds no output: a finished frame is dropped,
-    /// whose picture stays. All memory that it ever needs is taken here.
+    /// whose picture stays. Memory is taken as at power-on.
     pub fn from_parts(
         alloc: Global,
         at: u64,
@@ -92,7 +92,7 @@ fn chips_of(
             chip: sub,
             answer: None,
         }),
-        Chip::Draw(DrawChip::new(draw)),
+        Chip::Draw(DrawChip::new(alloc, draw)?),
         Chip::Fm(FmChip::new(alloc, fm, batch)?),
         Chip::Psg(PsgChip::new(alloc, psg, batch)?),
     ];

@@ -10,6 +10,8 @@ use bus_shared::{Shared, pins68, pins80};
 use chip_core::ChipSet;
 use md_word::clock::{BATCH, LINE};
 use md_word::{Entry, Key, Next};
+use std::sync::{Arc, Wait};
+use vdp_ahead::Tray;
 
 /// The five chips of the machine, as a set for the scheduler.
 pub struct MdChips;
@@ -20,6 +22,8 @@ impl ChipSet for MdChips {
     type Shared = Shared;
 
     type Pins = Pins;
+
+    type Errands = Arc<Tray>;
 
     ghost rules = { rules.five };
 
@@ -121,6 +125,22 @@ impl ChipSet for MdChips {
             Chip::Fm(fm) => fm.is_dear(),
             Chip::Main(_) | Chip::Sub(_) | Chip::Draw(_) | Chip::Psg(_) => false,
         }
+    }
+
+    /// Lines of the picture that are drawn ahead of their events.
+    fn errands(chips: &[Chip]) -> Option<Arc<Tray>> {
+        match chips.get(2) {
+            Some(Chip::Draw(draw)) => draw.tray(),
+            _ => None,
+        }
+    }
+
+    fn has_errand(errands: &Arc<Tray>) -> bool {
+        errands.look()
+    }
+
+    fn run_errand<R: Wait>(rt: &R, errands: &Arc<Tray>) {
+        errands.draw(rt);
     }
 
     fn gap(chip: u8) -> u64 {

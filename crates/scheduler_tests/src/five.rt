@@ -47,6 +47,8 @@ impl ChipSet for Five {
 
     type Pins = u64;
 
+    type Errands = ();
+
     ghost rules = { record {
       count = 5;
       next = λ c. record { key = record { cycle = c.cycle; chip = c.number }; sample = c.sample };

@@ -1,11 +1,12 @@
 ghost use Rattle.std.specs.Prelude.{◌≡◌, [], ◌∷◌, IfOk};
 
+use crate::errand::Errand;
 use crate::meeting::Meeting;
 use chip_core::{ChipSet, Core};
 use md_word::{Entry, Key, Next};
 use std::alloc::{AllocError, Global};
 use std::marker::Model;
-use std::sync::Arc;
+use std::sync::{Arc, Wait};
 
 // Two chips with an event every 10 cycles, whose private work waits for one another, for so many events.
 pub struct Pair;
@@ -18,6 +19,7 @@ pub struct Chip {
     sample: bool,
     meeting: Arc<Meeting>,
     times: u64,
+    errand: Option<Arc<Errand>>,
 }
 
 impl Model for Chip {
@@ -50,6 +52,8 @@ impl ChipSet for Pair {
     type Shared = u64;
 
     type Pins = u64;
+
+    type Errands = Arc<Errand>;
 
     ghost rules = { record {
       count = 2;
@@ -131,12 +135,36 @@ impl ChipSet for Pair {
         false
     }
 
+    fn errands(chips: &[Chip]) -> Option<Arc<Errand>> {
+        match chips {
+            [first, ..] => match &first.errand {
+                Some(errand) => Arc::try_clone(errand).ok(),
+                None => None,
+            },
+            [] => None,
+        }
+    }
+
+    fn has_errand(errand: &Arc<Errand>) -> bool {
+        errand.lies()
+    }
+
+    fn run_errand<R: Wait>(_rt: &R, errand: &Arc<Errand>) {
+        errand.run();
+    }
+
     fn gap(_chip: u8) -> u64 {
         10
     }
 }
 
-fn at_start(number: u8, sample: bool, meeting: Arc<Meeting>, times: u64) -> Chip
+fn at_start(
+    number: u8,
+    sample: bool,
+    meeting: Arc<Meeting>,
+    times: u64,
+    errand: Option<Arc<Errand>>,
+) -> Chip
     ensures { result ≡ record { number = number; cycle = 0; sample = sample } }
 {
     Chip {
@@ -145,15 +173,17 @@ fn at_start(number: u8, sample: bool, meeting: Arc<Meeting>, times: u64) -> Chip
         sample,
         meeting,
         times,
+        errand,
     }
 }
 
-// The two at cycle 0, at accesses or at samples, each bound equal to its chip's key.
+// The two at cycle 0, at accesses or at samples, each bound equal to its chip's key, with an errand or none.
 pub fn power_on(
     alloc: Global,
     sample: bool,
     meeting: &Arc<Meeting>,
     times: u64,
+    errand: Option<Arc<Errand>>,
     room: usize,
 ) -> Result<Core<Pair>, AllocError>
     ensures { IfOk result (λ core. core ≡ record {
@@ -164,8 +194,8 @@ pub fn power_on(
       room = room;
     }) }
 {
-    let first = at_start(0, sample, Arc::try_clone(meeting)?, times);
-    let second = at_start(1, sample, Arc::try_clone(meeting)?, times);
+    let first = at_start(0, sample, Arc::try_clone(meeting)?, times, errand);
+    let second = at_start(1, sample, Arc::try_clone(meeting)?, times, None);
     let chips = vec![in alloc; first, second]?;
     let bounds = vec![in alloc; Key { cycle: 0, chip: 0 }, Key { cycle: 0, chip: 1 }]?;
     let journal = Vec::with_capacity(alloc, room)?;

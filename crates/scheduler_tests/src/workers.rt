@@ -1,3 +1,4 @@
+use crate::errand::Errand;
 use crate::five::power_on;
 use crate::meeting::Meeting;
 use crate::pair;
@@ -47,7 +48,7 @@ fn several_workers_meet_at_the_gate(rt: HostRuntime) -> Result<(), Fail> {
 fn private_work_of_two_workers_overlaps(rt: HostRuntime) -> Result<(), Fail> {
     for sample in [false, true] {
         let meeting = Arc::new(rt.alloc(), Meeting::new())?;
-        let core = pair::power_on(rt.alloc(), sample, &meeting, 1, 2)?;
+        let core = pair::power_on(rt.alloc(), sample, &meeting, 1, None, 2)?;
         let _core = run_core(&rt, core, 1, 2, &FreeGate);
         assert!(rt; meeting.met(1), "samples: {sample}");
     }
@@ -59,9 +60,33 @@ fn private_work_of_two_workers_overlaps(rt: HostRuntime) -> Result<(), Fail> {
 #[test]
 fn private_work_of_two_workers_overlaps_to_the_end(rt: HostRuntime) -> Result<(), Fail> {
     let meeting = Arc::new(rt.alloc(), Meeting::new())?;
-    let core = pair::power_on(rt.alloc(), false, &meeting, 5, 12)?;
+    let core = pair::power_on(rt.alloc(), false, &meeting, 5, None, 12)?;
     let _core = run_core(&rt, core, 50, 2, &FreeGate);
     assert!(rt; meeting.met(5));
+    Ok(())
+}
+
+// The second chip waits at the gate for the errand: with none who runs it beside the turns, it would go on
+// after a while, and the errand would lie there to the end.
+#[test]
+fn a_helper_runs_an_errand(rt: HostRuntime) -> Result<(), Fail> {
+    let meeting = Arc::new(rt.alloc(), Meeting::new())?;
+    let errand = Arc::new(rt.alloc(), Errand::new())?;
+    let laid = Arc::try_clone(&errand)?;
+    let core = pair::power_on(rt.alloc(), false, &meeting, 0, Some(laid), 2)?;
+    let _core = run_core(&rt, core, 1, 2, &*errand);
+    assert!(rt; errand.was_run(1));
+    Ok(())
+}
+
+#[test]
+fn one_worker_alone_runs_no_errand(rt: HostRuntime) -> Result<(), Fail> {
+    let meeting = Arc::new(rt.alloc(), Meeting::new())?;
+    let errand = Arc::new(rt.alloc(), Errand::new())?;
+    let laid = Arc::try_clone(&errand)?;
+    let core = pair::power_on(rt.alloc(), false, &meeting, 0, Some(laid), 2)?;
+    let _core = run_core(&rt, core, 1, 1, &FreeGate);
+    assert!(rt; errand.was_run(0));
     Ok(())
 }
 

@@ -1,8 +1,7 @@
-ghost use Rattle.std.specs.Prelude.{◌≡◌, ℕ, ◌^◌, ◌<◌, IfOk, IsSome, None, true, false, is_some, not, option_copied, IfSome, length};
+ghost use Rattle.std.specs.Prelude.{◌≡◌, ◌^◌, ◌<◌, IfOk, IsSome, None, true, false, is_some, not, option_copied, IfSome, length};
 ghost use Rattle.vdp_chip.specs.Drawing.{at_power_on, next_of};
 ghost use Rattle.md_word.specs.Region.{picture_length};
-ghost use Rattle.vdp_planes.specs.View.{AllColours, display_height, dot_at, seen};
-ghost use Rattle.vdp_sprites.specs.Sprites.{sprite_dot};
+ghost use Rattle.vdp_planes.specs.View.{seen};
 ghost use Rattle.md_machine.specs.Lines as lines;
 ghost use Rattle.md_machine.specs.Rules as rules;
 
@@ -10,10 +9,16 @@ use bus_shared::{Request, Shared, carry_out, start_line};
 use md_word::{Entry, Next, NoMemory};
 use std::alloc::Global;
 use std::marker::Model;
+use std::sync::Arc;
+use vdp_ahead::{Sheet, Tray, draw_line_sprites};
 use vdp_chip::{ChipVdp, clear_dots};
-use vdp_planes::{Dot, LineView, Scene, SpriteNote};
-use vdp_sprites::draw_sprites;
+use vdp_planes::register::MODE_2;
+use vdp_planes::{LineView, Scene, SpriteNote};
 use vdp_time::line_of;
+
+/// The first line that is drawn ahead of its event, where a helper draws some: by then the lines before it give
+/// the helper the time to draw the rest.
+const AHEAD: u32 = 88;
 
 /// The drawing half of the VDP, chip 2: an access at each line. Between the two halves of an access it
 /// keeps the view that the board has filled.
@@ -21,6 +26,11 @@ use vdp_time::line_of;
 pub struct DrawChip {
     chip: ChipVdp,
     view: Option<Box<LineView>>,
+    /// Where a sheet of lines goes to be drawn ahead, and comes back.
+    tray: Arc<Tray>,
+    /// Whether there is a sheet, whose memory is asked for once somebody has looked for one.
+    has_sheet: bool,
+    alloc: Global,
 }
 
 impl Model for DrawChip {
@@ -45,17 +55,26 @@ impl DrawChip {
         Ok(DrawChip {
             chip: ChipVdp::power_on(alloc, pal)?,
             view: None,
+            tray: Arc::new(alloc, Tray::new())?,
+            has_sheet: false,
+            alloc,
         })
     }
 
     /// A drawing half between two events, of which no frame is kept.
-    pub(crate) fn new(chip: ChipVdp) -> DrawChip
+    pub(crate) fn new(alloc: Global, chip: ChipVdp) -> Result<DrawChip, NoMemory>
         requires { chip.has_view ≡ true }
-        ensures { result ≡ record { chip = record chip { frame = None }; view = None } }
+        ensures { IfOk result (λ draw. draw ≡ record { chip = record chip { frame = None }; view = None }) }
     {
         let mut chip = chip;
         chip.drop_frame();
-        DrawChip { chip, view: None }
+        Ok(DrawChip {
+            chip,
+            view: None,
+            tray: Arc::new(alloc, Tray::new())?,
+            has_sheet: false,
+            alloc,
+        })
     }
 
     #[tactic(auto, using(crate::specs::LineLaws::is_drawn))]
@@ -92,7 +111,8 @@ impl DrawChip {
         }
     }
 
-    /// Both halves of a line's event. Where the view is here, the line is drawn straight from the board.
+    /// Both halves of a line's event. Where the view is here, the line is drawn straight from the board, or was
+    /// drawn ahead.
     pub(crate) fn access(&mut self, shared: &mut Shared) -> Entry
         requires { self.old.chip.next < 2 ^ 50 }
         ensures chip { self.new ≡ rules.draw_advance (rules.draw_perform self.old shared.old).chip }
@@ -108,11 +128,50 @@ impl DrawChip {
             None => {
                 let key = self.chip.next().key;
                 let entry = start_line(shared, key, self.chip.note());
+                if self.tray.is_watched() {
+                    self.exchange(key.cycle, shared);
+                }
                 let pal = self.chip.pal();
-                draw_straight(&mut self.chip, &shared.scene(pal));
+                draw_line(&mut self.chip, shared.sheet(), &shared.scene(pal));
                 entry
             }
         }
+    }
+
+    /// With the first line of a picture asks for later lines to be drawn ahead; with the others takes the sheet
+    /// back that was drawn, and lays it on the board.
+    fn exchange(&mut self, cycle: u64, shared: &mut Shared)
+        ensures chip { self.new ≡ self.old }
+        ensures shared { shared.new ≡ shared.old }
+    {
+        let pal = self.chip.pal();
+        if line_of(cycle, pal) > 0 {
+            if let Some(sheet) = self.tray.take_drawn() {
+                shared.lay_sheet(sheet);
+            }
+        } else if is_shown(&shared.scene(pal)) {
+            self.make_sheet(shared);
+            ask(&self.tray, pal, shared);
+        }
+    }
+
+    /// Lays a new sheet on the board, if there is none yet and there is memory for one.
+    fn make_sheet(&mut self, shared: &mut Shared)
+        ensures chip { self.new ≡ self.old }
+        ensures shared { shared.new ≡ shared.old }
+    {
+        if self.has_sheet {
+            return;
+        }
+        if let Ok(sheet) = Sheet::blank(self.alloc) {
+            shared.lay_sheet(sheet);
+            self.has_sheet = true;
+        }
+    }
+
+    /// Where a sheet of lines goes to be drawn ahead, for one who draws.
+    pub(crate) fn tray(&self) -> Option<Arc<Tray>> {
+        self.tray.clone().ok()
     }
 
     pub(crate) fn chip(&self) -> &ChipVdp
@@ -168,6 +227,68 @@ fn draw_lent(chip: &mut ChipVdp, view: Box<LineView>)
     chip.answer_with(view, &dots, note);
 }
 
+/// Whether the display is on.
+fn is_shown(scene: &Scene) -> bool {
+    scene.registers[MODE_2] / 64 % 2 == 1
+}
+
+/// Asks for the later lines of a picture, to be drawn from the VDP as it stands, unless the sheet is away.
+fn ask(tray: &Tray, pal: bool, shared: &mut Shared)
+    ensures { shared.new ≡ shared.old }
+{
+    if let Some(mut sheet) = idle_sheet(tray, shared) {
+        shared.begin_sheet(&mut sheet, pal, AHEAD);
+        if let Some(sheet) = tray.ask(sheet) {
+            shared.lay_sheet(sheet);
+        }
+    }
+}
+
+/// The sheet of an earlier picture, unless its lines are being drawn.
+fn idle_sheet(tray: &Tray, shared: &mut Shared) -> Option<Box<Sheet>>
+    ensures { shared.new ≡ shared.old }
+{
+    if let Some(sheet) = shared.take_sheet() {
+        return Some(sheet);
+    }
+    if let Some(sheet) = tray.take_drawn() {
+        return Some(sheet);
+    }
+    tray.take_back()
+}
+
+/// Draws the next line of a scene, or takes it from a sheet of lines that were drawn ahead.
+fn draw_line(chip: &mut ChipVdp, sheet: Option<&Sheet>, scene: &Scene)
+    requires view { chip.old.has_view ≡ true }
+    requires region { (seen scene.now).pal ≡ chip.old.pal }
+    requires sheet { IfSome sheet (λ s. s.now.view ≡ record (seen scene.now) { pal = s.now.view.pal }) }
+    requires cycle { chip.old.next < 2 ^ 50 }
+    ensures { chip.new ≡ record (lines.drawn_from (lines.told_view chip.old.next (seen scene.now)) (record chip.old { has_view = false })) { has_view = true } }
+{
+    if let Some(sheet) = sheet {
+        if place_ahead(chip, sheet) {
+            return;
+        }
+    }
+    draw_straight(chip, scene);
+}
+
+/// Takes the next line from a sheet, if it was drawn there; answers whether it was.
+fn place_ahead(chip: &mut ChipVdp, sheet: &Sheet) -> bool
+    requires view { chip.old.has_view ≡ true }
+    requires cycle { chip.old.next < 2 ^ 50 }
+    ensures placed { result ≡ true → sheet.now.view.pal ≡ chip.old.pal }
+    ensures drawn { result ≡ true → chip.new ≡ record (lines.drawn_from (lines.told_view chip.old.next sheet.now.view) (record chip.old { has_view = false })) { has_view = true } }
+    ensures not { result ≡ false → chip.new ≡ chip.old }
+{
+    let line = line_of(chip.next().key.cycle, chip.pal());
+    if !sheet.has(line, chip.pal()) {
+        return false;
+    }
+    chip.place_line(sheet.row(line), sheet.note(line));
+    true
+}
+
 /// Draws the next line straight from a scene: the view stays where it is.
 #[tactic(auto, using(crate::specs::LineLaws::straight_drawn))]
 fn draw_straight(chip: &mut ChipVdp, scene: &Scene)
@@ -180,22 +301,4 @@ fn draw_straight(chip: &mut ChipVdp, scene: &Scene)
     let line = line_of(chip.next().key.cycle, chip.pal());
     let note = draw_line_sprites(scene, line, &mut dots);
     chip.draw_line(scene, &dots, note);
-}
-
-/// Draws the sprites of a line of the display over clear dots: what they set. Behind the display nothing
-/// is drawn or set.
-#[tactic(auto, unfolding(crate::specs::Lines::note_on))]
-fn draw_line_sprites(scene: &Scene, line: u32, dots: &mut [Dot; 320]) -> SpriteNote
-    requires { AllColours dots.old }
-    ensures note { result ≡ lines.note_on line (seen scene.now) }
-    ensures dots { line < display_height (seen scene.now) → (x : ℕ) → x < 320 → dot_at dots.new x ≡ sprite_dot (seen scene.now) line x }
-    ensures colours { AllColours dots.new }
-{
-    if line < scene.height() {
-        return draw_sprites(scene, line, dots);
-    }
-    SpriteNote {
-        overflow: false,
-        collision: false,
-    }
 }

@@ -5,7 +5,7 @@ use Rattle.bus_shared.specs.Board.{Board}
 use Rattle.md_machine.specs.Machines.{IsMachine, core_held, machine_at}
 use Rattle.md_machine.specs.declared.chips.Chip.{Chip}
 use Rattle.md_machine.proofs.Recorded.{machine-still, machine_with, value-with}
-use Rattle.md_machine.proofs.machine.Machine.set_recording.Goals.{in-Some-1, in-None-2}
+use Rattle.md_machine.proofs.machine.Machine.set_recording.Goals.{in-Some-1, in-None-3}
 use Rattle.md_machine.proofs.machine.Machine.set_recording.Goals as goal
 
 pub invariant_of-self-in-Some-2 : goal.invariant_of-self-in-Some-2
@@ -22,5 +22,5 @@ returns-in-Some c =
     ∙ ap (machine_with (arc_value c.args.recording)) c.self.view_is in
     elim c.match-self.branch [
       | in-Some-1 w ↦ w.self-is ∙ went
-      | in-None-2 w ↦ w.self-is ∙ went
+      | in-None-3 w ↦ w.self-is ∙ went
     ]
