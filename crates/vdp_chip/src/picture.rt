@@ -33,7 +33,7 @@ fn draw_planes(scene: &Scene, line: u32, a: &mut [Dot; 320], b: &mut [Dot; 320])
     ensures colours { AllColours a.new }
     ensures others { AllColours b.new }
 {
-    if scene.registers[MODE_2] / 64 % 2 == 1 {
+    if scene.is_shown() {
         draw_plane(scene, line, false, a);
         draw_plane(scene, line, true, b);
     }

@@ -5,7 +5,7 @@ ghost use Rattle.vdp_planes.specs.Mixing.{IsSpan, back_at, backdrop, backdrop_by
 
 use crate::colours::{Rgb, Shade, fill_shown, rgb_of};
 use crate::mix::{index_of, shaded, unshaded};
-use crate::register::{BACKDROP, MODE_2, MODE_4};
+use crate::register::{BACKDROP, MODE_4};
 use crate::view::{Dot, LineView, Scene};
 use crate::window::width_of;
 
@@ -31,7 +31,7 @@ pub fn mix_dots(scene: &Scene, a: &[Dot; 320], b: &[Dot; 320], s: &[Dot; 320], r
     requires room { length rgb.old ≡ 960 }
     ensures { (n : ℕ) → n < 960 → slice_index rgb.new n ≡ line_byte (seen scene.now) a.now b.now s.now n }
 {
-    if scene.registers[MODE_2] / 64 % 2 == 1 {
+    if scene.is_shown() {
         mix_shown(scene, a, b, s, rgb);
     } else {
         fill_row(scene, rgb);
@@ -86,7 +86,7 @@ fn mix_shown(scene: &Scene, a: &[Dot; 320], b: &[Dot; 320], s: &[Dot; 320], rgb:
 fn span_of(scene: &Scene) -> (usize, usize)
     ensures { IsSpan (seen scene.now) result.0 result.1 }
 {
-    if scene.registers[MODE_2] / 64 % 2 == 0 {
+    if !scene.is_shown() {
         return (0, 0);
     }
     if scene.registers[MODE_4] % 2 == 1 {

@@ -1,7 +1,8 @@
 ghost use Rattle.std.specs.Prelude.{◌≡◌, ◌<◌, ◌≤◌, ◌%◌};
-ghost use Rattle.vdp_planes.specs.View.{display_height, seen, view_of};
+ghost use Rattle.vdp_planes.specs.View.{display_height, has_bit, register, seen, view_of};
 ghost use Rattle.vdp_planes.specs.Dots.{dot_of, word_of};
 
+use crate::register::MODE_2;
 use md_word::region::height;
 use std::marker::Model;
 use vdp_ports::VdpState;
@@ -153,6 +154,14 @@ impl<'a> Scene<'a> {
         ensures few { result ≤ 240 }
     {
         height(self.pal && self.tall)
+    }
+
+    /// Whether the display is on.
+    #[inline]
+    pub fn is_shown(&self) -> bool
+        ensures { result ≡ has_bit (register (seen self.now) 1) 64 }
+    {
+        self.registers[MODE_2] / 64 % 2 == 1
     }
 }
 
