@@ -12,7 +12,7 @@ use vdp_planes::SpriteNote;
 fn with_sheet(alloc: Global) -> Result<Shared, Fail> {
     let mut shared = board(alloc)?;
     let mut sheet = Sheet::blank(alloc).map_err(|_| Fail::from("no memory"))?;
-    shared.begin_sheet(&mut sheet, false, 88);
+    shared.begin_sheet(&mut sheet, false, 88, 240);
     shared.lay_sheet(sheet);
     Ok(shared)
 }

@@ -1,6 +1,6 @@
 -- What a picture is drawn from of the VDP stays where no fill or copy goes on.
 use Rattle.std.proofs.Common.{◌≡◌, ◌∙◌, refl, ap, sym, ℕ, ◌==◌, nat_lt, Bool, true, false, if◌then◌else◌, Option, Some, None}
-use Rattle.vdp_ports.specs.Vdp.{Vdp, register}
+use Rattle.vdp_ports.specs.Vdp.{Vdp}
 use Rattle.vdp_ports.specs.Control.{acknowledged, status_read}
 use Rattle.vdp_ports.specs.Data.{accessed}
 use Rattle.vdp_dma.specs.Settling.{due, settled, writes}

@@ -138,12 +138,13 @@ impl Shared {
         self.vdp.pal
     }
 
-    /// Begins a sheet of lines of a picture of a region, from this one on, with the VDP as it stands.
-    pub fn begin_sheet(&self, sheet: &mut Sheet, pal: bool, from: u32)
+    /// Begins a sheet of the lines of a picture of a region from one on and below another, with the VDP as it
+    /// stands.
+    pub fn begin_sheet(&self, sheet: &mut Sheet, pal: bool, from: u32, until: u32)
         requires { from ≤ 240 }
-        ensures { sheet.new ≡ record { view = view_of pal self.now.vdp; from = from; to = from } }
+        ensures { sheet.new ≡ record { view = view_of pal self.now.vdp; from = from; to = from; until = until } }
     {
-        sheet.begin(&self.vdp, pal, from);
+        sheet.begin(&self.vdp, pal, from, until);
     }
 
     /// Lays a sheet on the board. It is of use as long as the VDP is what the sheet shows of it.

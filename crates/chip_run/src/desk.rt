@@ -452,8 +452,8 @@ impl<C: ChipSet, N: Named, L0: Ledger, L1: Ledger, L2: Ledger, L3: Ledger, L4: L
         }
     }
 
-    /// Looks for an errand for a while, and runs it, as long as the run has not ended: from there the leader
-    /// waits for the helper.
+    /// Looks for an errand for a while, and runs it and those that lie there then, as long as the run has not
+    /// ended: from there the leader waits for the helper.
     ///
     /// No end is missed: the run is marked as ended before that is counted as a change, and a helper reads the
     /// count before the mark.
@@ -463,9 +463,12 @@ impl<C: ChipSet, N: Named, L0: Ledger, L1: Ledger, L2: Ledger, L3: Ledger, L4: L
             return;
         }
         self.look(seen, errands, LAST_LOOKS);
-        if !self.ended.load(Ordering::SeqCst) {
-            run_errand::<C, R>(rt, errands);
+        for _ in rt.forever() {
+            if self.ended.load(Ordering::SeqCst) || !run_errand::<C, R>(rt, errands) {
+                return;
+            }
         }
+        unreachable!()
     }
 
     /// Tells all helpers that no more work comes, where the work of no held chip is dear.

@@ -1,3 +1,4 @@
+pub(crate) mod ahead;
 pub(crate) mod draw;
 pub(crate) mod fm;
 pub(crate) mod main;

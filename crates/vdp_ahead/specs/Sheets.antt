@@ -4,11 +4,12 @@ use Rattle.vdp_planes.specs.declared.view.LineView.{LineView}
 use Rattle.vdp_planes.specs.declared.view.SpriteNote.{SpriteNote}
 use Rattle.vdp_ahead.specs.Lines.{note_on, row_on}
 
--- the view, the first line, and the first behind it that is not drawn
+-- the view, the first line, the first behind it that is not drawn, and the one below which lines are to be drawn
 pub record SheetValue : Type 0 where
   pub view : LineView
   pub from : ℕ
   pub to : ℕ
+  pub until : ℕ
 
 -- nothing set
 abbrev pub no_note : SpriteNote

@@ -7,21 +7,20 @@ use crate::line::draw_line;
 use md_word::NoMemory;
 use std::alloc::Global;
 use std::marker::Model;
+use vdp_chip::ROW;
 use vdp_planes::{LineView, SpriteNote, fill_view};
 use vdp_ports::VdpState;
-
-/// Bytes of a row: red, green and blue of 320 dots.
-const ROW: usize = 960;
 
 /// The rows of a picture at most.
 const ROWS: usize = 240;
 
-/// Lines of a picture from one on, with the view that they are drawn from: some 300 KB.
+/// Lines of a picture from one to another, with the view that they are drawn from: some 300 KB.
 #[derive(Drop)]
 pub struct Sheet {
     view: LineView,
     from: u32,
     to: u32,
+    until: u32,
     rows: [[u8; ROW]; ROWS],
     notes: [SpriteNote; ROWS],
 }
@@ -31,9 +30,9 @@ impl Model for Sheet {
 
     ghost Value = { SheetValue };
 
-    ghost view = { λ s. record { view = s.view; from = s.from; to = s.to } };
+    ghost view = { λ s. record { view = s.view; from = s.from; to = s.to; until = s.until } };
 
-    ghost invariant = { λ s. AreDrawn (record { view = s.view; from = s.from; to = s.to }) s.rows s.notes };
+    ghost invariant = { λ s. AreDrawn (record { view = s.view; from = s.from; to = s.to; until = s.until }) s.rows s.notes };
 }
 
 impl Sheet {
@@ -50,6 +49,7 @@ impl Sheet {
             },
             from: 0,
             to: 0,
+            until: 0,
             rows: [[0; ROW]; ROWS],
             notes: [SpriteNote {
                 overflow: false,
@@ -62,14 +62,15 @@ impl Sheet {
         }
     }
 
-    /// Takes the VDP's registers and memories as they stand, for lines of a picture of a region from this one
-    /// on, of which none is drawn yet: a copy of 64 KiB.
-    pub fn begin(&mut self, state: &VdpState, pal: bool, from: u32)
+    /// Takes the VDP's registers and memories as they stand, for the lines of a picture of a region from one
+    /// on and below another, of which none is drawn yet: a copy of 64 KiB.
+    pub fn begin(&mut self, state: &VdpState, pal: bool, from: u32, until: u32)
         requires { from ≤ 240 }
-        ensures { self.new ≡ record { view = view_of pal state.now; from = from; to = from } }
+        ensures { self.new ≡ record { view = view_of pal state.now; from = from; to = from; until = until } }
     {
         self.from = from;
         self.to = from;
+        self.until = until;
         self.view.pal = pal;
         fill_view(&mut self.view, state);
     }
@@ -87,12 +88,12 @@ impl Sheet {
         self.to = line + 1;
     }
 
-    /// Draws the lines of the display that are not drawn.
+    /// Draws the lines of the display that the sheet is for and that are not drawn.
     pub fn draw(&mut self)
-        ensures view { self.new.view ≡ self.old.view }
-        ensures from { self.new.from ≡ self.old.from }
+        ensures same { self.new ≡ record self.old { to = self.new.to } }
+        ensures all { (y : ℕ) → y < self.old.until → y < display_height self.old.view → y < self.new.to }
     {
-        let end = self.view.scene().height();
+        let end = self.view.scene().height().min(self.until);
         for _ in self.to..end {
             self.draw_next();
         }
@@ -100,7 +101,8 @@ impl Sheet {
 
     /// Whether the VDP is what the view shows of it.
     pub fn is_of(&self, state: &VdpState) -> bool
-        ensures { result ≡ true → self.now.view ≡ view_of self.now.view.pal state.now }
+        ensures same { result ≡ true → self.now.view ≡ view_of self.now.view.pal state.now }
+        ensures found { self.now.view ≡ view_of self.now.view.pal state.now → result ≡ true }
     {
         self.view.tall == state.tall
             && self.view.registers == state.registers
@@ -114,6 +116,7 @@ impl Sheet {
         ensures region { result ≡ true → self.now.view.pal ≡ pal }
         ensures from { result ≡ true → self.now.from ≤ line }
         ensures to { result ≡ true → line < self.now.to }
+        ensures found { self.now.view.pal ≡ pal → self.now.from ≤ line → line < self.now.to → result ≡ true }
     {
         self.view.pal == pal && self.from <= line && line < self.to
     }

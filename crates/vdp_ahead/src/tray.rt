@@ -1,26 +1,13 @@
-use crate::Sheet;
+use crate::Place;
+use std::sync::Wait;
 use std::sync::atomic::{AtomicBool, Ordering};
-use std::sync::{Mutex, Wait};
 
-/// The sheets that lie on the tray.
-#[derive(Drop)]
-struct Laid {
-    /// To be drawn.
-    asked: Option<Box<Sheet>>,
-    /// Drawn.
-    drawn: Option<Box<Sheet>>,
-}
-
-/// Where a sheet of lines goes to the one who draws, and comes back.
-///
-/// The one who asks never waits: where the other has the tray, it goes without.
+/// Where sheets of lines go to the one who draws, and come back: two, so that the lines of the one may be shown
+/// while those of the other are drawn.
 #[derive(Drop)]
 pub struct Tray {
-    laid: Mutex<Laid>,
-    /// Whether a sheet to be drawn lies here.
-    asked: AtomicBool,
-    /// Whether a drawn sheet does.
-    drawn: AtomicBool,
+    first: Place,
+    second: Place,
     /// Whether anyone has looked for a sheet to draw.
     watched: AtomicBool,
 }
@@ -29,14 +16,22 @@ impl Tray {
     /// An empty tray.
     pub fn new() -> Tray {
         Tray {
-            laid: Mutex::new(Laid {
-                asked: None,
-                drawn: None,
-            }),
-            asked: AtomicBool::new(false),
-            drawn: AtomicBool::new(false),
+            first: Place::new(),
+            second: Place::new(),
             watched: AtomicBool::new(false),
         }
+    }
+
+    /// The place of the sheet that is drawn first.
+    #[inline]
+    pub fn first(&self) -> &Place {
+        &self.first
+    }
+
+    /// The place of the other one.
+    #[inline]
+    pub fn second(&self) -> &Place {
+        &self.second
     }
 
     /// Whether a sheet to be drawn lies here, for one who draws.
@@ -45,7 +40,7 @@ impl Tray {
         if !self.is_watched() {
             self.watched.store(true, Ordering::SeqCst);
         }
-        self.is_asked()
+        self.first.is_asked() || self.second.is_asked()
     }
 
     /// Whether anyone has ever looked for a sheet to draw.
@@ -54,70 +49,10 @@ impl Tray {
         self.watched.load(Ordering::SeqCst)
     }
 
-    /// Whether a sheet to be drawn lies here.
-    #[inline]
-    fn is_asked(&self) -> bool {
-        self.asked.load(Ordering::SeqCst)
-    }
-
-    /// Lays down a sheet to be drawn. It comes back where the tray cannot be had at once.
-    pub fn ask(&self, sheet: Box<Sheet>) -> Option<Box<Sheet>> {
-        let Some(mut guard) = self.laid.try_lock() else {
-            return Some(sheet);
-        };
-        let laid = &mut *guard;
-        laid.asked = Some(sheet);
-        self.asked.store(true, Ordering::SeqCst);
-        None
-    }
-
-    /// Takes the sheet that was drawn, if one lies here and can be had at once.
-    pub fn take_drawn(&self) -> Option<Box<Sheet>> {
-        if !self.drawn.load(Ordering::SeqCst) {
-            return None;
-        }
-        let Some(mut guard) = self.laid.try_lock() else {
-            return None;
-        };
-        let laid = &mut *guard;
-        self.drawn.store(false, Ordering::SeqCst);
-        laid.drawn.take()
-    }
-
-    /// Takes the sheet that is still to be drawn, if one lies here and can be had at once.
-    pub fn take_back(&self) -> Option<Box<Sheet>> {
-        if !self.is_asked() {
-            return None;
-        }
-        let Some(mut guard) = self.laid.try_lock() else {
-            return None;
-        };
-        let laid = &mut *guard;
-        self.asked.store(false, Ordering::SeqCst);
-        laid.asked.take()
-    }
-
-    /// Takes the sheet that is to be drawn, if one lies here.
-    fn begin<R: Wait>(&self, rt: &R) -> Option<Box<Sheet>> {
-        let mut guard = self.laid.lock(rt);
-        let laid = &mut *guard;
-        self.asked.store(false, Ordering::SeqCst);
-        laid.asked.take()
-    }
-
-    /// Lays down a sheet that was drawn.
-    fn end<R: Wait>(&self, rt: &R, sheet: Box<Sheet>) {
-        let mut guard = self.laid.lock(rt);
-        let laid = &mut *guard;
-        laid.drawn = Some(sheet);
-        self.drawn.store(true, Ordering::SeqCst);
-    }
-
-    /// Draws the lines of the sheet that is to be drawn, if one lies here.
+    /// Draws the lines of the first sheet that is to be drawn, if one lies here.
     pub fn draw<R: Wait>(&self, rt: &R) {
-        if let Some(mut sheet) = self.begin(rt) {
-            sheet.draw();
-            self.end(rt, sheet);
+        if !self.first.draw(rt) {
+            self.second.draw(rt);
         }
     }
 }

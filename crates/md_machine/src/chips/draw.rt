@@ -5,6 +5,7 @@ ghost use Rattle.vdp_planes.specs.View.{seen};
 ghost use Rattle.md_machine.specs.Lines as lines;
 ghost use Rattle.md_machine.specs.Rules as rules;
 
+use crate::chips::ahead::Ahead;
 use bus_shared::{Request, Shared, carry_out, start_line};
 use md_word::{Entry, Next, NoMemory};
 use std::alloc::Global;
@@ -12,13 +13,8 @@ use std::marker::Model;
 use std::sync::Arc;
 use vdp_ahead::{Sheet, Tray, draw_line_sprites};
 use vdp_chip::{ChipVdp, clear_dots};
-use vdp_planes::register::MODE_2;
 use vdp_planes::{LineView, Scene, SpriteNote};
 use vdp_time::line_of;
-
-/// The first line that is drawn ahead of its event, where a helper draws some: by then the lines before it give
-/// the helper the time to draw the rest.
-const AHEAD: u32 = 88;
 
 /// The drawing half of the VDP, chip 2: an access at each line. Between the two halves of an access it
 /// keeps the view that the board has filled.
@@ -26,11 +22,8 @@ const AHEAD: u32 = 88;
 pub struct DrawChip {
     chip: ChipVdp,
     view: Option<Box<LineView>>,
-    /// Where a sheet of lines goes to be drawn ahead, and comes back.
-    tray: Arc<Tray>,
-    /// Whether there is a sheet, whose memory is asked for once somebody has looked for one.
-    has_sheet: bool,
-    alloc: Global,
+    /// Lines that are drawn ahead of their events.
+    ahead: Ahead,
 }
 
 impl Model for DrawChip {
@@ -55,9 +48,7 @@ impl DrawChip {
         Ok(DrawChip {
             chip: ChipVdp::power_on(alloc, pal)?,
             view: None,
-            tray: Arc::new(alloc, Tray::new())?,
-            has_sheet: false,
-            alloc,
+            ahead: Ahead::new(alloc)?,
         })
     }
 
@@ -71,9 +62,7 @@ impl DrawChip {
         Ok(DrawChip {
             chip,
             view: None,
-            tray: Arc::new(alloc, Tray::new())?,
-            has_sheet: false,
-            alloc,
+            ahead: Ahead::new(alloc)?,
         })
     }
 
@@ -128,50 +117,21 @@ impl DrawChip {
             None => {
                 let key = self.chip.next().key;
                 let entry = start_line(shared, key, self.chip.note());
-                if self.tray.is_watched() {
-                    self.exchange(key.cycle, shared);
-                }
                 let pal = self.chip.pal();
-                draw_line(&mut self.chip, shared.sheet(), &shared.scene(pal));
+                if self.ahead.is_watched() {
+                    self.ahead.exchange(line_of(key.cycle, pal), pal, shared);
+                }
+                if draw_line(&mut self.chip, shared.sheet(), &shared.scene(pal)) {
+                    self.ahead.was_of_use();
+                }
                 entry
             }
         }
     }
 
-    /// With the first line of a picture asks for later lines to be drawn ahead; with the others takes the sheet
-    /// back that was drawn, and lays it on the board.
-    fn exchange(&mut self, cycle: u64, shared: &mut Shared)
-        ensures chip { self.new ≡ self.old }
-        ensures shared { shared.new ≡ shared.old }
-    {
-        let pal = self.chip.pal();
-        if line_of(cycle, pal) > 0 {
-            if let Some(sheet) = self.tray.take_drawn() {
-                shared.lay_sheet(sheet);
-            }
-        } else if is_shown(&shared.scene(pal)) {
-            self.make_sheet(shared);
-            ask(&self.tray, pal, shared);
-        }
-    }
-
-    /// Lays a new sheet on the board, if there is none yet and there is memory for one.
-    fn make_sheet(&mut self, shared: &mut Shared)
-        ensures chip { self.new ≡ self.old }
-        ensures shared { shared.new ≡ shared.old }
-    {
-        if self.has_sheet {
-            return;
-        }
-        if let Ok(sheet) = Sheet::blank(self.alloc) {
-            shared.lay_sheet(sheet);
-            self.has_sheet = true;
-        }
-    }
-
-    /// Where a sheet of lines goes to be drawn ahead, for one who draws.
+    /// Where sheets of lines go to be drawn ahead, for one who draws.
     pub(crate) fn tray(&self) -> Option<Arc<Tray>> {
-        self.tray.clone().ok()
+        self.ahead.tray()
     }
 
     pub(crate) fn chip(&self) -> &ChipVdp
@@ -227,38 +187,9 @@ fn draw_lent(chip: &mut ChipVdp, view: Box<LineView>)
     chip.answer_with(view, &dots, note);
 }
 
-/// Whether the display is on.
-fn is_shown(scene: &Scene) -> bool {
-    scene.registers[MODE_2] / 64 % 2 == 1
-}
-
-/// Asks for the later lines of a picture, to be drawn from the VDP as it stands, unless the sheet is away.
-fn ask(tray: &Tray, pal: bool, shared: &mut Shared)
-    ensures { shared.new ≡ shared.old }
-{
-    if let Some(mut sheet) = idle_sheet(tray, shared) {
-        shared.begin_sheet(&mut sheet, pal, AHEAD);
-        if let Some(sheet) = tray.ask(sheet) {
-            shared.lay_sheet(sheet);
-        }
-    }
-}
-
-/// The sheet of an earlier picture, unless its lines are being drawn.
-fn idle_sheet(tray: &Tray, shared: &mut Shared) -> Option<Box<Sheet>>
-    ensures { shared.new ≡ shared.old }
-{
-    if let Some(sheet) = shared.take_sheet() {
-        return Some(sheet);
-    }
-    if let Some(sheet) = tray.take_drawn() {
-        return Some(sheet);
-    }
-    tray.take_back()
-}
-
-/// Draws the next line of a scene, or takes it from a sheet of lines that were drawn ahead.
-fn draw_line(chip: &mut ChipVdp, sheet: Option<&Sheet>, scene: &Scene)
+/// Draws the next line of a scene, or takes it from a sheet of lines that were drawn ahead; answers whether it
+/// was taken.
+fn draw_line(chip: &mut ChipVdp, sheet: Option<&Sheet>, scene: &Scene) -> bool
     requires view { chip.old.has_view ≡ true }
     requires region { (seen scene.now).pal ≡ chip.old.pal }
     requires sheet { IfSome sheet (λ s. s.now.view ≡ record (seen scene.now) { pal = s.now.view.pal }) }
@@ -267,10 +198,11 @@ fn draw_line(chip: &mut ChipVdp, sheet: Option<&Sheet>, scene: &Scene)
 {
     if let Some(sheet) = sheet {
         if place_ahead(chip, sheet) {
-            return;
+            return true;
         }
     }
     draw_straight(chip, scene);
+    false
 }
 
 /// Takes the next line from a sheet, if it was drawn there; answers whether it was.
