@@ -4,7 +4,7 @@ use crate::sessions::{End, expect_ends, left, refuse};
 use std::test::Fail;
 
 /// Two sources at no fault, and one whose branch is out of reach.
-static SOURCES: [File; 3] = [
+static SOURCES: [File<'static>; 3] = [
     (
         "A",
         b"dc.w $00ff,$f000,$0000,$0200\norg $100\ndc.w $5345,$4741\norg $200\nstart: move.b #$90,$00c00011.l\nbra.b start",

@@ -9,7 +9,7 @@ const HEAD: &[u8; 56] = b"Vgm \0\0\0\0\x50\x01\0\0\
     \0\0\0\0\0\0\0\0\0\0\0\0\0\0\0\0\0\0\0\0\x04\0\0\0";
 
 /// A journal whose second entry is cut short, and VGM files that are too dense and too long.
-static INPUTS: [File; 3] = [
+static INPUTS: [File<'static>; 3] = [
     ("E", b"\0\0\0\0\0\0\0\0\x02\x0a\0\0\0\0\0\0\0", b"", 0),
     ("D", HEAD, b"\x50\x9f", 1_025),
     ("L", HEAD, b"\x61\xff\xff", 404),

@@ -37,8 +37,10 @@ const FRONT: &[u8] = b"cycles 0 to 10752480\nframes 12\nsamples 10656\naccesses 
 fn every_number_of_workers_puts_the_same_text(rt: HostRuntime) -> Result<(), Fail> {
     let first = text_with(&rt, rt.alloc(), 1)?;
     assert!(rt; first.starts_with(FRONT));
-    for workers in [1, 2, 5] {
-        assert!(rt; text_with(&rt, rt.alloc(), workers)? == first, "{workers}");
+    for workers in [1u32, 2, 5] {
+        if text_with(&rt, rt.alloc(), workers)? != first {
+            return Err(Fail::from(workers));
+        }
     }
     Ok(())
 }
@@ -60,10 +62,9 @@ static REFUSED: [(&str, u8, &str); 2] = [
 #[test]
 fn ends_out_of_range_are_refused(rt: HostRuntime) -> Result<(), Fail> {
     for (words, status, line) in &REFUSED {
-        assert!(rt;
-            demo(&rt, rt.alloc(), words)?.is_left(*status, line),
-            "{words}"
-        );
+        if !demo(&rt, rt.alloc(), words)?.is_left(*status, line) {
+            return Err(Fail::from(*words));
+        }
     }
     Ok(())
 }

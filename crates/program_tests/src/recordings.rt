@@ -47,49 +47,42 @@ fn is_told(alloc: Global, recording: &[u8], wanted: u8, line: &str) -> Result<bo
     Ok(outside.is_left(wanted, line) && begun == (wanted == 0))
 }
 
-/// The first of these recordings that gives another status or line.
-fn first_told_otherwise(
-    alloc: Global,
-    rows: &[(&[u8], u8, &str)],
-) -> Result<Option<usize>, AllocError> {
-    for (number, (recording, wanted, line)) in rows.iter().enumerate() {
-        if !is_told(alloc, recording, *wanted, line)? {
-            return Ok(Some(number));
-        }
-    }
-    Ok(None)
-}
-
 #[test]
 fn recordings_are_read_or_refused_at_their_place(rt: HostRuntime) -> Result<(), Fail> {
-    assert_eq!(rt; first_told_otherwise(rt.alloc(), &RECORDINGS)?, None);
+    for (number, (recording, wanted, line)) in RECORDINGS.iter().enumerate() {
+        if !is_told(rt.alloc(), recording, *wanted, line)? {
+            return Err(Fail::from(number));
+        }
+    }
     Ok(())
 }
 
-/// The length of the longest recording where it is not read, and of one with a byte more where that is not
-/// refused.
-fn first_wrong_length(alloc: Global) -> Result<Option<usize>, AllocError> {
-    let mut longer = vec![in alloc; 0u8; 4_194_319]?;
-    write_at(&mut longer, 0, b"MDREC002\0\0\0\x10\0\0");
-    let longest = longer.get(..4_194_318).unwrap_or(&[]);
-    if !is_told(alloc, longest, 0, LINES)? {
-        return Ok(Some(longest.len()));
-    }
-    if !is_told(alloc, &longer, 14, "refused: P is too long\n")? {
-        return Ok(Some(longer.len()));
-    }
-    Ok(None)
+/// The length of the longest recording, and that with a byte more, and the status and the line that they give.
+static LENGTHS: [(usize, u8, &str); 2] = [
+    (4_194_318, 0, LINES),
+    (4_194_319, 14, "refused: P is too long\n"),
+];
+
+/// Whether a recording of so many bytes gives that status and line.
+fn is_told_at(alloc: Global, length: usize, wanted: u8, line: &str) -> Result<bool, AllocError> {
+    let mut recording = vec![in alloc; 0u8; length]?;
+    write_at(&mut recording, 0, b"MDREC002\0\0\0\x10\0\0");
+    is_told(alloc, recording.as_slice(), wanted, line)
 }
 
 #[test]
 fn a_recording_has_a_greatest_length(rt: HostRuntime) -> Result<(), Fail> {
-    assert_eq!(rt; first_wrong_length(rt.alloc())?, None);
+    for (length, wanted, line) in &LENGTHS {
+        if !is_told_at(rt.alloc(), *length, *wanted, line)? {
+            return Err(Fail::from(*length));
+        }
+    }
     Ok(())
 }
 
 /// A cartridge `S` that is short, a recording `G`, one `P` that goes wrong at its eighth byte, and a file `Q` that is
 /// too long as either.
-static INPUTS: [File; 4] = [
+static INPUTS: [File<'static>; 4] = [
     ("S", b"SEGA", b"", 0),
     ("G", b"MDREC001\0\0\0\0", b"", 0),
     ("P", b"MDREC003\0\0\0\0", b"", 0),
@@ -169,7 +162,9 @@ fn is_heard(alloc: Global, words: &str, first: usize, last: usize) -> Result<boo
 #[test]
 fn a_tone_while_a_recorded_button_is_held(rt: HostRuntime) -> Result<(), Fail> {
     for (words, first, last) in &HEARD {
-        assert!(rt; is_heard(rt.alloc(), words, *first, *last)?, "{words}");
+        if !is_heard(rt.alloc(), words, *first, *last)? {
+            return Err(Fail::from(*words));
+        }
     }
     Ok(())
 }

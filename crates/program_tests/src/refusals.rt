@@ -1,5 +1,5 @@
 use crate::rows::{ROW, Row, all_right};
-use crate::runs::{Cart, Fails, IDLE, files_of, put_file};
+use crate::runs::{Cart, Fails, File, IDLE, depot_of};
 use crate::sessions::{End, expect_ends, hold};
 use md_outer::MemDepot;
 use std::alloc::{AllocError, Global};
@@ -17,10 +17,14 @@ const NO_MARK: Cart = Cart {
 
 /// A depot with the idle cartridge `Z` and files that are none: `A` is too short, `B` too long, and `C` has no mark.
 fn with_carts(alloc: Global) -> Result<MemDepot, AllocError> {
-    let mut files = files_of(alloc, &IDLE, &[("B", b"", b"\0", 4_194_305)])?;
-    put_file(&mut files, alloc, "A", SHORT.image(alloc)?)?;
-    put_file(&mut files, alloc, "C", NO_MARK.image(alloc)?)?;
-    MemDepot::new(alloc, files, 1 << 20, Vec::new(alloc), Vec::new(alloc))
+    let short = SHORT.image(alloc)?;
+    let no_mark = NO_MARK.image(alloc)?;
+    let files: [File<'_>; 3] = [
+        ("B", b"", b"\0", 4_194_305),
+        ("A", short.as_slice(), b"", 0),
+        ("C", no_mark.as_slice(), b"", 0),
+    ];
+    depot_of(alloc, &IDLE, &files)
 }
 
 // An end that is too far is refused before the cartridge is read, and one that is not above the
@@ -177,24 +181,23 @@ fn each_failing_read_and_write(rt: HostRuntime) -> Result<(), Fail> {
     all_right(rt.alloc(), &FAULTS)
 }
 
-/// The first piece of the lines that does not fail so.
-fn first_wrong_piece(alloc: Global) -> Result<Option<u64>, AllocError> {
-    for number in 0..14 {
-        let row = Row {
-            fails: Fails::Put(number),
-            status: 13,
-            ..RUN
-        };
-        if !row.is_right(alloc)? {
-            return Ok(Some(number));
-        }
-    }
-    Ok(None)
+/// Whether this piece of the lines fails so.
+fn fails_so(alloc: Global, number: u64) -> Result<bool, AllocError> {
+    let row = Row {
+        fails: Fails::Put(number),
+        status: 13,
+        ..RUN
+    };
+    row.is_right(alloc)
 }
 
 // The four lines of a run are put in fourteen pieces, of which those before the failing one were put.
 #[test]
 fn each_failing_piece_of_the_lines(rt: HostRuntime) -> Result<(), Fail> {
-    assert_eq!(rt; first_wrong_piece(rt.alloc())?, None);
+    for number in 0..14 {
+        if !fails_so(rt.alloc(), number)? {
+            return Err(Fail::from(number));
+        }
+    }
     Ok(())
 }

@@ -27,15 +27,15 @@ static ORDERS: [&str; 3] = [
     "r 2 0|r 1 8|r 0 2|a|a|l 2 0|l 1 4|l 0 1|a|",
 ];
 
-/// The first of them that comes to something else than the first.
-fn first_other(alloc: Global) -> Result<Option<&'static str>, AllocError> {
+/// Fails with the first of them that comes to something else than the first.
+fn expect_one_state(alloc: Global) -> Result<(), Fail> {
     let first = told_by_script(alloc, WORDS, ORDERS[0])?;
     for inputs in &ORDERS {
         if told_by_script(alloc, WORDS, inputs)? != first {
-            return Ok(Some(*inputs));
+            return Err(Fail::from(*inputs));
         }
     }
-    Ok(None)
+    Ok(())
 }
 
 // Of the last one a frame is missing, in which player 2 is expected to hold on.
@@ -46,7 +46,7 @@ l 2 0|l 1 4|l 0 1|r 0 2|r 2 0|a|a|a -> 0 frames 3|confirmed 1|..
 
 #[test]
 fn orders_come_to_one_state(rt: HostRuntime) -> Result<(), Fail> {
-    assert_eq!(rt; first_other(rt.alloc())?, None);
+    expect_one_state(rt.alloc())?;
     hold_scripts(rt.alloc(), WORDS, FRAMES)
 }
 
@@ -72,7 +72,7 @@ fn the_first_refused_line_ends_a_session(rt: HostRuntime) -> Result<(), Fail> {
     hold_scripts(rt.alloc(), WORDS, REFUSED)
 }
 
-static INPUTS: [File; 1] = [("I", b"a\n", b"", 0)];
+static INPUTS: [File<'static>; 1] = [("I", b"a\n", b"", 0)];
 
 const MISSING: &str = "
 rollback N I --window 4 -> 3 fault: reading N|
@@ -88,11 +88,18 @@ fn a_session_needs_both_files(rt: HostRuntime) -> Result<(), Fail> {
 /// Lines, and the status that they come to where no text can be put.
 static UNHEARD: [(&[u8], u8); 2] = [(b"a\n", 13), (b"b\n", 18)];
 
+/// The status that lines come to where no text can be put.
+fn status_unheard(alloc: Global, inputs: &[u8]) -> Result<u8, AllocError> {
+    let outside = answer(alloc, WORDS, &IDLE, "S", inputs, Fails::Put(0))?;
+    Ok(outside.status)
+}
+
 #[test]
 fn an_answer_that_cannot_be_put(rt: HostRuntime) -> Result<(), Fail> {
     for (inputs, status) in &UNHEARD {
-        let outside = answer(rt.alloc(), WORDS, &IDLE, "S", inputs, Fails::Put(0))?;
-        assert!(rt; outside.status == *status, "{status}");
+        if status_unheard(rt.alloc(), inputs)? != *status {
+            return Err(Fail::from(*status));
+        }
     }
     Ok(())
 }

@@ -64,14 +64,14 @@ pub(crate) fn words_of(alloc: Global, text: &str) -> Result<Vec<String>, AllocEr
     Ok(words)
 }
 
-/// Files: their names and their bytes.
-pub(crate) type Files = Vec<(String, Vec<u8>)>;
-
 /// A file: its name, its front, and what stands behind that so many times.
-pub(crate) type File = (&'static str, &'static [u8], &'static [u8], usize);
+pub(crate) type File<'a> = (&'a str, &'a [u8], &'a [u8], usize);
+
+/// Files: their names and their bytes.
+type Files = Vec<(String, Vec<u8>)>;
 
 /// Adds a file.
-pub(crate) fn put_file(
+fn put_file(
     files: &mut Files,
     alloc: Global,
     name: &str,
@@ -81,7 +81,7 @@ pub(crate) fn put_file(
     Ok(())
 }
 
-fn bytes_of(alloc: Global, file: &File) -> Result<Vec<u8>, AllocError> {
+fn bytes_of(alloc: Global, file: &File<'_>) -> Result<Vec<u8>, AllocError> {
     let (_, front, behind, times) = *file;
     let mut bytes = front.to_vec(alloc)?;
     for _time in 0..times {
@@ -90,13 +90,24 @@ fn bytes_of(alloc: Global, file: &File) -> Result<Vec<u8>, AllocError> {
     Ok(bytes)
 }
 
-/// A cartridge as `Z`, and further files.
-pub(crate) fn files_of(alloc: Global, cart: &Cart, files: &[File]) -> Result<Files, AllocError> {
-    let mut all = Vec::new(alloc);
-    put_file(&mut all, alloc, "Z", cart.image(alloc)?)?;
+/// Adds a cartridge as `Z`, and further files.
+fn put_files(
+    all: &mut Files,
+    alloc: Global,
+    cart: &Cart,
+    files: &[File<'_>],
+) -> Result<(), AllocError> {
+    put_file(all, alloc, "Z", cart.image(alloc)?)?;
     for file in files {
-        put_file(&mut all, alloc, file.0, bytes_of(alloc, file)?)?;
+        put_file(all, alloc, file.0, bytes_of(alloc, file)?)?;
     }
+    Ok(())
+}
+
+/// A cartridge as `Z`, and further files.
+fn files_of(alloc: Global, cart: &Cart, files: &[File<'_>]) -> Result<Files, AllocError> {
+    let mut all = Vec::new(alloc);
+    put_files(&mut all, alloc, cart, files)?;
     Ok(all)
 }
 
@@ -110,18 +121,52 @@ pub(crate) enum Fails {
 }
 
 impl Fails {
-    fn lists(self, alloc: Global) -> Result<(Vec<u64>, Vec<u64>, Vec<u64>), AllocError> {
-        let mut fetches = Vec::new(alloc);
-        let mut writes = Vec::new(alloc);
-        let mut puts = Vec::new(alloc);
+    /// The numbers of a fetch, of a begin or append and of a put that fails.
+    fn numbers(self) -> [Option<u64>; 3] {
         match self {
-            Fails::Nothing => {}
-            Fails::Fetch(number) => fetches.push(number)?,
-            Fails::Write(number) => writes.push(number)?,
-            Fails::Put(number) => puts.push(number)?,
+            Fails::Nothing => [None, None, None],
+            Fails::Fetch(number) => [Some(number), None, None],
+            Fails::Write(number) => [None, Some(number), None],
+            Fails::Put(number) => [None, None, Some(number)],
         }
-        Ok((fetches, writes, puts))
     }
+}
+
+/// A list of a number, or of none.
+fn list_of(alloc: Global, number: Option<u64>) -> Result<Vec<u64>, AllocError> {
+    let mut list = Vec::new(alloc);
+    if let Some(number) = number {
+        list.push(number)?;
+    }
+    Ok(list)
+}
+
+/// A depot with a cartridge as `Z` and further files, of which a fetch, and a begin or append, may fail.
+fn depot_with(
+    alloc: Global,
+    cart: &Cart,
+    files: &[File<'_>],
+    fetch: Option<u64>,
+    write: Option<u64>,
+) -> Result<MemDepot, AllocError> {
+    let fetches = list_of(alloc, fetch)?;
+    let writes = list_of(alloc, write)?;
+    let files = files_of(alloc, cart, files)?;
+    MemDepot::new(alloc, files, 1 << 20, fetches, writes)
+}
+
+/// A depot with a cartridge as `Z` and further files, of which no call fails.
+pub(crate) fn depot_of(
+    alloc: Global,
+    cart: &Cart,
+    files: &[File<'_>],
+) -> Result<MemDepot, AllocError> {
+    depot_with(alloc, cart, files, None, None)
+}
+
+/// A stream of which a put may fail.
+pub(crate) fn sink_of(alloc: Global, put: Option<u64>) -> Result<MemSink, AllocError> {
+    MemSink::new(alloc, 1 << 16, list_of(alloc, put)?)
 }
 
 /// A depot and a stream, and the status that words came to.
@@ -133,12 +178,19 @@ pub(crate) struct Outside {
 }
 
 impl Outside {
-    /// A depot that holds these files, and a stream.
-    pub(crate) fn new(alloc: Global, files: Files, fails: Fails) -> Result<Outside, AllocError> {
-        let (fetches, writes, puts) = fails.lists(alloc)?;
+    /// A depot with a cartridge as `Z` and further files, and a stream.
+    pub(crate) fn new(
+        alloc: Global,
+        cart: &Cart,
+        files: &[File<'_>],
+        fails: Fails,
+    ) -> Result<Outside, AllocError> {
+        let [fetch, write, put] = fails.numbers();
+        let out = sink_of(alloc, put)?;
+        let depot = depot_with(alloc, cart, files, fetch, write)?;
         Ok(Outside {
-            depot: MemDepot::new(alloc, files, 1 << 20, fetches, writes)?,
-            out: MemSink::new(alloc, 1 << 16, puts)?,
+            depot,
+            out,
             status: 255,
         })
     }
@@ -174,10 +226,8 @@ pub(crate) fn answer(
     bytes: &[u8],
     fails: Fails,
 ) -> Result<Outside, AllocError> {
-    let mut files = files_of(alloc, cart, &[])?;
-    put_file(&mut files, alloc, name, bytes.to_vec(alloc)?)?;
-    let mut outside = Outside::new(alloc, files, fails)?;
     let words = words_of(alloc, words)?;
+    let mut outside = Outside::new(alloc, cart, &[(name, bytes, b"", 0)], fails)?;
     outside.status = drive_one(alloc, &words, &mut outside.depot, &mut outside.out);
     Ok(outside)
 }

@@ -3,8 +3,8 @@
 // A line has the words or the script, an arrow, and the status and the text that they come to. `|` is the end of a
 // line of a script or a text, and `~` the byte FFh of a script. A text may end in `..` for any rest, and in that and a
 // number for a rest of so many bytes.
-use crate::runs::{Cart, Fails, File, IDLE, answer, files_of, words_of};
-use md_outer::{MemDepot, MemSink};
+use crate::runs::{Cart, Fails, File, IDLE, answer, depot_of, sink_of, words_of};
+use md_outer::MemDepot;
 use md_top::drive_one;
 use std::alloc::{AllocError, Global};
 use std::test::Fail;
@@ -53,8 +53,8 @@ pub(crate) fn want(alloc: Global, line: &str, wanted: &str, told: &str) -> Resul
 
 /// What words come to with the files of a depot.
 fn told_by_words(alloc: Global, depot: &mut MemDepot, words: &str) -> Result<String, AllocError> {
-    let mut out = MemSink::new(alloc, 1 << 16, Vec::new(alloc))?;
     let words = words_of(alloc, words)?;
+    let mut out = sink_of(alloc, None)?;
     let status = drive_one(alloc, &words, depot, &mut out);
     told(alloc, status, out.bytes())
 }
@@ -74,17 +74,21 @@ pub(crate) fn hold(alloc: Global, depot: &mut MemDepot, table: &str) -> Result<(
 pub(crate) fn left(
     alloc: Global,
     cart: &Cart,
-    files: &[File],
+    files: &[File<'_>],
     table: &str,
 ) -> Result<MemDepot, Fail> {
-    let files = files_of(alloc, cart, files)?;
-    let mut depot = MemDepot::new(alloc, files, 1 << 20, Vec::new(alloc), Vec::new(alloc))?;
+    let mut depot = depot_of(alloc, cart, files)?;
     hold(alloc, &mut depot, table)?;
     Ok(depot)
 }
 
 /// The same where no line begins the file `W`.
-pub(crate) fn refuse(alloc: Global, cart: &Cart, files: &[File], table: &str) -> Result<(), Fail> {
+pub(crate) fn refuse(
+    alloc: Global,
+    cart: &Cart,
+    files: &[File<'_>],
+    table: &str,
+) -> Result<(), Fail> {
     if left(alloc, cart, files, table)?.file("W").is_some() {
         return Err(Fail::from("W is begun"));
     }

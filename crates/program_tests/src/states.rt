@@ -1,5 +1,5 @@
 // States that are saved and loaded, and which are refused.
-use crate::runs::{BEEP, Fails, Files, answer, files_of, put_file, write_at};
+use crate::runs::{BEEP, Cart, Fails, File, answer, depot_of, write_at};
 use crate::sessions::{End, Join, expect_ends, expect_joined, hold, left};
 use md_outer::MemDepot;
 use std::alloc::{AllocError, Global};
@@ -43,11 +43,11 @@ fn a_loaded_run_writes_the_rest(rt: HostRuntime) -> Result<(), Fail> {
     Ok(())
 }
 
-/// Bytes and one more.
-fn longer(alloc: Global, bytes: &[u8]) -> Result<Vec<u8>, AllocError> {
-    let mut longer = bytes.to_vec(alloc)?;
-    longer.push(0)?;
-    Ok(longer)
+/// The state of a run of a cartridge.
+fn saved(alloc: Global, cart: &Cart) -> Result<Vec<u8>, AllocError> {
+    let words = "run Z --cycles 16129 --save S";
+    let outside = answer(alloc, words, cart, "P", b"", Fails::Nothing)?;
+    outside.file("S").to_vec(alloc)
 }
 
 /// A state with another mark.
@@ -57,32 +57,27 @@ fn marked(alloc: Global, state: &[u8]) -> Result<Vec<u8>, AllocError> {
     Ok(marked)
 }
 
-/// A cartridge and one that is longer by a byte, and a file that is longer than any of a state may be.
-fn cartridges(alloc: Global) -> Result<Files, AllocError> {
-    let mut files = files_of(alloc, &BEEP, &[("Q", b"", b"\0", 2_097_153)])?;
-    let image = BEEP.image(alloc)?;
-    put_file(&mut files, alloc, "Y", longer(alloc, &image)?)?;
-    Ok(files)
-}
-
-/// The same, the state of a run as `S`, and beside it spoiled ones: `C` has another mark, `A` is a byte short, and
-/// `B` has a byte more.
-fn spoiled(alloc: Global, state: &[u8]) -> Result<Files, AllocError> {
-    let mut files = cartridges(alloc)?;
+/// A cartridge `Y` that is longer by a byte than its image, a file `Q` that is longer than any of a state may be, a
+/// state `S`, and beside it spoiled ones: `C` has another mark, `A` is a byte short, and `B` has a byte more.
+fn spoiled<'a>(image: &'a [u8], state: &'a [u8], marked: &'a [u8]) -> [File<'a>; 6] {
     let short = state.get(..393_619).unwrap_or(&[]);
-    put_file(&mut files, alloc, "A", short.to_vec(alloc)?)?;
-    put_file(&mut files, alloc, "B", longer(alloc, state)?)?;
-    put_file(&mut files, alloc, "C", marked(alloc, state)?)?;
-    put_file(&mut files, alloc, "S", state.to_vec(alloc)?)?;
-    Ok(files)
+    [
+        ("Q", b"", b"\0", 2_097_153),
+        ("Y", image, b"\0", 1),
+        ("A", short, b"", 0),
+        ("B", state, b"\0", 1),
+        ("C", marked, b"", 0),
+        ("S", state, b"", 0),
+    ]
 }
 
-/// A depot with them.
-fn with_states(alloc: Global) -> Result<MemDepot, AllocError> {
-    let words = "run Z --cycles 16129 --save S";
-    let saved = answer(alloc, words, &BEEP, "P", b"", Fails::Nothing)?;
-    let files = spoiled(alloc, saved.file("S"))?;
-    MemDepot::new(alloc, files, 1 << 20, Vec::new(alloc), Vec::new(alloc))
+/// A depot with a cartridge, the state of its run and the others.
+fn with_states(alloc: Global, cart: &Cart) -> Result<MemDepot, AllocError> {
+    let image = cart.image(alloc)?;
+    let state = saved(alloc, cart)?;
+    let marked = marked(alloc, state.as_slice())?;
+    let files = spoiled(image.as_slice(), state.as_slice(), marked.as_slice());
+    depot_of(alloc, cart, &files)
 }
 
 const REFUSALS: &str = "
@@ -99,7 +94,7 @@ run Y --cycles 16130 --load S -> 8 refused: state of another cartridge ..130
 
 #[test]
 fn states_are_refused_in_their_order(rt: HostRuntime) -> Result<(), Fail> {
-    let mut depot = with_states(rt.alloc())?;
+    let mut depot = with_states(rt.alloc(), &BEEP)?;
     hold(rt.alloc(), &mut depot, REFUSALS)?;
     assert!(rt; depot.file("W").is_none());
     Ok(())

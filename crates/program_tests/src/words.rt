@@ -4,55 +4,120 @@ use md_args::{CommandWords, DemoWords, RunWords, read_words};
 use std::alloc::{AllocError, Global};
 use std::test::Fail;
 
-/// What a name reads as, and a hyphen for none.
-fn name_of(name: Option<&str>) -> &str {
-    name.unwrap_or("-")
+/// A word of what was read: a name, a number, or none.
+#[derive(Clone, Copy)]
+enum Word<'a> {
+    Name(&'a str),
+    Number(u64),
+    Nothing,
 }
 
-fn region_of(pal: bool) -> &'static str {
-    if pal { " PAL" } else { "" }
+/// What a name reads as, and a hyphen for none.
+fn name_of<'a>(name: Option<&'a str>) -> Word<'a> {
+    Word::Name(name.unwrap_or("-"))
+}
+
+/// What PAL reads as where it is asked for.
+fn region_of<'a>(pal: bool) -> Word<'a> {
+    if pal {
+        Word::Name("PAL")
+    } else {
+        Word::Nothing
+    }
+}
+
+/// Three words.
+fn three<'a>(first: Word<'a>, second: Word<'a>, third: Word<'a>) -> [Word<'a>; 8] {
+    let none = Word::Nothing;
+    [first, second, third, none, none, none, none, none]
 }
 
 /// What was read of a run: the cartridge, its count and the names of the recording, of the frames file, of the sound
 /// file and of the journal, and how many workers make it, with PAL where it is asked for.
-fn told_run(alloc: Global, run: &RunWords<'_>) -> Result<String, AllocError> {
-    let recording = name_of(run.recording);
-    let frames = name_of(run.frames);
-    let mut told = format!(in alloc; "{} {} {recording} {frames}", run.rom, run.cycles)?;
-    let sound = name_of(run.sound);
-    let journal = name_of(run.journal);
-    let region = region_of(run.pal);
-    write!(&mut told, " {sound} {journal} {}{region}", run.workers)?;
-    Ok(told)
+fn run_of<'a>(run: &RunWords<'a>) -> [Word<'a>; 8] {
+    [
+        Word::Name(run.rom),
+        Word::Number(run.cycles),
+        name_of(run.recording),
+        name_of(run.frames),
+        name_of(run.sound),
+        name_of(run.journal),
+        Word::Number(u64::from(run.workers)),
+        region_of(run.pal),
+    ]
 }
 
 /// What was read of a run of a demonstration cartridge: its number, the count and the workers, with PAL where it is
 /// asked for.
-fn told_demo(alloc: Global, demo: &DemoWords) -> Result<String, AllocError> {
-    let region = region_of(demo.pal);
-    format!(in alloc; "{} {} {}{region}", demo.number, demo.cycles, demo.workers)
+fn demo_of<'a>(demo: &DemoWords) -> [Word<'a>; 8] {
+    let none = Word::Nothing;
+    let number = Word::Number(demo.number);
+    let cycles = Word::Number(demo.cycles);
+    let workers = Word::Number(u64::from(demo.workers));
+    [
+        number,
+        cycles,
+        workers,
+        region_of(demo.pal),
+        none,
+        none,
+        none,
+        none,
+    ]
 }
 
-/// What was read, as a text: of a cartridge its name; of a run and of one of a demonstration cartridge what is said
-/// above; of a conversion both names and whether PAL is asked for; of an assembly the names of the source, the image
-/// and the list; of a session of the debugger those of the cartridge and the script; of one of two players those of
-/// the cartridge and of what they press, and the window.
-fn told(alloc: Global, read: &CommandWords<'_>) -> Result<String, AllocError> {
+/// What was read: of a cartridge its name; of a run and of one of a demonstration cartridge what is said above; of a
+/// conversion both names and whether PAL is asked for; of an assembly the names of the source, the image and the list;
+/// of a session of the debugger those of the cartridge and the script; of one of two players those of the cartridge
+/// and of what they press, and the window.
+fn command_of<'a>(read: &CommandWords<'a>) -> [Word<'a>; 8] {
     match read {
-        CommandWords::Info(rom) => String::from_str(alloc, rom),
-        CommandWords::Run(run) => told_run(alloc, run),
-        CommandWords::Demo(demo) => told_demo(alloc, demo),
+        CommandWords::Info(rom) => three(Word::Name(*rom), Word::Nothing, Word::Nothing),
+        CommandWords::Run(run) => run_of(run),
+        CommandWords::Demo(demo) => demo_of(demo),
         CommandWords::Convert(words) => {
-            format!(in alloc; "{} {} {}", words.input, words.output, words.pal)
+            let pal = if words.pal { "true" } else { "false" };
+            three(
+                Word::Name(words.input),
+                Word::Name(words.output),
+                Word::Name(pal),
+            )
         }
         CommandWords::Assemble(words) => {
-            format!(in alloc; "{} {} {}", words.source, words.output, name_of(words.list))
+            let list = name_of(words.list);
+            three(Word::Name(words.source), Word::Name(words.output), list)
         }
-        CommandWords::Debug(words) => format!(in alloc; "{} {}", words.rom, words.script),
+        CommandWords::Debug(words) => {
+            three(
+                Word::Name(words.rom),
+                Word::Name(words.script),
+                Word::Nothing,
+            )
+        }
         CommandWords::Rollback(words) => {
-            format!(in alloc; "{} {} {}", words.rom, words.inputs, words.window)
+            let window = Word::Number(u64::from(words.window));
+            three(Word::Name(words.rom), Word::Name(words.inputs), window)
         }
     }
+}
+
+/// Adds a word, behind a space where another one stands before it.
+fn put_word(told: &mut String, word: Word<'_>) -> Result<(), AllocError> {
+    let space = if told.is_empty() { "" } else { " " };
+    match word {
+        Word::Name(name) => write!(told, "{space}{name}"),
+        Word::Number(number) => write!(told, "{space}{number}"),
+        Word::Nothing => Ok(()),
+    }
+}
+
+/// Words as a text, with spaces between them.
+fn told(alloc: Global, words: &[Word<'_>]) -> Result<String, AllocError> {
+    let mut told = String::new(alloc);
+    for word in words {
+        put_word(&mut told, *word)?;
+    }
+    Ok(told)
 }
 
 // Worked out by the rules: options in any order among the other words, each at most once, as two
@@ -226,10 +291,11 @@ rollback Z I J --window 4 -> refused
 /// What a text reads as.
 fn read(alloc: Global, text: &str) -> Result<String, AllocError> {
     let words = words_of(alloc, text)?;
-    match read_words(alloc, words.as_slice())? {
-        Some(read) => told(alloc, &read),
-        None => String::from_str(alloc, "refused"),
-    }
+    let read = match read_words(alloc, words.as_slice())? {
+        Some(read) => command_of(&read),
+        None => three(Word::Name("refused"), Word::Nothing, Word::Nothing),
+    };
+    told(alloc, read.as_slice())
 }
 
 /// Reads the words of each line.

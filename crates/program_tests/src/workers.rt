@@ -1,6 +1,6 @@
 // Runs with one to five workers, beside the same run by one.
 use crate::meeting::Meeting;
-use crate::runs::{BEEP, Cart, Fails, IDLE, Outside, answer, files_of, words_of};
+use crate::runs::{BEEP, Cart, Fails, IDLE, Outside, answer, words_of};
 use md_outer::{FreeGate, Gate};
 use md_top::drive;
 use std::alloc::{AllocError, Global};
@@ -17,8 +17,8 @@ pub(crate) fn driven<R: Threads + Wait + Sync, G: Gate>(
     fails: Fails,
     gate: &G,
 ) -> Result<Outside, AllocError> {
-    let mut outside = Outside::new(alloc, files_of(alloc, cart, &[])?, fails)?;
     let words = words_of(alloc, words)?;
+    let mut outside = Outside::new(alloc, cart, &[], fails)?;
     outside.status = drive(
         rt,
         alloc,
@@ -68,25 +68,26 @@ fn leaves<R: Threads + Wait + Sync>(
     Ok(other.status == 0 && are_alike(one, &other))
 }
 
-/// The first number of workers by which a run leaves something else than it does where nothing is said of them.
-fn first_unlike<R: Threads + Wait + Sync>(
+/// Fails with the first number of workers by which a run leaves something else than it does where nothing is said of
+/// them.
+fn expect_alike<R: Threads + Wait + Sync>(
     rt: &R,
     alloc: Global,
     run: &(&'static str, Cart),
-) -> Result<Option<u32>, AllocError> {
+) -> Result<(), Fail> {
     let one = answer(alloc, run.0, &run.1, "P", &[], Fails::Nothing)?;
     for workers in 1..6 {
         if !leaves(rt, alloc, run, workers, &one)? {
-            return Ok(Some(workers));
+            return Err(Fail::from(workers));
         }
     }
-    Ok(None)
+    Ok(())
 }
 
 #[test]
 fn every_number_of_workers_writes_the_same_files(rt: HostRuntime) -> Result<(), Fail> {
     for run in &RUNS {
-        assert_eq!(rt; first_unlike(&rt, rt.alloc(), run)?, None);
+        expect_alike(&rt, rt.alloc(), run)?;
     }
     Ok(())
 }
@@ -108,7 +109,9 @@ fn meets<R: Threads + Wait + Sync>(
 #[test]
 fn several_workers_meet_in_each_segment(rt: HostRuntime) -> Result<(), Fail> {
     for workers in 2..6 {
-        assert!(rt; meets(&rt, rt.alloc(), workers)?, "{workers}");
+        if !meets(&rt, rt.alloc(), workers)? {
+            return Err(Fail::from(workers));
+        }
     }
     Ok(())
 }
