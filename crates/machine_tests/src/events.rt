@@ -1,6 +1,7 @@
 ghost use Rattle.std.specs.Prelude.{◌≡◌, [], IfOk};
 
 use crate::cartridges::{cartridge, idle};
+use crate::made::expect;
 use chip_core::{Core, Event};
 use md_machine::{MdChips, first_core};
 use md_pads::Recording;
@@ -15,10 +16,8 @@ fn scheduler(alloc: Global) -> Result<Core<MdChips>, Fail>
     ensures room { IfOk result (λ core. core.room ≡ 8) }
 {
     let recording = Arc::new(alloc, Recording::empty(alloc))?;
-    let Ok(core) = first_core(alloc, cartridge(alloc, &idle())?, recording, false, 8) else {
-        return Err(Fail::from("no memory"));
-    };
-    Ok(core)
+    let cart = cartridge(alloc, &idle())?;
+    Ok(first_core(alloc, cart, recording, false, 8)?)
 }
 
 /// How many events of a list happen below a cycle from power-on on.
@@ -112,17 +111,27 @@ static BOUNDS: [Key; 5] = [
     },
 ];
 
-/// Whether the bounds are these, and one entry was made.
+/// Whether the bounds are these.
 fn is_bound(made: Core<MdChips>) -> bool {
-    let (_board, _chips, bounds, journal) = made.into_parts();
-    bounds.as_slice() == BOUNDS.as_slice() && journal.len() == 1
+    made.into_parts().2.as_slice() == BOUNDS.as_slice()
+}
+
+/// Whether all four events happen, none is enabled behind them, and one entry is made.
+fn happen_alone(made: &mut Core<MdChips>) -> bool
+    requires journal { made.old.journal ≡ [] }
+    requires room { made.old.room ≡ 8 }
+{
+    made.run_events(1, &FOUR) == 4 && made.some_enabled(1).is_none() && made.journal().len() == 1
+}
+
+/// Whether the four events happen, and whether they leave their bounds.
+fn four(alloc: Global) -> Result<[bool; 2], Fail> {
+    let mut made = scheduler(alloc)?;
+    let happen = happen_alone(&mut made);
+    Ok([happen, is_bound(made)])
 }
 
 #[test]
 fn four_events_leave_their_bounds(rt: HostRuntime) -> Result<(), Fail> {
-    let mut made = scheduler(rt.alloc())?;
-    let happened = made.run_events(1, &FOUR);
-    assert!(rt; happened == 4 && made.some_enabled(1).is_none());
-    assert!(rt; is_bound(made));
-    Ok(())
+    expect(four(rt.alloc())? == [true, true], "events or bounds")
 }

@@ -2,7 +2,7 @@
 // User's Manual, section 8.
 use crate::accesses::{Row, expect_all_rows, is_among};
 use crate::cartridges::image_of;
-use crate::made::{Made, run_once};
+use crate::made::{Made, expect, run_once};
 use std::test::Fail;
 
 /// The 68000 requests the Z80's bus, waits for the grant, and writes six registers of the FM chip: four
@@ -43,10 +43,13 @@ fn is_played(made: &Made) -> bool {
         && made.pairs.starts_with(b"\0\0\0\0\0\0\0\0\x0c\0\x0c\0")
 }
 
+/// Fails where the note is written or played otherwise.
+fn expect_note(made: &Made) -> Result<(), Fail> {
+    expect_all_rows(&made.entries, &WRITES)?;
+    expect(is_played(made), "pairs")
+}
+
 #[test]
 fn a_note_of_the_fm_chip(rt: HostRuntime) -> Result<(), Fail> {
-    let made = run_once(rt.alloc(), &image_of(0x1c0, &NOTE), 16_129)?;
-    expect_all_rows(&made.entries, &WRITES)?;
-    assert!(rt; is_played(&made));
-    Ok(())
+    expect_note(&run_once(rt.alloc(), &image_of(0x1c0, &NOTE), 16_129)?)
 }

@@ -1,6 +1,6 @@
 // The frames of the machine. Line 224 begins at 766,080, and with it the frame is finished.
 use crate::cartridges::{idle, paints};
-use crate::made::{Outcome, run, run_once, run_whole};
+use crate::made::{Outcome, expect, run, run_once, run_whole};
 use md_pads::Recording;
 use std::test::Fail;
 
@@ -47,11 +47,15 @@ fn is_black(frame: &[u8]) -> bool {
     frame.starts_with(b"P6\n320 224\n255\n") && count(frame, 15, 215_055, 0) == 215_040
 }
 
+/// Fails where the frame is not black, or has another length, or is there at another cycle.
+fn expect_black(run: &Outcome) -> Result<(), Fail> {
+    expect(is_black(second(run)), "frame")?;
+    expect_lengths(run, &LENGTHS)
+}
+
 #[test]
 fn a_frame_is_finished_by_line_224(rt: HostRuntime) -> Result<(), Fail> {
-    let run = run_whole(rt.alloc(), &idle(), &ENDS)?;
-    assert!(rt; is_black(second(&run)));
-    expect_lengths(&run, &LENGTHS)
+    expect_black(&run_whole(rt.alloc(), &idle(), &ENDS)?)
 }
 
 // On PAL it is finished by line 240, which begins at 820,800.
@@ -59,20 +63,28 @@ static TALL_ENDS: [u32; 4] = [820_800, 820_801, 1_891_260, 1_891_261];
 
 static TALL_LENGTHS: [usize; 4] = [0, 230_415, 0, 230_415];
 
+/// Fails where the frame has another head or length, or is there at another cycle.
+fn expect_tall(run: &Outcome) -> Result<(), Fail> {
+    expect(second(run).starts_with(b"P6\n320 240\n255\n"), "frame")?;
+    expect_lengths(run, &TALL_LENGTHS)
+}
+
 #[test]
 fn a_frame_of_pal_is_finished_by_line_240(rt: HostRuntime) -> Result<(), Fail> {
     let alloc = rt.alloc();
-    let run = run(alloc, &idle(), Recording::empty(alloc), true, &TALL_ENDS)?;
-    assert!(rt; second(&run).starts_with(b"P6\n320 240\n255\n"));
-    expect_lengths(&run, &TALL_LENGTHS)
+    expect_tall(&run(alloc, &idle(), Recording::empty(alloc), true, &TALL_ENDS)?)
 }
 
 // The colour is written in line 0, which was drawn at its start: it stays black, and the 223 lines below
 // it show the backdrop, of which each of red, green and blue is 7 times 36.
+fn is_painted(frame: &[u8]) -> bool {
+    count(frame, 15, 975, 0) == 960 && count(frame, 975, 215_055, 252) == 214_080
+}
+
 #[test]
 fn lines_are_drawn_at_their_start(rt: HostRuntime) -> Result<(), Fail> {
-    let made = run_once(rt.alloc(), &paints(), 766_081)?;
-    let black = count(&made.frame, 15, 975, 0);
-    assert!(rt; black == 960 && count(&made.frame, 975, 215_055, 252) == 214_080);
-    Ok(())
+    expect(
+        is_painted(&run_once(rt.alloc(), &paints(), 766_081)?.frame),
+        "frame",
+    )
 }

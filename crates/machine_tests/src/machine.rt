@@ -1,6 +1,7 @@
 use crate::cartridges::{beep, idle, image_of, put};
-use crate::made::{Made, Outcome, run, run_once, run_whole};
+use crate::made::{Made, Outcome, expect, run, run_once, run_whole};
 use md_pads::Recording;
+use std::alloc::Global;
 use std::test::Fail;
 
 /// Fails where a silent frame leaves something else.
@@ -43,9 +44,10 @@ fn is_of_pal(run: &Outcome) -> bool {
 #[test]
 fn a_silent_frame_of_pal(rt: HostRuntime) -> Result<(), Fail> {
     let alloc = rt.alloc();
-    let run = run(alloc, &idle(), Recording::empty(alloc), true, &[1_070_460])?;
-    assert!(rt; is_of_pal(&run));
-    Ok(())
+    expect(
+        is_of_pal(&run(alloc, &idle(), Recording::empty(alloc), true, &[1_070_460])?),
+        "frame",
+    )
 }
 
 /// Fails where the line behind it leaves something else.
@@ -122,11 +124,17 @@ fn is_cut(parts: &[Made], made: usize) -> bool {
         && second.pairs.as_slice() == BEEP_PAIRS.as_slice()
 }
 
+/// Whether a run in two parts to these cycles makes all that one part makes.
+fn cuts(alloc: Global, ends: &[u32], made: usize) -> Result<bool, Fail> {
+    Ok(is_cut(&run_whole(alloc, &beep(), ends)?.parts, made))
+}
+
 #[test]
 fn a_run_in_two_parts(rt: HostRuntime) -> Result<(), Fail> {
     for (ends, made) in &CUTS {
-        let run = run_whole(rt.alloc(), &beep(), ends)?;
-        assert!(rt; is_cut(&run.parts, *made), "{made}");
+        if !cuts(rt.alloc(), ends, *made)? {
+            return Err(Fail::from(*made));
+        }
     }
     Ok(())
 }
@@ -146,12 +154,19 @@ fn is_halted(run: &Outcome) -> bool {
     }
 }
 
+/// Whether the 68000 is not halted at power-on.
+fn starts(alloc: Global) -> Result<bool, Fail> {
+    Ok(run_whole(alloc, &odd(), &[])?.halted.is_none())
+}
+
 // The address error of the first instruction halts the 68000, which makes no access.
 #[test]
 fn a_halted_68000(rt: HostRuntime) -> Result<(), Fail> {
-    let before = run_whole(rt.alloc(), &odd(), &[])?.halted;
-    assert!(rt; before.is_none() && is_halted(&run_whole(rt.alloc(), &odd(), &[3_420])?));
-    Ok(())
+    expect(starts(rt.alloc())?, "power-on")?;
+    expect(
+        is_halted(&run_whole(rt.alloc(), &odd(), &[3_420])?),
+        "halted",
+    )
 }
 
 /// MOVE.B A10003h,D0; MOVE.W C00004h,D0; MOVE.B #9Fh,C00011h; MOVE.B #AAh,C00012h;
@@ -195,6 +210,5 @@ fn expect_records(entries: &[u8]) -> Result<(), Fail> {
 
 #[test]
 fn accesses_of_the_68000(rt: HostRuntime) -> Result<(), Fail> {
-    let made = run_once(rt.alloc(), &image_of(0x1c0, &ACCESSES), 16_129)?;
-    expect_records(&made.entries)
+    expect_records(&run_once(rt.alloc(), &image_of(0x1c0, &ACCESSES), 16_129)?.entries)
 }

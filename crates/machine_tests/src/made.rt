@@ -12,6 +12,15 @@ use std::alloc::Global;
 use std::sync::Arc;
 use std::test::Fail;
 
+/// Fails with these words unless something is so.
+pub fn expect(is_so: bool, words: &str) -> Result<(), Fail> {
+    if is_so {
+        Ok(())
+    } else {
+        Err(Fail::from(words))
+    }
+}
+
 /// What a machine made since it was last drained: the bytes of the journal's entries, of the pairs of
 /// samples, and of the frame that was finished, if one was.
 #[derive(Drop)]
@@ -84,10 +93,8 @@ pub fn power_on(
     ensures media { IfOk result (λ machine. machine.media ≡ no_media) }
 {
     let recording = Arc::new(alloc, recording)?;
-    let Ok(machine) = Machine::power_on(alloc, cartridge(alloc, image)?, recording, pal) else {
-        return Err(Fail::from("no memory"));
-    };
-    Ok(machine)
+    let cart = cartridge(alloc, image)?;
+    Ok(Machine::power_on(alloc, cart, recording, pal)?)
 }
 
 /// Brings the machine to a cycle, at most a frame on, and gives what it makes.
@@ -136,26 +143,35 @@ pub struct Outcome {
     /// The cycle at which the 68000 halted.
     pub halted: Option<u64>,
     /// The front of work RAM.
-    pub ram: Vec<u8>,
+    pub ram: [u8; 128],
 }
 
 /// The first 128 bytes of work RAM.
-fn front_of_ram(machine: &Machine, alloc: Global) -> Result<Vec<u8>, Fail> {
-    let ram = machine.main_chip().ram();
-    Ok(ram.get(..128).unwrap_or(&[]).to_vec(alloc)?)
+fn front_of_ram(machine: &Machine) -> [u8; 128] {
+    let mut front = [0; 128];
+    front.copy_from_slice(&machine.main_chip().ram()[..128]);
+    front
 }
 
 /// These parts, and how the machine stands behind them.
-fn outcome_of(machine: &Machine, alloc: Global, parts: Vec<Made>) -> Result<Outcome, Fail> {
-    let ram = front_of_ram(machine, alloc)?;
-    Ok(Outcome {
+fn outcome_of(machine: &Machine, parts: Vec<Made>) -> Outcome {
+    Outcome {
         parts,
         at: machine.at(),
         least: machine.least(),
         pal: machine.pal(),
         halted: machine.main_chip().halted(),
-        ram,
-    })
+        ram: front_of_ram(machine),
+    }
+}
+
+/// The outcome of a machine that is brought to one cycle after the other.
+fn run_machine(machine: &mut Machine, alloc: Global, ends: &[u32]) -> Result<Outcome, Fail>
+    requires entries { machine.old.entries ≡ [] }
+    requires media { machine.old.media ≡ no_media }
+{
+    let parts = run_parts(machine, alloc, ends)?;
+    Ok(outcome_of(machine, parts))
 }
 
 /// A run from power-on to one cycle after the other.
@@ -167,8 +183,7 @@ pub fn run(
     ends: &[u32],
 ) -> Result<Outcome, Fail> {
     let mut machine = power_on(alloc, image, recording, pal)?;
-    let parts = run_parts(&mut machine, alloc, ends)?;
-    outcome_of(&machine, alloc, parts)
+    run_machine(&mut machine, alloc, ends)
 }
 
 /// The same with no button pressed, by the clock of NTSC.

@@ -1,5 +1,5 @@
 use crate::cartridges::image_of;
-use crate::made::{Made, run};
+use crate::made::{Made, expect, run};
 use md_pads::Recording;
 use std::alloc::Global;
 use std::test::Fail;
@@ -71,13 +71,24 @@ fn is_heard(pairs: &[u8]) -> bool {
     pairs.len() == 4 * 1_776 && sounding(pairs) == [761, 1_649]
 }
 
+/// Whether the frames have their volumes and their tone.
+fn are_toned(alloc: Global, parts: &[Made]) -> Result<bool, Fail> {
+    let heard = is_heard(&pairs_of(alloc, parts)?);
+    Ok(heard && are_set(parts))
+}
+
+/// Whether the tone is played while the button is held.
+fn is_toned(alloc: Global, recording: Recording) -> Result<bool, Fail> {
+    let image = image_of(0x1c0, &PADS);
+    are_toned(
+        alloc,
+        &run(alloc, &image, recording, false, &[896_040, 1_792_080])?.parts,
+    )
+}
+
 // A pair of samples stands at each 1,008 cycles, and hears the writes below its cycle.
 #[test]
 fn a_tone_while_a_button_is_held(rt: HostRuntime) -> Result<(), Fail> {
     let recording = Recording::read(rt.alloc(), B)?;
-    let image = image_of(0x1c0, &PADS);
-    let run = run(rt.alloc(), &image, recording, false, &[896_040, 1_792_080])?;
-    let pairs = pairs_of(rt.alloc(), &run.parts)?;
-    assert!(rt; are_set(&run.parts) && is_heard(&pairs));
-    Ok(())
+    expect(is_toned(rt.alloc(), recording)?, "tone")
 }

@@ -1,7 +1,7 @@
 // The video memory as the ports leave it: examples/readback fills all of it, transfers and copies parts,
 // fills once more, and then reads all of it back.
 use crate::cartridges::{image_of, put};
-use crate::made::{Made, run_whole};
+use crate::made::{Made, expect, run_whole};
 use std::alloc::Global;
 use std::test::Fail;
 
@@ -70,6 +70,8 @@ fn filled() -> [u8; 65_536] {
 
 #[test]
 fn all_of_the_video_memory_is_read_back(rt: HostRuntime) -> Result<(), Fail> {
-    assert!(rt; read_back(rt.alloc())?.as_slice() == filled().as_slice());
-    Ok(())
+    expect(
+        read_back(rt.alloc())?.as_slice() == filled().as_slice(),
+        "memory",
+    )
 }

@@ -2,7 +2,7 @@
 // the clocks of the M68000 User's Manual, section 8.
 use crate::accesses::{Row, expect_all_rows, is_told};
 use crate::cartridges::{image_of, put};
-use crate::made::run_once;
+use crate::made::{expect, run_once};
 use std::test::Fail;
 
 /// MOVE.W #8120h,C00004h, which lets the vertical interrupt through; MOVE #2000h,SR; and a branch to
@@ -45,12 +45,15 @@ fn is_only_level(entries: &[u8]) -> bool {
     told == 1
 }
 
+/// Fails where the accesses or the level are told otherwise.
+fn expect_interrupt(entries: &[u8]) -> Result<(), Fail> {
+    expect_all_rows(entries, &INTERRUPT)?;
+    expect(is_only_level(entries), "level")
+}
+
 #[test]
 fn a_vertical_interrupt(rt: HostRuntime) -> Result<(), Fail> {
-    let made = run_once(rt.alloc(), &handled(), 896_040)?;
-    expect_all_rows(&made.entries, &INTERRUPT)?;
-    assert!(rt; is_only_level(&made.entries));
-    Ok(())
+    expect_interrupt(&run_once(rt.alloc(), &handled(), 896_040)?.entries)
 }
 
 /// LEA C00004h,A0; LEA C00000h,A1; nine times MOVE.W #,(A0): an increment of 2, a length of 3, the source
@@ -88,6 +91,5 @@ static WORDS: [Row; 15] = [
 fn three_words_are_transferred(rt: HostRuntime) -> Result<(), Fail> {
     let mut image = image_of(0x140, &TRANSFERS);
     put(&mut image, 0x1f0, &[0x12, 0x34, 0x56, 0x78, 0x9a, 0xbc]);
-    let made = run_once(rt.alloc(), &image, 3_420)?;
-    expect_all_rows(&made.entries, &WORDS)
+    expect_all_rows(&run_once(rt.alloc(), &image, 3_420)?.entries, &WORDS)
 }

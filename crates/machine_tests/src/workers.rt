@@ -25,20 +25,43 @@ fn run_with<R: Threads + Wait + Sync>(
     Made::take(&mut machine, alloc)
 }
 
-/// Fails with the first number of workers, of 1 to 5, that does not make the entries, pairs and picture of the first
-/// frame that `alone` makes.
+/// Whether so many workers make what was made in the first frame.
+fn are_alike<R: Threads + Wait + Sync>(
+    rt: &R,
+    alloc: Global,
+    image: &[u8; 512],
+    workers: u32,
+    plain: &Made,
+) -> Result<bool, Fail>
+    requires some { 1 ≤ workers }
+    requires few { workers ≤ 5 }
+{
+    Ok(plain.is_alike(&run_with(rt, alloc, image, workers)?))
+}
+
+/// Fails with the first number of workers, of 1 to 5, that does not make the entries, pairs and picture of this first
+/// frame.
+fn expect_each_alike<R: Threads + Wait + Sync>(
+    rt: &R,
+    alloc: Global,
+    image: &[u8; 512],
+    plain: &Made,
+) -> Result<(), Fail> {
+    for workers in 1..6u32 {
+        if !are_alike(rt, alloc, image, workers, plain)? {
+            return Err(Fail::from(workers));
+        }
+    }
+    Ok(())
+}
+
+/// The same of the first frame that `alone` makes.
 fn expect_alike<R: Threads + Wait + Sync>(
     rt: &R,
     alloc: Global,
     image: &[u8; 512],
 ) -> Result<(), Fail> {
-    let plain = run_once(alloc, image, 896_040)?;
-    for workers in 1..6u32 {
-        if !plain.is_alike(&run_with(rt, alloc, image, workers)?) {
-            return Err(Fail::from(workers));
-        }
-    }
-    Ok(())
+    expect_each_alike(rt, alloc, image, &run_once(alloc, image, 896_040)?)
 }
 
 #[test]

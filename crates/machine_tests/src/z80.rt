@@ -2,7 +2,7 @@
 // of the M68000 User's Manual, section 8, and of Zilog UM0080.
 use crate::accesses::{Row, access, count, expect_rows, is_told_without_value};
 use crate::cartridges::image_of;
-use crate::made::run_once;
+use crate::made::{Made, expect, run_once};
 use std::test::Fail;
 
 /// The words of the request for the Z80's bus.
@@ -34,12 +34,15 @@ fn are_written(entries: &[u8]) -> bool {
         && is_told_without_value(access(entries, 35), &(1_750, 0, 3, 0xa0_003e, 0))
 }
 
+/// Fails where the grant or the words are told otherwise.
+fn expect_words(entries: &[u8]) -> Result<(), Fail> {
+    expect_rows(entries, 0, &GRANT)?;
+    expect(are_written(entries), "words")
+}
+
 #[test]
 fn the_bus_is_granted_and_thirty_two_words_are_written(rt: HostRuntime) -> Result<(), Fail> {
-    let made = run_once(rt.alloc(), &image_of(0x1c0, &REQUESTS), 16_128)?;
-    expect_rows(&made.entries, 0, &GRANT)?;
-    assert!(rt; are_written(&made.entries));
-    Ok(())
+    expect_words(&run_once(rt.alloc(), &image_of(0x1c0, &REQUESTS), 16_128)?.entries)
 }
 
 /// examples/z80tone, whose branches are relative: the 68000 copies eleven bytes into the Z80's RAM and
@@ -77,11 +80,17 @@ fn is_heard(pairs: &[u8]) -> bool {
     pairs.len() == 64 && pairs.starts_with(&[0; 12]) && !pairs.starts_with(&[0; 16])
 }
 
-#[test]
-fn the_z80_plays_a_tone(rt: HostRuntime) -> Result<(), Fail> {
-    let made = run_once(rt.alloc(), &image_of(0x1c0, &TONE), 16_129)?;
+/// Fails where the copy or the tone is told otherwise, or another sound is made.
+fn expect_tone(made: &Made) -> Result<(), Fail> {
     expect_rows(&made.entries, 0, &COPY)?;
     expect_rows(&made.entries, 3 + 11, &PLAY)?;
-    assert!(rt; count(&made.entries) == 3 + 11 + 6 && is_heard(&made.pairs));
-    Ok(())
+    expect(
+        count(&made.entries) == 3 + 11 + 6 && is_heard(&made.pairs),
+        "number or pairs",
+    )
+}
+
+#[test]
+fn the_z80_plays_a_tone(rt: HostRuntime) -> Result<(), Fail> {
+    expect_tone(&run_once(rt.alloc(), &image_of(0x1c0, &TONE), 16_129)?)
 }
