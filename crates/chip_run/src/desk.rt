@@ -16,7 +16,8 @@ const LOOKS: u32 = 20_000;
 /// How often it looks for an errand before it ends, where no more work comes.
 const LAST_LOOKS: u32 = 1_000;
 
-/// How often the leader looks for a chip before it lets other threads run.
+/// How often the leader looks for a chip before it lets other threads run, and for its helpers to leave before it
+/// sleeps.
 const GLANCES: u32 = 1_000;
 
 /// How often it lets them run before it does work of another chip.
@@ -198,6 +199,8 @@ pub(crate) struct Desk<
     watched: AtomicBool,
     /// Whether the run has ended.
     ended: AtomicBool,
+    /// How many helpers are done with this desk.
+    left: AtomicU64,
 }
 
 impl<C: ChipSet, N: Named, L0: Ledger, L1: Ledger, L2: Ledger, L3: Ledger, L4: Ledger> Desk<
@@ -222,6 +225,7 @@ impl<C: ChipSet, N: Named, L0: Ledger, L1: Ledger, L2: Ledger, L3: Ledger, L4: L
             changes: AtomicU64::new(0),
             watched: AtomicBool::new(false),
             ended: AtomicBool::new(false),
+            left: AtomicU64::new(0),
         }
     }
 
@@ -482,6 +486,22 @@ impl<C: ChipSet, N: Named, L0: Ledger, L1: Ledger, L2: Ledger, L3: Ledger, L4: L
     pub(crate) fn end<R: Wait>(&self, rt: &R) {
         self.ended.store(true, Ordering::SeqCst);
         self.close(rt);
+    }
+
+    /// A helper is done with this desk.
+    pub(crate) fn leave(&self) {
+        self.left.fetch_add(1, Ordering::SeqCst);
+    }
+
+    /// Looks for a while until so many helpers have left. Once the run has ended they do so at once, or behind the
+    /// errand that they are at: to sleep until then, and to be woken, would take longer.
+    pub(crate) fn see_off(&self, helpers: u8) {
+        for _ in 0..GLANCES {
+            if self.left.load(Ordering::SeqCst) >= u64::from(helpers) {
+                return;
+            }
+            spin_loop();
+        }
     }
 
     /// Tells all helpers that no more work comes.

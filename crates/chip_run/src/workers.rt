@@ -18,7 +18,8 @@ use std::thread::{Scope, Threads};
 /// event with its private work, and then helps, and runs errands where there is nothing to help with.
 ///
 /// A chip that comes to be the next before its thread has begun is taken from the desk, so that nobody waits for
-/// a thread to start. So is that of a thread that is refused.
+/// a thread to start. So is that of a thread that is refused. Nor does anybody wait for a thread that has done its
+/// work to be taken down by the system: the scope ends once all threads have come to the end of theirs.
 fn spread<
     's,
     E,
@@ -51,6 +52,7 @@ fn spread<
     if worker >= last {
         bus.take_turns(rt, desk, helds, gate);
         desk.end(rt);
+        desk.see_off(last);
         return;
     }
     desk.lay_waiting(rt, helds, worker);
@@ -63,11 +65,12 @@ fn spread<
             bus.begin(rt, desk, worker, gate);
             desk.help(rt, bus.errands());
         }
+        desk.leave();
     };
     match scope.spawn(job) {
         Ok(child) => {
+            drop(child);
             spread(scope, rt, bus, desk, gate, refused, helds, worker + 1, last);
-            child.join(rt);
         }
         Err(back) => {
             alone.store(true, Ordering::SeqCst);
