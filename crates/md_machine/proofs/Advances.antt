@@ -11,15 +11,14 @@ use Rattle.md_machine.specs.Laws.{answer-fits, told-fits}
 use Rattle.bus_shared.specs.Board.{Board, IsBoard}
 use Rattle.md_machine.specs.Refinement.{draw_of, main_of, sub_of}
 use Rattle.md_machine.specs.Rules.{perform, IsChip, next}
-use Rattle.md_machine.specs.Parts.{DrawValue, SubValue}
+use Rattle.md_machine.specs.Parts.{DrawValue, MainValue, SubValue}
 use Rattle.md_machine.specs.declared.chips.Chip.{Chip}
 use Rattle.md_machine.specs.declared.chips.Chip.TheVariants.{Main, Sub, Draw, Fm, Psg}
-use Rattle.md_machine.specs.declared.chips.main.MainChip.{MainChip}
 
-abbrev MainAnswerFits : MainChip → Type 0
+abbrev MainAnswerFits : MainValue → Type 0
 MainAnswerFits c = IfSome c.answer (Fits (request_of c.chip.cart c.chip.state))
 
-pub performed-fits : (before : Chip) (s : Board) → IsBoard s → (c : MainChip) → Main c ≡ (perform before s).chip → IfSome c.answer (Fits (request_of c.chip.cart c.chip.state))
+pub performed-fits : (before : Chip) (s : Board) → IsBoard s → (c : MainValue) → Main c ≡ (perform before s).chip → IfSome c.answer (Fits (request_of c.chip.cart c.chip.state))
 performed-fits (Main b) s ok c is = subst MainAnswerFits (sym (ap main_of is)) (answer-fits s (main_next_of b.chip.state).key (request_of b.chip.cart b.chip.state) ok)
 performed-fits (Sub b) s ok c is = cc
 performed-fits (Draw b) s ok c is = cc

@@ -10,11 +10,10 @@ use Rattle.m68k_chip.specs.States.{State68}
 use Rattle.z80_chip.specs.Events.{WentAhead, begun_after}
 use Rattle.z80_chip.specs.States.{State80, is_sample, next_of}
 use Rattle.z80_chip.specs.declared.stage.Stage.TheVariants.{Sample}
-use Rattle.md_machine.specs.Parts.{SubValue}
+use Rattle.md_machine.specs.Parts.{MainValue, SubValue}
 use Rattle.md_machine.specs.Pins.{level_in, sub_in}
 use Rattle.md_machine.specs.Rules.{five}
 use Rattle.md_machine.specs.declared.chips.Chip.TheVariants.{Main, Sub}
-use Rattle.md_machine.specs.declared.chips.main.MainChip.{MainChip}
 use Rattle.md_machine.specs.declared.pins.Pins.{Pins}
 
 -- the chip in another state
@@ -51,10 +50,10 @@ sub_gone_ahead n end pins c d first went cart answer = record {
 }
 
 -- the same of the 68000
-abbrev main_in_state : MainChip → State68 → MainChip
+abbrev main_in_state : MainValue → State68 → MainValue
 main_in_state c state = record c { chip = record c.chip { state = state } }
 
-all-main-begun : (c : MainChip) (pins : Pins) (n : ℕ) → sampled five n pins (Main c) ≡ Main (main_in_state c (events68.begun_after n c.chip.cart c.chip.state (level_in pins)))
+all-main-begun : (c : MainValue) (pins : Pins) (n : ℕ) → sampled five n pins (Main c) ≡ Main (main_in_state c (events68.begun_after n c.chip.cart c.chip.state (level_in pins)))
 unfolding sampled events68.begun_after
 all-main-begun c pins zero = refl
 all-main-begun c pins (suc n) = ap (λ x. five.sample x pins) (all-main-begun c pins n)
@@ -62,11 +61,11 @@ all-main-begun c pins (suc n) = ap (λ x. five.sample x pins) (all-main-begun c 
 main-before : (next : ℕ) (end : Key) → next < end.cycle → key_lt (record { cycle = next; chip = 0 }) end ≡ true
 main-before next end low = grind (arith, nat_tests)
 
-main-samples-before : (end : Key) (c : MainChip) (state : State68) → (states68.next_of state).sample ≡ true → state.next < end.cycle → SamplesBelow five end (Main (main_in_state c state))
+main-samples-before : (end : Key) (c : MainValue) (state : State68) → (states68.next_of state).sample ≡ true → state.next < end.cycle → SamplesBelow five end (Main (main_in_state c state))
 unfolding states68.next_of
 main-samples-before end c state sample low = (sample, main-before state.next end low)
 
-all-main-before : (n : ℕ) (end : Key) (pins : Pins) (c : MainChip) (after : State68) → SamplesBelow five end (Main c) → (went : events68.WentAhead n end.cycle c.chip.cart (level_in pins) c.chip.state after)
+all-main-before : (n : ℕ) (end : Key) (pins : Pins) (c : MainValue) (after : State68) → SamplesBelow five end (Main c) → (went : events68.WentAhead n end.cycle c.chip.cart (level_in pins) c.chip.state after)
     → (k : ℕ) → k < n → SamplesBelow five end (sampled five k pins (Main c))
 unfolding sampled
 all-main-before n end pins c after first went zero h = first
@@ -74,7 +73,7 @@ all-main-before n end pins c after first went (suc k) h =
     subst (λ x. SamplesBelow five end x) (sym (all-main-begun c pins (suc k)))
     (main-samples-before end c (events68.begun_after (suc k) c.chip.cart c.chip.state (level_in pins)) (went.sample (suc k) (omega arith) h) (went.below (suc k) (omega arith) h))
 
-pub main_gone_ahead : (n : ℕ) (end : Key) (pins : Pins) (c d : MainChip) → SamplesBelow five end (Main c) → events68.WentAhead n end.cycle c.chip.cart (level_in pins) c.chip.state d.chip.state
+pub main_gone_ahead : (n : ℕ) (end : Key) (pins : Pins) (c d : MainValue) → SamplesBelow five end (Main c) → events68.WentAhead n end.cycle c.chip.cart (level_in pins) c.chip.state d.chip.state
     → d.chip.cart ≡ c.chip.cart → d.answer ≡ c.answer → SamplesTo five n end pins (Main c) (Main d)
 main_gone_ahead n end pins c d first went cart answer = record {
   some = went.some;

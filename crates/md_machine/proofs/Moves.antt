@@ -16,10 +16,9 @@ use Rattle.vdp_planes.specs.declared.view.LineView.{LineView}
 use Rattle.vdp_chip.specs.Drawing.{Drawing, line_drawn, picture_after}
 use Rattle.md_machine.specs.LineLaws.{told-drawn}
 use Rattle.md_machine.specs.Lines.{drawn_from, told_view}
-use Rattle.md_machine.specs.Parts.{DrawValue, FmValue, PsgValue, SubValue}
+use Rattle.md_machine.specs.Parts.{DrawValue, FmValue, MainValue, PsgValue, SubValue}
 use Rattle.md_machine.specs.Refinement.{console_of, draw_of, fm_of, main_of, psg_of, record_of, sub_of}
 use Rattle.md_machine.specs.Rules.{IsChip, advance, five, next, perform, sample}
-use Rattle.md_machine.specs.declared.chips.main.MainChip.{MainChip}
 use Rattle.z80_chip.specs.Events.{asked_of}
 use Rattle.z80_chip.specs.States.{next_of as sub_next_of}
 use Rattle.md_machine.specs.Pins.{pins_of}
@@ -42,14 +41,14 @@ sub_one : (c : SubValue) → (next (Sub c)).key.chip ≡ 1
 unfolding sub_next_of
 sub_one c = refl
 
-pub kind0 : (c : Chip) → (next c).key.chip ≡ 0 → (v : MainChip) × (c ≡ Main v)
+pub kind0 : (c : Chip) → (next c).key.chip ≡ 0 → (v : MainValue) × (c ≡ Main v)
 kind0 (Main c) is = (c, refl)
 kind0 (Sub c) is = absurd (omega (arith, sub_one c))
 kind0 (Draw c) is = absurd (omega arith)
 kind0 (Fm c) is = absurd (omega arith)
 kind0 (Psg c) is = absurd (omega arith)
 
-main_zero : (c : MainChip) → (next (Main c)).key.chip ≡ 0
+main_zero : (c : MainValue) → (next (Main c)).key.chip ≡ 0
 unfolding next_of
 main_zero c = refl
 
@@ -100,7 +99,7 @@ line-seen z view d same =
     ap (λ (after : Drawing). record z { note = after.note; picture = after.picture; pal = after.pal; line = after.next }) (told-drawn view (record d { has_view = false }) same)
 
 -- the moves, chip by chip
-main_move : (b : Bool) (m : Machine Chip Board) (v : MainChip) → (next_of v.chip.state).sample ≡ b → m.chip 0 ≡ Main v
+main_move : (b : Bool) (m : Machine Chip Board) (v : MainValue) → (next_of v.chip.state).sample ≡ b → m.chip 0 ≡ Main v
     → console_of (move five m 0) ≡ moved (console_of m) 0
 unfolding console_of moved main_moved put
 main_move true m v kind is = rw (move-sample m 0 (ap (λ (c : Chip). (next c).sample) is ∙ kind)) (rw is (rw kind refl))

@@ -18,12 +18,11 @@ use Rattle.bus_shared.proofs.Keeps.{power_on-ok}
 use Rattle.bus_shared.specs.Board.{Board, IsBoard}
 use Rattle.md_machine.specs.Console as consoles
 use Rattle.md_machine.specs.Console.{Console, drawing_in, ran}
-use Rattle.md_machine.specs.Parts.{DrawValue, PsgValue, SubValue}
+use Rattle.md_machine.specs.Parts.{DrawValue, MainValue, PsgValue, SubValue}
 use Rattle.md_machine.specs.Refinement.{console_of, draw_of, main_of, psg_of, sub_of}
 use Rattle.md_machine.specs.Rules.{IsChip, five}
 use Rattle.md_machine.specs.declared.chips.Chip.{Chip}
 use Rattle.md_machine.specs.declared.chips.Chip.TheVariants.{Main, Sub, Draw, Fm, Psg}
-use Rattle.md_machine.specs.declared.chips.main.MainChip.{MainChip}
 use Rattle.md_machine.proofs.Lifts.{Movers, ValidTo, ran-same}
 use Rattle.md_machine.proofs.Moves.{five-each, kind0, kind1, kind2, kind4}
 use Rattle.md_machine.proofs.Segments.{below-lift}
@@ -57,7 +56,7 @@ valid_in m has = record {
 
 -- ---- and back
 
-main_in : (c : Chip) (v : MainChip) → c ≡ Main v → IsChip c → IsChip68 (main_of c).chip
+main_in : (c : Chip) (v : MainValue) → c ≡ Main v → IsChip c → IsChip68 (main_of c).chip
 main_in c v is ok = subst (λ (k : Chip). IsChip68 (main_of k).chip) (sym is) (subst IsChip is ok)
 
 sub_in : (c : Chip) (v : SubValue) → c ≡ Sub v → IsChip c → IsChip80 (sub_of c).chip

@@ -29,8 +29,7 @@ use Rattle.md_pads.specs.declared.version.Version.{Version}
 use Rattle.md_pads.specs.declared.version.Version.TheVariants.{First, Second}
 use Rattle.md_machine.specs.FmCode.{fm_way, port_way}
 use Rattle.md_machine.specs.VdpCode.{draw_way, vdp_way}
-use Rattle.md_machine.specs.Parts.{DrawValue, FmValue, PsgValue, SubValue}
-use Rattle.md_machine.specs.declared.chips.main.MainChip.{MainChip}
+use Rattle.md_machine.specs.Parts.{DrawValue, FmValue, MainValue, PsgValue, SubValue}
 use Rattle.md_machine.specs.declared.chips.Chip.{Chip}
 use Rattle.md_machine.specs.declared.chips.Chip.TheVariants.{Main, Sub, Draw, Fm, Psg}
 
@@ -150,7 +149,7 @@ answer_way =
     (λ p. record { value = p.0; transfer = p.1.0; cost = p.1.1 }) (λ a. refl)
 
 -- the way of the 68000 with its cartridge and the answer that it keeps
-abbrev pub main_way : Way MainChip
+abbrev pub main_way : Way MainValue
 main_way =
     by_way (both (both (many number) state_way) (maybe answer_way)) (λ c. ((c.chip.cart, c.chip.state), c.answer))
     (λ p. record { chip = record { cart = p.0.0; state = p.0.1 }; answer = p.1 }) (λ c. refl)
@@ -272,7 +271,7 @@ sub_way =
 
 -- the kinds of chips as a sum
 abbrev pub Sum : Type 0
-Sum = MainChip ⊎ (SubValue ⊎ (DrawValue ⊎ (FmValue ⊎ PsgValue)))
+Sum = MainValue ⊎ (SubValue ⊎ (DrawValue ⊎ (FmValue ⊎ PsgValue)))
 
 -- the sum of a chip
 abbrev pub sum_of : Chip → Sum

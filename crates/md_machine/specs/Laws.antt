@@ -36,7 +36,6 @@ use Rattle.z80_parcel.specs.Requests as fits80
 use Rattle.z80_parcel.specs.Requests.{RequestValue80, ReadByte, WriteByte, HandOver, TakeBack, AnswerValue80, Byte, Nothing, Returned}
 use Rattle.md_machine.specs.Pins.{level_in, pins_by, pins_of, sub_in}
 use Rattle.md_machine.specs.declared.pins.Pins.TheVariants as pins
-use Rattle.md_machine.specs.declared.chips.main.MainChip.{MainChip}
 use Rattle.bus_shared.proofs.Values.{tells}
 use Rattle.m68k_chip.proofs.Laws.{answered-later, answered-ok, begun-later, begun-ok}
 use Rattle.psg_sound.specs.PortLaws.{taken_below-few}
@@ -46,7 +45,7 @@ use Rattle.vdp_chip.specs.Drawing.{Drawing}
 use Rattle.vdp_planes.specs.declared.view.LineView.{LineView}
 use Rattle.md_machine.specs.LineLaws.{drawing-ok, drawing-wherever, drawn-next}
 use Rattle.md_machine.specs.Lines.{drawn_from}
-use Rattle.md_machine.specs.Parts.{DrawValue, FmValue, IsDraw, IsFm, IsPsg, PsgValue, IsSub, SubValue}
+use Rattle.md_machine.specs.Parts.{DrawValue, FmValue, IsDraw, IsFm, IsPsg, IsSub, MainValue, PsgValue, SubValue}
 use Rattle.md_machine.specs.Rules.{IsChip, advance, draw_advance, draw_perform, first_of, five, fm_advance, fm_perform, gap, kept, next, perform, psg_advance, psg_perform, sample, sub_advance, sub_perform, view_in, writes}
 use Rattle.md_machine.specs.declared.chips.Chip.{Chip}
 use Rattle.md_machine.specs.declared.chips.Chip.TheVariants.{Main, Sub, Draw, Fm, Psg}
@@ -257,7 +256,7 @@ gap_from false true b2 = (lit≤ tt, lit≤ tt)
 gap_from false false true = (lit≤ tt, lit≤ tt)
 gap_from false false false = (lit≤ tt, lit≤ tt)
 
-main-number : (c : MainChip) (i : ℕ) → (next (Main c)).key.chip ≡ i → 0 ≡ i
+main-number : (c : MainValue) (i : ℕ) → (next (Main c)).key.chip ≡ i → 0 ≡ i
 unfolding next_of
 main-number c i is = is
 

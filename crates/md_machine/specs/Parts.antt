@@ -1,9 +1,9 @@
 -- The parts of the machine as contracts see them.
 use Rattle.std.specs.Prelude.{◌≡◌, ℕ, ℤ, ◌≤◌, not, List, length, Option, is_some}
-use Rattle.m68k_chip.specs.Validity.{IsChip68}
+use Rattle.md_word.specs.declared.main_bus.Answer68.{Answer68}
+use Rattle.m68k_chip.specs.Validity.{Chip68Value, IsChip68}
 use Rattle.z80_chip.specs.Validity.{Chip80Value, IsChip80}
 use Rattle.z80_parcel.specs.Requests.{AnswerValue80}
-use Rattle.md_machine.specs.declared.chips.main.MainChip.{MainChip}
 use Rattle.vdp_planes.specs.declared.view.LineView.{LineView}
 use Rattle.vdp_chip.specs.Drawing.{Drawing, IsDrawing}
 use Rattle.fm_chip.specs.Synth as fm_synths
@@ -11,8 +11,13 @@ use Rattle.fm_port.specs.declared.write.FmWrite.{FmWrite}
 use Rattle.psg_sound.specs.Synth.{Synth, IsSynth}
 use Rattle.psg_sound.specs.declared.write.PsgWrite.{PsgWrite}
 
+-- the 68000, and the answer that it keeps between the two halves of an access
+pub record MainValue : Type 0 where
+  pub chip : Chip68Value
+  pub answer : Option Answer68
+
 -- what holds of the 68000
-abbrev pub IsMain : MainChip → Type 0
+abbrev pub IsMain : MainValue → Type 0
 IsMain c = IsChip68 c.chip
 
 -- the Z80, and what it was told between the two halves of an access

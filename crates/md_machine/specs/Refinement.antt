@@ -8,13 +8,12 @@ use Rattle.psg_sound.specs.Synth.{at_power_on}
 use Rattle.md_machine.specs.Console.{Console}
 use Rattle.md_machine.specs.Lines.{no_drawing}
 use Rattle.bus_shared.specs.Board.{Board}
-use Rattle.md_machine.specs.Parts.{DrawValue, FmValue, PsgValue, SubValue}
-use Rattle.md_machine.specs.declared.chips.main.MainChip.{MainChip}
+use Rattle.md_machine.specs.Parts.{DrawValue, FmValue, MainValue, PsgValue, SubValue}
 use Rattle.md_machine.specs.declared.chips.Chip.{Chip}
 use Rattle.md_machine.specs.declared.chips.Chip.TheVariants.{Main, Sub, Draw, Fm, Psg}
 
 -- the 68000 of a chip; where it is another, any
-abbrev pub main_of : Chip → MainChip
+abbrev pub main_of : Chip → MainValue
 main_of (Main c) = c
 main_of _ = record { chip = record { cart = []; state = states.power_on [] }; answer = None }
 

@@ -20,12 +20,11 @@ use Rattle.psg_sound.specs.Port.{taken_below}
 use Rattle.bus_shared.specs.Accesses.{level_of, line_board, main_answer, main_board, main_told, psg_board, sub_access}
 use Rattle.bus_shared.specs.Entries.{batch_entry, line_entry}
 use Rattle.bus_shared.specs.Board.{Board}
-use Rattle.md_machine.specs.Parts.{DrawValue, FmValue, IsDraw, IsFm, IsMain, IsPsg, IsSub, PsgValue, SubValue}
+use Rattle.md_machine.specs.Parts.{DrawValue, FmValue, IsDraw, IsFm, IsMain, IsPsg, IsSub, MainValue, PsgValue, SubValue}
 use Rattle.vdp_planes.specs.declared.view.LineView.{LineView}
 use Rattle.vdp_planes.specs.View.{view_of}
 use Rattle.vdp_chip.specs.Drawing as drawings
 use Rattle.md_machine.specs.Lines.{drawn_from, no_drawing, told_view, untold}
-use Rattle.md_machine.specs.declared.chips.main.MainChip.{MainChip}
 use Rattle.md_machine.specs.declared.chips.Chip.{Chip}
 use Rattle.md_machine.specs.declared.chips.Chip.TheVariants.{Main, Sub, Draw, Fm, Psg}
 
@@ -35,15 +34,15 @@ answer_in None = record { value = 0; transfer = None; cost = 0 }
 answer_in (Some answer) = answer
 
 -- the 68000: an access keeps its answer, and the private work takes it
-abbrev pub main_advance : MainChip → MainChip
+abbrev pub main_advance : MainValue → MainValue
 main_advance c = record { chip = record c.chip { state = answered c.chip.cart c.chip.state (answer_in c.answer) }; answer = None }
 
 -- the 68000 begins an instruction
-abbrev pub main_sample : MainChip → ℕ → MainChip
+abbrev pub main_sample : MainValue → ℕ → MainValue
 main_sample c level = record c { chip = record c.chip { state = begun c.chip.cart c.chip.state level } }
 
 -- the board answers the 68000's access
-abbrev pub main_perform : MainChip → Board → Accessed MainChip Board
+abbrev pub main_perform : MainValue → Board → Accessed MainValue Board
 main_perform c b =
     let request = request_of c.chip.cart c.chip.state in
     let key = (next_of c.chip.state).key in

@@ -31,10 +31,7 @@ pub(crate) fn first_chips(alloc: Global, cart: Arc<Cart>, pal: bool) -> Result<V
         chip: Chip80::power_on(alloc, cart.clone()?)?,
         answer: None,
     };
-    let main = MainChip {
-        chip: Chip68::power_on(alloc, cart)?,
-        answer: None,
-    };
+    let main = MainChip::new(alloc, Chip68::power_on(alloc, cart)?)?;
     let psg = PsgChip::power_on(alloc)?;
     let chips = [
         Chip::Main(main),

@@ -84,10 +84,7 @@ fn chips_of(
 {
     let batch = first_batch(at);
     let chips = [
-        Chip::Main(MainChip {
-            chip: main,
-            answer: None,
-        }),
+        Chip::Main(MainChip::new(alloc, main)?),
         Chip::Sub(SubChip {
             chip: sub,
             answer: None,

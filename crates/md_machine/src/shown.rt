@@ -97,7 +97,7 @@ fn main_in(chip: &Chip) -> &Chip68
     ensures { result.now ≡ (main_of chip.now).chip }
 {
     match chip {
-        Chip::Main(main) => &main.chip,
+        Chip::Main(main) => main.chip(),
         Chip::Sub(_) | Chip::Draw(_) | Chip::Fm(_) | Chip::Psg(_) => unreachable!(),
     }
 }

@@ -1,4 +1,4 @@
-ghost use Rattle.std.specs.Prelude.{◌≡◌, ◌^◌, ◌<◌, ◌≤◌, true, false, IfSome, IsSome};
+ghost use Rattle.std.specs.Prelude.{◌≡◌, ◌^◌, ◌<◌, ◌≤◌, true, false, None, IfOk, IfSome, IsSome};
 ghost use Rattle.m68k_chip.specs.Events.{WentAhead, request_of};
 ghost use Rattle.m68k_chip.specs.Validity.{Fits};
 ghost use Rattle.m68k_chip.specs.States.{next_of};
@@ -8,16 +8,43 @@ ghost use Rattle.md_machine.specs.Rules as rules;
 
 use bus_shared::Shared;
 use m68k_chip::Chip68;
-use md_word::{Answer68, Entry, Next, Pins68};
+use md_word::{Answer68, Entry, Next, NoMemory, Pins68};
+use std::alloc::Global;
+use std::marker::Model;
 
-/// The 68000, with the answer that it keeps between the two halves of an access.
+/// The 68000, with the answer that it keeps between the two halves of an access. It has memory of its own, so
+/// that a chip is small where it is handed to a worker.
 #[derive(Drop)]
 pub struct MainChip {
-    pub(crate) chip: Chip68,
-    pub(crate) answer: Option<Answer68>,
+    chip: Box<Chip68>,
+    answer: Option<Answer68>,
+}
+
+impl Model for MainChip {
+    ghost use Rattle.md_machine.specs.Parts.{MainValue};
+
+    ghost Value = { MainValue };
+
+    ghost view = { λ c. record { chip = c.chip.value; answer = c.answer } };
 }
 
 impl MainChip {
+    /// A 68000 that keeps no answer.
+    pub(crate) fn new(alloc: Global, chip: Chip68) -> Result<MainChip, NoMemory>
+        ensures { IfOk result (λ main. main ≡ record { chip = chip; answer = None }) }
+    {
+        Ok(MainChip {
+            chip: Box::new(alloc, chip)?,
+            answer: None,
+        })
+    }
+
+    pub(crate) fn chip(&self) -> &Chip68
+        ensures { result.now ≡ self.now.chip }
+    {
+        &self.chip
+    }
+
     pub(crate) fn next(&self) -> Next
         ensures value { result ≡ next_of self.now.chip.state }
         ensures main { IsMain self.now }
@@ -34,8 +61,9 @@ impl MainChip {
         ensures shared { shared.new ≡ (rules.main_perform self.old shared.old).shared }
         ensures entry { result ≡ (rules.main_perform self.old shared.old).entry }
     {
-        let key = self.chip.next().key;
-        let (answer, entry) = shared.carry_out_main(key, self.chip.request());
+        let chip = &*self.chip;
+        let key = chip.next().key;
+        let (answer, entry) = shared.carry_out_main(key, chip.request());
         self.answer = Some(answer);
         entry
     }
@@ -50,10 +78,11 @@ impl MainChip {
         ensures entry { result ≡ (rules.main_perform self.old shared.old).entry }
     {
         shared.known();
-        let key = self.chip.next().key;
-        let (answer, entry) = shared.carry_out_main(key, self.chip.request());
+        let chip = &mut *self.chip;
+        let key = chip.next().key;
+        let (answer, entry) = shared.carry_out_main(key, chip.request());
         self.answer = None;
-        self.chip.answer(answer);
+        chip.answer(answer);
         entry
     }
 
