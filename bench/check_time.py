@@ -7,7 +7,10 @@
 
 The first works on a copy of the repository, so that it leaves what is kept as it is; `--test` checks
 each crate with its tests. The second looks four times a second at the processes of the run, and so
-misses up to a quarter of a second of each. A busy machine adds up to a fifth.
+misses up to a quarter of a second of each; its last line tells how much of the time in which processors
+were wanted the host gave to others. A busy machine adds up to a fifth. Seconds of a host whose caches others
+fill count for less: there a check of much memory was seen to take three times those of a quiet one, and one of
+little memory a quarter more.
 """
 import collections
 import os
@@ -100,6 +103,13 @@ def kind_of(words):
     return words[1] + ("--test" if "--test" in words else "")
 
 
+def worked_and_stolen():
+    """The seconds in which processors worked, of whatever process, and those that the host gave to others."""
+    ticks = [int(word) for word in pathlib.Path("/proc/stat").read_text().split()[1:9]]
+    user, nice, system, _idle, _iowait, irq, softirq, steal = (tick / TICK for tick in ticks)
+    return user + nice + system + irq + softirq, steal
+
+
 def watch(command):
     job = subprocess.Popen(command)
     seen = {}
@@ -130,6 +140,7 @@ def main():
     if words[:1] == ["--log"]:
         rows = read(words[1])
     elif words[:1] == ["--watch"]:
+        before = worked_and_stolen()
         rows = watch(words[1:])
     else:
         flags = [word for word in words if word.startswith("--")]
@@ -141,6 +152,9 @@ def main():
     for crate, seconds in sorted(sums.items()):
         print(f"{crate:<16} {'all':<14} {seconds:8.1f}")
     print(f"{'all':<16} {'all':<14} {sum(sums.values()):8.1f}")
+    if words[:1] == ["--watch"]:
+        worked, stolen = (now - then for now, then in zip(worked_and_stolen(), before))
+        print(f"stolen by the host: {stolen / max(worked + stolen, 1 / TICK):.0%} of the time wanted")
 
 
 if __name__ == "__main__":
