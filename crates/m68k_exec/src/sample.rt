@@ -33,22 +33,22 @@ const TRACE_EXCEPTION: u8 = 9;
 
 /// Whether an instruction that began with these registers and ended in this exception, 0 for none,
 /// leaves a trace pending.
-fn leaves_trace(regs: &Regs, cause: u8) -> bool
-    ensures { result ≡ samples.leaves_trace regs.now cause }
+fn leaves_trace(regs: &Regs, vector: u8) -> bool
+    ensures { result ≡ samples.leaves_trace regs.now vector }
 {
     let sr = regs.sr;
-    sr & TRACE != 0 && !matches!(cause, 3 | 4 | 8 | 10 | 11)
+    sr & TRACE != 0 && !matches!(vector, 3 | 4 | 8 | 10 | 11)
 }
 
 /// What an exception took, by its vector number.
-fn spent_in(cause: u8, accesses: u8) -> Spent
-    ensures { result ≡ samples.spent_in cause accesses }
+fn spent_in(vector: u8, accesses: u8) -> Spent
+    ensures { result ≡ samples.spent_in vector accesses }
 {
     Spent {
         taken: false,
         expired: false,
         count: 0,
-        cause,
+        cause: vector,
         accesses,
     }
 }
@@ -130,7 +130,7 @@ fn take_address_error(
 #[inline(never)]
 fn take_numbered(
     op: &Op,
-    cause: u8,
+    vector: u8,
     found: &Regs,
     around: &Around,
     regs: &mut Regs,
@@ -139,12 +139,12 @@ fn take_numbered(
 )
     requires room { array_vec_len progress.old.writes ≤ 64 }
     requires used { progress.old.used ≤ 4 }
-    requires some { cause ≢ 0 }
-    ensures value { told_by step.new regs.new (done_of progress.new) ≡ samples.take_exception op.now (Numbered cause) (samples.leaves_trace found.now cause) found.now regs.old (memory_of around.now) (done_of progress.old) }
+    requires some { vector ≢ 0 }
+    ensures value { told_by step.new regs.new (done_of progress.new) ≡ samples.take_exception op.now (Numbered vector) (samples.leaves_trace found.now vector) found.now regs.old (memory_of around.now) (done_of progress.old) }
     ensures kept { Keeps step.new found.now regs.new }
 {
-    let exception = Exception::Numbered(cause);
-    let trace = leaves_trace(found, cause);
+    let exception = Exception::Numbered(vector);
+    let trace = leaves_trace(found, vector);
     take_exception(op, exception, trace, found, around, regs, progress, step)
 }
 
@@ -161,13 +161,13 @@ fn ended_by(
 )
     requires room { array_vec_len progress.old.writes ≤ 64 }
     requires most { progress.old.used ≤ 32 }
-    requires ended { outcome.now.cause ≢ 0 → progress.old.used ≤ 4 }
+    requires ended { outcome.now.vector ≢ 0 → progress.old.used ≤ 4 }
     ensures value { told_by step.new regs.new (done_of progress.new) ≡ samples.ended_by op.now found.now (outcome_of outcome.now regs.old) (memory_of around.now) (done_of progress.old) }
     ensures kept { Keeps step.new found.now regs.new }
 {
-    let cause = outcome.cause;
-    if cause != 0 {
-        return take_numbered(op, cause, found, around, regs, progress, step);
+    let vector = outcome.vector;
+    if vector != 0 {
+        return take_numbered(op, vector, found, around, regs, progress, step);
     }
     *step = Step::Done(Finish {
         op: *op,

@@ -50,7 +50,7 @@ use Rattle.m68k_laws.specs.Frames.{left_by}
 
 -- an outcome that is no exception, or leaves this stack pointer
 abbrev pub Leaves : ℕ → Outcome → Type 0
-Leaves stack outcome = outcome.cause ≢ 0 → outcome.regs.ssp ≡ stack
+Leaves stack outcome = outcome.vector ≢ 0 → outcome.regs.ssp ≡ stack
 
 abbrev pub LeavesAt : ℕ → Result (Outcome × Done) Stop → Type 0
 LeavesAt stack (Ok x) = Leaves stack x.0
@@ -61,7 +61,7 @@ pub record Yields (stack : ℕ) (act : Act Outcome) : Type 0 where
 
 -- no exception
 abbrev Plain : Outcome → Type 0
-Plain outcome = outcome.cause ≡ 0
+Plain outcome = outcome.vector ≡ 0
 
 give : (stack : ℕ) (outcome : Outcome) → Leaves stack outcome → Yields stack (actions.give outcome)
 give stack outcome h = record { at = λ memory before. h }

@@ -75,10 +75,10 @@ waits_by regs memory (Err (Odd address read used)) h even fewer = absurd (no_fau
 frame_same : (number : ℕ) (memory : Memory) (one two : Regs) → one.ssp ≡ two.ssp → frame number one memory ≡ frame number two memory
 frame_same number memory one two e = ap (λ stack. frame number (record one { ssp = stack }) memory) e
 
-known_after_all : (regs : Regs) (memory : Memory) (outcome : Outcome) (done : Done) → Known regs memory (Ok (outcome, done)) → outcome.cause ≢ 0 → AfterAll regs memory done.used outcome.cause (words (frame outcome.cause outcome.regs memory))
+known_after_all : (regs : Regs) (memory : Memory) (outcome : Outcome) (done : Done) → Known regs memory (Ok (outcome, done)) → outcome.vector ≢ 0 → AfterAll regs memory done.used outcome.vector (words (frame outcome.vector outcome.regs memory))
 known_after_all regs memory outcome done h some = record {
   completes = completed _ (length memory.answers) done.used h.along;
-  pushes = ap words (frame_same outcome.cause memory outcome.regs (left_by (named regs memory) (started regs memory)) (h.left some));
+  pushes = ap words (frame_same outcome.vector memory outcome.regs (left_by (named regs memory) (started regs memory)) (h.left some));
 }
 
 known_after_fault : (regs : Regs) (memory : Memory) (address : ℕ) (read : Bool) (used : ℕ) → Known regs memory (Err (Odd address read used)) → AfterFault regs memory used 3 (words (frame 3 regs memory))
@@ -91,14 +91,14 @@ known_after_fault regs memory address read used h = record {
 }
 
 -- where it waits
-asks_all : (regs : Regs) (memory : Memory) (outcome : Outcome) (done : Done) (request : Request68) (test : Bool) → Known regs memory (Ok (outcome, done)) → (outcome.cause == 0) ≡ test → samples.ended_by (named regs memory) regs outcome memory done ≡ Err (Ask request) → (number : ℕ) × ReachesFrame regs memory (length memory.answers) number (λ list pushed. WaitsAt list pushed request)
+asks_all : (regs : Regs) (memory : Memory) (outcome : Outcome) (done : Done) (request : Request68) (test : Bool) → Known regs memory (Ok (outcome, done)) → (outcome.vector == 0) ≡ test → samples.ended_by (named regs memory) regs outcome memory done ≡ Err (Ask request) → (number : ℕ) × ReachesFrame regs memory (length memory.answers) number (λ list pushed. WaitsAt list pushed request)
 unfolding samples.ended_by
 asks_all regs memory outcome done request true h is e = absurd (let wrong = rw is at e in cc)
 asks_all regs memory outcome done request false h is e =
-    let some : outcome.cause ≢ 0 = grind (arith, nat_tests) in
-    let list = words (frame outcome.cause outcome.regs memory) in
-    let asks : AsksAlong list (length memory.answers) done.used request = subst (λ sample. ComesTo list (length memory.answers) done.used sample) (rw is at e) (exception (named regs memory) (Numbered outcome.cause) (samples.leaves_trace regs outcome.cause) regs outcome.regs memory done h.along.enough) in (
-      outcome.cause,
+    let some : outcome.vector ≢ 0 = grind (arith, nat_tests) in
+    let list = words (frame outcome.vector outcome.regs memory) in
+    let asks : AsksAlong list (length memory.answers) done.used request = subst (λ sample. ComesTo list (length memory.answers) done.used sample) (rw is at e) (exception (named regs memory) (Numbered outcome.vector) (samples.leaves_trace regs outcome.vector) regs outcome.regs memory done h.along.enough) in (
+      outcome.vector,
       record {
         taken = done.used;
         pushed = asks.taken;
@@ -110,7 +110,7 @@ asks_all regs memory outcome done request false h is e =
     )
 
 asks_by : (regs : Regs) (memory : Memory) (result : Result (Outcome × Done) Stop) (request : Request68) → Known regs memory result → sample_after regs memory result ≡ Err (Ask request) → WaitsAt (words_at regs memory) (length memory.answers) request ⊎ ((number : ℕ) × ReachesFrame regs memory (length memory.answers) number (λ list pushed. WaitsAt list pushed request))
-asks_by regs memory (Ok x) request h e = inr (asks_all regs memory x.0 x.1 request (x.0.cause == 0) h refl e)
+asks_by regs memory (Ok x) request h e = inr (asks_all regs memory x.0 x.1 request (x.0.vector == 0) h refl e)
 asks_by regs memory (Err (Ask asked)) request h e =
     let is : asked ≡ request = cc in inl (subst (λ asked. WaitsAt (words_at regs memory) (length memory.answers) asked) is (waited _ _ asked h.along))
 asks_by regs memory (Err (Odd address read used)) request h e =
@@ -137,32 +137,32 @@ cause_of : Result Ended Stop → ℕ
 cause_of (Ok ended) = ended.spent.cause
 cause_of (Err stop) = 0
 
-completes_all : (regs : Regs) (memory : Memory) (outcome : Outcome) (done : Done) (ended : Ended) (test : Bool) → (outcome.cause == 0) ≡ test → samples.ended_by (named regs memory) regs outcome memory done ≡ Ok ended → ended.spent.cause ≡ 0 → done.used ≡ ended.spent.accesses
+completes_all : (regs : Regs) (memory : Memory) (outcome : Outcome) (done : Done) (ended : Ended) (test : Bool) → (outcome.vector == 0) ≡ test → samples.ended_by (named regs memory) regs outcome memory done ≡ Ok ended → ended.spent.cause ≡ 0 → done.used ≡ ended.spent.accesses
 unfolding samples.ended_by accesses_of
 completes_all regs memory outcome done ended true is e none = ap accesses_of (rw is at e)
 completes_all regs memory outcome done ended false is e none =
-    let some : outcome.cause ≢ 0 = grind (arith, nat_tests) in
-    let not_0 : ended.spent.cause ≢ 0 = subst Other (rw is at e) (exception_other (named regs memory) (Numbered outcome.cause) (samples.leaves_trace regs outcome.cause) regs outcome.regs memory done some) in
+    let some : outcome.vector ≢ 0 = grind (arith, nat_tests) in
+    let not_0 : ended.spent.cause ≢ 0 = subst Other (rw is at e) (exception_other (named regs memory) (Numbered outcome.vector) (samples.leaves_trace regs outcome.vector) regs outcome.regs memory done some) in
     absurd (not_0 none)
 
 completes_by : (regs : Regs) (memory : Memory) (result : Result (Outcome × Done) Stop) (ended : Ended) → Known regs memory result → sample_after regs memory result ≡ Ok ended → ended.spent.cause ≡ 0 → IsComplete (words_at regs memory) ended.spent.accesses
 completes_by regs memory (Ok x) ended h e none =
-    let used = completes_all regs memory x.0 x.1 ended (x.0.cause == 0) refl e none in
+    let used = completes_all regs memory x.0 x.1 ended (x.0.vector == 0) refl e none in
     subst (λ taken. IsComplete (words_at regs memory) taken) used (completed _ (length memory.answers) x.1.used h.along)
 completes_by regs memory (Err (Ask request)) ended h e none = absurd (cc)
 completes_by regs memory (Err (Odd address read used)) ended h e none =
     let not_0 : ended.spent.cause ≢ 0 = subst Other e (exception_other (named regs memory) (AddressError (opcode (instruction_words regs.pc memory)) address read) false regs regs memory (record { used = used; writes = [] }) (omega arith)) in
     absurd (not_0 none)
 
-ends_all : (regs : Regs) (memory : Memory) (outcome : Outcome) (done : Done) (ended : Ended) (test : Bool) → Known regs memory (Ok (outcome, done)) → (outcome.cause == 0) ≡ test → samples.ended_by (named regs memory) regs outcome memory done ≡ Ok ended → ended.spent.cause ≢ 0 → (number : ℕ) × ReachesFrame regs memory ended.spent.accesses number IsComplete × (IsFalse ended.halted → ended.spent.cause ≡ number)
+ends_all : (regs : Regs) (memory : Memory) (outcome : Outcome) (done : Done) (ended : Ended) (test : Bool) → Known regs memory (Ok (outcome, done)) → (outcome.vector == 0) ≡ test → samples.ended_by (named regs memory) regs outcome memory done ≡ Ok ended → ended.spent.cause ≢ 0 → (number : ℕ) × ReachesFrame regs memory ended.spent.accesses number IsComplete × (IsFalse ended.halted → ended.spent.cause ≡ number)
 unfolding samples.ended_by cause_of
 ends_all regs memory outcome done ended true h is e other_ = absurd (other_ (sym (ap cause_of (rw is at e))))
 ends_all regs memory outcome done ended false h is e other_ =
-    let some : outcome.cause ≢ 0 = grind (arith, nat_tests) in
-    let list = words (frame outcome.cause outcome.regs memory) in
-    let trace = samples.leaves_trace regs outcome.cause in
-    let ends : EndsAlong list (length memory.answers) done.used ended.spent.accesses = subst (λ sample. ComesTo list (length memory.answers) done.used sample) (rw is at e) (exception (named regs memory) (Numbered outcome.cause) trace regs outcome.regs memory done h.along.enough) in (
-      outcome.cause,
+    let some : outcome.vector ≢ 0 = grind (arith, nat_tests) in
+    let list = words (frame outcome.vector outcome.regs memory) in
+    let trace = samples.leaves_trace regs outcome.vector in
+    let ends : EndsAlong list (length memory.answers) done.used ended.spent.accesses = subst (λ sample. ComesTo list (length memory.answers) done.used sample) (rw is at e) (exception (named regs memory) (Numbered outcome.vector) trace regs outcome.regs memory done h.along.enough) in (
+      outcome.vector,
       record {
         taken = done.used;
         pushed = ends.taken;
@@ -171,11 +171,11 @@ ends_all regs memory outcome done ended false h is e other_ =
         comes = inr (known_after_all regs memory outcome done h some);
         holds = ends.completes;
       },
-      subst (Caused outcome.cause) (rw is at e) (exception_caused (named regs memory) (Numbered outcome.cause) trace regs outcome.regs memory done),
+      subst (Caused outcome.vector) (rw is at e) (exception_caused (named regs memory) (Numbered outcome.vector) trace regs outcome.regs memory done),
     )
 
 ends_by : (regs : Regs) (memory : Memory) (result : Result (Outcome × Done) Stop) (ended : Ended) → Known regs memory result → sample_after regs memory result ≡ Ok ended → ended.spent.cause ≢ 0 → (number : ℕ) × ReachesFrame regs memory ended.spent.accesses number IsComplete × (IsFalse ended.halted → ended.spent.cause ≡ number)
-ends_by regs memory (Ok x) ended h e some = ends_all regs memory x.0 x.1 ended (x.0.cause == 0) h refl e some
+ends_by regs memory (Ok x) ended h e some = ends_all regs memory x.0 x.1 ended (x.0.vector == 0) h refl e some
 ends_by regs memory (Err (Ask request)) ended h e some = absurd (cc)
 ends_by regs memory (Err (Odd address read used)) ended h e some =
     let list = words (frame 3 regs memory) in

@@ -1,4 +1,4 @@
--- An address error, or a cause other than 0, comes within four answers; and no instruction takes
+-- An address error, or a vector other than 0, comes within four answers; and no instruction takes
 -- more than 32.
 use Rattle.std.proofs.Common.{◌≡◌, ℕ, zero, suc, ◌+◌, ◌*◌, ◌<◌, ◌≤◌, ◌==◌, ◌%◌, ◌/◌, ◌∙◌, Bool, true, false, List, [], ◌∷◌, length, Result, Ok, Err, refl, ap, subst, arith}
 use Rattle.std.specs.Prelude.{◌≢◌, if◌then◌else◌, count_ones}
@@ -38,7 +38,7 @@ use Rattle.m68k_exec.specs.declared.access.stop.Stop.TheVariants.{Ask, Odd}
 
 pub record IsEarly (act : Act Outcome) : Type 0 where
   pub odd : (memory : Memory) (before : Done) (address : ℕ) (read : Bool) (used : ℕ) → act memory before ≡ Err (Odd address read used) → before.used ≤ length memory.answers → used ≤ before.used + 4
-  pub caused : (memory : Memory) (before : Done) (x : Outcome) (after : Done) → act memory before ≡ Ok (x, after) → x.cause ≢ 0 → before.used ≤ length memory.answers → after.used ≤ before.used + 4
+  pub caused : (memory : Memory) (before : Done) (x : Outcome) (after : Done) → act memory before ≡ Ok (x, after) → x.vector ≢ 0 → before.used ≤ length memory.answers → after.used ≤ before.used + 4
 
 from_few : (most : ℕ) (act : Act Outcome) → most ≤ 4 → Takes most act → IsEarly act
 from_few most act few h = record {
@@ -46,9 +46,9 @@ from_few most act few h = record {
   caused = λ memory before x after e other in_range. (let r = h.value memory before x after e in_range in omega (arith, r.0, few));
 }
 
--- an outcome of this kind has the cause 0
+-- an outcome of this kind has the vector 0
 abbrev IsPlain : Result (Outcome × Done) Stop → Type 0
-IsPlain (Ok x) = x.0.cause ≡ 0
+IsPlain (Ok x) = x.0.vector ≡ 0
 IsPlain (Err stop) = Unit {0}
 
 plain_on : {A : Type 0} (first : Result (A × Done) Stop) (f : A → Done → Result (Outcome × Done) Stop) → ((x : A) (after : Done) → IsPlain (f x after)) → IsPlain (go_on first f)
@@ -115,7 +115,7 @@ load_list size list at regs memory done =
 
 -- MOVEM's outcome
 abbrev CountsList : ℕ → Result (Outcome × Done) Stop → Type 0
-CountsList list (Ok x) = (x.0.cause ≡ 0) × (x.0.count ≡ count_ones list)
+CountsList list (Ok x) = (x.0.vector ≡ 0) × (x.0.count ≡ count_ones list)
 CountsList list (Err stop) = Unit {0}
 
 counted_on : {A : Type 0} (list : ℕ) (first : Result (A × Done) Stop) (f : A → Regs) → CountsList list (go_on first (λ x after. Ok (movem.moved list (f x), after)))
@@ -241,7 +241,7 @@ few (ops.Muls _ mode) = let t = touches_most Word mode in omega (arith, t)
 few (ops.ShiftMemory _ mode) = let t = touches_most Word mode in omega (arith, t)
 few op = omega arith
 
--- an address error, or a cause other than 0, comes within four answers
+-- an address error, or a vector other than 0, comes within four answers
 pub early : (op : Op) (start : ℕ) (regs : Regs) → IsEarly (execution.row op start regs)
 early (ops.MovemToMemory size list mode) start regs = from_once list _ (store_odd size list mode start regs) (store_counted size list mode start regs)
 early (ops.MovemToRegisters size list mode) start regs = from_once list _ (load_odd size list mode start regs) (load_counted size list mode start regs)

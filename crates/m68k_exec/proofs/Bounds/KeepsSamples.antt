@@ -81,8 +81,8 @@ choice cause false x y h k = k refl
 ended_by : (cause : ℕ) (op : Op) (found : Regs) (x : Outcome) (memory : Memory) (after : Done) → HasStatus found → StatusAfter x → EndsRightly cause (samples.ended_by op found x memory after)
 unfolding samples.ended_by
 ended_by cause op found x memory after h k =
-    choice cause (x.cause == 0) _ _ (λ c. k)
-    (λ c. take_exception cause op (Numbered x.cause) (leaves_trace found x.cause) found x.regs memory after tt h k)
+    choice cause (x.vector == 0) _ _ (λ c. k)
+    (λ c. take_exception cause op (Numbered x.vector) (leaves_trace found x.vector) found x.regs memory after tt h k)
 
 answered : (cause : ℕ) (op : Op) (first : ℕ) (found : Regs) (memory : Memory) (result : Result (Outcome × Done) Stop) → HasStatus found → Fine StatusAfter result → EndsRightly cause (samples.answered_by op first found memory result)
 answered cause op first found memory (Ok x) h k = ended_by cause op found x.0 memory x.1 h k

@@ -164,11 +164,11 @@ finished_spent op start found regs memory x after is =
 ended_by : (op : Op) (start : ℕ) (found regs : Regs) (memory : Memory) (x : Outcome) (after : Done) → execution.row op start regs memory nothing ≡ Ok (x, after) → IsBounded op memory (samples.ended_by op found x memory after)
 unfolding samples.ended_by
 ended_by op start found regs memory x after is =
-    choice op memory (x.cause == 0) _ _ (λ c. (refl, finished_spent op start found regs memory x after is, λ none. record { start = start; regs = regs; outcome = x; after = after; is = is; same = refl }))
-    (λ c. (let other = eqb-false x.cause 0 c in
+    choice op memory (x.vector == 0) _ _ (λ c. (refl, finished_spent op start found regs memory x after is, λ none. record { start = start; regs = regs; outcome = x; after = after; is = is; same = refl }))
+    (λ c. (let other = eqb-false x.vector 0 c in
     let few = (early op start regs).caused memory nothing x after is other (omega arith) in
     let there = (row op start regs).value memory nothing x after is (omega arith) in
-    take_exception op (Numbered x.cause) (leaves_trace found x.cause) found x.regs memory after (omega (arith, few)) there.1 other))
+    take_exception op (Numbered x.vector) (leaves_trace found x.vector) found x.regs memory after (omega (arith, few)) there.1 other))
 
 answered : (op : Op) (start first : ℕ) (found regs : Regs) (memory : Memory) (result : Result (Outcome × Done) Stop) → execution.row op start regs memory nothing ≡ result → IsBounded op memory (samples.answered_by op first found memory result)
 answered op start first found regs memory (Ok x) is = ended_by op start found regs memory x.0 x.1 is

@@ -25,7 +25,7 @@ most op start regs memory before fresh x after e =
     let taken = (row32 op start regs).value memory before x after e (none_taken memory before fresh) in
     omega (arith, none, taken.0)
 
-pub ended_within : (op : Op) (start : ℕ) (regs : Regs) (memory : Memory) (before : Done) → before ≡ nothing → (x : Outcome) (after : Done) → row op start regs memory before ≡ Ok (x, after) → x.cause ≢ 0 → after.used ≤ 4
+pub ended_within : (op : Op) (start : ℕ) (regs : Regs) (memory : Memory) (before : Done) → before ≡ nothing → (x : Outcome) (after : Done) → row op start regs memory before ≡ Ok (x, after) → x.vector ≢ 0 → after.used ≤ 4
 ended_within op start regs memory before fresh x after e other =
     let none : before.used ≡ 0 = ap (λ (d : Done). d.used) fresh in
     let taken = (early op start regs).caused memory before x after e other (none_taken memory before fresh) in

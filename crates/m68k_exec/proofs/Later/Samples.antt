@@ -100,16 +100,16 @@ choose false x y z h k = k refl
 ended_by : (op : Op) (found : Regs) (outcome : Outcome) (one other : Memory) (before : Done) (ended : Ended) → samples.ended_by op found outcome one before ≡ Ok ended → SameBelow ended.spent.accesses one other → samples.ended_by op found outcome other before ≡ Ok ended
 unfolding samples.ended_by
 ended_by op found outcome one other before ended e same =
-    split _ (outcome.cause == 0) _ _ _ e
+    split _ (outcome.vector == 0) _ _ _ e
     (λ test w. rw test w)
-    (λ test w. rw test (take_exception op (Numbered outcome.cause) (samples.leaves_trace found outcome.cause) found outcome.regs one other before ended w same))
+    (λ test w. rw test (take_exception op (Numbered outcome.vector) (samples.leaves_trace found outcome.vector) found outcome.regs one other before ended w same))
 
 ended-taken : (op : Op) (found : Regs) (outcome : Outcome) (one : Memory) (before : Done) (ended : Ended) → samples.ended_by op found outcome one before ≡ Ok ended → before.used ≤ ended.spent.accesses
 unfolding samples.ended_by accesses
 ended-taken op found outcome one before ended e =
-    split _ (outcome.cause == 0) _ _ _ e
+    split _ (outcome.vector == 0) _ _ _ e
     (λ test w. (let count : before.used ≡ ended.spent.accesses = ap accesses w in omega (arith, count)))
-    (λ test w. exception-taken op (Numbered outcome.cause) (samples.leaves_trace found outcome.cause) found outcome.regs one before ended w)
+    (λ test w. exception-taken op (Numbered outcome.vector) (samples.leaves_trace found outcome.vector) found outcome.regs one before ended w)
 
 answered : (op : Op) (start first : ℕ) (found regs : Regs) (one other : Memory) (ended : Ended) (result : Result (Outcome × Done) Stop) → execution.row op start regs one nothing ≡ result → samples.answered_by op first found one result ≡ Ok ended → SameBelow ended.spent.accesses one other → samples.answered_by op first found other (execution.row op start regs other nothing) ≡ Ok ended
 answered op start first found regs one other ended (Ok x) is e same =

@@ -10,22 +10,22 @@ pub record Outcome : Type 0 where
   pub taken : Bool
   pub expired : Bool
   pub count : ℕ
-  pub cause : ℕ
+  pub vector : ℕ
   pub stopped : Bool
 
 -- what a call told, with the registers that it left
 abbrev pub outcome_of : told.Outcome → Regs → Outcome
-outcome_of told regs = record { regs = regs; taken = told.taken; expired = told.expired; count = told.count; cause = told.cause; stopped = told.stopped }
+outcome_of told regs = record { regs = regs; taken = told.taken; expired = told.expired; count = told.count; vector = told.vector; stopped = told.stopped }
 
 -- nothing to tell: no branch taken, no loop ended, none moved, no exception, no stop
 abbrev pub told_nothing : told.Outcome
-told_nothing = record { taken = false; expired = false; count = 0; cause = 0; stopped = false }
+told_nothing = record { taken = false; expired = false; count = 0; vector = 0; stopped = false }
 
 -- an instruction that ends in the exception of this vector
 abbrev pub ended_in : ℕ → told.Outcome
-ended_in cause = record told_nothing { cause = cause }
+ended_in vector = record told_nothing { vector = vector }
 
 -- the registers, and nothing else to tell
 abbrev pub plain : Regs → Outcome
 plain regs =
-    record { regs = regs; taken = false; expired = false; count = 0; cause = 0; stopped = false }
+    record { regs = regs; taken = false; expired = false; count = 0; vector = 0; stopped = false }

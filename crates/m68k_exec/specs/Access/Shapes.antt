@@ -23,11 +23,11 @@ jump_to target regs = plain (record regs { pc = target })
 
 -- it ends in the exception of this vector number, which saves the next instruction's address
 abbrev pub end_in : ℕ → Regs → Outcome
-end_in cause regs = record (plain regs) { cause = cause }
+end_in vector regs = record (plain regs) { vector = vector }
 
 -- it is not carried out: the exception saves its own address
 abbrev pub refuse : ℕ → ℕ → Regs → Outcome
-refuse cause start regs = end_in cause (record regs { pc = start })
+refuse vector start regs = end_in vector (record regs { pc = start })
 
 -- an operand is read, and the flags are set
 unfoldable pub test_operand : Task → Size → ℕ → Mode → ℕ → Regs → Act Outcome

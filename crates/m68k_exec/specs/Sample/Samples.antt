@@ -45,13 +45,13 @@ is_tracing regs = bit_of regs.sr 0x8000
 -- a trace is pending after an instruction that began under T, unless it ended in an address error,
 -- or was not carried out: illegal, privileged, line A or line F
 abbrev pub leaves_trace : Regs → ℕ → Bool
-leaves_trace regs cause =
-    is_tracing regs && not (cause == 3 || cause == 4 || cause == 8 || cause == 10 || cause == 11)
+leaves_trace regs vector =
+    is_tracing regs && not (vector == 3 || vector == 4 || vector == 8 || vector == 10 || vector == 11)
 
 -- what the time of an exception depends on
 abbrev pub spent_in : ℕ → ℕ → Spent
-spent_in cause accesses =
-    record { taken = false; expired = false; count = 0; cause = cause; accesses = accesses }
+spent_in vector accesses =
+    record { taken = false; expired = false; count = 0; cause = vector; accesses = accesses }
 
 -- the exception has begun. Where the processor halts, all registers are as they were found, nothing
 -- private is written, and the accesses that were made stay
@@ -100,8 +100,8 @@ finished op found outcome done = record {
 -- an instruction that came to its end, perhaps in an exception
 unfoldable pub ended_by : Op → Regs → Outcome → Memory → Done → Result Ended Stop
 ended_by op found outcome memory done =
-    if outcome.cause == 0 then Ok (finished op found outcome done)
-    else take_exception op (Numbered outcome.cause) (leaves_trace found outcome.cause) found outcome.regs memory done
+    if outcome.vector == 0 then Ok (finished op found outcome done)
+    else take_exception op (Numbered outcome.vector) (leaves_trace found outcome.vector) found outcome.regs memory done
 
 -- at an address error the registers are as they were found, and nothing private is written; the
 -- accesses before it stay

@@ -12,7 +12,7 @@ pub struct Outcome {
     /// or of unlike neighbours in the source.
     pub count: u8,
     /// The exception that it ends in, by its vector number; 0 for none.
-    pub cause: u8,
+    pub vector: u8,
     /// The processor is stopped.
     pub stopped: bool,
 }
@@ -26,7 +26,7 @@ impl Outcome {
             taken: false,
             expired: false,
             count: 0,
-            cause: 0,
+            vector: 0,
             stopped: false,
         }
     }

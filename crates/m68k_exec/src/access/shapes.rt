@@ -21,21 +21,21 @@ pub fn jump_to(target: u32, regs: &mut Regs) -> Outcome
 
 /// The instruction ends in the exception of this vector number, which saves the address of the next
 /// one.
-pub fn end_in(cause: u8) -> Outcome
-    ensures { result ≡ ended_in cause }
+pub fn end_in(vector: u8) -> Outcome
+    ensures { result ≡ ended_in vector }
 {
     Outcome {
-        cause,
+        vector,
         ..Outcome::plain()
     }
 }
 
 /// The instruction is not carried out: the exception of this vector number saves its own address.
-pub fn refuse(cause: u8, start: u32, regs: &mut Regs) -> Outcome
-    ensures { outcome_of result regs.new ≡ shapes.refuse cause start regs.old }
+pub fn refuse(vector: u8, start: u32, regs: &mut Regs) -> Outcome
+    ensures { outcome_of result regs.new ≡ shapes.refuse vector start regs.old }
 {
     regs.pc = start;
-    end_in(cause)
+    end_in(vector)
 }
 
 /// Reads an operand and sets the flags. `pc` is where the mode's extension words stand.
