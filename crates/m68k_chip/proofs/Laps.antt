@@ -177,7 +177,7 @@ closed lap cart ram before after watched end level begun last rest start regs an
     )
 
 -- where no lap is known nothing is to be shown
-pub away : (place : Place) (lap : Lap) (cart : List ℕ) (state : State68) (request : Request68) (foreseen : Foreseen) → place ≡ Away → IsOn place lap cart state request foreseen
+pub away : (place : Place) (lap : Lap) (cart : List ℕ) (state : State68) (request : Option Request68) (foreseen : Foreseen) → place ≡ Away → IsOn place lap cart state request foreseen
 away place lap cart state request foreseen e = subst (λ (p : Place). IsOn p lap cart state request foreseen) (sym e) tt
 
 -- ---- what is seen of samples
@@ -203,14 +203,14 @@ more-watched cart state level end watched cycle quiet now after at seen kind low
 
 -- ---- at the read, and behind its answer
 
-pub at-read : (lap : Lap) (cart : List ℕ) (state : State68) (place : Place) (request : Request68) (foreseen : Foreseen) → IsOn place lap cart state request foreseen → place ≡ AtRead → IsOn AtRead lap cart state request foreseen
+pub at-read : (lap : Lap) (cart : List ℕ) (state : State68) (place : Place) (request : Option Request68) (foreseen : Foreseen) → IsOn place lap cart state request foreseen → place ≡ AtRead → IsOn AtRead lap cart state request foreseen
 at-read lap cart state place request foreseen on is = subst (λ (p : Place). IsOn p lap cart state request foreseen) is on
 
-behind-read : (lap : Lap) (cart : List ℕ) (state : State68) (place : Place) (request : Request68) (foreseen : Foreseen) → IsOn place lap cart state request foreseen → place ≡ PastRead → IsOn PastRead lap cart state request foreseen
+behind-read : (lap : Lap) (cart : List ℕ) (state : State68) (place : Place) (request : Option Request68) (foreseen : Foreseen) → IsOn place lap cart state request foreseen → place ≡ PastRead → IsOn PastRead lap cart state request foreseen
 behind-read lap cart state place request foreseen on is = subst (λ (p : Place). IsOn p lap cart state request foreseen) is on
 
 -- the answer is the one that is known
-pub answers-again : (lap : Lap) (cart : List ℕ) (old new : State68) (place : Place) (request : Request68) (foreseen : Foreseen) (answer : Answer68) → IsOn place lap cart old request foreseen → place ≡ AtRead → answer ≡ lap.answer
+pub answers-again : (lap : Lap) (cart : List ℕ) (old new : State68) (place : Place) (request : Option Request68) (foreseen : Foreseen) (answer : Answer68) → IsOn place lap cart old request foreseen → place ≡ AtRead → answer ≡ lap.answer
     → new ≡ sampling old.ram lap.after (old.start + lap.first) → new ≡ answered cart old answer
 answers-again lap cart old new place request foreseen answer on is same comes =
     let at = at-read lap cart old place request foreseen on is in
@@ -219,7 +219,7 @@ answers-again lap cart old new place request foreseen answer on is same comes =
     ∙ ap (λ (s : State68). answered cart s lap.answer) (sym at.1)
     ∙ ap (answered cart old) (sym same)
 
-pub stands-behind : (lap : Lap) (cart : List ℕ) (old new : State68) (place : Place) (request : Request68) (foreseen : Foreseen) → IsOn place lap cart old request foreseen → place ≡ AtRead
+pub stands-behind : (lap : Lap) (cart : List ℕ) (old new : State68) (place : Place) (request : Option Request68) (foreseen : Foreseen) → IsOn place lap cart old request foreseen → place ≡ AtRead
     → WaitsFor old.stage cart old request → IsForeseen old.stage cart old foreseen → new ≡ sampling old.ram lap.after (old.start + lap.first) → IsOn PastRead (record lap { place = PastRead }) cart new request foreseen
 stands-behind lap cart old new place request foreseen on is waits foresees comes =
     let at = at-read lap cart old place request foreseen on is in
@@ -231,27 +231,27 @@ stands-behind lap cart old new place request foreseen on is waits foresees comes
       subst (λ (s : State68). IsForeseen s.stage cart s foreseen) at.1 foresees,
     )
 
-pub sampling-waits : (cart ram : List ℕ) (regs : Regs) (cycle : ℕ) (new : State68) (request : Request68) → new ≡ sampling ram regs cycle → WaitsFor new.stage cart new request
+pub sampling-waits : (cart ram : List ℕ) (regs : Regs) (cycle : ℕ) (new : State68) (request : Option Request68) → new ≡ sampling ram regs cycle → WaitsFor new.stage cart new request
 sampling-waits cart ram regs cycle new request e = subst (λ (s : State68). WaitsFor s.stage cart s request) (sym e) tt
 
 pub sampling-foresees : (cart ram : List ℕ) (regs : Regs) (cycle : ℕ) (new : State68) (foreseen : Foreseen) → new ≡ sampling ram regs cycle → IsForeseen new.stage cart new foreseen
 sampling-foresees cart ram regs cycle new foreseen e = subst (λ (s : State68). IsForeseen s.stage cart s foreseen) (sym e) tt
 
 -- at the read all registers and numbers are those of it
-pub reads-here : (lap : Lap) (cart ram : List ℕ) (sequencer : Sequencer) (place : Place) (request : Request68) (foreseen : Foreseen) → IsOn place lap cart (state_of sequencer ram) request foreseen → place ≡ AtRead
+pub reads-here : (lap : Lap) (cart ram : List ℕ) (sequencer : Sequencer) (place : Place) (request : Option Request68) (foreseen : Foreseen) → IsOn place lap cart (state_of sequencer ram) request foreseen → place ≡ AtRead
     → (other : List ℕ) → state_of sequencer other ≡ reading other sequencer.regs sequencer.start
 reads-here lap cart ram sequencer place request foreseen on is other =
     let at = (at-read lap cart (state_of sequencer ram) place request foreseen on is).1 in
     ap (λ (s : State68). record s { ram = other }) at ∙ ap (λ (r : Regs). reading other r sequencer.start) (sym (ap (λ (s : State68). s.regs) at))
 
-pub samples-here : (lap : Lap) (cart ram : List ℕ) (sequencer : Sequencer) (place : Place) (request : Request68) (foreseen : Foreseen) → IsOn place lap cart (state_of sequencer ram) request foreseen → place ≡ PastRead
+pub samples-here : (lap : Lap) (cart ram : List ℕ) (sequencer : Sequencer) (place : Place) (request : Option Request68) (foreseen : Foreseen) → IsOn place lap cart (state_of sequencer ram) request foreseen → place ≡ PastRead
     → (other : List ℕ) → state_of sequencer other ≡ sampling other sequencer.regs sequencer.start
 samples-here lap cart ram sequencer place request foreseen on is other =
     let at = (behind-read lap cart (state_of sequencer ram) place request foreseen on is).1 in
     ap (λ (s : State68). record s { ram = other }) at ∙ ap (λ (r : Regs). sampling other r sequencer.start) (sym (ap (λ (s : State68). s.regs) at))
 
 -- the samples lead back to the read
-pub goes-round : (lap : Lap) (cart : List ℕ) (old new : State68) (place : Place) (request : Request68) (foreseen : Foreseen) (level end : ℕ) → IsOn place lap cart old request foreseen → place ≡ PastRead → level ≡ lap.level → old.start + lap.last < end
+pub goes-round : (lap : Lap) (cart : List ℕ) (old new : State68) (place : Place) (request : Option Request68) (foreseen : Foreseen) (level end : ℕ) → IsOn place lap cart old request foreseen → place ≡ PastRead → level ≡ lap.level → old.start + lap.last < end
     → new ≡ reading old.ram lap.from (old.start + lap.rest) → WentAhead lap.samples end cart level old new
 goes-round lap cart old new place request foreseen level end on is same low comes =
     let at = behind-read lap cart old place request foreseen on is in
@@ -260,7 +260,7 @@ goes-round lap cart old new place request foreseen level end on is same low come
     (subst (λ (s : State68). WentAhead lap.samples end cart level (sampling old.ram lap.after old.start) s) (sym comes)
     (subst (λ (l : ℕ). WentAhead lap.samples end cart l (sampling old.ram lap.after old.start) (reading old.ram lap.from (old.start + lap.rest))) (sym same) went))
 
-pub held-again : (lap : Lap) (cart : List ℕ) (old new : State68) (place : Place) (request : Request68) (foreseen : Foreseen) (level end : ℕ) → IsLevel level → IsOn place lap cart old request foreseen → place ≡ PastRead
+pub held-again : (lap : Lap) (cart : List ℕ) (old new : State68) (place : Place) (request : Option Request68) (foreseen : Foreseen) (level end : ℕ) → IsLevel level → IsOn place lap cart old request foreseen → place ≡ PastRead
     → IsChip68 (of cart old) → (next_of old).sample ≡ true → WentAhead lap.samples end cart level old new → new ≡ reading old.ram lap.from (old.start + lap.rest) → IsHeld (of cart new) request foreseen
 held-again lap cart old new place request foreseen level end known on is ok kind went comes =
     let at = behind-read lap cart old place request foreseen on is in
@@ -270,7 +270,7 @@ held-again lap cart old new place request foreseen level end known on is ok kind
       foresees = subst (λ (s : State68). IsForeseen s.stage cart s foreseen) (sym comes) at.4;
     }
 
-pub stands-again : (lap : Lap) (cart : List ℕ) (old new : State68) (place : Place) (request : Request68) (foreseen : Foreseen) → IsOn place lap cart old request foreseen → place ≡ PastRead
+pub stands-again : (lap : Lap) (cart : List ℕ) (old new : State68) (place : Place) (request : Option Request68) (foreseen : Foreseen) → IsOn place lap cart old request foreseen → place ≡ PastRead
     → new ≡ reading old.ram lap.from (old.start + lap.rest) → IsOn AtRead (record lap { place = AtRead }) cart new request foreseen
 stands-again lap cart old new place request foreseen on is comes =
     let at = behind-read lap cart old place request foreseen on is in

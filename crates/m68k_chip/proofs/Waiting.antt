@@ -15,29 +15,30 @@ use Rattle.m68k_chip.specs.declared.stage.Stage.{Stage}
 use Rattle.m68k_chip.specs.declared.stage.Stage.TheVariants.{Sample, Access, Word}
 use Rattle.m68k_chip.specs.Steps.{IsForetold, IsTold, ended_by}
 
-rested-waits : (b : Bool) (cart : List ℕ) (state : State68) (one other : ℕ) (request : Request68) → WaitsFor (if b then at_sample state one else at_word state other).stage cart (if b then at_sample state one else at_word state other) request
+rested-waits : (b : Bool) (cart : List ℕ) (state : State68) (one other : ℕ) (request : Option Request68) → WaitsFor (if b then at_sample state one else at_word state other).stage cart (if b then at_sample state one else at_word state other) request
 rested-waits true cart state one other request = tt
 rested-waits false cart state one other request = tt
 
-came-waits : (cart : List ℕ) (state : State68) (cause : ℕ) (answers : List ℕ) (r : Result Ended Stop) (request : Request68) → carried_out cart state cause answers ≡ r → IsTold r request
+came-waits : (cart : List ℕ) (state : State68) (cause : ℕ) (answers : List ℕ) (r : Result Ended Stop) (request : Option Request68) → carried_out cart state cause answers ≡ r → IsTold r request
     → WaitsFor (came_to state cause answers r).stage cart (came_to state cause answers r) request
 came-waits cart state cause answers (Ok ended) request e told = rested-waits ((left_by state ended).transfer.words == 0) cart (left_by state ended) _ _ request
-came-waits cart state cause answers (Err (Ask asked)) request e told = e ∙ ap (λ (q : Request68). Err (Ask q)) (sym told)
+came-waits cart state cause answers (Err (Ask asked)) request e told =
+    subst (λ (q : Option Request68). WaitsFor Access cart (came_to state cause answers (Err (Ask asked))) q) (sym told) e
 came-waits cart state cause answers (Err (Odd address read used)) request e told = absurd (never_odd cause state.regs _ address read used e)
 
-pub went-waits : (cart : List ℕ) (state : State68) (cause : ℕ) (answers : List ℕ) (new : State68) (request : Request68) → new ≡ went_on cart state cause answers → IsTold (carried_out cart state cause answers) request → WaitsFor new.stage cart new request
+pub went-waits : (cart : List ℕ) (state : State68) (cause : ℕ) (answers : List ℕ) (new : State68) (request : Option Request68) → new ≡ went_on cart state cause answers → IsTold (carried_out cart state cause answers) request → WaitsFor new.stage cart new request
 unfolding went_on
 went-waits cart state cause answers new request e told =
     subst (λ (s : State68). WaitsFor s.stage cart s request) (sym e) (came-waits cart state cause answers (carried_out cart state cause answers) request refl told)
 
-pub waited-waits : (cart : List ℕ) (state new : State68) (request : Request68) → new ≡ waited state → WaitsFor new.stage cart new request
+pub waited-waits : (cart : List ℕ) (state new : State68) (request : Option Request68) → new ≡ waited state → WaitsFor new.stage cart new request
 waited-waits cart state new request e = subst (λ (s : State68). WaitsFor s.stage cart s request) (sym e) tt
 
-moved-waits-by : (b : Bool) (cart : List ℕ) (one other : State68) (at late : ℕ) (request : Request68) → WaitsFor (if b then at_sample one at else at_word other late).stage cart (if b then at_sample one at else at_word other late) request
+moved-waits-by : (b : Bool) (cart : List ℕ) (one other : State68) (at late : ℕ) (request : Option Request68) → WaitsFor (if b then at_sample one at else at_word other late).stage cart (if b then at_sample one at else at_word other late) request
 moved-waits-by true cart one other at late request = tt
 moved-waits-by false cart one other at late request = tt
 
-pub moved-waits : (cart : List ℕ) (state new : State68) (cost : ℕ) (request : Request68) → new ≡ word_moved state cost → WaitsFor new.stage cart new request
+pub moved-waits : (cart : List ℕ) (state new : State68) (cost : ℕ) (request : Option Request68) → new ≡ word_moved state cost → WaitsFor new.stage cart new request
 moved-waits cart state new cost request e =
     subst (λ (s : State68). WaitsFor s.stage cart s request) (sym e)
     (moved-waits-by (nat_le state.transfer.words 1) cart (record state { transfer = none_left }) (record state { transfer = record { source = next_source state.transfer.source; words = state.transfer.words - 1; cost = cost } }) _ _ request)
@@ -100,7 +101,7 @@ unfolding went_on
 ends-foretold cart state transfer cause answers value foreseen tells known =
     sym (ap (came_to (with_started state transfer) cause (answers ++ value ∷ [])) (started-foretells cart state transfer cause answers foreseen tells known value))
 
-pub ends-waits : (cart : List ℕ) (state new : State68) (ended : Ended) (request : Request68) → new ≡ finished state ended → WaitsFor new.stage cart new request
+pub ends-waits : (cart : List ℕ) (state new : State68) (ended : Ended) (request : Option Request68) → new ≡ finished state ended → WaitsFor new.stage cart new request
 ends-waits cart state new ended request e =
     subst (λ (s : State68). WaitsFor s.stage cart s request) (sym e) (rested-waits ((left_by state ended).transfer.words == 0) cart (left_by state ended) _ _ request)
 

@@ -1,5 +1,5 @@
 -- The request that the chip keeps is the one that waits, and what it foresees is what comes.
-use Rattle.std.specs.Prelude.{◌≡◌, true, [], ◌∷◌, ◌++◌, List, ℕ}
+use Rattle.std.specs.Prelude.{◌≡◌, true, [], ◌∷◌, ◌++◌, List, ℕ, IsSomeAnd, Option}
 use Rattle.md_word.specs.declared.main_bus.Request68.{Request68}
 use Rattle.m68k_exec.specs.Sample.Samples.{nothing, told_by}
 use Rattle.m68k_exec.specs.declared.sample.step.Foreseen.{Foreseen}
@@ -11,9 +11,9 @@ use Rattle.m68k_chip.specs.declared.stage.Stage.{Stage}
 use Rattle.m68k_chip.specs.declared.stage.Stage.TheVariants.{Sample, Access, Word}
 
 -- at an access the processor waits for the answer to this request
-abbrev pub WaitsFor : Stage → List ℕ → State68 → Request68 → Type 0
+abbrev pub WaitsFor : Stage → List ℕ → State68 → Option Request68 → Type 0
 WaitsFor Sample cart state request = Unit {0}
-WaitsFor Access cart state request = Asks cart state state.cause state.answers request
+WaitsFor Access cart state request = IsSomeAnd request (λ asked. Asks cart state state.cause state.answers asked)
 WaitsFor Word cart state request = Unit {0}
 
 -- what is carried out ends as it is foreseen, whatever it is answered behind these answers
@@ -28,7 +28,7 @@ IsForeseen Access cart state foreseen = Foretells foreseen cart state state.caus
 IsForeseen Word cart state foreseen = Unit {0}
 
 -- the chip is valid, and at an access waits for the answer to this request, and foresees what comes
-pub record IsHeld (value : Chip68Value) (request : Request68) (foreseen : Foreseen) : Type 0 where
+pub record IsHeld (value : Chip68Value) (request : Option Request68) (foreseen : Foreseen) : Type 0 where
   pub valid : IsChip68 value
   pub waiting : WaitsFor value.state.stage value.cart value.state request
   pub foresees : IsForeseen value.state.stage value.cart value.state foreseen

@@ -1,6 +1,6 @@
 -- A lap: from a read, by instructions that write nothing and make no other access, back to the same read with the
 -- same registers. This project's own; no manual speaks of it.
-use Rattle.std.specs.Prelude.{◌≡◌, ℕ, ◌+◌, ◌<◌, ◌≤◌, true, false, List, [], None}
+use Rattle.std.specs.Prelude.{◌≡◌, ℕ, ◌+◌, ◌<◌, ◌≤◌, true, false, List, [], Option, None}
 use Rattle.md_word.specs.declared.main_bus.Request68.{Request68}
 use Rattle.md_word.specs.declared.regs.Regs.{Regs}
 use Rattle.m68k_exec.specs.declared.sample.step.Foreseen.{Foreseen}
@@ -68,7 +68,7 @@ pub record HasWatched (watched : Watched) (end : ℕ) (cart : List ℕ) (level :
   pub quiet : watched.quiet ≡ true → after.ram ≡ before.ram
 
 -- what is known at each place of a lap
-abbrev pub IsOn : Place → Lap → List ℕ → State68 → Request68 → Foreseen → Type 0
+abbrev pub IsOn : Place → Lap → List ℕ → State68 → Option Request68 → Foreseen → Type 0
 IsOn places.Away lap cart state request foreseen = Unit {0}
 IsOn places.Opened lap cart state request foreseen = IsAnswered lap cart state.ram × (state ≡ sampling state.ram lap.after (behind lap))
 IsOn places.Learned lap cart state request foreseen = IsLap lap cart state.ram

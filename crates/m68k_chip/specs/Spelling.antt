@@ -1,5 +1,5 @@
 -- The bytes of a saved state that keep the 68000. This project's profile.
-use Rattle.std.specs.Prelude.{◌≡◌, ℕ, false, true, List, take, drop}
+use Rattle.std.specs.Prelude.{◌≡◌, ℕ, false, true, List, take, drop, Option}
 use Rattle.md_fields.specs.Fields.{spelling}
 use Rattle.md_fields.specs.Items.{IsRefused, IsRight, Keeps}
 use Rattle.md_word.specs.declared.main_bus.Request68.{Request68}
@@ -33,7 +33,7 @@ abbrev pub ram_in : List ℕ → List ℕ
 ram_in bytes = take 0x1_0000 (drop 178 bytes)
 
 -- the bytes keep the 68000, and at an access this request waits; nothing is foreseen
-pub record IsKept (cart : List ℕ) (at : ℕ) (bytes : List ℕ) (state : State68) (request : Request68) (foreseen : Foreseen) : Type 0 where
+pub record IsKept (cart : List ℕ) (at : ℕ) (bytes : List ℕ) (state : State68) (request : Option Request68) (foreseen : Foreseen) : Type 0 where
   pub spelled : Spells cart at bytes state
   pub waits : WaitsFor state.stage cart state request
   pub unknown : foreseen.known ≡ false

@@ -1,5 +1,5 @@
 -- What a step of the processor tells the chip.
-use Rattle.std.specs.Prelude.{◌≡◌, ℕ, List, Result, Ok, Err}
+use Rattle.std.specs.Prelude.{◌≡◌, ℕ, List, Option, Some, Result, Ok, Err}
 use Rattle.md_word.specs.declared.main_bus.Request68.{Request68}
 use Rattle.md_word.specs.declared.regs.Regs.{Regs}
 use Rattle.m68k_exec.specs.Sample.Samples.{Ended}
@@ -23,9 +23,9 @@ ended_by finish regs writes = record {
 }
 
 -- the request that waits, where one does
-abbrev pub IsTold : Result Ended Stop → Request68 → Type 0
+abbrev pub IsTold : Result Ended Stop → Option Request68 → Type 0
 IsTold (Ok ended) request = Unit {0}
-IsTold (Err (Ask asked)) request = request ≡ asked
+IsTold (Err (Ask asked)) request = request ≡ Some asked
 IsTold (Err (Odd address read used)) request = Unit {0}
 
 -- what is foreseen, where a request waits

@@ -1,4 +1,4 @@
-ghost use Rattle.std.specs.Prelude.{◌≡◌, ◌+◌, ◌-◌, ◌^◌, ◌<◌, ◌≤◌, ◌&&◌, max, ℕ, List, false, None, IfSome, IsTrue};
+ghost use Rattle.std.specs.Prelude.{◌≡◌, ◌+◌, ◌-◌, ◌^◌, ◌<◌, ◌≤◌, ◌&&◌, max, ℕ, List, Option, false, None, IfSome, IsTrue};
 ghost use Rattle.md_word.specs.declared.main_bus.Request68.{Request68};
 ghost use Rattle.m68k_exec.specs.declared.sample.step.Foreseen.{Foreseen};
 ghost use Rattle.m68k_chip.specs.Events.{answered};
@@ -153,7 +153,7 @@ impl Lap {
         ensures reading { (ram : List ℕ) → IsTrue result → state_of sequencer.now ram ≡ reading ram self.new.from self.new.start }
         ensures answer { IsTrue result → self.new.answer ≡ answer.now }
         ensures at_read { self.new.place ≡ AtRead → self.new ≡ self.old }
-        ensures other { (cart : List ℕ) (state : State68) (request : Request68) (foreseen : Foreseen) → IsOn self.old.place self.old cart state request foreseen → IsAside other.old cart state.ram → IsAside other.new cart state.ram }
+        ensures other { (cart : List ℕ) (state : State68) (request : Option Request68) (foreseen : Foreseen) → IsOn self.old.place self.old cart state request foreseen → IsAside other.old cart state.ram → IsAside other.new cart state.ram }
     {
         if matches!(self.place, Place::AtRead) {
             return false;
@@ -170,7 +170,7 @@ impl Lap {
 
     /// Puts a lap aside that is known.
     fn put_aside(&self, other: &mut Lap)
-        ensures { (cart : List ℕ) (state : State68) (request : Request68) (foreseen : Foreseen) → IsOn self.now.place self.now cart state request foreseen → IsAside other.old cart state.ram → IsAside other.new cart state.ram }
+        ensures { (cart : List ℕ) (state : State68) (request : Option Request68) (foreseen : Foreseen) → IsOn self.now.place self.now cart state request foreseen → IsAside other.old cart state.ram → IsAside other.new cart state.ram }
     {
         if matches!(self.place, Place::Learned) {
             *other = *self;
@@ -180,7 +180,7 @@ impl Lap {
     /// Takes the place of the other lap, which becomes this one where it is known.
     pub fn exchange(&mut self, other: &mut Lap)
         ensures lap { self.new ≡ other.old }
-        ensures other { (cart : List ℕ) (state : State68) (request : Request68) (foreseen : Foreseen) → IsOn self.old.place self.old cart state request foreseen → IsAside other.new cart state.ram }
+        ensures other { (cart : List ℕ) (state : State68) (request : Option Request68) (foreseen : Foreseen) → IsOn self.old.place self.old cart state request foreseen → IsAside other.new cart state.ram }
     {
         let known = *other;
         *other = *self;
@@ -253,7 +253,7 @@ impl Lap {
     /// Samples at this interrupt level led from a place of the lap to where the 68000 stands, the first of them at
     /// the cycle `begun`. Where it stands at the read again, a lap is known.
     pub fn go_on(&mut self, sequencer: &Sequencer, watched: &Watched, begun: u64, level: u8)
-        ensures { (cart ram : List ℕ) (before : State68) (request : Request68) (foreseen : Foreseen) (end : ℕ) → IsOn self.old.place self.old cart before request foreseen
+        ensures { (cart ram : List ℕ) (before : State68) (request : Option Request68) (foreseen : Foreseen) (end : ℕ) → IsOn self.old.place self.old cart before request foreseen
             → HasWatched watched.now end cart level before (state_of sequencer.now ram) → before.start ≡ begun
             → IsOn self.new.place self.new cart (state_of sequencer.now ram) sequencer.now.request sequencer.now.foreseen }
     {
@@ -271,7 +271,7 @@ impl Lap {
     /// Closes a lap that had begun, where the 68000 stands at its read again.
     fn close(&mut self, sequencer: &Sequencer, watched: &Watched, begun: u64, level: u8)
         requires { self.old.place ≡ Away }
-        ensures { (cart ram : List ℕ) (before : State68) (request : Request68) (foreseen : Foreseen) (end : ℕ) → IsOn Opened self.old cart before request foreseen
+        ensures { (cart ram : List ℕ) (before : State68) (request : Option Request68) (foreseen : Foreseen) (end : ℕ) → IsOn Opened self.old cart before request foreseen
             → HasWatched watched.now end cart level before (state_of sequencer.now ram) → before.start ≡ begun → ram ≡ before.ram
             → IsOn self.new.place self.new cart (state_of sequencer.now ram) sequencer.now.request sequencer.now.foreseen }
     {
@@ -318,7 +318,10 @@ impl Sequencer {
     /// Whether the request that waits at an access reads.
     #[inline(always)]
     pub fn reads(&self) -> bool {
-        matches!(self.request, Request68::Read8(_) | Request68::Read16(_))
+        matches!(
+            self.request,
+            Some(Request68::Read8(_) | Request68::Read16(_))
+        )
     }
 
     /// Whether it stands at a sample, with nothing else to come.

@@ -1,4 +1,4 @@
-ghost use Rattle.std.specs.Prelude.{◌≡◌, ◌≤◌, ℕ, List, length, take, IsTrue};
+ghost use Rattle.std.specs.Prelude.{◌≡◌, ◌≤◌, ℕ, List, length, take, IsSomeAnd, IsTrue};
 ghost use Rattle.arrayvec.specs.ArrayVec.{array_vec_len};
 ghost use Rattle.m68k_chip.specs.Held.{WaitsFor};
 ghost use Rattle.m68k_chip.specs.Resuming as rules;
@@ -91,11 +91,11 @@ impl Sequencer {
         ensures value { result ≡ rules.is_waiting cart.now (state_of self.old ram.now) }
         ensures state { (held : List ℕ) → state_of self.new held ≡ state_of self.old held }
         ensures foreseen { self.new.foreseen ≡ self.old.foreseen }
-        ensures waiting { IsTrue result → Asks cart.now (state_of self.new ram.now) self.new.cause self.new.answers.items self.new.request }
+        ensures waiting { IsTrue result → IsSomeAnd self.new.request (λ asked. Asks cart.now (state_of self.new ram.now) self.new.cause self.new.answers.items asked) }
     {
         match self.asked_after(self.answers.len(), cart, ram) {
             Some(request) => {
-                self.request = request;
+                self.request = Some(request);
                 self.are_answered(cart, ram)
             }
             None => false,

@@ -16,7 +16,7 @@ use m68k_exec::Foreseen;
 use md_fields::{
     Field, are_zero_words, first_wrong, is_after, is_soon, u8_at, u16_at, u32_at, u64_at, words_at,
 };
-use md_word::{Regs, Request68, Transfer};
+use md_word::{Regs, Transfer};
 use rom_header::Cart;
 use std::marker::Model;
 
@@ -319,7 +319,7 @@ impl<'a> Saved68<'a> {
             cause: self.cause,
             answers: first_answers(&self.answers, usize::from(self.count)),
             transfer: self.transfer,
-            request: Request68::Ack(0),
+            request: None,
             foreseen: Foreseen::nothing(),
         }
     }

@@ -1,4 +1,4 @@
-ghost use Rattle.std.specs.Prelude.{◌≡◌, ◌+◌, ◌*◌, ◌^◌, ◌<◌, ◌≤◌, ℕ, List, [], length, replicate};
+ghost use Rattle.std.specs.Prelude.{◌≡◌, ◌+◌, ◌*◌, ◌^◌, ◌<◌, ◌≤◌, ℕ, List, [], Some, false, length, replicate};
 ghost use Rattle.arrayvec.specs.ArrayVec.{array_vec_len};
 ghost use Rattle.rom_header.specs.Cartridge.{IsImage};
 ghost use Rattle.m68k_time.specs.Clocks.{clocks_of};
@@ -10,7 +10,7 @@ ghost use Rattle.m68k_chip.specs.Events.{answered, answered_at, begun, carried_o
 ghost use Rattle.m68k_exec.specs.declared.sample.step.Foreseen.{Foreseen};
 ghost use Rattle.m68k_chip.specs.Held.{IsForeseen, WaitsFor};
 ghost use Rattle.m68k_chip.specs.Steps.{IsForetold, IsTold, ended_by};
-ghost use Rattle.m68k_chip.specs.States.{long_in, none_left, power_on, state_of};
+ghost use Rattle.m68k_chip.specs.States.{long_in, next_of, none_left, power_on, state_of};
 ghost use Rattle.m68k_chip.specs.declared.stage.Stage.TheVariants.{Access};
 
 use crate::case::Case;
@@ -58,8 +58,8 @@ pub struct Sequencer {
     pub answers: ArrayVec<u16, 32>,
     /// The words of a transfer that are left.
     pub transfer: Transfer,
-    /// The request that waits for its answer at an access.
-    pub request: Request68,
+    /// The request that waits for its answer at an access; at other events it may be any that did.
+    pub request: Option<Request68>,
     /// What comes behind the answer, where that is known.
     pub foreseen: Foreseen,
 }
@@ -109,7 +109,7 @@ impl Sequencer {
             cause: 0,
             answers: ArrayVec::new(),
             transfer: NONE_LEFT,
-            request: Request68::Ack(0),
+            request: None,
             foreseen: Foreseen::nothing(),
         }
     }
@@ -201,13 +201,13 @@ impl Sequencer {
         requires start { self.old.start < 2 ^ 50 }
         requires answers { length self.old.answers.items < 32 }
         ensures state { (ram : List ℕ) → state_of self.new ram ≡ events.asking (state_of self.old ram) cause self.old.answers.items }
-        ensures request { self.new.request ≡ request }
+        ensures request { self.new.request ≡ Some request }
         ensures foreseen { self.new.foreseen ≡ self.old.foreseen }
     {
         self.next = self.start + STEP * (self.answers.len() as u64 + 1);
         self.stage = Stage::Access;
         self.cause = cause;
-        self.request = request;
+        self.request = Some(request);
     }
 
     /// Ends what was carried out, from the registers that it left; what it wrote into work RAM is
@@ -369,14 +369,19 @@ impl Sequencer {
     }
 
     /// The request that waits for its answer at the next event, which is an access.
+    #[tactic(auto, unfolding(crate::specs::States::next_of))]
     pub fn asked(&self, cart: &Cart, ram: &[u8; 65536]) -> Request68
+        requires access { (next_of (state_of self.now ram.now)).sample ≡ false }
         requires waiting { WaitsFor self.now.stage cart.now (state_of self.now ram.now) self.now.request }
         requires source { self.now.transfer.source < 2 ^ 24 }
         ensures { result ≡ request_at self.now.stage cart.now (state_of self.now ram.now) }
     {
         match self.stage {
-            Stage::Sample => Request68::Ack(0),
-            Stage::Access => self.request,
+            Stage::Sample => unreachable!(),
+            Stage::Access => match self.request {
+                Some(request) => request,
+                None => unreachable!(),
+            },
             Stage::Word => Request68::Word(word_at(self.transfer.source, cart.bytes(), ram)),
         }
     }
