@@ -1,21 +1,28 @@
 -- The parts of the machine at power-on.
-use Rattle.std.specs.Prelude.{ℕ, Bool, List, [], ◌∷◌, None}
+use Rattle.std.specs.Prelude.{ℕ, Bool, List, [], ◌∷◌}
 use Rattle.md_word.specs.declared.key.Key.{Key}
 use Rattle.m68k_chip.specs.States.{power_on}
 use Rattle.z80_chip.specs.States as states80
 use Rattle.vdp_chip.specs.Drawing as drawings
 use Rattle.fm_chip.specs.Synth as fm_synths
 use Rattle.psg_sound.specs.Synth.{at_power_on}
+use Rattle.md_machine.specs.Assembled.{Assembly, chips_of}
 use Rattle.md_machine.specs.declared.chips.Chip.{Chip}
-use Rattle.md_machine.specs.declared.chips.Chip.TheVariants.{Main, Sub, Draw, Fm, Psg}
+
+-- each chip at power-on
+abbrev pub first_parts : List ℕ → Bool → Assembly
+first_parts cart pal = record {
+  at = 0;
+  main = record { cart = cart; state = power_on cart };
+  sub = record { cart = cart; state = states80.power_on };
+  draw = drawings.at_power_on pal;
+  fm = fm_synths.at_power_on;
+  psg = at_power_on;
+}
 
 -- the five chips at power-on
 abbrev pub first_chips : List ℕ → Bool → List Chip
-first_chips cart pal =
-    Main (record { chip = record { cart = cart; state = power_on cart }; answer = None })
-    ∷ Sub (record { chip = record { cart = cart; state = states80.power_on }; answer = None }) ∷ Draw (record { chip = drawings.at_power_on pal; view = None })
-    ∷ Fm (record { synth = fm_synths.at_power_on; cycle = 16128; taken = []; samples = [] })
-    ∷ Psg (record { synth = at_power_on; cycle = 16128; taken = []; samples = [] }) ∷ []
+first_chips cart pal = chips_of (first_parts cart pal)
 
 -- each chip's bound is its key
 abbrev pub first_bounds : List Key

@@ -1,50 +1,39 @@
 ghost use Rattle.std.specs.Prelude.{◌≡◌, [], IfOk};
 ghost use Rattle.std.specs.Arc.{arc_value};
-ghost use Rattle.rom_header.specs.Cartridge.{IsImage};
 ghost use Rattle.bus_shared.specs.Board.{power_on};
 ghost use Rattle.md_machine.specs.First as first;
 
 use crate::chips::Chip;
-use crate::chips::draw::DrawChip;
-use crate::chips::fm::FmChip;
-use crate::chips::main::MainChip;
-use crate::chips::psg::PsgChip;
-use crate::chips::sub::SubChip;
+use crate::parts::chips_of;
 use crate::set::MdChips;
 use bus_shared::Shared;
 use chip_core::Core;
+use fm_chip::FmSynth;
 use m68k_chip::Chip68;
 use md_pads::Recording;
 use md_word::clock::BATCH;
 use md_word::{Key, NoMemory};
+use psg_sound::PsgSynth;
 use rom_header::Cart;
 use std::alloc::Global;
 use std::sync::Arc;
+use vdp_chip::ChipVdp;
 use z80_chip::Chip80;
 
 /// The five chips at power-on, of a region.
-pub(crate) fn first_chips(alloc: Global, cart: Arc<Cart>, pal: bool) -> Result<Vec<Chip>, NoMemory>
-    ensures { IfOk result (λ chips. (chips.items ≡ first.first_chips (arc_value cart) pal) × IsImage (arc_value cart)) }
+fn first_chips(alloc: Global, cart: Arc<Cart>, pal: bool) -> Result<Vec<Chip>, NoMemory>
+    ensures { IfOk result (λ chips. chips.items ≡ first.first_chips (arc_value cart) pal) }
 {
-    cart.bytes();
-    let sub = SubChip {
-        chip: Chip80::power_on(alloc, cart.clone()?)?,
-        answer: None,
-    };
-    let main = MainChip::new(alloc, Chip68::power_on(alloc, cart)?)?;
-    let psg = PsgChip::power_on(alloc)?;
-    let chips = [
-        Chip::Main(main),
-        Chip::Sub(sub),
-        Chip::Draw(DrawChip::power_on(alloc, pal)?),
-        Chip::Fm(FmChip::power_on(alloc)?),
-        Chip::Psg(psg),
-    ];
-    Ok(Vec::from_array(alloc, chips)?)
+    let sub = Chip80::power_on(alloc, cart.clone()?)?;
+    let main = Chip68::power_on(alloc, cart)?;
+    let draw = ChipVdp::power_on(alloc, pal)?;
+    let fm = FmSynth::power_on();
+    let psg = PsgSynth::power_on();
+    chips_of(alloc, 0, main, sub, draw, fm, psg)
 }
 
 /// The bounds at power-on: each chip's key.
-pub(crate) fn first_bounds(alloc: Global) -> Result<Vec<Key>, NoMemory>
+fn first_bounds(alloc: Global) -> Result<Vec<Key>, NoMemory>
     ensures { IfOk result (λ bounds. bounds.items ≡ first.first_bounds) }
 {
     let bounds = [

@@ -16,5 +16,6 @@ mod shown;
 
 pub use first::first_core;
 pub use machine::{Machine, most_entries, most_pairs};
+pub use parts::first_batch;
 pub use pins::Pins;
 pub use set::MdChips;

@@ -7,7 +7,7 @@ ghost use Rattle.chip_core.specs.Machines.{IsQuiet};
 ghost use Rattle.bus_shared.specs.Board.{Board, IsBoard};
 ghost use Rattle.md_machine.specs.Drained.{with_emptied};
 ghost use Rattle.md_machine.specs.declared.chips.Chip.{Chip};
-ghost use Rattle.md_machine.specs.Console.{AllBelow, IsRunTo, key_in, mover, power_on};
+ghost use Rattle.md_machine.specs.Console.{AllBelow, IsRunTo, key_in, mover};
 ghost use Rattle.md_machine.specs.Outputs.{frame_length, frames_bytes, journal_bytes, sound_bytes};
 ghost use Rattle.md_machine.specs.Lists.{ListsEndAsRun};
 ghost use Rattle.md_machine.specs.Refinement.{main_of};
@@ -20,7 +20,6 @@ ghost use Rattle.md_machine.specs.Media.{no_media};
 use crate::drains::{
     empty_chip, frame_in, levels_in, put_entries, put_frames, put_pairs, sides_in,
 };
-use crate::first::{first_bounds, first_chips};
 use crate::least::least_key;
 use crate::runs::{run_alone, run_workers};
 use crate::set::MdChips;
@@ -70,28 +69,6 @@ impl Model for Machine {
 }
 
 impl Machine {
-    /// The machine at power-on, of a region, with this cartridge and this recording of the pads. All
-    /// memory that it ever needs is taken here, but what it asks for once several workers make a segment,
-    /// to draw lines ahead, and does without where there is none.
-    pub fn power_on(
-        alloc: Global,
-        cart: Arc<Cart>,
-        recording: Arc<Recording>,
-        pal: bool,
-    ) -> Result<Machine, NoMemory>
-        ensures { IfOk result (λ machine. machine ≡ record { at = 0; console = power_on (arc_value cart) (arc_value recording) pal; entries = []; media = no_media }) }
-    {
-        let shared = Shared::power_on(alloc, recording, pal)?;
-        let chips = first_chips(alloc, cart, pal)?;
-        let bounds = first_bounds(alloc)?;
-        let journal = Vec::with_capacity(alloc, most_entries(pal))?;
-        let core = Core::make(shared, chips, bounds, journal);
-        Ok(Machine {
-            at: 0,
-            core: Some(core),
-        })
-    }
-
     /// The cycle to which the machine was brought: all events below it are done, and no other.
     pub fn at(&self) -> u64
         ensures { result ≡ self.now.at }

@@ -1,9 +1,11 @@
 ghost use Rattle.std.specs.Prelude.{◌≡◌, ◌≤◌, ◌<◌, ℕ, [], IfOk, length, true};
+ghost use Rattle.std.specs.Arc.{arc_value};
 ghost use Rattle.md_word.specs.Clock.{last_cycle};
 ghost use Rattle.m68k_chip.specs.States.{next_of};
 ghost use Rattle.z80_chip.specs.States.{next_of as sub_next_of};
 ghost use Rattle.chip_core.specs.Cores.{chip_in, key_in};
 ghost use Rattle.md_machine.specs.Assembled as assembly;
+ghost use Rattle.md_machine.specs.Console.{power_on};
 ghost use Rattle.md_machine.specs.Media.{no_media};
 ghost use Rattle.md_machine.specs.Rules.{IsChip, five};
 ghost use Rattle.md_machine.specs.Starts.{first_batch as batch_from};
@@ -20,14 +22,37 @@ use bus_shared::Shared;
 use chip_core::{ChipSet, Core};
 use fm_chip::FmSynth;
 use m68k_chip::Chip68;
+use md_pads::Recording;
 use md_word::clock::BATCH;
 use md_word::{Key, NoMemory};
 use psg_sound::PsgSynth;
+use rom_header::Cart;
 use std::alloc::Global;
+use std::sync::Arc;
 use vdp_chip::ChipVdp;
 use z80_chip::Chip80;
 
 impl Machine {
+    /// The machine at power-on, of a region, with this cartridge and this recording of the pads. All
+    /// memory that it ever needs is taken here, but what it asks for once several workers make a segment,
+    /// to draw lines ahead, and does without where there is none.
+    pub fn power_on(
+        alloc: Global,
+        cart: Arc<Cart>,
+        recording: Arc<Recording>,
+        pal: bool,
+    ) -> Result<Machine, NoMemory>
+        ensures { IfOk result (λ machine. machine ≡ record { at = 0; console = power_on (arc_value cart) (arc_value recording) pal; entries = []; media = no_media }) }
+    {
+        let shared = Shared::power_on(alloc, recording, pal)?;
+        let sub = Chip80::power_on(alloc, cart.clone()?)?;
+        let main = Chip68::power_on(alloc, cart)?;
+        let draw = ChipVdp::power_on(alloc, pal)?;
+        let fm = FmSynth::power_on();
+        let psg = PsgSynth::power_on();
+        Machine::from_parts(alloc, 0, shared, main, sub, draw, fm, psg)
+    }
+
     /// The machine at a cycle that these parts make: chips without an answer that waits, the drawing
     /// half with its view, and the board of its region. Its batches of samples come next at the first multiple of
     /// 16,128 from `at` on, at 16,128 where `at` is 0. It holds no output: a finished frame is dropped,
@@ -69,7 +94,7 @@ impl Machine {
 }
 
 /// The five chips of these parts.
-fn chips_of(
+pub(crate) fn chips_of(
     alloc: Global,
     at: u64,
     main: Chip68,
@@ -96,8 +121,8 @@ fn chips_of(
     Ok(Vec::from_array(alloc, chips)?)
 }
 
-/// The first batch from a cycle on.
-fn first_batch(at: u64) -> u64
+/// The first batch of samples from a cycle on, which is not that at 0.
+pub fn first_batch(at: u64) -> u64
     requires { at ≤ last_cycle }
     ensures { result ≡ batch_from at }
 {

@@ -1,6 +1,5 @@
 ghost use Rattle.std.specs.Prelude.{◌≡◌, ◌≤◌, ◌^◌, ◌==◌, ℕ, false, length};
 ghost use Rattle.std.specs.Arc.{arc_value};
-ghost use Rattle.md_machine.specs.Starts as starts;
 ghost use Rattle.save_state.specs.Items as items;
 ghost use Rattle.save_state.specs.Items.{at_of, region_of, HasLateFm, HasLatePsg, IsMain, MainFails, IsSub, SubFails, IsShared, SharedFails, IsPicture, DrawingFails, IsFm, FmFails, IsPsg, PsgFails};
 ghost use Rattle.save_state.specs.Joining.{Reads};
@@ -18,9 +17,9 @@ use fm_chip::FmSynth;
 use fm_port::FmPort;
 use m68k_chip::Chip68;
 use md_fields::{u8_at, u16_at, u64_at};
+use md_machine::first_batch;
 use md_pads::Recording;
 use md_word::Unspell;
-use md_word::clock::BATCH;
 use psg_sound::{PsgPort, PsgSynth};
 use rom_header::Cart;
 use std::alloc::Global;
@@ -53,14 +52,6 @@ fn is_holder(holder: u8, stage: u8) -> bool
         3 => holder == 1,
         _ => holder <= 1,
     }
-}
-
-/// The first batch of samples from a cycle on, which is not that at 0.
-pub fn first_batch(at: u64) -> u64
-    requires { at ≤ last_cycle }
-    ensures { result ≡ starts.first_batch at }
-{
-    BATCH * (at.saturating_sub(1) / BATCH + 1)
 }
 
 /// Whether the FM chip's writes that the bytes keep stand well before the next events of their

@@ -17,10 +17,9 @@ ghost use Rattle.md_word.specs.Coding.{flag_number};
 ghost use Rattle.save_state.specs.States.{behind_video, holder_of, mark, number_bytes, own_bytes, settled_console, state_bytes};
 ghost use Rattle.save_state.specs.Versions.{IsState};
 
-use crate::items::first_batch;
 use crate::laws::kept;
 use crate::layout::{APART, BOARD, FM_PORT, LENGTH, PSG_PORT, Part, SUB, TEXT};
-use md_machine::Machine;
+use md_machine::{Machine, first_batch};
 use md_word::NoMemory;
 use sha2::{Digest, Sha256};
 use std::alloc::Global;

@@ -1,5 +1,5 @@
 ghost use Rattle.std.specs.Prelude.{◌≡◌, ◌^◌, ◌<◌, IfOk, IsSome, None, true, false, is_some, not, option_copied, IfSome, length};
-ghost use Rattle.vdp_chip.specs.Drawing.{at_power_on, next_of};
+ghost use Rattle.vdp_chip.specs.Drawing.{next_of};
 ghost use Rattle.md_word.specs.Region.{picture_length};
 ghost use Rattle.vdp_planes.specs.View.{seen};
 ghost use Rattle.md_machine.specs.Lines as lines;
@@ -40,17 +40,6 @@ impl Model for DrawChip {
 
 impl DrawChip {
     ghost use Rattle.md_machine.specs.Parts.{IsDraw};
-
-    /// The drawing half at power-on, of a region, with the memory of its picture and its view.
-    pub(crate) fn power_on(alloc: Global, pal: bool) -> Result<DrawChip, NoMemory>
-        ensures { IfOk result (λ chip. chip ≡ record { chip = at_power_on pal; view = None }) }
-    {
-        Ok(DrawChip {
-            chip: ChipVdp::power_on(alloc, pal)?,
-            view: None,
-            ahead: Ahead::new(alloc)?,
-        })
-    }
 
     /// A drawing half between two events, of which no frame is kept.
     pub(crate) fn new(alloc: Global, chip: ChipVdp) -> Result<DrawChip, NoMemory>

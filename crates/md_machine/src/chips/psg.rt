@@ -1,5 +1,4 @@
 ghost use Rattle.std.specs.Prelude.{◌≡◌, ◌^◌, ◌<◌, IfOk, [], ◌+◌};
-ghost use Rattle.psg_sound.specs.Synth.{at_power_on};
 ghost use Rattle.md_machine.specs.Rules as rules;
 
 use crate::batches::{MOST_SAMPLES, batch_at, first_sample, keep};
@@ -34,13 +33,6 @@ impl Model for PsgChip {
 
 impl PsgChip {
     ghost use Rattle.md_machine.specs.Parts.{IsPsg};
-
-    /// The synthesis at power-on: silent, and its first batch at 16,128.
-    pub(crate) fn power_on(alloc: Global) -> Result<PsgChip, NoMemory>
-        ensures { IfOk result (λ chip. chip ≡ record { synth = at_power_on; cycle = 16128; taken = []; samples = [] }) }
-    {
-        PsgChip::new(alloc, PsgSynth::power_on(), BATCH)
-    }
 
     /// A synthesis whose next batch stands at a cycle, and which took and kept nothing.
     pub(crate) fn new(alloc: Global, synth: PsgSynth, cycle: u64) -> Result<PsgChip, NoMemory>
