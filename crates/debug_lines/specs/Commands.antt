@@ -2,6 +2,7 @@
 use Rattle.std.specs.Prelude.{ℕ, ◌%◌, ◌==◌, ◌&&◌, nat_lt, nat_le, Bool, if◌then◌else◌, List, length, codes, bytes_eq, Option, Some, None, option_map, option_and_then, Result, Ok, Err}
 use Rattle.std.specs.List.{list_all, position_or_len, before_first, after_first}
 use Rattle.debug_lines.specs.Numbers.{decimal_of, address_of}
+use Rattle.md_word.specs.Clock.{last_cycle}
 use Rattle.debug_lines.specs.declared.command.Command.{Command}
 use Rattle.debug_lines.specs.declared.command.Command.TheVariants.{Step, RunTo, Back, Regs, Mem, Dis, Trace, Report}
 use Rattle.debug_lines.specs.declared.command.CommandWord.{CommandWord}
@@ -52,7 +53,7 @@ bare command (Some text) = None
 -- what a line with this word asks for, by what stands behind the word
 abbrev pub commanded : CommandWord → Option (List ℕ) → Option Command
 commanded words.Step text = option_map Step (number_in 1 1000000 text)
-commanded words.Run text = option_map RunTo (number_in 0 549755813888 text)
+commanded words.Run text = option_map RunTo (number_in 0 last_cycle text)
 commanded words.Back text = option_map Back (number_in 1 18446744073709551615 text)
 commanded words.Regs text = bare Regs text
 commanded words.Mem text = option_map (λ place. Mem place.0 place.1) (option_and_then place_in text)

@@ -6,6 +6,7 @@ ghost use Rattle.debug_lines.specs.Commands as meaning;
 
 use crate::command::{Command, CommandWord, Misread};
 use crate::number::{read_address, read_decimal};
+use md_word::clock::LAST_CYCLE;
 
 /// The address bus has 24 bits.
 const ADDRESSES: u32 = 0x100_0000;
@@ -15,9 +16,6 @@ const MOST: u32 = 256;
 
 /// The most steps of a line.
 const STEPS: u32 = 1_000_000;
-
-/// The last cycle to which a session goes.
-const LAST_CYCLE: u64 = 549_755_813_888;
 
 /// Reads a line of a script, without its line feed.
 pub fn read_command(line: &str) -> Result<Command, Misread>

@@ -15,10 +15,8 @@ use crate::operator::Operator;
 use crate::registers::Registers;
 use fm_env::EnvelopeState;
 use fm_port::{FmList, FmWrite, RESET};
+use md_word::clock::FM_SAMPLE;
 use std::marker::Model;
-
-/// Master cycles from one sample to the next.
-const SAMPLE: u64 = 1_008;
 
 /// The register of the low frequency oscillator.
 const OSCILLATOR: usize = 0x22;
@@ -114,7 +112,7 @@ impl FmSynth {
         let idle = self.is_idle_through(rest);
         for k in 0..16 {
             let number = first + k as u64;
-            rest = self.write_below(SAMPLE * number, rest);
+            rest = self.write_below(FM_SAMPLE * number, rest);
             out[k] = self.sample_by(number, idle);
         }
         self.write_all(rest);

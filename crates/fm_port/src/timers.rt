@@ -5,6 +5,7 @@ ghost use Rattle.fm_port.specs.Timed.{AreTimed};
 ghost use Rattle.fm_port.specs.PortSpelling.{are_saved_timers};
 
 use crate::timer::Timer;
+use md_word::clock::{BATCH, FM_SAMPLE};
 
 /// Both timers, with their registers. A period is in master cycles.
 #[derive(Clone, Copy)]
@@ -45,7 +46,7 @@ impl Timers {
         ensures least { 0 < result }
         ensures most { result < 2 ^ 23 }
     {
-        1_008 * (1_024 - (u64::from(self.high_a) * 4 + u64::from(self.low_a) % 4))
+        FM_SAMPLE * (1_024 - (u64::from(self.high_a) * 4 + u64::from(self.low_a) % 4))
     }
 
     /// Timer B's period: 16,128 cycles for each of 256 less its number.
@@ -55,7 +56,7 @@ impl Timers {
         ensures least { 0 < result }
         ensures most { result < 2 ^ 23 }
     {
-        16_128 * (256 - u64::from(self.number_b))
+        BATCH * (256 - u64::from(self.number_b))
     }
 
     /// Makes the overflows below a cycle.

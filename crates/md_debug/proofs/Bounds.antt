@@ -8,6 +8,7 @@ use Rattle.debug_lines.specs.declared.command.Command.{Command}
 use Rattle.debug_lines.specs.declared.command.Command.TheVariants.{Step, RunTo, Back, Regs, Mem, Dis, Trace, Report}
 use Rattle.debug_lines.specs.declared.command.Misread.TheVariants.{UnknownWord}
 use Rattle.md_debug.specs.Sessions.{IsWithinBounds}
+use Rattle.md_word.specs.Clock.{last_cycle}
 
 -- what holds of each command that may be there
 abbrev AllIn : Option Command → Type 0
@@ -67,7 +68,7 @@ step_in : (o : Option ℕ) → AllIn (option_map Step o)
 step_in None = tt
 step_in (Some n) = tt
 
-run_in : (o : Option ℕ) → InRange 0 549755813888 o → AllIn (option_map RunTo o)
+run_in : (o : Option ℕ) → InRange 0 last_cycle o → AllIn (option_map RunTo o)
 run_in None range = tt
 run_in (Some n) range = range.1
 
@@ -111,7 +112,7 @@ chosen_in : (step run back regs mem dis trace report : Bool) (text : Option (Lis
     → IsWithinBounds command
 chosen_in true run back regs mem dis trace report text command same = numbered_in (option_map Step (number_in 1 1000000 text)) command (step_in (number_in 1 1000000 text)) same
 chosen_in false true back regs mem dis trace report text command same =
-    numbered_in (option_map RunTo (number_in 0 549755813888 text)) command (run_in (number_in 0 549755813888 text) (numbers_in 0 549755813888 text)) same
+    numbered_in (option_map RunTo (number_in 0 last_cycle text)) command (run_in (number_in 0 last_cycle text) (numbers_in 0 last_cycle text)) same
 chosen_in false false true regs mem dis trace report text command same =
     numbered_in (option_map Back (number_in 1 18446744073709551615 text)) command
     (back_in 18446744073709551615 (number_in 1 18446744073709551615 text) (numbers_in 1 18446744073709551615 text)) same

@@ -1,4 +1,5 @@
 ghost use Rattle.std.specs.Prelude.{◌≡◌, ◌+◌, ◌-◌, ◌*◌, ◌/◌, ◌^◌, ◌<◌, ◌≤◌, ◌≤ℤ◌, pos, negsuc, List, [], ◌∷◌, length, All};
+ghost use Rattle.md_word.specs.Clock.{psg_tick};
 ghost use Rattle.psg_sound.specs.Synth.{IsSynth, at_power_on, level, ticked, written};
 ghost use Rattle.psg_sound.specs.Batches.{after_batch, after_ticks, made_below, samples, ticks_below, written_all};
 ghost use Rattle.psg_sound.specs.History.{Continues, IsNextBatch, chip_before};
@@ -8,13 +9,8 @@ use crate::divider::Divider;
 use crate::noise::Noise;
 use crate::tone::Tone;
 use crate::write::{PsgList, PsgWrite};
+use md_word::clock::{FM_SAMPLE, PSG_TICK};
 use std::marker::Model;
-
-/// Master cycles from one tick of the PSG to the next.
-const TICK: u64 = 240;
-
-/// Master cycles from one sample to the next.
-const SAMPLE: u64 = 1_008;
 
 /// The synthesis of the PSG: three tones and a noise. Contracts see its registers.
 ///
@@ -97,15 +93,15 @@ impl PsgSynth {
             → IsNextBatch history list.now.items first self.new out.new }
     {
         let mut rest = list.as_slice();
-        let mut ticks = ticks_below(SAMPLE * first);
+        let mut ticks = ticks_below(FM_SAMPLE * first);
         for k in 0..16 {
-            let cycle = SAMPLE * (first + k as u64);
-            rest = self.run(ticks, cycle / TICK, rest);
-            ticks = cycle / TICK;
+            let cycle = FM_SAMPLE * (first + k as u64);
+            rest = self.run(ticks, cycle / PSG_TICK, rest);
+            ticks = cycle / PSG_TICK;
             rest = self.write_below(cycle, rest);
             out[k] = self.level();
         }
-        let end = ticks_below(SAMPLE * (first + 16));
+        let end = ticks_below(FM_SAMPLE * (first + 16));
         rest = self.run(ticks, end, rest);
         self.write_all(rest);
         // Opens the chip for its proof: that the registers are in their ranges.
@@ -116,13 +112,13 @@ impl PsgSynth {
     /// before it. Returns the writes that are still to come.
     fn run<'a>(&mut self, from: u64, to: u64, writes: &'a [PsgWrite]) -> &'a [PsgWrite]
         requires forward { from ≤ to }
-        requires fits { TICK * to < 2 ^ 64 }
+        requires fits { psg_tick * to < 2 ^ 64 }
         ensures { record { chip = self.new; rest = result.now }
             ≡ after_ticks from (to - from) (record { chip = self.old; rest = writes.now }) }
     {
         let mut rest = writes;
         for tick in from..to {
-            rest = self.write_below(TICK * (tick + 1), rest);
+            rest = self.write_below(PSG_TICK * (tick + 1), rest);
             self.tick();
         }
         rest
@@ -200,5 +196,5 @@ impl PsgSynth {
 fn ticks_below(cycle: u64) -> u64
     ensures { result ≡ ticks_below cycle }
 {
-    cycle.saturating_sub(1) / TICK
+    cycle.saturating_sub(1) / PSG_TICK
 }
