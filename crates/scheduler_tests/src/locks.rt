@@ -1,10 +1,11 @@
 ghost use Rattle.std.specs.Prelude.{◌≡◌, ◌^◌, ◌≤◌, []};
 ghost use Rattle.chip_core.specs.Cores.{machine_of};
 ghost use Rattle.chip_core.specs.Limits.{all_moves_left};
+ghost use Rattle.chip_run.specs.Places.{AllFree};
 
 use crate::five::{at_access, key, power_on};
 use chip_core::{ChipSet, Core, Event};
-use chip_run::{Blanks, Bus, Locked, Named, Round, Turn, laws};
+use chip_run::{Blanks, Bus, Helds, Locked, Named, Round, Turn, laws};
 use md_outer::FreeGate;
 use md_word::Key;
 use std::marker::{Brand, PhantomData};
@@ -31,9 +32,20 @@ fn first_section<C: ChipSet, N: Named, L0: Ledger, L1: Ledger, L2: Ledger, L3: L
     let (locked, all) = Locked::<C, N, L0, L1, L2, L3, L4>::make(core, t, blanks);
     let mut locked = locked;
     let mut helds = all;
+    answer_of(&mut locked, &mut helds)
+}
+
+// What a section on chip 0 answers, and the bound that it leaves.
+fn answer_of<C: ChipSet, N: Named, L0: Ledger, L1: Ledger, L2: Ledger, L3: Ledger, L4: Ledger>(
+    locked: &mut Locked<C, N, L0, L1, L2, L3, L4>,
+    helds: &mut Helds<C, N, L0, L1, L2, L3, L4>,
+) -> Option<(Turn, Option<Key>)>
+    requires free { AllFree helds.old }
+    requires whole { (L0.parts ≡ 1) × (L1.parts ≡ 1) × (L2.parts ≡ 1) × (L3.parts ≡ 1) × (L4.parts ≡ 1) }
+{
     if helds.has(0) {
-        let turn = laws::section(&mut locked, &mut helds, 0);
-        laws::standing(&locked);
+        let turn = laws::section(locked, helds, 0);
+        laws::standing(locked);
         return Some((turn, locked.bound(0)));
     }
     None
@@ -62,9 +74,30 @@ fn moves_alone<
 {
     let (bus, all) = Bus::<C, N, L0, L1, L2, L3, L4>::make(core, t, blanks);
     let mut helds = all;
+    count_moves(rt, &bus, &mut helds)
+}
+
+// How many moves each chip makes, if all are finished within 1,000 answers.
+fn count_moves<
+    C: ChipSet,
+    N: Named,
+    L0: Ledger,
+    L1: Ledger,
+    L2: Ledger,
+    L3: Ledger,
+    L4: Ledger,
+    R: Wait,
+>(
+    rt: &R,
+    bus: &Bus<C, N, L0, L1, L2, L3, L4>,
+    helds: &mut Helds<C, N, L0, L1, L2, L3, L4>,
+) -> Option<[u32; 5]>
+    requires free { AllFree helds.old }
+    requires whole { (L0.parts ≡ 1) × (L1.parts ≡ 1) × (L2.parts ≡ 1) × (L3.parts ≡ 1) × (L4.parts ≡ 1) }
+{
     let mut moves = [0u32; 5];
     for _answer in 0..1000 {
-        match bus.wait_turn(rt, &mut helds, &FreeGate) {
+        match bus.wait_turn(rt, helds, &FreeGate) {
             Round::Moved(chip) => {
                 if let Some(count) = moves.get_mut(usize::from(chip)) {
                     *count = count.wrapping_add(1);

@@ -1,5 +1,6 @@
 use md_vgm::{VgmFault, play};
 use std::alloc::{AllocError, Global};
+use std::test::Fail;
 
 /// What a file comes to: the length of the sound file, or the place of a fault.
 #[derive(Clone, Copy, PartialEq, Eq)]
@@ -57,6 +58,26 @@ fn song_outcome(alloc: Global, song: &Song, pal: bool) -> Outcome {
     }
 }
 
+/// What these commands alone come to.
+fn short_outcome(alloc: Global, commands: &'static [u8], pal: bool) -> Outcome {
+    let song = Song {
+        first: (0, b""),
+        second: (0, b""),
+        rest: commands,
+    };
+    song_outcome(alloc, &song, pal)
+}
+
+/// Fails with the number of the first song that comes to something else.
+fn all_come_to(alloc: Global, songs: &[(Song, bool, Outcome)]) -> Result<(), Fail> {
+    for (number, (song, pal, outcome)) in songs.iter().enumerate() {
+        if song_outcome(alloc, song, *pal) != *outcome {
+            return Err(Fail::from(number));
+        }
+    }
+    Ok(())
+}
+
 // A sound file has 44 bytes and 64 for each batch. 120 samples are 146,103 cycles on NTSC, above which 9
 // batches end, and 144,771 on PAL, for 8. On PAL 254 samples are 19 batches exactly, of which the last is left
 // out.
@@ -80,16 +101,13 @@ static SHORT: [(&[u8], bool, Outcome); 16] = [
 ];
 
 #[test]
-fn commands_are_played_or_refused(rt: HostRuntime) {
-    let alloc = rt.alloc();
-    for (commands, pal, outcome) in SHORT {
-        let song = Song {
-            first: (0, b""),
-            second: (0, b""),
-            rest: commands,
-        };
-        assert!(rt; song_outcome(alloc, &song, pal) == outcome);
+fn commands_are_played_or_refused(rt: HostRuntime) -> Result<(), Fail> {
+    for (number, (commands, pal, outcome)) in SHORT.iter().enumerate() {
+        if short_outcome(rt.alloc(), commands, *pal) != *outcome {
+            return Err(Fail::from(number));
+        }
     }
+    Ok(())
 }
 
 // 26,460,000 samples are 403 of the longest waits and 49,395. With so many the file ends without an end, behind
@@ -211,14 +229,9 @@ static WRITES: [(Song, bool, Outcome); 7] = [
 ];
 
 #[test]
-fn long_and_dense_songs_are_refused(rt: HostRuntime) {
-    let alloc = rt.alloc();
-    for (song, pal, outcome) in WAITS {
-        assert!(rt; song_outcome(alloc, &song, pal) == outcome);
-    }
-    for (song, pal, outcome) in WRITES {
-        assert!(rt; song_outcome(alloc, &song, pal) == outcome);
-    }
+fn long_and_dense_songs_are_refused(rt: HostRuntime) -> Result<(), Fail> {
+    all_come_to(rt.alloc(), &WAITS)?;
+    all_come_to(rt.alloc(), &WRITES)
 }
 
 // Heads: of no mark, cut short in each field, of an older version, with commands that begin within the head, at
@@ -257,8 +270,11 @@ static HEADS: [(&[u8], Outcome); 12] = [
 ];
 
 #[test]
-fn heads_are_looked_at_field_by_field(rt: HostRuntime) {
-    for (file, outcome) in HEADS {
-        assert!(rt; outcome_of(rt.alloc(), file, false) == outcome);
+fn heads_are_looked_at_field_by_field(rt: HostRuntime) -> Result<(), Fail> {
+    for (number, (file, outcome)) in HEADS.iter().enumerate() {
+        if outcome_of(rt.alloc(), file, false) != *outcome {
+            return Err(Fail::from(number));
+        }
     }
+    Ok(())
 }
