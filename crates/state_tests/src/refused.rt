@@ -24,7 +24,7 @@ const PSG: usize = 393_558;
 /// Bytes at their places, and the place of the refusal.
 type Row = (&'static [(usize, u8)], Option<u64>);
 
-const ROWS: [Row; 75] = [
+static ROWS: [Row; 75] = [
     // nothing is changed
     (&[], None),
     // the mark, those of versions 1 and 2 with other lengths, and the cycle: 0, and above 2^39
@@ -116,7 +116,7 @@ const ROWS: [Row; 75] = [
 
 // A write of the 68000 at cycle 0, and its next event at 20: they stand less than 28 cycles apart. With
 // the next event of the Z80 at 20 one of the Z80 stands less than 45 cycles before it.
-const JOINED: [Row; 5] = [
+static JOINED: [Row; 5] = [
     (&[(370_270, 1)], None),
     (&[(370_270, 1), (56, 20), (65, 20)], Some(370_269)),
     (
@@ -139,60 +139,93 @@ fn place_of(alloc: Global, bytes: &[u8], cart: Arc<Cart>) -> Result<Option<u64>,
     }
 }
 
-/// The first row whose place is another, by its number.
-fn differs(alloc: Global, rows: &[Row]) -> Result<Option<usize>, Fail> {
-    let cart = cartridge(alloc, 0)?;
-    let bytes = state_at_1(alloc, cart.clone()?)?;
-    for (number, (changes, place)) in rows.iter().enumerate() {
-        let mut changed = bytes.clone()?;
-        for (at, value) in changes.iter() {
-            if let Some(byte) = changed.get_mut(*at) {
-                *byte = *value;
-            }
-        }
-        if place_of(alloc, &changed, cart.clone()?)? != *place {
-            return Ok(Some(number));
+/// The bytes with others at these places.
+fn with_changes(alloc: Global, bytes: &[u8], changes: &[(usize, u8)]) -> Result<Vec<u8>, Fail> {
+    let mut changed = bytes.to_vec(alloc)?;
+    for (at, value) in changes {
+        if let Some(byte) = changed.get_mut(*at) {
+            *byte = *value;
         }
     }
-    Ok(None)
+    Ok(changed)
+}
+
+/// Whether the bytes with a row's changes are refused at its place.
+fn is_refused(alloc: Global, bytes: &[u8], row: &Row) -> Result<bool, Fail> {
+    let changed = with_changes(alloc, bytes, row.0)?;
+    Ok(place_of(alloc, &changed, cartridge(alloc, 0)?)? == row.1)
+}
+
+/// Fails with the number of the first row whose place is another.
+fn hold(alloc: Global, rows: &[Row]) -> Result<(), Fail> {
+    let bytes = state_at_1(alloc, cartridge(alloc, 0)?)?;
+    for (number, row) in rows.iter().enumerate() {
+        if !is_refused(alloc, &bytes, row)? {
+            return Err(Fail::from(number));
+        }
+    }
+    Ok(())
 }
 
 #[test]
 fn each_rule_is_refused_at_its_place(rt: HostRuntime) -> Result<(), Fail> {
-    let alloc = rt.alloc();
-    assert_eq!(rt; differs(alloc, &ROWS)?, None);
-    assert_eq!(rt; differs(alloc, &JOINED)?, None);
-    Ok(())
+    hold(rt.alloc(), &ROWS)
+}
+
+#[test]
+fn each_rule_of_several_items_is_refused_at_its_place(rt: HostRuntime) -> Result<(), Fail> {
+    hold(rt.alloc(), &JOINED)
+}
+
+/// From where to where the bytes of a state with one more behind it are taken, and the place of the refusal.
+static LENGTHS: [(usize, usize, u64); 4] = [
+    (0, 393_619, 393_619),
+    (0, 7, 7),
+    (1, 393_620, 0),
+    (0, 393_621, 393_620),
+];
+
+/// Whether that part of the bytes is refused at that place.
+fn is_refused_at(alloc: Global, bytes: &[u8], row: &(usize, usize, u64)) -> Result<bool, Fail> {
+    let part = bytes.get(row.0..row.1).unwrap_or(&[]);
+    Ok(place_of(alloc, part, cartridge(alloc, 0)?)? == Some(row.2))
 }
 
 #[test]
 fn a_wrong_length_is_refused_at_the_lesser(rt: HostRuntime) -> Result<(), Fail> {
-    let alloc = rt.alloc();
-    let cart = cartridge(alloc, 0)?;
-    let mut bytes = state_at_1(alloc, cart.clone()?)?;
-    let short = bytes.get(..393_619).unwrap_or(&[]);
-    assert_eq!(rt; place_of(alloc, short, cart.clone()?)?, Some(393_619));
-    let few = bytes.get(..7).unwrap_or(&[]);
-    assert_eq!(rt; place_of(alloc, few, cart.clone()?)?, Some(7));
-    let behind = bytes.get(1..).unwrap_or(&[]);
-    assert_eq!(rt; place_of(alloc, behind, cart.clone()?)?, Some(0));
+    let mut bytes = state_at_1(rt.alloc(), cartridge(rt.alloc(), 0)?)?;
     bytes.push(0)?;
-    assert_eq!(rt; place_of(alloc, &bytes, cart)?, Some(393_620));
+    for row in &LENGTHS {
+        if !is_refused_at(rt.alloc(), &bytes, row)? {
+            return Err(Fail::from(row.2));
+        }
+    }
     Ok(())
+}
+
+/// The digest of a cartridge.
+fn digest_of(alloc: Global, byte: u8) -> Result<[u8; 32], Fail> {
+    let cart = cartridge(alloc, byte)?;
+    Ok(Sha256::digest(cart.bytes()))
+}
+
+/// Both digests with which bytes are refused for another cartridge.
+fn digests_told(
+    alloc: Global,
+    bytes: &[u8],
+    cart: Arc<Cart>,
+) -> Result<Option<([u8; 32], [u8; 32])>, Fail> {
+    match read_with(alloc, bytes, cart)? {
+        Err(StateFault::OtherCart { kept, given }) => Ok(Some((kept, given))),
+        _ => Ok(None),
+    }
 }
 
 #[test]
 fn a_state_of_another_cartridge_tells_both_digests(rt: HostRuntime) -> Result<(), Fail> {
-    let alloc = rt.alloc();
-    let own = cartridge(alloc, 0)?;
-    let other = cartridge(alloc, 1)?;
-    let bytes = state_at_1(alloc, own.clone()?)?;
-    let wanted = (Sha256::digest(own.bytes()), Sha256::digest(other.bytes()));
-    let told = match read_with(alloc, &bytes, other)? {
-        Err(StateFault::OtherCart { kept, given }) => (kept, given),
-        _ => return Err(Fail::from("no other cartridge")),
-    };
-    assert_eq!(rt; told.0, wanted.0);
-    assert_eq!(rt; told.1, wanted.1);
+    let wanted = (digest_of(rt.alloc(), 0)?, digest_of(rt.alloc(), 1)?);
+    let bytes = state_at_1(rt.alloc(), cartridge(rt.alloc(), 0)?)?;
+    let told = digests_told(rt.alloc(), &bytes, cartridge(rt.alloc(), 1)?)?;
+    assert!(rt; told == Some(wanted));
     Ok(())
 }
