@@ -1,17 +1,20 @@
 //! The emulator's program: the command line over the real files and standard output.
 #![tactic(auto)]
 
+mod command_line;
+
+use command_line::words;
 use md_outer::{FileDepot, FreeGate, OutSink, Sink};
 use md_top::drive;
 use std::process::ExitCode;
-use std::rt::{Env, Files};
-use std::{env, fs, io};
+use std::rt::Files;
+use std::{fs, io};
 
 fn main(rt: HostRuntime) -> ExitCode {
     let _standard = standard_streams(&rt);
     let alloc = rt.alloc();
     let mut out = OutSink::new(rt);
-    let words = match words(&rt) {
+    let words = match words(&rt, alloc) {
         Ok(words) => words,
         Err(error) if error.kind() == io::ErrorKind::OutOfMemory => {
             let _ = out.put(b"refused: memory\n");
@@ -33,13 +36,4 @@ fn standard_streams<R: Files>(rt: &R) -> [io::Result<R::File>; 3] {
         fs::open(rt, "/dev/null"),
         fs::open(rt, "/dev/null"),
     ]
-}
-
-/// The words behind the program's name.
-fn words<R: Env + AllocGlobal>(rt: &R) -> io::Result<Vec<String>> {
-    let mut words = Vec::new(rt.alloc());
-    for word in env::args(rt)?.skip(1) {
-        words.push(word)?;
-    }
-    Ok(words)
 }

@@ -1,0 +1,59 @@
+//! Rows of the command line, of the files of `data/`: files in memory, words, what they come to and what they leave.
+#![tactic(auto)]
+
+mod asked;
+mod named_files;
+mod parts;
+mod rows;
+mod store;
+mod words;
+
+use md_outer::{Depot, FileDepot};
+use row_lines::Tally;
+use rows::{Running, carry_out};
+use std::alloc::{AllocError, Global};
+use std::io;
+use store::Store;
+
+/// The files of rows, in their order: what one keeps, those after it may copy.
+const FILES: [&str; 9] = [
+    "cartridges",
+    "runs",
+    "refusals",
+    "recordings",
+    "states",
+    "hostile",
+    "conversions",
+    "sessions",
+    "words",
+];
+
+/// The longest file of rows.
+const LONGEST: u64 = 1 << 20;
+
+/// The text of a file of rows; where there is none, a line that is none of the language.
+fn text_of<D: Depot>(alloc: Global, folder: &mut D, name: &str) -> Result<Vec<u8>, AllocError> {
+    match folder.fetch(alloc, name, LONGEST) {
+        Ok(bytes) => Ok(bytes),
+        Err(_) => b"no such file".to_vec(alloc),
+    }
+}
+
+fn main(rt: HostRuntime) -> io::Result<()> {
+    let alloc = rt.alloc();
+    let mut running = Running {
+        alloc,
+        folder: FileDepot::new(rt, alloc),
+        store: Store::new(alloc),
+        tally: Tally::new(alloc),
+    };
+    for name in &FILES {
+        let text = text_of(alloc, &mut running.folder, name)?;
+        carry_out(
+            &rt,
+            &mut running,
+            str::from_utf8(&text).unwrap_or("no text"),
+        )?;
+    }
+    running.tally.end(&rt)
+}
