@@ -1,5 +1,5 @@
 // Parts of the FM chip by themselves, and the pair of both chips.
-ghost use Rattle.std.specs.Prelude.{◌<◌, OnOk};
+ghost use Rattle.std.specs.Prelude.{◌<◌, IfOk};
 
 use fm_env::{Envelope, EnvelopeState};
 use fm_voice::{channel, step_of, wave};
@@ -24,7 +24,7 @@ fn numbers<const N: usize>(words: &str) -> Result<[i32; N], RowError> {
 
 /// A number below a limit.
 fn below(value: i32, limit: u32) -> Result<u32, RowError>
-    ensures { OnOk result (λ n. n < limit) }
+    ensures { IfOk result (λ n. n < limit) }
 {
     match u32::try_from(value) {
         Ok(value) if value < limit => Ok(value),
