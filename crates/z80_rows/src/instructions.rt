@@ -1,0 +1,35 @@
+// What bytes decode to.
+use md_disasm::text80;
+use row_lines::{RowError, byte, long};
+use std::alloc::Global;
+use z80_decode::decode;
+
+/// The text of the instruction that these bytes begin with, at 0100h, behind its length.
+fn told(alloc: Global, bytes: &[u8; 4]) -> Result<String, RowError> {
+    let decoded = decode(bytes);
+    let Ok(text) = text80(alloc, &decoded, 0x100) else {
+        return Err(RowError::Memory);
+    };
+    Ok(format!(in alloc; "{} {}", decoded.length, text.as_str())?)
+}
+
+/// The length and the text of an instruction.
+pub fn instruction(alloc: Global, digits: &str) -> Result<String, RowError> {
+    told(alloc, &long(digits)?.to_be_bytes())
+}
+
+/// For how many of the 256 opcodes behind a prefix that begins with this front.
+pub fn count(alloc: Global, words: &str) -> Result<String, RowError> {
+    let (prefix, front) = words.split_once(' ').ok_or(RowError::NoSuchLine)?;
+    let prefix = byte(prefix)?;
+    let mut count = 0u32;
+    for opcode in 0..=255u8 {
+        if told(alloc, &[prefix, opcode, 0, 0])?
+            .as_str()
+            .starts_with(front)
+        {
+            count = count.wrapping_add(1);
+        }
+    }
+    Ok(format!(in alloc; "{count}")?)
+}
