@@ -4,11 +4,13 @@
 mod bench;
 mod line;
 mod numbers;
+mod piece;
 mod row_error;
 mod tally;
 
 pub use bench::{Bench, take_files};
 pub use line::{Line, is_wanted, line_of};
 pub use numbers::{byte, bytes, hexadecimal, long, number, word};
+pub use piece::{compared, pieces};
 pub use row_error::RowError;
 pub use tally::Tally;

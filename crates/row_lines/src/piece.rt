@@ -1,0 +1,51 @@
+use crate::numbers::{bytes, number};
+use crate::row_error::RowError;
+use std::alloc::Global;
+
+/// More bytes than this are none of the language.
+const MOST: u64 = 0x100_0000;
+
+/// Puts bytes over those from a place on.
+fn put(into: &mut [u8], place: u64, values: &[u8]) -> Result<(), RowError> {
+    let place = usize::try_from(place).map_err(|_| RowError::NoSuchLine)?;
+    let rest = into.get_mut(place..).ok_or(RowError::NoSuchLine)?;
+    let part = rest.get_mut(..values.len()).ok_or(RowError::NoSuchLine)?;
+    part.copy_from_slice(values);
+    Ok(())
+}
+
+/// Puts a piece.
+fn put_piece(alloc: Global, into: &mut [u8], piece: &str) -> Result<(), RowError> {
+    let (place, digits) = piece.split_once(':').ok_or(RowError::NoSuchLine)?;
+    let values = bytes(alloc, digits)?;
+    put(into, number(place)?, &values)
+}
+
+/// The bytes `LENGTH PLACE:BYTES ..`: so many, of 0 where no piece stands; a later piece stands over an earlier one.
+pub fn pieces(alloc: Global, text: &str) -> Result<Vec<u8>, RowError> {
+    let (length, places) = text.split_once(' ').unwrap_or((text, ""));
+    let length = number(length)?;
+    if length > MOST {
+        return Err(RowError::NoSuchLine);
+    }
+    let mut built = vec![in alloc; 0; length as usize]?;
+    for piece in places.split_whitespace() {
+        put_piece(alloc, &mut built, piece)?;
+    }
+    Ok(built)
+}
+
+/// The first place at which bytes differ from those that are wanted, or their lengths; `told` where they do not.
+pub fn compared(alloc: Global, came: &[u8], wanted: &[u8], told: &str) -> Result<String, RowError> {
+    let mut place = 0u64;
+    for (one, other) in came.iter().zip(wanted.iter()) {
+        if one != other {
+            return Ok(format!(in alloc; "{one:02X} at {place} for {other:02X}")?);
+        }
+        place = place.wrapping_add(1);
+    }
+    if came.len() != wanted.len() {
+        return Ok(format!(in alloc; "{} bytes for {}", came.len(), wanted.len())?);
+    }
+    Ok(String::from_str(alloc, told)?)
+}
