@@ -1,6 +1,6 @@
 use Rattle.std.proofs.Common.{lit≤}
 use Rattle.chip_core.specs.Limits.{total}
-use Rattle.scheduler_tests.proofs.runs.the_run_is_that_of_the_least_key.Goals as goal
+use Rattle.core_rows.proofs.five_runs.run_by_least_key.Goals as goal
 
 pub room-requires-clause-room : goal.room-requires-clause-room
 unfolding total
