@@ -9,8 +9,11 @@ use std::alloc::Global;
 /// Empty work RAM.
 const NO_RAM: [u8; 65536] = [0; 65536];
 
+/// The last address of the bus.
+const LAST: u32 = 0xff_ffff;
+
 /// The most bytes or instructions that are asked for.
-const MOST: u64 = 256;
+const MOST: u32 = 256;
 
 /// The registers at power-on with that cartridge.
 const REGS: Regs = Regs {
@@ -39,29 +42,29 @@ fn line_of(alloc: Global, reply: Result<String, NoMemory>) -> Result<String, Row
     }
 }
 
-/// An address of the bus, and how many bytes or instructions from there on.
+/// An address, and how many bytes or instructions from there on.
 fn place_of(text: &str) -> Result<(u32, u32), RowError> {
     let (at, count) = two(text)?;
-    let (at, count) = (long(at)?, number(count)?);
-    if at > 0xff_ffff || count > MOST {
-        return Err(RowError::NoSuchLine);
-    }
-    Ok((at, count as u32))
+    let count = u32::try_from(number(count)?).map_err(|_| RowError::NoSuchLine)?;
+    Ok((long(at)?, count))
 }
 
 fn bytes(alloc: Global, text: &str) -> Result<String, RowError> {
     let (at, count) = place_of(text)?;
-    line_of(
-        alloc,
-        byte_reply(alloc, &image(), &NO_RAM, at & 0xff_ffff, count & 0xffff),
-    )
+    if at > LAST || count > MOST {
+        return Err(RowError::NoSuchLine);
+    }
+    line_of(alloc, byte_reply(alloc, &image(), &NO_RAM, at, count))
 }
 
 fn instructions(alloc: Global, text: &str) -> Result<String, RowError> {
     let (at, count) = place_of(text)?;
+    if at > LAST || at % 2 != 0 || count > MOST {
+        return Err(RowError::NoSuchLine);
+    }
     line_of(
         alloc,
-        instruction_reply(alloc, &image(), &NO_RAM, at & 0xff_fffe, count & 0xffff),
+        instruction_reply(alloc, &image(), &NO_RAM, at, count),
     )
 }
 

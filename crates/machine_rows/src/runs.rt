@@ -1,7 +1,5 @@
 // Machines that are brought to a cycle.
-ghost use Rattle.std.specs.Prelude.{◌≡◌, ◌≤◌, [], length};
-ghost use Rattle.md_machine.specs.Media.{no_media};
-ghost use Rattle.md_machine.specs.Regions.{most_entries, most_pairs};
+ghost use Rattle.std.specs.Prelude.{◌≤◌};
 
 use crate::image::{cartridge, shared};
 use crate::made::Made;
@@ -40,13 +38,6 @@ pub(crate) fn power_on(
     }
 }
 
-/// Whether a cycle lies behind that of the machine, at most a frame on.
-fn is_near(machine: &Machine, to: u32) -> bool {
-    let to = u64::from(to);
-    let at = machine.at();
-    to > at && to - at <= frame_cycles(machine.pal())
-}
-
 /// Brings the machine to a cycle, at most a frame on, and adds what it makes.
 pub(crate) fn run_to(
     alloc: Global,
@@ -54,11 +45,13 @@ pub(crate) fn run_to(
     made: &mut Made,
     to: u32,
 ) -> Result<(), RowError> {
-    if !is_near(machine, to) {
+    let to = u64::from(to);
+    let at = machine.at();
+    if to <= at || to - at > frame_cycles(machine.pal()) {
         return Err(RowError::NoSuchLine);
     }
     machine.discard();
-    machine.alone(u64::from(to));
+    machine.alone(to);
     Ok(made.take(machine, alloc)?)
 }
 
@@ -74,11 +67,13 @@ fn run_by<R: Threads + Wait + Sync>(
     requires some { 1 ≤ workers }
     requires few { workers ≤ 5 }
 {
-    if !is_near(machine, to) {
+    let to = u64::from(to);
+    let at = machine.at();
+    if to <= at || to - at > frame_cycles(machine.pal()) {
         return Err(RowError::NoSuchLine);
     }
     machine.discard();
-    machine.segment(rt, u64::from(to), workers, &FreeGate);
+    machine.segment(rt, to, workers, &FreeGate);
     Ok(made.take(machine, alloc)?)
 }
 
