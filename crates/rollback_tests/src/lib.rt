@@ -1,9 +1,5 @@
-//! Tests of what two players press, and of the images that are kept.
+//! Tests of the images that a session keeps.
 #![tactic(auto)]
 
 #[cfg(test)]
 mod images;
-#[cfg(test)]
-mod inputs;
-#[cfg(test)]
-mod lines;

@@ -5,6 +5,7 @@ mod bench;
 mod line;
 mod numbers;
 mod piece;
+mod repeat;
 mod row_error;
 mod tally;
 
@@ -12,5 +13,6 @@ pub use bench::{Bench, take_files};
 pub use line::{Line, is_wanted, line_of};
 pub use numbers::{byte, bytes, hexadecimal, long, number, word};
 pub use piece::{compared, pieces};
+pub use repeat::{place_of, push, repeated, repeats};
 pub use row_error::RowError;
 pub use tally::Tally;

@@ -3,9 +3,9 @@ ghost use Rattle.chip_core.specs.Cores.{machine_of};
 ghost use Rattle.chip_core.specs.Limits.{all_moves_left};
 ghost use Rattle.chip_run.specs.Places.{AllFree};
 
-use crate::five::{at_access, key, power_on};
 use chip_core::{ChipSet, Core, Event};
 use chip_run::{Blanks, Bus, Helds, Locked, Named, Round, Turn, laws};
+use core_rows::five::{at_access, key, power_on};
 use md_outer::FreeGate;
 use md_word::Key;
 use std::marker::{Brand, PhantomData};

@@ -1,31 +1,12 @@
 use crate::errand::Errand;
-use crate::five::power_on;
 use crate::meeting::Meeting;
 use crate::pair;
-use crate::runs::moved_by_least_key;
 use crate::turns::Turns;
 use chip_run::run_core;
+use core_rows::five::power_on;
 use md_outer::FreeGate;
 use std::sync::Arc;
 use std::test::Fail;
-
-#[test]
-fn every_number_of_workers_gives_the_run_of_the_least_key(rt: HostRuntime) -> Result<(), Fail> {
-    let (plain_board, plain_chips, plain_journal) = moved_by_least_key(rt.alloc(), 40000)?;
-    for workers in 1..6u32 {
-        let core = power_on(rt.alloc(), 5000)?;
-        let (board, chips, _bounds, journal) = run_core(
-            &rt, core, 40000, workers, &FreeGate,
-        ).into_parts();
-        assert!(rt;
-            board.line == plain_board.line
-                && chips.as_slice() == plain_chips.as_slice()
-                && journal.as_slice() == plain_journal.as_slice(),
-            "with {workers} workers"
-        );
-    }
-    Ok(())
-}
 
 // In each of two runs the first two chips wait for one another at the gate: workers that were run
 // one after the other would never meet there.

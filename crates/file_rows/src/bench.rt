@@ -1,0 +1,139 @@
+use crate::depots::Stores;
+use crate::kept::Kept;
+use crate::pads::Pads;
+use crate::players::Players;
+use crate::{cartridges, lines, replies, rings};
+use row_lines::{Bench, RowError, bytes, hexadecimal, repeats};
+use std::alloc::Global;
+
+/// What a row is carried out on.
+#[derive(Drop)]
+pub(crate) struct Parts {
+    alloc: Global,
+    /// A file that the row makes.
+    file: Vec<u8>,
+    stores: Stores,
+    pads: Pads,
+    kept: Kept,
+    players: Players,
+}
+
+/// A step or a question: its first word, and what stands behind it.
+pub(crate) fn halves(text: &str) -> (&str, &str) {
+    text.split_once(' ').unwrap_or((text, ""))
+}
+
+/// Two words or more: the first, and what stands behind it.
+pub(crate) fn two(text: &str) -> Result<(&str, &str), RowError> {
+    text.split_once(' ').ok_or(RowError::NoSuchLine)
+}
+
+/// A text as an answer.
+pub(crate) fn told(alloc: Global, text: &str) -> Result<String, RowError> {
+    Ok(String::from_str(alloc, text)?)
+}
+
+/// `yes` or `no`.
+pub(crate) fn yes_or_no(alloc: Global, is_so: bool) -> Result<String, RowError> {
+    told(alloc, if is_so { "yes" } else { "no" })
+}
+
+/// Puts bytes over those from a place on, which is hexadecimal.
+fn put(into: &mut [u8], place: &str, values: &[u8]) -> Result<(), RowError> {
+    let place = usize::try_from(hexadecimal(place)?).map_err(|_| RowError::NoSuchLine)?;
+    let rest = into.get_mut(place..).ok_or(RowError::NoSuchLine)?;
+    let part = rest.get_mut(..values.len()).ok_or(RowError::NoSuchLine)?;
+    part.copy_from_slice(values);
+    Ok(())
+}
+
+impl Parts {
+    pub(crate) fn new(alloc: Global) -> Parts {
+        Parts {
+            alloc,
+            file: Vec::new(alloc),
+            stores: Stores::new(alloc),
+            pads: Pads::new(),
+            kept: Kept::new(),
+            players: Players::new(),
+        }
+    }
+
+    /// The row's file is made of these bytes.
+    fn make_file(&mut self, text: &str) -> Result<(), RowError> {
+        self.file = repeats(self.alloc, text)?;
+        Ok(())
+    }
+
+    /// Bytes of the row's file, and their place in hexadecimal.
+    fn write(&mut self, text: &str) -> Result<(), RowError> {
+        let (place, digits) = two(text)?;
+        let values = bytes(self.alloc, digits)?;
+        put(&mut self.file, place, &values)
+    }
+
+    /// The same, of a text.
+    fn write_text(&mut self, text: &str) -> Result<(), RowError> {
+        let (place, values) = two(text)?;
+        put(&mut self.file, place, values.as_bytes())
+    }
+
+    /// What is answered where the row's file is asked.
+    fn answer_of_file(&mut self, verb: &str, rest: &str, wanted: &str) -> Result<String, RowError> {
+        let alloc = self.alloc;
+        match verb {
+            "cartridge" => cartridges::accept(alloc, &self.file),
+            "image" => cartridges::image(alloc, &self.file),
+            "header" => cartridges::header(alloc, &self.file),
+            "demo" => cartridges::demo(alloc, rest),
+            "picture" => cartridges::picture(alloc, &self.file, wanted),
+            _ => self.pads.answer(alloc, &self.file, verb, rest),
+        }
+    }
+
+    /// What is answered where one of the small parts is asked.
+    fn answer_of_part(&mut self, verb: &str, rest: &str, wanted: &str) -> Result<String, RowError> {
+        let alloc = self.alloc;
+        match verb {
+            "command" => lines::command(alloc, rest),
+            "press" => lines::press(alloc, rest),
+            "reply" => replies::reply(alloc, rest),
+            "ring" => rings::kept(alloc, rest),
+            "player" => self.players.answer(alloc, rest),
+            "kept" => self.kept.answer(alloc, rest),
+            "depot" => self.stores.answer(alloc, rest),
+            "sink" => self.stores.answer_of_sink(alloc, rest),
+            _ => self.answer_of_file(verb, rest, wanted),
+        }
+    }
+}
+
+impl Bench for Parts {
+    fn begin(&mut self) -> Result<(), RowError> {
+        self.file = Vec::new(self.alloc);
+        self.stores = Stores::new(self.alloc);
+        self.pads = Pads::new();
+        self.kept = Kept::new();
+        self.players = Players::new();
+        Ok(())
+    }
+
+    fn obey(&mut self, line: &str) -> Result<(), RowError> {
+        let alloc = self.alloc;
+        let (verb, rest) = halves(line);
+        match verb {
+            "file" => self.make_file(rest),
+            "write" => self.write(rest),
+            "text" => self.write_text(rest),
+            "depot" => self.stores.obey(alloc, rest),
+            "port" => self.pads.obey(rest),
+            "kept" => self.kept.obey(alloc, rest),
+            _ => Err(RowError::NoSuchLine),
+        }
+    }
+
+    fn answer(&mut self, asked: &str, wanted: &str) -> Result<String, RowError> {
+        let (verb, rest) = halves(asked);
+        self.answer_of_part(verb, rest, wanted)
+    }
+}

@@ -1,0 +1,32 @@
+//! Rows of files and of the small parts: prints what is wrong, and how many rows there are.
+#![tactic(auto)]
+
+mod bench;
+mod cartridges;
+mod depots;
+mod kept;
+mod lines;
+mod pads;
+mod players;
+mod replies;
+mod rings;
+
+use bench::Parts;
+use row_lines::take_files;
+use std::io;
+
+/// The files of rows.
+const FILES: [&str; 6] = [
+    "cartridges",
+    "depots",
+    "pads",
+    "kept",
+    "debugger",
+    "players",
+];
+
+fn main(rt: HostRuntime) -> io::Result<()> {
+    let alloc = rt.alloc();
+    let mut parts = Parts::new(alloc);
+    take_files(&rt, alloc, &mut parts, &FILES)
+}

@@ -1,5 +1,0 @@
-//! Tests of kept states.
-#![tactic(auto)]
-
-#[cfg(test)]
-mod kept;

@@ -1,7 +1,0 @@
-use Rattle.std.proofs.Common.{lit≤}
-use Rattle.chip_core.specs.Limits.{total}
-use Rattle.scheduler_tests.proofs.runs.the_run_is_that_of_the_least_key.Goals as goal
-
-pub room-requires-clause-room : goal.room-requires-clause-room
-unfolding total
-room-requires-clause-room g c = rw c.in_ok-core.ensures (λ κs. lit≤ tt)
