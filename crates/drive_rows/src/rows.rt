@@ -3,7 +3,7 @@ use crate::asked::ask;
 use crate::parts::build;
 use crate::store::Store;
 use md_outer::FileDepot;
-use row_lines::{Line, RowError, Tally, is_wanted, line_of, number};
+use row_lines::{Line, RowError, Tally, line_of, number};
 use std::alloc::{AllocError, Global};
 use std::io;
 use std::rt::Files;
@@ -63,25 +63,8 @@ fn take_step<R: Files + Drop, T: Print>(
     running: &mut Running<R>,
     step: &str,
 ) -> io::Result<()> {
-    match prepare(running, step) {
-        Ok(()) => Ok(()),
-        Err(error) => running.tally.find_wrong(rt, step, error.text()),
-    }
-}
-
-/// Compares an answer with the one that is wanted.
-fn judge<T: Print>(
-    rt: &T,
-    tally: &mut Tally,
-    asked: &str,
-    wanted: &str,
-    answer: &str,
-) -> io::Result<()> {
-    if is_wanted(answer, wanted) {
-        tally.find_right();
-        return Ok(());
-    }
-    tally.find_wrong(rt, asked, answer)
+    let done = prepare(running, step);
+    running.tally.note_step(rt, step, done)
 }
 
 /// Asks a question, and prints an answer that is not wanted.
@@ -97,10 +80,8 @@ fn take_question<R: Files + Drop, T: Print + Threads + Wait + Sync>(
         store,
         tally,
     } = running;
-    match ask(rt, *alloc, folder, store, asked, wanted) {
-        Ok(answer) => judge(rt, tally, asked, wanted, answer.as_str()),
-        Err(error) => tally.find_wrong(rt, asked, error.text()),
-    }
+    let answer = ask(rt, *alloc, folder, store, asked, wanted);
+    tally.note_answer(rt, asked, wanted, answer)
 }
 
 /// Carries out a line of a row.

@@ -1,5 +1,5 @@
 // Cartridges and pictures.
-use crate::bench::told;
+use crate::fixture::told;
 use md_demo::demo_cart;
 use md_files::{ppm_head, put_frame};
 use rom_header::{Cart, CartFault};

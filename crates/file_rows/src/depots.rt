@@ -2,7 +2,7 @@
 ghost use Rattle.std.specs.Prelude.{IsSome, IfOk};
 ghost use Rattle.md_outer.specs.MemDepot.{depot_state_of};
 
-use crate::bench::{halves, told, two, yes_or_no};
+use crate::fixture::{halves, told, two, yes_or_no};
 use md_outer::{Begin, Depot, Fetch, MemDepot, MemSink, Sink};
 use row_lines::{RowError, bytes, number, push};
 use std::alloc::{AllocError, Global};

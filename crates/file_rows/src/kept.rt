@@ -1,5 +1,5 @@
 // States that the debugger keeps, of short images.
-use crate::bench::{halves, two};
+use crate::fixture::{halves, two};
 use debug_kept::KeptStates;
 use row_lines::{RowError, bytes, number, repeated};
 use std::alloc::Global;

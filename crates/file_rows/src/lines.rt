@@ -1,5 +1,5 @@
 // Lines of scripts.
-use crate::bench::told;
+use crate::fixture::told;
 use debug_lines::{Command, Misread, read_command};
 use rollback_lines::{Line, Player, read_line};
 use row_lines::{RowError, bytes};

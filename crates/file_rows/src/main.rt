@@ -1,7 +1,7 @@
 //! Rows of files and of the small parts: prints what is wrong, and how many rows there are.
 #![tactic(auto)]
 
-mod bench;
+mod fixture;
 mod cartridges;
 mod depots;
 mod kept;
@@ -11,7 +11,7 @@ mod players;
 mod replies;
 mod rings;
 
-use bench::Parts;
+use fixture::Parts;
 use row_lines::take_files;
 use std::io;
 

@@ -1,5 +1,5 @@
 // Recordings, and the port that a pad hangs on.
-use crate::bench::{halves, told, two, yes_or_no};
+use crate::fixture::{halves, told, two, yes_or_no};
 use bitflags::Flags;
 use md_pads::{Buttons, PadPort, RecFault, Recording};
 use row_lines::{RowError, byte, number, word};

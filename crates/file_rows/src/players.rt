@@ -1,5 +1,5 @@
 // What two players press, and what is expected of them.
-use crate::bench::{halves, told, two};
+use crate::fixture::{halves, told, two};
 use rollback_inputs::{InputFault, Inputs, MOST_FRAMES};
 use row_lines::{RowError, number, place_of, word};
 use std::alloc::Global;

@@ -1,7 +1,7 @@
 // Rings of states of two pages, of which each is full of one letter.
 ghost use Rattle.std.specs.Prelude.{◌≡◌, ◌≤◌};
 
-use crate::bench::two;
+use crate::fixture::two;
 use page_ring::{PAGE, PageRing};
 use row_lines::{RowError, number};
 use std::alloc::Global;

@@ -9,7 +9,7 @@ mod runs;
 mod state;
 
 use obey::{answer, obey};
-use row_lines::{Line, RowError, Tally, is_wanted, line_of};
+use row_lines::{Line, Tally, line_of};
 use state::State;
 use std::alloc::Global;
 use std::rt::Files;
@@ -28,10 +28,8 @@ fn take_step<R: Print + Threads + Wait + Sync>(
     tally: &mut Tally,
     line: &str,
 ) -> io::Result<()> {
-    match obey(rt, alloc, state, line) {
-        Ok(()) => Ok(()),
-        Err(error) => tally.find_wrong(rt, line, error.text()),
-    }
+    let done = obey(rt, alloc, state, line);
+    tally.note_step(rt, line, done)
 }
 
 /// Asks a question.
@@ -43,16 +41,8 @@ fn take_question<R: Print + Threads + Wait + Sync>(
     asked: &str,
     wanted: &str,
 ) -> io::Result<()> {
-    match answer(rt, alloc, state, asked, wanted) {
-        Ok(told) => {
-            if is_wanted(told.as_str(), wanted) {
-                tally.find_right();
-                return Ok(());
-            }
-            tally.find_wrong(rt, asked, told.as_str())
-        }
-        Err(error) => tally.find_wrong(rt, asked, error.text()),
-    }
+    let came = answer(rt, alloc, state, asked, wanted);
+    tally.note_answer(rt, asked, wanted, came)
 }
 
 /// Takes a line.

@@ -1,7 +1,7 @@
 use crate::image::{cartridge, image_of, put_text};
 use crate::made::Made;
 use crate::runs::{is_made_by, power_on, recording_of, run_to};
-use core_rows::CoreBench;
+use core_rows::CoreFixture;
 use core_rows::five::{self, Five};
 use md_machine::{Machine, MdChips, first_core};
 use row_lines::{RowError, bytes, number};
@@ -17,8 +17,8 @@ pub(crate) struct State {
     pal: bool,
     machine: Option<Machine>,
     pub made: Made,
-    pub five: CoreBench<Five>,
-    pub chips: CoreBench<MdChips>,
+    pub five: CoreFixture<Five>,
+    pub chips: CoreFixture<MdChips>,
 }
 
 /// A cycle of a machine.
@@ -35,8 +35,8 @@ impl State {
             pal: false,
             machine: None,
             made: Made::new(alloc),
-            five: CoreBench::new(),
-            chips: CoreBench::new(),
+            five: CoreFixture::new(),
+            chips: CoreFixture::new(),
         }
     }
 
@@ -47,8 +47,8 @@ impl State {
         self.pal = false;
         self.machine = None;
         self.made = Made::new(alloc);
-        self.five = CoreBench::new();
-        self.chips = CoreBench::new();
+        self.five = CoreFixture::new();
+        self.chips = CoreFixture::new();
     }
 
     /// Has a cartridge with a program.

@@ -1,7 +1,7 @@
 //! Rows of data files: what a line says, its numbers and bytes, and the count of rows and of wrong ones.
 #![tactic(auto)]
 
-mod bench;
+mod fixture;
 mod line;
 mod numbers;
 mod piece;
@@ -9,7 +9,7 @@ mod repeat;
 mod row_error;
 mod tally;
 
-pub use bench::{Bench, take_files};
+pub use fixture::{Fixture, take_files};
 pub use line::{Line, is_wanted, line_of};
 pub use numbers::{byte, bytes, hexadecimal, long, number, word};
 pub use piece::{compared, pieces};

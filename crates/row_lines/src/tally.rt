@@ -1,3 +1,5 @@
+use crate::line::is_wanted;
+use crate::row_error::RowError;
 use std::alloc::{AllocError, Global};
 use std::io;
 
@@ -38,7 +40,7 @@ impl Tally {
     }
 
     /// A question of the row had the answer that is wanted.
-    pub fn find_right(&mut self) {
+    fn find_right(&mut self) {
         self.answers = self.answers.wrapping_add(1);
     }
 
@@ -50,6 +52,48 @@ impl Tally {
         }
         self.is_wrong = true;
         println!(rt; "row {}: {line}: {came}", self.name.as_str())
+    }
+
+    /// A step of the row that asks nothing was carried out, or was not: prints it then, with the cause.
+    pub fn note_step<R: Print>(
+        &mut self,
+        rt: &R,
+        step: &str,
+        done: Result<(), RowError>,
+    ) -> io::Result<()> {
+        match done {
+            Ok(()) => Ok(()),
+            Err(error) => self.find_wrong(rt, step, error.text()),
+        }
+    }
+
+    /// A question of the row had an answer, or none: prints it with what came, unless that is what is wanted.
+    pub fn note_answer<R: Print>(
+        &mut self,
+        rt: &R,
+        asked: &str,
+        wanted: &str,
+        answer: Result<String, RowError>,
+    ) -> io::Result<()> {
+        match answer {
+            Ok(answer) => self.compare(rt, asked, wanted, answer.as_str()),
+            Err(error) => self.find_wrong(rt, asked, error.text()),
+        }
+    }
+
+    /// Compares an answer with the one that is wanted.
+    fn compare<R: Print>(
+        &mut self,
+        rt: &R,
+        asked: &str,
+        wanted: &str,
+        answer: &str,
+    ) -> io::Result<()> {
+        if is_wanted(answer, wanted) {
+            self.find_right();
+            return Ok(());
+        }
+        self.find_wrong(rt, asked, answer)
     }
 
     /// Looks whether the row asked something.

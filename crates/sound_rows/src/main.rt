@@ -1,7 +1,7 @@
 //! Rows of the sound chips: their ports, their samples and their bytes in a saved state, and VGM files.
 #![tactic(auto)]
 
-mod bench;
+mod fixture;
 mod chips;
 mod states;
 mod vgm;
@@ -16,6 +16,6 @@ static FILES: [&str; 6] = ["voices", "chips", "states", "making", "playing", "he
 
 fn main(rt: HostRuntime) -> io::Result<()> {
     let alloc = rt.alloc();
-    let mut bench = Sound::power_on(alloc);
-    take_files(&rt, alloc, &mut bench, &FILES)
+    let mut fixture = Sound::power_on(alloc);
+    take_files(&rt, alloc, &mut fixture, &FILES)
 }

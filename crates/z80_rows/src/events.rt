@@ -1,7 +1,7 @@
 // Events of the Z80, and the bytes that keep it in a saved state.
 ghost use Rattle.std.specs.Prelude.{◌≡◌};
 
-use crate::bench::Z80;
+use crate::fixture::Z80;
 use crate::setting::cartridge;
 use md_word::{Pins80, Request80, Unspell};
 use rom_header::Cart;
@@ -19,10 +19,10 @@ fn shared(alloc: Global) -> Result<Arc<Cart>, RowError> {
 }
 
 /// Sets up the Z80 at power-on.
-pub fn power_on(bench: &mut Z80) -> Result<(), RowError> {
-    let cart = shared(bench.alloc)?;
-    let chip = Chip80::power_on(bench.alloc, cart).map_err(|_| RowError::Memory)?;
-    bench.chip = Some(chip);
+pub fn power_on(fixture: &mut Z80) -> Result<(), RowError> {
+    let cart = shared(fixture.alloc)?;
+    let chip = Chip80::power_on(fixture.alloc, cart).map_err(|_| RowError::Memory)?;
+    fixture.chip = Some(chip);
     Ok(())
 }
 
@@ -58,10 +58,10 @@ fn pins_of(text: &str) -> Result<Pins80, RowError> {
 }
 
 /// The event behind a sample, or behind those up to a cycle: its cycle, and whether it is an access.
-pub fn sample(bench: &mut Z80, words: &str) -> Result<String, RowError> {
+pub fn sample(fixture: &mut Z80, words: &str) -> Result<String, RowError> {
     let (pins, end) = words.split_once(' ').unwrap_or((words, "0"));
-    let alloc = bench.alloc;
-    let chip = bench.chip()?;
+    let alloc = fixture.alloc;
+    let chip = fixture.chip()?;
     take(chip, &pins_of(pins)?, number(end)?)?;
     let next = chip.next();
     let kind = if next.sample { "" } else { " access" };
@@ -82,9 +82,9 @@ fn read_of(chip: &mut Chip80) -> Result<(u64, u16), RowError> {
 }
 
 /// The cycle and the address of the read that is next.
-pub fn request(bench: &mut Z80) -> Result<String, RowError> {
-    let (cycle, at) = read_of(bench.chip()?)?;
-    Ok(format!(in bench.alloc; "{cycle} r:{at:04X}")?)
+pub fn request(fixture: &mut Z80) -> Result<String, RowError> {
+    let (cycle, at) = read_of(fixture.chip()?)?;
+    Ok(format!(in fixture.alloc; "{cycle} r:{at:04X}")?)
 }
 
 /// The bytes that keep a Z80.
@@ -96,15 +96,15 @@ fn spelled(alloc: Global, chip: &Chip80, at: u64) -> Result<Vec<u8>, RowError> {
 }
 
 /// Reads a Z80 of bytes: `kept` where it is spelled by the same bytes, or the place at which they are refused.
-pub fn state(bench: &mut Z80, words: &str) -> Result<String, RowError> {
-    let alloc = bench.alloc;
+pub fn state(fixture: &mut Z80, words: &str) -> Result<String, RowError> {
+    let alloc = fixture.alloc;
     let (at, text) = words.split_once(' ').ok_or(RowError::NoSuchLine)?;
     let at = number(at)?;
     let bytes = pieces(alloc, text)?;
     match Chip80::unspell(alloc, &bytes, at, shared(alloc)?) {
         Ok(chip) => {
             let again = spelled(alloc, &chip, at)?;
-            bench.chip = Some(chip);
+            fixture.chip = Some(chip);
             compared(alloc, &again, &bytes, "kept")
         }
         Err(Unspell::Rule { place }) => Ok(format!(in alloc; "refused {place}")?),
@@ -113,8 +113,8 @@ pub fn state(bench: &mut Z80, words: &str) -> Result<String, RowError> {
 }
 
 /// Whether the Z80 is spelled by the bytes that are wanted.
-pub fn spell(bench: &mut Z80, at: &str, wanted: &str) -> Result<String, RowError> {
-    let alloc = bench.alloc;
-    let bytes = spelled(alloc, bench.chip()?, number(at)?)?;
+pub fn spell(fixture: &mut Z80, at: &str, wanted: &str) -> Result<String, RowError> {
+    let alloc = fixture.alloc;
+    let bytes = spelled(alloc, fixture.chip()?, number(at)?)?;
     compared(alloc, &bytes, &pieces(alloc, wanted)?, wanted)
 }

@@ -1,7 +1,7 @@
 //! Rows of the Z80: its instructions, its registers and its RAM, its events, and its bytes in a saved state.
 #![tactic(auto)]
 
-mod bench;
+mod fixture;
 mod events;
 mod instructions;
 mod memory;
@@ -9,7 +9,7 @@ mod registers;
 mod samples;
 mod setting;
 
-use bench::Z80;
+use fixture::Z80;
 use row_lines::take_files;
 use std::io;
 
@@ -27,7 +27,7 @@ static FILES: [&str; 7] = [
 fn main(rt: HostRuntime) -> io::Result<()> {
     let alloc = rt.alloc();
     match Z80::new(alloc) {
-        Ok(mut bench) => take_files(&rt, alloc, &mut bench, &FILES),
+        Ok(mut fixture) => take_files(&rt, alloc, &mut fixture, &FILES),
         Err(error) => println!(rt; "{}", error.text()),
     }
 }

@@ -12,7 +12,7 @@ const MOST: u64 = 1 << 50;
 
 /// A core that rows ask, where one was begun.
 #[derive(Drop)]
-pub struct CoreBench<C: ChipSet> {
+pub struct CoreFixture<C: ChipSet> {
     core: Option<Core<C>>,
 }
 
@@ -65,10 +65,10 @@ fn writes<C: ChipSet>(alloc: Global, text: &str) -> Result<String, RowError> {
     yes_or_no(alloc, C::writes(writer, chip))
 }
 
-impl<C: ChipSet> CoreBench<C> {
+impl<C: ChipSet> CoreFixture<C> {
     /// With no core.
-    pub fn new() -> CoreBench<C> {
-        CoreBench { core: None }
+    pub fn new() -> CoreFixture<C> {
+        CoreFixture { core: None }
     }
 
     /// Whether there is a core.

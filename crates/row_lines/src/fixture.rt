@@ -1,4 +1,4 @@
-use crate::line::{Line, is_wanted, line_of};
+use crate::line::{Line, line_of};
 use crate::row_error::RowError;
 use crate::tally::Tally;
 use std::alloc::Global;
@@ -6,7 +6,7 @@ use std::rt::Files;
 use std::{fs, io};
 
 /// What the rows of a program are carried out on.
-pub trait Bench {
+pub trait Fixture {
     /// Begins a row, with nothing of the row before it.
     fn begin(&mut self) -> Result<(), RowError>;
 
@@ -19,58 +19,22 @@ pub trait Bench {
 }
 
 /// Begins a row.
-fn begin<R: Print, B: Bench>(
+fn begin<R: Print, F: Fixture>(
     rt: &R,
     alloc: Global,
-    bench: &mut B,
+    fixture: &mut F,
     tally: &mut Tally,
     name: &str,
 ) -> io::Result<()> {
     tally.begin(rt, alloc, name)?;
-    match bench.begin() {
-        Ok(()) => Ok(()),
-        Err(error) => tally.find_wrong(rt, "its begin", error.text()),
-    }
+    tally.note_step(rt, "its begin", fixture.begin())
 }
 
-/// Carries out a line that asks nothing.
-fn obey<R: Print, B: Bench>(
-    rt: &R,
-    bench: &mut B,
-    tally: &mut Tally,
-    line: &str,
-) -> io::Result<()> {
-    match bench.obey(line) {
-        Ok(()) => Ok(()),
-        Err(error) => tally.find_wrong(rt, line, error.text()),
-    }
-}
-
-/// Asks a question, and looks at the answer.
-fn ask<R: Print, B: Bench>(
-    rt: &R,
-    bench: &mut B,
-    tally: &mut Tally,
-    asked: &str,
-    wanted: &str,
-) -> io::Result<()> {
-    match bench.answer(asked, wanted) {
-        Ok(came) => {
-            if is_wanted(came.as_str(), wanted) {
-                tally.find_right();
-                return Ok(());
-            }
-            tally.find_wrong(rt, asked, came.as_str())
-        }
-        Err(error) => tally.find_wrong(rt, asked, error.text()),
-    }
-}
-
-/// Takes a line, which is a row of its own unless a head stands above it in its file: whether one does behind it.
-fn take<R: Print, B: Bench>(
+/// Takes a line, which is a row of its own unless a head stands above it in its file. Tells whether one does behind it.
+fn take<R: Print, F: Fixture>(
     rt: &R,
     alloc: Global,
-    bench: &mut B,
+    fixture: &mut F,
     tally: &mut Tally,
     above: (&str, bool),
     line: Line<'_>,
@@ -79,52 +43,52 @@ fn take<R: Print, B: Bench>(
     match line {
         Line::Nothing => {}
         Line::Row(name) => {
-            begin(rt, alloc, bench, tally, name)?;
+            begin(rt, alloc, fixture, tally, name)?;
             return Ok(true);
         }
         Line::Step(step) => {
             if !is_headed {
-                begin(rt, alloc, bench, tally, file)?;
+                begin(rt, alloc, fixture, tally, file)?;
             }
-            obey(rt, bench, tally, step)?;
+            tally.note_step(rt, step, fixture.obey(step))?;
         }
         Line::Question(asked, wanted) => {
             if !is_headed {
-                begin(rt, alloc, bench, tally, file)?;
+                begin(rt, alloc, fixture, tally, file)?;
             }
-            ask(rt, bench, tally, asked, wanted)?;
+            tally.note_answer(rt, asked, wanted, fixture.answer(asked, wanted))?;
         }
     }
     Ok(is_headed)
 }
 
 /// Takes the rows of a file.
-fn take_file<R: Print + Files + AllocGlobal, B: Bench>(
+fn take_file<R: Print + Files + AllocGlobal, F: Fixture>(
     rt: &R,
     alloc: Global,
-    bench: &mut B,
+    fixture: &mut F,
     tally: &mut Tally,
     file: &str,
 ) -> io::Result<()> {
     let text = fs::read_to_string(rt, file)?;
     let mut is_headed = false;
     for line in text.lines() {
-        is_headed = take(rt, alloc, bench, tally, (file, is_headed), line_of(line))?;
+        is_headed = take(rt, alloc, fixture, tally, (file, is_headed), line_of(line))?;
     }
     Ok(())
 }
 
 /// Carries out the rows of files, prints what is wrong, and then how many rows there were and how many of them were
 /// wrong. In a file with heads `row NAME` the lines below one are its row, else each line is a row.
-pub fn take_files<R: Print + Files + AllocGlobal, B: Bench>(
+pub fn take_files<R: Print + Files + AllocGlobal, F: Fixture>(
     rt: &R,
     alloc: Global,
-    bench: &mut B,
+    fixture: &mut F,
     files: &[&str],
 ) -> io::Result<()> {
     let mut tally = Tally::new(alloc);
     for file in files {
-        take_file(rt, alloc, bench, &mut tally, file)?;
+        take_file(rt, alloc, fixture, &mut tally, file)?;
     }
     tally.end(rt)
 }

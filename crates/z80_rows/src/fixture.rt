@@ -4,7 +4,7 @@ use crate::memory::{input, reset, store};
 use crate::samples;
 use crate::setting::{Setting, cartridge};
 use rom_header::Cart;
-use row_lines::{Bench, RowError};
+use row_lines::{Fixture, RowError};
 use std::alloc::Global;
 use z80_chip::Chip80;
 
@@ -37,7 +37,7 @@ impl Z80 {
     }
 }
 
-impl Bench for Z80 {
+impl Fixture for Z80 {
     fn begin(&mut self) -> Result<(), RowError> {
         self.chip = None;
         Ok(())

@@ -3,7 +3,7 @@ use crate::kept::Kept;
 use crate::pads::Pads;
 use crate::players::Players;
 use crate::{cartridges, lines, replies, rings};
-use row_lines::{Bench, RowError, bytes, hexadecimal, repeats};
+use row_lines::{Fixture, RowError, bytes, hexadecimal, repeats};
 use std::alloc::Global;
 
 /// What a row is carried out on.
@@ -108,7 +108,7 @@ impl Parts {
     }
 }
 
-impl Bench for Parts {
+impl Fixture for Parts {
     fn begin(&mut self) -> Result<(), RowError> {
         self.file = Vec::new(self.alloc);
         self.stores = Stores::new(self.alloc);

@@ -1,9 +1,9 @@
 use crate::chips::Sound;
 use crate::vgm::{body, head, play};
 use crate::voices::{key, mixed, phase_step, sample, tick, voice};
-use row_lines::{Bench, RowError};
+use row_lines::{Fixture, RowError};
 
-impl Bench for Sound {
+impl Fixture for Sound {
     fn begin(&mut self) -> Result<(), RowError> {
         self.restart();
         self.forget();
