@@ -1,0 +1,108 @@
+use crate::answer::Answer;
+use crate::changes::changed;
+use crate::kinds::arguments;
+use crate::row_error::RowError;
+use std::alloc::Global;
+
+/// Bytes that a row makes, as those of a saved state or of a picture, and those that it holds aside.
+#[derive(Drop)]
+pub struct Buffer {
+    bytes: Vec<u8>,
+    held: Vec<u8>,
+}
+
+/// Tells `yes` where bytes are the same, and else from which place on they are not.
+fn compare(one: &[u8], other: &[u8], answer: &mut Answer) -> Result<(), RowError> {
+    if one == other {
+        return answer.say("yes");
+    }
+    let mut place = 0u64;
+    for (first, second) in one.iter().zip(other.iter()) {
+        if first != second {
+            break;
+        }
+        place = place.wrapping_add(1);
+    }
+    answer.say("others from")?;
+    answer.say_number(place)
+}
+
+impl Buffer {
+    pub fn new(alloc: Global) -> Buffer {
+        Buffer {
+            bytes: Vec::new(alloc),
+            held: Vec::new(alloc),
+        }
+    }
+
+    /// Lets all bytes go.
+    pub fn clear(&mut self) {
+        self.bytes.clear();
+        self.held.clear();
+    }
+
+    pub fn bytes(&self) -> &[u8] {
+        self.bytes.as_slice()
+    }
+
+    /// Takes other bytes in place of its own.
+    pub fn take(&mut self, bytes: Vec<u8>) {
+        self.bytes = bytes;
+    }
+
+    /// Copies bytes in place of its own.
+    pub fn copy(&mut self, bytes: &[u8]) -> Result<(), RowError> {
+        self.bytes.clear();
+        Ok(self.bytes.extend_from_slice(bytes)?)
+    }
+
+    /// Copies bytes behind its own.
+    pub fn append(&mut self, bytes: &[u8]) -> Result<(), RowError> {
+        Ok(self.bytes.extend_from_slice(bytes)?)
+    }
+
+    fn hold(&mut self) -> Result<(), RowError> {
+        self.held.clear();
+        Ok(self.held.extend_from_slice(self.bytes.as_slice())?)
+    }
+
+    /// Tells so many bytes from a place on, of those that are there.
+    fn tell(&self, rest: &str, answer: &mut Answer) -> Result<(), RowError> {
+        let [place, count, _, _] = arguments(rest, "dd")?;
+        let behind = self.bytes.get(place as usize..).unwrap_or(&[]);
+        answer.say_bytes(behind.get(..count as usize).unwrap_or(behind))
+    }
+
+    /// Makes bytes of 0 but for changes.
+    pub fn make(&mut self, alloc: Global, rest: &str) -> Result<(), RowError> {
+        self.bytes = changed(alloc, rest)?;
+        Ok(())
+    }
+
+    /// Compares the bytes with such bytes.
+    fn compare_made(&self, alloc: Global, rest: &str, answer: &mut Answer) -> Result<(), RowError> {
+        let other = changed(alloc, rest)?;
+        compare(&self.bytes, &other, answer)
+    }
+
+    /// Carries out a line about the bytes: `zeros LENGTH PLACE:BYTES..` makes bytes of 0 but for changes, `hold`
+    /// holds a copy aside; `length` tells how many there are, `bytes PLACE COUNT` some of them, `held` whether they
+    /// are those that are held, and `same LENGTH PLACE:BYTES..` whether they are 0 but for changes.
+    pub fn obey(
+        &mut self,
+        alloc: Global,
+        verb: &str,
+        rest: &str,
+        answer: &mut Answer,
+    ) -> Result<(), RowError> {
+        match verb {
+            "zeros" => self.make(alloc, rest),
+            "hold" => self.hold(),
+            "length" => answer.say_number(self.bytes.len() as u64),
+            "bytes" => self.tell(rest, answer),
+            "held" => compare(&self.bytes, &self.held, answer),
+            "same" => self.compare_made(alloc, rest, answer),
+            _ => Err(RowError::NoSuchLine),
+        }
+    }
+}
