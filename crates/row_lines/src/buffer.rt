@@ -61,9 +61,20 @@ impl Buffer {
         Ok(self.bytes.extend_from_slice(bytes)?)
     }
 
-    fn hold(&mut self) -> Result<(), RowError> {
+    fn hold(&mut self, rest: &str) -> Result<(), RowError> {
+        arguments(rest, "")?;
         self.held.clear();
         Ok(self.held.extend_from_slice(self.bytes.as_slice())?)
+    }
+
+    fn tell_length(&self, rest: &str, answer: &mut Answer) -> Result<(), RowError> {
+        arguments(rest, "")?;
+        answer.say_number(self.bytes.len() as u64)
+    }
+
+    fn compare_held(&self, rest: &str, answer: &mut Answer) -> Result<(), RowError> {
+        arguments(rest, "")?;
+        compare(&self.bytes, &self.held, answer)
     }
 
     /// Tells so many bytes from a place on, of those that are there.
@@ -74,9 +85,18 @@ impl Buffer {
     }
 
     /// Makes bytes of 0 but for changes.
-    pub fn make(&mut self, alloc: Global, rest: &str) -> Result<(), RowError> {
+    fn make(&mut self, alloc: Global, rest: &str) -> Result<(), RowError> {
         self.bytes = changed(alloc, rest)?;
         Ok(())
+    }
+
+    /// The cycle of a state, whose bytes are made of what stands behind it, if anything does.
+    pub fn cycle_of(&mut self, alloc: Global, rest: &str) -> Result<u32, RowError> {
+        let (cycle, bytes) = rest.split_once(' ').unwrap_or((rest, ""));
+        if !bytes.is_empty() {
+            self.make(alloc, bytes)?;
+        }
+        Ok(arguments(cycle, "d")?[0])
     }
 
     /// Compares the bytes with such bytes.
@@ -97,10 +117,10 @@ impl Buffer {
     ) -> Result<(), RowError> {
         match verb {
             "zeros" => self.make(alloc, rest),
-            "hold" => self.hold(),
-            "length" => answer.say_number(self.bytes.len() as u64),
+            "hold" => self.hold(rest),
+            "length" => self.tell_length(rest, answer),
             "bytes" => self.tell(rest, answer),
-            "held" => compare(&self.bytes, &self.held, answer),
+            "held" => self.compare_held(rest, answer),
             "same" => self.compare_made(alloc, rest, answer),
             _ => Err(RowError::NoSuchLine),
         }

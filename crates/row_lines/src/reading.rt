@@ -35,6 +35,7 @@ fn step<R: Print, B: Boundary>(
 fn ask<R: Print, B: Boundary>(
     rt: &R,
     alloc: Global,
+    line: &str,
     (asked, wanted): (&str, &str),
     answer: &mut Answer,
     tally: &mut Tally,
@@ -42,12 +43,12 @@ fn ask<R: Print, B: Boundary>(
 ) -> io::Result<()> {
     answer.clear();
     match boundary.obey(alloc, asked, answer) {
-        Err(error) => tally.find_wrong(rt, asked, error.text()),
+        Err(error) => tally.find_wrong(rt, line, error.text()),
         Ok(()) if is_wanted(answer.text(), wanted) => {
             tally.find_right();
             Ok(())
         }
-        Ok(()) => tally.find_wrong(rt, asked, answer.text()),
+        Ok(()) => tally.find_wrong(rt, line, answer.text()),
     }
 }
 
@@ -84,6 +85,7 @@ pub fn read_rows<R: Files + Print + AllocGlobal, B: Boundary>(
             Line::Question(asked, wanted) => ask(
                 rt,
                 alloc,
+                line,
                 (asked, wanted),
                 answer,
                 tally,
