@@ -3,7 +3,7 @@ ghost use Rattle.std.specs.Prelude.{◌<◌, IfOk};
 
 use crate::video::Video;
 use md_word::clock::LAST_CYCLE;
-use row_lines::{Answer, RowError, arguments};
+use row_lines::{Answer, RowError, arguments, word};
 use std::alloc::Global;
 use vdp_chip::clear_dots;
 use vdp_planes::{Dot, fill_view, mix_line, plane_line};
@@ -136,9 +136,8 @@ impl Video {
 
     /// Makes a line's event for each of these colours, which is colour 0 there.
     fn make_backdrops(&mut self, rest: &str) -> Result<(), RowError> {
-        for word in rest.split_whitespace() {
-            let colour = arguments(word, "w")?[0];
-            self.vdp.cram[0] = (colour % 0x1_0000) as u16;
+        for text in rest.split_whitespace() {
+            self.vdp.cram[0] = word(text)?;
             self.make_line()?;
         }
         Ok(())

@@ -1,30 +1,26 @@
 // What stands in the VDP by name: `R1` a register, `C17` a colour, `S39` a vertical scroll, `@C000` video memory,
 // and what goes on.
 use crate::video::Video;
-use row_lines::{Answer, RowError, arguments, hexadecimal, put};
+use row_lines::{Answer, RowError, arguments, byte, hexadecimal, put, word};
 
 fn place_of(number: &str) -> Result<usize, RowError> {
     Ok(arguments(number, "d")?[0] as usize)
 }
 
-fn word_of(text: &str) -> Result<u16, RowError> {
-    Ok((arguments(text, "w")?[0] % 0x1_0000) as u16)
-}
-
 impl Video {
     fn set_register(&mut self, number: &str, value: &str) -> Result<(), RowError> {
         let place = place_of(number)?;
-        let value = arguments(value, "h")?[0];
+        let value = byte(value)?;
         if place >= 24 {
             return Err(RowError::NoSuchName);
         }
-        self.vdp.registers[place] = (value % 0x100) as u8;
+        self.vdp.registers[place] = value;
         Ok(())
     }
 
     fn set_colour(&mut self, number: &str, value: &str) -> Result<(), RowError> {
         let place = place_of(number)?;
-        let value = word_of(value)?;
+        let value = word(value)?;
         if place >= 64 {
             return Err(RowError::NoSuchName);
         }
@@ -34,7 +30,7 @@ impl Video {
 
     fn set_scroll(&mut self, number: &str, value: &str) -> Result<(), RowError> {
         let place = place_of(number)?;
-        let value = word_of(value)?;
+        let value = word(value)?;
         if place >= 40 {
             return Err(RowError::NoSuchName);
         }

@@ -1,12 +1,7 @@
 // The ports, and what goes on behind them.
 use crate::video::Video;
-use row_lines::{Answer, RowError, arguments};
+use row_lines::{Answer, RowError, arguments, byte, word};
 use vdp_dma::{busy, settle, transfer_word};
-
-/// A word.
-fn word_of(text: &str) -> Result<u16, RowError> {
-    Ok((arguments(text, "w")?[0] % 0x1_0000) as u16)
-}
 
 /// A cycle.
 fn cycle_of(text: &str) -> Result<u32, RowError> {
@@ -34,8 +29,8 @@ impl Video {
         let (cycle, words) = rest.split_once(' ').ok_or(RowError::NoSuchLine)?;
         let cycle = cycle_of(cycle)?;
         let mut started = None;
-        for word in words.split_whitespace() {
-            started = self.vdp.control_write(u64::from(cycle), word_of(word)?);
+        for text in words.split_whitespace() {
+            started = self.vdp.control_write(u64::from(cycle), word(text)?);
         }
         tell_transfer(started, answer)
     }
@@ -44,8 +39,8 @@ impl Video {
     pub(crate) fn write_data(&mut self, rest: &str) -> Result<(), RowError> {
         let (cycle, words) = rest.split_once(' ').ok_or(RowError::NoSuchLine)?;
         let cycle = cycle_of(cycle)?;
-        for word in words.split_whitespace() {
-            self.vdp.data_write(u64::from(cycle), word_of(word)?);
+        for text in words.split_whitespace() {
+            self.vdp.data_write(u64::from(cycle), word(text)?);
         }
         Ok(())
     }
@@ -63,7 +58,7 @@ impl Video {
 
     /// A word of a transfer.
     pub(crate) fn transfer(&mut self, rest: &str) -> Result<(), RowError> {
-        transfer_word(&mut self.vdp, word_of(rest)?);
+        transfer_word(&mut self.vdp, word(rest)?);
         Ok(())
     }
 
@@ -82,8 +77,7 @@ impl Video {
     }
 
     pub(crate) fn acknowledge(&mut self, rest: &str) -> Result<(), RowError> {
-        let level = arguments(rest, "h")?[0];
-        self.vdp.acknowledge((level % 0x100) as u8);
+        self.vdp.acknowledge(byte(rest)?);
         Ok(())
     }
 }
