@@ -2,29 +2,16 @@
 use crate::board::Board;
 use bus_shared::{Request, carry_out};
 use md_word::{Answer68, Answer80, Key, Parcel, Request68, Request80};
-use row_lines::{Answer, RowError, arguments};
+use row_lines::{Answer, RowError, arguments, byte, long, word};
 use std::alloc::Global;
 use z80_parcel::first;
-
-/// A number in hexadecimal, of which the low word and the low byte are used.
-fn number_of(text: &str, kind: &str) -> Result<u32, RowError> {
-    Ok(arguments(text, kind)?[0])
-}
-
-fn word_of(text: &str) -> Result<u16, RowError> {
-    Ok((number_of(text, "w")? % 0x1_0000) as u16)
-}
-
-fn byte_of(text: &str) -> Result<u8, RowError> {
-    Ok((number_of(text, "h")? % 0x100) as u8)
-}
 
 /// A read of the 68000, `r:A10001` of a byte and `R:C00004` of a word.
 fn read_of(place: &str) -> Result<Request68, RowError> {
     let Some((kind, address)) = place.split_once(':') else {
         return Err(RowError::NoSuchLine);
     };
-    let address = number_of(address, "l")?;
+    let address = long(address)?;
     match kind {
         "r" => Ok(Request68::Read8(address)),
         "R" => Ok(Request68::Read16(address)),
@@ -35,8 +22,8 @@ fn read_of(place: &str) -> Result<Request68, RowError> {
 /// The acknowledge of an interrupt's level, `ACK=6`, or a word of a transfer, `WORD=1234`.
 fn signal_of(name: &str, value: &str) -> Result<Request68, RowError> {
     match name {
-        "ACK" => Ok(Request68::Ack(byte_of(value)?)),
-        "WORD" => Ok(Request68::Word(word_of(value)?)),
+        "ACK" => Ok(Request68::Ack(byte(value)?)),
+        "WORD" => Ok(Request68::Word(word(value)?)),
         _ => Err(RowError::NoSuchLine),
     }
 }
@@ -46,10 +33,10 @@ fn write_of(place: &str, value: &str) -> Result<Request68, RowError> {
     let Some((kind, address)) = place.split_once(':') else {
         return signal_of(place, value);
     };
-    let address = number_of(address, "l")?;
+    let address = long(address)?;
     match kind {
-        "w" => Ok(Request68::Write8(address, byte_of(value)?)),
-        "W" => Ok(Request68::Write16(address, word_of(value)?)),
+        "w" => Ok(Request68::Write8(address, byte(value)?)),
+        "W" => Ok(Request68::Write16(address, word(value)?)),
         _ => Err(RowError::NoSuchLine),
     }
 }
@@ -80,7 +67,7 @@ fn cycle_of(rest: &str) -> Result<(u32, &str), RowError> {
     let Some((cycle, behind)) = rest.split_once(' ') else {
         return Err(RowError::NoSuchLine);
     };
-    Ok((number_of(cycle, "d")?, behind))
+    Ok((arguments(cycle, "d")?[0], behind))
 }
 
 impl Board {
@@ -97,8 +84,7 @@ impl Board {
 
     /// Carries out accesses of the 68000 at a cycle, and tells what the last is answered.
     pub(crate) fn access_all(&mut self, rest: &str, answer: &mut Answer) -> Result<(), RowError> {
-        let (cycle, accesses) = rest.split_once(' ').ok_or(RowError::NoSuchLine)?;
-        let cycle = number_of(cycle, "d")?;
+        let (cycle, accesses) = cycle_of(rest)?;
         for text in accesses.split_whitespace() {
             answer.clear();
             match self.access(cycle, request_of(text)?) {
@@ -137,11 +123,11 @@ impl Board {
             return Ok(Request80::Take);
         }
         if let Some(address) = text.strip_prefix("r:") {
-            return Ok(Request80::Read(word_of(address)?));
+            return Ok(Request80::Read(word(address)?));
         }
         let (place, value) = text.split_once('=').ok_or(RowError::NoSuchLine)?;
         let address = place.strip_prefix("w:").ok_or(RowError::NoSuchLine)?;
-        Ok(Request80::Write(word_of(address)?, byte_of(value)?))
+        Ok(Request80::Write(word(address)?, byte(value)?))
     }
 
     /// Carries out an access of the Z80, and tells what it is answered: a value, `done`, or `back` with its RAM.
