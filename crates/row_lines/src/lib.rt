@@ -1,7 +1,10 @@
 //! Rows of data files: what a line says, its numbers and bytes, and the count of rows and of wrong ones.
 #![tactic(auto)]
 
+mod answer;
+mod buffer;
 mod fixture;
+mod kinds;
 mod line;
 mod numbers;
 mod piece;
@@ -9,10 +12,13 @@ mod repeat;
 mod row_error;
 mod tally;
 
+pub use answer::Answer;
+pub use buffer::Buffer;
 pub use fixture::{Fixture, take_files};
+pub use kinds::arguments;
 pub use line::{Line, is_wanted, line_of};
 pub use numbers::{byte, bytes, hexadecimal, long, number, word};
-pub use piece::{compared, pieces};
+pub use piece::{compared, pieces, put};
 pub use repeat::{place_of, push, repeated, repeats};
 pub use row_error::RowError;
 pub use tally::Tally;

@@ -1,4 +1,5 @@
-use crate::numbers::{bytes, number};
+use crate::numbers::number;
+use crate::repeat::repeats;
 use crate::row_error::RowError;
 use std::alloc::Global;
 
@@ -6,7 +7,7 @@ use std::alloc::Global;
 const MOST: u64 = 0x100_0000;
 
 /// Puts bytes over those from a place on.
-fn put(into: &mut [u8], place: u64, values: &[u8]) -> Result<(), RowError> {
+fn put_bytes(into: &mut [u8], place: u64, values: &[u8]) -> Result<(), RowError> {
     let place = usize::try_from(place).map_err(|_| RowError::NoSuchLine)?;
     let rest = into.get_mut(place..).ok_or(RowError::NoSuchLine)?;
     let part = rest.get_mut(..values.len()).ok_or(RowError::NoSuchLine)?;
@@ -14,14 +15,21 @@ fn put(into: &mut [u8], place: u64, values: &[u8]) -> Result<(), RowError> {
     Ok(())
 }
 
-/// Puts a piece.
-fn put_piece(alloc: Global, into: &mut [u8], piece: &str) -> Result<(), RowError> {
-    let (place, digits) = piece.split_once(':').ok_or(RowError::NoSuchLine)?;
-    let values = bytes(alloc, digits)?;
-    put(into, number(place)?, &values)
+/// Puts `BYTES`, or `N*BYTES` so many times, over what stands from a place on; `NoSuchLine` where the text is neither
+/// or there is no room.
+pub fn put(alloc: Global, into: &mut [u8], place: u64, text: &str) -> Result<(), RowError> {
+    let values = repeats(alloc, text)?;
+    put_bytes(into, place, &values)
 }
 
-/// The bytes `LENGTH PLACE:BYTES ..`: so many, of 0 where no piece stands; a later piece stands over an earlier one.
+/// Puts a piece.
+fn put_piece(alloc: Global, into: &mut [u8], piece: &str) -> Result<(), RowError> {
+    let (place, text) = piece.split_once(':').ok_or(RowError::NoSuchLine)?;
+    put(alloc, into, number(place)?, text)
+}
+
+/// The bytes `LENGTH PLACE:BYTES ..`, or with `N*BYTES` for a piece: so many, of 0 where no piece stands; a later piece
+/// stands over an earlier one.
 pub fn pieces(alloc: Global, text: &str) -> Result<Vec<u8>, RowError> {
     let (length, places) = text.split_once(' ').unwrap_or((text, ""));
     let length = number(length)?;

@@ -1,25 +1,5 @@
-//! Tests of the VDP's crates.
+//! Tests of the tray on which lines of the picture go to the one who draws them ahead: its draw may wait.
 #![tactic(auto)]
 
 #[cfg(test)]
-mod ahead;
-#[cfg(test)]
-mod dma;
-#[cfg(test)]
-mod drawing;
-#[cfg(test)]
-mod filled;
-#[cfg(test)]
-mod frames;
-#[cfg(test)]
-mod lines;
-#[cfg(test)]
-mod picture;
-#[cfg(test)]
-mod planes;
-#[cfg(test)]
-mod ports;
-#[cfg(test)]
-mod spelling;
-#[cfg(test)]
-mod sprites;
+mod tray;

@@ -1,5 +1,3 @@
-// Lines of the picture that are drawn ahead of their events, from a VDP that shows the backdrop alone.
-use crate::drawing::backdrop;
 use std::alloc::Global;
 use std::sync::Wait;
 use std::test::Fail;
@@ -46,48 +44,18 @@ fn blank(alloc: Global) -> Result<Box<Sheet>, Fail> {
 }
 
 /// Which of the lines 87, 88, 223 and 224 a sheet has.
-fn lines_of(sheet: &Sheet, pal: bool) -> [bool; 4] {
-    [87, 88, 223, 224].map(|line| sheet.has(line, pal))
-}
-
-/// Whether line 100 of a sheet is all of this byte, and nothing was set.
-fn is_plain(sheet: &Sheet, byte: u8) -> bool {
-    sheet.has(100, false)
-        && sheet.row(100) == [byte; 960].as_slice()
-        && !sheet.note(100).overflow
-        && !sheet.note(100).collision
-}
-
-/// Whether a sheet that was drawn has its lines, is of the one VDP and not of the other.
-fn is_right(sheet: &Sheet, white: &VdpState, red: &VdpState) -> bool {
-    lines_of(sheet, false) == [false, true, true, false]
-        && lines_of(sheet, true) == [false; 4]
-        && is_plain(sheet, 252)
-        && sheet.is_of(white)
-        && !sheet.is_of(red)
+fn lines_of(sheet: &Sheet) -> [bool; 4] {
+    [87, 88, 223, 224].map(|line| sheet.has(line, false))
 }
 
 #[test]
-fn lines_are_drawn_ahead(rt: HostRuntime) -> Result<(), Fail> {
-    let white = backdrop(rt.alloc(), 0x0eee)?;
-    let red = backdrop(rt.alloc(), 0x000e)?;
+fn lines_are_drawn_on_a_tray(rt: HostRuntime) -> Result<(), Fail> {
     let mut sheet = blank(rt.alloc())?;
-    sheet.begin(&white, false, 88, 240);
-    assert!(rt; lines_of(&sheet, false) == [false; 4]);
+    sheet.begin(&VdpState::power_on(rt.alloc(), false)?, false, 88, 240);
     let Some(sheet) = drawn(&rt, sheet) else {
         return Err(Fail::from("not drawn"));
     };
-    assert!(rt; is_right(&sheet, &white, &red));
-    Ok(())
-}
-
-#[test]
-fn lines_are_drawn_as_far_as_they_are_asked_for(rt: HostRuntime) -> Result<(), Fail> {
-    let white = backdrop(rt.alloc(), 0x0eee)?;
-    let mut sheet = blank(rt.alloc())?;
-    sheet.begin(&white, false, 87, 223);
-    sheet.draw();
-    assert!(rt; lines_of(&sheet, false) == [true, true, false, false]);
+    assert!(rt; lines_of(&sheet) == [false, true, true, false]);
     Ok(())
 }
 

@@ -1,0 +1,92 @@
+// The bytes of saved states that keep the board, and sheets of lines that are drawn ahead.
+use crate::board::{Board, empty};
+use bus_shared::Shared;
+use md_word::Unspell;
+use row_lines::{Answer, RowError, arguments};
+use std::alloc::Global;
+use vdp_ahead::Sheet;
+
+/// The bytes of a board that has the Z80's RAM.
+const LONG: usize = 96_601;
+
+impl Board {
+    pub(crate) fn obey_saved(
+        &mut self,
+        alloc: Global,
+        verb: &str,
+        rest: &str,
+        answer: &mut Answer,
+    ) -> Result<(), RowError> {
+        match verb {
+            "save" => self.save(alloc, rest),
+            "load" => self.load(alloc, rest, answer),
+            "sheet" => self.begin_sheet(alloc, rest),
+            "lift" => self.lift(rest, answer),
+            "lay" => self.lay(rest),
+            "used" => self.tell_used(rest, answer),
+            _ => self.buffer.obey(alloc, verb, rest, answer),
+        }
+    }
+
+    /// Puts the bytes of a state at a cycle that keep the board in place of the bytes.
+    fn save(&mut self, alloc: Global, rest: &str) -> Result<(), RowError> {
+        let at = arguments(rest, "d")?[0];
+        let mut bytes = Vec::with_capacity(alloc, LONG)?;
+        self.shared.spell(u64::from(at), &mut bytes);
+        self.buffer.take(bytes);
+        Ok(())
+    }
+
+    /// Takes the board that the bytes keep in a state at a cycle: tells the place at which they are refused, if they
+    /// are.
+    fn load(&mut self, alloc: Global, rest: &str, answer: &mut Answer) -> Result<(), RowError> {
+        let at = self.buffer.cycle_of(alloc, rest)?;
+        let pal = self.shared.pal();
+        let recording = empty(alloc)?;
+        match Shared::unspell(alloc, self.buffer.bytes(), u64::from(at), recording, pal) {
+            Ok(shared) => {
+                self.shared = shared;
+                answer.say("ok")
+            }
+            Err(Unspell::Rule { place }) => answer.say_number(place),
+            Err(Unspell::NoMemory) => Err(RowError::Memory),
+        }
+    }
+
+    /// Begins a sheet of the lines from one on and below another, and lays it on the board.
+    fn begin_sheet(&mut self, alloc: Global, rest: &str) -> Result<(), RowError> {
+        let [from, until, _, _] = arguments(rest, "dd")?;
+        if from > 240 {
+            return Err(RowError::NoSuchLine);
+        }
+        let mut sheet = Sheet::blank(alloc)?;
+        self.shared.begin_sheet(&mut sheet, false, from, until);
+        self.shared.lay_sheet(sheet);
+        Ok(())
+    }
+
+    /// Takes the sheet off the board, and tells whether one lay there.
+    fn lift(&mut self, rest: &str, answer: &mut Answer) -> Result<(), RowError> {
+        arguments(rest, "")?;
+        self.sheet = self.shared.take_sheet();
+        answer.say_bit(self.sheet.is_some())
+    }
+
+    /// Lays the sheet on the board again.
+    fn lay(&mut self, rest: &str) -> Result<(), RowError> {
+        arguments(rest, "")?;
+        match self.sheet.take() {
+            Some(sheet) => {
+                self.shared.lay_sheet(sheet);
+                Ok(())
+            }
+            None => Err(RowError::NoSuchName),
+        }
+    }
+
+    /// Whether the sheet on the board is of use.
+    fn tell_used(&self, rest: &str, answer: &mut Answer) -> Result<(), RowError> {
+        arguments(rest, "")?;
+        answer.say_bit(self.shared.sheet().is_some())
+    }
+}
