@@ -84,8 +84,16 @@ impl Sound {
         let (chip, bytes) = words.split_once(' ').ok_or(RowError::NoSuchLine)?;
         let key = key_of(number(cycle)?, chip)?;
         for value in bytes.split(' ') {
-            self.psg_port.write(key, byte(value)?);
+            self.write_psg_byte(key, byte(value)?)?;
         }
+        Ok(())
+    }
+
+    fn write_psg_byte(&mut self, key: Key, value: u8) -> Result<(), RowError> {
+        if key.chip > 1 {
+            return Err(RowError::NoSuchLine);
+        }
+        self.psg_port.write(key, value);
         Ok(())
     }
 
