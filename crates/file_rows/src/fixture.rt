@@ -1,8 +1,7 @@
 use crate::depots::Stores;
-use crate::kept::Kept;
 use crate::pads::Pads;
 use crate::players::Players;
-use crate::{cartridges, lines, replies, rings};
+use crate::{cartridges, kept, lines, replies, rings};
 use row_lines::{Fixture, RowError, bytes, hexadecimal, repeats};
 use std::alloc::Global;
 
@@ -14,7 +13,6 @@ pub(crate) struct Parts {
     file: Vec<u8>,
     stores: Stores,
     pads: Pads,
-    kept: Kept,
     players: Players,
 }
 
@@ -54,7 +52,6 @@ impl Parts {
             file: Vec::new(alloc),
             stores: Stores::new(alloc),
             pads: Pads::new(),
-            kept: Kept::new(),
             players: Players::new(),
         }
     }
@@ -100,7 +97,7 @@ impl Parts {
             "reply" => replies::reply(alloc, rest),
             "ring" => rings::kept(alloc, rest),
             "player" => self.players.answer(alloc, rest),
-            "kept" => self.kept.answer(alloc, rest),
+            "kept" => kept::kept(alloc, rest),
             "depot" => self.stores.answer(alloc, rest),
             "sink" => self.stores.answer_of_sink(alloc, rest),
             _ => self.answer_of_file(verb, rest, wanted),
@@ -113,7 +110,6 @@ impl Fixture for Parts {
         self.file = Vec::new(self.alloc);
         self.stores = Stores::new(self.alloc);
         self.pads = Pads::new();
-        self.kept = Kept::new();
         self.players = Players::new();
         Ok(())
     }
@@ -127,7 +123,6 @@ impl Fixture for Parts {
             "text" => self.write_text(rest),
             "depot" => self.stores.obey(alloc, rest),
             "port" => self.pads.obey(rest),
-            "kept" => self.kept.obey(alloc, rest),
             _ => Err(RowError::NoSuchLine),
         }
     }

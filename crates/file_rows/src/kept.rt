@@ -1,23 +1,21 @@
 // States that the debugger keeps, of short images.
-use crate::fixture::{halves, two};
 use debug_kept::KeptStates;
-use row_lines::{RowError, bytes, number, repeated};
+use row_lines::{RowError, bytes, number};
 use std::alloc::Global;
 
-/// The states that the row keeps, where it keeps any.
-#[derive(Drop)]
-pub(crate) struct Kept {
-    states: Option<KeptStates>,
+/// Drops so many of the newest states.
+fn drop_newest(states: &mut KeptStates, count: &str) -> Result<(), RowError> {
+    let count = u32::try_from(number(count)?).map_err(|_| RowError::NoSuchLine)?;
+    if count > states.count() {
+        return Err(RowError::NoSuchLine);
+    }
+    states.drop_newest(count);
+    Ok(())
 }
 
-/// A number of states.
-fn count_of(text: &str) -> Result<u32, RowError> {
-    u32::try_from(number(text)?).map_err(|_| RowError::NoSuchLine)
-}
-
-/// Keeps an image with its cycle.
-fn push(alloc: Global, states: &mut KeptStates, text: &str) -> Result<(), RowError> {
-    let (cycle, image) = two(text)?;
+/// Keeps a state, of `CYCLE:BYTES`.
+fn push(alloc: Global, states: &mut KeptStates, word: &str) -> Result<(), RowError> {
+    let (cycle, image) = word.split_once(':').ok_or(RowError::NoSuchLine)?;
     let image = bytes(alloc, image)?;
     if image.len() > 64 {
         return Err(RowError::NoSuchLine);
@@ -26,13 +24,20 @@ fn push(alloc: Global, states: &mut KeptStates, text: &str) -> Result<(), RowErr
     Ok(())
 }
 
-/// Drops so many of the newest states.
-fn drop_newest(states: &mut KeptStates, text: &str) -> Result<(), RowError> {
-    let count = count_of(text)?;
-    if count > states.count() {
-        return Err(RowError::NoSuchLine);
+/// Adds the first four bytes of the state that so many are newer than.
+fn tell(
+    alloc: Global,
+    states: &mut KeptStates,
+    newer: u32,
+    text: &mut String,
+) -> Result<(), RowError> {
+    if newer >= states.count() {
+        return Err(RowError::NoSuchName);
     }
-    states.drop_newest(count);
+    states.fetch(newer);
+    let state = states.fetched();
+    text.push(' ')?;
+    text.push_str(&hex::encode_upper(alloc, state.get(..4).unwrap_or(state))?)?;
     Ok(())
 }
 
@@ -44,62 +49,21 @@ fn oldest(alloc: Global, states: &KeptStates) -> Result<String, RowError> {
     Ok(format!(in alloc; "{}", states.oldest())?)
 }
 
-/// The bytes of a state, of which so many are newer, as far as `K N` asks.
-fn fetched(alloc: Global, states: &mut KeptStates, text: &str) -> Result<String, RowError> {
-    let newer = count_of(text)?;
-    if newer >= states.count() {
-        return Err(RowError::NoSuchName);
-    }
-    states.fetch(newer);
-    let bytes = states.fetched();
-    Ok(hex::encode_upper(alloc, bytes.get(..4).unwrap_or(bytes))?)
-}
-
-/// What is answered where states that are kept are asked.
-fn answer_of(alloc: Global, states: &mut KeptStates, text: &str) -> Result<String, RowError> {
-    let (verb, rest) = halves(text);
-    match verb {
-        "count" => Ok(format!(in alloc; "{}", states.count())?),
-        "oldest" => oldest(alloc, states),
-        "state" => fetched(alloc, states, rest),
-        _ => Err(RowError::NoSuchLine),
-    }
-}
-
-impl Kept {
-    pub(crate) fn new() -> Kept {
-        Kept { states: None }
-    }
-
-    /// `none` takes the memory for states; `push CYCLE BYTES` keeps one; `drop N` drops the newest.
-    pub(crate) fn obey(&mut self, alloc: Global, text: &str) -> Result<(), RowError> {
-        let (verb, rest) = halves(text);
-        if verb == "none" {
-            return self.make(alloc);
-        }
-        let states = self.states.as_mut().ok_or(RowError::NoSuchName)?;
-        match verb {
-            "push" => push(alloc, states, rest),
-            "drop" => drop_newest(states, rest),
-            _ => Err(RowError::NoSuchLine),
+/// The cycle of the oldest of the states that are kept behind pushes, `CYCLE:BYTES`, and drops, `-N`, and the first
+/// four bytes of each, the newest first.
+pub(crate) fn kept(alloc: Global, words: &str) -> Result<String, RowError> {
+    let Ok(mut states) = KeptStates::make(alloc) else {
+        return Err(RowError::Memory);
+    };
+    for word in words.split_whitespace() {
+        match word.strip_prefix('-') {
+            Some(count) => drop_newest(&mut states, count)?,
+            None => push(alloc, &mut states, word)?,
         }
     }
-
-    fn make(&mut self, alloc: Global) -> Result<(), RowError> {
-        match KeptStates::make(alloc) {
-            Ok(states) => {
-                self.states = Some(states);
-                Ok(())
-            }
-            Err(_) => Err(RowError::Memory),
-        }
+    let mut text = oldest(alloc, &states)?;
+    for newer in 0..states.count() {
+        tell(alloc, &mut states, newer, &mut text)?;
     }
-
-    /// What is answered: `count`, `oldest`, and of `state K` the first four bytes.
-    pub(crate) fn answer(&mut self, alloc: Global, text: &str) -> Result<String, RowError> {
-        match &mut self.states {
-            Some(states) => answer_of(alloc, states, text),
-            None => Err(RowError::NoSuchName),
-        }
-    }
+    Ok(text)
 }
