@@ -1,7 +1,8 @@
 -- What a source's fault says of its line.
-use Rattle.std.proofs.Common.{◌≡◌, ◌⊎◌, inl, inr, ℕ, ◌+◌, ◌≤◌, ◌==◌, ◌%◌, Bool, true, false, not, ◌&&◌, List, [], ◌∷◌, ◌++◌, length, refl, ap, sym, arith, Option, Some, None, if◌then◌else◌}
+use Rattle.std.proofs.Common.{◌≡◌, ◌⊎◌, inl, inr, ℕ, ◌+◌, ◌≤◌, ◌==◌, ◌%◌, Bool, true, false, ◌&&◌, List, [], ◌∷◌, ◌++◌, length, refl, ap, sym, arith, Option, Some, None, if◌then◌else◌}
 use Rattle.md_asm_text.specs.Pieces as pieces
 use Rattle.md_asm_line.specs.Lines.{Line, line_of}
+use Rattle.md_asm_line.specs.Texts.{lines as lines_of}
 use Rattle.md_asm_code.specs.Contents.{Far, Good, Settled, Unfit, Unknown, content, is_unfit, size, sized}
 use Rattle.md_asm_code.specs.Numbers.{Names, has_name, resolved}
 use Rattle.md_asm.specs.Assembly.{Failed, assembly, assembly_of, number_of, second}

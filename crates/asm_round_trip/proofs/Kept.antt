@@ -1,9 +1,5 @@
 -- What a source of one instruction is assembled to keeps it.
-use Rattle.std.proofs.Common.{◌≡◌, ℕ, List, ◌∷◌, ap, ◌∙◌, sym, subst}
-use Rattle.m68k_decode.specs.Instructions as main
-use Rattle.z80_decode.specs.Instructions as sub
-use Rattle.md_disasm.specs.Texts68 as main_texts
-use Rattle.md_disasm.specs.Texts80 as sub_texts
+use Rattle.std.proofs.Common.{◌≡◌, ℕ, List, ap, ◌∙◌, sym, subst}
 use Rattle.md_asm.specs.Assembly.{AssemblyOutcome, assembly}
 use Rattle.asm_round_trip.specs.Sources.{IsMainSource, IsSubSource, KeepsInstruction, KeepsMain, KeepsSub}
 use Rattle.asm_round_trip.proofs.Directive68.{every_round_trip}

@@ -1,19 +1,18 @@
 -- The other direction: a line that has a length has the form of some instruction, and a number that fits stands in one.
-use Rattle.std.proofs.Common.{◌≡◌, ℕ, ◌+◌, ◌*◌, ◌<◌, Bool, true, false, not, List, [], ◌∷◌, ◌++◌, length, append-nil, refl, ap, ◌∙◌, sym, arith, Option, Some, None}
-use Rattle.std.specs.Prelude.{is_some, option_map, slice_index, slice_set}
+use Rattle.std.proofs.Common.{◌≡◌, ℕ, ◌<◌, Bool, true, false, not, List, [], ◌∷◌, ◌++◌, length, append-nil, refl, ap, ◌∙◌, sym, arith, Option, Some, None}
+use Rattle.std.specs.Prelude.{is_some, option_map}
 use Rattle.m68k_decode.specs.Instructions as main
-use Rattle.m68k_decode.specs.Nested.{nested}
 use Rattle.z80_decode.specs.Instructions as sub
 use Rattle.md_disasm.specs.Texts68 as main_texts
 use Rattle.md_disasm.specs.Texts80 as sub_texts
 use Rattle.md_asm_text.specs.Pieces as pieces
 use Rattle.md_asm_text.specs.Pieces.{Piece}
-use Rattle.m68k_read.specs.Table.{AreWords, IsInstruction}
+use Rattle.m68k_read.specs.Table.{AreWords}
 use Rattle.z80_encode.specs.Coded80.{AreBytes}
 use Rattle.md_asm_line.specs.declared.body.Body.TheVariants.{Instruction}
 use Rattle.md_asm_code.specs.Codes.{code, in_bytes, main_code, sub_code}
 use Rattle.md_asm_code.specs.Contents.{misfit, size, under}
-use Rattle.md_asm_code.specs.Numbers.{alone, filled, filled_piece}
+use Rattle.md_asm_code.specs.Numbers.{alone, filled}
 use Rattle.asm_laws.proofs.MainChosen.{least}
 use Rattle.asm_laws.proofs.SubChosen.{chosen}
 use Rattle.asm_laws.proofs.SubTexts as sub_found

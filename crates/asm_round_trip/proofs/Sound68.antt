@@ -1,5 +1,5 @@
 -- What is read of pieces of the 68000 has registers that there are, and addresses and lists of their size.
-use Rattle.std.proofs.Common.{ℕ, ◌+◌, ◌-◌, ◌%◌, ◌<◌, ◌==◌, Bool, true, false, not, ◌&&◌, List, [], ◌∷◌, arith, if◌then◌else◌, Option, Some, None}
+use Rattle.std.proofs.Common.{ℕ, ◌+◌, ◌%◌, ◌<◌, ◌==◌, Bool, true, false, not, ◌&&◌, List, [], ◌∷◌, arith, if◌then◌else◌, Option, Some, None}
 use Rattle.md_word.specs.declared.size.Size.{Size}
 use Rattle.md_asm_text.specs.Operands.{opens, operands_of, is_comma}
 use Rattle.md_asm_text.specs.Pieces as pieces
@@ -8,7 +8,6 @@ use Rattle.m68k_form.specs.Forms.{IsForm}
 use Rattle.m68k_form.specs.Reading.{Source, based, begins, behind_number, bracketed, indexed, lowered, low_register_of, marked, masks_of, operand_form, read_source, register_of, size_of, sized, with_index, with_operands, with_size, word_form}
 use Rattle.m68k_form.specs.declared.form.Form.{Form}
 use Rattle.m68k_form.specs.declared.form.Form.TheVariants as forms
-use Rattle.m68k_read.specs.Building.{list}
 
 -- ---- the forms that are read
 

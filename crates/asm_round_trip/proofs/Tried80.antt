@@ -1,10 +1,10 @@
 -- The bytes that are tried for pieces are bytes.
-use Rattle.std.proofs.Common.{◌≡◌, ℕ, ◌<◌, Bool, true, false, ◌&&◌, List, [], ◌∷◌, refl, arith, if◌then◌else◌}
+use Rattle.std.proofs.Common.{◌≡◌, ℕ, ◌<◌, Bool, true, false, List, [], ◌∷◌, refl, arith, if◌then◌else◌}
 use Rattle.std.specs.Str.{bytes_eq}
-use Rattle.std.proofs.lemmas.Bool.{and_parts}
 use Rattle.md_word.specs.declared.bit.Bit.{Bit}
 use Rattle.md_word.specs.declared.task80.Task80.{Task80}
 use Rattle.md_word.specs.declared.task80.Task80.TheVariants as tasks
+use Rattle.z80_decode.specs.declared.block.Block.TheVariants.{Increment, Decrement, IncrementRepeat, DecrementRepeat}
 use Rattle.z80_decode.specs.declared.op80.Op80.{Op80}
 use Rattle.z80_decode.specs.declared.op80.Op80.TheVariants as ops
 use Rattle.md_asm_text.specs.Pieces.{Piece}
@@ -17,11 +17,13 @@ use Rattle.z80_read.specs.Forms.{Form}
 use Rattle.z80_read.specs.Judged.{tried}
 use Rattle.z80_read.specs.Reading.{read_source}
 use Rattle.z80_read.specs.Words.{bit_of, condition_of, mode_of, special_of}
-use Rattle.z80_read.specs.declared.stem.Stem80.{Stem80}
-use Rattle.z80_read.specs.declared.stem.Stem80.TheVariants as stems
 use Rattle.asm_round_trip.proofs.Places80.{IsPlace, all_are, append_bytes, arithmetic_low, bit_low, byte_alone, change_low, changed_low, computed_low, condition_low, cons_byte, displaced_low, extended_prefix, form_place, index_bytes, interrupt_low, load_low, none_byte, pair_low, place_bytes, place_low, prefix_place, special_low, step_low, two_bytes}
 
 -- ---- instructions
+
+infixr 4 ◌also◌
+◌also◌ : {A B : Type 0} → A → B → A × B
+a also b = (a, b)
 
 -- the bytes of an instruction are bytes
 record IsWhole (op : Op80) : Type 0 where
@@ -205,14 +207,9 @@ module _ (first second : Form) where
       (record { front = none_byte; code = omega arith; behind = byte_alone (building.byte first) (byte_low first) })
       (record { front = extended_prefix; code = omega (arith, place_low (building.place second)); behind = none_byte })
 
-  -- an instruction that stands alone is one of the table's
-  abbrev IsTold : Stem80 → Type 0
-  IsTold (stems.Alone op) = all_bytes (encoded op) ≡ true
-  IsTold stem = Unit {0}
-
-  pair_whole : (front : List ℕ) (form : Form) → IsWhole (ops.Push (building.pair form)) × IsWhole (ops.Pop (building.pair form))
+  pair_whole : (form : Form) → IsWhole (ops.Push (building.pair form)) × IsWhole (ops.Pop (building.pair form))
   unfolding prefixes opcode_of operands
-  pair_whole front form = (
+  pair_whole form = (
     record { front = index_bytes (index_of_pair (building.pair form)); code = omega (arith, pair_low (building.pair form)); behind = none_byte },
     record { front = index_bytes (index_of_pair (building.pair form)); code = omega (arith, pair_low (building.pair form)); behind = none_byte },
   )
@@ -230,67 +227,104 @@ module _ (first second : Form) where
     record { front = extended_prefix; code = interrupt_low (mode_of (building.word_in first)); behind = none_byte },
   )
 
-  built_bytes : (stem : Stem80) (at : ℕ) → IsTold stem → AreBytes (encoded (built stem first second at))
-  unfolding built
-  built_bytes (stems.Alone op) at h = all_are (encoded op) h
-  built_bytes stems.Load at h = joined _ load_whole
-  built_bytes stems.Push at h = joined _ (pair_whole [] first).0
-  built_bytes stems.Pop at h = joined _ (pair_whole [] first).1
-  built_bytes stems.Exchange at h = joined _ exchange_whole
-  built_bytes stems.Add at h = joined _ add_whole
-  built_bytes stems.AddWithCarry at h = joined _ add_with_carry_whole
-  built_bytes stems.SubtractWithCarry at h = joined _ subtract_with_carry_whole
-  built_bytes (stems.Arithmetic task) at h = joined _ (arithmetic_whole task first)
-  built_bytes stems.Increment at h = joined _ increment_whole
-  built_bytes stems.Decrement at h = joined _ decrement_whole
-  built_bytes stems.SetInterruptMode at h = joined _ (rest_whole at).2
-  built_bytes (stems.Change task) at h = joined _ (change_whole task first)
-  built_bytes stems.ResetBit at h = joined _ (change_whole (tasks.Res (bit_of (building.word_in first))) second)
-  built_bytes stems.SetBit at h = joined _ (change_whole (tasks.Set (bit_of (building.word_in first))) second)
-  built_bytes stems.TestBit at h = joined _ (test_whole (bit_of (building.word_in first)) second)
-  built_bytes stems.Jump at h = joined _ jump_whole
-  built_bytes stems.JumpRelative at h = joined _ (relative_whole at)
-  built_bytes stems.DecrementAndJump at h = joined _ (rest_whole at).0
-  built_bytes stems.Call at h = joined _ call_whole
-  built_bytes stems.Return at h = joined _ return_whole
-  built_bytes stems.Restart at h = joined _ (rest_whole at).1
-  built_bytes stems.Input at h = joined _ input_whole
-  built_bytes stems.Output at h = joined _ output_whole
+  alone : (op : Op80) → all_bytes (encoded op) ≡ true → AreBytes (encoded op)
+  alone op h = all_are (encoded op) h
 
--- ---- the table
+  nop_bytes : AreBytes (encoded ops.Nop)
+  unfolding encoded prefixes opcode_of operands
+  nop_bytes = alone ops.Nop refl
 
-abbrev is_told : Stem80 → Bool
-is_told (stems.Alone op) = all_bytes (encoded op)
-is_told stem = true
+  -- so are those of all names of the table
+  abbrev AreWhole : List Entry → ℕ → Type 0
+  AreWhole [] at = Unit {0}
+  AreWhole (entry ∷ more) at = AreBytes (encoded (built entry.stem first second at)) × AreWhole more at
 
-abbrev are_told : List Entry → Bool
-are_told [] = true
-are_told (e ∷ es) = is_told e.stem && are_told es
+  table_whole : (at : ℕ) → AreWhole table at
+  unfolding built encoded prefixes opcode_of operands
+  table_whole at =
+      joined _ add_with_carry_whole
+      also joined _ add_whole
+      also joined _ (arithmetic_whole tasks.And first)
+      also joined _ (test_whole (bit_of (building.word_in first)) second)
+      also joined _ call_whole
+      also alone (ops.Accumulator tasks.Ccf) refl
+      also joined _ (arithmetic_whole tasks.Cp first)
+      also alone (ops.BlockCompare Decrement) refl
+      also alone (ops.BlockCompare DecrementRepeat) refl
+      also alone (ops.BlockCompare Increment) refl
+      also alone (ops.BlockCompare IncrementRepeat) refl
+      also alone (ops.Accumulator tasks.Cpl) refl
+      also alone (ops.Accumulator tasks.Daa) refl
+      also joined _ decrement_whole
+      also alone ops.DisableInterrupts refl
+      also joined _ (rest_whole at).0
+      also alone ops.EnableInterrupts refl
+      also joined _ exchange_whole
+      also alone ops.ExchangeAll refl
+      also alone ops.Halt refl
+      also joined _ (rest_whole at).2
+      also joined _ input_whole
+      also joined _ increment_whole
+      also alone (ops.BlockInput Decrement) refl
+      also alone (ops.BlockInput DecrementRepeat) refl
+      also alone (ops.BlockInput Increment) refl
+      also alone (ops.BlockInput IncrementRepeat) refl
+      also joined _ jump_whole
+      also joined _ (relative_whole at)
+      also joined _ load_whole
+      also alone (ops.BlockLoad Decrement) refl
+      also alone (ops.BlockLoad DecrementRepeat) refl
+      also alone (ops.BlockLoad Increment) refl
+      also alone (ops.BlockLoad IncrementRepeat) refl
+      also alone ops.Negate refl
+      also alone ops.Nop refl
+      also joined _ (arithmetic_whole tasks.Or first)
+      also alone (ops.BlockOutput DecrementRepeat) refl
+      also alone (ops.BlockOutput IncrementRepeat) refl
+      also joined _ output_whole
+      also alone (ops.BlockOutput Decrement) refl
+      also alone (ops.BlockOutput Increment) refl
+      also joined _ (pair_whole first).1
+      also joined _ (pair_whole first).0
+      also joined _ (change_whole (tasks.Res (bit_of (building.word_in first))) second)
+      also joined _ return_whole
+      also alone ops.ReturnFromInterrupt refl
+      also alone ops.ReturnFromNonMaskable refl
+      also joined _ (change_whole tasks.Rl first)
+      also alone (ops.Accumulator tasks.Rla) refl
+      also joined _ (change_whole tasks.Rlc first)
+      also alone (ops.Accumulator tasks.Rlca) refl
+      also alone ops.RotateDigitsLeft refl
+      also joined _ (change_whole tasks.Rr first)
+      also alone (ops.Accumulator tasks.Rra) refl
+      also joined _ (change_whole tasks.Rrc first)
+      also alone (ops.Accumulator tasks.Rrca) refl
+      also alone ops.RotateDigitsRight refl
+      also joined _ (rest_whole at).1
+      also joined _ subtract_with_carry_whole
+      also alone (ops.Accumulator tasks.Scf) refl
+      also joined _ (change_whole (tasks.Set (bit_of (building.word_in first))) second)
+      also joined _ (change_whole tasks.Sla first)
+      also joined _ (change_whole tasks.Sll first)
+      also joined _ (change_whole tasks.Sra first)
+      also joined _ (change_whole tasks.Srl first)
+      also joined _ (arithmetic_whole tasks.Sub first)
+      also joined _ (arithmetic_whole tasks.Xor first)
+      also tt
 
-table_told : are_told table ≡ true
-unfolding encoded prefixes opcode_of operands
-table_told = refl
-
-none_told : is_told (stems.Alone ops.Nop) ≡ true
-unfolding encoded prefixes opcode_of operands
-none_told = refl
-
-told_in : (es : List Entry) (text : List ℕ) → are_told es ≡ true → is_told (stem_in es text) ≡ true
-unfolding stem_in
-told_in [] text h = none_told
-told_in (e ∷ es) text h = by (bytes_eq e.text text) (and_parts (is_told e.stem) (are_told es) h).0 (told_in es text (and_parts (is_told e.stem) (are_told es) h).1)
-  where
-    by : (b : Bool) → is_told e.stem ≡ true → is_told (stem_in es text) ≡ true → is_told (if b then e.stem else stem_in es text) ≡ true
-    by true own more = own
-    by false own more = more
-
-told_by : (first second : Form) (stem : Stem80) → is_told stem ≡ true → IsTold first second stem
-told_by first second (stems.Alone op) h = h
-told_by first second _ h = tt
+  stem_whole : (entries : List Entry) (text : List ℕ) (at : ℕ) → AreWhole entries at → AreBytes (encoded (built (stem_in entries text) first second at))
+  unfolding stem_in built
+  stem_whole [] text at h = nop_bytes
+  stem_whole (entry ∷ more) text at h = by (bytes_eq entry.text text) (h.0) (stem_whole more text at (h.1))
+    where
+      by : (b : Bool) → AreBytes (encoded (built entry.stem first second at)) → AreBytes (encoded (built (stem_in more text) first second at))
+          → AreBytes (encoded (built (if b then entry.stem else stem_in more text) first second at))
+      by true own rest = own
+      by false own rest = rest
 
 -- what is tried for pieces
 pub tried_bytes : (said : List Piece) (at : ℕ) → AreBytes (tried said at)
 unfolding meant stem_of
 tried_bytes said at =
     let source = read_source said in
-    built_bytes source.first source.second (stem_of source.stem) at (told_by source.first source.second (stem_of source.stem) (told_in table source.stem table_told))
+    stem_whole source.first source.second table source.stem at (table_whole source.first source.second at)

@@ -1,5 +1,5 @@
 -- A number that does not fit is none that an instruction of the form has at its place, and a line without a length has no form.
-use Rattle.std.proofs.Common.{◌≡◌, inl, inr, ℕ, ◌+◌, ◌≤◌, Bool, true, false, not, nat_le, List, [], ◌∷◌, refl, ap, ◌∙◌, sym, arith, Some, None}
+use Rattle.std.proofs.Common.{◌≡◌, inl, inr, ℕ, ◌+◌, ◌*◌, ◌≤◌, Bool, true, false, nat_le, List, [], ◌∷◌, refl, ap, ◌∙◌, sym, arith, Some, None}
 use Rattle.std.proofs.lemmas.Bool.Decides.{nat_tests}
 use Rattle.md_asm_text.specs.Pieces as pieces
 use Rattle.md_asm_text.specs.Pieces.{Piece}
@@ -7,7 +7,7 @@ use Rattle.md_asm_line.specs.Lines.{Line}
 use Rattle.md_asm_line.specs.declared.body.Body.{Body}
 use Rattle.md_asm_line.specs.declared.body.Body.TheVariants as bodies
 use Rattle.md_asm_code.specs.Contents.{is_unfit, misfit, misfits, size}
-use Rattle.md_asm_code.specs.Numbers.{any_over}
+use Rattle.md_asm_code.specs.Numbers.{any_over, count}
 use Rattle.asm_round_trip.specs.Faults.{HasOver, IsBad, IsUnfit}
 use Rattle.asm_round_trip.specs.Forms.{HasNumber, StandsIn}
 use Rattle.asm_round_trip.proofs.Forms.{form_size, has_fits}
@@ -84,6 +84,11 @@ unfit_is z80 bodies.Main said h = cc
 pub bad_is : (z80 : Bool) (line : Line) → size z80 line.body (pieces.pieces line.text) ≡ None → IsBad z80 line
 bad_is z80 line h = by line.body refl
   where
+    apart : (body : Body) (n : ℕ) → line.body ≡ body → size z80 body (pieces.pieces line.text) ≡ Some n → IsBad z80 line
+    apart body n is some =
+        let none : size z80 body (pieces.pieces line.text) ≡ None = ap (λ (b : Body). size z80 b (pieces.pieces line.text)) (sym is) ∙ h in
+        let no : Some n ≡ None = sym some ∙ none in cc
+
     by : (body : Body) → line.body ≡ body → IsBad z80 line
     by bodies.Bad is = inl is
     by bodies.Instruction is = inr (
@@ -93,9 +98,9 @@ bad_is z80 line h = by line.body refl
           let none : size z80 bodies.Instruction (pieces.pieces line.text) ≡ None = ap (λ (b : Body). size z80 b (pieces.pieces line.text)) (sym is) ∙ h in
           let no : Some long ≡ None = sym some ∙ none in cc,
     )
-    by bodies.Words is = let no : Some _ ≡ None = ap (λ (b : Body). size z80 b (pieces.pieces line.text)) (sym is) ∙ h in cc
-    by bodies.Bytes is = let no : Some _ ≡ None = ap (λ (b : Body). size z80 b (pieces.pieces line.text)) (sym is) ∙ h in cc
-    by bodies.Nothing is = let no : Some 0 ≡ None = ap (λ (b : Body). size z80 b (pieces.pieces line.text)) (sym is) ∙ h in cc
-    by (bodies.Org place) is = let no : Some 0 ≡ None = ap (λ (b : Body). size z80 b (pieces.pieces line.text)) (sym is) ∙ h in cc
-    by bodies.Main is = let no : Some 0 ≡ None = ap (λ (b : Body). size z80 b (pieces.pieces line.text)) (sym is) ∙ h in cc
-    by (bodies.Sub at) is = let no : Some 0 ≡ None = ap (λ (b : Body). size z80 b (pieces.pieces line.text)) (sym is) ∙ h in cc
+    by bodies.Words is = apart bodies.Words (2 * count (pieces.pieces line.text)) is refl
+    by bodies.Bytes is = apart bodies.Bytes (count (pieces.pieces line.text)) is refl
+    by bodies.Nothing is = apart bodies.Nothing 0 is refl
+    by (bodies.Org place) is = apart (bodies.Org place) 0 is refl
+    by bodies.Main is = apart bodies.Main 0 is refl
+    by (bodies.Sub at) is = apart (bodies.Sub at) 0 is refl

@@ -1,6 +1,6 @@
 //! Laws of the definitions that the contracts cite, each on a call that does nothing else.
 
-ghost use Rattle.std.specs.Prelude.{◌≡◌, ◌+◌, ◌%◌, ◌<◌, ◌≤◌, ◌∷◌, ℕ, Bool, List, Some, false};
+ghost use Rattle.std.specs.Prelude.{◌≡◌, ◌↔◌, ◌+◌, ◌%◌, ◌<◌, ◌≤◌, ◌∷◌, ℕ, Bool, List, Some, false};
 ghost use Rattle.m68k_decode.specs.Instructions as main;
 ghost use Rattle.z80_decode.specs.Instructions as sub;
 ghost use Rattle.md_disasm.specs.Texts68 as main_texts;
@@ -15,7 +15,7 @@ ghost use Rattle.md_asm.specs.Assembly.{AssemblyOutcome, Done, Failed, assembly}
 ghost use Rattle.md_asm.specs.declared.placed.Placed.{Placed};
 ghost use Rattle.assembly_laws.specs.Places.{bytes_from, words_from};
 ghost use Rattle.asm_round_trip.specs.Faults.{IsFaulty};
-ghost use Rattle.asm_round_trip.specs.Forms.{HasNumber, IsForm};
+ghost use Rattle.asm_round_trip.specs.Forms.{HasNumber, IsForm, StandsIn};
 ghost use Rattle.asm_round_trip.specs.Sources.{KeepsInstruction, main_source, sub_source};
 
 /// Whatever words or bytes decode to, but what the Z80's text writes as a directive: a source of its text at an address
@@ -35,11 +35,13 @@ pub fn instructions_are_kept()
     ensures { (source : List ℕ) (outcome : AssemblyOutcome) → assembly source ≡ outcome → KeepsInstruction source outcome }
 {}
 
-/// A line of the form of an instruction has its length, and a number fits that an instruction of the line's form has at its
-/// place, at any address.
+/// A line that is no directive has a length exactly where it has the form of some instruction, which is as long; and a number
+/// fits exactly where some instruction of the line's form has it at its place, at some address.
 pub fn forms_are_known()
-    ensures size { (z80 : Bool) (said : List Piece) (long : ℕ) → IsForm z80 said long → size z80 Instruction said ≡ Some long }
-    ensures number { (z80 : Bool) (said : List Piece) (place n : ℕ) → HasNumber z80 said place n → misfit z80 said place (Number n) ≡ false }
+    ensures size { (z80 : Bool) (said : List Piece) (long : ℕ) → (size z80 Instruction said ≡ Some long) ↔ IsForm z80 said long }
+    ensures fits { (z80 : Bool) (said : List Piece) (place n : ℕ) → HasNumber z80 said place n → misfit z80 said place (Number n) ≡ false }
+    ensures fits_only { (z80 : Bool) (said : List Piece) (place n : ℕ) → n < 4294967296 → StandsIn said place (Number n) → misfit z80 said place (Number n) ≡ false
+        → HasNumber z80 said place n }
 {}
 
 /// What a source's fault says: a line of kind 1 has the form of no instruction, and of kinds 2 and 8 a number that no
