@@ -1,5 +1,5 @@
 -- The texts of the Z80's instructions are texts of a source's line, and begin with no directive's name.
-use Rattle.std.proofs.Common.{◌≡◌, ℕ, Bool, true, false, ◌%◌, ◌/◌, List, [], ◌++◌, append-nil, refl, ap, ◌∙◌, if◌then◌else◌, codes}
+use Rattle.std.proofs.Common.{◌≡◌, ℕ, Bool, true, false, ◌%◌, ◌/◌, List, [], ◌++◌, append-nil, refl, ap, ◌∙◌, codes}
 use Rattle.std.specs.Str.{bytes_eq}
 use Rattle.md_word.specs.declared.bit.Bit.{Bit}
 use Rattle.md_word.specs.declared.bit.Bit.TheVariants as bits
@@ -33,6 +33,7 @@ use Rattle.md_asm_line.specs.declared.body.Body.TheVariants as bodies
 use Rattle.z80_read_laws.specs.Instruction.{is_db}
 use Rattle.z80_read_laws.proofs.Sources.{is_none, row_opens}
 use Rattle.asm_round_trip.proofs.Line.{free, instruction_line, is_free, line_is}
+use Rattle.asm_round_trip.proofs.Rows80.{led_by}
 use Rattle.asm_round_trip.proofs.Solid.{IsText, four_solid, is_clean, marked, solid, solid_all, solid_more, text_more, text_solid, two_solid}
 
 -- ---- operands
@@ -94,10 +95,6 @@ operand_solid operands.PortC h = refl
 operand_solid (operands.Word n) h = marked (codes "$") (four_digits n) [] refl (four_solid n) refl
 operand_solid (operands.AtWord address) h = marked (codes "($") (four_digits address) (codes ")") refl (four_solid address) refl
 operand_solid (operands.ByteAndWord byte word) h = bytes_solid byte (word % 256) (word / 256)
-
-led_by : (mark : List ℕ) (o : Operand80) → led mark o ≡ (if is_none o then [] else mark ++ operand_text o)
-led_by mark operands.Nothing = refl
-led_by mark o = refl
 
 -- ---- rows
 

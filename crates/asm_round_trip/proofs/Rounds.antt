@@ -90,9 +90,6 @@ cpu_is at h = line_is (cpu_line at) (bodies.Sub at) (cpu_text at) (ap told (cpu_
 
 -- ---- the first line
 
-org_step : (text : List ℕ) (at : ℕ) → line_step start 1 (plain_line text (bodies.Org at)) ≡ On (behind start 1 (plain_line text (bodies.Org at)) 0)
-org_step text at = refl
-
 cpu_step : (text : List ℕ) (at : ℕ) → at < 65536 → line_step start 1 (plain_line text (bodies.Sub at)) ≡ On (behind start 1 (plain_line text (bodies.Sub at)) 0)
 cpu_step text at h =
     let fits : nat_le 65536 at ≡ false = cases (nat_le 65536 at) refl in rw fits refl

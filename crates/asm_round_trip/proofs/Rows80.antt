@@ -18,7 +18,7 @@ use Rattle.asm_round_trip.proofs.Fits.{filled_both, is_single, number_of}
 
 -- ---- a row falls into its pieces
 
-led_by : (mark : List ℕ) (o : Operand80) → led mark o ≡ (if is_none o then [] else mark ++ operand_text o)
+pub led_by : (mark : List ℕ) (o : Operand80) → led mark o ≡ (if is_none o then [] else mark ++ operand_text o)
 led_by mark operands.Nothing = refl
 led_by mark o = refl
 
