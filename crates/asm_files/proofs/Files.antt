@@ -1,17 +1,16 @@
 -- Two files that are begun and then written.
 use Rattle.std.proofs.Common.{◌≡◌, ◌∙◌, ◌≤◌, List, ℕ, [], ◌++◌, ◌⊎◌, inl, inr, true, false, Option, Some, None, ap, refl, sym, subst, length, append_assoc}
-use Rattle.std.specs.Prelude.{IsSome, IsSomeAnd}
+use Rattle.std.specs.Prelude.{IsSome}
 use Rattle.std.specs.Str.{bytes_eq}
 use Rattle.std.proofs.lemmas.Bool.{not-true}
 use Rattle.md_outer.specs.Outside.{DepotState, Files, GoesOn, IsPrefix, bytes_of, with_file}
 use Rattle.md_outer.proofs.WrittenFiles.{bytes_of-with_file, file-longer, with_file-comm, with_file-with_file}
 use Rattle.md_args.specs.Words.{Assembling, differ}
-use Rattle.md_asm.specs.Assembly.{AssemblyOutcome, Done, Failed, assembly}
+use Rattle.md_asm.specs.Assembly.{AssemblyOutcome, Done, assembly}
 use Rattle.md_asm.specs.declared.placed.Placed.{Placed}
 use Rattle.assembly_laws.specs.Lines.{SaysLines}
-use Rattle.asm_round_trip.specs.Faults.{IsFaulty}
 use Rattle.asm_round_trip.specs.Sources.{KeepsInstruction}
-use Rattle.asm_files.specs.Assemblies.{HoldsParts, IsFound, IsRefused, KeepsSource, LeavesFiles, LeavesParts, SaysSource, WriteCause, WritesFiles, with_both, with_list}
+use Rattle.asm_files.specs.Assemblies.{HoldsParts, IsFound, KeepsSource, LeavesFiles, LeavesParts, SaysSource, WriteCause, WritesFiles, with_both, with_list}
 use Rattle.asm_files.specs.Begun.{IsBegun, with_more}
 use Rattle.asm_files.specs.Lists.{list_of}
 use Rattle.asm_files.specs.declared.comes.Comes.{Comes}
@@ -84,14 +83,6 @@ list_piece words old first begun written new image piece differ is then_is more 
 abbrev pub AllKeep : Type 0
 AllKeep = (source : List ℕ) (outcome : AssemblyOutcome) → assembly source ≡ outcome → KeepsInstruction source outcome
 
--- and that a fault says so of its line
-abbrev pub AllAtFault : Type 0
-AllAtFault = (source : List ℕ) (line kind : ℕ) → assembly source ≡ Failed line kind → IsFaulty source line kind
-
-faulty_of : (source : Option (List ℕ)) (line kind : ℕ) → AllAtFault → IsFound source (Failed line kind) → IsSomeAnd source (λ bytes. IsFaulty bytes line kind)
-faulty_of None line kind faulty found = absurd found
-faulty_of (Some bytes) line kind faulty found = faulty bytes line kind found.1
-
 kept_of : (source : Option (List ℕ)) (outcome : AssemblyOutcome) → AllKeep → IsFound source outcome → KeepsSource source outcome
 kept_of None outcome keeps found = absurd found
 kept_of (Some bytes) outcome keeps found = keeps bytes outcome found.1
@@ -131,17 +122,10 @@ line_more old place text behind first second new is is' is'' =
     ∙ simp append_assoc
 
 -- the source that was fetched is assembled so
-pub found_in : (files : Files) (words : Assembling) (items bytes : List ℕ) (outcome : AssemblyOutcome) → files words.source ≡ Some items
-    → length items ≤ 1048576 → bytes ≡ items → assembly bytes ≡ outcome → IsFound (files words.source) outcome
-found_in files words items bytes outcome held within is done =
-    subst (λ (source : Option (List ℕ)). IsFound source outcome) (sym held) (within, ap assembly (sym is) ∙ done)
-
--- or refused
-pub refused_in : (files : Files) (words : Assembling) (items bytes : List ℕ) (line kind : ℕ) → AllKeep → AllAtFault → files words.source ≡ Some items
-    → length items ≤ 1048576 → bytes ≡ items → assembly bytes ≡ Failed line kind → IsRefused (files words.source) line kind
-refused_in files words items bytes line kind keeps faulty held within is failed =
-    let found = found_in files words items bytes (Failed line kind) held within is failed in
-    (found, kept_of (files words.source) (Failed line kind) keeps found, faulty_of (files words.source) line kind faulty found)
+pub found_in : (files : Files) (words : Assembling) (items bytes image : List ℕ) (lines : List Placed) → files words.source ≡ Some items
+    → length items ≤ 1048576 → bytes ≡ items → assembly bytes ≡ Done image lines → IsFound (files words.source) (Done image lines)
+found_in files words items bytes image lines held within is done =
+    subst (λ (source : Option (List ℕ)). IsFound source (Done image lines)) (sym held) (within, ap assembly (sym is) ∙ done)
 
 pub left_by : {seen : List ℕ} {placed : List Placed} (first : List ℕ) (second : List Placed) → first ≡ seen → second ≡ placed
     → list_of first second ≡ list_of seen placed

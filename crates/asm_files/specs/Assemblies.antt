@@ -25,8 +25,8 @@ abbrev pub KeepsSource : Option (List ℕ) → AssemblyOutcome → Type 0
 KeepsSource source outcome = IsSomeAnd source (λ bytes. KeepsInstruction bytes outcome)
 
 -- a source that is held, within its limit, is refused: it is no instruction's, and its line is at fault
-abbrev pub IsRefused : Option (List ℕ) → ℕ → ℕ → Type 0
-IsRefused source line kind =
+abbrev pub IsAtFault : Option (List ℕ) → ℕ → ℕ → Type 0
+IsAtFault source line kind =
     IsFound source (assembly.Failed line kind) × KeepsSource source (assembly.Failed line kind) × IsSomeAnd source (λ bytes. IsFaulty bytes line kind)
 
 -- Why each ending may come. What a file holds is spoken of where the depot tells it.
@@ -35,7 +35,7 @@ HasCause told words old new (Made size) =
     told → (image : List ℕ) × (lines : List Placed) × IsFound (old.files words.source) (assembly.Done image lines) × (size ≡ length image)
 HasCause told words old new Unread = Rose old.read_faults new.read_faults ⊎ (told × (old.files words.source ≡ None))
 HasCause told words old new TooLong = told → IsSomeAnd (old.files words.source) (λ bytes. limit < length bytes)
-HasCause told words old new (Refused line kind) = told → IsRefused (old.files words.source) line kind
+HasCause told words old new (Refused line kind) = told → IsAtFault (old.files words.source) line kind
 HasCause told words old new Unwritten =
     Rose old.write_faults new.write_faults
     × (told → (image : List ℕ) × (lines : List Placed) × IsFound (old.files words.source) (assembly.Done image lines))
