@@ -31,7 +31,7 @@ right told words old new Unread t reads writes (inl rose) = absurd (reads rose)
 right told words old new Unread t reads writes (inr missing) = inl (sym (ap right_ending missing.1))
 right told words old new TooLong t reads writes cause = inl (long_right (old.files words.source) (cause t))
 right told words old new (Refused line kind) t reads writes cause =
-    inl (found_right (old.files words.source) (assembly.Failed line kind) (cause t))
+    inl (found_right (old.files words.source) (assembly.Failed line kind) (cause t).0)
 right told words old new Unwritten t reads writes cause = absurd (writes cause.0)
 right told words old new Unlisted t reads writes cause = absurd (writes cause.0)
 right told words old new NoMemory t reads writes cause = inr refl

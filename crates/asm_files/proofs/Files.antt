@@ -6,10 +6,11 @@ use Rattle.std.proofs.lemmas.Bool.{not-true}
 use Rattle.md_outer.specs.Outside.{DepotState, Files, GoesOn, IsPrefix, bytes_of, with_file}
 use Rattle.md_outer.proofs.WrittenFiles.{bytes_of-with_file, file-longer, with_file-comm, with_file-with_file}
 use Rattle.md_args.specs.Words.{Assembling, differ}
-use Rattle.md_asm.specs.Assembly.{Done, assembly}
+use Rattle.md_asm.specs.Assembly.{AssemblyOutcome, Done, assembly}
 use Rattle.md_asm.specs.declared.placed.Placed.{Placed}
 use Rattle.assembly_laws.specs.Lines.{SaysLines}
-use Rattle.asm_files.specs.Assemblies.{HoldsParts, IsFound, LeavesFiles, LeavesParts, SaysSource, WriteCause, WritesFiles, with_both, with_list}
+use Rattle.asm_round_trip.specs.Sources.{KeepsInstruction}
+use Rattle.asm_files.specs.Assemblies.{HoldsParts, IsFound, KeepsSource, LeavesFiles, LeavesParts, SaysSource, WriteCause, WritesFiles, with_both, with_list}
 use Rattle.asm_files.specs.Begun.{IsBegun, with_more}
 use Rattle.asm_files.specs.Lists.{list_of}
 use Rattle.asm_files.specs.declared.comes.Comes.{Comes}
@@ -78,17 +79,25 @@ list_piece words old first begun written new image piece differ is then_is more 
     list_more (with_file old words.output image) written new words.list piece
     (output_more old begun written words.output words.list image differ (then_is ∙ ap (λ (f : Files). with_list words.list f []) is) more) last
 
+-- that what a source of one instruction is assembled to keeps it
+abbrev pub AllKeep : Type 0
+AllKeep = (source : List ℕ) (outcome : AssemblyOutcome) → assembly source ≡ outcome → KeepsInstruction source outcome
+
+kept_of : (source : Option (List ℕ)) (outcome : AssemblyOutcome) → AllKeep → IsFound source outcome → KeepsSource source outcome
+kept_of None outcome keeps found = absurd found
+kept_of (Some bytes) outcome keeps found = keeps bytes outcome found.1
+
 said_of : (source : Option (List ℕ)) (image : List ℕ) (lines : List Placed) → ((bytes : List ℕ) (placed : List Placed) → assembly bytes ≡ Done image placed → SaysLines bytes image placed)
-    → IsFound source (Done image lines) → SaysSource source image lines
-said_of None image lines says found = absurd found
-said_of (Some bytes) image lines says found = says bytes lines found.1
+    → AllKeep → IsFound source (Done image lines) → SaysSource source image lines
+said_of None image lines says keeps found = absurd found
+said_of (Some bytes) image lines says keeps found = (says bytes lines found.1, kept_of (Some bytes) (Done image lines) keeps found)
 
 -- what an assembly leaves, by what its writing leaves
 pub leaves : (words : Assembling) (old before new : Files) (first last : DepotState) (image list : List ℕ) (lines : List Placed) (ending : Comes)
-    → ((bytes : List ℕ) (placed : List Placed) → assembly bytes ≡ Done image placed → SaysLines bytes image placed)
+    → ((bytes : List ℕ) (placed : List Placed) → assembly bytes ≡ Done image placed → SaysLines bytes image placed) → AllKeep
     → before ≡ old → IsFound (old words.source) (Done image lines) → list ≡ list_of image lines
     → WriteCause (length image) first last ending → WritesFiles words before new image list ending → LeavesFiles words old new ending
-leaves words old before new first last image list lines ending says same found is cause left =
+leaves words old before new first last image list lines ending says keeps same found is cause left =
     go ending cause (subst (λ (f : Files). WritesFiles words f new image (list_of image lines) ending) same (subst (λ (l : List ℕ). WritesFiles words before new image l ending) is left))
   where
     parts : (new ≡ old) ⊎ HoldsParts words old new image (list_of image lines) → LeavesParts words old new
@@ -96,7 +105,7 @@ leaves words old before new first last image list lines ending says same found i
     parts (inr holds) = inr (image, lines, found, holds)
 
     go : (ending : Comes) → WriteCause (length image) first last ending → WritesFiles words old new image (list_of image lines) ending → LeavesFiles words old new ending
-    go (Made size) cause left = (image, lines, found, cause, left, said_of (old words.source) image lines says found)
+    go (Made size) cause left = (image, lines, found, cause, left, said_of (old words.source) image lines says keeps found)
     go Unwritten cause left = parts left
     go Unlisted cause left = parts left
     go NoMemory cause left = parts left

@@ -5,6 +5,8 @@ use Rattle.md_asm.specs.Assembly as assembly
 use Rattle.md_asm.specs.Assembly.{AssemblyOutcome}
 use Rattle.md_asm.specs.declared.placed.Placed.{Placed}
 use Rattle.assembly_laws.specs.Lines.{SaysLines}
+use Rattle.asm_round_trip.specs.Faults.{IsFaulty}
+use Rattle.asm_round_trip.specs.Sources.{KeepsInstruction}
 use Rattle.md_args.specs.Words.{Assembling}
 use Rattle.asm_files.specs.Lists.{list_of}
 use Rattle.asm_files.specs.declared.comes.Comes.{Comes}
@@ -18,13 +20,22 @@ limit = 1048576
 abbrev pub IsFound : Option (List ℕ) → AssemblyOutcome → Type 0
 IsFound source outcome = IsSomeAnd source (λ bytes. (length bytes ≤ limit) × (assembly.assembly bytes ≡ outcome))
 
+-- a source that is held is assembled to this, and if it is one instruction's that stands there
+abbrev pub KeepsSource : Option (List ℕ) → AssemblyOutcome → Type 0
+KeepsSource source outcome = IsSomeAnd source (λ bytes. KeepsInstruction bytes outcome)
+
+-- a source that is held, within its limit, is refused: it is no instruction's, and its line is at fault
+abbrev pub IsAtFault : Option (List ℕ) → ℕ → ℕ → Type 0
+IsAtFault source line kind =
+    IsFound source (assembly.Failed line kind) × KeepsSource source (assembly.Failed line kind) × IsSomeAnd source (λ bytes. IsFaulty bytes line kind)
+
 -- Why each ending may come. What a file holds is spoken of where the depot tells it.
 abbrev pub HasCause : Type 0 → Assembling → DepotState → DepotState → Comes → Type 0
 HasCause told words old new (Made size) =
     told → (image : List ℕ) × (lines : List Placed) × IsFound (old.files words.source) (assembly.Done image lines) × (size ≡ length image)
 HasCause told words old new Unread = Rose old.read_faults new.read_faults ⊎ (told × (old.files words.source ≡ None))
 HasCause told words old new TooLong = told → IsSomeAnd (old.files words.source) (λ bytes. limit < length bytes)
-HasCause told words old new (Refused line kind) = told → IsFound (old.files words.source) (assembly.Failed line kind)
+HasCause told words old new (Refused line kind) = told → IsAtFault (old.files words.source) line kind
 HasCause told words old new Unwritten =
     Rose old.write_faults new.write_faults
     × (told → (image : List ℕ) × (lines : List Placed) × IsFound (old.files words.source) (assembly.Done image lines))
@@ -54,9 +65,9 @@ LeavesParts words old new =
     (new ≡ old)
     ⊎ ((image : List ℕ) × (lines : List Placed) × IsFound (old words.source) (assembly.Done image lines) × HoldsParts words old new image (list_of image lines))
 
--- an image says the lines of a source that is held
+-- an image says the lines of a source that is held, and if it is one instruction's that stands in it
 abbrev pub SaysSource : Option (List ℕ) → List ℕ → List Placed → Type 0
-SaysSource source image lines = IsSomeAnd source (λ bytes. SaysLines bytes image lines)
+SaysSource source image lines = IsSomeAnd source (λ bytes. SaysLines bytes image lines) × KeepsSource source (assembly.Done image lines)
 
 -- What the files hold then: the outputs the image, which says the lines of its source, and its list, where they were written; parts of them, or what
 -- they held, where a write failed or memory was wanting; and all others what they held

@@ -5,6 +5,7 @@ ghost use Rattle.asm_files.specs.Assemblies.{HasCause, LeavesFiles};
 use crate::comes::Comes;
 use crate::listing::list_of;
 use crate::writing::write_both;
+use asm_round_trip::laws::{faults_are_right, instructions_are_kept};
 use assembly_laws::laws::image_says_its_lines;
 use md_args::AsmWords;
 use md_asm::{AsmFault, assemble};
@@ -27,6 +28,8 @@ pub fn assemble_file<D: Depot>(alloc: Global, words: &AsmWords<'_>, depot: &mut 
         Err(Fetch::TooLong) => return Comes::TooLong,
         Err(Fetch::NoMemory) => return Comes::NoMemory,
     };
+    instructions_are_kept();
+    faults_are_right();
     let assembled = match assemble(alloc, source.as_slice()) {
         Ok(assembled) => assembled,
         Err(AsmFault::Line { line, kind }) => return Comes::Refused(line, kind),

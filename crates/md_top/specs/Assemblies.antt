@@ -5,7 +5,7 @@ use Rattle.md_asm.specs.Assembly as assembly
 use Rattle.md_asm.specs.declared.placed.Placed.{Placed}
 use Rattle.md_args.specs.Words.{Assembling}
 use Rattle.asm_files.specs.Assemblies as files
-use Rattle.asm_files.specs.Assemblies.{IsFound}
+use Rattle.asm_files.specs.Assemblies.{IsAtFault, IsFound}
 use Rattle.asm_files.specs.declared.comes.Comes.TheVariants as comes
 use Rattle.asm_files.specs.declared.comes.Comes.{Comes}
 use Rattle.md_top.specs.declared.ending.Ending.{Ending}
@@ -67,4 +67,4 @@ asm_ending words held = as_ending (files.right_ending (held words.source))
 
 -- a line of the source is refused
 abbrev pub IsRefusedSource : Type 0 → Assembling → Files → Type 0
-IsRefusedSource told words held = (line : ℕ) × (kind : ℕ) × (told → IsFound (held words.source) (assembly.Failed line kind))
+IsRefusedSource told words held = (line : ℕ) × (kind : ℕ) × (told → IsAtFault (held words.source) line kind)
