@@ -109,11 +109,9 @@ def key_of(piece, number):
 
 
 def pieces(name):
-    """The bytes of a file, or of standard input, in pieces of whole records but for the last."""
+    """The bytes of a file, or of standard input, piece by piece; each piece but the last is PIECE long."""
     with contextlib.nullcontext(sys.stdin.buffer) if name == "-" else open(name, "rb") as file:
         while piece := file.read(PIECE):
-            while len(piece) % RECORD.size and (more := file.read(RECORD.size - len(piece) % RECORD.size)):
-                piece += more
             yield piece
 
 
@@ -284,7 +282,8 @@ def main():
         raise faults.Wrong(f"no record stands from cycle {words.first} on and below {words.last}")
     print(f"{reader.count} records, {count} kept, {RECORD.size * count} bytes, to cycle {cycle}", flush=True)
     if reader.lacks_voices():
-        print(f"the journal begins at cycle {reader.first[0]}: voices set before are missing", file=sys.stderr)
+        lack = f"the journal begins at cycle {reader.first[0]}: voices that were set before are missing"
+        print(f"{lack}; make it from power-on and cut it by --from", file=sys.stderr)
     if RECORD.size * count > MOST:
         raise faults.Wrong(f"{words.out} has more than {MOST} bytes, which is too long for md_prog vgm: cut it")
 

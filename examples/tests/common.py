@@ -14,6 +14,10 @@ sys.path.insert(0, str(BENCH))
 
 import frames  # noqa: E402
 
+if not PROGRAM.exists():
+    print(f"{PROGRAM} is missing: run `rt ci` first", file=sys.stderr)
+    sys.exit(2)
+
 
 class Case(unittest.TestCase):
     """A test with a folder of its own."""

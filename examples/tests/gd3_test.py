@@ -45,13 +45,14 @@ class Gd3(common.Case):
         self.assertEqual(self.bytes_of("b.vgz"), self.bytes_of("c.vgz"))
 
     def test_a_tagged_file_is_played_alike(self):
-        image = self.cartridges()["song"]
-        self.run_program("run", image, "--cycles", 26881200, "--journal", "song.jnl")
-        self.run_program("vgm", "song.jnl", "song.vgm")
-        self.script("gd3.py", "--title", "Song", "song.vgm", "tagged.vgm")
-        for name in ("song", "tagged"):
-            self.run_program("play", f"{name}.vgm", f"{name}.wav")
-        self.assertEqual(self.bytes_of("song.wav"), self.bytes_of("tagged.wav"))
+        images = self.cartridges()
+        for name in ("song", "busy"):
+            self.run_program("run", images[name], "--cycles", 26881200, "--journal", "journal")
+            self.run_program("vgm", "journal", "made.vgm")
+            self.script("gd3.py", "--title", name, "made.vgm", "tagged.vgm")
+            for file in ("made", "tagged"):
+                self.run_program("play", f"{file}.vgm", f"{file}.wav")
+            self.assertEqual(self.bytes_of("made.wav"), self.bytes_of("tagged.wav"), name)
 
     def test_faults_are_one_line(self):
         (self.folder / "cut.vgm").write_bytes(tagged()[:-2])

@@ -13,7 +13,8 @@ import unittest
 import common
 
 BUILD = common.EXAMPLES / "hello-c" / "build.sh"
-COMPILER = "m68k-linux-gnu-gcc"
+TOOL, PACKAGES = "m68k-linux-gnu-gcc", "gcc-m68k-linux-gnu, binutils-m68k-linux-gnu"
+MISSING = "" if shutil.which(TOOL) else f"{TOOL} is missing (Debian: {PACKAGES})"
 FRAME, PICTURE, PPM_HEAD = 896_040, 215_055, 15
 # Where a saved state keeps work RAM and the VDP's memories, and where plane A is.
 WORK_RAM, VRAM, CRAM, PLANE_A = 227, 74_044, 139_580, 0xC000
@@ -84,6 +85,7 @@ def signed(value):
     return value - (1 << 32) if value >> 31 else value
 
 
+@unittest.skipIf(MISSING, MISSING)
 class HelloC(common.Case):
     def built(self, text, name="game"):
         """The image of a program in C."""
@@ -186,7 +188,7 @@ class HelloC(common.Case):
 
 
 if __name__ == "__main__":
-    if shutil.which(COMPILER) is None:
-        print(f"{COMPILER} is missing (Debian: gcc-m68k-linux-gnu, binutils-m68k-linux-gnu)", file=sys.stderr)
+    if MISSING:
+        print(MISSING, file=sys.stderr)
         sys.exit(2)
     unittest.main()

@@ -11,6 +11,7 @@ import unittest
 import common
 
 BUILD = common.EXAMPLES / "hello-z80" / "build.sh"
+MISSING = "" if shutil.which("sdcc") else "sdcc is missing (Debian: sdcc)"
 FRAME = 896_040
 # Where a saved state keeps the Z80's RAM, and where programs here leave what they made.
 RAM, MADE = 65_826, 0x1E00
@@ -41,6 +42,7 @@ void main(void) {
 DIVIDED = [9285, 5, -142, -6, 57142, 2858, 4_000_000_000 * 70_001 % (1 << 32)]
 
 
+@unittest.skipIf(MISSING, MISSING)
 class HelloZ80(common.Case):
     def built(self, text, status=0):
         (self.folder / "game.c").write_text(text)
@@ -88,7 +90,7 @@ class HelloZ80(common.Case):
 
 
 if __name__ == "__main__":
-    if shutil.which("sdcc") is None:
-        print("sdcc is missing (Debian: sdcc)", file=sys.stderr)
+    if MISSING:
+        print(MISSING, file=sys.stderr)
         sys.exit(2)
     unittest.main()

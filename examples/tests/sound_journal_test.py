@@ -5,6 +5,7 @@ import unittest
 
 import common
 import sound_journal
+import vgm
 
 RECORD = struct.Struct(">QBBIH")
 MAIN, SUB, VDP = 0, 1, 2
@@ -105,6 +106,18 @@ class Runs(common.Case):
         self.script("sound_journal.py", "whole", "sound")
         self.script("sound_journal.py", "first", "second", "joined")
         self.assertEqual(self.bytes_of("sound"), self.bytes_of("joined"))
+
+    def test_a_piece_sounds_as_the_run_does(self):
+        # Two seconds of the song from cycle 53,693,175 on, which is its second one; the voice was set before it.
+        # At these times no note begins or ends within a window; each takes a third of a second.
+        image = self.cartridges()["song"]
+        self.run_program("run", image, "--cycles", 161079525, "--journal", "whole", "--sound", "run.wav")
+        self.script("sound_journal.py", "--from", "53693175", "whole", "sound")
+        self.run_program("vgm", "sound", "piece.vgm")
+        self.run_program("play", "piece.vgm", "piece.wav")
+        for second in (0.05, 0.4, 0.75, 1.05, 1.4):
+            run, piece = (vgm.tones_of(self.folder / f"{name}.wav", at) for name, at in (("run", 1 + second), ("piece", second)))
+            self.assertTrue(piece and vgm.are_same(run[:1], piece[:1]), (second, run, piece))
 
     def test_registers_before_a_piece_are_those_of_the_saved_state(self):
         # Behind a batch's cycle all writes before it have reached the chips. Registers of the FM chip stand in a
