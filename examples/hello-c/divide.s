@@ -78,26 +78,22 @@ wide:   move.l  %d1,%d3
         bhs.s   1b
         divu    %d3,%d2
         and.l   #0xffff,%d2
-| The product by the whole divisor has at most 33 bits; where it is above the dividend it was one more.
+| The product by the whole divisor: that of its upper half has at most 16 bits, the sum 33. Where it is above the
+| dividend the quotient is one less, and so is one divisor's share of it.
         move.w  %d1,%d3
         mulu    %d2,%d3
         move.l  %d1,%d4
         swap    %d4
         mulu    %d2,%d4
         swap    %d4
-        tst.w   %d4                     | the 33rd bit
-        bne.s   3f
         add.l   %d3,%d4
-        bcs.s   4f
-        sub.l   %d4,%d0
-        bcc.s   6f
-        bra.s   5f
-3:      clr.w   %d4
-        add.l   %d3,%d4
-4:      sub.l   %d4,%d0
-5:      add.l   %d1,%d0                 | modulo 2^32 the rest is right with one divisor less
+        bcs.s   3f
+        cmp.l   %d4,%d0
+        bhs.s   4f
+3:      sub.l   %d1,%d4
         subq.l  #1,%d2
-6:      move.l  %d0,%d1
+4:      sub.l   %d4,%d0
+        move.l  %d0,%d1
         move.l  %d2,%d0
 2:      movem.l (%sp)+,%d2-%d4
         rts

@@ -21,6 +21,9 @@ WORK_RAM, VRAM, CRAM, PLANE_A = 227, 74_044, 139_580, 0xC000
 # Numbers at which division by halves of 16 bits turns.
 EDGES = [0, 1, 2, 3, 7, 10, 0x7FFF, 0x8000, 0xFFFF, 0x1_0000, 0x1_0001, 0x1_8000, 0x7FFF_FFFF, 0x8000_0000]
 EDGES += [0x8000_0001, 0xFFFE_FFFF, 0xFFFF_0000, 0xFFFF_FFFE, 0xFFFF_FFFF]
+# Rows at which both numbers shifted give one more than the quotient, whose product has 33 bits or is above the
+# dividend: 1572 by 29B09Ah is 1000071A8h, 4 by 15F7ACFFh is 57DEB3FCh.
+ROWS = [(0xFFFF_FFFC, 0x29_B09A), (0xFFFF_FFFD, 0x1_3F6F), (0xFFFF_FFFF, 0x7_62D6), (0x57DE_B3FA, 0x15F7_ACFF)]
 DIVIDES = """
 #define MADE ((volatile unsigned long *)0xff8000)
 static volatile unsigned long rows[][2] = {%s};
@@ -106,7 +109,7 @@ class HelloC(common.Case):
 
     def test_arithmetic_of_32_bits(self):
         draw = random.Random(68000)
-        rows = [(a, b) for a in EDGES for b in EDGES if b]
+        rows = ROWS + [(a, b) for a in EDGES for b in EDGES if b]
         rows += [(draw.getrandbits(32), draw.getrandbits(draw.randint(1, 32)) or 1) for _ in range(1000)]
         want = []
         for a, b in rows:
