@@ -7,7 +7,8 @@
 
 The PARTs are `file`, `68000`, `z80`, `vdp`, `colours`, `sprites`, `fm`, `psg`, `board`, `z80ram`, `ram` and
 `vram`; all but the last two where none is named. The last three are dumps in hexadecimal, in which `*` stands
-for rows that are the one before. Sprites are those of the list, from 0 on along the links.
+for rows that are the one before. Sprites are those of the list, from 0 on along the links. Registers of the sound
+chips are as their last samples left them; writes that are held come to them with the next ones.
 
 OUT is a picture, PNG or PPM by its ending: of all 2,048 patterns, 32 a row, in one of four palettes, 0 if not
 given; of a whole plane or the window, in whose clear dots the backdrop shows; of what was drawn of the picture,

@@ -1,5 +1,7 @@
 """The fields of a saved state in words, part by part."""
 
+import struct
+
 import state_video
 from state_words import joined, of_chip, onoff, yes
 
@@ -117,8 +119,17 @@ def told_fm(_, fields):
     timers = [f"timer {x} {onoff(port[f'timer {x} runs'])}, flag {port[f'flag {x}']}" for x in "AB"]
     latched = f"latched {port['part 1 latched']:02x} and {port['part 2 latched']:02x}"
     yield f"  {', '.join(timers)}; {latched}; {port['writes held']} writes held"
+    for cycle, _, part, register, byte in held_writes(">QBBBB", port):
+        what = "a reset" if part == 2 else f"part {part + 1} register {register:02x} {byte:02x}"
+        yield f"  held for the next samples: at cycle {cycle} {what}"
     for channel in range(6):
         yield from told_channel(registers[channel // 3], chip, clock, channel)
+
+
+def held_writes(form, port):
+    """The writes that a sound chip's port holds."""
+    size = struct.calcsize(form)
+    return struct.iter_unpack(form, port["writes"][: size * min(port["writes held"], len(port["writes"]) // size)])
 
 
 def told_channel(held, chip, clock, channel):
@@ -154,6 +165,8 @@ def told_psg(_, fields):
     port, chip = of_chip(fields, "PSG port"), of_chip(fields, "PSG")
     clock = REGIONS[fields["file", "region"]][2]
     yield f"PSG: register {chip['latch']} selected, {port['writes held']} writes held"
+    for cycle, _, byte in held_writes(">QBB", port):
+        yield f"  held for the next samples: at cycle {cycle} {byte:02x}"
     for n in (1, 2, 3):
         period = chip[f"period {n}"]
         yield f"  tone {n}: period {period}, {clock / 480 / max(period, 1):.1f} Hz, {loudness(chip[f'volume {n}'])}"

@@ -134,6 +134,16 @@ class State(common.Case):
         # 53,693,175 / 480 / 381 = 293.6
         self.assertEqual(self.told("psg")[1], "  tone 1: period 381, 293.6 Hz, 0 dB below full")
 
+    def test_held_writes(self):
+        # Two writes to the FM chip, the second a reset, and one to the sound generator.
+        held = {370_269: b"\0\2", 370_271: struct.pack(">QBBBBQBBBB", 1_799_000, 0, 1, 0xB4, 0xC0, 1_799_900, 0, 2, 0, 0)}
+        held |= {383_316: b"\0\1", 383_318: struct.pack(">QBB", 1_799_500, 1, 0x9F)}
+        data = made({**SET, **held})
+        lines = self.told("fm", data=data)
+        self.assertEqual(lines[2], "  held for the next samples: at cycle 1799000 part 2 register b4 c0")
+        self.assertEqual(lines[3], "  held for the next samples: at cycle 1799900 a reset")
+        self.assertEqual(self.told("psg", data=data)[1], "  held for the next samples: at cycle 1799500 9f")
+
     def test_older_versions(self):
         for version in (1, 2):
             for part in ("68000", "z80", "vdp", "colours", "fm", "psg", "vram"):
