@@ -1,7 +1,15 @@
 """What scripts here share: words are read and faults told in one line, with status 2."""
 import argparse
+import lzma
 import os
+import struct
 import sys
+import zipfile
+import zlib
+
+# What unpacking may raise of wrong bytes.
+UNPACKING = (zipfile.BadZipFile, zlib.error, lzma.LZMAError, struct.error, NotImplementedError, RuntimeError)
+UNPACKING += (EOFError, ValueError, KeyError, OverflowError, OSError)
 
 
 class Wrong(Exception):

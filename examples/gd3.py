@@ -20,7 +20,6 @@ Status 2 comes where a file cannot be read or written or is no VGM file, or a te
 import gzip
 import struct
 import sys
-import zlib
 
 import faults
 
@@ -41,7 +40,7 @@ def read(name):
     if data[:2] == b"\x1f\x8b":
         try:
             data = gzip.decompress(data)
-        except (OSError, EOFError, zlib.error):
+        except faults.UNPACKING:
             raise faults.Wrong(f"{name} is packed, and cannot be unpacked") from None
     if data[:4] != MARK or len(data) < LEAST:
         raise faults.Wrong(f"{name} is no VGM file")

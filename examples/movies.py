@@ -92,12 +92,9 @@ def gmv_of(movie):
 
 def member(archive, name):
     """A text within a BK2 file."""
-    try:
-        if archive.getinfo(name).file_size > MOST_LOG:
-            raise faults.Wrong(f"{name} is too long")
-        return archive.read(name).decode("utf-8-sig")
-    except (KeyError, UnicodeDecodeError, NotImplementedError, RuntimeError, EOFError, ValueError):
-        raise faults.Wrong(f"the movie of BizHawk has no {name} that can be read") from None
+    if archive.getinfo(name).file_size > MOST_LOG:
+        raise faults.Wrong(f"{name} is too long")
+    return archive.read(name).decode("utf-8-sig")
 
 
 def of_bk2(data):
@@ -105,8 +102,8 @@ def of_bk2(data):
     try:
         with zipfile.ZipFile(io.BytesIO(data)) as archive:
             header, log = member(archive, HEADER), member(archive, LOG)
-    except zipfile.BadZipFile:
-        raise faults.Wrong("the movie of BizHawk cannot be unpacked") from None
+    except faults.UNPACKING:
+        raise faults.Wrong(f"the movie of BizHawk has no {HEADER} and {LOG} that can be unpacked") from None
     told = dict(line.partition(" ")[::2] for line in header.splitlines())
     if told.get("Platform", "GEN") != "GEN":
         raise faults.Wrong(f"the movie is for the platform {told['Platform']}")

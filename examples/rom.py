@@ -18,7 +18,6 @@ import io
 import os
 import sys
 import zipfile
-import zlib
 
 import faults
 
@@ -48,7 +47,7 @@ def unpacked(name):
             return only_member(data), "zip, "
         if data[:2] == b"\x1f\x8b":
             return gzip.GzipFile(fileobj=io.BytesIO(data)).read(MOST_DUMP), "gzip, "
-    except (zipfile.BadZipFile, OSError, EOFError, zlib.error, NotImplementedError, RuntimeError, ValueError):
+    except faults.UNPACKING:
         raise faults.Wrong("it is packed, and cannot be unpacked") from None
     return data, ""
 

@@ -42,6 +42,11 @@ def bk2(log=LOG, header=HEADER, **others):
     return packed.getvalue()
 
 
+# A file that asks for version 8.5 of the packing, which nobody has.
+AT = bk2().index(b"PK\1\2") + 6
+LATER = bk2()[:AT] + b"\x55" + bk2()[AT + 1 :]
+
+
 class Record(common.Case):
     def made(self, data, ending="rec", *words):
         """What is made of a file's bytes."""
@@ -114,7 +119,7 @@ class Record(common.Case):
             "button.txt": b"1 Up\n2 Select\n", "count.txt": b"x Up\n", "many.txt": b"1048577\n", "pads.txt": b"pads 4 3\n",
             "none.txt": b"\xff\xfe", "short.rec": REC[:-1], "long.rec": REC + b"\0", "head.rec": b"MDREC002",
             "bit.rec": b"MDREC001\0\0\0\1\1\0\0\0", "cut.gmv": GMV[:-1], "state.gmv": GMV[:0x16] + b"\x40" + GMV[0x17:],
-            "cut.bk2": bk2()[:-30], "power.bk2": bk2([KEY, LOG[2].replace("|..|", "|P.|")]), "key.bk2": bk2(LOG[2:]),
+            "cut.bk2": bk2()[:-30], "later.bk2": LATER, "power.bk2": bk2([KEY, LOG[2].replace("|..|", "|P.|")]), "key.bk2": bk2(LOG[2:]),
             "columns.bk2": bk2([KEY, "|..|U|S|"]), "nes.bk2": bk2(header=["Platform NES"]),
             "saved.bk2": bk2(header=["Platform GEN", "StartsFromSavestate True"]),
         }  # fmt: skip
