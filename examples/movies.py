@@ -178,5 +178,5 @@ def bk2_of(movie):
     packed = io.BytesIO()
     with zipfile.ZipFile(packed, "w", zipfile.ZIP_DEFLATED) as archive:
         for name, texts in ((HEADER, header), (LOG, [*lines, "[/Input]"])):
-            archive.writestr(zipfile.ZipInfo(name), "".join(f"{text}\r\n" for text in texts), zipfile.ZIP_DEFLATED)
+            archive.writestr(zipfile.ZipInfo(name), "".join(f"{text}\n" for text in texts), zipfile.ZIP_DEFLATED)
     return packed.getvalue()
