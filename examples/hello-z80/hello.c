@@ -1,13 +1,6 @@
-/* For the Z80: eight notes on the FM chip, again and again. The Z80 begins at 0, with `start`. */
+/* For the Z80: eight notes on the FM chip, again and again, each a little softer than the last. */
 #define FM ((volatile unsigned char *)0x4000)
 #define PSG (*(volatile unsigned char *)0x7f11)
-void start(void) __naked {
-  __asm
-    di
-    ld sp, #0x2000
-    jp _main
-  __endasm;
-}
 /* Registers and bytes of channel 1: one operator is heard, and one an octave above bends it. */
 static const unsigned char voice[] = {
     0x22, 0x00, 0x27, 0x00, 0x2b, 0x00, 0x28, 0x00, /* no oscillator, no timers, no converter, keys off */
@@ -19,6 +12,8 @@ static const unsigned char voice[] = {
     0x90, 0x00, 0x94, 0x00, 0x98, 0x00, 0x9c, 0x00, 0xb0, 0x04, 0xb4, 0xc0}; /* on both sides */
 /* C4 to C5: the block in the upper byte, with the upper three bits of the number. */
 static const unsigned int notes[] = {0x2284, 0x22d3, 0x232b, 0x235b, 0x23c5, 0x243b, 0x24bf, 0x2a84};
+static unsigned int loudness = 120; /* kept in the program, and copied at the start */
+static unsigned char played;        /* cleared there */
 static void write(unsigned char number, unsigned char byte) {
   while (FM[0] & 0x80);
   FM[0] = number;
@@ -38,8 +33,9 @@ void main(void) {
   for (i = 0; i < sizeof voice; i += 2) write(voice[i], voice[i + 1]);
   write(0x26, 0x80);
   for (;;)
-    for (i = 0; i < 8; i++) {
+    for (i = 0; i < 8; i++, played++) {
       write(0x28, 0x00);
+      write(0x4c, (1000 - loudness * (8 - played % 8)) / 20);
       write(0xa4, notes[i] >> 8);
       write(0xa0, notes[i] & 0xff);
       write(0x28, 0xf0);
