@@ -54,6 +54,13 @@ class Wrong(Exception):
     """Why the words or the page are wrong."""
 
 
+class Words(argparse.ArgumentParser):
+    """Words whose faults are one line."""
+
+    def error(self, message):
+        raise Wrong(message)
+
+
 class NoEnd(Exception):
     """What a line had printed when its time was over."""
 
@@ -298,7 +305,7 @@ def run_page(words, folder):
 
 def words_of(arguments):
     """The command line, read."""
-    parser = argparse.ArgumentParser(description=__doc__, formatter_class=argparse.RawTextHelpFormatter)
+    parser = Words(description=__doc__, formatter_class=argparse.RawTextHelpFormatter)
     parser.add_argument("--only", action="append", default=[], metavar="HEADING")
     parser.add_argument("--seconds", type=int, default=900, metavar="N")
     parser.add_argument("--keep", type=pathlib.Path, metavar="FOLDER")
@@ -307,8 +314,8 @@ def words_of(arguments):
 
 
 def main():
-    words = words_of(sys.argv[1:])
     try:
+        words = words_of(sys.argv[1:])
         if not PROGRAM.exists():
             raise Wrong(f"{PROGRAM} is missing: run `rt ci` first")
         if words.keep:
