@@ -14,10 +14,11 @@ PAGE is docs/RECIPES.md if not given. The form of such a page:
 - Where something else is printed each time, three dots as a line stand for any lines, and as a word within a line
   for any text.
 - A paragraph that begins with `Package` or `Packages` names, between backquotes up to its first full stop or colon,
-  the Debian packages that the lines below it want, up to the next such paragraph or heading.
+  the Debian packages that the lines below it want, up to the next such paragraph or heading: those that run a script
+  of $EX, or all of them where the word `all` stands there, too. Commands are looked for in any case.
 
-A line is left out, with a line that says why, where the machine lacks a command of it, where it runs a script of
-$EX and a package named above it is not installed, and where it names a file that a line left out would have made.
+A line is left out, with a line that says why, where the machine lacks a command of it or a package that it wants, and
+where it names a file that a line left out would have made.
 
 `--only` runs the lines above the first heading and those of the sections whose headings have the text. A line that
 takes more than N seconds, 900 if not given, ends the check. The folders go at the end, or are left in FOLDER.
@@ -67,13 +68,13 @@ class NoEnd(Exception):
 
 @dataclasses.dataclass
 class Line:
-    """A command line: its place in the page, its text, what it prints there, and the packages named above it."""
+    """A command line: its place in the page, its text, what it prints there, and what is said of packages above it."""
 
     number: int
     text: str
     printed: list
     section: str
-    packages: list
+    packages: str
 
 
 def goes_on(text):
@@ -84,9 +85,11 @@ def goes_on(text):
     return text.endswith("\\")
 
 
-def packages_of(paragraph):
-    """The packages that the first sentence of a paragraph names."""
-    return re.findall(r"`([a-z0-9.+-]+)`", re.split(r"[.:](?:\s|$)", paragraph)[0])
+def wanted(line):
+    """The packages that a line wants."""
+    if re.search(r"\ball\b", line.packages) or any(token.startswith("$EX/") for token in tokens_of(line.text)):
+        return re.findall(r"`([a-z0-9.+-]+)`", line.packages)
+    return []
 
 
 def trimmed(lines):
@@ -98,12 +101,12 @@ def trimmed(lines):
 
 def lines_of(page):
     """The command lines of a page."""
-    lines, section, packages = [], "", []
+    lines, section, packages = [], "", ""
     for number, row in enumerate(page.split("\n"), 1):
         if row.startswith("#"):
-            section, packages = row.lstrip("# "), []
+            section, packages = row.lstrip("# "), ""
         elif PACKAGES.match(row):
-            packages = packages_of(row)
+            packages = re.split(r"[.:](?:\s|$)", row)[0]
         elif row.startswith("    ") and lines and goes_on(lines[-1].text):
             lines[-1].text += "\n" + row[4:]
         elif row.startswith("    $ "):
@@ -126,6 +129,7 @@ class Shell:
             stdin=subprocess.PIPE,
             stdout=subprocess.PIPE,
             stderr=subprocess.STDOUT,
+            env={**os.environ, "LC_ALL": "C.UTF-8"},
             start_new_session=True,
         )
 
@@ -197,14 +201,12 @@ def is_installed(package):
 
 def lacking(shell, line, unmade):
     """Why a line cannot be run here, or nothing."""
-    tokens = tokens_of(line.text)
-    for word in commands_of(tokens):
+    for word in commands_of(tokens_of(line.text)):
         if not shell.knows(word):
             return f"no command {word}"
-    if any(token.startswith("$EX/") for token in tokens):
-        for package in line.packages:
-            if not is_installed(package):
-                return f"no package {package}"
+    for package in wanted(line):
+        if not is_installed(package):
+            return f"no package {package}"
     for name in FILE.findall(line.text):
         if name in unmade and not shell.has_file(name):
             return f"no file {name}"
