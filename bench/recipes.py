@@ -181,12 +181,12 @@ def tokens_of(text):
 
 
 def commands_of(tokens):
-    """The words of a line that name a command."""
+    """The words of a line that name a command, those aside that it makes functions of."""
     first = True
-    for token in tokens:
+    for token, after in zip(tokens, [*tokens[1:], ""]):
         if first and ASSIGNMENT.match(token):
             continue
-        if first and NAME.fullmatch(token) and token not in BEHIND:
+        if first and NAME.fullmatch(token) and token not in BEHIND and after != "()":
             yield token
         first = token in BEHIND
 
