@@ -20,9 +20,9 @@ The third counts, from the cycle FROM to the cycle TO of a run from power-on, NT
     all     how many instructions were begun from the label on up to the next label
     time    in how many of a hundred looks the last instruction begun was one of these
 
-and the name; labels that nothing was seen of are left out. An instruction takes 28 cycles at least, so that a look shows
-nine new ones at most. Where a loop of nine or fewer goes on over two looks, its turns cannot be told apart: the fewest
-are counted, and a `+` says that there may be more. With 28 as CYCLES that is so of a loop of one instruction alone, and
+and the name; labels that nothing was seen of are left out. An instruction takes 28 cycles at least, so that a look
+shows nine new ones at most. Where a loop of nine or fewer goes on over two looks, its turns cannot be told apart: the
+fewest are counted, and a `+` says that there may be more. With 28 as CYCLES that is so of a loop of one instruction alone, and
 with 28 times N of one of N or fewer. The Z80's code is not counted. A second of the console takes half a minute of a
 processor, with 28 some three minutes.
 

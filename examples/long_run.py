@@ -82,7 +82,8 @@ def new_notes(words):
     """The notes of a run that has not begun."""
     cycle, _ = begin_of(words.load)
     sizes = {name: SOUND_HEAD if name == "sound" else 0 for name in asked(words)["choice of outputs"]}
-    return {"of": asked(words), "begin": cycle, "at": cycle, "sizes": sizes, "counts": dict.fromkeys(COUNTED, 0), "rest": ""}
+    counts = dict.fromkeys(COUNTED, 0)
+    return {"of": asked(words), "begin": cycle, "at": cycle, "sizes": sizes, "counts": counts, "rest": ""}
 
 
 def read_notes(words):

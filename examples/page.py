@@ -81,17 +81,25 @@ class Words(argparse.ArgumentParser):
         raise Wrong(message)
 
 
+NAMES = {
+    "lines": "lines.txt",
+    "frames": "frames.ppm",
+    "sound": "sound.wav",
+    "journal": "journal.jnl",
+    "state": "state.mds",
+}
+
+
 class Run:
     """The files of a run that are there."""
 
     def __init__(self, folder):
         if not folder.is_dir():
             raise Wrong(f"{folder} is no folder")
-        files = {"lines": "lines.txt", "frames": "frames.ppm", "sound": "sound.wav", "journal": "journal.jnl", "state": "state.mds"}
         self.folder = folder
-        self.files = {part: folder / name for part, name in files.items() if (folder / name).exists()}
+        self.files = {part: folder / name for part, name in NAMES.items() if (folder / name).exists()}
         if not self.files:
-            raise Wrong(f"{folder} has none of {', '.join(files.values())}")
+            raise Wrong(f"{folder} has none of {', '.join(NAMES.values())}")
         self.pal = self.is_pal()
         self.height = HEIGHTS[self.pal]
         self.picture = PICTURE_HEAD + 3 * WIDTH * self.height
@@ -147,7 +155,8 @@ def png_in_page(picture):
 def image_tag(picture, caption, width):
     """A picture with its caption."""
     alt, source = html.escape(caption), png_in_page(picture)
-    return f'<figure><img class="dots" width="{width}" alt="{alt}" src="{source}"><figcaption>{alt}</figcaption></figure>'
+    shown = f'<img class="dots" width="{width}" alt="{alt}" src="{source}">'
+    return f"<figure>{shown}<figcaption>{alt}</figcaption></figure>"
 
 
 def drawing(figure):
@@ -192,7 +201,8 @@ def video(run, seconds):
             raise Wrong(f"ffmpeg: {(done.stderr.strip().splitlines() or ['no word'])[-1]}")
         source = in_page(made.read_bytes(), "video/mp4")
     poster = png_in_page(picture_of(run, run.pictures() // 2))
-    return f'<h3>Video of {seconds} seconds at most</h3><video controls width="640" poster="{poster}" src="{source}"></video>'
+    shown = f'<video controls width="640" poster="{poster}" src="{source}"></video>'
+    return f"<h3>Video of {seconds} seconds at most</h3>{shown}"
 
 
 def samples_of(path):
@@ -211,7 +221,7 @@ def samples_of(path):
 
 
 def waveform(axes, samples, rate):
-    """Draws the least and the greatest sample of each column, the left side above the right one; answers the greatest."""
+    """Draws the least and greatest sample of each column, the left side above the right; answers the loudest."""
     bounds = numpy.linspace(0, len(samples), min(COLUMNS, len(samples)) + 1).astype(int)
     parts = [samples[one:other] for one, other in zip(bounds, bounds[1:])]
     low, high = (numpy.array([least(part, axis=0) for part in parts], int) for least in (numpy.min, numpy.max))
@@ -296,7 +306,9 @@ def accesses(run):
     counts, first = counts_of(run)
     if not counts:
         return "<h3>The journal is empty</h3>"
-    chips = {chip: {pair: counts[pair] for pair in counts if pair // 16 == chip} for chip in sorted({pair // 16 for pair in counts})}
+    chips = {}
+    for pair in sorted(counts):
+        chips.setdefault(pair // 16, {})[pair] = counts[pair]
     length = max(len(found) for found in counts.values())
     heights = [2.4 if len(own) > 1 else 0.9 for own in chips.values()]
     options = {"squeeze": False, "sharex": True, "layout": "constrained", "height_ratios": heights}
@@ -411,7 +423,8 @@ def parting_sounds(one, other):
     others, _ = samples_of(other.files["sound"])
     length = min(len(samples), len(others))
     for start in range(0, length, PIECE):
-        unlike = (samples[start : start + PIECE][: length - start] != others[start : start + PIECE][: length - start]).any(axis=1)
+        end = min(start + PIECE, length)
+        unlike = (samples[start:end] != others[start:end]).any(axis=1)
         if unlike.any():
             at = start + int(unlike.argmax())
             return f"<h3>The sounds part at pair {at}, {at / rate:.3f} seconds</h3>"
@@ -436,8 +449,8 @@ def parting(one, other):
 
 def column(run, parts, named):
     """One run in the page."""
-    region = "PAL" if run.pal else "NTSC"
-    return f"<div><h2>{html.escape(run.folder.resolve().name) + ', ' if named else ''}{region}</h2>{''.join(parts.values())}</div>"
+    name = f"{html.escape(run.folder.resolve().name)}, " if named else ""
+    return f"<div><h2>{name}{'PAL' if run.pal else 'NTSC'}</h2>{''.join(parts.values())}</div>"
 
 
 def page_of(runs, words):
