@@ -107,7 +107,7 @@ def lines_of(page):
             section, packages = row.lstrip("# "), ""
         elif PACKAGES.match(row):
             packages = re.split(r"[.:](?:\s|$)", row)[0]
-        elif row.startswith("    ") and lines and goes_on(lines[-1].text):
+        elif lines and goes_on(lines[-1].text) and (row.startswith("    ") or not row):
             lines[-1].text += "\n" + row[4:]
         elif row.startswith("    $ "):
             lines.append(Line(number, row[6:], [], section, packages))
