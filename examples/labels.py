@@ -22,8 +22,8 @@ The third counts, from the cycle FROM to the cycle TO of a run from power-on, NT
 
 and the name; labels that nothing was seen of are left out. An instruction takes 28 cycles at least, so that a look
 shows nine new ones at most. Where a loop of nine or fewer goes on over two looks, its turns cannot be told apart: the
-fewest are counted, and a `+` says that there may be more. With 28 as CYCLES that is so of a loop of one instruction alone, and
-with 28 times N of one of N or fewer. The Z80's code is not counted, and a journal would not serve: it does
+fewest are counted, and a `+` says that there may be more. With 28 as CYCLES that is so of a loop of one instruction
+alone, and with 28 times N of one of N or fewer. The Z80's code is not counted, and a journal would not serve: it does
 not tell which instruction made an access. A second of the console takes half a minute of a processor, with 28 some
 three minutes.
 
