@@ -16,7 +16,7 @@ examples/chord are run for four seconds with a journal and with their sound; `vg
 and `play` its sound. Of both sounds, and of that which ffmpeg makes of the file where it has libgme, the strongest
 tones of each half second are compared, at most five: they are the same where each of one is within 1 per cent or
 8 hertz, a step of the transform, of one of the other. libgme's samples are other ones, at another rate and another
-loudness.
+loudness. The status is 0 where they are the same, else 1; without a program it is 2, and nothing is built.
 """
 import cmath
 import math
@@ -217,9 +217,10 @@ def listen(program, folder, name):
 
 def main():
     program = pathlib.Path(sys.argv[1]) if len(sys.argv) > 1 else programs.TOP / "crates/md_prog/out/md_prog"
-    speeds()
     if not program.exists():
-        sys.exit(f"{program} is not there: run `rt ci` first")
+        print(f"{program} is not there: run `rt ci` first", file=sys.stderr)
+        sys.exit(2)
+    speeds()
     with tempfile.TemporaryDirectory() as name:
         sames = [listen(program.resolve(), pathlib.Path(name), example) for example in ("scale", "chord")]
     if not all(sames):

@@ -16,8 +16,8 @@ as there are processors if not given, are made side by side. `--piece K` checks 
 system that starts the pieces itself.
 
 Where all are as they were kept, the last line says so, and the status is 0. Else the last line names the
-first piece that is not, and the status is 1. Status 2 is for words that are wrong, and for files that
-cannot be read.
+first piece that is not, and the status is 1. Status 2 is for words that are wrong, for files that cannot
+be read or are no cartridge and no recording, and for runs that cannot be made.
 """
 import argparse
 import concurrent.futures
@@ -29,6 +29,8 @@ import tempfile
 
 PROGRAM = pathlib.Path(__file__).resolve().parent.parent / "crates" / "md_prog" / "out" / "md_prog"
 MARKS = b"MDSTATE1", b"MDSTATE2", b"MDSTATE3"
+# what md_prog says of a saved state: a field or length, its cartridge, its cycle
+STATE_FAULTS = 7, 8, 9, 11
 
 
 class Wrong(Exception):
@@ -45,12 +47,15 @@ def cycle_of(state):
 
 
 def run(rom, recording, cycle, load, save):
-    """Runs to a cycle; answers what went wrong, or nothing."""
+    """Runs to a cycle; answers what is wrong with a state, or nothing."""
     words = [PROGRAM, "run", rom, "--cycles", str(cycle), "--save", save]
     words += [] if recording == "-" else ["--in", recording]
     words += [] if load is None else ["--load", load]
     done = subprocess.run(words, stdout=subprocess.PIPE, text=True)
-    return "" if done.returncode == 0 else done.stdout.strip() or f"status {done.returncode}"
+    fault = done.stdout.strip() or f"status {done.returncode}"
+    if done.returncode not in (0, *STATE_FAULTS):
+        raise Wrong(fault)
+    return fault if done.returncode else ""
 
 
 def progress(text):
@@ -114,13 +119,15 @@ def check_all(rom, recording, pieces, jobs):
     """Checks pieces side by side; prints the first that is wrong, and tells whether there is none."""
     with concurrent.futures.ThreadPoolExecutor(jobs) as pool:
         checks = [pool.submit(check, rom, recording, piece) for piece in pieces]
-        for piece, done in zip(pieces, checks):
-            fault = done.result()
-            if fault:
-                pool.shutdown(wait=False, cancel_futures=True)
-                print(f"{named(piece)}: {fault}")
-                return False
-            progress(f"{named(piece)}: as kept")
+        try:
+            for piece, done in zip(pieces, checks):
+                fault = done.result()
+                if fault:
+                    print(f"{named(piece)}: {fault}")
+                    return False
+                progress(f"{named(piece)}: as kept")
+        finally:
+            pool.shutdown(wait=False, cancel_futures=True)
     return True
 
 
