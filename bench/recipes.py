@@ -20,8 +20,9 @@ PAGE is docs/RECIPES.md if not given. The form of such a page:
 A line is left out, with a line that says why, where the machine lacks a command of it or a package that it wants, and
 where it names a file that a line left out would have made.
 
-`--only` runs the lines above the first heading and those of the sections whose headings have the text. A line that
-takes more than N seconds, 900 if not given, ends the check. The folders go at the end, or are left in FOLDER.
+`--only` runs the lines above the first heading and those of the sections whose headings have the text; a section whose
+files it takes is to be named, too. A line that takes more than N seconds, 900 if not given, ends the check. The folders
+go at the end, or are left in FOLDER.
 
 The status is 0 where all lines print what stands there, left out ones aside; 1 where one does not, and then each
 such line is shown; 2 for wrong words, for a page that cannot be read, and where the program is not built.
