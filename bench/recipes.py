@@ -10,7 +10,7 @@ PAGE is docs/RECIPES.md if not given. The form of such a page:
   folder of the user's. Standard input is empty.
 - A line that ends in a backslash goes on with the next one, and a here-document ends with its word.
 - The further indented lines up to the next `$ ` are all that the line prints, on both streams: byte for byte, but
-  for empty lines at the end. A status is told only by `echo $?`.
+  for carriage returns in front of line feeds, and empty lines at the end. A status is told only by `echo $?`.
 - Where something else is printed each time, three dots as a line stand for any lines, and as a word within a line
   for any text.
 - A paragraph that begins with `Package` or `Packages` names, between backquotes up to its first full stop or colon,
@@ -20,8 +20,9 @@ PAGE is docs/RECIPES.md if not given. The form of such a page:
 A line is left out, with a line that says why, where the machine lacks a command of it or a package that it wants, and
 where it names a file that a line left out would have made.
 
-`--only` runs the lines above the first heading and those of the sections whose headings have the text. A line that
-takes more than N seconds, 900 if not given, ends the check. The folders go at the end, or are left in FOLDER.
+`--only` runs the lines above the first heading and those of the sections whose headings have the text; a section whose
+files it takes is to be named, too. A line that takes more than N seconds, 900 if not given, ends the check. The folders
+go at the end, or are left in FOLDER.
 
 The status is 0 where all lines print what stands there, left out ones aside; 1 where one does not, and then each
 such line is shown; 2 for wrong words, for a page that cannot be read, and where the program is not built.
@@ -263,7 +264,7 @@ def check(shell, lines):
             unmade.update(name for name in FILE.findall(line.text) if not shell.has_file(name))
             counts["left out"] += 1
             continue
-        found = trimmed(shell.run(line.text).split("\n"))
+        found = trimmed([row.removesuffix("\r") for row in shell.run(line.text).split("\n")])
         same = is_as_printed(line.printed, found)
         if not same:
             show(line, found)
