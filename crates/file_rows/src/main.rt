@@ -1,9 +1,9 @@
 //! Rows of files and of the small parts: prints what is wrong, and how many rows there are.
 #![tactic(auto)]
 
-mod fixture;
 mod cartridges;
 mod depots;
+mod fixture;
 mod kept;
 mod lines;
 mod pads;

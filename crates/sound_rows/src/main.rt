@@ -1,8 +1,8 @@
 //! Rows of the sound chips: their ports, their samples and their bytes in a saved state, and VGM files.
 #![tactic(auto)]
 
-mod fixture;
 mod chips;
+mod fixture;
 mod states;
 mod vgm;
 mod voices;

@@ -1,8 +1,8 @@
 //! Rows of the Z80: its instructions, its registers and its RAM, its events, and its bytes in a saved state.
 #![tactic(auto)]
 
-mod fixture;
 mod events;
+mod fixture;
 mod instructions;
 mod memory;
 mod registers;
