@@ -78,9 +78,17 @@ impl Setting {
         }
         match name {
             "CAUSE" => self.cause = byte(value)?,
-            "BANK" => self.parcel.bank = word(value)? % 512,
+            "BANK" => self.set_bank(word(value)?)?,
             name => set(&mut self.values, name, word(value)?)?,
         }
+        Ok(())
+    }
+
+    fn set_bank(&mut self, bank: u16) -> Result<(), RowError> {
+        if bank >= 512 {
+            return Err(RowError::NoSuchLine);
+        }
+        self.parcel.bank = bank;
         Ok(())
     }
 
