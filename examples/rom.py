@@ -211,15 +211,15 @@ def main():
         order, image = plain(data)
     except faults.Wrong as fault:
         raise faults.Wrong(f"{words.dump}: {fault}") from None
+    if words.out is not None:
+        with open(words.out, "wb") as file:
+            file.write(image)
     print(f"dump: {packed}{order}, {len(image)} bytes")
     padded = image.ljust(LEAST, b"\0")
     for line in header(padded):
         print(line.rstrip())
     for line in list(here(image, padded)) or ["nothing that the header names is left out"]:
         print(f"here: {line}")
-    if words.out is not None:
-        with open(words.out, "wb") as file:
-            file.write(image)
 
 
 if __name__ == "__main__":

@@ -2,6 +2,8 @@
 """Tests of rom.py: dumps and headers that were made by hand, and cartridges that run."""
 import gzip
 import io
+import subprocess
+import sys
 import unittest
 import zipfile
 
@@ -77,6 +79,13 @@ class Rom(common.Case):
         for word, data in dumps.items():
             first = self.told(data, "out").splitlines()[0]
             self.assertEqual((first, self.bytes_of("out")), (f"dump: {word}, 32768 bytes", PLAIN))
+
+    def test_the_image_is_written_whoever_reads_the_lines(self):
+        (self.folder / "dump").write_bytes(PLAIN)
+        words = [sys.executable, "-u", common.EXAMPLES / "rom.py", self.folder / "dump", self.folder / "out"]
+        with subprocess.Popen(words, stdout=subprocess.PIPE) as script:
+            script.stdout.close()
+        self.assertEqual((script.returncode, self.bytes_of("out")), (0, PLAIN))
 
     def test_the_header_in_words(self):
         total = sum(PLAIN[0x200::2]) * 256 + sum(PLAIN[0x201::2])
