@@ -1,0 +1,75 @@
+use md_asm::{AsmFault, assemble};
+use row_lines::{RowError, hexadecimal, number};
+use std::alloc::{AllocError, Global};
+
+/// The byte that a letter behind a backslash stands for.
+fn escaped(letter: u8) -> u8 {
+    match letter {
+        b'n' => b'\n',
+        b't' => b'\t',
+        b'r' => b'\r',
+        _ => letter,
+    }
+}
+
+/// A source of one line, in which `\n`, `\t` and `\r` are the ends of lines, tabs and carriage returns.
+fn source_of(alloc: Global, text: &str) -> Result<Vec<u8>, AllocError> {
+    let mut source = Vec::new(alloc);
+    let mut is_escape = false;
+    for byte in text.as_bytes() {
+        if is_escape {
+            source.push(escaped(*byte))?;
+            is_escape = false;
+        } else if *byte == b'\\' {
+            is_escape = true;
+        } else {
+            source.push(*byte)?;
+        }
+    }
+    Ok(source)
+}
+
+/// Appends the image of a source, or tells the line at fault and the kind.
+pub fn assembled_bytes(
+    alloc: Global,
+    source: &[u8],
+    image: &mut Vec<u8>,
+) -> Result<Option<(u32, u8)>, RowError> {
+    if source.len() > 1_048_576 {
+        return Err(RowError::NoSuchLine);
+    }
+    match assemble(alloc, source) {
+        Ok(done) => {
+            image.extend_from_slice(done.image())?;
+            Ok(None)
+        }
+        Err(AsmFault::Line { line, kind }) => Ok(Some((line, kind))),
+        Err(AsmFault::NoMemory) => Err(RowError::Memory),
+    }
+}
+
+/// The same of a source of one line.
+pub fn assembled(
+    alloc: Global,
+    text: &str,
+    image: &mut Vec<u8>,
+) -> Result<Option<(u32, u8)>, RowError> {
+    let source = source_of(alloc, text)?;
+    assembled_bytes(alloc, source.as_slice(), image)
+}
+
+/// A fault in words.
+pub fn fault_of(alloc: Global, fault: (u32, u8)) -> Result<String, RowError> {
+    let (line, kind) = fault;
+    Ok(format!(in alloc; "line {line}, kind {kind}")?)
+}
+
+/// `PLACE COUNT`: bytes of an image.
+pub fn piece(alloc: Global, image: &[u8], rest: &str) -> Result<String, RowError> {
+    let (place, count) = rest.split_once(' ').ok_or(RowError::NoSuchLine)?;
+    let place = hexadecimal(place)? % 0x1_0000_0000;
+    let count = number(count)? % 0x1_0000_0000;
+    let behind = image.get(place as usize..).ok_or(RowError::NoSuchLine)?;
+    let part = behind.get(..count as usize).ok_or(RowError::NoSuchLine)?;
+    Ok(hex::encode_upper(alloc, part)?)
+}
