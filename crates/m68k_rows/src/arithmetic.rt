@@ -51,6 +51,9 @@ fn task_of(name: &str) -> Result<Task, RowError> {
 /// The condition codes as the status register has them: X, N, Z, V, C.
 fn codes(text: &str) -> Result<Flags, RowError> {
     let bits = u8::from_str_radix(text, 2).map_err(|_| RowError::NoSuchLine)?;
+    if bits > 0b11111 {
+        return Err(RowError::NoSuchLine);
+    }
     Ok(Flags {
         x: bits >> 4 & 1 == 1,
         n: bits >> 3 & 1 == 1,

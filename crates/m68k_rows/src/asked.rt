@@ -16,6 +16,10 @@ pub struct Asked {
     pub is_read: bool,
 }
 
+fn low_byte(value: u32) -> Result<u8, RowError> {
+    u8::try_from(value).map_err(|_| RowError::NoSuchLine)
+}
+
 impl Asked {
     /// Of these registers, and of nothing else.
     pub fn begun(regs: &Regs) -> Asked {
@@ -67,9 +71,9 @@ impl Asked {
 
     fn set(&mut self, name: &str, value: u32) -> Result<(), RowError> {
         match name {
-            "N" => self.spent.count = (value % 0x100) as u8,
-            "E" => self.spent.cause = (value % 0x100) as u8,
-            "CAUSE" => self.cause = (value % 0x100) as u8,
+            "N" => self.spent.count = low_byte(value)?,
+            "E" => self.spent.cause = low_byte(value)?,
+            "CAUSE" => self.cause = low_byte(value)?,
             "VECTOR" => self.vector = value,
             "ADDRESS" => self.address = value,
             _ => return set(&mut self.regs, name, value),

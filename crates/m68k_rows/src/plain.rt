@@ -79,6 +79,9 @@ fn kind_of(alloc: Global, regs: &Regs, rest: &str) -> Result<String, RowError> {
 /// How many first words of a range are illegal.
 fn illegal(alloc: Global, regs: &Regs, rest: &str) -> Result<String, RowError> {
     let asked = Asked::of(regs, rest)?;
+    if asked.count != 2 || asked.words[0] > asked.words[1] {
+        return Err(RowError::NoSuchLine);
+    }
     let mut sum = 0u64;
     for word in asked.words[0]..=asked.words[1] {
         if let Op::Illegal(_) = decode(&[word, 0, 0, 0, 0]).op {

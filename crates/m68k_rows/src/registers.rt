@@ -28,7 +28,7 @@ pub fn set(regs: &mut Regs, name: &str, value: u32) -> Result<(), RowError> {
         "US" => regs.usp = value,
         "SS" => regs.ssp = value,
         "PC" => regs.pc = value,
-        "SR" => regs.sr = (value % 0x1_0000) as u16,
+        "SR" if value < 0x1_0000 => regs.sr = value as u16,
         _ => return set_numbered(regs, name, value),
     }
     Ok(())

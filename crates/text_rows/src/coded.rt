@@ -52,14 +52,20 @@ impl Coded {
         Ok(())
     }
 
+    /// The greatest of its words or bytes.
+    pub fn most(&self) -> u16 {
+        if self.is_z80 { 0xff } else { 0xffff }
+    }
+
     fn add(&mut self, value: u16) -> Result<(), RowError> {
+        let most = self.most();
         match self.values.get_mut(self.count) {
-            Some(place) => {
+            Some(place) if value <= most => {
                 *place = value;
                 self.count = self.count.wrapping_add(1);
                 Ok(())
             }
-            None => Err(RowError::NoSuchLine),
+            _ => Err(RowError::NoSuchLine),
         }
     }
 

@@ -13,8 +13,9 @@ pub struct Pattern {
 }
 
 impl Pattern {
-    /// Of a text: words or bytes, and `FIRST-LAST` or `FIRST-LAST/STEP` in the place of one.
-    pub fn of(text: &str) -> Result<Pattern, RowError> {
+    /// Of a text: words or bytes, none of which is greater than `most`, and `FIRST-LAST` or `FIRST-LAST/STEP` in the
+    /// place of one.
+    pub fn of(text: &str, most: u16) -> Result<Pattern, RowError> {
         let mut pattern = Pattern {
             values: [0; 5],
             count: 0,
@@ -25,19 +26,22 @@ impl Pattern {
         };
         for token in text.split_whitespace() {
             let value = pattern.value_of(token)?;
-            pattern.add(value)?;
+            pattern.add(value, most)?;
+        }
+        if pattern.last > most || pattern.first > pattern.last || pattern.step == 0 {
+            return Err(RowError::NoSuchLine);
         }
         Ok(pattern)
     }
 
-    fn add(&mut self, value: u16) -> Result<(), RowError> {
+    fn add(&mut self, value: u16, most: u16) -> Result<(), RowError> {
         match self.values.get_mut(self.count) {
-            Some(place) => {
+            Some(place) if value <= most => {
                 *place = value;
                 self.count = self.count.wrapping_add(1);
                 Ok(())
             }
-            None => Err(RowError::NoSuchLine),
+            _ => Err(RowError::NoSuchLine),
         }
     }
 

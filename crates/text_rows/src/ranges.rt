@@ -31,7 +31,7 @@ fn put_texts(
     patterns: &str,
 ) -> Result<(), RowError> {
     for part in patterns.split(", ") {
-        let pattern = Pattern::of(part)?;
+        let pattern = Pattern::of(part, coded.most())?;
         put_each(alloc, texts, coded, &pattern)?;
     }
     Ok(())
@@ -54,7 +54,7 @@ fn put_each(
 /// Whether each instruction is read from its own text.
 fn read_back(alloc: Global, coded: Coded, patterns: &str) -> Result<String, RowError> {
     for part in patterns.split(", ") {
-        let pattern = Pattern::of(part)?;
+        let pattern = Pattern::of(part, coded.most())?;
         if let Some(value) = first_other(alloc, coded, &pattern)? {
             return Ok(format!(in alloc; "{part} at {value:04X}")?);
         }
@@ -82,7 +82,7 @@ struct Trip {
 impl Trip {
     fn put(&mut self, alloc: Global, patterns: &str) -> Result<(), RowError> {
         for part in patterns.split(", ") {
-            let pattern = Pattern::of(part)?;
+            let pattern = Pattern::of(part, self.next.most())?;
             self.put_each(alloc, &pattern)?;
         }
         Ok(())
