@@ -1,6 +1,6 @@
 use core_rows::record_text;
 use md_word::{Entry, Key};
-use row_lines::{RowError, place_of, push};
+use row_lines::{RowError, hexadecimal, number, place_of, push};
 use std::alloc::Global;
 
 /// The entry of a record of 16 bytes.
@@ -19,19 +19,35 @@ fn entry_of(record: &[u8]) -> Option<Entry> {
     }
 }
 
+/// The base in which a field is written.
+#[derive(Clone, Copy)]
+enum Base {
+    Decimal,
+    Hexadecimal,
+}
+
+impl Base {
+    fn read(self, text: &str) -> Result<u64, RowError> {
+        match self {
+            Base::Decimal => number(text),
+            Base::Hexadecimal => hexadecimal(text),
+        }
+    }
+}
+
 /// The fields of an entry, and the base in which each is written.
-fn fields_of(entry: &Entry) -> [(u64, u32); 5] {
+fn fields_of(entry: &Entry) -> [(u64, Base); 5] {
     [
-        (entry.key.cycle, 10),
-        (u64::from(entry.key.chip), 10),
-        (u64::from(entry.kind), 10),
-        (u64::from(entry.address), 16),
-        (u64::from(entry.value), 16),
+        (entry.key.cycle, Base::Decimal),
+        (u64::from(entry.key.chip), Base::Decimal),
+        (u64::from(entry.kind), Base::Decimal),
+        (u64::from(entry.address), Base::Hexadecimal),
+        (u64::from(entry.value), Base::Hexadecimal),
     ]
 }
 
 /// Whether a field is as a word says: `*` any, `V` or `V|V` one of these, `!V` another.
-fn is_field(value: u64, base: u32, word: &str) -> Result<bool, RowError> {
+fn is_field(value: u64, base: Base, word: &str) -> Result<bool, RowError> {
     if word == "*" {
         return Ok(true);
     }
@@ -41,8 +57,7 @@ fn is_field(value: u64, base: u32, word: &str) -> Result<bool, RowError> {
     };
     let mut is_among = false;
     for text in list.split('|') {
-        let one = u64::from_str_radix(text, base).map_err(|_| RowError::NoSuchLine)?;
-        is_among |= one == value;
+        is_among |= base.read(text)? == value;
     }
     Ok(is_among == is_wanted)
 }
@@ -51,11 +66,11 @@ fn is_field(value: u64, base: u32, word: &str) -> Result<bool, RowError> {
 fn is_like(entry: &Entry, pattern: &str) -> Result<bool, RowError> {
     let fields = fields_of(entry);
     let mut is_like = true;
-    let mut number = 0usize;
+    let mut place = 0usize;
     for word in pattern.split_whitespace() {
-        let (value, base) = *fields.get(number).ok_or(RowError::NoSuchLine)?;
+        let (value, base) = *fields.get(place).ok_or(RowError::NoSuchLine)?;
         is_like &= is_field(value, base, word)?;
-        number = number.wrapping_add(1);
+        place = place.wrapping_add(1);
     }
     Ok(is_like)
 }
