@@ -1,5 +1,5 @@
 -- Of the sound chips' ports that the bytes of a state keep, writes and timers have their rules.
-use Rattle.std.proofs.Common.{◌≡◌, ℕ, ◌+◌, ◌-◌, ◌/◌, ◌%◌, ◌<◌, Bool, true, false, List, [], ◌++◌, length, get_or, map, replicate, refl, sym, ap, subst, ◌∙◌, arith}
+use Rattle.std.proofs.Common.{◌≡◌, ℕ, ◌+◌, ◌-◌, ◌/◌, ◌%◌, ◌<◌, Bool, true, false, eqb, List, [], ◌++◌, length, get_or, map, replicate, refl, sym, ap, subst, ◌∙◌, arith}
 use Rattle.std.proofs.lemmas.Bool.{and_parts, eqb-true, leb-true, ltb-true}
 use Rattle.std.proofs.lemmas.List.{length-map}
 use Rattle.md_word.specs.Coding.{flag_number}
@@ -104,8 +104,8 @@ stands_still at longest next true e r = absurd cc
 stands_still at longest next false e r = eqb-true next 0 e
 
 timer_timed : (at longest bit : ℕ) (t : Timer) → eqb (flag_number t.run) bit ≡ true → fm.is_next at longest (flag_number t.run) t.next ≡ true → IsTimed at longest bit t
-timer_timed at longest bit t run next =
-    record { run = eqb-true (flag_number t.run) bit run; runs = runs_near at longest t.next t.run next; stands = stands_still at longest t.next t.run next }
+timer_timed at longest bit t e f =
+    record { run = eqb-true (flag_number t.run) bit e; runs = runs_near at longest t.next t.run f; stands = stands_still at longest t.next t.run f }
 
 pub fm_timed : (at : ℕ) (bytes : List ℕ) (p : Port) → fm.SpellsPort at bytes p → AreTimed at p.timers
 unfolding AllHold
