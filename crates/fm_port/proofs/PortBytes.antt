@@ -236,15 +236,13 @@ rules_of at s right =
     let h10 = h9.1 in
     let h11 = h10.1 in
     let h12 = h11.1 in
-    let a = and_parts _ _ h6.0 in
-    let b = and_parts _ _ h8.0 in
-    let run_a = eqb-true s.numbers.run_a (s.numbers.control % 2) a.0 in
-    let run_b = eqb-true s.numbers.run_b (s.numbers.control / 2 % 2) b.0 in
+    let run_a = eqb-true s.numbers.run_a (s.numbers.control % 2) h6.0 in
+    let run_b = eqb-true s.numbers.run_b (s.numbers.control / 2 % 2) h8.0 in
     record {
       run_a = omega (arith, run_a);
-      next_a = a.1;
+      next_a = h7.0;
       run_b = omega (arith, run_b);
-      next_b = b.1;
+      next_b = h9.0;
       flag_a = leb-true s.numbers.flag_a 1 h10.0;
       flag_b = leb-true s.numbers.flag_b 1 h11.0;
       writes = h12.0;
@@ -423,8 +421,10 @@ numbers_right : (at : ℕ) (p : Port) → are_saved_timers at p.timers ≡ true 
 unfolding AllHold
 numbers_right at p timed =
     let parts = and_parts _ _ timed in
+    let a = and_parts _ _ parts.0 in
+    let b = and_parts _ _ parts.1 in
     none_wrong 0 (number_fields at (saved_numbers p))
-    (refl, (refl, (refl, (refl, (refl, (refl, (parts.0, (refl, (parts.1, (refl, (flag_small p.timers.a.flag, (flag_small p.timers.b.flag, tt))))))))))))
+    (refl, (refl, (refl, (refl, (refl, (refl, (a.0, (a.1, (b.0, (b.1, (flag_small p.timers.a.flag, (flag_small p.timers.b.flag, tt))))))))))))
 
 keeps_own : (at : ℕ) (p : Port) → length p.writes ≤ 1024 → AreWithin (number_fields at (saved_numbers p)) → Keeps (port_fields at) (port_bytes p) (saved_port_of p)
 unfolding AreWithin spelling

@@ -74,7 +74,7 @@ pub record SavedPort : Type 0 where
 abbrev pub is_next : ℕ → ℕ → ℕ → ℕ → Bool
 is_next at longest run next = if run == 1 then nat_le at next && nat_lt (next - at) longest else (next == 0)
 
--- a timer runs where its bit of register 27 is set
+-- a timer runs where its bit of register 27 is set, and its next overflow is right
 abbrev pub is_saved_timer : ℕ → ℕ → ℕ → ℕ → ℕ → Bool
 is_saved_timer at longest bit run next = (run == bit) && is_next at longest run next
 
@@ -92,8 +92,8 @@ abbrev pub are_writes : ℕ → ℕ → List ℕ → Bool
 are_writes at count entries =
     nat_le count 1024 && (are_right at (writes_at count entries) && are_zeros (drop (12 * count) entries))
 
--- the fields of latches and timers in their order, and their rules: a timer's run and next are one
--- field, whose rule stands first
+-- the fields of latches and timers in their order, and their rules: a timer's run goes by register 27,
+-- and its next overflow by its run
 abbrev pub number_fields : ℕ → Numbers → List Field
 number_fields at s =
     byte s.first true
@@ -102,10 +102,10 @@ number_fields at s =
     ∷ byte s.low_a true
     ∷ byte s.number_b true
     ∷ byte s.control true
-    ∷ byte s.run_a (is_saved_timer at 1032192 (s.control % 2) s.run_a s.next_a)
-    ∷ quad s.next_a true
-    ∷ byte s.run_b (is_saved_timer at 4128768 (s.control / 2 % 2) s.run_b s.next_b)
-    ∷ quad s.next_b true
+    ∷ byte s.run_a (s.run_a == s.control % 2)
+    ∷ quad s.next_a (is_next at 1032192 s.run_a s.next_a)
+    ∷ byte s.run_b (s.run_b == s.control / 2 % 2)
+    ∷ quad s.next_b (is_next at 4128768 s.run_b s.next_b)
     ∷ byte s.flag_a (nat_le s.flag_a 1)
     ∷ byte s.flag_b (nat_le s.flag_b 1)
     ∷ []

@@ -65,25 +65,13 @@ impl SavedPort {
             Field::Byte(self.low_a, true),
             Field::Byte(self.number_b, true),
             Field::Byte(self.control, true),
-            Field::Byte(self.run_a, self.is_timer_a(at)),
-            Field::Quad(self.next_a, true),
-            Field::Byte(self.run_b, self.is_timer_b(at)),
-            Field::Quad(self.next_b, true),
+            Field::Byte(self.run_a, self.run_a == self.control % 2),
+            Field::Quad(self.next_a, is_next(at, LONGEST_A, self.run_a, self.next_a)),
+            Field::Byte(self.run_b, self.run_b == self.control / 2 % 2),
+            Field::Quad(self.next_b, is_next(at, LONGEST_B, self.run_b, self.next_b)),
             Field::Byte(self.flag_a, self.flag_a <= 1),
             Field::Byte(self.flag_b, self.flag_b <= 1),
         ]
-    }
-
-    fn is_timer_a(&self, at: u64) -> bool
-        ensures { result ≡ meaning.is_saved_timer at 1032192 (self.now.control % 2) self.now.run_a self.now.next_a }
-    {
-        self.run_a == self.control % 2 && is_next(at, LONGEST_A, self.run_a, self.next_a)
-    }
-
-    fn is_timer_b(&self, at: u64) -> bool
-        ensures { result ≡ meaning.is_saved_timer at 4128768 (self.now.control / 2 % 2) self.now.run_b self.now.next_b }
-    {
-        self.run_b == self.control / 2 % 2 && is_next(at, LONGEST_B, self.run_b, self.next_b)
     }
 
     /// The timers of which these numbers are kept.
@@ -111,6 +99,8 @@ fn timer_from(run: u8, next: u64, flag: u8) -> Timer
     }
 }
 
+/// Whether a cycle can be the next overflow of a timer: less than its longest period after `at` where it
+/// runs, 0 where it stands still.
 fn is_next(at: u64, longest: u64, run: u8, next: u64) -> bool
     ensures { result ≡ meaning.is_next at longest run next }
 {

@@ -71,12 +71,11 @@ impl FmPort {
     /// The port that the bytes of a saved state at a cycle, of at most 2^50, keep. It takes no memory.
     /// Bytes that are not 12,316 are refused at the lesser of their number and 12,316, others at the place
     /// of the first field whose rule fails: a timer's run is its bit of register 27, and its next overflow
-    /// stands less than the longest period after the cycle, or is 0 where it stands still (both are
-    /// refused at the run); flags are 0 or 1. Count and writes are refused at 26, where they are more than 1,024, where one is for no
-    /// port, or a reset that is not the 68000's or has a register or a value, where their keys are none
-    /// of the two processors', do not rise, stand below the last batch before the cycle or not below the
-    /// cycle, or stand less than 28 cycles apart for the 68000 or 45 for the Z80, and where an unused
-    /// place is not 0.
+    /// stands less than the longest period after the cycle, or is 0 where it stands still; flags are 0 or 1.
+    /// Count and writes are refused at 26, where they are more than 1,024, where one is for no port, or a
+    /// reset that is not the 68000's or has a register or a value, where their keys are none of the two
+    /// processors', do not rise, stand below the last batch before the cycle or not below the cycle, or
+    /// stand less than 28 cycles apart for the 68000 or 45 for the Z80, and where an unused place is not 0.
     pub fn unspell(_alloc: Global, bytes: &[u8], at: u64) -> Result<FmPort, Unspell>
         requires { at ≤ 2 ^ 50 }
         ensures found { IfOk result (λ port. SpellsPort at bytes.now port) }

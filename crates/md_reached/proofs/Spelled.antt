@@ -1,5 +1,5 @@
 -- Of the sound chips' ports that the bytes of a state keep, writes and timers have their rules.
-use Rattle.std.proofs.Common.{◌≡◌, ℕ, ◌+◌, ◌-◌, ◌/◌, ◌%◌, ◌<◌, Bool, true, false, List, [], ◌++◌, length, get_or, map, replicate, refl, sym, ap, subst, ◌∙◌, arith}
+use Rattle.std.proofs.Common.{◌≡◌, ℕ, ◌+◌, ◌-◌, ◌/◌, ◌%◌, ◌<◌, Bool, true, false, eqb, List, [], ◌++◌, length, get_or, map, replicate, refl, sym, ap, subst, ◌∙◌, arith}
 use Rattle.std.proofs.lemmas.Bool.{and_parts, eqb-true, leb-true, ltb-true}
 use Rattle.std.proofs.lemmas.List.{length-map}
 use Rattle.md_word.specs.Coding.{flag_number}
@@ -103,16 +103,15 @@ stands_still : (at longest next : ℕ) (run : Bool) → fm.is_next at longest (f
 stands_still at longest next true e r = absurd cc
 stands_still at longest next false e r = eqb-true next 0 e
 
-timer_timed : (at longest bit : ℕ) (t : Timer) → fm.is_saved_timer at longest bit (flag_number t.run) t.next ≡ true → IsTimed at longest bit t
-timer_timed at longest bit t e =
-    let p = and_parts _ _ e in
-    record { run = eqb-true (flag_number t.run) bit p.0; runs = runs_near at longest t.next t.run p.1; stands = stands_still at longest t.next t.run p.1 }
+timer_timed : (at longest bit : ℕ) (t : Timer) → eqb (flag_number t.run) bit ≡ true → fm.is_next at longest (flag_number t.run) t.next ≡ true → IsTimed at longest bit t
+timer_timed at longest bit t e f =
+    record { run = eqb-true (flag_number t.run) bit e; runs = runs_near at longest t.next t.run f; stands = stands_still at longest t.next t.run f }
 
 pub fm_timed : (at : ℕ) (bytes : List ℕ) (p : Port) → fm.SpellsPort at bytes p → AreTimed at p.timers
 unfolding AllHold
 fm_timed at bytes p spells =
     let h6 = (rules_hold 0 (fm.port_fields at (fm.saved_port_of p)) spells.right).1.1.1.1.1.1 in
     record {
-      a = timer_timed at 1032192 (p.timers.control % 2) p.timers.a h6.0;
-      b = timer_timed at 4128768 (p.timers.control / 2 % 2) p.timers.b h6.1.1.0;
+      a = timer_timed at 1032192 (p.timers.control % 2) p.timers.a h6.0 h6.1.0;
+      b = timer_timed at 4128768 (p.timers.control / 2 % 2) p.timers.b h6.1.1.0 h6.1.1.1.0;
     }
