@@ -93,6 +93,61 @@ impl Machine {
     }
 }
 
+/// The chips that make no samples.
+#[derive(Drop)]
+struct SilentChips {
+    main: MainChip,
+    sub: SubChip,
+    draw: DrawChip,
+}
+
+/// The chips that make no samples, of these parts.
+fn silent_chips(
+    alloc: Global,
+    main: Chip68,
+    sub: Chip80,
+    draw: ChipVdp,
+) -> Result<SilentChips, NoMemory>
+    requires { draw.has_view ≡ true }
+    ensures { IfOk result (λ chips. chips ≡ record {
+      main = record { chip = main; answer = None };
+      sub = record { chip = sub; answer = None };
+      draw = record { chip = record draw { frame = None }; view = None };
+    }) }
+{
+    let main = MainChip::new(alloc, main)?;
+    let draw = DrawChip::new(alloc, draw)?;
+    let sub = SubChip {
+        chip: sub,
+        answer: None,
+    };
+    Ok(SilentChips { main, sub, draw })
+}
+
+/// The chips that make samples.
+#[derive(Drop)]
+struct SoundChips {
+    fm: FmChip,
+    psg: PsgChip,
+}
+
+/// The chips that make samples, of these parts; their next batch stands at a cycle.
+fn sound_chips(
+    alloc: Global,
+    fm: FmSynth,
+    psg: PsgSynth,
+    batch: u64,
+) -> Result<SoundChips, NoMemory>
+    ensures { IfOk result (λ chips. chips ≡ record {
+      fm = record { synth = fm; cycle = batch; taken = []; samples = [] };
+      psg = record { synth = psg; cycle = batch; taken = []; samples = [] };
+    }) }
+{
+    let fm = FmChip::new(alloc, fm, batch)?;
+    let psg = PsgChip::new(alloc, psg, batch)?;
+    Ok(SoundChips { fm, psg })
+}
+
 /// The five chips of these parts.
 pub(crate) fn chips_of(
     alloc: Global,
@@ -107,16 +162,14 @@ pub(crate) fn chips_of(
     requires far { at ≤ last_cycle }
     ensures { IfOk result (λ chips. chips.items ≡ assembly.chips_of (record { at = at; main = main; sub = sub; draw = draw; fm = fm; psg = psg })) }
 {
-    let batch = first_batch(at);
+    let silent = silent_chips(alloc, main, sub, draw)?;
+    let sound = sound_chips(alloc, fm, psg, first_batch(at))?;
     let chips = [
-        Chip::Main(MainChip::new(alloc, main)?),
-        Chip::Sub(SubChip {
-            chip: sub,
-            answer: None,
-        }),
-        Chip::Draw(DrawChip::new(alloc, draw)?),
-        Chip::Fm(FmChip::new(alloc, fm, batch)?),
-        Chip::Psg(PsgChip::new(alloc, psg, batch)?),
+        Chip::Main(silent.main),
+        Chip::Sub(silent.sub),
+        Chip::Draw(silent.draw),
+        Chip::Fm(sound.fm),
+        Chip::Psg(sound.psg),
     ];
     Ok(Vec::from_array(alloc, chips)?)
 }
