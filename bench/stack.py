@@ -3,10 +3,11 @@
 
     bench/stack.py [--least BYTES] [--most BYTES] [PROGRAM]
 
-Prints the functions with at least so many bytes, 4,096 if not given, the largest first: the name, the bytes with the
-saved registers and the return address, and who calls it. Behind them come the calls one in another that need the most from main
-on, as far as calls are direct: what a call through a pointer needs, a function that calls itself again and the C
-library stand in no sum. The status is 1 where a function has more than the most bytes, 16,384 if not given.
+Prints the functions with at least so many bytes, 4,096 if not given, the largest first: the name, the bytes
+with the saved registers and the return address, and who calls it. Behind them stand the calls, each within
+the one before, that need the most from main on. A call through a pointer, a function that calls itself again
+and the C library are in no sum. The status is 1 where a function has more than the most bytes, 16,384 if not
+given.
 
 It reads the machine code by `objdump`, of the package binutils.
 """
