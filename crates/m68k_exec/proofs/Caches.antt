@@ -1,9 +1,8 @@
 -- An instruction of the cartridge is the same whatever work RAM has.
-use Rattle.std.proofs.Common.{◌≡◌, ℕ, zero, suc, ◌+◌, ◌%◌, ◌^◌, ◌<◌, ◌≤◌, ◌∙◌, false, nat_le, ◌==◌, List, ◌∷◌, [], length, replicate, slice_index_or, refl, sym, ap, subst, arith, if◌then◌else◌}
+use Rattle.std.proofs.Common.{◌≡◌, ℕ, zero, suc, ◌+◌, ◌%◌, ◌^◌, ◌<◌, ◌≤◌, ◌∙◌, false, nat_le, ◌==◌, List, ◌∷◌, [], length, slice_index_or, refl, sym, ap, subst, arith, if◌then◌else◌}
 use Rattle.std.proofs.lemmas.Bool.Decides.{nat_tests}
-use Rattle.std.proofs.lemmas.List.{length-replicate}
 use Rattle.std.specs.List.{All}
-use Rattle.std.proofs.lemmas.List.Elements.{All-get_or, All-replicate}
+use Rattle.std.proofs.lemmas.List.Elements.{All-get_or}
 use Rattle.m68k_decode.specs.Fields.{opcode}
 use Rattle.m68k_decode.specs.Instructions.{instruction_of}
 use Rattle.m68k_exec.specs.Access.Memory.{Memory, bus_address, byte_at, instruction_word, instruction_words, word_at}
@@ -71,13 +70,6 @@ entry-read address cache blank other entries place long same there at =
     ap (λ (entry : CachedInstruction). entry.address) (any-blank cache.entries.value (place_of address) blank other (omega (arith, long)))
     ∙ subst (λ (n : ℕ). (slice_index_or cache.entries.value n other).address ≡ address) there
     (subst (λ (list : List CachedInstruction). (slice_index_or list place other).address ≡ address) same at)
-
--- entries of an address in work RAM are a cache of any cartridge
-pub of_no_instruction : (rom : List ℕ) (cache : DecodeCache) (nothing : CachedInstruction) → nothing.address ≡ 0xffff_ffff → cache.entries.value ≡ replicate 4096 nothing → IsCacheOf rom cache
-of_no_instruction rom cache nothing at is = record {
-  long = ap (λ (list : List CachedInstruction). length list) is ∙ length-replicate 4096 nothing;
-  entries = subst (All (IsEntryOf rom)) (sym is) (All-replicate (IsEntryOf rom) 4096 nothing (λ fixed. absurd (omega (arith, at, fixed))));
-}
 
 -- what is read is the instruction that the entry has
 pub entry-taken : (address : ℕ) (memory : Memory) (cache : DecodeCache) (other : CachedInstruction) (entries : List CachedInstruction) (place : ℕ) → entries ≡ cache.entries.value → place ≡ place_of address

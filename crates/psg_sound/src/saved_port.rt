@@ -88,17 +88,16 @@ fn write_at(bytes: &[u8], place: usize) -> PsgWrite
     }
 }
 
-/// The first so many writes, at most 1,024.
-pub fn writes_at(entries: &[u8], count: usize) -> PsgList
+/// Empties `into` and puts the first so many writes there, at most 1,024.
+pub fn writes_at(entries: &[u8], count: usize, into: &mut PsgList)
     requires most { count ≤ 1024 }
     requires there { length entries.now ≡ 10240 }
-    ensures { result.items ≡ meaning.writes_at count entries.now }
+    ensures { into.new.items ≡ meaning.writes_at count entries.now }
 {
-    let mut writes = PsgList::new();
+    into.clear();
     for index in 0..count {
-        writes.push(write_at(entries, WRITE * index));
+        into.push(write_at(entries, WRITE * index));
     }
-    writes
 }
 
 /// Whether the writes have keys that a port holds at a cycle.

@@ -1,4 +1,4 @@
-ghost use Rattle.std.specs.Prelude.{◌≡◌, ◌≢◌, ◌↔◌, ◌+◌, ◌≤◌, ◌++◌, ℕ, List, map, true, vec_len, vec_capacity, IfErr, IfOk, IsErrOf, Ok, Err};
+ghost use Rattle.std.specs.Prelude.{◌≡◌, ◌≢◌, ◌↔◌, ◌+◌, ◌≤◌, ◌++◌, ℕ, List, [], map, true, vec_len, vec_capacity, IfErr, IfOk, IsErrOf, Ok, Err};
 ghost use Rattle.md_fields.specs.Items.{IsRight, Keeps};
 ghost use Rattle.sound_writes.specs.Keys.{are_kept};
 ghost use Rattle.psg_sound.specs.PortSpelling.{PortGoesWrongAt, SpellsPort, key_of, port_bytes};
@@ -55,18 +55,37 @@ impl PsgPort {
         ensures rule { (place : ℕ) → IsErrOf result (Unspell.Rule place) ↔ PortGoesWrongAt at bytes.now place }
         ensures memory { result ≢ Err Unspell.NoMemory }
     {
-        match port_of(bytes, at) {
-            Ok(writes) => Ok(PsgPort { writes }),
-            Err(place) => Err(Unspell::Rule {
-                place: place as u64,
-            }),
+        let mut port = PsgPort::power_on();
+        match port.restore(bytes, at) {
+            Ok(()) => Ok(port),
+            Err(fault) => Err(fault),
+        }
+    }
+
+    /// Makes this port the one that the bytes keep, in its place, and refuses them as `unspell` does. It
+    /// holds no write after a refusal.
+    pub fn restore(&mut self, bytes: &[u8], at: u64) -> Result<(), Unspell>
+        ensures found { IfOk result (λ nothing. SpellsPort at bytes.now self.new) }
+        ensures only { (port : List Write) → SpellsPort at bytes.now port → (result ≡ Ok tt) × (self.new ≡ port) }
+        ensures rule { (place : ℕ) → IsErrOf result (Unspell.Rule place) ↔ PortGoesWrongAt at bytes.now place }
+        ensures memory { result ≢ Err Unspell.NoMemory }
+        ensures empty { IfErr result (λ fault. self.new ≡ []) }
+    {
+        match port_of(bytes, at, &mut self.writes) {
+            Ok(()) => Ok(()),
+            Err(place) => {
+                self.writes.clear();
+                Err(Unspell::Rule {
+                    place: place as u64,
+                })
+            }
         }
     }
 }
 
-/// The writes that the bytes keep, where the rules hold; else the place of the refusal.
-fn port_of(bytes: &[u8], at: u64) -> Result<PsgList, usize>
-    ensures found { IfOk result (λ writes. SpellsPort at bytes.now writes.items) }
+/// Makes a list the writes that the bytes keep, where the rules hold; else the place of the refusal.
+fn port_of(bytes: &[u8], at: u64, into: &mut PsgList) -> Result<(), usize>
+    ensures found { IfOk result (λ nothing. SpellsPort at bytes.now into.new.items) }
     ensures refused { IfErr result (λ place. PortGoesWrongAt at bytes.now place) }
 {
     if bytes.len() != PORT {
@@ -77,11 +96,11 @@ fn port_of(bytes: &[u8], at: u64) -> Result<PsgList, usize>
         return Err(0);
     }
     let entries = &bytes[2..PORT];
-    let writes = writes_at(entries, count);
-    if !are_kept(writes.as_slice(), at) || !are_zeros(&entries[WRITE * count..WRITE * MOST]) {
+    writes_at(entries, count, into);
+    if !are_kept(into.as_slice(), at) || !are_zeros(&entries[WRITE * count..WRITE * MOST]) {
         return Err(0);
     }
-    Ok(writes)
+    Ok(())
 }
 
 impl PsgSynth {

@@ -6,7 +6,7 @@ ghost use Rattle.m68k_exec.specs.declared.sample.cache.CachedInstruction.{Cached
 use crate::Around;
 use crate::access::memory::{WORK_RAM, bus_address, instruction_words};
 use m68k_decode::{Decoded, Op, decode_into};
-use md_word::NoMemory;
+use md_word::{Mode, NoMemory, Size, Task};
 use std::alloc::Global;
 
 /// How many entries a cache has.
@@ -61,6 +61,15 @@ impl DecodeCache {
     pub fn empty(alloc: Global) -> Result<Self, NoMemory>
         ensures { (rom : List ℕ) → IfOk result (λ cache. IsCacheOf rom cache) }
     {
+        // An array of zeros is made in its place on the heap, any other one on the stack first.
+        let zeros = CachedInstruction {
+            address: 0,
+            first: 0,
+            decoded: Decoded {
+                op: Op::Immediate(Task::Abcd, Size::Byte, 0, Mode::Data(0)),
+                length: 0,
+            },
+        };
         let nothing = CachedInstruction {
             address: NOWHERE,
             first: 0,
@@ -69,8 +78,11 @@ impl DecodeCache {
                 length: 2,
             },
         };
-        match Box::new(alloc, [nothing; ENTRIES]) {
-            Ok(entries) => Ok(DecodeCache { entries }),
+        match Box::new(alloc, [zeros; ENTRIES]) {
+            Ok(mut entries) => {
+                entries.fill(nothing);
+                Ok(DecodeCache { entries })
+            }
             Err(_) => Err(NoMemory),
         }
     }

@@ -16,8 +16,8 @@ loop-index-preserved c =
     ∙ sym (entries_more 10 write_at c.args.count i (10 * i) bytes c.loop-index-test.true) in
     record {
       read = ap (λ (l : List PsgWrite). l ++ rest) c.push.ensures.items
-          ∙ append_assoc c.loop-index.writes.items (c.write_at.result ∷ []) rest
-          ∙ ap (λ (l : List PsgWrite). c.loop-index.writes.items ++ l) next
+          ∙ append_assoc c.loop-index.into.items (c.write_at.result ∷ []) rest
+          ∙ ap (λ (l : List PsgWrite). c.loop-index.into.items ++ l) next
           ∙ c.loop-index.invariant.read;
       length = omega (arith, c.push.ensures.len, c.loop-index.invariant.length);
     }

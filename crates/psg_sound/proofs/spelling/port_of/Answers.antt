@@ -29,7 +29,7 @@ returns-then-not-are_kept-clause-refused c =
     (elim c.then-not-are_kept.branch [
       | then-not-are_kept-via-then-not-are_kept w ↦
           not_kept c.args.at (read_port c.args.bytes.now)
-          (kept_there c.args.at _ _ _ _ _ _ (c.from-count.ensures ∙ c.u16_at.ensures) c.as_slice.ensures.value c.writes_at-writes.ensures c.are_kept.ensures ∙ w.if-not-are_kept.true)
+          (kept_there c.args.at _ _ _ _ _ _ (c.from-count.ensures ∙ c.u16_at.ensures) c.as_slice.ensures.value c.writes_at.ensures c.are_kept.ensures ∙ w.if-not-are_kept.true)
       | then-not-are_kept-via-else-not-are_kept+then-not-are_zeros w ↦
           not_zeros c.args.at (read_port c.args.bytes.now)
           (zeros_there c.from-count.result _ (10240 - 10 * c.from-count.result) c.args.bytes.now _ c.if-bytes-ne-PORT.false (c.from-count.ensures ∙ c.u16_at.ensures) refl w.are_zeros.ensures ∙ w.if-not-are_zeros.true)
@@ -39,8 +39,8 @@ pub returns-clause-found : goal.returns-clause-found
 returns-clause-found c =
     let same : c.from-count.result ≡ (read_port c.args.bytes.now).count = c.from-count.ensures ∙ c.u16_at.ensures in
     let right = all_right c.args.at (read_port c.args.bytes.now) (omega (arith, c.if-count-gt-MOST.false, same))
-    (kept_there c.args.at _ _ _ _ _ _ same c.as_slice.ensures.value c.writes_at-writes.ensures c.are_kept.ensures ∙ c.if-not-are_kept.false)
+    (kept_there c.args.at _ _ _ _ _ _ same c.as_slice.ensures.value c.writes_at.ensures c.are_kept.ensures ∙ c.if-not-are_kept.false)
     (zeros_there c.from-count.result _ (10240 - 10 * c.from-count.result) c.args.bytes.now _ c.if-bytes-ne-PORT.false same refl c.are_zeros.ensures ∙ c.if-not-are_zeros.false) in
     subst (SpellsPort c.args.at c.args.bytes.now)
-    (sym (c.writes_at-writes.ensures ∙ ap (λ (n : ℕ). writes_at n (read_port c.args.bytes.now).entries) same))
+    (sym (c.writes_at.ensures ∙ ap (λ (n : ℕ). writes_at n (read_port c.args.bytes.now).entries) same))
     (read_spells c.args.at c.args.bytes.now (λ i. omega (arith, c.type_inv.bytes i)) c.if-bytes-ne-PORT.false right)
