@@ -1,5 +1,5 @@
 -- How a run ends: what the outputs hold on the way, and why it stops.
-use Rattle.std.proofs.Common.{◌≡◌, ℕ, ◌^◌, ◌<◌, ◌≤◌, List, Result, Ok, Err, Option, Some, None, append-nil, subst, sym, ◌∙◌, arith}
+use Rattle.std.proofs.Common.{◌≡◌, ◌≢◌, ℕ, ◌^◌, ◌<◌, ◌≤◌, List, Result, Ok, Err, Option, Some, None, append-nil, subst, sym, ◌∙◌, arith}
 use Rattle.std.specs.Prelude.{IfErr, IsSome, OnOk, OnErr}
 use Rattle.md_outer.specs.Outside.{DepotState, Files, GoesOn}
 use Rattle.md_top.specs.Endings.{HoldsUntil, RunCause, RunEnds, RunFiles, RunLeaves}
@@ -9,11 +9,10 @@ use Rattle.md_top.specs.Limits.{IsEnd}
 use Rattle.md_top.specs.Loads.{Begins, LoadCause, MayBeginAt}
 use Rattle.md_top.specs.Outputs.{Adds, AddsParts, AreBegun, Holds, IsBegun, IsUnwritten, IsWriteFault, LeavesParts, Pieces, lengthened, nothing}
 use Rattle.md_top.specs.Runs.{RunLaws, frames_to, journal_to, pieces_of, pieces_until, sound_until, state_to}
-use Rattle.md_top.specs.Saves.{IsNotSaved, LeavesState}
 use Rattle.md_machine.specs.Starts.{IsStart, Start}
 use Rattle.md_args.specs.Words.{Run}
 use Rattle.md_top.specs.declared.ending.Ending.{Ending}
-use Rattle.md_top.specs.declared.ending.Ending.TheVariants.{Done, FramesFault, SoundFault, JournalFault, LoadFault, StateTooLong, StateWrong, OtherCart, SaveFault, Unsaved, Memory}
+use Rattle.md_top.specs.declared.ending.Ending.TheVariants.{Done, FramesFault, SoundFault, JournalFault, LoadFault, StateTooLong, StateWrong, OtherCart, SaveFault, Memory}
 use Rattle.md_top.specs.declared.outputs.Outputs.{Outputs}
 use Rattle.md_top.proofs.Puts.{rose_later}
 use Rattle.md_top.proofs.Segments.{pieces-first, pieces-front}
@@ -77,27 +76,10 @@ pub state-held : (run : Run) (start : Start) (first old new : Files) (state : Li
 state-held run start first old new state is adds holds =
     subst (Holds run first new) (with-state start run.cycles state is) (adds first (pieces_until start run.cycles run.cycles) holds)
 
-state-parts : (run : Run) (start : Start) (first old new : Files) (state : List ℕ) → state ≡ state_to start run.cycles
+pub state-parts : (run : Run) (start : Start) (first old new : Files) (state : List ℕ) → state ≡ state_to start run.cycles
     → AddsParts run old new (record nothing { state = state }) → HoldsUntil start run first old run.cycles → LeavesParts run first new (pieces_of start run.cycles)
 state-parts run start first old new state is adds holds =
     subst (LeavesParts run first new) (with-state start run.cycles state is) (adds first (pieces_until start run.cycles run.cycles) holds)
-
-pub unsaved-leaves : (run : Run) (start : Start) (first : Files) (old new : DepotState) (state : List ℕ) (ending : Ending) → state ≡ state_to start run.cycles
-    → IsNotSaved run old new ending → LeavesState run old.files new.files state ending → HoldsUntil start run first old.files run.cycles → RunLeaves start run first new.files ending
-unsaved-leaves run start first old new state Unsaved is cause same holds = subst (λ (files : Files). HoldsUntil start run first files run.cycles) (sym same) holds
-unsaved-leaves run start first old new state FramesFault is cause adds holds = state-parts run start first old.files new.files state is adds holds
-unsaved-leaves run start first old new state SoundFault is cause adds holds = state-parts run start first old.files new.files state is adds holds
-unsaved-leaves run start first old new state JournalFault is cause adds holds = state-parts run start first old.files new.files state is adds holds
-unsaved-leaves run start first old new state SaveFault is cause adds holds = state-parts run start first old.files new.files state is adds holds
-unsaved-leaves run start first old new state _ is cause adds holds = absurd cause
-
-pub fault-state : (run : Run) (old new : DepotState) (first files : Files) (state : List ℕ) (ending : Ending) → IsWriteFault run old new ending
-    → AddsParts run first files (record nothing { state = state }) → LeavesState run first files state ending
-fault-state run old new first files state FramesFault fault adds = adds
-fault-state run old new first files state SoundFault fault adds = adds
-fault-state run old new first files state JournalFault fault adds = adds
-fault-state run old new first files state SaveFault fault adds = adds
-fault-state run old new first files state _ fault adds = absurd fault
 
 -- WHY IT STOPS
 
@@ -123,18 +105,12 @@ cause-before start run old mid new Memory on cause = tt
 cause-before start run old mid new FramesFault on cause = (cause.0, rose_later old.write_faults mid.write_faults new.write_faults on.writes cause.1)
 cause-before start run old mid new SoundFault on cause = (cause.0, rose_later old.write_faults mid.write_faults new.write_faults on.writes cause.1)
 cause-before start run old mid new SaveFault on cause = (cause.0, rose_later old.write_faults mid.write_faults new.write_faults on.writes cause.1)
-cause-before start run old mid new Unsaved on cause = cause
 cause-before start run old mid new JournalFault on cause = (cause.0, rose_later old.write_faults mid.write_faults new.write_faults on.writes cause.1)
 cause-before start run old mid new _ on cause = absurd cause
 
--- it was not saved
-pub unsaved-cause : (start : Start) (run : Run) (old mid new : DepotState) (ending : Ending) → GoesOn old mid → IsNotSaved run mid new ending → RunCause start run old new ending
-unsaved-cause start run old mid new Unsaved on cause = cause
-unsaved-cause start run old mid new FramesFault on cause = cause-before start run old mid new FramesFault on cause
-unsaved-cause start run old mid new SoundFault on cause = cause-before start run old mid new SoundFault on cause
-unsaved-cause start run old mid new JournalFault on cause = cause-before start run old mid new JournalFault on cause
-unsaved-cause start run old mid new SaveFault on cause = cause-before start run old mid new SaveFault on cause
-unsaved-cause start run old mid new _ on cause = absurd cause
+-- it is no want of memory
+pub fault-not_memory : (run : Run) (old new : DepotState) (ending : Ending) → IsWriteFault run old new ending → ending ≢ Memory
+fault-not_memory run old new ending fault is = subst (IsWriteFault run old new) is fault
 
 pub fault-leaves : (start : Start) (run : Run) (first files : Files) (old new : DepotState) (ending : Ending) → IsWriteFault run old new ending
     → LeavesParts run first files (pieces_of start run.cycles) → RunLeaves start run first files ending
@@ -171,7 +147,6 @@ refused-leaves told run old new FramesFault cause same = absurd cause
 refused-leaves told run old new SoundFault cause same = absurd cause
 refused-leaves told run old new JournalFault cause same = absurd cause
 refused-leaves told run old new SaveFault cause same = absurd cause
-refused-leaves told run old new Unsaved cause same = absurd cause
 refused-leaves told run old new Memory cause same = untouched run old.files new.files same
 refused-leaves told run old new _ cause same = same
 
@@ -189,7 +164,6 @@ end-of-run told run start old mid new JournalFault end may begins ahead on cause
     (end, λ t. (start, begins t, ahead), cause-before start run old mid new JournalFault on cause)
 end-of-run told run start old mid new SaveFault end may begins ahead on cause =
     (end, λ t. (start, begins t, ahead), cause-before start run old mid new SaveFault on cause)
-end-of-run told run start old mid new Unsaved end may begins ahead on cause = (end, λ t. (start, begins t, ahead), cause)
 end-of-run told run start old mid new _ end may begins ahead on cause = absurd cause
 
 pub files-of-run : (run : Run) (start : Start) (old new : Files) (ending : Ending) → Begins run old start → RunLeaves start run old new ending → RunFiles run old new ending
@@ -198,7 +172,6 @@ files-of-run run start old new FramesFault begins leaves = (start, begins, leave
 files-of-run run start old new SoundFault begins leaves = (start, begins, leaves)
 files-of-run run start old new JournalFault begins leaves = (start, begins, leaves)
 files-of-run run start old new SaveFault begins leaves = (start, begins, leaves)
-files-of-run run start old new Unsaved begins leaves = (start, begins, leaves)
 files-of-run run start old new Memory begins leaves = leaves
 files-of-run run start old new _ begins leaves = leaves
 

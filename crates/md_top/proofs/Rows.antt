@@ -21,7 +21,7 @@ use Rattle.md_top.specs.Debuggings.{Scripted}
 use Rattle.debug_script.specs.declared.script.Ending.TheVariants.{Obeyed}
 use Rattle.rollback_states.specs.declared.rolled.Comes.TheVariants as comes
 use Rattle.md_top.specs.declared.ending.Ending.{Ending}
-use Rattle.md_top.specs.declared.ending.Ending.TheVariants.{Shown, Done, Usage, TooFar, RecordingFault, RecordingTooLong, RecordingWrong, LoadFault, StateTooLong, StateWrong, OtherCart, Behind, FramesFault, SoundFault, JournalFault, SaveFault, Unsaved, Memory}
+use Rattle.md_top.specs.declared.ending.Ending.TheVariants.{Shown, Done, Usage, TooFar, RecordingFault, RecordingTooLong, RecordingWrong, LoadFault, StateTooLong, StateWrong, OtherCart, Behind, FramesFault, SoundFault, JournalFault, SaveFault, Memory}
 use Rattle.md_top.proofs.Assemblies.{asm_behind, asm_done, asm_far, asm_other, asm_read_fault, asm_refused_input, asm_refused_source, asm_right, asm_state, asm_usage, asm_write_fault, asm_wrong, assembled_other, convert_source, info_source, run_source}
 use Rattle.md_top.proofs.Conversions.{convert_behind, convert_done, convert_far, convert_other, convert_read_fault, convert_refused, convert_right, convert_state, convert_usage, convert_write_fault, convert_wrong, converted_other, info_refused, made_outcome, run_refused}
 use Rattle.md_top.proofs.Debuggings.{IsDebugRight, asm_script, convert_script, debug_behind, debug_done, debug_far, debug_input, debug_other, debug_read_fault, debug_refused, debug_right, debug_source, debug_state, debug_usage, debug_write_fault, debug_wrong, demo_script, info_script, run_script}
@@ -70,7 +70,6 @@ run_right told run old new verdict state FramesFault cause is judged reads write
 run_right told run old new verdict state SoundFault cause is judged reads writes t = absurd (writes cause.2.1)
 run_right told run old new verdict state JournalFault cause is judged reads writes t = absurd (writes cause.2.1)
 run_right told run old new verdict state SaveFault cause is judged reads writes t = absurd (writes cause.2.1)
-run_right told run old new verdict state Unsaved cause is judged reads writes t = inr refl
 run_right told run old new verdict state RecordingFault (near, (accepted, cause)) is judged reads writes t = run_recorded told run old new verdict state RecordingFault near (accepted t) cause is reads t
 run_right told run old new verdict state RecordingTooLong (near, (accepted, cause)) is judged reads writes t = run_recorded told run old new verdict state RecordingTooLong near (accepted t) cause is reads t
 run_right told run old new verdict state (RecordingWrong place) (near, (accepted, cause)) is judged reads writes t =
@@ -116,7 +115,6 @@ run_right_with told run old new verdict FramesFault cause is reads writes t = ab
 run_right_with told run old new verdict SoundFault cause is reads writes t = absurd (writes cause.2.1)
 run_right_with told run old new verdict JournalFault cause is reads writes t = absurd (writes cause.2.1)
 run_right_with told run old new verdict SaveFault cause is reads writes t = absurd (writes cause.2.1)
-run_right_with told run old new verdict Unsaved cause is reads writes t = inr refl
 run_right_with told run old new verdict RecordingFault (near, (accepted, cause)) is reads writes t = run_recorded_with told run old new verdict RecordingFault near (accepted t) cause is reads t
 run_right_with told run old new verdict RecordingTooLong (near, (accepted, cause)) is reads writes t = run_recorded_with told run old new verdict RecordingTooLong near (accepted t) cause is reads t
 run_right_with told run old new verdict (RecordingWrong place) (near, (accepted, cause)) is reads writes t =
@@ -225,8 +223,6 @@ leaves_other run old new JournalFault (start, begins, leaves) name not_frames no
     parts_other run old new (pieces_of start run.cycles) leaves name not_frames no_sound no_journal no_save
 leaves_other run old new SaveFault (start, begins, leaves) name not_frames no_sound no_journal no_save =
     parts_other run old new (pieces_of start run.cycles) leaves name not_frames no_sound no_journal no_save
-leaves_other run old new Unsaved (start, begins, leaves) name not_frames no_sound no_journal no_save =
-    ap (λ (files : Files). files name) leaves ∙ written_other run old (all_of (pieces_until start run.cycles run.cycles)) name not_frames no_sound no_journal no_save
 leaves_other run old new Memory leaves name not_frames no_sound no_journal no_save = parts_other run old new nothing leaves name not_frames no_sound no_journal no_save
 leaves_other run old new _ leaves name not_frames no_sound no_journal no_save = ap (λ (files : Files). files name) leaves
 

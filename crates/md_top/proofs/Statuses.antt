@@ -11,7 +11,7 @@ use Rattle.state_laws.specs.Verdicts.{OfOther, StateWrongAt}
 use Rattle.md_top.specs.Endings.{InfoEnds, RunEnds, status_of, text_of}
 use Rattle.md_args.specs.Words.{Command, Info, Run, RunCart}
 use Rattle.md_top.specs.declared.ending.Ending.{Ending}
-use Rattle.md_top.specs.declared.ending.Ending.TheVariants.{Shown, Done, DemoDone, Converted, RolledBack, OutputFault, ListFault, Usage, TooFar, ReadFault, RecordingFault, RecordingWrong, LoadFault, ScriptFault, StateWrong, OtherCart, Behind, FramesFault, SoundFault, JournalFault, SaveFault, Unsaved, Memory}
+use Rattle.md_top.specs.declared.ending.Ending.TheVariants.{Shown, Done, DemoDone, Converted, RolledBack, OutputFault, ListFault, Usage, TooFar, ReadFault, RecordingFault, RecordingWrong, LoadFault, ScriptFault, StateWrong, OtherCart, Behind, FramesFault, SoundFault, JournalFault, SaveFault, Memory}
 
 -- the status is the ending's, but where the sink failed within an output
 pub put_output : (told : Type 0) (text : List ℕ) (out out' : SinkState) (status : ℕ) → PutsOutput told text out out' status
@@ -158,6 +158,5 @@ far_only told sink run old new out out' status FramesFault cause reports far = a
 far_only told sink run old new out out' status SoundFault cause reports far = absurd (omega (arith, cause.0.1))
 far_only told sink run old new out out' status JournalFault cause reports far = absurd (omega (arith, cause.0.1))
 far_only told sink run old new out out' status SaveFault cause reports far = absurd (omega (arith, cause.0.1))
-far_only told sink run old new out out' status Unsaved cause reports far = absurd (omega (arith, cause.0.1))
 far_only told sink run old new out out' status Memory cause reports far = inr reports.0
 far_only told sink run old new out out' status _ cause reports far = absurd (omega (arith, cause.0))

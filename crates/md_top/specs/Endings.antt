@@ -28,7 +28,7 @@ use Rattle.md_top.specs.Conversions.{CanConvert, ConvertEnds, ConvertFiles, conv
 use Rattle.md_top.specs.declared.digests.Digests.{Digests}
 use Rattle.md_top.specs.declared.ending.Ending.{Ending}
 use Rattle.md_top.specs.declared.inputs.Inputs.{Inputs}
-use Rattle.md_top.specs.declared.ending.Ending.TheVariants.{Shown, Done, DemoDone, Converted, InputRefused, OutputFault, SourceRefused, ListFault, ScriptFault, ScriptTooLong, ScriptRefused, ScriptMemory, RolledBack, LineRefused, Usage, TooFar, ReadFault, TooLong, Short, NoMark, RecordingFault, RecordingTooLong, RecordingWrong, LoadFault, StateTooLong, StateWrong, OtherCart, Behind, FramesFault, SoundFault, JournalFault, SaveFault, Unsaved, Memory}
+use Rattle.md_top.specs.declared.ending.Ending.TheVariants.{Shown, Done, DemoDone, Converted, InputRefused, OutputFault, SourceRefused, ListFault, ScriptFault, ScriptTooLong, ScriptRefused, ScriptMemory, RolledBack, LineRefused, Usage, TooFar, ReadFault, TooLong, Short, NoMark, RecordingFault, RecordingTooLong, RecordingWrong, LoadFault, StateTooLong, StateWrong, OtherCart, Behind, FramesFault, SoundFault, JournalFault, SaveFault, Memory}
 
 -- the status that the program ends with
 abbrev pub status_of : Ending → ℕ
@@ -61,7 +61,6 @@ status_of (StateWrong place) = 7
 status_of (OtherCart kept given) = 8
 status_of (Behind from) = 9
 status_of Memory = 10
-status_of Unsaved = 10
 status_of TooFar = 11
 status_of TooLong = 14
 status_of RecordingTooLong = 14
@@ -139,7 +138,6 @@ text_of (Some command) FramesFault = codes "fault: writing " ++ unwrap_or (frame
 text_of (Some command) SoundFault = codes "fault: writing " ++ unwrap_or (sound_name command) [] ++ codes "\n"
 text_of (Some command) JournalFault = codes "fault: writing " ++ unwrap_or (journal_name command) [] ++ codes "\n"
 text_of (Some command) SaveFault = codes "fault: writing " ++ unwrap_or (save_name command) [] ++ codes "\n"
-text_of (Some command) Unsaved = codes "refused: memory\n"
 text_of command Memory = codes "refused: memory\n"
 text_of command ending = codes "refused: usage\n"
 
@@ -156,7 +154,6 @@ IsReady (Rollback words) files = CanRoll words files
 -- why a run from a start ends, once it has begun
 abbrev pub RunCause : Start → Run → DepotState → DepotState → Ending → Type 0
 RunCause start run old new (Done from frames accesses halted) = RunsWell start run.cycles from frames accesses halted
-RunCause start run old new Unsaved = IsSome run.save
 RunCause start run old new ending = IsUnwritten run old new ending
 
 -- Why each may come. What a file holds is spoken of where the depot tells it. Each cause says that
@@ -181,7 +178,6 @@ RunEnds told run old new FramesFault = IsEnd run.cycles × (told → CanRun run 
 RunEnds told run old new SoundFault = IsEnd run.cycles × (told → CanRun run old.files) × IsUnwritten run old new SoundFault
 RunEnds told run old new JournalFault = IsEnd run.cycles × (told → CanRun run old.files) × IsUnwritten run old new JournalFault
 RunEnds told run old new SaveFault = IsEnd run.cycles × (told → CanRun run old.files) × IsUnwritten run old new SaveFault
-RunEnds told run old new Unsaved = IsEnd run.cycles × (told → CanRun run old.files) × IsSome run.save
 RunEnds told run old new LoadFault = (run.cycles ≤ last_cycle) × LoadCause told run old new LoadFault
 RunEnds told run old new StateTooLong = (run.cycles ≤ last_cycle) × LoadCause told run old new StateTooLong
 RunEnds told run old new (StateWrong place) = (run.cycles ≤ last_cycle) × LoadCause told run old new (StateWrong place)
@@ -208,7 +204,6 @@ HoldsUntil start run old new at = Holds run old new (pieces_until start run.cycl
 -- what the files hold once the run from a start has ended
 abbrev pub RunLeaves : Start → Run → Files → Files → Ending → Type 0
 RunLeaves start run old new (Done from frames accesses halted) = Holds run old new (pieces_of start run.cycles)
-RunLeaves start run old new Unsaved = HoldsUntil start run old new run.cycles
 RunLeaves start run old new FramesFault = LeavesParts run old new (pieces_of start run.cycles)
 RunLeaves start run old new SoundFault = LeavesParts run old new (pieces_of start run.cycles)
 RunLeaves start run old new JournalFault = LeavesParts run old new (pieces_of start run.cycles)
@@ -227,7 +222,6 @@ RunFiles run old new FramesFault = StartLeaves run old new FramesFault
 RunFiles run old new SoundFault = StartLeaves run old new SoundFault
 RunFiles run old new JournalFault = StartLeaves run old new JournalFault
 RunFiles run old new SaveFault = StartLeaves run old new SaveFault
-RunFiles run old new Unsaved = StartLeaves run old new Unsaved
 RunFiles run old new Memory = LeavesParts run old new nothing
 RunFiles run old new ending = new ≡ old
 

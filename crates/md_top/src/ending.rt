@@ -95,7 +95,5 @@ pub(crate) enum Ending {
     JournalFault,
     /// The state's file could not be written.
     SaveFault,
-    /// Memory was wanting for the state that is to be saved, behind a run that ended well.
-    Unsaved,
     Memory,
 }

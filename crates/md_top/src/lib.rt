@@ -23,6 +23,7 @@ mod rolling;
 mod run_on;
 mod saving;
 mod segment;
+mod state_buffers;
 mod summary;
 mod text;
 mod top;

@@ -11,7 +11,7 @@ use crate::ending::Ending;
 use crate::loading::first_machine;
 use crate::reading::{read_cart, read_inputs};
 use crate::rolling::roll_cart;
-use crate::run_on::write_all;
+use crate::run_on::begin_and_write;
 use crate::segment::begin;
 use crate::text::Text;
 use md_args::{CommandWords, RunWords};
@@ -88,7 +88,7 @@ fn run_cart<F: Fn(&mut Machine, u64), D: Depot>(
         return Ending::Behind(from);
     }
     match begin(alloc, machine) {
-        Ok(course) => write_all(alloc, go_on, run, depot, course),
+        Ok(course) => begin_and_write(alloc, go_on, run, depot, course),
         Err(NoMemory) => Ending::Memory,
     }
 }

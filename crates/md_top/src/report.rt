@@ -76,7 +76,7 @@ pub(crate) fn report<S: Sink>(command: &CommandWords<'_>, ending: Ending, out: &
         Ending::ScriptMemory(replies) => refuse_rest(out, replies.bytes()),
         Ending::RolledBack(rolled) => status_of(put_rolled(out, &rolled)),
         Ending::LineRefused { line, fault } => refuse_line(out, line, fault),
-        Ending::Unsaved | Ending::Memory => refuse(out, 10, "refused: memory\n", "", ""),
+        Ending::Memory => refuse(out, 10, "refused: memory\n", "", ""),
     }
 }
 

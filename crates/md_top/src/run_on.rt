@@ -1,4 +1,4 @@
-ghost use Rattle.std.specs.Prelude.{◌≡◌, ℕ, ◌≤◌, ◌<◌, OnOk, OnErr, IfErr};
+ghost use Rattle.std.specs.Prelude.{◌≡◌, ◌≢◌, ℕ, ◌≤◌, ◌<◌, OnOk, OnErr, IfErr};
 ghost use Rattle.md_outer.specs.Outside.{Files, GoesOn};
 ghost use Rattle.md_machine.specs.Starts.{Start};
 ghost use Rattle.md_top.specs.Courses.{CameFrom, IsAtStart, IsUnderway, cycle_of, start_in};
@@ -9,6 +9,7 @@ ghost use Rattle.md_top.specs.Limits.{IsEnd, segment_cycles};
 ghost use Rattle.md_top.specs.Limits as limits;
 ghost use Rattle.md_top.specs.Outputs.{AreBegun, Holds, IsWriteFault, LeavesParts, nothing};
 ghost use Rattle.md_top.specs.Runs.{pieces_of};
+ghost use Rattle.md_top.specs.Saves.{CanSave};
 ghost use Rattle.md_top.specs.Workers.{CanGoOn, WentOn};
 ghost use Rattle.md_args.specs.Shown.{shown_run};
 
@@ -17,21 +18,23 @@ use crate::ending::Ending;
 use crate::laws::states_keep_laws;
 use crate::output::{append_all, append_sound, begin_all};
 use crate::outputs::Outputs;
-use crate::saving::save;
+use crate::saving::{make_buffers, save};
 use crate::segment::advance;
+use crate::state_buffers::StateBuffers;
 use md_args::RunWords;
 use md_files::wav_head;
 use md_machine::Machine;
 use md_machine::laws::lists_end_as_run;
 use md_outer::Depot;
+use md_word::NoMemory;
 use md_word::clock::BATCH;
 use md_word::region::{finished_at, frame_cycles};
 use save_state::laws::kept;
 use std::alloc::Global;
 
-/// Begins the outputs of a run, runs it from its start to its end, and writes what it makes. `go_on`
-/// makes each segment.
-pub(crate) fn write_all<F: Fn(&mut Machine, u64), D: Depot>(
+/// Takes the memory that a run needs beside its machine's, begins its outputs, and makes it. `go_on` makes
+/// each segment.
+pub(crate) fn begin_and_write<F: Fn(&mut Machine, u64), D: Depot>(
     alloc: Global,
     go_on: &F,
     run: &RunWords<'_>,
@@ -46,13 +49,41 @@ pub(crate) fn write_all<F: Fn(&mut Machine, u64), D: Depot>(
     ensures cause { RunCause (start_in course) (shown_run run.now) (D.state depot.old) (D.state depot.new) result }
     ensures files { D.told → RunLeaves (start_in course) (shown_run run.now) (D.state depot.old).files (D.state depot.new).files result }
 {
-    let mut course = course;
-    let outputs = match begin_all(alloc, run, depot) {
-        Ok(outputs) => outputs,
-        Err(ending) => return ending,
+    let buffers = match make_buffers(alloc, run) {
+        Ok(buffers) => buffers,
+        Err(NoMemory) => return Ending::Memory,
     };
-    match append_head(run, &outputs, depot, &mut course) {
-        Ok(()) => run_on(alloc, go_on, run, &outputs, depot, course),
+    match begin_all(alloc, run, depot) {
+        Ok(outputs) => write_all(go_on, run, &outputs, depot, course, buffers),
+        Err(ending) => ending,
+    }
+}
+
+/// Runs from its start to the end, and writes what it makes into its outputs, which are begun. All memory
+/// is taken.
+fn write_all<F: Fn(&mut Machine, u64), D: Depot>(
+    go_on: &F,
+    run: &RunWords<'_>,
+    outputs: &Outputs,
+    depot: &mut D,
+    course: Course,
+    buffers: Option<StateBuffers>,
+) -> Ending
+    requires may { (m : _) (to : ℕ) → CanGoOn m.now to → F.pre go_on.now m to }
+    requires goes { (m : _) (to : ℕ) (after : _) → F.post go_on.now m to tt after → WentOn m.now to after.now }
+    requires end { IsEnd run.now.cycles }
+    requires before { cycle_of course < run.now.cycles }
+    requires start { IsAtStart course }
+    requires begun { AreBegun (shown_run run.now) (D.state depot.old).begun outputs.now }
+    requires buffers { CanSave (shown_run run.now) buffers }
+    ensures cause { RunCause (start_in course) (shown_run run.now) (D.state depot.old) (D.state depot.new) result }
+    ensures memory { result ≢ Ending.Memory }
+    ensures files { D.told → (first : Files) → Holds (shown_run run.now) first (D.state depot.old).files nothing
+        → RunLeaves (start_in course) (shown_run run.now) first (D.state depot.new).files result }
+{
+    let mut course = course;
+    match append_head(run, outputs, depot, &mut course) {
+        Ok(()) => run_on(go_on, run, outputs, depot, course, buffers),
         Err(ending) => ending,
     }
 }
@@ -166,12 +197,12 @@ fn run_segment<F: Fn(&mut Machine, u64), D: Depot>(
 /// Runs from its start to the end in as few segments as reach it, appends what each makes, and saves
 /// the state that it comes to, if it is asked for.
 fn run_on<F: Fn(&mut Machine, u64), D: Depot>(
-    alloc: Global,
     go_on: &F,
     run: &RunWords<'_>,
     outputs: &Outputs,
     depot: &mut D,
     course: Course,
+    buffers: Option<StateBuffers>,
 ) -> Ending
     requires may { (m : _) (to : ℕ) → CanGoOn m.now to → F.pre go_on.now m to }
     requires goes { (m : _) (to : ℕ) (after : _) → F.post go_on.now m to tt after → WentOn m.now to after.now }
@@ -179,7 +210,9 @@ fn run_on<F: Fn(&mut Machine, u64), D: Depot>(
     requires before { cycle_of course < run.now.cycles }
     requires start { IsAtStart course }
     requires begun { AreBegun (shown_run run.now) (D.state depot.old).begun outputs.now }
+    requires buffers { CanSave (shown_run run.now) buffers }
     ensures cause { RunCause (start_in course) (shown_run run.now) (D.state depot.old) (D.state depot.new) result }
+    ensures memory { result ≢ Ending.Memory }
     ensures files { D.told → (first : Files)
         → HoldsUntil (start_in course) (shown_run run.now) first (D.state depot.old).files (cycle_of course)
         → RunLeaves (start_in course) (shown_run run.now) first (D.state depot.new).files result }
@@ -195,7 +228,7 @@ fn run_on<F: Fn(&mut Machine, u64), D: Depot>(
     }
     states_keep_laws();
     kept(&course.machine);
-    match save(alloc, run, outputs, depot, &course.machine) {
+    match save(run, outputs, depot, &course.machine, buffers) {
         Ok(()) => Ending::Done {
             from,
             frames: frames_between(pal, from, run.cycles),

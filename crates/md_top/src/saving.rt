@@ -1,46 +1,80 @@
-ghost use Rattle.std.specs.Prelude.{◌≡◌, ◌≤◌, OnOk, OnErr, IfErr};
+ghost use Rattle.std.specs.Prelude.{◌≡◌, ◌≤◌, OnOk, OnErr, IfOk, IfErr};
 ghost use Rattle.md_outer.specs.Outside.{GoesOn};
 ghost use Rattle.md_word.specs.Clock.{last_cycle};
 ghost use Rattle.md_top.specs.Outputs.{Adds, AddsParts, AreBegun, IsWriteFault, nothing};
-ghost use Rattle.md_top.specs.Saves.{IsNotSaved, LeavesState};
+ghost use Rattle.md_top.specs.Saves.{CanSave};
 ghost use Rattle.md_args.specs.Shown.{shown_run};
 ghost use Rattle.save_state.specs.States.{state_bytes};
 
 use crate::ending::Ending;
 use crate::output::append_state;
 use crate::outputs::Outputs;
+use crate::state_buffers::StateBuffers;
 use md_args::RunWords;
 use md_machine::Machine;
 use md_outer::Depot;
 use md_word::NoMemory;
-use save_state::write;
+use save_state::{LENGTH, spell};
+use sha2::{Digest, Sha256};
 use std::alloc::Global;
 
 /// The bytes of a state that are appended together, but for the last.
 const PIECE: usize = 65_536;
 
+/// How many bytes of a state do not stand in their place at once while it is written.
+const APART: usize = 22_594;
+
+/// Takes the memory for the state of a run, if it is to be saved.
+pub(crate) fn make_buffers(
+    alloc: Global,
+    run: &RunWords<'_>,
+) -> Result<Option<StateBuffers>, NoMemory>
+    ensures { IfOk result (CanSave (shown_run run.now)) }
+{
+    match run.save {
+        Some(_) => {
+            let apart = Vec::with_capacity(alloc, APART)?;
+            let bytes = Vec::with_capacity(alloc, LENGTH)?;
+            Ok(Some(StateBuffers { apart, bytes }))
+        }
+        None => Ok(None),
+    }
+}
+
+/// Writes the state of a machine into the buffers.
+fn spell_state(machine: &Machine, buffers: &mut StateBuffers)
+    requires { machine.now.at ≤ last_cycle }
+    ensures { buffers.new.bytes.items ≡ state_bytes machine.now.at machine.now.console }
+{
+    let digest = Sha256::digest(machine.cart().bytes());
+    buffers.bytes.clear();
+    spell(machine, &digest, &mut buffers.apart, &mut buffers.bytes);
+}
+
 /// Appends the state of a machine, if it is to be saved.
 pub(crate) fn save<D: Depot>(
-    alloc: Global,
     run: &RunWords<'_>,
     outputs: &Outputs,
     depot: &mut D,
     machine: &Machine,
+    buffers: Option<StateBuffers>,
 ) -> Result<(), Ending>
     requires near { machine.now.at ≤ last_cycle }
     requires begun { AreBegun (shown_run run.now) (D.state depot.old).begun outputs.now }
+    requires buffers { CanSave (shown_run run.now) buffers }
     ensures files { OnOk result (D.told → Adds (shown_run run.now) (D.state depot.old).files (D.state depot.new).files
         (record nothing { state = state_bytes machine.now.at machine.now.console })) }
-    ensures err { IfErr result (IsNotSaved (shown_run run.now) (D.state depot.old) (D.state depot.new)) }
-    ensures err_files { IfErr result (λ ending. D.told → LeavesState (shown_run run.now) (D.state depot.old).files (D.state depot.new).files
-        (state_bytes machine.now.at machine.now.console) ending) }
+    ensures err { IfErr result (IsWriteFault (shown_run run.now) (D.state depot.old) (D.state depot.new)) }
+    ensures err_files { OnErr result (D.told → AddsParts (shown_run run.now) (D.state depot.old).files (D.state depot.new).files
+        (record nothing { state = state_bytes machine.now.at machine.now.console })) }
     ensures goes_on { GoesOn (D.state depot.old) (D.state depot.new) }
 {
-    match run.save {
-        Some(_) => match write(alloc, machine) {
-            Ok(bytes) => append_pieces(run, outputs, depot, bytes.as_slice()),
-            Err(NoMemory) => Err(Ending::Unsaved),
-        },
+    match buffers {
+        Some(buffers) => {
+            let mut buffers = buffers;
+            spell_state(machine, &mut buffers);
+            append_pieces(run, outputs, depot, buffers.bytes.as_slice())
+        }
         None => Ok(()),
     }
 }

@@ -56,7 +56,7 @@ pub returns-in-Ok-begin-clause-cause : goal.returns-in-Ok-begin-clause-cause
 returns-in-Ok-begin-clause-cause g c =
     let machine = c.in-Ok-first_machine.machine in
     end-of-run g.D.Depot.told (shown_run c.args.run.now) (start_in c.in-Ok-begin.course) (g.D.Depot.state c.args.depot.now) (g.D.Depot.state c.first_machine.new.depot)
-    (g.D.Depot.state c.write_all.new.depot) c.write_all.result (omega (arith, c.if-run-from.false), omega (arith, c.if-run-gt-LAST_CYCLE.false))
+    (g.D.Depot.state c.begin_and_write.new.depot) c.begin_and_write.result (omega (arith, c.if-run-from.false), omega (arith, c.if-run-gt-LAST_CYCLE.false))
     (λ none. ap (λ (s : Start). s.at) c.in-Ok-begin.ensures.start ∙ c.in-Ok-first_machine.ensures.at none)
     (λ t. subst (Begins (shown_run c.args.run.now) (g.D.Depot.state c.args.depot.now).files) (sym c.in-Ok-begin.ensures.start)
     (record {
@@ -66,7 +66,7 @@ returns-in-Ok-begin-clause-cause g c =
     }))
     (omega (arith, c.if-run-from.false, c.at-from.ensures, ap (λ (s : Start). s.at) c.in-Ok-begin.ensures.start))
     (goes-far (g.D.Depot.state c.args.depot.now) (g.D.Depot.state c.read_inputs.new.depot) (g.D.Depot.state c.first_machine.new.depot) c.in-Ok.ensures.goes_on c.in-Ok-first_machine.ensures.goes_on)
-    c.write_all.ensures.cause
+    c.begin_and_write.ensures.cause
 
 pub returns-in-Ok-begin-clause-files : goal.returns-in-Ok-begin-clause-files
 returns-in-Ok-begin-clause-files g c = λ t.
@@ -78,11 +78,11 @@ returns-in-Ok-begin-clause-files g c = λ t.
       are = c.in-Ok.ensures.inputs t;
       with = subst (λ (files : Files). BeginsWith (shown_run c.args.run.now).load files c.in-Ok.inputs (start_at machine)) (c.in-Ok.ensures.files t) (c.in-Ok-first_machine.ensures.begins t);
     } in
-    subst (λ (old : Files). RunFiles (shown_run c.args.run.now) old (g.D.Depot.state c.write_all.new.depot).files c.write_all.result) same
-    (files-of-run (shown_run c.args.run.now) (start_in c.in-Ok-begin.course) (g.D.Depot.state c.first_machine.new.depot).files (g.D.Depot.state c.write_all.new.depot).files c.write_all.result
+    subst (λ (old : Files). RunFiles (shown_run c.args.run.now) old (g.D.Depot.state c.begin_and_write.new.depot).files c.begin_and_write.result) same
+    (files-of-run (shown_run c.args.run.now) (start_in c.in-Ok-begin.course) (g.D.Depot.state c.first_machine.new.depot).files (g.D.Depot.state c.begin_and_write.new.depot).files c.begin_and_write.result
     (subst (λ (old : Files). Begins (shown_run c.args.run.now) old (start_in c.in-Ok-begin.course)) (sym same)
     (subst (Begins (shown_run c.args.run.now) (g.D.Depot.state c.args.depot.now).files) (sym c.in-Ok-begin.ensures.start) begins))
-    (c.write_all.ensures.files t))
+    (c.begin_and_write.ensures.files t))
 
 pub returns-in-Err-begin-clause-files : goal.returns-in-Err-begin-clause-files
 returns-in-Err-begin-clause-files g c = λ t.

@@ -7,7 +7,7 @@ use Rattle.md_top.specs.Resuming.{RunsWell}
 use Rattle.md_top.specs.Runs.{state_to}
 use Rattle.md_args.specs.Shown.{shown_run}
 use Rattle.save_state.specs.States.{state_bytes}
-use Rattle.md_top.proofs.Ends.{begun-on, goes-far, state-held, unsaved-leaves}
+use Rattle.md_top.proofs.Ends.{begun-on, fault-leaves, fault-not_memory, goes-far, state-held, state-parts}
 use Rattle.md_top.proofs.Rests.{ends-well}
 use Rattle.md_top.proofs.Segments.{state-found}
 use Rattle.md_top.proofs.run_on.run_on.Goals as goal
@@ -22,6 +22,7 @@ segments-preserved g c = (
   begun-on (shown_run c.args.run.now) (g.D.Depot.state c.segments.depot) (g.D.Depot.state c.run_segment.new.depot) c.args.outputs.now c.run_segment.ensures.goes_on c.segments.invariant.2,
   goes-far (g.D.Depot.state c.args.depot.now) (g.D.Depot.state c.segments.depot) (g.D.Depot.state c.run_segment.new.depot) c.segments.invariant.3 c.run_segment.ensures.goes_on,
   λ t first holds. c.in_default.ensures.files t (start_in c.args.course) first c.segments.invariant.1 (c.segments.invariant.4 t first holds),
+  c.segments.invariant.5,
 )
 
 pub returns-in-Err-clause-files : goal.returns-in-Err-clause-files
@@ -60,7 +61,20 @@ returns-clause-files g c = λ t first holds.
     let at : cycle_of course ≡ c.args.run.now.cycles = omega (arith, c.segments.invariant.0, c.segments-test.false, c.at.ensures) in
     let held : HoldsUntil start (shown_run c.args.run.now) first (g.D.Depot.state c.segments.depot).files c.args.run.now.cycles =
     subst (λ (n : ℕ). HoldsUntil start (shown_run c.args.run.now) first (g.D.Depot.state c.segments.depot).files n) at (c.segments.invariant.4 t first holds) in
-    unsaved-leaves (shown_run c.args.run.now) start first (g.D.Depot.state c.segments.depot) (g.D.Depot.state c.save.new.depot)
-    (state_bytes course.machine.at course.machine.console) c.in-Err-save.ending
+    fault-leaves start (shown_run c.args.run.now) first (g.D.Depot.state c.save.new.depot).files (g.D.Depot.state c.segments.depot) (g.D.Depot.state c.save.new.depot)
+    c.in-Err-save.ending c.in-Err-save.ensures.err
+    (state-parts (shown_run c.args.run.now) start first (g.D.Depot.state c.segments.depot).files (g.D.Depot.state c.save.new.depot).files
+    (state_bytes course.machine.at course.machine.console)
     (state-found start course.machine course.accesses c.segments.invariant.1 (omega (arith, at, c.requires.end.1)) ∙ ap (state_to start) at)
-    c.in-Err-save.ensures.err (c.in-Err-save.ensures.err_files t) held
+    (c.in-Err-save.ensures.err_files t) held)
+
+pub returns-in-Err-clause-memory : goal.returns-in-Err-clause-memory
+returns-in-Err-clause-memory g c =
+    fault-not_memory (shown_run c.args.run.now) (g.D.Depot.state c.segments.depot) (g.D.Depot.state c.run_segment.new.depot) c.in-Err.ending c.in-Err.ensures.err
+
+pub returns-clause-memory : goal.returns-clause-memory
+returns-clause-memory g c =
+    fault-not_memory (shown_run c.args.run.now) (g.D.Depot.state c.segments.depot) (g.D.Depot.state c.save.new.depot) c.in-Err-save.ending c.in-Err-save.ensures.err
+
+pub save-requires-clause-buffers : goal.save-requires-clause-buffers
+save-requires-clause-buffers g c = c.segments.invariant.5

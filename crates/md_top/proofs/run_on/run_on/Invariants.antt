@@ -3,6 +3,7 @@ use Rattle.md_outer.specs.Outside.{Files, GoesOn}
 use Rattle.md_top.specs.Courses.{CameFrom, cycle_of, start_in}
 use Rattle.md_top.specs.Endings.{HoldsUntil}
 use Rattle.md_top.specs.Outputs.{AreBegun}
+use Rattle.md_top.specs.Saves.{CanSave}
 use Rattle.md_args.specs.Shown.{shown_run}
 use Rattle.md_top.proofs.run_on.run_on.Given as goal
 
@@ -16,6 +17,7 @@ invariant-segments g l =
     × (g.D.Depot.told → (first : Files)
     → HoldsUntil (start_in l.initial.course) (shown_run l.run) first (g.D.Depot.state l.initial.depot).files (cycle_of l.initial.course)
     → HoldsUntil (start_in l.initial.course) (shown_run l.run) first (g.D.Depot.state l.depot).files (cycle_of l.course))
+    × CanSave (shown_run l.run) l.buffers
 
 abbrev pub decreases-segments : goal.decreases-segments
 decreases-segments g l = l.run.cycles - cycle_of l.course

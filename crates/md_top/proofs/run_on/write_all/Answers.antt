@@ -1,42 +1,36 @@
 use Rattle.std.proofs.Common.{◌≡◌, ap, subst, sym}
-use Rattle.md_outer.specs.Outside.{Files}
 use Rattle.md_machine.specs.Starts.{Start}
 use Rattle.md_top.specs.Courses.{start_at, start_in}
 use Rattle.md_top.specs.Endings.{HoldsUntil, RunCause, RunLeaves}
 use Rattle.md_args.specs.Shown.{shown_run}
-use Rattle.md_top.proofs.Ends.{begun-on, cause-before, fault-leaves, goes-far, unwritten-leaves}
+use Rattle.md_top.proofs.Ends.{begun-on, cause-before, fault-leaves, fault-not_memory}
 use Rattle.md_top.proofs.run_on.write_all.Goals as goal
 
+pub returns-in-Err-clause-memory : goal.returns-in-Err-clause-memory
+returns-in-Err-clause-memory g c =
+    fault-not_memory (shown_run c.args.run.now) (g.D.Depot.state c.args.depot.now) (g.D.Depot.state c.append_head.new.depot) c.in-Err.ending c.in-Err.ensures.err
+
 pub returns-in-Err-clause-files : goal.returns-in-Err-clause-files
-returns-in-Err-clause-files g c = λ t.
-    unwritten-leaves (start_in c.args.course) (shown_run c.args.run.now) (g.D.Depot.state c.args.depot.now).files (g.D.Depot.state c.begin_all.new.depot).files
-    (g.D.Depot.state c.args.depot.now) (g.D.Depot.state c.begin_all.new.depot) c.in-Err.ending c.in-Err.ensures.err (c.in-Err.ensures.err_files t)
-
-pub returns-in-Err-append_head-clause-files : goal.returns-in-Err-append_head-clause-files
-returns-in-Err-append_head-clause-files g c = λ t.
-    let first : Files = (g.D.Depot.state c.args.depot.now).files in
+returns-in-Err-clause-files g c = λ t first holds.
     fault-leaves (start_in c.args.course) (shown_run c.args.run.now) first (g.D.Depot.state c.append_head.new.depot).files
-    (g.D.Depot.state c.begin_all.new.depot) (g.D.Depot.state c.append_head.new.depot) c.in-Err-append_head.ending c.in-Err-append_head.ensures.err
-    (c.in-Err-append_head.ensures.err_files t first (c.in-Ok.ensures.files t))
+    (g.D.Depot.state c.args.depot.now) (g.D.Depot.state c.append_head.new.depot) c.in-Err.ending c.in-Err.ensures.err
+    (c.in-Err.ensures.err_files t first holds)
 
-pub returns-in-Ok-append_head-clause-cause : goal.returns-in-Ok-append_head-clause-cause
-returns-in-Ok-append_head-clause-cause g c =
+pub returns-in-Ok-clause-cause : goal.returns-in-Ok-clause-cause
+returns-in-Ok-clause-cause g c =
     let same : start_in c.append_head.new.course ≡ start_in c.args.course = ap start_at c.append_head.ensures.machine in
     subst (λ (start : Start). RunCause start (shown_run c.args.run.now) (g.D.Depot.state c.args.depot.now) (g.D.Depot.state c.run_on.new.depot) c.run_on.result) same
     (cause-before (start_in c.append_head.new.course) (shown_run c.args.run.now) (g.D.Depot.state c.args.depot.now) (g.D.Depot.state c.append_head.new.depot)
-    (g.D.Depot.state c.run_on.new.depot) c.run_on.result
-    (goes-far (g.D.Depot.state c.args.depot.now) (g.D.Depot.state c.begin_all.new.depot) (g.D.Depot.state c.append_head.new.depot) c.begin_all.ensures.goes_on c.append_head.ensures.goes_on)
-    c.run_on.ensures.cause)
+    (g.D.Depot.state c.run_on.new.depot) c.run_on.result c.append_head.ensures.goes_on c.run_on.ensures.cause)
 
-pub returns-in-Ok-append_head-clause-files : goal.returns-in-Ok-append_head-clause-files
-returns-in-Ok-append_head-clause-files g c = λ t.
-    let first : Files = (g.D.Depot.state c.args.depot.now).files in
+pub returns-in-Ok-clause-files : goal.returns-in-Ok-clause-files
+returns-in-Ok-clause-files g c = λ t first holds.
     let same : start_in c.append_head.new.course ≡ start_in c.args.course = ap start_at c.append_head.ensures.machine in
     subst (λ (start : Start). RunLeaves start (shown_run c.args.run.now) first (g.D.Depot.state c.run_on.new.depot).files c.run_on.result) same
     (c.run_on.ensures.files t first
     (subst (λ (start : Start). HoldsUntil start (shown_run c.args.run.now) first (g.D.Depot.state c.append_head.new.depot).files start.at) (sym same)
-    (c.in-Ok-append_head.ensures.files t first (c.in-Ok.ensures.files t))))
+    (c.in-Ok.ensures.files t first holds)))
 
 pub run_on-requires-clause-begun : goal.run_on-requires-clause-begun
 run_on-requires-clause-begun g c =
-    begun-on (shown_run c.args.run.now) (g.D.Depot.state c.begin_all.new.depot) (g.D.Depot.state c.append_head.new.depot) c.in-Ok.outputs c.append_head.ensures.goes_on c.in-Ok.ensures.begun
+    begun-on (shown_run c.args.run.now) (g.D.Depot.state c.args.depot.now) (g.D.Depot.state c.append_head.new.depot) c.args.outputs.now c.append_head.ensures.goes_on c.requires.begun
