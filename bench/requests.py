@@ -6,8 +6,8 @@
 The commands, all if none is named: run, resume, demo, debug, rollback, asm, vgm, play. A library that is put before the
 C library's refuses the request of one number, 0 first, and no other, until a command ends as it does where none is
 refused. Then each request before that one was refused alone, and must have ended with status 10 and its line, for `debug`
-behind the replies to the lines that were obeyed; with outputs that are as they were, or are begun and empty, or for a
-state that wants memory behind the run are all there but for that state; and with inputs that have not changed.
+behind the replies to the lines that were obeyed; with outputs that are as they were, or are begun and empty; and with
+inputs that have not changed.
 
 The C compiler `cc` is needed. Each command prints how many requests it made and what was wrong. The status is 0 where
 nothing was, 1 where something was, and 2 where the compiler or the program is missing.
@@ -97,17 +97,11 @@ def contents(folder):
     return {path.name: path.read_bytes() for path in folder.iterdir() if path.is_file()}
 
 
-def is_left(name, found, whole):
-    """Whether an output is as it was, or is begun and empty."""
-    return found[name] in (OLD, b"")
-
-
 def files_wrong(found, whole, outputs):
     """What is wrong with the files behind a refusal, or nothing."""
     if any(found[name] != whole[name] for name in whole if name not in outputs):
         return "an input has changed"
-    is_behind = outputs == "fsjt" and found["t"] == b"" and all(found[name] == whole[name] for name in "fsj")
-    if is_behind or all(is_left(name, found, whole) for name in outputs):
+    if all(found[name] in (OLD, b"") for name in outputs):
         return ""
     return "outputs that are neither as they were nor empty"
 
