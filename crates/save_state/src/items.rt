@@ -56,6 +56,7 @@ fn is_holder(holder: u8, stage: u8) -> bool
 
 /// Whether the FM chip's writes that the bytes keep stand well before the next events of their
 /// processors; where there is none nothing else is read. Bytes that keep no port are refused elsewhere.
+#[inline(never)]
 fn are_fm_writes_early(alloc: Global, bytes: &[u8], at: u64) -> bool
     requires whole { length bytes.now ≡ state_size }
     requires cycle { at ≡ at_of bytes.now }
@@ -74,6 +75,7 @@ fn are_fm_writes_early(alloc: Global, bytes: &[u8], at: u64) -> bool
 }
 
 /// The same of the PSG's writes.
+#[inline(never)]
 fn are_psg_writes_early(alloc: Global, bytes: &[u8], at: u64) -> bool
     requires whole { length bytes.now ≡ state_size }
     requires cycle { at ≡ at_of bytes.now }
@@ -91,6 +93,7 @@ fn are_psg_writes_early(alloc: Global, bytes: &[u8], at: u64) -> bool
 }
 
 /// The 68000.
+#[inline(never)]
 pub fn read_main(alloc: Global, bytes: &[u8], at: u64, cart: Arc<Cart>) -> Result<Chip68, Unspell>
     requires whole { length bytes.now ≡ state_size }
     requires cycle { at ≡ at_of bytes.now }
@@ -100,6 +103,7 @@ pub fn read_main(alloc: Global, bytes: &[u8], at: u64, cart: Arc<Cart>) -> Resul
 }
 
 /// The Z80, with its RAM where the holder is 0.
+#[inline(never)]
 pub fn read_sub(alloc: Global, bytes: &[u8], at: u64, cart: Arc<Cart>) -> Result<Chip80, Unspell>
     requires whole { length bytes.now ≡ state_size }
     requires cycle { at ≡ at_of bytes.now }
@@ -113,6 +117,7 @@ pub fn read_sub(alloc: Global, bytes: &[u8], at: u64, cart: Arc<Cart>) -> Result
 }
 
 /// The board of a region, with the Z80's RAM where the holder is 1.
+#[inline(never)]
 pub fn read_shared(
     alloc: Global,
     bytes: &[u8],
@@ -140,6 +145,7 @@ pub fn read_shared(
 }
 
 /// The drawing half of the VDP, of a region.
+#[inline(never)]
 pub fn read_drawing(alloc: Global, bytes: &[u8], at: u64, pal: bool) -> Result<ChipVdp, Unspell>
     requires whole { length bytes.now ≡ state_size }
     requires cycle { at ≡ at_of bytes.now }
