@@ -397,7 +397,7 @@ def memory_wrong(folder, status, text, whole):
         return "" if made == whole else "another whole run"
     if (status, text) != (10, "refused: memory\n"):
         return f"status {status} with {text!r}"
-    return "files that are not empty" if any(made.values()) else ""
+    return "" if not any(made.values()) else "files that are not empty"
 
 
 def within(folder, kind):
