@@ -178,9 +178,24 @@ impl<C: ChipSet, N: Named, L0: Ledger, L1: Ledger, L2: Ledger, L3: Ledger, L4: L
         requires whole { (L0.parts ≡ 1) × (L1.parts ≡ 1) × (L2.parts ≡ 1) × (L3.parts ≡ 1) × (L4.parts ≡ 1) }
     {
         let mut one = Helds::none();
-        if desk.take_waiting(rt, &mut one, worker) {
-            self.wait_turn(rt, &mut one, gate);
-            desk.lay_done(rt, &mut one, worker);
+        self.begin_with(rt, desk, &mut one, worker, gate);
+    }
+
+    /// The same with a holder in which no work is due.
+    fn begin_with<R: Wait, G: Gate>(
+        &self,
+        rt: &R,
+        desk: &Desk<C, N, L0, L1, L2, L3, L4>,
+        one: &mut Helds<C, N, L0, L1, L2, L3, L4>,
+        worker: u8,
+        gate: &G,
+    )
+        requires free { AllFree one.old }
+        requires whole { (L0.parts ≡ 1) × (L1.parts ≡ 1) × (L2.parts ≡ 1) × (L3.parts ≡ 1) × (L4.parts ≡ 1) }
+    {
+        if desk.take_waiting(rt, one, worker) {
+            self.wait_turn(rt, one, gate);
+            desk.lay_done(rt, one, worker);
         }
     }
 

@@ -403,16 +403,35 @@ impl<C: ChipSet, N: Named, L0: Ledger, L1: Ledger, L2: Ledger, L3: Ledger, L4: L
         false
     }
 
+    /// Does private work that is due, if there is any; answers what was found.
+    fn do_first<R: Wait>(&self, rt: &R) -> Found {
+        let mut one = Helds::none();
+        self.do_with(rt, &mut one)
+    }
+
+    /// The same with a holder in which no work is due.
+    fn do_with<R: Wait>(&self, rt: &R, one: &mut Helds<C, N, L0, L1, L2, L3, L4>) -> Found
+        requires { AllFree one.old }
+        ensures { AllFree one.new }
+    {
+        let found = self.take_first(rt, one);
+        match found {
+            Found::Chip(chip) => {
+                one.settle(chip);
+                self.lay_done(rt, one, chip);
+            }
+            Found::Nothing => {}
+            Found::Over => {}
+        }
+        found
+    }
+
     /// Does due private work until no more comes, and runs errands where none is due.
     pub(crate) fn help<R: Wait>(&self, rt: &R, errands: &Option<C::Errands>) {
         for _ in rt.forever() {
             let seen = self.changes.load(Ordering::SeqCst);
-            let mut one = Helds::none();
-            match self.take_first(rt, &mut one) {
-                Found::Chip(chip) => {
-                    one.settle(chip);
-                    self.lay_done(rt, &mut one, chip);
-                }
+            match self.do_first(rt) {
+                Found::Chip(_) => {}
                 Found::Nothing => {
                     if !run_errand::<C, R>(rt, errands) {
                         self.wait_for_change(rt, seen, errands);
