@@ -4,7 +4,8 @@ ghost use Rattle.md_word.specs.Coding.{flag_number};
 ghost use Rattle.md_fields.specs.Items.{IsRight, Keeps};
 ghost use Rattle.psg_sound.specs.PortSpelling as psg_spelling;
 ghost use Rattle.z80_parcel.specs.Parcels.{IsStore, store_of};
-ghost use Rattle.bus_shared.specs.Board.{AreBytes, Board};
+ghost use Rattle.psg_sound.specs.Port.{IsPort};
+ghost use Rattle.bus_shared.specs.Board.{AreBytes, Board, IsFewFm};
 ghost use Rattle.bus_shared.specs.Saved.{AreFalls, board_from, lines_fields, lines_of};
 ghost use Rattle.std.specs.Arc.{arc_value};
 ghost use Rattle.bus_shared.specs.Spelling.{GoesWrongAt, IsReady, PortsGoWrongAt, Spells, StoreGoesWrongAt, behind as place_behind, board_bytes, board_size, lines_bytes, settled_board, store_bytes};
@@ -40,8 +41,8 @@ const PSG: usize = 10_242;
 /// The ports of the sound chips, and the lines and the pads.
 #[derive(Drop)]
 struct Ports {
-    fm: FmPort,
-    psg: PsgPort,
+    fm: Box<FmPort>,
+    psg: Box<PsgPort>,
     lines: SavedLines,
 }
 
@@ -179,13 +180,15 @@ fn board_of(
     recording: Arc<Recording>,
     parcel: Option<Parcel>,
     vdp: VdpState,
-    fm: FmPort,
-    psg: PsgPort,
+    fm: Box<FmPort>,
+    psg: Box<PsgPort>,
     lines: SavedLines,
 ) -> Result<Shared, NoMemory>
     requires store { IfSome (option_map store_of parcel) IsStore }
     requires falls { AreFalls lines }
-    ensures { IfOk result (λ shared. shared ≡ board_from (arc_value recording) (option_map store_of parcel) vdp fm psg lines) }
+    requires fm { IsFewFm fm.value.writes }
+    requires psg { IsPort psg.value }
+    ensures { IfOk result (λ shared. shared ≡ board_from (arc_value recording) (option_map store_of parcel) vdp fm.value psg.value lines) }
 {
     are_bytes(&vdp.registers);
     Ok(Shared {
@@ -193,8 +196,8 @@ fn board_of(
         pads: (lines.pads1, lines.pads2),
         port1: PadPort::with(lines.value1, lines.control1, lines.count1, lines.fall1),
         port2: PadPort::with(lines.value2, lines.control2, lines.count2, lines.fall2),
-        psg: Box::new(alloc, psg)?,
-        fm: Box::new(alloc, fm)?,
+        psg,
+        fm,
         request: lines.bus_request == 1,
         reset: lines.reset == 1,
         resets: lines.resets,
@@ -257,23 +260,70 @@ fn held_in(alloc: Global, store: &[u8]) -> Result<Parcel, Unspell>
     Ok(parcel_of(alloc, ram, bank)?)
 }
 
+/// The FM chip's port that bytes keep. It lies on the stack here alone.
+#[inline(never)]
+fn fm_in(alloc: Global, bytes: &[u8], at: u64) -> Result<Box<FmPort>, Unspell>
+    requires { at ≤ 2 ^ 50 }
+    ensures found { IfOk result (λ port. fm_spelling.SpellsPort at bytes.now port.value) }
+    ensures few { IfOk result (λ port. IsFewFm port.value.writes) }
+    ensures right { IfOk result (λ port. (place : ℕ) → fm_spelling.PortGoesWrongAt at bytes.now place → ⊥) }
+    ensures rule { (place : ℕ) → IsErrOf result (Unspell.Rule place) → fm_spelling.PortGoesWrongAt at bytes.now place }
+{
+    match FmPort::unspell(alloc, bytes, at) {
+        Ok(port) => match Box::new(alloc, port) {
+            Ok(port) => Ok(port),
+            Err(_) => Err(Unspell::NoMemory),
+        },
+        Err(fault) => Err(fault),
+    }
+}
+
+/// The PSG's port that bytes keep, made in its place.
+fn psg_in(alloc: Global, bytes: &[u8], at: u64) -> Result<Box<PsgPort>, Unspell>
+    ensures found { IfOk result (λ port. psg_spelling.SpellsPort at bytes.now port.value) }
+    ensures port { IfOk result (λ port. IsPort port.value) }
+    ensures right { IfOk result (λ port. (place : ℕ) → psg_spelling.PortGoesWrongAt at bytes.now place → ⊥) }
+    ensures rule { (place : ℕ) → IsErrOf result (Unspell.Rule place) → psg_spelling.PortGoesWrongAt at bytes.now place }
+{
+    match Box::new(alloc, PsgPort::power_on()) {
+        Ok(port) => restored(port, bytes, at),
+        Err(_) => Err(Unspell::NoMemory),
+    }
+}
+
+/// A port that is made the one that bytes keep.
+fn restored(port: Box<PsgPort>, bytes: &[u8], at: u64) -> Result<Box<PsgPort>, Unspell>
+    ensures found { IfOk result (λ port. psg_spelling.SpellsPort at bytes.now port.value) }
+    ensures port { IfOk result (λ port. IsPort port.value) }
+    ensures right { IfOk result (λ port. (place : ℕ) → psg_spelling.PortGoesWrongAt at bytes.now place → ⊥) }
+    ensures rule { (place : ℕ) → IsErrOf result (Unspell.Rule place) → psg_spelling.PortGoesWrongAt at bytes.now place }
+{
+    let mut port = port;
+    match port.restore(bytes, at) {
+        Ok(()) => Ok(port),
+        Err(fault) => Err(fault),
+    }
+}
+
 /// The ports, and the lines and the pads, that 22,594 bytes keep.
 fn ports_in(alloc: Global, bytes: &[u8], at: u64) -> Result<Ports, Unspell>
     requires cycle { at ≤ 2 ^ 50 }
     requires length { length bytes.now ≡ 22594 }
-    ensures fm { IfOk result (λ ports. fm_spelling.SpellsPort at (take 12316 bytes.now) ports.fm) }
-    ensures psg { IfOk result (λ ports. psg_spelling.SpellsPort at (take 10242 (drop 12316 bytes.now)) ports.psg) }
+    ensures fm { IfOk result (λ ports. fm_spelling.SpellsPort at (take 12316 bytes.now) ports.fm.value) }
+    ensures psg { IfOk result (λ ports. psg_spelling.SpellsPort at (take 10242 (drop 12316 bytes.now)) ports.psg.value) }
+    ensures few { IfOk result (λ ports. IsFewFm ports.fm.value.writes) }
+    ensures port { IfOk result (λ ports. IsPort ports.psg.value) }
     ensures lines { IfOk result (λ ports. Keeps (lines_fields at) (drop 10242 (drop 12316 bytes.now)) ports.lines × IsRight (lines_fields at) ports.lines) }
     ensures rule { (place : ℕ) → IsErrOf result (Unspell.Rule place)
         → PortsGoWrongAt at 0 (take 12316 bytes.now) (take 10242 (drop 12316 bytes.now)) (drop 10242 (drop 12316 bytes.now)) place }
 {
     let (fm, rest) = bytes.split_at(FM);
-    let fm = match FmPort::unspell(alloc, fm, at) {
+    let fm = match fm_in(alloc, fm, at) {
         Ok(fm) => fm,
         Err(fault) => return Err(fault),
     };
     let (psg, rest) = rest.split_at(PSG);
-    let psg = match PsgPort::unspell(alloc, psg, at) {
+    let psg = match psg_in(alloc, psg, at) {
         Ok(psg) => psg,
         Err(fault) => return Err(behind(FM as u64, fault)),
     };

@@ -1,6 +1,7 @@
 ghost use Rattle.std.specs.Prelude.{◌≡◌, ◌≢◌, ◌↔◌, ◌+◌, ◌≤◌, ◌++◌, ℕ, List, [], map, true, vec_len, vec_capacity, IfErr, IfOk, IsErrOf, Ok, Err};
 ghost use Rattle.md_fields.specs.Items.{IsRight, Keeps};
 ghost use Rattle.sound_writes.specs.Keys.{are_kept};
+ghost use Rattle.psg_sound.specs.Port.{IsPort};
 ghost use Rattle.psg_sound.specs.PortSpelling.{PortGoesWrongAt, SpellsPort, key_of, port_bytes};
 ghost use Rattle.psg_sound.specs.SynthSpelling.{SpellsSynth, SynthGoesWrongAt, saved_synth_of, synth_bytes, synth_fields};
 ghost use Rattle.psg_sound.specs.Synth.{Synth};
@@ -70,6 +71,7 @@ impl PsgPort {
         ensures rule { (place : ℕ) → IsErrOf result (Unspell.Rule place) ↔ PortGoesWrongAt at bytes.now place }
         ensures memory { result ≢ Err Unspell.NoMemory }
         ensures empty { IfErr result (λ fault. self.new ≡ []) }
+        ensures port { IsPort self.new }
     {
         match port_of(bytes, at, &mut self.writes) {
             Ok(()) => Ok(()),

@@ -81,12 +81,12 @@ returns-clause-found c =
     let back : c.split_at-2.result.1.now ≡ drop 65813 (drop (store_length bytes) bytes) = c.split_at-2.ensures.back ∙ ap (drop 65813) c.split_at.ensures.back in
     let made = c.in_ok-board_of.ensures {u = tt} in (
       subst (Spells c.args.at c.args.pal bytes) (sym made)
-          (whole c.args.at c.args.pal bytes (arc_value c.args.recording) (option_map store_of c.in-Ok.parcel) c.in-Ok-unspell.vdp ports.fm ports.psg ports.lines (record {
+          (whole c.args.at c.args.pal bytes (arc_value c.args.recording) (option_map store_of c.in-Ok.parcel) c.in-Ok-unspell.vdp ports.fm.value ports.psg.value ports.lines (record {
             store_is = sym c.split_at.ensures.front ∙ c.in-Ok.ensures.found.0;
             store_fits = c.in-Ok.ensures.found.1;
             vdp_is = subst (λ (l : List ℕ). vdp_spelling.Spells c.args.at c.args.pal l c.in-Ok-unspell.vdp) front c.in-Ok-unspell.ensures.found;
-            fm_is = subst (λ (l : List ℕ). fm_spelling.SpellsPort c.args.at (take 12316 l) ports.fm) back c.in-Ok-ports_in.ensures.fm;
-            psg_is = subst (λ (l : List ℕ). psg_spelling.SpellsPort c.args.at (take 10242 (drop 12316 l)) ports.psg) back c.in-Ok-ports_in.ensures.psg;
+            fm_is = subst (λ (l : List ℕ). fm_spelling.SpellsPort c.args.at (take 12316 l) ports.fm.value) back c.in-Ok-ports_in.ensures.fm;
+            psg_is = subst (λ (l : List ℕ). psg_spelling.SpellsPort c.args.at (take 10242 (drop 12316 l)) ports.psg.value) back c.in-Ok-ports_in.ensures.psg;
             lines_are = subst (λ (l : List ℕ). Keeps (lines_fields c.args.at) (drop 10242 (drop 12316 l)) ports.lines) back c.in-Ok-ports_in.ensures.lines.0;
             lines_right = c.in-Ok-ports_in.ensures.lines.1;
           })),

@@ -18,3 +18,6 @@ returns-in-Err-clause-only c = λ port spells. absurd (right_nowhere c.args.at c
 
 pub returns-in-Err-clause-rule : goal.returns-in-Err-clause-rule
 returns-in-Err-clause-rule c = told_wrong (PortGoesWrongAt c.args.at c.args.bytes.now) c.in-Err.place c.in-Err.ensures.refused (wrong_once c.args.at c.args.bytes.now)
+
+pub returns-in-Ok-clause-port : goal.returns-in-Ok-clause-port
+returns-in-Ok-clause-port c = port_sound c.args.at c.args.bytes.now _ c.in-Ok.ensures.found
