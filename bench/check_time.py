@@ -1,16 +1,18 @@
 #!/usr/bin/env python3
-"""Processor seconds of the checks, by crate.
+"""Processor seconds and peak memory of the checks, by crate.
 
     bench/check_time.py [--test] [NAME..]     each crate's check from nothing, all crates if none is named
+    bench/check_time.py --modules NAME..      the same, with the seconds of the functions that take most of them
     bench/check_time.py --watch COMMAND..     a whole run, as of `rt ci --anew`, by crate and kind
-    bench/check_time.py --log FILE            the sums of an earlier output of either
+    bench/check_time.py --log FILE            the sums of an earlier output of the first or the third
+    bench/check_time.py --chain FILE          the longest chain of proofs of an earlier output, crate by crate
 
-The first works on a copy of the repository, so that it leaves what is kept as it is; `--test` checks
-each crate with its tests. The second looks four times a second at the processes of the run, and so
-misses up to a quarter of a second of each; its last line tells how much of the time in which processors
-were wanted the host gave to others. A busy machine adds up to a fifth. Seconds of a host whose caches others
-fill count for less: there a check of much memory was seen to take three times those of a quiet one, and one of
-little memory a quarter more.
+The first two work on a copy of the repository, so that they leave what is kept as it is; `--test` checks
+each crate with its tests. The third looks four times a second at the processes of the run, and so
+misses up to a quarter of a second of each; it gives the peak memory of the largest process of a kind in MB.
+Its last line tells how much of the time in which processors were wanted the host gave to others. A busy
+machine adds up to a fifth. Seconds of a host whose caches others fill count for less: there a check of much
+memory was seen to take three times those of a quiet one, and one of little memory a quarter more.
 """
 import collections
 import os
@@ -60,7 +62,7 @@ def renamed(top, crate, libraries):
     return folder
 
 
-def measure(names, flags):
+def measure(names, flags, modules):
     libraries = crates(TOP)
     for crate in names or libraries:
         with tempfile.TemporaryDirectory() as name:
@@ -72,20 +74,36 @@ def measure(names, flags):
             for library in libraries[crate]:
                 if library in libraries:
                     run(top / "crates" / library, "rt", "lib")
-            yield crate, "check" + "".join(flags), run(folder, "rt", "check", "--jobs", "1", *flags)
+            begin = time.time()
+            yield crate, "check" + "".join(flags), run(folder, "rt", "check", "--jobs", "1", *flags), 0
+            if modules:
+                yield from functions(folder, crate, begin)
+
+
+def functions(folder, crate, begin):
+    """The seconds of each function's modules, which are checked one after the other: by the times of their files."""
+    files = (folder / "out/incremental").rglob(f"Rattle-timed_{crate}*.oantt")
+    ended = sorted((file.stat().st_mtime, file.name) for file in files)
+    sums = collections.Counter()
+    for (then, _), (now, name) in zip([(begin, ""), *ended], ended):
+        path = name.removesuffix(".oantt").split(".")
+        sums[".".join(path[1:-1]) or path[-1]] += now - then
+    for path, seconds in sums.most_common(20):
+        yield f"  {path}", "function", seconds, 0
 
 
 def processes():
-    """Of each process the parent, the start, the processor seconds and the words."""
+    """Of each process the parent, the start, the processor seconds, the words and the peak memory in MB."""
     found = {}
     for folder in pathlib.Path("/proc").glob("[0-9]*"):
         try:
             fields = (folder / "stat").read_text().rsplit(")", 1)[1].split()
             words = (folder / "cmdline").read_text().split("\0")
+            peak = re.search(r"VmHWM:\s+(\d+)", (folder / "status").read_text())
         except (OSError, IndexError):
             continue
         seconds = (int(fields[11]) + int(fields[12])) / TICK
-        found[int(folder.name)] = int(fields[1]), int(fields[19]), seconds, words
+        found[int(folder.name)] = int(fields[1]), int(fields[19]), seconds, words, int(peak[1]) // 1024 if peak else 0
     return found
 
 
@@ -116,39 +134,63 @@ def watch(command):
     while job.poll() is None:
         found = processes()
         for pid in below(job.pid, found):
-            _, start, seconds, words = found[pid]
+            _, start, seconds, words, peak = found[pid]
             if "--crate-name" in words:
                 crate = words[words.index("--crate-name") + 1]
-                seen[pid, start] = crate, kind_of(words), seconds
+                seen[pid, start] = crate, kind_of(words), seconds, max(peak, seen.get((pid, start), (0,))[-1])
         time.sleep(0.25)
-    sums = collections.Counter()
-    for crate, kind, seconds in seen.values():
+    sums, peaks = collections.Counter(), collections.Counter()
+    for crate, kind, seconds, peak in seen.values():
         sums[crate, kind] += seconds
+        peaks[crate, kind] = max(peaks[crate, kind], peak)
     for (crate, kind), seconds in sorted(sums.items()):
-        yield crate, kind, seconds
+        yield crate, kind, seconds, peaks[crate, kind]
 
 
 def read(file):
     for line in pathlib.Path(file).read_text().splitlines():
-        if row := re.fullmatch(r"(\w+) +(\S+) +(\d+\.\d)", line):
+        if row := re.fullmatch(r"(\w+) +(\S+) +(\d+\.\d)(?: +(\d+) MB)?", line):
             if row[2] != "all":
-                yield row[1], row[2], float(row[3])
+                yield row[1], row[2], float(row[3]), int(row[4] or 0)
+
+
+def chain(file):
+    """Prints the chain of crates whose proofs wait for one another longest, with the seconds of each."""
+    libraries, proofs = crates(TOP), collections.Counter()
+    for crate, kind, seconds, _ in read(file):
+        if kind in ("build", "check"):
+            proofs[crate] += seconds
+    ends = {}
+
+    def end_of(crate):
+        if crate not in ends:
+            below = max((end_of(library) for library in libraries[crate] if library in libraries), default=(0, []))
+            ends[crate] = below[0] + proofs[crate], [*below[1], crate]
+        return ends[crate]
+
+    _, longest = max(end_of(crate) for crate in libraries)
+    for crate in longest:
+        print(f"{crate:<16} {proofs[crate]:8.1f} {ends[crate][0]:8.1f}")
 
 
 def main():
     words = sys.argv[1:]
+    if words[:1] == ["--chain"]:
+        chain(words[1])
+        return
     if words[:1] == ["--log"]:
         rows = read(words[1])
     elif words[:1] == ["--watch"]:
         before = worked_and_stolen()
         rows = watch(words[1:])
     else:
-        flags = [word for word in words if word.startswith("--")]
-        rows = measure([word for word in words if not word.startswith("--")], flags)
+        flags = [word for word in words if word.startswith("--") and word != "--modules"]
+        rows = measure([word for word in words if not word.startswith("--")], flags, "--modules" in words)
     sums = collections.Counter()
-    for crate, kind, seconds in rows:
-        print(f"{crate:<16} {kind:<14} {seconds:8.1f}", flush=True)
-        sums[crate] += seconds
+    for crate, kind, seconds, peak in rows:
+        print(f"{crate:<16} {kind:<14} {seconds:8.1f}" + (f" {peak:6} MB" if peak else ""), flush=True)
+        if kind != "function":
+            sums[crate] += seconds
     for crate, seconds in sorted(sums.items()):
         print(f"{crate:<16} {'all':<14} {seconds:8.1f}")
     print(f"{'all':<16} {'all':<14} {sum(sums.values()):8.1f}")
