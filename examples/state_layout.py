@@ -1,4 +1,4 @@
-"""Where the fields of a saved state stand: docs/MANUAL.md, section "Saved state"."""
+"""Where the fields of a saved state stand: docs/STATES.md."""
 import faults
 
 LENGTH = 393_620
