@@ -49,12 +49,30 @@ pub fn rgb_of(scene: &Scene, colour: usize, shade: Shade) -> Rgb
     }
 }
 
-/// The bytes of a colour, and one that no dot shows: so a dot is written at once.
+/// The three levels of a colour of the colour memory, red the lowest byte.
 #[inline(always)]
-fn entry_of(colour: Rgb) -> [u8; 4]
-    ensures { result ≡ entry_of colour }
+fn levels_of(word: u16) -> u32
+    ensures { result ≡ word / 2 % 8 + word / 32 % 8 * 256 + word / 512 % 8 * 65536 }
 {
-    [colour.red, colour.green, colour.blue, 0]
+    let word = u32::from(word);
+    word / 2 % 8 + word / 32 % 8 * 256 + word / 512 % 8 * 65536
+}
+
+/// The bytes of a colour in a shade, and one that no dot shows, so that a dot is written at once. All
+/// three levels are multiplied at once: none comes to more than 252.
+#[inline(always)]
+#[tactic(auto, unfolding(crate::specs::Mixing::rgb_of))]
+fn entry_of(scene: &Scene, colour: usize, shade: Shade) -> [u8; 4]
+    requires { colour < 64 }
+    ensures { result ≡ entry_of (rgb_of (seen scene.now) (at_shade colour shade)) }
+{
+    let levels = levels_of(scene.cram[colour]);
+    let bytes = match shade {
+        Shade::Shadow => 18 * levels,
+        Shade::Normal => 36 * levels,
+        Shade::Highlight => 0x7e_7e7e + 18 * levels,
+    };
+    bytes.to_le_bytes()
 }
 
 /// The colours that the line can show: the 64 in shadow, normal and highlighted, or, without shadow
@@ -92,6 +110,6 @@ fn fill_shade(scene: &Scene, shade: Shade, from: usize, table: &mut [[u8; 4]; 19
     ensures before { (n : ℕ) → n < from → slice_index_or table.new n [] ≡ slice_index_or table.old n [] }
 {
     for n in 0..64 {
-        table[from + n] = entry_of(rgb_of(scene, n, shade));
+        table[from + n] = entry_of(scene, n, shade);
     }
 }

@@ -1,5 +1,6 @@
 ghost use Rattle.std.specs.Prelude.{◌≡◌, ℕ, ◌+◌, ◌*◌, ◌/◌, ◌%◌, ◌<◌, ◌≤◌, Bool, length, max, if◌then◌else◌};
-ghost use Rattle.vdp_planes.specs.Mixing.{base_shade, behind, brighter, index_of, is_opaque, shaded, shaded_sprite, at_shade, sprite_leads, unshaded};
+ghost use Rattle.vdp_planes.specs.Mixing.{base_shade, behind, index_of, is_opaque, shaded, shaded_sprite, shade_number, at_shade, sprite_leads, unshaded};
+ghost use Rattle.vdp_planes.specs.declared.colours.Shade.{Shade as TheShade};
 ghost use Rattle.vdp_planes.specs.Ranks.{behind_key, rank_key};
 
 use crate::colours::Shade;
@@ -58,49 +59,40 @@ pub fn index_of(colour: u8, shade: Shade) -> u8
     }
 }
 
-/// The shade of planes and backdrop: the priority of either plane lifts the shadow.
+/// The place in the table of the shade of planes and backdrop: the priority of either plane lifts the
+/// shadow.
 #[inline(always)]
 #[tactic(auto, unfolding(crate::specs::Mixing::base_shade))]
-fn base_shade(a: Dot, b: Dot) -> Shade
-    ensures { result ≡ base_shade a b }
+fn base_place(a: Dot, b: Dot) -> u16
+    ensures value { result ≡ 64 * shade_number (base_shade a b) }
+    ensures below { result ≤ 64 }
 {
-    if a.priority() || b.priority() {
-        Shade::Normal
-    } else {
-        Shade::Shadow
-    }
+    if a.priority() || b.priority() { 64 } else { 0 }
 }
 
-/// One step brighter.
+/// The index of what a sprite in front shows over the colour `under`, where the planes' shade stands at
+/// `base` in the table.
 #[inline(always)]
-fn brighter(shade: Shade) -> Shade
-    ensures { result ≡ brighter shade }
-{
-    match shade {
-        Shade::Shadow => Shade::Normal,
-        Shade::Normal | Shade::Highlight => Shade::Highlight,
-    }
-}
-
-/// The index of what a sprite in front shows over the colour `under`.
-#[inline(always)]
-#[tactic(auto, unfolding(crate::specs::Mixing::shaded_sprite))]
-fn shaded_sprite(under: u8, base: Shade, s: Dot) -> u8
+#[tactic(auto, unfolding(crate::specs::Mixing::index_of, crate::specs::Mixing::shaded_sprite))]
+fn shaded_sprite(under: u16, base: u16, s: Dot) -> u16
     requires under { under < 64 }
+    requires base { base ≤ 64 }
     requires s { s.colour < 64 }
-    ensures value { result ≡ index_of (shaded_sprite under base s) }
+    ensures value { (shade : TheShade) → base ≡ 64 * shade_number shade → result ≡ index_of (shaded_sprite under shade s) }
     ensures below { result < 192 }
 {
-    match s.colour() {
-        62 => index_of(under, brighter(base)),
-        63 => index_of(under, Shade::Shadow),
-        colour => {
-            if s.priority() || colour % 16 == 14 {
-                index_of(colour, Shade::Normal)
-            } else {
-                index_of(colour, base)
-            }
-        }
+    let colour = s.word() % 64;
+    let own = if s.priority() || colour % 16 == 14 {
+        64
+    } else {
+        base
+    };
+    if colour == 62 {
+        under + base + 64
+    } else if colour == 63 {
+        under
+    } else {
+        colour + own
     }
 }
 
@@ -115,10 +107,11 @@ pub fn shaded(back: u8, a: Dot, b: Dot, s: Dot) -> u8
     ensures below { result < 192 }
 {
     let key = behind_key(back, a, b);
-    let base = base_shade(a, b);
+    let under = key % 64;
+    let base = base_place(a, b);
     if key < rank_key(s, 3) {
-        shaded_sprite((key % 64) as u8, base, s)
+        shaded_sprite(under, base, s) as u8
     } else {
-        index_of((key % 64) as u8, base)
+        (under + base) as u8
     }
 }

@@ -1,7 +1,7 @@
 ghost use Rattle.std.specs.Prelude.{◌≡◌, ℕ, ◌+◌, ◌-◌, ◌*◌, ◌/◌, ◌%◌, ◌<◌, ◌≤◌, [], length, slice_index, slice_index_or};
 ghost use Rattle.vdp_planes.specs.View.{AllColours, IsFilled, register, seen};
 ghost use Rattle.vdp_planes.specs.Planes.{width_of};
-ghost use Rattle.vdp_planes.specs.Mixing.{IsSpan, back_at, backdrop, backdrop_byte, in_picture, index_at, index_of, line_byte, mixed_at, part, printed_byte, shaded_at, unshaded_at};
+ghost use Rattle.vdp_planes.specs.Mixing.{IsPrinted, IsSpan, back_at, backdrop, backdrop_byte, in_picture, index_at, index_of, line_byte, mixed_at, part, printed_byte, shaded_at, unshaded_at};
 
 use crate::colours::{Rgb, Shade, fill_shown, rgb_of};
 use crate::mix::{index_of, shaded, unshaded};
@@ -205,20 +205,38 @@ fn fill_unshaded(
     }
 }
 
-/// Writes the bytes of the colours of these indices. Each dot but the last is written with one byte
-/// more, in whose place the next dot's first then stands.
+/// Writes the bytes of the colours of these indices, four dots at a time. Each dot but the last is
+/// written with one byte more, in whose place the next dot's first then stands.
 fn print(table: &[[u8; 4]; 192], line: &[u8; 320], rgb: &mut [u8])
     requires indices { (x : ℕ) → x < 320 → slice_index line.now x < 192 }
     requires entries { (x : ℕ) → x < 320 → length (slice_index_or table.now (slice_index line.now x) []) ≡ 4 }
     requires room { length rgb.old ≡ 960 }
     ensures { (n : ℕ) → n < 960 → slice_index rgb.new n ≡ printed_byte table.now line.now n }
 {
-    for x in 0..319 {
-        let dot = table[usize::from(line[x])];
-        rgb[3 * x..3 * x + 4].copy_from_slice(&dot);
+    for x in 0..79 {
+        print_dot(table, line, 4 * x, rgb);
+        print_dot(table, line, 4 * x + 1, rgb);
+        print_dot(table, line, 4 * x + 2, rgb);
+        print_dot(table, line, 4 * x + 3, rgb);
     }
+    print_dot(table, line, 316, rgb);
+    print_dot(table, line, 317, rgb);
+    print_dot(table, line, 318, rgb);
     let [red, green, blue, _] = table[usize::from(line[319])];
     rgb[957] = red;
     rgb[958] = green;
     rgb[959] = blue;
+}
+
+/// Writes the bytes of the next dot, behind those that stand, and one more.
+#[inline(always)]
+fn print_dot(table: &[[u8; 4]; 192], line: &[u8; 320], x: usize, rgb: &mut [u8])
+    requires indices { (x : ℕ) → x < 320 → slice_index line.now x < 192 }
+    requires entries { (x : ℕ) → x < 320 → length (slice_index_or table.now (slice_index line.now x) []) ≡ 4 }
+    requires within { x < 319 }
+    requires printed { IsPrinted table.now line.now x rgb.old }
+    ensures { IsPrinted table.now line.now (x + 1) rgb.new }
+{
+    let dot = table[usize::from(line[x])];
+    rgb[3 * x..3 * x + 4].copy_from_slice(&dot);
 }
