@@ -18,6 +18,8 @@ pub struct FileDepot<R: Files + Drop> {
     files: Vec<Option<R::File>>,
     read_faults: u64,
     write_faults: u64,
+    /// How many bytes the fetches have read in all. The count stops at its greatest value.
+    read_bytes: u64,
     ghost numbered: { vec_len files ≡ length (names_of names) },
 }
 
@@ -37,20 +39,30 @@ impl<R: Files + Drop> FileDepot<R> {
             files: Vec::new(alloc),
             read_faults: 0,
             write_faults: 0,
+            read_bytes: 0,
         }
     }
 }
 
 impl<R: Files + Drop> Depot for FileDepot<R> {
-    ghost use Rattle.md_outer.specs.FileDepot.{file_state};
+    ghost use Rattle.std.specs.Prelude.{◌≡◌, ◌≤◌, ◌+◌, length, IfOk, IsErrOf};
+    ghost use Rattle.md_outer.specs.FileDepot.{file_state, read_in};
+    ghost use Rattle.md_outer.specs.Outside.{GoesOn, Rose};
 
     ghost told = { ⊥ };
 
     ghost state = { file_state };
 
-    fn fetch(&mut self, alloc: Global, name: &str, limit: u64) -> Result<Vec<u8>, Fetch> {
+    /// Reads at most one byte past the limit, however long the file is.
+    fn fetch(&mut self, alloc: Global, name: &str, limit: u64) -> Result<Vec<u8>, Fetch>
+        ensures within { IfOk result (λ bytes. length bytes.items ≤ limit) }
+        ensures failed { IsErrOf result Fetch.Failed → Rose (file_state self.old).read_faults (file_state self.new).read_faults }
+        ensures ends { read_in self.new ≤ read_in self.old + (limit + 1) }
+        ensures writes { (file_state self.new).write_faults ≡ (file_state self.old).write_faults }
+        ensures goes_on { GoesOn (file_state self.old) (file_state self.new) }
+    {
         let fetched = match fs::open(&self.rt, name) {
-            Ok(mut file) => read_to_limit(alloc, &mut file, limit),
+            Ok(mut file) => read_to_limit(alloc, &mut file, limit, &mut self.read_bytes),
             Err(_) => Err(Fetch::Failed),
         };
         if let Err(Fetch::Failed) = fetched {
