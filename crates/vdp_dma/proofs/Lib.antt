@@ -4,3 +4,4 @@ pub mod Ranges
 pub mod Regions
 pub mod Same
 pub mod Settled
+pub mod Spelled

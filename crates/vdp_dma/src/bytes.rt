@@ -10,6 +10,11 @@ ghost use Rattle.vdp_dma.specs.Settling as meaning;
 use vdp_ports::register::INCREMENT;
 use vdp_ports::{COPY, COPY_STEP, FILL_STEP, NO_DMA, Rest, VdpState, other_byte};
 
+/// How many bytes of a saved state keep the registers, and how many keep VRAM behind them.
+const REGISTERS: usize = 24;
+
+const VRAM: usize = 65_536;
+
 /// Master cycles from one byte to the next.
 #[tactic(auto, unfolding(crate::specs::Settling::step))]
 fn step(state: &VdpState) -> u64
@@ -36,7 +41,8 @@ fn running(state: &VdpState, k: u32) -> u16
 /// Byte k of what is left: its address, and its value over a memory.
 #[tactic(auto, unfolding(crate::specs::Settling::write))]
 #[inline]
-fn write_of(state: &VdpState, k: u32, vram: &[u8; 65536]) -> (u16, u8)
+fn write_of(state: &VdpState, k: u32, vram: &[u8]) -> (u16, u8)
+    requires { length vram.now ≡ 65536 }
     ensures address { result.0 ≡ (meaning.write state.now k vram.now).address }
     ensures byte { result.1 ≡ (meaning.write state.now k vram.now).byte }
 {
@@ -53,7 +59,7 @@ fn write_of(state: &VdpState, k: u32, vram: &[u8; 65536]) -> (u16, u8)
 fn put_one(state: &mut VdpState, k: u32)
     ensures { state.new ≡ record state.old { vram = meaning.done state.old.vram (meaning.write state.old k state.old.vram) } }
 {
-    let (address, byte) = write_of(state, k, &state.vram);
+    let (address, byte) = write_of(state, k, &state.vram[..]);
     state.vram[usize::from(address)] = byte;
 }
 
@@ -164,9 +170,11 @@ pub fn transfer_word(state: &mut VdpState, word: u16)
 
 /// Puts the next bytes into a copy of VRAM.
 #[tactic(auto, unfolding(crate::specs::Settling::vram_after))]
-fn put_into(state: &VdpState, count: u32, vram: &mut [u8; 65536])
-    requires { vram.old ≡ state.now.vram }
-    ensures { vram.new ≡ meaning.vram_after state.now count }
+fn put_into(state: &VdpState, count: u32, vram: &mut [u8])
+    requires copy { vram.old ≡ state.now.vram }
+    requires whole { length vram.old ≡ 65536 }
+    ensures value { vram.new ≡ meaning.vram_after state.now count }
+    ensures length { length vram.new ≡ 65536 }
 {
     for k in 0..count {
         let (address, byte) = write_of(state, k, vram);
@@ -221,9 +229,10 @@ pub fn spell(state: &VdpState, at: u64, into: &mut Vec<u8>)
         state.spell(at, into);
         return;
     }
-    let mut vram = *state.vram;
-    put_into(state, count, &mut vram);
-    state.spell_with(&vram, rest_after(state, count), at, into);
+    is_read_again(state);
+    let from = into.len() + REGISTERS;
+    state.spell_with(&state.vram, rest_after(state, count), at, into);
+    put_into(state, count, &mut into[from..from + VRAM]);
 }
 
 /// Tells that the bytes of this VDP, settled to a cycle, are read again where the rules hold at an earlier
