@@ -5,3 +5,4 @@ pub mod Levels
 pub mod PortBytes
 pub mod SynthBytes
 pub mod SynthKept
+pub mod Ticks

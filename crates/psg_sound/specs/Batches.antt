@@ -1,6 +1,6 @@
 -- A batch of sixteen samples, from any chip and any list of writes.
 -- The PSG ticks every 240 cycles of the master clock; a sample stands every 1,008.
-use Rattle.std.specs.Prelude.{ℕ, zero, suc, ◌+◌, ◌-◌, ◌*◌, ◌/◌, ℤ, List, map}
+use Rattle.std.specs.Prelude.{◌≡◌, ◌≤◌, ℕ, zero, suc, ◌+◌, ◌-◌, ◌*◌, ◌/◌, ℤ, List, map}
 use Rattle.std.specs.List.{range_with_len}
 use Rattle.sound_writes.specs.Course as course
 use Rattle.psg_sound.specs.declared.write.PsgWrite.{PsgWrite}
@@ -23,6 +23,10 @@ written_all ws s = course.written_all write_made ws s
 -- it or later
 abbrev pub made_below : ℕ → Synth → List PsgWrite → Course
 made_below cycle s ws = course.made_below stamp_of write_made cycle s ws
+
+-- none of these writes comes before a cycle, or one below it
+abbrev pub AreDueFrom : ℕ → List PsgWrite → Type 0
+AreDueFrom cycle ws = (s : Synth) (at : ℕ) → at ≤ cycle → made_below at s ws ≡ record { chip = s; rest = ws }
 
 -- a tick at a cycle, after the writes that come before it
 abbrev pub next_tick : ℕ → Course → Course

@@ -1,4 +1,5 @@
 ghost use Rattle.std.specs.Prelude.{◌≡◌, ◌<◌, ◌≤◌, ◌≤ℤ◌, pos, negsuc};
+ghost use Rattle.std.specs.Fn.{iterate};
 ghost use Rattle.psg_sound.specs.Voices.{IsNoise, noise_level, noise_period, noise_ticked, shifted, with_noise_control, with_noise_volume};
 
 use crate::amplitude::signed_level;
@@ -54,6 +55,35 @@ impl Noise {
         self.divider.tick(period);
         if self.divider.bit && !was {
             self.register = self.shifted();
+        }
+    }
+
+    /// Makes so many ticks: at once where the counter does not run out.
+    #[inline]
+    #[tactic(auto, using(crate::proofs::Ticks::noise_still))]
+    pub fn pass(&mut self, tone3: u16, ticks: u64)
+        requires noise { IsNoise self.old }
+        requires period { tone3 < 1024 }
+        ensures value { self.new ≡ iterate (noise_ticked tone3) ticks self.old }
+        ensures noise { IsNoise self.new }
+    {
+        if ticks < u64::from(self.divider.counter) {
+            self.divider.counter -= ticks as u16;
+        } else {
+            self.pass_each(tone3, ticks);
+        }
+    }
+
+    /// Makes so many ticks, one after the other.
+    #[inline(never)]
+    fn pass_each(&mut self, tone3: u16, ticks: u64)
+        requires noise { IsNoise self.old }
+        requires period { tone3 < 1024 }
+        ensures value { self.new ≡ iterate (noise_ticked tone3) ticks self.old }
+        ensures noise { IsNoise self.new }
+    {
+        for _ in 0..ticks {
+            self.tick(tone3);
         }
     }
 

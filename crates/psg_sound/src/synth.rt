@@ -1,7 +1,8 @@
-ghost use Rattle.std.specs.Prelude.{◌≡◌, ◌+◌, ◌-◌, ◌*◌, ◌/◌, ◌^◌, ◌<◌, ◌≤◌, ◌≤ℤ◌, pos, negsuc, List, [], ◌∷◌, length, All};
+ghost use Rattle.std.specs.Prelude.{◌≡◌, false, ◌+◌, ◌-◌, ◌*◌, ◌/◌, ◌^◌, ◌<◌, ◌≤◌, ◌≤ℤ◌, pos, negsuc, List, [], ◌∷◌, length, All};
 ghost use Rattle.md_word.specs.Clock.{psg_tick};
+ghost use Rattle.std.specs.Fn.{iterate};
 ghost use Rattle.psg_sound.specs.Synth.{IsSynth, at_power_on, level, ticked, written};
-ghost use Rattle.psg_sound.specs.Batches.{after_batch, after_ticks, made_below, samples, ticks_below, written_all};
+ghost use Rattle.psg_sound.specs.Batches.{AreDueFrom, after_batch, after_ticks, made_below, samples, ticks_below, written_all};
 ghost use Rattle.psg_sound.specs.History.{Continues, IsNextBatch, chip_before};
 ghost use Rattle.psg_sound.specs.declared.write.PsgWrite.{PsgWrite as Write};
 
@@ -116,12 +117,39 @@ impl PsgSynth {
         ensures { record { chip = self.new; rest = result.now }
             ≡ after_ticks from (to - from) (record { chip = self.old; rest = writes.now }) }
     {
+        if is_due(PSG_TICK * to, writes) {
+            self.run_each(from, to, writes)
+        } else {
+            self.pass(to - from);
+            writes
+        }
+    }
+
+    /// The same, tick by tick.
+    #[inline(never)]
+    fn run_each<'a>(&mut self, from: u64, to: u64, writes: &'a [PsgWrite]) -> &'a [PsgWrite]
+        requires forward { from ≤ to }
+        requires fits { psg_tick * to < 2 ^ 64 }
+        ensures { record { chip = self.new; rest = result.now }
+            ≡ after_ticks from (to - from) (record { chip = self.old; rest = writes.now }) }
+    {
         let mut rest = writes;
         for tick in from..to {
             rest = self.write_below(PSG_TICK * (tick + 1), rest);
             self.tick();
         }
         rest
+    }
+
+    /// Makes so many ticks, channel by channel: none of them changes what another one counts.
+    #[tactic(auto, using(crate::proofs::Ticks::ticked_parts))]
+    fn pass(&mut self, ticks: u64)
+        ensures { self.new ≡ iterate ticked ticks self.old }
+    {
+        self.noise.pass(self.tone3.period, ticks);
+        self.tone1.pass(ticks);
+        self.tone2.pass(ticks);
+        self.tone3.pass(ticks);
     }
 
     /// Makes the writes up to the first that is stamped `cycle` or later. Returns those that are
@@ -189,6 +217,17 @@ impl PsgSynth {
         ensures most { result ≤ℤ pos 8192 }
     {
         self.tone1.level() + self.tone2.level() + self.tone3.level() + self.noise.level()
+    }
+}
+
+/// Whether a write comes before a cycle.
+#[inline]
+fn is_due(cycle: u64, writes: &[PsgWrite]) -> bool
+    ensures { result ≡ false → AreDueFrom cycle writes.now }
+{
+    match writes {
+        [] => false,
+        [write, ..] => write.key.cycle < cycle,
     }
 }
 

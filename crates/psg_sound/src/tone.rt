@@ -1,4 +1,5 @@
 ghost use Rattle.std.specs.Prelude.{◌≡◌, ◌<◌, ◌≤ℤ◌, pos, negsuc};
+ghost use Rattle.std.specs.Fn.{iterate};
 ghost use Rattle.psg_sound.specs.Voices.{IsTone, tone_level, tone_ticked, with_tone_period, with_tone_volume};
 
 use crate::amplitude::signed_level;
@@ -23,6 +24,18 @@ impl Tone {
     {
         let period = self.period.max(1);
         self.divider.tick(period);
+    }
+
+    /// Makes so many ticks.
+    #[inline]
+    #[tactic(auto, using(crate::proofs::Ticks::tone_parts))]
+    pub fn pass(&mut self, ticks: u64)
+        requires { IsTone self.old }
+        ensures value { self.new ≡ iterate tone_ticked ticks self.old }
+        ensures tone { IsTone self.new }
+    {
+        let period = self.period.max(1);
+        self.divider.pass(period, ticks);
     }
 
     /// Takes a byte for the period: a latch byte's low four bits are the low four of the period, a

@@ -1,9 +1,12 @@
-use Rattle.std.proofs.Common.{◌≡◌, ◌∙◌, ap, ◌-◌, arith}
-use Rattle.psg_sound.specs.Batches.{Course, after_ticks}
+use Rattle.std.proofs.Common.{◌≡◌, ◌∙◌, sym, ap, ◌+◌, ◌-◌, ◌*◌, arith}
+use Rattle.psg_sound.specs.Batches.{AreDueFrom, Course}
+use Rattle.psg_sound.proofs.Ticks.{ticks-alone}
 use Rattle.psg_sound.proofs.synth.PsgSynth.run.Goals as goal
 
-pub returns : goal.returns
-returns c =
-    let start : Course = record { chip = c.args.self.now; rest = c.args.writes.now } in
-    let count : c.loop-tick.tick - c.args.from ≡ c.args.to - c.args.from = omega arith in
-    c.loop-tick.invariant ∙ ap (λ n. after_ticks c.args.from n start) count
+pub returns-else-is_due : goal.returns-else-is_due
+returns-else-is_due c =
+    let count : 240 * c.args.to ≡ 240 * (c.args.from + (c.args.to - c.args.from)) = omega (arith, c.requires.forward) in
+    let none = c.is_due.ensures c.if-is_due.false in
+    let later : AreDueFrom (240 * (c.args.from + (c.args.to - c.args.from))) c.args.writes.now = λ s at h. none s at (omega (arith, h, count)) in
+    (λ i. record { chip = c.pass.ensures i; rest = c.args.writes.now })
+    ∙ sym (ticks-alone c.args.from (c.args.to - c.args.from) c.args.self.now c.args.writes.now later)

@@ -1,6 +1,6 @@
 use Rattle.std.proofs.Common.{◌≡◌, ◌-◌}
 use Rattle.psg_sound.specs.Batches.{Course, after_ticks}
-use Rattle.psg_sound.proofs.synth.PsgSynth.run.Given as goal
+use Rattle.psg_sound.proofs.synth.PsgSynth.run_each.Given as goal
 
 abbrev pub invariant-loop-tick : goal.invariant-loop-tick
 invariant-loop-tick l =
