@@ -19,8 +19,9 @@ use Rattle.md_fields.proofs.Flags.{flag_again, flag_back, flag_small}
 use Rattle.md_fields.proofs.Items.{none_wrong, rules_hold, kept, not_both, one_place, same}
 use Rattle.md_fields.proofs.Padding.{padded_back, padded_length, padded_zeros}
 use Rattle.md_fields.proofs.Standing.{IsBytes-drop, IsBytes-take}
-use Rattle.sound_writes.specs.Entries.{AreFit, entries_bytes}
-use Rattle.sound_writes.specs.Keys.{is_kept}
+use Rattle.sound_writes.specs.Entries.{AreFit, entries_bytes, entries_from}
+use Rattle.sound_writes.specs.Keys.{after, all_fit, are_kept, fits, is_kept}
+use Rattle.sound_writes.specs.declared.earliest.Earliest.{Earliest}
 use Rattle.sound_writes.proofs.Entries as entries
 use Rattle.sound_writes.proofs.Entries.{second_fails, third_fails}
 use Rattle.md_fields.proofs.Tables.{within_append, first_behind, first_front, spelling_append}
@@ -210,9 +211,73 @@ pub all_right : (at count : ℕ) (entries : List ℕ) → count ≤ 1024 → are
     → are_zeros (drop (12 * count) entries) ≡ true → are_writes at count entries ≡ true
 all_right at count entries few right zeros = rw (le-leb count 1024 few, right, zeros) refl
 
+-- by the two parts of the rule on the writes
+pub right_are : (at : ℕ) (ws : List SavedWrite) (writes keys : Bool) → list_all is_write ws ≡ writes → are_kept at (map key_of ws) ≡ keys → are_right at ws ≡ (writes && keys)
+right_are at ws writes keys a b = λ i. a i && b i
+
 -- what is left behind so many writes
 pub left_there : (count : ℕ) (entries : List ℕ) → length entries ≡ 12288 → take (12288 - 12 * count) (drop (12 * count) entries) ≡ drop (12 * count) entries
 left_there count entries long = take_all (12288 - 12 * count) (drop (12 * count) entries) (omega (arith, long, length-drop (12 * count) entries))
+
+-- and by whether those that are left are zeros, where the others are right
+pub zeros_are : (at count : ℕ) (entries : List ℕ) (zeros : Bool) → count ≤ 1024 → length entries ≡ 12288 → are_right at (writes_at count entries) ≡ true
+    → zeros ≡ are_zeros (take (12288 - 12 * count) (drop (12 * count) entries)) → zeros ≡ are_writes at count entries
+zeros_are at count entries zeros few long right e =
+    let left : are_zeros (drop (12 * count) entries) ≡ zeros = sym (e ∙ ap are_zeros (left_there count entries long)) in
+    sym (rw (le-leb count 1024 few, right, left) refl)
+
+-- ---- the writes that stand from one on
+
+-- one more, and none
+pub next_there : (count index : ℕ) (bytes : List ℕ) → index < count
+    → entries_from 12 write_at (count - index) (12 * index) bytes ≡ write_at (12 * index) bytes ∷ entries_from 12 write_at (count - (index + 1)) (12 * (index + 1)) bytes
+next_there count index bytes below =
+    entries.entries_more 12 write_at count index (12 * index) bytes below
+    ∙ ap (λ (n : ℕ). write_at (12 * index) bytes ∷ entries_from 12 write_at (count - (index + 1)) n bytes) (omega arith)
+
+none_there : (count index : ℕ) (bytes : List ℕ) → count ≤ index → entries_from 12 write_at (count - index) (12 * index) bytes ≡ []
+none_there count index bytes past =
+    let none : count - index ≡ 0 = omega (arith, past) in ap (λ (n : ℕ). entries_from 12 write_at n (12 * index) bytes) none
+
+pub all_writes_more : (count index : ℕ) (bytes : List ℕ) → index < count → is_write (write_at (12 * index) bytes) ≡ true
+    → list_all is_write (entries_from 12 write_at (count - index) (12 * index) bytes) ≡ list_all is_write (entries_from 12 write_at (count - (index + 1)) (12 * (index + 1)) bytes)
+all_writes_more count index bytes below e =
+    ap (list_all is_write) (next_there count index bytes below)
+    ∙ ap (λ (b : Bool). b && list_all is_write (entries_from 12 write_at (count - (index + 1)) (12 * (index + 1)) bytes)) e
+
+pub all_writes_not : (count index : ℕ) (bytes : List ℕ) → index < count → is_write (write_at (12 * index) bytes) ≡ false
+    → list_all is_write (entries_from 12 write_at (count - index) (12 * index) bytes) ≡ false
+all_writes_not count index bytes below e =
+    ap (list_all is_write) (next_there count index bytes below)
+    ∙ ap (λ (b : Bool). b && list_all is_write (entries_from 12 write_at (count - (index + 1)) (12 * (index + 1)) bytes)) e
+
+pub all_writes_end : (count index : ℕ) (bytes : List ℕ) → count ≤ index → list_all is_write (entries_from 12 write_at (count - index) (12 * index) bytes) ≡ true
+all_writes_end count index bytes past = ap (list_all is_write) (none_there count index bytes past)
+
+-- the keys of those
+abbrev pub rest_keys : ℕ → ℕ → List ℕ → List Key
+rest_keys count index bytes = map key_of (entries_from 12 write_at (count - (index + 1)) (12 * (index + 1)) bytes)
+
+pub all_kept_more : (at : ℕ) (e : Earliest) (count index : ℕ) (bytes : List ℕ) → index < count → fits at e (key_of (write_at (12 * index) bytes)) ≡ true
+    → all_fit at (after (key_of (write_at (12 * index) bytes)) e) (rest_keys count index bytes) ≡ all_fit at e (map key_of (entries_from 12 write_at (count - index) (12 * index) bytes))
+unfolding all_fit
+all_kept_more at e count index bytes below fit =
+    let key : Key = key_of (write_at (12 * index) bytes) in
+    sym (ap (λ (l : List SavedWrite). all_fit at e (map key_of l)) (next_there count index bytes below)
+    ∙ ap (λ (b : Bool). b && all_fit at (after key e) (rest_keys count index bytes)) fit)
+
+pub all_kept_not : (at : ℕ) (e : Earliest) (count index : ℕ) (bytes : List ℕ) → index < count → fits at e (key_of (write_at (12 * index) bytes)) ≡ false
+    → all_fit at e (map key_of (entries_from 12 write_at (count - index) (12 * index) bytes)) ≡ false
+unfolding all_fit
+all_kept_not at e count index bytes below fit =
+    let key : Key = key_of (write_at (12 * index) bytes) in
+    ap (λ (l : List SavedWrite). all_fit at e (map key_of l)) (next_there count index bytes below)
+    ∙ ap (λ (b : Bool). b && all_fit at (after key e) (rest_keys count index bytes)) fit
+
+pub all_kept_end : (at : ℕ) (e : Earliest) (count index : ℕ) (bytes : List ℕ) → count ≤ index
+    → all_fit at e (map key_of (entries_from 12 write_at (count - index) (12 * index) bytes)) ≡ true
+unfolding all_fit
+all_kept_end at e count index bytes past = ap (λ (l : List SavedWrite). all_fit at e (map key_of l)) (none_there count index bytes past)
 
 -- ---- what the rules say
 

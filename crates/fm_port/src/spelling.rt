@@ -1,9 +1,9 @@
-ghost use Rattle.std.specs.Prelude.{◌≡◌, ◌≢◌, ◌↔◌, ◌+◌, ◌*◌, ◌^◌, ◌<◌, ◌≤◌, ◌++◌, ℕ, true, List, length, map, is_some, vec_len, vec_capacity, IfErr, IfOk, IfSome, IsErrOf, Ok, Err};
+ghost use Rattle.std.specs.Prelude.{◌≡◌, ◌≢◌, ◌↔◌, ◌+◌, ◌*◌, ◌^◌, ◌<◌, ◌≤◌, ◌++◌, ℕ, true, List, [], length, map, vec_len, vec_capacity, IfErr, IfOk, IsErrOf, Ok, Err};
 ghost use Rattle.std.specs.List.{list_all};
 ghost use Rattle.md_fields.specs.Fields.{AreWithin, spelling};
 ghost use Rattle.sound_writes.specs.Entries.{AreFit, entries_bytes};
 ghost use Rattle.sound_writes.specs.Keys.{are_kept};
-ghost use Rattle.fm_port.specs.Port.{Port};
+ghost use Rattle.fm_port.specs.Port.{IsPort, Port};
 ghost use Rattle.fm_port.specs.Timed.{AreTimed};
 ghost use Rattle.fm_port.specs.PortSpelling as meaning;
 ghost use Rattle.fm_port.specs.PortSpelling.{PortGoesWrongAt, SpellsPort, port_bytes, settled_port};
@@ -14,7 +14,6 @@ use crate::saved_port::SavedPort;
 use crate::saved_write::{SavedWrite, WRITE};
 use crate::timers::Timers;
 use crate::write::{FmList, FmWrite};
-use arrayvec::ArrayVec;
 use md_fields::{are_zeros, first_wrong, put, u16_at};
 use md_word::Unspell;
 use sound_writes::{Earliest, put_count, put_zeros};
@@ -83,24 +82,45 @@ impl FmPort {
         ensures rule { (place : ℕ) → IsErrOf result (Unspell.Rule place) ↔ PortGoesWrongAt at bytes.now place }
         ensures memory { result ≢ Err Unspell.NoMemory }
     {
-        match parts_of(bytes, at) {
-            Ok((saved, writes)) => Ok(FmPort {
-                first: saved.first,
-                second: saved.second,
-                timers: saved.timers(),
-                writes,
-            }),
-            Err(place) => Err(Unspell::Rule {
-                place: place as u64,
-            }),
+        let mut port = FmPort::power_on();
+        match port.restore(bytes, at) {
+            Ok(()) => Ok(port),
+            Err(fault) => Err(fault),
+        }
+    }
+
+    /// Makes this port the one that the bytes keep, in its place, and refuses them as `unspell` does. It
+    /// holds no write after a refusal.
+    pub fn restore(&mut self, bytes: &[u8], at: u64) -> Result<(), Unspell>
+        requires { at ≤ 2 ^ 50 }
+        ensures found { IfOk result (λ nothing. SpellsPort at bytes.now self.new) }
+        ensures only { (port : Port) → SpellsPort at bytes.now port → (result ≡ Ok tt) × (self.new ≡ port) }
+        ensures rule { (place : ℕ) → IsErrOf result (Unspell.Rule place) ↔ PortGoesWrongAt at bytes.now place }
+        ensures memory { result ≢ Err Unspell.NoMemory }
+        ensures empty { IfErr result (λ fault. self.new.writes ≡ []) }
+        ensures port { IsPort self.new }
+    {
+        match parts_of(bytes, at, &mut self.writes) {
+            Ok(saved) => {
+                self.first = saved.first;
+                self.second = saved.second;
+                self.timers = saved.timers();
+                Ok(())
+            }
+            Err(place) => {
+                self.writes.clear();
+                Err(Unspell::Rule {
+                    place: place as u64,
+                })
+            }
         }
     }
 }
 
-/// Latches and timers, and the writes, that the bytes keep, where the rules hold; else the place of
-/// the refusal.
-fn parts_of(bytes: &[u8], at: u64) -> Result<(SavedPort, FmList), usize>
-    ensures found { IfOk result (λ parts. SpellsPort at bytes.now (meaning.port_with parts.0 parts.1.items)) }
+/// Makes a list the writes that the bytes keep, and answers latches and timers, where the rules hold; else
+/// the place of the refusal.
+fn parts_of(bytes: &[u8], at: u64, into: &mut FmList) -> Result<SavedPort, usize>
+    ensures found { IfOk result (λ saved. SpellsPort at bytes.now (meaning.port_with saved into.new.items)) }
     ensures refused { IfErr result (λ place. PortGoesWrongAt at bytes.now place) }
 {
     if bytes.len() != LENGTH {
@@ -111,80 +131,69 @@ fn parts_of(bytes: &[u8], at: u64) -> Result<(SavedPort, FmList), usize>
         return Err(place);
     }
     let count = usize::from(u16_at(bytes, COUNT));
-    match writes_of(&bytes[ENTRIES..LENGTH], count, at) {
-        Some(writes) => Ok((numbers, writes)),
-        None => Err(COUNT),
+    let entries = &bytes[ENTRIES..LENGTH];
+    if !are_right(entries, count, at) {
+        return Err(COUNT);
     }
+    writes_at(entries, count, into);
+    Ok(numbers)
 }
 
-/// The first so many writes, where their rule holds.
-fn writes_of(entries: &[u8], count: usize, at: u64) -> Option<FmList>
+/// Whether the rule of the first so many writes holds.
+fn are_right(entries: &[u8], count: usize, at: u64) -> bool
     requires { length entries.now ≡ 12288 }
-    ensures told { is_some result ≡ meaning.are_writes at count entries.now }
-    ensures writes { IfSome result (λ writes. writes.items ≡ meaning.writes_from count entries.now) }
+    ensures { result ≡ meaning.are_writes at count entries.now }
 {
     if count > MOST {
-        return None;
+        return false;
     }
-    let saved = saved_writes(entries, count);
-    if !are_right(saved.as_slice(), at) || !are_zeros(&entries[WRITE * count..WRITE * MOST]) {
-        return None;
+    if !are_writes(entries, count) || !are_kept(entries, count, at) {
+        return false;
     }
-    Some(list_of(saved.as_slice()))
+    are_zeros(&entries[WRITE * count..WRITE * MOST])
 }
 
-/// The numbers of the first so many writes, at most 1,024.
-fn saved_writes(entries: &[u8], count: usize) -> ArrayVec<SavedWrite, 1024>
+/// Whether the first so many, at most 1,024, can be writes.
+fn are_writes(entries: &[u8], count: usize) -> bool
     requires most { count ≤ 1024 }
     requires there { length entries.now ≡ 12288 }
-    ensures { result.items ≡ meaning.writes_at count entries.now }
+    ensures { result ≡ list_all meaning.is_write (meaning.writes_at count entries.now) }
 {
-    let mut writes = ArrayVec::new();
     for index in 0..count {
-        writes.push(SavedWrite::read(entries, WRITE * index));
-    }
-    writes
-}
-
-/// Whether these can be writes, with keys that a port holds at a cycle.
-fn are_right(writes: &[SavedWrite], at: u64) -> bool
-    ensures { result ≡ meaning.are_right at writes.now }
-{
-    are_writes(writes) && are_kept(writes, at)
-}
-
-fn are_writes(writes: &[SavedWrite]) -> bool
-    ensures { result ≡ list_all meaning.is_write writes.now }
-{
-    writes.iter().all(SavedWrite::is_write)
-}
-
-fn are_kept(writes: &[SavedWrite], at: u64) -> bool
-    ensures { result ≡ are_kept at (map meaning.key_of writes.now) }
-{
-    let mut earliest = Earliest::behind_batch(at);
-    let mut rest = writes;
-    while let [write, after @ ..] = rest {
-        let key = write.key();
-        if !earliest.fits(&key, at) {
+        if !SavedWrite::read(entries, WRITE * index).is_write() {
             return false;
         }
-        earliest = earliest.after(&key);
-        rest = after;
     }
     true
 }
 
-/// The writes of which these numbers are kept.
-fn list_of(writes: &[SavedWrite]) -> FmList
-    requires { length writes.now ≤ 1024 }
-    ensures { result.items ≡ map meaning.write_from writes.now }
+/// Whether the first so many have keys that a port holds at a cycle.
+fn are_kept(entries: &[u8], count: usize, at: u64) -> bool
+    requires most { count ≤ 1024 }
+    requires there { length entries.now ≡ 12288 }
+    ensures { result ≡ are_kept at (map meaning.key_of (meaning.writes_at count entries.now)) }
 {
-    let mut list = FmList::new();
-    for write in writes {
-        list.push(write.write());
+    let mut earliest = Earliest::behind_batch(at);
+    for index in 0..count {
+        let key = SavedWrite::read(entries, WRITE * index).key();
+        if !earliest.fits(&key, at) {
+            return false;
+        }
+        earliest = earliest.after(&key);
     }
-    list
+    true
+}
+
+/// Makes a list the first so many writes.
+fn writes_at(entries: &[u8], count: usize, into: &mut FmList)
+    requires most { count ≤ 1024 }
+    requires there { length entries.now ≡ 12288 }
+    ensures { into.new.items ≡ meaning.writes_from count entries.now }
+{
+    into.clear();
+    for index in 0..count {
+        into.push(SavedWrite::read(entries, WRITE * index).write());
+    }
 }
 
 /// What is kept of latches and timers.

@@ -1,4 +1,4 @@
-use Rattle.std.proofs.Common.{◌≡◌, ◌∙◌, ℕ, Bool, List, ap, sym, subst, true, false, arith}
+use Rattle.std.proofs.Common.{◌≡◌, ◌∙◌, ℕ, Bool, List, ap, sym, subst, arith}
 use Rattle.md_fields.specs.Fields.{first_wrong, sizes}
 use Rattle.fm_port.specs.PortSpelling.{SpellsPort, are_writes, port_with, writes_from}
 use Rattle.fm_port.specs.declared.write.FmWrite.{FmWrite}
@@ -17,18 +17,18 @@ returns-in-Some-clause-refused c =
 told_by : (at count there : ℕ) (entries : List ℕ) (told : Bool) → count ≡ there → told ≡ are_writes at count entries → are_writes at there entries ≡ told
 told_by at count there entries told same e = sym (e ∙ ap (λ (n : ℕ). are_writes at n entries) same)
 
-pub returns-in-Some-writes_of-clause-found : goal.returns-in-Some-writes_of-clause-found
-returns-in-Some-writes_of-clause-found c =
+pub returns-clause-found : goal.returns-clause-found
+returns-clause-found c =
     let same : c.from-count.result ≡ count_in c.args.bytes.now = c.from-count.ensures ∙ c.u16_at.ensures in
     subst (λ (ws : List FmWrite). SpellsPort c.args.at c.args.bytes.now (port_with c.read-numbers.result ws))
-    (sym (c.in-Some-writes_of.ensures.writes ∙ ap (λ (n : ℕ). writes_from n (entries_in c.args.bytes.now)) same))
+    (sym (c.writes_at.ensures ∙ ap (λ (n : ℕ). writes_from n (entries_in c.args.bytes.now)) same))
     (read_spells c.args.at c.args.bytes.now c.read-numbers.result (λ i. omega (arith, c.type_inv.bytes i)) c.if-bytes-ne-LENGTH.false c.read-numbers.ensures
     (ap (first_wrong 0) (sym c.fields.ensures.fields) ∙ sym c.first_wrong.ensures ∙ c.in_default.is)
-    (told_by c.args.at c.from-count.result _ (entries_in c.args.bytes.now) true same c.in-Some-writes_of.ensures.told))
+    (told_by c.args.at c.from-count.result _ (entries_in c.args.bytes.now) _ same c.are_right.ensures ∙ c.if-not-are_right.false))
 
-pub returns-in-None-clause-refused : goal.returns-in-None-clause-refused
-returns-in-None-clause-refused c =
+pub returns-then-not-are_right-clause-refused : goal.returns-then-not-are_right-clause-refused
+returns-then-not-are_right-clause-refused c =
     let same : c.from-count.result ≡ count_in c.args.bytes.now = c.from-count.ensures ∙ c.u16_at.ensures in
     breaks_writes c.args.at c.args.bytes.now c.read-numbers.result (λ i. omega (arith, c.type_inv.bytes i)) c.if-bytes-ne-LENGTH.false c.read-numbers.ensures
     (ap (first_wrong 0) (sym c.fields.ensures.fields) ∙ sym c.first_wrong.ensures ∙ c.in_default.is)
-    (told_by c.args.at c.from-count.result _ (entries_in c.args.bytes.now) false same c.in-None.ensures.told)
+    (told_by c.args.at c.from-count.result _ (entries_in c.args.bytes.now) _ same c.are_right.ensures ∙ c.if-not-are_right.true)

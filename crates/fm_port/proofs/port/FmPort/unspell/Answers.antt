@@ -1,29 +1,23 @@
-use Rattle.std.proofs.Common.{◌≡◌, ◌∙◌, Ok, ap, subst, sym}
-use Rattle.md_fields.proofs.Refusals.{told_right, told_wrong}
-use Rattle.fm_port.specs.Port.{IsPort}
-use Rattle.fm_port.specs.PortSpelling.{PortGoesWrongAt, SpellsPort, port_with}
-use Rattle.fm_port.specs.declared.timers.Timers.{Timers}
-use Rattle.fm_port.proofs.PortBytes.{port_sound, right_nowhere, spelled_once, wrong_once}
+use Rattle.std.proofs.Common.{◌≡◌, Ok, Err, ap}
+use Rattle.md_word.specs.declared.unspell.Unspell.{Unspell}
+use Rattle.md_word.specs.declared.unspell.Unspell.TheVariants.{Rule}
+use Rattle.fm_port.specs.PortSpelling.{PortGoesWrongAt}
+use Rattle.md_fields.proofs.Refusals.{failed, told_right}
+use Rattle.fm_port.proofs.PortBytes.{right_nowhere}
 use Rattle.fm_port.proofs.port.FmPort.unspell.Goals as goal
 
--- what is made
-made : (c : goal.After-timers) → record { first = c.in-Ok.saved.first; second = c.in-Ok.saved.second; timers = c.timers.result; writes = c.in-Ok.writes.items } ≡ port_with c.in-Ok.saved c.in-Ok.writes.items
-made c = ap (λ (t : Timers). record { first = c.in-Ok.saved.first; second = c.in-Ok.saved.second; timers = t; writes = c.in-Ok.writes.items }) c.timers.ensures
-
-pub invariant_of-result : goal.invariant_of-result
-invariant_of-result c = subst IsPort (sym (made c)) (port_sound c.args.at c.args.bytes.now _ c.requires c.in-Ok.ensures.found)
-
-pub returns-in-Ok-clause-found : goal.returns-in-Ok-clause-found
-returns-in-Ok-clause-found c = subst (SpellsPort c.args.at c.args.bytes.now) (sym (made c)) c.in-Ok.ensures.found
+-- a refusal is of one fault, whatever it refuses
+same_fault : {T : Type 0} (f g : Unspell) → failed {T = T} f ≡ failed g → f ≡ g
+same_fault f g e = cc
 
 pub returns-in-Ok-clause-only : goal.returns-in-Ok-clause-only
-returns-in-Ok-clause-only c = λ port spells. ap Ok (made c ∙ spelled_once c.args.at c.args.bytes.now _ port c.in-Ok.ensures.found spells)
+returns-in-Ok-clause-only c = λ port spells. ap Ok ((c.restore.ensures.only port spells).1)
 
 pub returns-in-Ok-clause-rule : goal.returns-in-Ok-clause-rule
 returns-in-Ok-clause-rule c = told_right _ (PortGoesWrongAt c.args.at c.args.bytes.now) (right_nowhere c.args.at c.args.bytes.now _ c.in-Ok.ensures.found)
 
-pub returns-in-Err-clause-only : goal.returns-in-Err-clause-only
-returns-in-Err-clause-only c = λ port spells. absurd (right_nowhere c.args.at c.args.bytes.now port spells c.in-Err.place c.in-Err.ensures.refused)
-
 pub returns-in-Err-clause-rule : goal.returns-in-Err-clause-rule
-returns-in-Err-clause-rule c = told_wrong (PortGoesWrongAt c.args.at c.args.bytes.now) c.in-Err.place c.in-Err.ensures.refused (wrong_once c.args.at c.args.bytes.now)
+returns-in-Err-clause-rule c = λ place. (
+  λ e. (c.in-Err.ensures.rule place).0 (ap Err (same_fault c.in-Err.fault (Rule place) e)),
+  λ wrong. ap Err (same_fault c.in-Err.fault (Rule place) ((c.in-Err.ensures.rule place).1 wrong)),
+)
