@@ -1,6 +1,6 @@
 -- What a dot of the picture shows, and the bytes that it prints. Genesis Technical Overview, priority,
 -- shadow and highlight; the bytes of a level are this project's profile.
-use Rattle.std.specs.Prelude.{◌≡◌, ℕ, ◌+◌, ◌-◌, ◌*◌, ◌/◌, ◌%◌, ◌<◌, ◌≤◌, Bool, false, ◌==◌, ◌||◌, ◌&&◌, not, nat_lt, nat_le, if◌then◌else◌, List, [], ◌∷◌, length, slice_index, slice_index_or}
+use Rattle.std.specs.Prelude.{◌≡◌, ℕ, ◌+◌, ◌-◌, ◌*◌, ◌/◌, ◌%◌, ◌<◌, ◌≤◌, Bool, false, ◌==◌, ◌||◌, ◌&&◌, not, nat_lt, nat_le, if◌then◌else◌, List, [], ◌∷◌, slice_index, slice_index_or}
 use Rattle.vdp_planes.specs.Dots.{Dot}
 use Rattle.vdp_planes.specs.declared.view.LineView.{LineView}
 use Rattle.vdp_planes.specs.declared.colours.Rgb.{Rgb}
@@ -169,8 +169,3 @@ mixed_at view a b s from x = index_of (mixed view (dot_at a (x - from)) (dot_at 
 -- byte n of the dots of these indices
 abbrev pub printed_byte : List (List ℕ) → List ℕ → ℕ → ℕ
 printed_byte table line n = slice_index (slice_index_or table (slice_index line (n / 3)) []) (n % 3)
-
--- the bytes of the line's dots below x are printed
-pub record IsPrinted (table : List (List ℕ)) (line : List ℕ) (x : ℕ) (rgb : List ℕ) : Type 0 where
-  pub whole : length rgb ≡ 960
-  pub bytes : (n : ℕ) → n < 3 * x → slice_index rgb n ≡ printed_byte table line n
