@@ -260,8 +260,7 @@ fn held_in(alloc: Global, store: &[u8]) -> Result<Parcel, Unspell>
     Ok(parcel_of(alloc, ram, bank)?)
 }
 
-/// The FM chip's port that bytes keep. It lies on the stack here alone.
-#[inline(never)]
+/// The FM chip's port that bytes keep, made in its place.
 fn fm_in(alloc: Global, bytes: &[u8], at: u64) -> Result<Box<FmPort>, Unspell>
     requires { at ≤ 2 ^ 50 }
     ensures found { IfOk result (λ port. fm_spelling.SpellsPort at bytes.now port.value) }
@@ -269,11 +268,23 @@ fn fm_in(alloc: Global, bytes: &[u8], at: u64) -> Result<Box<FmPort>, Unspell>
     ensures right { IfOk result (λ port. (place : ℕ) → fm_spelling.PortGoesWrongAt at bytes.now place → ⊥) }
     ensures rule { (place : ℕ) → IsErrOf result (Unspell.Rule place) → fm_spelling.PortGoesWrongAt at bytes.now place }
 {
-    match FmPort::unspell(alloc, bytes, at) {
-        Ok(port) => match Box::new(alloc, port) {
-            Ok(port) => Ok(port),
-            Err(_) => Err(Unspell::NoMemory),
-        },
+    match Box::new(alloc, FmPort::power_on()) {
+        Ok(port) => restored_fm(port, bytes, at),
+        Err(_) => Err(Unspell::NoMemory),
+    }
+}
+
+/// A port that is made the one that bytes keep.
+fn restored_fm(port: Box<FmPort>, bytes: &[u8], at: u64) -> Result<Box<FmPort>, Unspell>
+    requires { at ≤ 2 ^ 50 }
+    ensures found { IfOk result (λ port. fm_spelling.SpellsPort at bytes.now port.value) }
+    ensures few { IfOk result (λ port. IsFewFm port.value.writes) }
+    ensures right { IfOk result (λ port. (place : ℕ) → fm_spelling.PortGoesWrongAt at bytes.now place → ⊥) }
+    ensures rule { (place : ℕ) → IsErrOf result (Unspell.Rule place) → fm_spelling.PortGoesWrongAt at bytes.now place }
+{
+    let mut port = port;
+    match port.restore(bytes, at) {
+        Ok(()) => Ok(port),
         Err(fault) => Err(fault),
     }
 }
