@@ -1,13 +1,14 @@
 -- What an advance needs and leaves.
-use Rattle.std.proofs.Common.{◌≡◌, ◌≢◌, ◌∙◌, refl, sym, ap, subst, false, ℕ, ◌+◌, ◌-◌, ◌<◌, ◌≤◌, List, [], ◌∷◌, length, take, drop, arith}
+use Rattle.std.proofs.Common.{◌≡◌, ◌≢◌, ◌∙◌, refl, sym, ap, subst, false, ℕ, ◌+◌, ◌-◌, ◌<◌, ◌≤◌, inl, inr, List, [], ◌∷◌, length, take, drop, arith}
+use Rattle.std.proofs.lemmas.Bool.{cases_lt}
 use Rattle.std.proofs.lemmas.List.{take_all}
 use Rattle.md_pads.specs.Recording.{Frame, IsRecording, no_frames, recording_of}
 use Rattle.md_machine.specs.Console.{Console, journal, media_after, power_on, ran}
 use Rattle.md_machine.specs.Machines.{MachineValue}
 use Rattle.md_machine.specs.Media.{no_media}
 use Rattle.md_reached.specs.Reached.{IsReached}
-use Rattle.rollback_images.specs.Images.{AreImagesBelow, Image, Kept, image_at}
-use Rattle.rollback_images.proofs.Below.{dropped-below, reach-behind, reach-dropped, reach-later}
+use Rattle.rollback_images.specs.Images.{AreImagesBelow, Image, Kept, ReachBackTo, image_at}
+use Rattle.rollback_images.proofs.Below.{dropped-below, reach-behind, reach-dropped}
 use Rattle.rollback_inputs.specs.Inputs.{AreInputs, InputsValue, IsFixed, expected_frames, frame_at, most_frames}
 use Rattle.rollback_inputs.proofs.Expected.{frames-long, frames-small}
 use Rattle.rollback_inputs.proofs.FixedFrames.{back-within, fixed-next}
@@ -54,7 +55,9 @@ module _ (cart : List ℕ) (spelling : ℕ → Console → List ℕ) (is_ready i
 
     -- one of the images is early enough
     pub back-few : newer < length kept
-    back-few = omega (arith, session.images.back.within, reach-behind (length played - window) newer kept too-late session.images.back)
+    back-few =
+        let reach = session.images.back (length played - window) (omega arith) (omega arith) in
+        omega (arith, reach.within, reach-behind (length played - window) newer kept too-late reach)
 
     pub images-here : (image_at kept newer).frames ≤ right → AreImagesBelow (IsImageOf cart spelling is_own expected) ((image_at kept newer).frames + 1) (drop newer kept)
     images-here early =
@@ -63,8 +66,9 @@ module _ (cart : List ℕ) (spelling : ℕ → Console → List ℕ) (is_ready i
 
     pub session-next : (old new : Kept) (next : MachineValue) → AreInputs inputs → length played < most_frames → length played < inputs.confirmed + window
         → IsPlayed cart expected (length expected) next → old.most ≡ window + 1 → AreMade cart spelling is_own expected (length expected) (record old { images = drop newer kept }) new
+        → ((w f : ℕ) → new.most ≡ w + 1 → right < f → f ≤ length expected → length expected ≤ f + w → ReachBackTo f new.images)
         → IsSession cart spelling is_ready is_own window inputs expected new.images next
-    session-next old new next known room order made most fresh = record {
+    session-next old new next known room order made most fresh near = record {
       some = session.some;
       most = session.most;
       few = omega (arith, expected-long, room);
@@ -72,9 +76,12 @@ module _ (cart : List ℕ) (spelling : ℕ → Console → List ℕ) (is_ready i
       played_is = made;
       images = record {
         each = fresh.each;
-        back = fresh.back window (length expected - window) most (omega arith)
-            (reach-later (length played - window) (length expected - window) (drop newer kept) (omega (arith, expected-long))
-            (reach-dropped (length played - window) newer kept too-late session.images.back));
+        back = λ f within late. elim (cases_lt right f) [
+          | inl past ↦ near window f (ap (λ (k : Kept). k.most) fresh.rest ∙ most) past within late
+          | inr before ↦ fresh.back window f most late
+              (reach-dropped f newer kept (λ j less. omega (arith, later j less, before))
+              (session.images.back f (omega (arith, before, found.within)) (omega (arith, late, expected-long))))
+        ];
       };
       fixed = λ f late.
           subst (λ (x : List Frame). IsFixed inputs.local inputs.remote x f) (sym found.all)
@@ -121,7 +128,7 @@ first-session cart spelling is_ready is_own window inputs kept bytes m some most
       few = omega arith;
       keeps = keeps;
       played_is = played;
-      images = record { each = (omega arith, image, tt); back = record { place = 0; within = omega arith; early = omega arith } };
+      images = record { each = (omega arith, image, tt); back = λ f few near. record { place = 0; within = omega arith; early = omega arith; near = omega (arith, few) } };
       fixed = λ f late. absurd (omega (arith, late));
     })
 

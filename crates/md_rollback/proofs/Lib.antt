@@ -1,3 +1,4 @@
 pub mod Advances
 pub mod Kept
+pub mod Near
 pub mod Steps

@@ -1,5 +1,5 @@
 -- A session of two players.
-use Rattle.std.specs.Prelude.{ℕ, ◌+◌, ◌-◌, ◌<◌, ◌≤◌, List, length}
+use Rattle.std.specs.Prelude.{ℕ, ◌+◌, ◌<◌, ◌≤◌, List, length}
 use Rattle.md_pads.specs.Recording.{Frame}
 use Rattle.md_machine.specs.Console.{Console}
 use Rattle.md_machine.specs.Machines.{MachineValue}
@@ -18,11 +18,11 @@ pub record SessionValue : Type 0 where
   pub frames : ℕ
   pub machine : MachineValue
 
--- the images are those of the machine after some of the frames that were played, newest first. One stands at or before
--- each of the last frames, so many as the window has
+-- the images are those of the machine after some of the frames that were played, newest first. Of each of the last
+-- frames, so many as the window has, one stands at its start or at most three frames earlier
 pub record AreImages (cart : List ℕ) (spelling : ℕ → Console → List ℕ) (is_own : ℕ → Console → Type 0) (window : ℕ) (played : List Frame) (images : List Image) : Type 0 where
   pub each : AreImagesBelow (IsImageOf cart spelling is_own played) (length played + 1) images
-  pub back : ReachBackTo (length played - window) images
+  pub back : (f : ℕ) → f ≤ length played → length played ≤ f + window → ReachBackTo f images
 
 -- what holds of each session: its window is 1 to 16, it played at most all frames, its machine is that of the
 -- frames that were played, and only the last frames may have been played with words that were not given

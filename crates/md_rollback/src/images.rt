@@ -56,6 +56,13 @@ impl Images {
         self.kept.push(frames, &mut self.next);
     }
 
+    /// The images.
+    pub(crate) fn kept(&self) -> &KeptImages
+        ensures { result.now ≡ self.now }
+    {
+        &self.kept
+    }
+
     /// How many images were kept after more than so many frames.
     pub(crate) fn newer_than(&self, frames: usize) -> usize
         ensures within { result ≤ length self.now.images }

@@ -1,11 +1,11 @@
-ghost use Rattle.std.specs.Prelude.{◌≡◌, ◌≤◌, ◌<◌, ◌+◌, ◌-◌, ◌*◌, ◌%◌, ◌↔◌, ℕ, false, List, [], All, IfOk, IsTrue, OnErr, OnOk, drop, length};
+ghost use Rattle.std.specs.Prelude.{◌≡◌, ◌≤◌, ◌<◌, ◌+◌, ◌-◌, ◌*◌, ◌%◌, ◌↔◌, ℕ, true, false, List, [], All, IfOk, IsTrue, OnErr, OnOk, drop, length};
 ghost use Rattle.std.specs.Arc.{arc_value};
 ghost use Rattle.md_pads.specs.Recording.{Frame, IsFrame, IsRecording, recording_of};
 ghost use Rattle.md_pads.specs.declared.version.Version.TheVariants.{First};
 ghost use Rattle.md_word.specs.Clock.{frame as frame_length};
 ghost use Rattle.md_machine.specs.Media.{no_media};
 ghost use Rattle.rollback_inputs.specs.Inputs.{most_frames};
-ghost use Rattle.rollback_images.specs.Images.{AreImagesBelow, image_at};
+ghost use Rattle.rollback_images.specs.Images.{AreImagesBelow, ReachBackTo, image_at};
 ghost use Rattle.md_rollback.specs.Played.{AreMade, IsImageOf, IsPlayed, IsPlayedAlike, KeepsReached};
 
 use crate::images::Images;
@@ -133,6 +133,8 @@ fn play_next<R: Replays>(
     requires images { AreImagesBelow (IsImageOf (R.cart replays.now) (R.spelling replays.now) (R.is_own replays.now) machine.old.console.shared.recording.frames) (frame + 1) images.old.images }
     ensures played { IsPlayed (R.cart replays.now) machine.old.console.shared.recording.frames (frame + 1) machine.new }
     ensures images { AreMade (R.cart replays.now) (R.spelling replays.now) (R.is_own replays.now) machine.old.console.shared.recording.frames (frame + 1) images.old images.new }
+    ensures newest { kept ≡ true → 1 ≤ images.old.most → (0 < length images.new.images) × ((image_at images.new.images 0).frames ≡ frame + 1) }
+    ensures unkept { kept ≡ false → images.new ≡ images.old }
 {
     play_frame(machine, frame);
     if kept {
@@ -151,12 +153,15 @@ pub(crate) fn play<R: Replays>(
 )
     requires keeps { KeepsReached (R.cart replays.now) (R.is_ready replays.now) }
     requires played { IsPlayed (R.cart replays.now) machine.old.console.shared.recording.frames from machine.old }
+    requires early { from ≤ right }
+    requires some { 1 ≤ images.old.most }
     requires order { from ≤ to }
     requires within { to ≤ most_frames }
     requires size { images.old.size ≡ R.size replays.now }
     requires images { AreImagesBelow (IsImageOf (R.cart replays.now) (R.spelling replays.now) (R.is_own replays.now) machine.old.console.shared.recording.frames) (from + 1) images.old.images }
     ensures played { IsPlayed (R.cart replays.now) machine.old.console.shared.recording.frames to machine.new }
     ensures images { AreMade (R.cart replays.now) (R.spelling replays.now) (R.is_own replays.now) machine.old.console.shared.recording.frames to images.old images.new }
+    ensures near { (window f : ℕ) → images.new.most ≡ window + 1 → right < f → f ≤ to → to ≤ f + window → ReachBackTo f images.new.images }
 {
     for frame in from..to {
         play_next(replays, machine, frame, is_kept(frame, right), images);
@@ -176,6 +181,7 @@ pub(crate) fn remake<R: Replays>(
     right: usize,
 ) -> Result<(), NoMemory>
     requires keeps { KeepsReached (R.cart replays.now) (R.is_ready replays.now) }
+    requires some { 1 ≤ images.old.most }
     requires size { images.old.size ≡ R.size replays.now }
     requires newer { newer < length images.old.images }
     requires early { (image_at images.old.images newer).frames ≤ right }
@@ -187,6 +193,7 @@ pub(crate) fn remake<R: Replays>(
     ensures machine { OnOk result (IsPlayed (R.cart replays.now) expected.now (length expected.now) machine.new) }
     ensures images { OnOk result (AreMade (R.cart replays.now) (R.spelling replays.now) (R.is_own replays.now) expected.now (length expected.now)
         (record images.old { images = drop newer images.old.images }) images.new) }
+    ensures near { OnOk result ((window f : ℕ) → images.new.most ≡ window + 1 → right < f → f ≤ length expected.now → length expected.now ≤ f + window → ReachBackTo f images.new.images) }
     ensures err { OnErr result ((images.new ≡ images.old) × (machine.new ≡ machine.old)) }
 {
     let recording = shared_recording(alloc, expected)?;

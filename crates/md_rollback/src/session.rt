@@ -4,6 +4,7 @@ ghost use Rattle.md_word.specs.Clock.{frame as frame_length, last_cycle};
 ghost use Rattle.md_machine.specs.Console.{power_on};
 ghost use Rattle.md_machine.specs.Media.{no_media};
 ghost use Rattle.rollback_inputs.specs.Inputs.{IsConfirmed, expected_frames, given, most_frames, no_words};
+ghost use Rattle.rollback_images.specs.Images.{ReachBackTo};
 ghost use Rattle.md_rollback.specs.Played.{IsMachineOf, KeepsReached};
 
 use crate::fault::AdvanceFault;
@@ -13,6 +14,7 @@ use md_machine::Machine;
 use md_reached::saved;
 use md_word::NoMemory;
 use replays::Replays;
+use rollback_images::KeptImages;
 use rollback_inputs::{InputFault, Inputs, MOST_FRAMES, same_frames};
 use std::alloc::Global;
 use std::marker::Model;
@@ -162,5 +164,15 @@ impl<R: Replays> Session<R> {
         ensures near { result.now.at ≤ last_cycle }
     {
         &self.machine
+    }
+
+    /// The kept images, newest first, one more than the window has frames at most. Each frame that may still turn out
+    /// wrong has one of its start or of a frame at most three earlier, from which the frames are made again: so no more
+    /// than three in front of the first wrong one are.
+    pub fn images(&self) -> &KeptImages
+        ensures near { (f : ℕ) → f ≤ self.now.frames → self.now.frames ≤ f + self.now.window → ReachBackTo f result.now.images }
+        ensures most { result.now.most ≡ self.now.window + 1 }
+    {
+        self.images.kept()
     }
 }

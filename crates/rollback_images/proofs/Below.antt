@@ -34,6 +34,13 @@ module _ (is_image : ℕ → List ℕ → Type 0) where
   early-below zero end (x ∷ xs) within are = omega (arith, are.0)
   early-below (suc n) end (x ∷ xs) within are = omega (arith, are.0, early-below n x.frames xs (omega (arith, within)) are.2)
 
+  later-below : (n m end : ℕ) (images : List Image) → n ≤ m → m < length images → AreImagesBelow is_image end images → (image_at images m).frames ≤ (image_at images n).frames
+  later-below n m end [] less within are = absurd (omega (arith, within))
+  later-below zero zero end (x ∷ xs) less within are = omega arith
+  later-below zero (suc m) end (x ∷ xs) less within are = omega (arith, early-below m x.frames xs (omega (arith, within)) are.2)
+  later-below (suc n) zero end (x ∷ xs) less within are = absurd (omega (arith, less))
+  later-below (suc n) (suc m) end (x ∷ xs) less within are = later-below n m x.frames xs (omega (arith, less)) (omega (arith, within)) are.2
+
   -- where one more is kept, the oldest may go: as many as there are then were kept within a window
   pub reach-pushed : (most window frames f : ℕ) (image : Image) (older : List Image) → most ≡ window + 1 → frames ≤ f + window
       → AreImagesBelow is_image (frames + 1) (image ∷ older) → ReachBackTo f older → ReachBackTo f (take most (image ∷ older))
@@ -44,12 +51,15 @@ module _ (is_image : ℕ → List ℕ → Type 0) where
           place = suc reach.place;
           within = omega (arith, early, reach.within, length-take most all);
           early = subst (λ (x : Image). x.frames ≤ f) (sym (get_or-take most all (suc reach.place) no_image (omega (arith, early)))) reach.early;
+          near = subst (λ (x : Image). f ≤ x.frames + 3) (sym (get_or-take most all (suc reach.place) no_image (omega (arith, early)))) reach.near;
         }
         | inr late ↦ record {
           place = window;
           within = omega (arith, some, late, reach.within, length-take most all);
           early = subst (λ (x : Image). x.frames ≤ f) (sym (get_or-take most all window no_image (omega (arith, some))))
               (omega (arith, near, early-below window (frames + 1) all (omega (arith, some, late, reach.within)) are));
+          near = subst (λ (x : Image). f ≤ x.frames + 3) (sym (get_or-take most all window no_image (omega (arith, some))))
+              (omega (arith, reach.near, later-below window (suc reach.place) (frames + 1) all (omega (arith, some, late)) (omega (arith, reach.within)) are));
         }
       ]
 
@@ -59,9 +69,6 @@ pub below-with : (one other : ℕ → List ℕ → Type 0) (right end : ℕ) (im
 below-with one other right end [] same less are = tt
 below-with one other right end (x ∷ xs) same less are =
     (are.0, same x.frames x.bytes (omega (arith, are.0, less)) are.1, below-with one other right x.frames xs same (omega (arith, are.0, less)) are.2)
-
-pub reach-later : (f more : ℕ) (images : List Image) → f ≤ more → ReachBackTo f images → ReachBackTo more images
-reach-later f more images less reach = record { place = reach.place; within = reach.within; early = omega (arith, less, reach.early) }
 
 -- the images that are dropped are too new to reach there
 pub reach-behind : (f n : ℕ) (images : List Image) → ((j : ℕ) → j < n → f < (image_at images j).frames) → (reach : ReachBackTo f images) → n ≤ reach.place
@@ -79,4 +86,6 @@ reach-dropped f n images newer reach =
       within = omega (arith, behind, reach.within, length-drop n images);
       early = subst (λ (x : Image). x.frames ≤ f) (sym (get_or-drop n images (reach.place - n) no_image))
           (subst (λ (j : ℕ). (image_at images j).frames ≤ f) (sym place) reach.early);
+      near = subst (λ (x : Image). f ≤ x.frames + 3) (sym (get_or-drop n images (reach.place - n) no_image))
+          (subst (λ (j : ℕ). f ≤ (image_at images j).frames + 3) (sym place) reach.near);
     }

@@ -1,5 +1,5 @@
 -- The images that a session keeps, newest first. This project's profile.
-use Rattle.std.specs.Prelude.{ℕ, ◌<◌, ◌≤◌, All, List, [], ◌∷◌, length, slice_index_or, vec_capacity, ⊤}
+use Rattle.std.specs.Prelude.{ℕ, ◌+◌, ◌<◌, ◌≤◌, All, List, [], ◌∷◌, length, slice_index_or, vec_capacity, ⊤}
 use Rattle.rollback_images.specs.declared.kept_images.Slot.{Slot}
 
 -- an image, and after how many frames it was kept
@@ -27,11 +27,12 @@ abbrev pub AreImagesBelow : (ℕ → List ℕ → Type 0) → ℕ → List Image
 AreImagesBelow is_image end [] = ⊤
 AreImagesBelow is_image end (image ∷ older) = (image.frames < end) × is_image image.frames image.bytes × AreImagesBelow is_image image.frames older
 
--- images reach back to the start of a frame: one of them was kept there or earlier
+-- images reach back to the start of a frame: one of them was kept there, or at most three frames earlier
 pub record ReachBackTo (frame : ℕ) (images : List Image) : Type 0 where
   pub place : ℕ
   pub within : place < length images
   pub early : (image_at images place).frames ≤ frame
+  pub near : frame ≤ (image_at images place).frames + 3
 
 -- there are lists for one image at least and for those that are kept, each with room for one, and places for the
 -- lists

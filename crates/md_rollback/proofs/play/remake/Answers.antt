@@ -70,3 +70,9 @@ returns-clause-images g c =
     frames-are cart (arc_value c.in_ok-recording.recording).frames _ m.console c.in_ok-from.ensures.played.machine_is.run ∙ ap (λ (r : Recorded). r.frames) c.in_ok-recording.ensures in
     subst (λ (k : Kept). AreMade cart spelling is_own c.args.expected.now (length c.args.expected.now) k c.play.new.images) c.drop_newest.ensures
     (subst (λ (r : List Frame). AreMade cart spelling is_own r (length c.args.expected.now) c.drop_newest.new.self c.play.new.images) same c.play.ensures.images)
+
+pub play-requires-clause-some : goal.play-requires-clause-some
+play-requires-clause-some g c = omega (arith, c.requires.some, ap (λ (k : Kept). k.most) c.drop_newest.ensures)
+
+pub returns-clause-near : goal.returns-clause-near
+returns-clause-near g c = c.play.ensures.near

@@ -1,7 +1,7 @@
-use Rattle.std.proofs.Common.{◌≡◌, ◌∙◌, ◌+◌, ◌<◌, ap, sym, subst, List, ℕ, length, drop, arith}
+use Rattle.std.proofs.Common.{◌≡◌, ◌∙◌, ◌+◌, ◌<◌, ◌≤◌, ap, sym, subst, List, ℕ, length, drop, arith}
 use Rattle.md_pads.specs.Recording.{Frame, IsRecording, recording_of}
 use Rattle.md_machine.specs.Machines.{MachineValue}
-use Rattle.rollback_images.specs.Images.{AreImagesBelow, Kept, image_at}
+use Rattle.rollback_images.specs.Images.{AreImagesBelow, Kept, ReachBackTo, image_at}
 use Rattle.rollback_inputs.specs.Inputs.{expected_frames}
 use Rattle.rollback_inputs.proofs.Expected.{frames-long}
 use Rattle.md_rollback.specs.Played.{AreMade, IsImageOf, IsMachineOf, IsPlayed, IsPlayedAlike}
@@ -12,6 +12,9 @@ use Rattle.md_rollback.proofs.session.Session.advance.Goals as goal
 pub same_frames-right-requires : goal.same_frames-right-requires
 same_frames-right-requires g c =
     omega (arith, ap length c.as_slice.ensures.value, ap length (c.as_slice-2.ensures.value ∙ c.in_ok-expected.ensures), frames-long c.self.inside.inputs.local c.self.inside.inputs.remote (c.len-frames.result + 1), c.len-frames.ensures ∙ c.self.inside.played.ok.0)
+
+pub remake-requires-clause-some : goal.remake-requires-clause-some
+remake-requires-clause-some g c = omega (arith, c.self.invariant.1)
 
 pub remake-requires-clause-newer : goal.remake-requires-clause-newer
 remake-requires-clause-newer g c =
@@ -163,10 +166,12 @@ invariant_of-self-2 g c =
     subst (λ (x : List Frame). IsPlayed cart x (length x) c.remake.new.machine) c.as_slice-3.ensures.value c.in_ok-remake.ensures.machine in
     let newer = c.newer_than-newer.result in
     let made : AreMade cart spelling is_own expected (length expected) (record c.self.inside.images { images = drop newer kept }) c.remake.new.images =
-    subst (λ (x : List Frame). AreMade cart spelling is_own x (length x) (record c.self.inside.images { images = drop newer kept }) c.remake.new.images) c.as_slice-3.ensures.value c.in_ok-remake.ensures.images in (
+    subst (λ (x : List Frame). AreMade cart spelling is_own x (length x) (record c.self.inside.images { images = drop newer kept }) c.remake.new.images) c.as_slice-3.ensures.value c.in_ok-remake.ensures.images in
+    let near : (w f : ℕ) → c.remake.new.images.most ≡ w + 1 → right < f → f ≤ length expected → length expected ≤ f + w → ReachBackTo f c.remake.new.images.images =
+    subst (λ (x : List Frame). (w f : ℕ) → c.remake.new.images.most ≡ w + 1 → right < f → f ≤ length x → length x ≤ f + w → ReachBackTo f c.remake.new.images.images) c.as_slice-3.ensures.value c.in_ok-remake.ensures.near in (
       session-next cart spelling is_ready is_own c.self.inside.window inputs played expected kept c.self.inside.machine right was found newer c.newer_than-newer.ensures.newer c.self.inside.images c.remake.new.images c.remake.new.machine c.known.ensures
           (omega (arith, c.if-frames-eq-MOST_FRAMES.false, was.few, many))
-          (omega (arith, c.if-frames-confirmed.false, c.confirmed-confirmed.ensures.confirmed, many)) now c.self.invariant.1 made,
+          (omega (arith, c.if-frames-confirmed.false, c.confirmed-confirmed.ensures.confirmed, many)) now c.self.invariant.1 made near,
       ap (λ (k : Kept). k.most) made.rest ∙ c.self.invariant.1,
       ap (λ (k : Kept). k.size) made.rest ∙ c.self.invariant.2,
     )
