@@ -205,44 +205,20 @@ fn fill_unshaded(
     }
 }
 
-/// Writes the bytes of the colours of these indices, four dots at a time. Each dot but the last is
-/// written with one byte more, in whose place the next dot's first then stands.
-#[tactic(auto, using(crate::proofs::Printed::dot_printed))]
+/// Writes the bytes of the colours of these indices. Each dot but the last is written with one byte
+/// more, in whose place the next dot's first then stands.
 fn print(table: &[[u8; 4]; 192], line: &[u8; 320], rgb: &mut [u8])
     requires indices { (x : ℕ) → x < 320 → slice_index line.now x < 192 }
     requires entries { (x : ℕ) → x < 320 → length (slice_index_or table.now (slice_index line.now x) []) ≡ 4 }
     requires room { length rgb.old ≡ 960 }
     ensures { (n : ℕ) → n < 960 → slice_index rgb.new n ≡ printed_byte table.now line.now n }
 {
-    for x in 0..79 {
-        let first = table[usize::from(line[4 * x])];
-        let second = table[usize::from(line[4 * x + 1])];
-        let third = table[usize::from(line[4 * x + 2])];
-        let fourth = table[usize::from(line[4 * x + 3])];
-        print_dot(&first, 4 * x, rgb);
-        print_dot(&second, 4 * x + 1, rgb);
-        print_dot(&third, 4 * x + 2, rgb);
-        print_dot(&fourth, 4 * x + 3, rgb);
-    }
-    for x in 316..319 {
+    for x in 0..319 {
         let dot = table[usize::from(line[x])];
-        print_dot(&dot, x, rgb);
+        rgb[3 * x..3 * x + 4].copy_from_slice(&dot);
     }
     let [red, green, blue, _] = table[usize::from(line[319])];
     rgb[957] = red;
     rgb[958] = green;
     rgb[959] = blue;
-}
-
-/// Writes the bytes of the dot at `x`, and one more.
-#[inline(always)]
-fn print_dot(dot: &[u8; 4], x: usize, rgb: &mut [u8])
-    requires within { x < 319 }
-    requires dot { length dot.now ≡ 4 }
-    requires whole { length rgb.old ≡ 960 }
-    ensures whole { length rgb.new ≡ 960 }
-    ensures before { (n : ℕ) → n < 3 * x → slice_index rgb.new n ≡ slice_index rgb.old n }
-    ensures dot { (n : ℕ) → n < 3 → slice_index rgb.new (3 * x + n) ≡ slice_index dot.now n }
-{
-    rgb[3 * x..3 * x + 4].copy_from_slice(dot);
 }
