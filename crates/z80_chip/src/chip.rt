@@ -7,7 +7,7 @@ use rom_header::Cart;
 use std::alloc::Global;
 use std::marker::Model;
 use std::sync::Arc;
-use z80_exec::Progress80;
+use z80_exec::{DecodeCache80, Progress80};
 use z80_parcel::first;
 
 /// The Z80, with the cartridge, and with its RAM and bank register where it has them. It stands at
@@ -19,6 +19,8 @@ pub struct Chip80 {
     pub(crate) cart: Arc<Cart>,
     pub(crate) parcel: Option<Parcel>,
     pub(crate) sequencer: Sequencer,
+    /// Instructions that were decoded before.
+    pub(crate) cache: DecodeCache80,
     pub(crate) progress: Progress80,
 }
 
@@ -50,10 +52,12 @@ impl Chip80 {
     {
         cart.bytes();
         let parcel = first(alloc)?;
+        let cache = DecodeCache80::empty(alloc)?;
         Ok(Chip80 {
             cart,
             parcel: Some(parcel),
             sequencer: Sequencer::power_on(),
+            cache,
             progress: Progress80::new(),
         })
     }
@@ -93,8 +97,13 @@ impl Chip80 {
         requires fits { Fits (asked_of self.old.cart self.old.state) (answer_value80_of answer) }
         ensures { self.new ≡ record self.old { state = answered self.old.cart self.old.state (answer_value80_of answer) } }
     {
-        self.sequencer
-            .answer(answer, &self.cart, &mut self.parcel, &mut self.progress);
+        self.sequencer.answer(
+            answer,
+            &self.cart,
+            &mut self.parcel,
+            &mut self.cache,
+            &mut self.progress,
+        );
     }
 
     /// Takes the sample that is the next event, and goes on to the event after it. First it looks at the
@@ -107,8 +116,13 @@ impl Chip80 {
         requires far { self.old.state.next < 2 ^ 50 }
         ensures { self.new ≡ record self.old { state = begun self.old.cart self.old.state pins } }
     {
-        self.sequencer
-            .begin(&pins, &self.cart, &mut self.parcel, &mut self.progress);
+        self.sequencer.begin(
+            &pins,
+            &self.cart,
+            &mut self.parcel,
+            &mut self.cache,
+            &mut self.progress,
+        );
     }
 
     /// Takes the sample that is the next event, as `sample` does, and then all samples of these pins
@@ -140,7 +154,14 @@ impl Chip80 {
         ensures all { is_rest (case_of self.old.state pins.now) ≡ true → end ≤ self.new.state.next }
         ensures cart { self.new.cart ≡ self.old.cart }
     {
-        self.sequencer.begin_ahead(pins, end, &self.cart, &mut self.parcel, &mut self.progress)
+        self.sequencer.begin_ahead(
+            pins,
+            end,
+            &self.cart,
+            &mut self.parcel,
+            &mut self.cache,
+            &mut self.progress,
+        )
     }
 
     /// Whether the next event is a sample below a cycle.

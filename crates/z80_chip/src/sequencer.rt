@@ -20,7 +20,7 @@ use md_word::clock::SUB_CLOCK;
 use md_word::{Answer80, Parcel, Pins80, Request80};
 use rom_header::Cart;
 use z80_decode::InterruptMode;
-use z80_exec::{Finish80, Progress80, Regs80, Step80, foresee, go};
+use z80_exec::{DecodeCache80, Finish80, Progress80, Regs80, Step80, foresee, go};
 use z80_parcel::store_bytes;
 
 /// The master cycles from a sample to the first access, to a yield and to a take, and for which a
@@ -201,6 +201,7 @@ impl Sequencer {
         cause: u8,
         cart: &Cart,
         parcel: &Parcel,
+        cache: &mut DecodeCache80,
         progress: &mut Progress80,
     ) -> Option<Finish80>
         ensures value { events.ended_by result self.new.regs (done_of progress.new)
@@ -216,6 +217,7 @@ impl Sequencer {
             parcel,
             &self.answers,
             cause,
+            cache,
             progress,
             &mut self.behind.end,
         ) {
@@ -229,12 +231,19 @@ impl Sequencer {
 
     /// Goes on with what is carried out, as far as the answers go.
     #[tactic(auto, unfolding(crate::specs::Events::went_on))]
-    fn go_on(&mut self, cause: u8, cart: &Cart, parcel: &mut Parcel, progress: &mut Progress80)
+    fn go_on(
+        &mut self,
+        cause: u8,
+        cart: &Cart,
+        parcel: &mut Parcel,
+        cache: &mut DecodeCache80,
+        progress: &mut Progress80,
+    )
         requires { self.old.start < 2 ^ 50 }
         ensures state { state_of self.new (Some parcel.new) ≡ went_on cart.now (state_of self.old (Some parcel.old)) cause }
         ensures foreseen { IsForeseen self.new.stage cart.now (state_of self.new (Some parcel.new)) self.new.behind }
     {
-        match self.step(cause, cart, parcel, progress) {
+        match self.step(cause, cart, parcel, cache, progress) {
             None => self.ask(cause),
             Some(finish) => {
                 store_bytes(progress.writes.as_slice(), parcel);
@@ -250,6 +259,7 @@ impl Sequencer {
         cause: u8,
         cart: &Cart,
         parcel: &mut Option<Parcel>,
+        cache: &mut DecodeCache80,
         progress: &mut Progress80,
     )
         requires start { self.old.start < 2 ^ 50 }
@@ -258,7 +268,7 @@ impl Sequencer {
         ensures foreseen { IsForeseen self.new.stage cart.now (state_of self.new parcel.new) self.new.behind }
     {
         if let Some(parcel) = parcel {
-            self.go_on(cause, cart, parcel, progress);
+            self.go_on(cause, cart, parcel, cache, progress);
         }
     }
 
@@ -270,6 +280,7 @@ impl Sequencer {
         pins: &Pins80,
         cart: &Cart,
         parcel: &mut Option<Parcel>,
+        cache: &mut DecodeCache80,
         progress: &mut Progress80,
     )
         requires start { self.old.start < 2 ^ 50 }
@@ -282,9 +293,9 @@ impl Sequencer {
             Case::Yield => self.go_to(Stage::Yield),
             Case::Take => self.go_to(Stage::Take),
             Case::Suspended | Case::InReset => self.wait(STEP),
-            Case::Interrupt => self.carry_out(1, cart, parcel, progress),
+            Case::Interrupt => self.carry_out(1, cart, parcel, cache, progress),
             Case::Halted => self.wait(FIRST_STEP),
-            Case::Instruction => self.carry_out(0, cart, parcel, progress),
+            Case::Instruction => self.carry_out(0, cart, parcel, cache, progress),
         }
     }
 
@@ -311,6 +322,7 @@ impl Sequencer {
         end: u64,
         cart: &Cart,
         parcel: &mut Option<Parcel>,
+        cache: &mut DecodeCache80,
         progress: &mut Progress80,
     ) -> u64
         requires start { self.old.start < 2 ^ 50 }
@@ -322,7 +334,7 @@ impl Sequencer {
         ensures all { cases.is_rest (cases.case_of (state_of self.old parcel.old) pins.now) ≡ true → end ≤ self.new.next }
     {
         let rests = self.case_at(pins, parcel).is_rest();
-        self.begin(pins, cart, parcel, progress);
+        self.begin(pins, cart, parcel, cache, progress);
         if rests {
             return 1 + self.rest_to(end);
         }
@@ -389,6 +401,7 @@ impl Sequencer {
         answer: Answer80,
         cart: &Cart,
         parcel: &mut Option<Parcel>,
+        cache: &mut DecodeCache80,
         progress: &mut Progress80,
     )
         requires start { self.old.start < 2 ^ 50 }
@@ -400,7 +413,7 @@ impl Sequencer {
     {
         match self.stage {
             Stage::Sample => {}
-            Stage::Access => self.take_value(value_in(&answer), cart, parcel, progress),
+            Stage::Access => self.take_value(value_in(&answer), cart, parcel, cache, progress),
             Stage::Yield | Stage::Take => {
                 *parcel = parcel_in(answer);
                 self.wait(MOVE);
@@ -414,6 +427,7 @@ impl Sequencer {
         value: u8,
         cart: &Cart,
         parcel: &mut Option<Parcel>,
+        cache: &mut DecodeCache80,
         progress: &mut Progress80,
     )
         requires start { self.old.start < 2 ^ 50 }
@@ -429,7 +443,7 @@ impl Sequencer {
         }
         self.answers.push(value);
         let cause = self.cause;
-        self.carry_out(cause, cart, parcel, progress);
+        self.carry_out(cause, cart, parcel, cache, progress);
     }
 
     /// Ends what was carried out as it is foreseen.

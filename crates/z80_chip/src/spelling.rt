@@ -12,7 +12,7 @@ use md_word::{NoMemory, Parcel, Unspell};
 use rom_header::Cart;
 use std::alloc::Global;
 use std::sync::Arc;
-use z80_exec::Progress80;
+use z80_exec::{DecodeCache80, Progress80};
 use z80_parcel::{BANKS, parcel_of, put_store};
 
 /// How many bytes of a saved state keep a Z80 without its RAM, and where its RAM stands else.
@@ -83,10 +83,12 @@ impl Chip80 {
         if !saved.asks_more(&cart, &parcel) {
             return Err(Unspell::Rule { place: RAM as u64 });
         }
+        let cache = DecodeCache80::empty(alloc)?;
         Ok(Chip80 {
             cart,
             parcel,
             sequencer: saved.sequencer(),
+            cache,
             progress: Progress80::new(),
         })
     }

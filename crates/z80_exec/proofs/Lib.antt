@@ -1,4 +1,5 @@
 pub mod Bounds
+pub mod Caches
 pub mod Compares
 pub mod Foresight
 pub mod Meaning

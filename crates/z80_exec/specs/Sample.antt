@@ -1,5 +1,6 @@
 -- What a sample comes to: an instruction or an interrupt.
 pub mod Bounds
+pub mod Caches
 pub mod Entries
 pub mod Execution
 pub mod Foresight

@@ -12,5 +12,6 @@ use access::view::Around;
 pub use access::view::Progress80;
 use access::waiting::Waiting;
 pub use regs80::Regs80;
+pub use sample::cache::DecodeCache80;
 pub use sample::step::{Finish80, Foreseen80, Step80};
 pub use sample::{foresee, go};

@@ -1,12 +1,14 @@
-ghost use Rattle.std.specs.Prelude.{◌≡◌, ◌<◌, ◌≤◌, false, true, slice_index};
+ghost use Rattle.std.specs.Prelude.{◌≡◌, ◌<◌, ◌≤◌, ℕ, false, true};
 ghost use Rattle.arrayvec.specs.ArrayVec.{array_vec_len};
-ghost use Rattle.z80_decode.specs.Instructions.{instruction_of};
 ghost use Rattle.z80_exec.specs.Access.Clauses.{done_of, memory_of};
+ghost use Rattle.z80_exec.specs.Access.Memory.{instruction_bytes};
+ghost use Rattle.z80_exec.specs.Sample.Caches.{IsInstructionOf};
 ghost use Rattle.z80_exec.specs.Sample.Foresight.{EndsForeseen};
 ghost use Rattle.z80_exec.specs.Sample.Samples as samples;
 ghost use Rattle.z80_exec.specs.Sample.Times as times;
 ghost use Rattle.z80_exec.specs.Sample.Samples.{CoversAccesses, Keeps, WaitsBelow, WaitsRightly, nothing, told_by};
 
+pub mod cache;
 mod entry;
 mod execution;
 pub mod step;
@@ -15,31 +17,13 @@ mod times;
 use crate::access::memory::instruction_bytes;
 use crate::{Around, Finish80, Foreseen80, Progress80, Regs80, Step80};
 use arrayvec::ArrayVec;
+use cache::{CachedInstruction, DecodeCache80, cached};
 use entry::enter;
 use execution::execute;
 use md_word::Parcel;
 use rom_header::Cart;
-use times::{interrupt_time, time_of};
-use z80_decode::{Decoded80, Op80, decode};
-
-/// Whether a byte begins an instruction of more than one opcode.
-fn is_prefix(byte: u8) -> bool
-    ensures { result ≡ samples.is_prefix byte }
-{
-    matches!(byte, 0xcb | 0xdd | 0xed | 0xfd)
-}
-
-/// How much R rises for an instruction, by its first byte: with a prefix by 2, else by 1.
-fn rise_of(op: Op80, first: u8) -> u8
-    ensures value { result ≡ samples.rise_of op first }
-    ensures most { result ≤ 2 }
-{
-    let prefixed = if is_prefix(first) { 2 } else { 1 };
-    match op {
-        Op80::LonePrefix(_) => 1,
-        _ => prefixed,
-    }
-}
+use times::interrupt_time;
+use z80_decode::Op80;
 
 /// R, risen in its low seven bits.
 fn risen(r: u8, by: u8) -> u8
@@ -50,37 +34,49 @@ fn risen(r: u8, by: u8) -> u8
 }
 
 /// The registers once an instruction is fetched.
+#[inline(always)]
 #[tactic(auto, unfolding(crate::specs::Sample::Samples::fetched))]
-fn fetch(found: &Decoded80, first: u8, regs: &mut Regs80)
-    ensures { regs.new ≡ samples.fetched found.now first regs.old }
+fn fetch(found: &CachedInstruction, regs: &mut Regs80)
+    requires { found.now.rise ≤ 2 }
+    ensures { (first : ℕ) → found.now.rise ≡ samples.rise_of found.now.decoded.op first → regs.new ≡ samples.fetched found.now.decoded first regs.old }
 {
-    regs.pc = regs.pc.wrapping_add(u16::from(found.length));
-    regs.r = risen(regs.r, rise_of(found.op, first));
+    regs.pc = regs.pc.wrapping_add(u16::from(found.decoded.length));
+    regs.r = risen(regs.r, found.rise);
 }
 
 /// Keeps what an instruction comes to behind the write that waits, where that is known.
 #[inline(never)]
-fn foresee_finish(op: Op80, foreseen: &mut Foreseen80)
+fn foresee_finish(found: &CachedInstruction, foreseen: &mut Foreseen80)
+    requires { found.now.short ≡ times.time_of found.now.decoded.op false }
     ensures known { foreseen.new.known ≡ foreseen.old.known }
     ensures regs { foreseen.new.regs ≡ foreseen.old.regs }
-    ensures time { foreseen.old.known ≡ true → foreseen.new.finish.t ≡ times.time_of op false }
-    ensures halted { foreseen.old.known ≡ true → foreseen.new.finish.halted ≡ samples.halts op }
-    ensures after_ei { foreseen.old.known ≡ true → foreseen.new.finish.after_ei ≡ samples.is_ei op }
+    ensures time { foreseen.old.known ≡ true → foreseen.new.finish.t ≡ times.time_of found.now.decoded.op false }
+    ensures halted { foreseen.old.known ≡ true → foreseen.new.finish.halted ≡ samples.halts found.now.decoded.op }
+    ensures after_ei { foreseen.old.known ≡ true → foreseen.new.finish.after_ei ≡ samples.is_ei found.now.decoded.op }
 {
     if foreseen.known {
         foreseen.finish = Finish80 {
-            t: time_of(op, false),
-            halted: matches!(op, Op80::Halt),
-            after_ei: matches!(op, Op80::EnableInterrupts),
+            t: found.short,
+            halted: matches!(found.decoded.op, Op80::Halt),
+            after_ei: matches!(found.decoded.op, Op80::EnableInterrupts),
         };
     }
 }
 
-/// The instruction that begins with this byte.
+/// The clocks of an instruction; of two times the longer where it was taken or goes on.
+#[inline(always)]
+fn time_of(found: &CachedInstruction, taken: bool) -> u32
+    requires short { found.now.short ≡ times.time_of found.now.decoded.op false }
+    requires long { found.now.long ≡ times.time_of found.now.decoded.op true }
+    ensures { result ≡ times.time_of found.now.decoded.op taken }
+{
+    if taken { found.long } else { found.short }
+}
+
+/// The instruction that begins with these bytes.
 #[tactic(auto, unfolding(crate::specs::Sample::Samples::instruction))]
 fn instruction(
-    found: &Decoded80,
-    first: u8,
+    found: &CachedInstruction,
     around: &Around,
     regs: &mut Regs80,
     progress: &mut Progress80,
@@ -88,21 +84,25 @@ fn instruction(
 ) -> Step80
     requires fresh { done_of progress.old ≡ nothing }
     requires nothing { foreseen.old.known ≡ false }
-    ensures foreseen { EndsForeseen result foreseen.new (samples.instruction found.now first regs.old) (memory_of around.now) }
-    ensures value { told_by result regs.new (done_of progress.new) ≡ samples.instruction found.now first regs.old (memory_of around.now) }
+    requires rise { found.now.rise ≤ 2 }
+    requires short { found.now.short ≡ times.time_of found.now.decoded.op false }
+    requires long { found.now.long ≡ times.time_of found.now.decoded.op true }
+    ensures foreseen { (first : ℕ) → found.now.rise ≡ samples.rise_of found.now.decoded.op first
+        → EndsForeseen result foreseen.new (samples.instruction found.now.decoded first regs.old) (memory_of around.now) }
+    ensures value { (first : ℕ) → found.now.rise ≡ samples.rise_of found.now.decoded.op first
+        → told_by result regs.new (done_of progress.new) ≡ samples.instruction found.now.decoded first regs.old (memory_of around.now) }
     ensures kept { Keeps result regs.old regs.new }
 {
     let before = *regs;
-    let op = found.op;
-    fetch(found, first, regs);
-    match execute(op, around, regs, progress, foreseen) {
+    fetch(found, regs);
+    match execute(found.decoded.op, around, regs, progress, foreseen) {
         Ok(taken) => Step80::Done(Finish80 {
-            t: time_of(op, taken),
-            halted: matches!(op, Op80::Halt),
-            after_ei: matches!(op, Op80::EnableInterrupts),
+            t: time_of(found, taken),
+            halted: matches!(found.decoded.op, Op80::Halt),
+            after_ei: matches!(found.decoded.op, Op80::EnableInterrupts),
         }),
         Err(waiting) => {
-            foresee_finish(op, foreseen);
+            foresee_finish(found, foreseen);
             *regs = before;
             Step80::Need(waiting.request())
         }
@@ -130,34 +130,41 @@ fn interrupt(around: &Around, regs: &mut Regs80, progress: &mut Progress80) -> S
     }
 }
 
-/// The sample of a cause, over the memories of the processor.
-#[tactic(auto, unfolding(crate::specs::Sample::Samples::sampled))]
-fn run(
-    regs: &mut Regs80,
-    cart: &Cart,
-    parcel: &Parcel,
-    answers: &ArrayVec<u8, 4>,
-    cause: u8,
-    progress: &mut Progress80,
-    foreseen: &mut Foreseen80,
-) -> Step80
-    ensures foreseen { EndsForeseen result foreseen.new (samples.sampled cause regs.old) (record { rom = cart.now; ram = parcel.now.ram.value; bank = parcel.now.bank; answers = answers.now.items }) }
-    ensures value { told_by result regs.new (done_of progress.new) ≡ samples.sampled cause regs.old (record { rom = cart.now; ram = parcel.now.ram.value; bank = parcel.now.bank; answers = answers.now.items }) }
-    ensures kept { Keeps result regs.old regs.new }
+/// The memories of the processor and the answers so far.
+#[inline(always)]
+fn around_of<'a>(cart: &'a Cart, parcel: &'a Parcel, answers: &'a ArrayVec<u8, 4>) -> Around<'a>
+    ensures { memory_of result ≡ record { rom = cart.now; ram = parcel.now.ram.value; bank = parcel.now.bank; answers = answers.now.items } }
 {
-    progress.restart();
-    foreseen.known = false;
-    let around = Around {
+    Around {
         rom: cart.bytes(),
         ram: &parcel.ram,
         bank: parcel.bank,
         answers: answers.as_slice(),
-    };
+    }
+}
+
+/// The sample of a cause, with the instruction at the program counter.
+#[inline(always)]
+#[tactic(auto, unfolding(crate::specs::Sample::Samples::sampled))]
+fn run(
+    cause: u8,
+    found: &CachedInstruction,
+    around: &Around,
+    regs: &mut Regs80,
+    progress: &mut Progress80,
+    foreseen: &mut Foreseen80,
+) -> Step80
+    requires { IsInstructionOf (instruction_bytes regs.old.pc (memory_of around.now)) found.now }
+    ensures foreseen { EndsForeseen result foreseen.new (samples.sampled cause regs.old) (memory_of around.now) }
+    ensures value { told_by result regs.new (done_of progress.new) ≡ samples.sampled cause regs.old (memory_of around.now) }
+    ensures kept { Keeps result regs.old regs.new }
+{
+    progress.restart();
+    foreseen.known = false;
     if cause == 0 {
-        let bytes = instruction_bytes(regs.pc, &around);
-        instruction(&decode(&bytes), bytes[0], &around, regs, progress, foreseen)
+        instruction(found, around, regs, progress, foreseen)
     } else {
-        interrupt(&around, regs, progress)
+        interrupt(around, regs, progress)
     }
 }
 
@@ -168,14 +175,16 @@ fn run(
 /// RAM and the bank register before it. Where it waits for an answer, to a read or a write, the
 /// registers stay as they were. `progress` is cleared first; its writes count where the step is done:
 /// the bytes written into RAM and the bank register, the oldest first. Where it waits for the answer to
-/// a write, `foreseen` has what it comes to then, if that is known: of an LD of 8 bits. Source: Zilog UM0080, "Z80
-/// Instruction Description" and "Interrupt Response".
+/// a write, `foreseen` has what it comes to then, if that is known: of an LD of 8 bits. `cache` has
+/// instructions that were decoded before. Source: Zilog UM0080, "Z80 Instruction Description" and
+/// "Interrupt Response".
 pub fn foresee(
     regs: &mut Regs80,
     cart: &Cart,
     parcel: &Parcel,
     answers: &ArrayVec<u8, 4>,
     cause: u8,
+    cache: &mut DecodeCache80,
     progress: &mut Progress80,
     foreseen: &mut Foreseen80,
 ) -> Step80
@@ -186,10 +195,13 @@ pub fn foresee(
     ensures asks { WaitsRightly result }
     ensures covers { CoversAccesses result progress.new.used }
 {
-    run(regs, cart, parcel, answers, cause, progress, foreseen)
+    let around = around_of(cart, parcel, answers);
+    let bytes = instruction_bytes(regs.pc, &around);
+    let found = cache.instruction(regs.pc, &bytes);
+    run(cause, &found, &around, regs, progress, foreseen)
 }
 
-/// The same where nothing is to be foreseen.
+/// The same where nothing is to be foreseen and no instruction is kept.
 pub fn go(
     regs: &mut Regs80,
     cart: &Cart,
@@ -204,6 +216,8 @@ pub fn go(
     ensures asks { WaitsRightly result }
     ensures covers { CoversAccesses result progress.new.used }
 {
+    let around = around_of(cart, parcel, answers);
+    let found = cached(&instruction_bytes(regs.pc, &around));
     let mut foreseen = Foreseen80::nothing();
-    foresee(regs, cart, parcel, answers, cause, progress, &mut foreseen)
+    run(cause, &found, &around, regs, progress, &mut foreseen)
 }

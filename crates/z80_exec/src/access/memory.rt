@@ -10,6 +10,9 @@ use z80_parcel::{RAM_END, is_bank, shift};
 /// The first address of the window, which reaches to the last address.
 const WINDOW: u16 = 0x8000;
 
+/// The first address from which fewer than four bytes of RAM go on.
+const LAST_FOUR: u16 = 0x1ffd;
+
 /// The byte that is read where nothing answers.
 const OPEN_BUS: u8 = 0xff;
 
@@ -54,9 +57,38 @@ fn instruction_byte(at: u16, around: &Around) -> u8
     }
 }
 
+/// As many bytes of RAM, where it does not begin anew among them.
+#[inline(always)]
+#[tactic(auto, unfolding(crate::specs::Access::Memory::instruction_bytes, crate::specs::Access::Memory::instruction_byte, crate::specs::Access::Memory::byte_at))]
+fn ram_bytes(at: u16, around: &Around) -> [u8; 4]
+    requires { at < 8189 }
+    ensures { result ≡ memory.instruction_bytes at (memory_of around.now) }
+{
+    let place = usize::from(at);
+    [
+        around.ram[place],
+        around.ram[place + 1],
+        around.ram[place + 2],
+        around.ram[place + 3],
+    ]
+}
+
 /// As many bytes as the longest instruction has, from an address on. None is an access.
-#[tactic(auto, unfolding(crate::specs::Access::Memory::instruction_bytes))]
+#[inline(always)]
 pub fn instruction_bytes(at: u16, around: &Around) -> [u8; 4]
+    ensures { result ≡ memory.instruction_bytes at (memory_of around.now) }
+{
+    if at < LAST_FOUR {
+        ram_bytes(at, around)
+    } else {
+        far_bytes(at, around)
+    }
+}
+
+/// The same, byte by byte.
+#[inline(never)]
+#[tactic(auto, unfolding(crate::specs::Access::Memory::instruction_bytes))]
+fn far_bytes(at: u16, around: &Around) -> [u8; 4]
     ensures { result ≡ memory.instruction_bytes at (memory_of around.now) }
 {
     [
