@@ -18,7 +18,7 @@ use Rattle.md_machine.specs.Starts.{first_batch}
 use Rattle.md_machine.specs.declared.chips.Chip.{Chip}
 use Rattle.md_machine.proofs.Moves.{five-each}
 
-key-itself : (k : Key) → key_lt k k ≡ false
+pub key-itself : (k : Key) → key_lt k k ≡ false
 key-itself k = grind (arith, nat_tests)
 
 not-below : (at : ℕ) → at ≤ first_batch at

@@ -9,6 +9,7 @@ use Rattle.chip_core.specs.Machines.{IsQuiet, Machine, put}
 use Rattle.md_machine.specs.Drained.{with_emptied, emptied}
 use Rattle.md_machine.specs.Lines.{frames_of}
 use Rattle.md_machine.specs.Machines.{IsMachine, MachineValue, kept_in, machine_at}
+use Rattle.md_machine.specs.Media.{no_media}
 use Rattle.bus_shared.specs.Board.{Board, IsBoard}
 use Rattle.md_machine.specs.Regions.{IsOneRegion, most_entries}
 use Rattle.md_machine.specs.Refinement.{console_of, draw_of, fm_of, psg_of, record_of}
@@ -58,6 +59,41 @@ emptied-levels (Sub c) = refl
 emptied-levels (Draw c) = refl
 emptied-levels (Fm c) = refl
 emptied-levels (Psg c) = refl
+
+-- all five emptied: the machine is the same, and keeps nothing
+abbrev all_emptied : Machine Chip Board → Machine Chip Board
+all_emptied m = record { shared = m.shared; chip = λ i. emptied (m.chip i) }
+
+emptied-main : (c c1 c2 c3 c4 : Chip) (b : Board) → record_of (emptied c) c1 c2 c3 c4 b ≡ record_of c c1 c2 c3 c4 b
+emptied-main (Main c) c1 c2 c3 c4 b = refl
+emptied-main (Sub c) c1 c2 c3 c4 b = refl
+emptied-main (Draw c) c1 c2 c3 c4 b = refl
+emptied-main (Fm c) c1 c2 c3 c4 b = refl
+emptied-main (Psg c) c1 c2 c3 c4 b = refl
+
+emptied-sub : (c0 c c2 c3 c4 : Chip) (b : Board) → record_of c0 (emptied c) c2 c3 c4 b ≡ record_of c0 c c2 c3 c4 b
+emptied-sub c0 (Main c) c2 c3 c4 b = refl
+emptied-sub c0 (Sub c) c2 c3 c4 b = refl
+emptied-sub c0 (Draw c) c2 c3 c4 b = refl
+emptied-sub c0 (Fm c) c2 c3 c4 b = refl
+emptied-sub c0 (Psg c) c2 c3 c4 b = refl
+
+pub console-emptied : (m : Machine Chip Board) → console_of (all_emptied m) ≡ console_of m
+unfolding console_of
+console-emptied m =
+    let c0 = m.chip 0 in
+    let c1 = m.chip 1 in
+    let c2 = m.chip 2 in
+    let c3 = m.chip 3 in
+    let c4 = m.chip 4 in
+    emptied-main c0 (emptied c1) (emptied c2) (emptied c3) (emptied c4) m.shared
+    ∙ emptied-sub c0 c1 (emptied c2) (emptied c3) (emptied c4) m.shared
+    ∙ emptied-draw c0 c1 c2 (emptied c3) (emptied c4) m.shared
+    ∙ emptied-fm c0 c1 c2 c3 (emptied c4) m.shared
+    ∙ emptied-psg c0 c1 c2 c3 c4 m.shared
+
+pub kept-emptied : (m : Machine Chip Board) → kept_in (all_emptied m) ≡ no_media
+kept-emptied m = λ i. record { frames = emptied-frame (m.chip 2) i; sides = emptied-sides (m.chip 3) i; levels = emptied-levels (m.chip 4) i }
 
 -- the chips after one of them was emptied
 with_emptied_by : (b : Bool) (v : CoreValue Chip Board) (j : ℕ) (x : Chip) (i : ℕ) → j < 5 → length v.chips ≡ 5 → x ≡ emptied (chip_in five v.chips j) → (i == j) ≡ b
@@ -130,14 +166,14 @@ drained-psg at v x long is =
     })
 
 -- a chip that was emptied stands in for the one that it was
-emptied-key : (c : Chip) → (next (emptied c)).key ≡ (next c).key
+pub emptied-key : (c : Chip) → (next (emptied c)).key ≡ (next c).key
 emptied-key (Main c) = refl
 emptied-key (Sub c) = refl
 emptied-key (Draw c) = refl
 emptied-key (Fm c) = refl
 emptied-key (Psg c) = refl
 
-emptied-ok : (c : Chip) → IsChip c → IsChip (emptied c)
+pub emptied-ok : (c : Chip) → IsChip c → IsChip (emptied c)
 emptied-ok (Main c) ok = ok
 emptied-ok (Sub c) ok = ok
 emptied-ok (Draw c) ok = record { chip = record { picture = ok.chip.picture; frame = tt; at_line = ok.chip.at_line; undrawn = ok.chip.undrawn }; view = ok.view }

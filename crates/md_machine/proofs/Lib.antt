@@ -21,6 +21,7 @@ pub mod QuietStays
 pub mod Recorded
 pub mod Regions
 pub mod Samples
+pub mod Schedules
 pub mod Segments
 pub mod Start
 pub mod ValidParts

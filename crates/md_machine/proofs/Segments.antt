@@ -7,7 +7,7 @@ use Rattle.chip_core.specs.Limits.{all_moves_left, moves_left, moves_within, tot
 use Rattle.chip_core.specs.Machines as machines
 use Rattle.chip_core.specs.Machines.{AllBelow, IsValid, Machine, key_of, made, run}
 use Rattle.md_machine.specs.Console as consoles
-use Rattle.md_machine.specs.Console.{Console, key_in, mover, ran}
+use Rattle.md_machine.specs.Console.{Console, key_in, media_after, mover, ran}
 use Rattle.md_machine.specs.Lines.{frames_of}
 use Rattle.md_machine.specs.Machines.{kept_in}
 use Rattle.bus_shared.specs.Board.{Board, IsBoard}
@@ -76,8 +76,24 @@ move_key-same m k valid movers =
     ∙ ap (λ (i : ℕ). key_in (console_of (run five m k)) i) (mover-same (run five m k) stage)
     ∙ ap (λ (z : Console). key_in z (mover z)) (ran-same m k (λ j below. valid j (omega arith)) movers)
 
--- a run of the five chips over a segment, from a machine that keeps no frame and no samples, is the
--- record's, with its entries, frame and samples
+-- a run of the five chips is the record's, with its entries
+pub core-run : (m w : Machine Chip Board) (to : ℕ) (entered : List Entry) → (runs : machines.IsRunTo five m to w entered)
+    → ((n : ℕ) → AllBelow five m to n → IsValid five IsChip IsBoard (run five m n)) → Movers → IsValid five IsChip IsBoard w
+    → consoles.IsRunTo (console_of m) to (console_of w) entered (media_after (console_of m) runs.moves)
+core-run m w to entered runs valid movers valid-w =
+    let earlier : (k : ℕ) → k ≤ runs.moves → AllBelow five m to k = λ k within. record { each = λ j below. runs.below.each j (omega arith) } in
+    let stages : ValidTo m runs.moves = λ k below. valid k (earlier k (omega arith)) in
+    record {
+      moves = runs.moves;
+      below = λ k below. subst (λ (key : Key). key.cycle < to) (move_key-same m k (λ j within. stages j (omega arith)) movers) (runs.below.each k below);
+      quiet = λ i below. subst (λ (key : Key). to ≤ key.cycle) (key-same w valid-w i below) (runs.quiet i below);
+      console = console-alike w (run five m runs.moves) runs.shared runs.chips ∙ ran-same m runs.moves stages movers;
+      entered = runs.journal ∙ journal-same m runs.moves stages movers;
+      rendered_to = refl;
+    }
+
+-- over a segment, from a machine that keeps no frame and no samples, those that its chips keep are the
+-- record's too
 pub segment-run : (m w : Machine Chip Board) (from to : ℕ) (entered : List Entry) → machines.IsRunTo five m to w entered
     → ((n : ℕ) → AllBelow five m to n → IsValid five IsChip IsBoard (run five m n)) → Movers → IsValid five IsChip IsBoard w
     → ((n : ℕ) → AllBelow five m to n → made five m 3 n ≤ most_batches (console_of m).pal) → ((n : ℕ) → AllBelow five m to n → made five m 4 n ≤ most_batches (console_of m).pal) → kept_in m ≡ no_media
@@ -89,18 +105,12 @@ segment-run m w from to entered runs valid movers valid-w few_fm few none here q
     let sides : KeepsAll fm_part m runs.moves = samples-kept fm_part m runs.moves stages movers (ap (λ (s : Media). s.sides) none) (room-for (console_of m).pal _ (few_fm runs.moves runs.below)) in
     let levels : KeepsAll psg_part m runs.moves = samples-kept psg_part m runs.moves stages movers (ap (λ (s : Media). s.levels) none) (room-for (console_of m).pal _ (few runs.moves runs.below)) in
     let frames = frames-kept m from to runs.moves stages here movers (ap (λ (s : Media). s.frames) none) quiet near runs.below in
-    record {
-      moves = runs.moves;
-      below = λ k below. subst (λ (key : Key). key.cycle < to) (move_key-same m k (λ j within. stages j (omega arith)) movers) (runs.below.each k below);
-      quiet = λ i below. subst (λ (key : Key). to ≤ key.cycle) (key-same w valid-w i below) (runs.quiet i below);
-      console = console-alike w (run five m runs.moves) runs.shared runs.chips ∙ ran-same m runs.moves stages movers;
-      entered = runs.journal ∙ journal-same m runs.moves stages movers;
-      rendered_to = λ i. record {
-        frames = (ap (λ (c : Chip). frames_of (draw_of c).chip.frame) (runs.chips 2 (lit< tt)) ∙ frames) i;
-        sides = (ap (λ (c : Chip). (fm_of c).samples) (runs.chips 3 (lit< tt)) ∙ sides.samples_are) i;
-        levels = (ap (λ (c : Chip). (psg_of c).samples) (runs.chips 4 (lit< tt)) ∙ levels.samples_are) i;
-      };
-    }
+    let kept : kept_in w ≡ media_after (console_of m) runs.moves = λ i. record {
+      frames = (ap (λ (c : Chip). frames_of (draw_of c).chip.frame) (runs.chips 2 (lit< tt)) ∙ frames) i;
+      sides = (ap (λ (c : Chip). (fm_of c).samples) (runs.chips 3 (lit< tt)) ∙ sides.samples_are) i;
+      levels = (ap (λ (c : Chip). (psg_of c).samples) (runs.chips 4 (lit< tt)) ∙ levels.samples_are) i;
+    } in
+    subst (λ (output : Media). consoles.IsRunTo (console_of m) to (console_of w) entered output) (sym kept) (core-run m w to entered runs valid movers valid-w)
 
 -- and so many samples of the PSG it leaves
 pub segment-pairs : (m w : Machine Chip Board) (from to : ℕ) (entered : List Entry) → machines.IsRunTo five m to w entered

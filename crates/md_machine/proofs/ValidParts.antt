@@ -1,5 +1,6 @@
 -- The parts of a machine stay valid over a run.
-use Rattle.std.proofs.Common.{◌≡◌, ℕ, ◌==◌, ◌≤◌, ◌^◌, Bool, [], None, List, cond, refl, sym, subst, arith, lit<, lit≤}
+use Rattle.std.proofs.Common.{◌≡◌, ℕ, ◌≤◌, ◌^◌, Bool, List, refl, sym, subst, arith, lit<, lit≤}
+use Rattle.chip_core.specs.Cores.{machine_of}
 use Rattle.chip_core.specs.Machines.{IsValid, Machine, key_of, run}
 use Rattle.chip_core.specs.Machines as machines
 use Rattle.m68k_chip.proofs.Laws as laws68
@@ -17,12 +18,13 @@ use Rattle.z80_chip.specs.States.{next_of as sub_next_of}
 use Rattle.bus_shared.proofs.Keeps.{power_on-ok}
 use Rattle.bus_shared.specs.Board.{Board, IsBoard}
 use Rattle.md_machine.specs.Console as consoles
-use Rattle.md_machine.specs.Console.{Console, drawing_in, ran}
+use Rattle.md_machine.specs.Console.{Console, ran}
+use Rattle.md_machine.specs.Cores.{core_of}
 use Rattle.md_machine.specs.Parts.{DrawValue, MainValue, PsgValue, SubValue}
 use Rattle.md_machine.specs.Refinement.{console_of, draw_of, main_of, psg_of, sub_of}
 use Rattle.md_machine.specs.Rules.{IsChip, five}
 use Rattle.md_machine.specs.declared.chips.Chip.{Chip}
-use Rattle.md_machine.specs.declared.chips.Chip.TheVariants.{Main, Sub, Draw, Fm, Psg}
+use Rattle.md_machine.specs.declared.chips.Chip.TheVariants.{Main, Sub, Draw, Psg}
 use Rattle.md_machine.proofs.Lifts.{Movers, ValidTo, ran-same}
 use Rattle.md_machine.proofs.Moves.{five-each, kind0, kind1, kind2, kind4}
 use Rattle.md_machine.proofs.Segments.{below-lift}
@@ -30,16 +32,8 @@ use Rattle.md_machine.specs.ValidParts.{HasValidParts}
 
 -- ---- a machine as its five chips and the board
 
-abbrev pub chip_in : Console → ℕ → Chip
-chip_in m i =
-    cond (i == 0) (Main (record { chip = record { cart = m.cart; state = m.main }; answer = None }))
-    (cond (i == 1) (Sub (record { chip = m.sub; answer = None }))
-    (cond (i == 2) (Draw (record { chip = drawing_in m; view = None }))
-    (cond (i == 3) (Fm (record { synth = m.fm; cycle = m.fm_cycle; taken = []; samples = [] }))
-    (Psg (record { synth = m.psg; cycle = m.psg_cycle; taken = []; samples = [] })))))
-
 abbrev pub machine_in : Console → Machine Chip Board
-machine_in m = record { shared = m.shared; chip = chip_in m }
+machine_in m = machine_of five (core_of m)
 
 pub console_again : (m : Console) → console_of (machine_in m) ≡ m
 unfolding console_of
@@ -49,7 +43,7 @@ pub valid_in : (m : Console) → HasValidParts m → IsValid five IsChip IsBoard
 unfolding next_of sub_next_of
 valid_in m has = record {
   shared = has.board;
-  chip = five-each (λ i. IsChip (chip_in m i)) has.main has.sub (record { chip = has.drawing; view = refl })
+  chip = five-each (λ i. IsChip ((machine_in m).chip i)) has.main has.sub (record { chip = has.drawing; view = refl })
       (record { taken = lit≤ tt; samples = lit≤ tt }) (record { synth = has.psg; taken = lit≤ tt; samples = lit≤ tt });
   number = five-each (λ i. (key_of five (machine_in m) i).chip ≡ i) refl refl refl refl refl;
 }

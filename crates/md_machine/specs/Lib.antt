@@ -1,6 +1,7 @@
 pub mod Assembled
 pub mod Code
 pub mod Console
+pub mod Cores
 pub mod Drained
 pub mod First
 pub mod FmCode

@@ -1,6 +1,6 @@
 //! Laws of the machine, as calls that do nothing and stand for what they ensure.
 
-ghost use Rattle.std.specs.Prelude.{◌≡◌, ℕ, Bool, ◌+◌, ◌-◌, ◌*◌, ◌/◌, ◌^◌, ◌<◌, ◌≤◌, ◌++◌, [], List, length};
+ghost use Rattle.std.specs.Prelude.{◌≡◌, ℕ, Bool, ◌+◌, ◌-◌, ◌*◌, ◌/◌, ◌^◌, ◌<◌, ◌≤◌, ◌++◌, List, length};
 ghost use Rattle.md_word.specs.declared.event.Entry.{Entry};
 ghost use Rattle.chip_core.specs.Limits.{events_within};
 ghost use Rattle.md_pads.specs.Recording.{Recorded};
@@ -12,7 +12,7 @@ ghost use Rattle.md_machine.specs.Rules.{five};
 ghost use Rattle.md_machine.specs.ValidParts.{HasValidParts};
 ghost use Rattle.md_machine.specs.Starts.{IsStart, Start, batches_below, frames_below};
 ghost use Rattle.md_machine.specs.Media as outputs;
-ghost use Rattle.md_machine.specs.Media.{Media, no_media};
+ghost use Rattle.md_machine.specs.Media.{Media};
 
 use crate::machine::Machine;
 use crate::set::MdChips;
@@ -90,12 +90,12 @@ pub fn few_events(machine: &Machine)
     machine.few_events();
 }
 
-/// Wherever enabled events of the chips lead from a machine that was drained, in whatever order they
-/// come: a list of them has an end, no list gets stuck, and each that leaves no event below the cycle
-/// leads to the machine of the run, with its entries, frames and samples.
+/// Wherever enabled events of the core lead that a machine's chips make, with their keys as bounds and an
+/// empty journal: a list of them below any cycle up to the last has an end, no list gets stuck, and each that
+/// leaves no event below the cycle leads to the machine of the run, with its journal. In segments of a frame's
+/// cycles at most, each from the core that the one before left and that was drained, the frames and samples
+/// too are those of the run.
 pub fn lists_end_as_run(machine: &Machine)
-    requires entries { machine.now.entries ≡ [] }
-    requires media { machine.now.media ≡ no_media }
     ensures { ListsEndAsRun machine.now.at machine.now.console }
 {
     machine.lists_end_as_run();

@@ -121,8 +121,6 @@ impl Machine {
 
     /// Every list of enabled events from here leads to the machine of the run.
     pub(crate) fn lists_end_as_run(&self)
-        requires entries { self.now.entries ≡ [] }
-        requires media { self.now.media ≡ no_media }
         ensures { ListsEndAsRun self.now.at self.now.console }
     {
         laws::stages::<MdChips>();
