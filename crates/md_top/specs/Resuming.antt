@@ -37,8 +37,8 @@ GoesOnFrom start at =
 pub record RunsWell (start : Start) (end : ℕ) (begun finished counted : ℕ) (since : Option ℕ) : Type 0 where
   -- the machine that always moves the chip of least key has made all events below the end and no other
   pub least : IsRunTo start.console end (run_from start end) (entries_from start end) (media_from start end)
-  -- from its start every list of enabled events of the chips, up to a frame on and in whatever order, ends as
-  -- the run does
+  -- from the core of its start every list of enabled events of the chips, in whatever order and to whatever
+  -- cycle, ends as the run does; and segment after segment, with the frames and samples too
   pub lists : ListsEndAsRun start.at start.console
   -- it is told from where it began, and how much it made
   pub from : begun ≡ start.at
