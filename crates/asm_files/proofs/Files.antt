@@ -10,7 +10,7 @@ use Rattle.md_asm.specs.Assembly.{AssemblyOutcome, Done, assembly}
 use Rattle.md_asm.specs.declared.placed.Placed.{Placed}
 use Rattle.assembly_laws.specs.Lines.{SaysLines}
 use Rattle.asm_round_trip.specs.Sources.{KeepsInstruction}
-use Rattle.asm_files.specs.Assemblies.{HoldsParts, IsFound, KeepsSource, LeavesFiles, LeavesParts, SaysSource, WriteCause, WritesFiles, with_both, with_list}
+use Rattle.asm_files.specs.Assemblies.{HoldsParts, IsFound, KeepsSource, LeavesEmpty, LeavesFiles, LeavesParts, SaysSource, WriteCause, WritesFiles, with_both, with_list}
 use Rattle.asm_files.specs.Begun.{IsBegun, with_more}
 use Rattle.asm_files.specs.Lists.{list_of}
 use Rattle.asm_files.specs.declared.comes.Comes.{Comes}
@@ -104,11 +104,15 @@ leaves words old before new first last image list lines ending says keeps same f
     parts (inl same) = inl same
     parts (inr holds) = inr (image, lines, found, holds)
 
+    emptied : (new ≡ old) ⊎ (new ≡ with_file old words.output []) → LeavesEmpty words old new
+    emptied (inl same) = inl same
+    emptied (inr is) = inr (image, lines, found, is)
+
     go : (ending : Comes) → WriteCause (length image) first last ending → WritesFiles words old new image (list_of image lines) ending → LeavesFiles words old new ending
     go (Made size) cause left = (image, lines, found, cause, left, said_of (old words.source) image lines says keeps found)
     go Unwritten cause left = parts left
     go Unlisted cause left = parts left
-    go NoMemory cause left = parts left
+    go NoMemory cause left = emptied left
     go Unread cause left = absurd cause
     go TooLong cause left = absurd cause
     go (Refused line kind) cause left = absurd cause

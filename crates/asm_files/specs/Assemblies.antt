@@ -1,5 +1,5 @@
 -- What the assembling of a file comes to, and what the files hold then.
-use Rattle.std.specs.Prelude.{◌≡◌, ◌⊎◌, ℕ, ◌<◌, ◌≤◌, nat_lt, if◌then◌else◌, List, length, Option, None, Some, IsSomeAnd}
+use Rattle.std.specs.Prelude.{◌≡◌, ◌⊎◌, ℕ, ◌<◌, ◌≤◌, nat_lt, if◌then◌else◌, List, [], length, Option, None, Some, IsSomeAnd}
 use Rattle.md_outer.specs.Outside.{DepotState, Files, IsPrefix, Rose, with_file}
 use Rattle.md_asm.specs.Assembly as assembly
 use Rattle.md_asm.specs.Assembly.{AssemblyOutcome}
@@ -65,19 +65,25 @@ LeavesParts words old new =
     (new ≡ old)
     ⊎ ((image : List ℕ) × (lines : List Placed) × IsFound (old words.source) (assembly.Done image lines) × HoldsParts words old new image (list_of image lines))
 
+-- memory was wanting: no file changed, or the source is assembled, and the output is empty, with the list's file as it was
+abbrev pub LeavesEmpty : Assembling → Files → Files → Type 0
+LeavesEmpty words old new =
+    (new ≡ old)
+    ⊎ ((image : List ℕ) × (lines : List Placed) × IsFound (old words.source) (assembly.Done image lines) × (new ≡ with_file old words.output []))
+
 -- an image says the lines of a source that is held, and if it is one instruction's that stands in it
 abbrev pub SaysSource : Option (List ℕ) → List ℕ → List Placed → Type 0
 SaysSource source image lines = IsSomeAnd source (λ bytes. SaysLines bytes image lines) × KeepsSource source (assembly.Done image lines)
 
 -- What the files hold then: the outputs the image, which says the lines of its source, and its list, where they were written; parts of them, or what
--- they held, where a write failed or memory was wanting; and all others what they held
+-- they held, where a write failed; what they held, or nothing, where memory was wanting; and all others what they held
 abbrev pub LeavesFiles : Assembling → Files → Files → Comes → Type 0
 LeavesFiles words old new (Made size) =
     (image : List ℕ) × (lines : List Placed) × IsFound (old words.source) (assembly.Done image lines) × (size ≡ length image)
     × (new ≡ with_both words old image (list_of image lines)) × SaysSource (old words.source) image lines
 LeavesFiles words old new Unwritten = LeavesParts words old new
 LeavesFiles words old new Unlisted = LeavesParts words old new
-LeavesFiles words old new NoMemory = LeavesParts words old new
+LeavesFiles words old new NoMemory = LeavesEmpty words old new
 LeavesFiles words old new Unread = new ≡ old
 LeavesFiles words old new TooLong = new ≡ old
 LeavesFiles words old new (Refused line kind) = new ≡ old
@@ -104,4 +110,5 @@ WriteCause size old new (Refused line kind) = ⊥
 -- what the files hold then
 abbrev pub WritesFiles : Assembling → Files → Files → List ℕ → List ℕ → Comes → Type 0
 WritesFiles words old new image list (Made written) = new ≡ with_both words old image list
+WritesFiles words old new image list NoMemory = (new ≡ old) ⊎ (new ≡ with_file old words.output [])
 WritesFiles words old new image list ending = (new ≡ old) ⊎ HoldsParts words old new image list

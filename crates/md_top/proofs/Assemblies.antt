@@ -1,5 +1,5 @@
 -- What a status tells of an assembly, and the ending without a fault.
-use Rattle.std.proofs.Common.{◌≡◌, ◌≢◌, ◌⊎◌, inl, inr, ℕ, Bool, cond, List, length, Option, Some, None, refl, ap, ◌∙◌, arith}
+use Rattle.std.proofs.Common.{◌≡◌, ◌≢◌, ◌⊎◌, inl, inr, ℕ, Bool, cond, List, [], length, Option, Some, None, refl, ap, ◌∙◌, arith}
 use Rattle.std.proofs.lemmas.Bool.{le-ltb}
 use Rattle.md_outer.specs.Outside.{DepotState, Files, Rose, with_file}
 use Rattle.md_outer.proofs.WrittenFiles.{with_file-other}
@@ -7,7 +7,7 @@ use Rattle.md_asm.specs.Assembly as assembly
 use Rattle.md_asm.specs.declared.placed.Placed.{Placed}
 use Rattle.md_args.specs.Words.{Assemble, Assembling, Conversion, Run}
 use Rattle.asm_files.specs.Assemblies as files
-use Rattle.asm_files.specs.Assemblies.{HoldsParts, IsFound, LeavesParts, limit, with_list}
+use Rattle.asm_files.specs.Assemblies.{HoldsParts, IsFound, LeavesEmpty, LeavesParts, limit, with_list}
 use Rattle.asm_files.proofs.Endings.{right}
 use Rattle.asm_files.specs.declared.comes.Comes.{Comes}
 use Rattle.asm_files.specs.declared.comes.Comes.TheVariants as comes
@@ -132,11 +132,15 @@ parts_other : (words : Assembling) (old new : Files) → LeavesParts words old n
 parts_other words old new (inl same) name differ apart = ap (λ (held : Files). held name) same
 parts_other words old new (inr (image, lines, found, holds)) name differ apart = holds_other words old new image _ holds name differ apart
 
+emptied_other : (words : Assembling) (old new : Files) → LeavesEmpty words old new → (name : List ℕ) → words.output ≢ name → new name ≡ old name
+emptied_other words old new (inl same) name differ = ap (λ (held : Files). held name) same
+emptied_other words old new (inr (image, lines, found, is)) name differ = ap (λ (held : Files). held name) is ∙ with_file-other old words.output [] name differ
+
 pub assembled_other : (words : Assembling) (old new : Files) (ending : Ending) → AsmFiles words old new ending
     → (name : List ℕ) → words.output ≢ name → words.list ≢ Some name → new name ≡ old name
 assembled_other words old new (Converted size) (image, lines, found, long, leaves, said) name differ apart =
     ap (λ (held : Files). held name) leaves ∙ both_other words old image _ name differ apart
 assembled_other words old new OutputFault leaves name differ apart = parts_other words old new leaves name differ apart
 assembled_other words old new ListFault leaves name differ apart = parts_other words old new leaves name differ apart
-assembled_other words old new Memory leaves name differ apart = parts_other words old new leaves name differ apart
+assembled_other words old new Memory leaves name differ apart = emptied_other words old new leaves name differ
 assembled_other words old new _ leaves name differ apart = ap (λ (held : Files). held name) leaves
