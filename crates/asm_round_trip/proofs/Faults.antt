@@ -1,5 +1,5 @@
 -- What a source's fault says of its line.
-use Rattle.std.proofs.Common.{◌≡◌, ◌⊎◌, inl, inr, ℕ, ◌+◌, ◌≤◌, ◌==◌, ◌%◌, Bool, true, false, ◌&&◌, List, [], ◌∷◌, ◌++◌, length, refl, ap, sym, arith, Option, Some, None, if◌then◌else◌}
+use Rattle.std.proofs.Common.{◌≡◌, inl, inr, ℕ, ◌+◌, ◌≤◌, ◌==◌, ◌%◌, Bool, true, false, ◌&&◌, List, [], ◌∷◌, ◌++◌, length, refl, ap, sym, arith, Option, Some, None, if◌then◌else◌}
 use Rattle.md_asm_text.specs.Pieces as pieces
 use Rattle.md_asm_line.specs.Lines.{Line, line_of}
 use Rattle.md_asm_line.specs.Texts.{lines as lines_of}
@@ -9,15 +9,9 @@ use Rattle.md_asm.specs.Assembly.{Failed, assembly, assembly_of, number_of, seco
 use Rattle.md_asm.specs.Places.{any_written, blank, is_sub, is_too_large}
 use Rattle.md_asm.specs.Rounds.{Faulty, Filled, Hit, On, Onto, Outcome, Patched, Read, Refused, Round, Slot, Step, Stop, Whole, fill_on, go_on, has_bytes, is_twice, line_step, put_settled, round_one, round_two, settled_slot, start, wants_even, with_slot}
 use Rattle.asm_round_trip.specs.Faults.{IsFaulty, IsRead, IsSlot}
+use Rattle.md_asm.proofs.Apart.{IsPut, read_round}
+use Rattle.asm_round_trip.proofs.Far.{IsSized, all_sized, bool_cases, far_means, none_or, slot_among}
 use Rattle.asm_round_trip.proofs.Unfit.{bad_is, unfit_is}
-
-bool_cases : (b : Bool) → (b ≡ true) ⊎ (b ≡ false)
-bool_cases true = inl refl
-bool_cases false = inr refl
-
-none_or : (found : Option ℕ) → (found ≡ None) ⊎ ((n : ℕ) × (found ≡ Some n))
-none_or None = inl refl
-none_or (Some n) = inr (n, refl)
 
 -- ---- the first round
 
@@ -74,26 +68,26 @@ stop_at (text ∷ more) round first line kind h = by (line_step round first (lin
           stops = rw (sym stop.0, is) stop.1;
         }
 
--- a line that is refused has no length where the kind is 1, and a number that does not fit where it is 2; the kind is not 8
+-- a line that is refused has no length where the kind is 1, and a number that does not fit where it is 2; the kind is below 7
 record StepMeans (z80 : Bool) (line : Line) (kind : ℕ) : Type 0 where
   bad : kind ≡ 1 → size z80 line.body (pieces.pieces line.text) ≡ None
   unfit : kind ≡ 2 → is_unfit z80 line.body (pieces.pieces line.text) ≡ true
-  first : kind ≡ 8 → ⊥
+  first : kind ≤ 6
 
 other_kind : (z80 : Bool) (line : Line) (own kind : ℕ) → own ≡ kind → 3 ≤ own → own ≤ 6 → StepMeans z80 line kind
 other_kind z80 line own kind is low high = record {
   bad = λ one. absurd (omega (arith, one));
   unfit = λ two. absurd (omega (arith, two));
-  first = λ eight. omega (arith, eight);
+  first = omega arith;
 }
 
 step_means : (round : Round) (number : ℕ) (line : Line) (kind : ℕ) → StopsAs (line_step round number line) kind → StepMeans (is_sub round.processor) line kind
 step_means round number line kind h =
     elim (none_or (size (is_sub round.processor) line.body (pieces.pieces line.text))) [
-      | inl none ↦ (let own : 1 ≡ kind = rw none at h in record { bad = λ one. none; unfit = λ two. absurd (omega (arith, two)); first = λ eight. omega (arith, eight) })
+      | inl none ↦ (let own : 1 ≡ kind = rw none at h in record { bad = λ one. none; unfit = λ two. absurd (omega (arith, two)); first = omega (arith, own) })
       | inr some ↦ (let sized_on = rw some.1 at h in
           elim (bool_cases (is_unfit (is_sub round.processor) line.body (pieces.pieces line.text))) [
-            | inl a ↦ (let own : 2 ≡ kind = rw a at sized_on in record { bad = λ one. absurd (omega (arith, one)); unfit = λ two. a; first = λ eight. omega (arith, eight) })
+            | inl a ↦ (let own : 2 ≡ kind = rw a at sized_on in record { bad = λ one. absurd (omega (arith, one)); unfit = λ two. a; first = omega (arith, own) })
             | inr a ↦ (let fit_on = rw a at sized_on in
                 elim (bool_cases (is_twice round.names line.label)) [
                   | inl b ↦ other_kind (is_sub round.processor) line 3 kind (rw b at fit_on) (omega arith) (omega arith)
@@ -161,12 +155,20 @@ hit_at names (slot ∷ more) memory line kind h = by (with_slot names memory slo
           hits = rw is stop.1;
         }
 
--- what comes of a line has the kind 8 only where a number does not fit
-put_means : (memory : List ℕ) (place kind : ℕ) (settled : Settled) → HitsAs (put_settled memory place settled) kind → (7 ≤ kind) × (kind ≡ 8 → settled ≡ Unfit)
+-- what comes of a line has the kind 8 only where a number does not fit, and 9 only where it is out of reach
+record PutMeans (settled : Settled) (kind : ℕ) : Type 0 where
+  second : 7 ≤ kind
+  unfit : kind ≡ 8 → settled ≡ Unfit
+  far : kind ≡ 9 → settled ≡ Far
+
+put_means : (memory : List ℕ) (place kind : ℕ) (settled : Settled) → HitsAs (put_settled memory place settled) kind → PutMeans settled kind
 put_means memory place kind (Good bytes) h = absurd h
-put_means memory place kind Unknown h = let e : 7 ≡ kind = h in (omega arith, λ eight. absurd (omega (arith, eight)))
-put_means memory place kind Unfit h = let e : 8 ≡ kind = h in (omega arith, λ eight. refl)
-put_means memory place kind Far h = let e : 9 ≡ kind = h in (omega arith, λ eight. absurd (omega (arith, eight)))
+put_means memory place kind Unknown h =
+    let e : 7 ≡ kind = h in record { second = omega (arith, e); unfit = λ eight. absurd (omega (arith, eight, e)); far = λ nine. absurd (omega (arith, nine, e)) }
+put_means memory place kind Unfit h =
+    let e : 8 ≡ kind = h in record { second = omega (arith, e); unfit = λ eight. refl; far = λ nine. absurd (omega (arith, nine, e)) }
+put_means memory place kind Far h =
+    let e : 9 ≡ kind = h in record { second = omega (arith, e); unfit = λ eight. absurd (omega (arith, eight, e)); far = λ nine. refl }
 
 sized_means : (long : ℕ) (found : Option (List ℕ)) → sized long found ≡ Unfit → ⊥
 sized_means long None is = cc
@@ -199,18 +201,23 @@ module _ (source : List ℕ) (line kind : ℕ) where
       = record { front = stop.front; behind = stop.behind; lines = stop.lines; number = stop.number; read = stop.read } in record {
         bad_line = λ one. (stop.stopped, stop.text, read, bad_is (is_sub stop.stopped.processor) (line_of stop.text) (means.bad one));
         bad_number = λ two. (stop.stopped, stop.text, read, unfit_is (is_sub stop.stopped.processor) (line_of stop.text).body (pieces.pieces (line_of stop.text).text) (means.unfit two));
-        does_not_fit = λ eight. absurd (means.first eight);
+        does_not_fit = λ eight. let f = means.first in absurd (omega (arith, eight, f));
+        far = λ nine. let f = means.first in absurd (omega (arith, nine, f));
       }
 
   from_second : (round : Round) → round_one start 1 (lines_of source) ≡ Read round → IsHit round.names round.slots line kind → IsFaulty source line kind
   from_second round is hit =
       let means = put_means hit.memory hit.slot.place kind (settled_slot round.names hit.slot) hit.hits in
-      let low = means.0 in
+      let low = means.second in
       let slot : IsSlot source line round hit.slot = record { read = is; front = hit.front; behind = hit.behind; slots = hit.are; number = hit.number } in record {
         bad_line = λ one. absurd (omega (arith, one, low));
         bad_number = λ two. absurd (omega (arith, two, low));
         does_not_fit = λ eight.
-            (round, hit.slot, slot, unfit_is hit.slot.sub hit.slot.body (resolved round.names (pieces.pieces hit.slot.text)) (slot_means round.names hit.slot (means.1 eight)));
+            (round, hit.slot, slot, unfit_is hit.slot.sub hit.slot.body (resolved round.names (pieces.pieces hit.slot.text)) (slot_means round.names hit.slot (means.unfit eight)));
+        far = λ nine.
+            let out = far_means round.names hit.slot (slot_among IsSized hit.front hit.slot hit.behind (rw hit.are at (all_sized round (lines_of source) is)))
+            (slot_among (IsPut round.written round.end) hit.front hit.slot hit.behind (rw hit.are at ((read_round round (lines_of source) is).put))).addressed (means.far nine) in
+            (round, hit.slot, slot, out.0, out.1);
       }
 
   pub faulty : assembly source ≡ Failed line kind → IsFaulty source line kind

@@ -21,6 +21,7 @@ pub mod RoundTrip68
 pub mod Directive68
 pub mod Forms
 pub mod Kept
+pub mod Far
 pub mod Faults
 pub mod Unfit
 pub mod Sound68

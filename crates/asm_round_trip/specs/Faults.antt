@@ -1,6 +1,14 @@
 -- What a source's fault says of its line, where the line is bad or a number does not fit.
-use Rattle.std.specs.Prelude.{◌≡◌, ◌⊎◌, ℕ, ◌+◌, ◌≤◌, Bool, List, ◌∷◌, ◌++◌, length}
+use Rattle.std.specs.Prelude.{◌≡◌, ◌⊎◌, ℕ, ◌+◌, ◌<◌, ◌≤◌, Bool, true, false, List, ◌∷◌, ◌++◌, length}
+use Rattle.m68k_decode.specs.Instructions as main
+use Rattle.m68k_decode.specs.Nested.{nested}
+use Rattle.z80_decode.specs.Instructions as sub
+use Rattle.md_disasm.specs.Texts68 as main_texts
+use Rattle.md_disasm.specs.Texts80 as sub_texts
 use Rattle.md_asm_text.specs.Pieces.{Number, Piece, pieces}
+use Rattle.m68k_read.specs.Table.{AreWords, IsInstruction}
+use Rattle.z80_encode.specs.Coded80.{AreBytes}
+use Rattle.z80_read_laws.specs.Instruction.{is_db}
 use Rattle.md_asm_line.specs.Lines.{Line, line_of}
 use Rattle.md_asm_line.specs.Texts.{lines as lines_of}
 use Rattle.md_asm_line.specs.declared.body.Body.{Body}
@@ -28,6 +36,14 @@ IsUnfit z80 (bodies.Sub at) said = 65536 ≤ at
 IsUnfit z80 bodies.Instruction said = (place : ℕ) × (n : ℕ) × StandsIn said place (Number n) × ¬ HasNumber z80 said place n
 IsUnfit z80 body said = ⊥
 
+-- no instruction of the processor has these pieces in its text at an address
+abbrev pub HasNoText : Bool → List Piece → ℕ → Type 0
+HasNoText true said at =
+    (bytes : List ℕ) → AreBytes bytes → is_db (sub.instruction_of bytes).op ≡ false → ¬ (pieces (sub_texts.text_of (sub.instruction_of bytes) at) ≡ said)
+HasNoText false said at =
+    (word : ℕ) (tail : List ℕ) → word < 65536 → IsInstruction (nested word) → AreWords (word ∷ tail)
+    → ¬ (pieces (main_texts.text_of (main.instruction_of (word ∷ tail)) at) ≡ said)
+
 -- the line of a number, and what the lines in front of it come to, which are at no fault of the first round
 pub record IsRead (source : List ℕ) (line : ℕ) (round : Round) (text : List ℕ) : Type 0 where
   pub front : List (List ℕ)
@@ -45,10 +61,13 @@ pub record IsSlot (source : List ℕ) (line : ℕ) (round : Round) (slot : Slot)
   pub number : slot.line ≡ line
 
 -- a line at fault is bad where the kind is 1, has a written number that does not fit where it is 2, and the value of a
--- name that does not fit where it is 8
+-- name that does not fit where it is 8; where it is 9 it is an instruction's, and with the value of each name no instruction
+-- has its text at its address
 pub record IsFaulty (source : List ℕ) (line kind : ℕ) : Type 0 where
   pub bad_line : kind ≡ 1 → (round : Round) × (text : List ℕ) × IsRead source line round text × IsBad (is_sub round.processor) (line_of text)
   pub bad_number : kind ≡ 2 → (round : Round) × (text : List ℕ) × IsRead source line round text
       × IsUnfit (is_sub round.processor) (line_of text).body (pieces (line_of text).text)
   pub does_not_fit : kind ≡ 8 → (round : Round) × (slot : Slot) × IsSlot source line round slot
       × IsUnfit slot.sub slot.body (resolved round.names (pieces slot.text))
+  pub far : kind ≡ 9 → (round : Round) × (slot : Slot) × IsSlot source line round slot × (slot.body ≡ bodies.Instruction)
+      × HasNoText slot.sub (resolved round.names (pieces slot.text)) slot.address

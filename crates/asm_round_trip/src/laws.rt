@@ -45,7 +45,8 @@ pub fn forms_are_known()
 {}
 
 /// What a source's fault says: a line of kind 1 has the form of no instruction, and of kinds 2 and 8 a number that no
-/// instruction of the line's form has at its place, or one that does not fit a directive.
+/// instruction of the line's form has at its place, or one that does not fit a directive; of kind 9 it is an instruction's
+/// that no instruction has as its text at the address.
 pub fn faults_are_right()
     ensures { (source : List ℕ) (line kind : ℕ) → assembly source ≡ Failed line kind → IsFaulty source line kind }
 {}

@@ -4,15 +4,17 @@ use Rattle.std.specs.Prelude.{◌==◌, option_map, slice_index}
 use Rattle.std.proofs.lemmas.Bool.{cases_lt}
 use Rattle.std.proofs.lemmas.List.{get_or-append-add, get_or_past}
 use Rattle.m68k_decode.specs.Instructions as main
+use Rattle.m68k_decode.specs.Nested.{nested}
 use Rattle.z80_decode.specs.Instructions as sub
 use Rattle.md_disasm.specs.Texts68 as main_texts
 use Rattle.md_disasm.specs.Texts80 as sub_texts
 use Rattle.md_asm_text.specs.Pieces.{Piece, pieces}
 use Rattle.md_asm_line.specs.declared.body.Body.{Body}
 use Rattle.md_asm_line.specs.declared.body.Body.TheVariants as bodies
-use Rattle.m68k_read.specs.Table.{AreWords}
+use Rattle.m68k_read.specs.Table.{AreWords, IsInstruction}
 use Rattle.z80_encode.specs.Coded80.{AreBytes}
-use Rattle.md_asm_code.specs.Codes.{code, in_bytes, main_code}
+use Rattle.z80_read_laws.specs.Instruction.{is_db}
+use Rattle.md_asm_code.specs.Codes.{code, in_bytes, main_code, sub_code}
 use Rattle.md_asm_code.specs.Contents.{Far, Good, Unfit, Unknown, is_unfit, settled_line, sized}
 use Rattle.md_asm_code.specs.Numbers.{Names, has_name, resolved}
 use Rattle.md_asm.specs.Assembly.{Done, assembly, is_instruction}
@@ -20,12 +22,23 @@ use Rattle.md_asm.specs.Held.{AreHeld, IsAddress, IsHeld, StandsAt}
 use Rattle.md_asm.specs.Rounds.{Slot}
 use Rattle.md_asm.specs.declared.placed.Placed.{Placed}
 use Rattle.md_asm.proofs.Held.{lines_held}
-use Rattle.asm_laws.proofs.MainChosen as main_chosen
-use Rattle.asm_laws.proofs.SubChosen as sub_chosen
+use Rattle.asm_laws.specs.Chosen.{AreChosen, AreLeast}
 use Rattle.asm_laws.proofs.SubTexts as sub_laws
 use Rattle.asm_laws.proofs.Texts as main_laws
-use Rattle.assembly_laws.specs.Lines.{AreSaid, IsSaid, IsWritten, SaysLines}
+use Rattle.assembly_laws.specs.Lines.{AreSaid, IsKept, IsSaid, IsWritten, SaysLines}
 use Rattle.assembly_laws.specs.Places.{bytes_from, text_at, word_at, words_from}
+
+-- ---- the laws of what pieces are assembled to
+
+pub record Laws : Type 0 where
+  pub main_again : (word : ℕ) (tail : List ℕ) (at : ℕ) → word < 65536 → IsInstruction (nested word) → AreWords (word ∷ tail) → at < 4294967296
+      → (words : List ℕ) × (main_code (pieces (main_texts.text_of (main.instruction_of (word ∷ tail)) at)) at ≡ Some words)
+      × ((rest : List ℕ) → main.instruction_of (words ++ rest) ≡ main.instruction_of (word ∷ tail))
+  pub sub_again : (bytes : List ℕ) (at : ℕ) → AreBytes bytes → at < 65536 → is_db (sub.instruction_of bytes).op ≡ false
+      → (found : List ℕ) × (sub_code (pieces (sub_texts.text_of (sub.instruction_of bytes) at)) at ≡ Some found)
+      × ((rest : List ℕ) → AreBytes rest → sub.instruction_of (found ++ rest) ≡ sub.instruction_of bytes)
+  pub main_least : (said : List Piece) (words : List ℕ) (at : ℕ) → AreWords words → at < 4294967296 → main_code said at ≡ Some words → AreLeast words said at
+  pub sub_best : (said : List Piece) (bytes : List ℕ) (at : ℕ) → AreBytes bytes → at < 65536 → sub_code said at ≡ Some bytes → AreChosen bytes said at
 
 -- ---- what an instruction comes to is what is found for it
 
@@ -183,32 +196,53 @@ said_by false image place at said bytes all below stands is =
     ap (λ (l : List ℕ). pieces (main_texts.text_of (main.instruction_of l) at)) begins.whole
     ∙ main_laws.keeps_text said found.0 begins.rest at own below found.1
 
-written_by : (z80 : Bool) (image : List ℕ) (place at : ℕ) (said : List Piece) (bytes : List ℕ) → AreBytes image → IsAddress z80 at → StandsAt image place bytes
-    → code z80 said at ≡ Some bytes → IsWritten z80 bytes said at
-written_by true image place at said bytes all below stands is = sub_chosen.chosen said bytes at (stand_bytes image place bytes all stands) below is
-written_by false image place at said bytes all below stands is =
+one_found : (found : Option (List ℕ)) (own other : List ℕ) → found ≡ Some own → found ≡ Some other → own ≡ other
+one_found found own other is too = cc
+
+kept_by : Laws → (z80 : Bool) (image : List ℕ) (place at : ℕ) (said : List Piece) (bytes : List ℕ) → AreBytes image → IsAddress z80 at → StandsAt image place bytes
+    → code z80 said at ≡ Some bytes → IsKept z80 image place said at
+kept_by laws true image place at said bytes all below stands is = λ other others none text.
+    let own = stand_bytes image place bytes all stands in
+    let begins = bytes_begin image place bytes (sub_laws.few said bytes at own below is) stands in
+    let rest = rest_bytes bytes begins.rest (subst (λ (l : List ℕ). AreBytes l) begins.whole (read_bytes image place all)) in
+    let again = laws.sub_again other at others below none in
+    let same : bytes ≡ again.0 = one_found (sub_code said at) bytes again.0 is (ap (λ (s : List Piece). sub_code s at) (sym text) ∙ again.1) in
+    ap sub.instruction_of begins.whole ∙ ap (λ (l : List ℕ). sub.instruction_of (l ++ begins.rest)) same ∙ again.2 begins.rest rest
+kept_by laws false image place at said bytes all below stands is = λ word tail low entered words text.
     let found = mapped (main_code said at) bytes is in
     let stood : StandsAt image place (in_bytes found.0) = subst (λ (l : List ℕ). StandsAt image place l) found.2 stands in
-    (found.0, found.2, main_chosen.least said found.0 at (words_are found.0 (stand_bytes image place (in_bytes found.0) all stood)) below found.1)
+    let begins = words_begin image place found.0 (main_laws.few said found.0 at found.1) stood in
+    let again = laws.main_again word tail at low entered words below in
+    let same : found.0 ≡ again.0 = one_found (main_code said at) found.0 again.0 found.1 (ap (λ (s : List Piece). main_code s at) (sym text) ∙ again.1) in
+    ap main.instruction_of begins.whole ∙ ap (λ (l : List ℕ). main.instruction_of (l ++ begins.rest)) same ∙ again.2 begins.rest
 
-slot_said : (image : List ℕ) (names : Names) (slot : Slot) → AreBytes image → IsHeld image names slot → is_instruction slot.body ≡ true → IsSaid image names slot
-slot_said image names slot all is instruction =
+written_by : Laws → (z80 : Bool) (image : List ℕ) (place at : ℕ) (said : List Piece) (bytes : List ℕ) → AreBytes image → IsAddress z80 at → StandsAt image place bytes
+    → code z80 said at ≡ Some bytes → IsWritten z80 bytes said at
+written_by laws true image place at said bytes all below stands is = laws.sub_best said bytes at (stand_bytes image place bytes all stands) below is
+written_by laws false image place at said bytes all below stands is =
+    let found = mapped (main_code said at) bytes is in
+    let stood : StandsAt image place (in_bytes found.0) = subst (λ (l : List ℕ). StandsAt image place l) found.2 stands in
+    (found.0, found.2, laws.main_least said found.0 at (words_are found.0 (stand_bytes image place (in_bytes found.0) all stood)) below found.1)
+
+slot_said : Laws → (image : List ℕ) (names : Names) (slot : Slot) → AreBytes image → IsHeld image names slot → is_instruction slot.body ≡ true → IsSaid image names slot
+slot_said laws image names slot all is instruction =
     let own = code_of slot.sub slot.body slot.long (resolved names (pieces slot.text)) slot.address is.bytes instruction is.settled in record {
       text = said_by slot.sub image slot.place slot.address (resolved names (pieces slot.text)) is.bytes all is.addressed is.stands own;
+      kept = kept_by laws slot.sub image slot.place slot.address (resolved names (pieces slot.text)) is.bytes all is.addressed is.stands own;
       bytes = is.bytes;
       stands = is.stands;
-      chosen = written_by slot.sub image slot.place slot.address (resolved names (pieces slot.text)) is.bytes all is.addressed is.stands own;
+      chosen = written_by laws slot.sub image slot.place slot.address (resolved names (pieces slot.text)) is.bytes all is.addressed is.stands own;
     }
 
-slots_said : (image : List ℕ) (names : Names) (slots : List Slot) → AreBytes image → AreHeld image names slots → AreSaid image names slots
-slots_said image names [] all held = tt
-slots_said image names (slot ∷ more) all held = (λ instruction. slot_said image names slot all held.0 instruction, slots_said image names more all held.1)
+slots_said : Laws → (image : List ℕ) (names : Names) (slots : List Slot) → AreBytes image → AreHeld image names slots → AreSaid image names slots
+slots_said laws image names [] all held = tt
+slots_said laws image names (slot ∷ more) all held = (λ instruction. slot_said laws image names slot all held.0 instruction, slots_said laws image names more all held.1)
 
-pub lines_said : (source image : List ℕ) (lines : List Placed) → AreBytes image → assembly source ≡ Done image lines → SaysLines source image lines
-lines_said source image lines all is =
+pub lines_said : Laws → (source image : List ℕ) (lines : List Placed) → AreBytes image → assembly source ≡ Done image lines → SaysLines source image lines
+lines_said laws source image lines all is =
     let holds = lines_held source image lines is in record {
       round = holds.round;
       read = holds.read;
       places = holds.places;
-      said = slots_said image holds.round.names holds.round.slots all holds.held;
+      said = slots_said laws image holds.round.names holds.round.slots all holds.held;
     }

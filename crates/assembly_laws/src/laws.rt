@@ -6,6 +6,8 @@ ghost use Rattle.md_asm.specs.Assembly.{Done, assembly};
 ghost use Rattle.md_asm.specs.declared.placed.Placed.{Placed};
 ghost use Rattle.assembly_laws.specs.Lines.{SaysLines};
 
+use asm_laws::laws::{codes_are_chosen, texts_are_assembled};
+
 /// An image is bytes.
 fn known_bytes(image: &[u8])
     ensures { AreBytes image.now }
@@ -14,10 +16,12 @@ fn known_bytes(image: &[u8])
 }
 
 /// In the image of a source each line that is an instruction stands at its place: what is decoded there has, at its
-/// address, the text of the line, each name replaced by its number; and of all bytes that have it the chosen ones stand
-/// there.
+/// address, the text of the line, each name replaced by its number; it is the instruction that has this text there; and of
+/// all bytes that have it the chosen ones stand there.
 pub fn image_says_its_lines(image: &[u8])
     ensures { (source : List ℕ) (lines : List Placed) → assembly source ≡ Done image.now lines → SaysLines source image.now lines }
 {
     known_bytes(image);
+    texts_are_assembled();
+    codes_are_chosen();
 }
