@@ -30,13 +30,13 @@ IsThere row at = (long : ℕ) × IsReached row at long
 
 -- ---- relative jumps
 
-abbrev is_near : Op80 → Bool
+abbrev pub is_near : Op80 → Bool
 is_near (ops.JumpRelative by) = true
 is_near (ops.JumpRelativeIf condition by) = true
 is_near (ops.DecrementAndJump by) = true
 is_near op = false
 
-target_under : (n : ℕ) → n < 65536 → target (under true n) 2 ≡ n
+pub target_under : (n : ℕ) → n < 65536 → target (under true n) 2 ≡ n
 unfolding target widened signed_of
 target_under n h = omega arith
 
@@ -50,17 +50,17 @@ two_low = omega arith
 zero_low : 0 < 256
 zero_low = omega arith
 
-jump_there : (n : ℕ) → IsThere (row_of (ops.JumpRelative 2) (under true n)) (under true n)
+pub jump_there : (n : ℕ) → IsThere (row_of (ops.JumpRelative 2) (under true n)) (under true n)
 unfolding by_opcode low_group relative_jumps
 jump_there n =
     (2, reach (by_opcode indexes.Hl 0x18 2 0) (row_of (ops.JumpRelative 2) (under true n)) (under true n) 2 (plain_decoded 0x18 2 0 (omega arith) two_low zero_low refl) refl refl refl)
 
-loop_there : (n : ℕ) → IsThere (row_of (ops.DecrementAndJump 2) (under true n)) (under true n)
+pub loop_there : (n : ℕ) → IsThere (row_of (ops.DecrementAndJump 2) (under true n)) (under true n)
 unfolding by_opcode low_group relative_jumps
 loop_there n =
     (2, reach (by_opcode indexes.Hl 0x10 2 0) (row_of (ops.DecrementAndJump 2) (under true n)) (under true n) 2 (plain_decoded 0x10 2 0 (omega arith) two_low zero_low refl) refl refl refl)
 
-if_there : (condition : Condition) (n : ℕ) → far_condition condition ≡ false → IsThere (row_of (ops.JumpRelativeIf condition 2) (under true n)) (under true n)
+pub if_there : (condition : Condition) (n : ℕ) → far_condition condition ≡ false → IsThere (row_of (ops.JumpRelativeIf condition 2) (under true n)) (under true n)
 unfolding by_opcode low_group relative_jumps condition_of
 if_there conditions.NonZero n h = (2, reach (by_opcode indexes.Hl 0x20 2 0) (row_of (ops.JumpRelativeIf conditions.NonZero 2) (under true n)) (under true n) 2 (plain_decoded 0x20 2 0 (omega arith) two_low zero_low refl) refl refl refl)
 if_there conditions.Zero n h = (2, reach (by_opcode indexes.Hl 0x28 2 0) (row_of (ops.JumpRelativeIf conditions.Zero 2) (under true n)) (under true n) 2 (plain_decoded 0x28 2 0 (omega arith) two_low zero_low refl) refl refl refl)
@@ -129,7 +129,7 @@ two_alone _ at two first second = cc
 
 -- ---- all others have one number, and their text is the same at all addresses
 
-still : (op : Op80) (at other : ℕ) → is_near op ≡ false → row_of op at ≡ row_of op other
+pub still : (op : Op80) (at other : ℕ) → is_near op ≡ false → row_of op at ≡ row_of op other
 still (ops.JumpRelative by) at other h = cc
 still (ops.JumpRelativeIf condition by) at other h = cc
 still (ops.DecrementAndJump by) at other h = cc
@@ -187,12 +187,12 @@ unless_two false two h e = refl
 
 alone_by : (near two : Bool) (bytes : List ℕ) (at : ℕ) → AreBytes bytes → is_db (instruction_of bytes).op ≡ false
     → is_near (instruction_of bytes).op ≡ near → is_two (instruction_of bytes).op ≡ two → AreAlone (instruction_of bytes).op at
-alone_by true two bytes at h none near is = near_alone (instruction_of bytes).op at near ((not_odd bytes h none).0)
+alone_by true two bytes at h none near is = near_alone (instruction_of bytes).op at near ((not_odd bytes h none).far)
 alone_by false true bytes at h none near is =
     let parts = read_split (row_of (instruction_of bytes).op at) (row_read bytes at h none) in
     two_alone (instruction_of bytes).op at is parts.0 parts.1
 alone_by false false bytes at h none near is =
-    one_alone bytes at h none near (unless_two (both_numbered (instruction_of bytes).op) (is_two (instruction_of bytes).op) ((not_odd bytes h none).1) is)
+    one_alone bytes at h none near (unless_two (both_numbered (instruction_of bytes).op) (is_two (instruction_of bytes).op) ((not_odd bytes h none).one) is)
 
 pub all_alone : (bytes : List ℕ) (at : ℕ) → AreBytes bytes → is_db (instruction_of bytes).op ≡ false → AreAlone (instruction_of bytes).op at
 all_alone bytes at h none = alone_by _ _ bytes at h none refl refl

@@ -22,7 +22,7 @@ use Rattle.z80_read_laws.proofs.Read.{read, read_behind, read_bits, read_extende
 use Rattle.z80_read_laws.proofs.Sources.{is_read}
 use Rattle.asm_round_trip.proofs.Line.{is_free}
 use Rattle.asm_round_trip.proofs.Named80.{op_free}
-use Rattle.asm_round_trip.proofs.Pages80.{Shape, both_numbered, code8, filled_bits, filled_extended, filled_ix, filled_ix_bits, filled_iy, filled_iy_bits, filled_plain, filled_shape, first8, is_far, is_odd, is_relative, is_restart, is_two, named, named_odd, odd_bits, odd_extended, odd_ix, odd_ix_bits, odd_iy, odd_iy_bits, odd_plain, own_shape, second8}
+use Rattle.asm_round_trip.proofs.Pages80.{Shape, both_numbered, code8, filled_bits, filled_extended, filled_ix, filled_ix_bits, filled_iy, filled_iy_bits, filled_plain, filled_shape, first8, is_far, is_odd, is_relative, is_restart, is_two, is_uneven, named, named_odd, odd_bits, odd_extended, odd_ix, odd_ix_bits, odd_iy, odd_iy_bits, odd_plain, own_shape, second8}
 use Rattle.asm_round_trip.proofs.Rows80.{row_kept}
 
 -- ---- four bytes
@@ -63,19 +63,19 @@ nested_plain b0 b1 b2 b3 h =
 pub plain_decoded : (b0 b1 b2 : ℕ) → b0 < 256 → b1 < 256 → b2 < 256 → is_prefix b0 ≡ false → IsDecoded (by_opcode indexes.Hl b0 b1 b2)
 plain_decoded b0 b1 b2 h k l none = rw (← nested_plain b0 b1 b2 0 none) (bytes_four b0 b1 b2 0 h k l (omega arith))
 
-bits_decoded : (b1 : ℕ) → b1 < 256 → IsDecoded (of_bytes 2 (bits b1 (place_of indexes.Hl (lower b1) 0)))
+pub bits_decoded : (b1 : ℕ) → b1 < 256 → IsDecoded (of_bytes 2 (bits b1 (place_of indexes.Hl (lower b1) 0)))
 unfolding nested
 bits_decoded b1 h = bytes_four 0xcb b1 0 0 (omega arith) h (omega arith) (omega arith)
 
-extended_decoded : (b1 b2 b3 : ℕ) → b1 < 256 → b2 < 256 → b3 < 256 → IsDecoded (extended b1 b2 b3)
+pub extended_decoded : (b1 b2 b3 : ℕ) → b1 < 256 → b2 < 256 → b3 < 256 → IsDecoded (extended b1 b2 b3)
 unfolding nested
 extended_decoded b1 b2 b3 h k l = bytes_four 0xed b1 b2 b3 (omega arith) h k l
 
-ix_bits_decoded : (b2 b3 : ℕ) → b2 < 256 → b3 < 256 → IsDecoded (of_bytes 4 (bits b3 (memory_of indexes.Ix b2)))
+pub ix_bits_decoded : (b2 b3 : ℕ) → b2 < 256 → b3 < 256 → IsDecoded (of_bytes 4 (bits b3 (memory_of indexes.Ix b2)))
 unfolding nested indexed
 ix_bits_decoded b2 b3 h k = bytes_four 0xdd 0xcb b2 b3 (omega arith) (omega arith) h k
 
-iy_bits_decoded : (b2 b3 : ℕ) → b2 < 256 → b3 < 256 → IsDecoded (of_bytes 4 (bits b3 (memory_of indexes.Iy b2)))
+pub iy_bits_decoded : (b2 b3 : ℕ) → b2 < 256 → b3 < 256 → IsDecoded (of_bytes 4 (bits b3 (memory_of indexes.Iy b2)))
 unfolding nested indexed
 iy_bits_decoded b2 b3 h k = bytes_four 0xfd 0xcb b2 b3 (omega arith) (omega arith) h k
 
@@ -271,6 +271,12 @@ or_parts : (a b : Bool) → (a || b) ≡ false → (a ≡ false) × (b ≡ false
 or_parts true b h = cc
 or_parts false b h = (refl, h)
 
-pub not_odd : (bytes : List ℕ) → AreBytes bytes → is_db (instruction_of bytes).op ≡ false
-    → (is_far (instruction_of bytes).op ≡ false) × ((both_numbered (instruction_of bytes).op && not (is_two (instruction_of bytes).op)) ≡ false)
-not_odd bytes h none = or_parts _ _ (rw none at ((known bytes 0 h).1))
+pub record IsEven (op : Op80) : Type 0 where
+  pub far : is_far op ≡ false
+  pub one : (both_numbered op && not (is_two op)) ≡ false
+  pub even : is_uneven op ≡ false
+
+pub not_odd : (bytes : List ℕ) → AreBytes bytes → is_db (instruction_of bytes).op ≡ false → IsEven (instruction_of bytes).op
+not_odd bytes h none =
+    let a = or_parts _ _ (rw none at ((known bytes 0 h).1)) in
+    let b = or_parts _ _ a.1 in record { far = a.0; one = b.0; even = b.1 }

@@ -105,8 +105,13 @@ is_far op = false
 abbrev pub both_numbered : Op80 → Bool
 both_numbered op = is_numbered (row_of op 0).first && is_numbered (row_of op 0).second
 
+-- the address of RST is a multiple of 8
+abbrev pub is_uneven : Op80 → Bool
+is_uneven (ops.Restart address) = not (nat_le address 0x38 && address % 8 == 0)
+is_uneven op = false
+
 abbrev pub is_odd : Decoded80 → Bool
-is_odd d = cond (is_db d.op) false (is_far d.op || (both_numbered d.op && not (is_two d.op)))
+is_odd d = cond (is_db d.op) false (is_far d.op || ((both_numbered d.op && not (is_two d.op)) || is_uneven d.op))
 
 abbrev pub named_odd : (ℕ → Decoded80) → ℕ → Bool
 named_odd f w = cond (names_hl w) (is_odd (f w)) false

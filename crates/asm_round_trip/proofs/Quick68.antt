@@ -1,6 +1,6 @@
 -- Words of the 68000 with 8 for the number in the first word, and 2 for the displacement of a branch there: by computing
 -- both for all words of a first digit.
-use Rattle.std.proofs.Common.{◌≡◌, ℕ, zero, suc, ◌/◌, ◌<◌, Bool, true, false, List, ◌∷◌, map, refl, ap, ◌∙◌, sym, arith, Option}
+use Rattle.std.proofs.Common.{◌≡◌, ℕ, zero, suc, ◌/◌, ◌<◌, Bool, true, false, not, ◌||◌, ◌==◌, List, ◌∷◌, map, refl, ap, ◌∙◌, sym, arith, Option}
 use Rattle.std.proofs.lemmas.Bool.Decides.{nat_tests}
 use Rattle.std.proofs.lemmas.Bool.{lt-ltb}
 use Rattle.std.specs.Prelude.{nat_lt}
@@ -80,7 +80,7 @@ is_first (ops.Bsr displacement) = true
 is_first (ops.Bcc condition displacement) = true
 is_first op = false
 
-abbrev first : List ℕ → ℕ → Bool
+abbrev pub first : List ℕ → ℕ → Bool
 first tail w = is_first (picked (nested w) (w ∷ tail)).op
 
 none_0 : (tail : List ℕ) → map (first tail) (range 4096 0x0000) ≡ map (λ w. false) (range 4096 0x0000)
@@ -145,24 +145,48 @@ stays w tail below h =
     let low : nat_lt w 65536 ≡ true = lt-ltb w 65536 below in
     rw (same, word, low) refl
 
-same_by : (d w : ℕ) (tail : List ℕ) → w < 65536 → w / 4096 ≡ d → changed tail w ≡ wanted tail w
-same_by zero w tail below h = stays w tail below (same_at (first tail) (λ w. false) 4096 0x0000 (none_0 tail) w (omega arith) (omega arith))
-same_by (suc zero) w tail below h = stays w tail below (same_at (first tail) (λ w. false) 4096 0x1000 (none_1 tail) w (omega arith) (omega arith))
-same_by (suc (suc zero)) w tail below h = stays w tail below (same_at (first tail) (λ w. false) 4096 0x2000 (none_2 tail) w (omega arith) (omega arith))
-same_by (suc (suc (suc zero))) w tail below h = stays w tail below (same_at (first tail) (λ w. false) 4096 0x3000 (none_3 tail) w (omega arith) (omega arith))
-same_by (suc (suc (suc (suc zero)))) w tail below h = same_at (changed tail) (wanted tail) 4096 0x4000 (agree_4 tail) w (omega arith) (omega arith)
-same_by (suc (suc (suc (suc (suc zero))))) w tail below h = same_at (changed tail) (wanted tail) 4096 0x5000 (agree_5 tail) w (omega arith) (omega arith)
-same_by (suc (suc (suc (suc (suc (suc zero)))))) w tail below h = same_at (changed tail) (wanted tail) 4096 0x6000 (agree_6 tail) w (omega arith) (omega arith)
-same_by (suc (suc (suc (suc (suc (suc (suc zero))))))) w tail below h = same_at (changed tail) (wanted tail) 4096 0x7000 (agree_7 tail) w (omega arith) (omega arith)
-same_by (suc (suc (suc (suc (suc (suc (suc (suc zero)))))))) w tail below h = stays w tail below (same_at (first tail) (λ w. false) 4096 0x8000 (none_8 tail) w (omega arith) (omega arith))
-same_by (suc (suc (suc (suc (suc (suc (suc (suc (suc zero))))))))) w tail below h = stays w tail below (same_at (first tail) (λ w. false) 4096 0x9000 (none_9 tail) w (omega arith) (omega arith))
-same_by (suc (suc (suc (suc (suc (suc (suc (suc (suc (suc zero)))))))))) w tail below h = stays w tail below (same_at (first tail) (λ w. false) 4096 0xa000 (none_a tail) w (omega arith) (omega arith))
-same_by (suc (suc (suc (suc (suc (suc (suc (suc (suc (suc (suc zero))))))))))) w tail below h = stays w tail below (same_at (first tail) (λ w. false) 4096 0xb000 (none_b tail) w (omega arith) (omega arith))
-same_by (suc (suc (suc (suc (suc (suc (suc (suc (suc (suc (suc (suc zero)))))))))))) w tail below h = stays w tail below (same_at (first tail) (λ w. false) 4096 0xc000 (none_c tail) w (omega arith) (omega arith))
-same_by (suc (suc (suc (suc (suc (suc (suc (suc (suc (suc (suc (suc (suc zero))))))))))))) w tail below h = stays w tail below (same_at (first tail) (λ w. false) 4096 0xd000 (none_d tail) w (omega arith) (omega arith))
-same_by (suc (suc (suc (suc (suc (suc (suc (suc (suc (suc (suc (suc (suc (suc zero)))))))))))))) w tail below h = same_at (changed tail) (wanted tail) 4096 0xe000 (agree_e tail) w (omega arith) (omega arith)
-same_by (suc (suc (suc (suc (suc (suc (suc (suc (suc (suc (suc (suc (suc (suc (suc zero))))))))))))))) w tail below h = stays w tail below (same_at (first tail) (λ w. false) 4096 0xf000 (none_f tail) w (omega arith) (omega arith))
-same_by (suc (suc (suc (suc (suc (suc (suc (suc (suc (suc (suc (suc (suc (suc (suc (suc d)))))))))))))))) w tail below h = absurd (omega arith)
+-- the first digits of words that have none
+abbrev pub is_bare : ℕ → Bool
+is_bare d = not (d == 4 || (d == 5 || (d == 6 || (d == 7 || d == 14))))
+
+pub none_first : (d w : ℕ) (tail : List ℕ) → w < 65536 → w / 4096 ≡ d → is_bare d ≡ true → first tail w ≡ false
+none_first zero w tail below h bare = same_at (first tail) (λ w. false) 4096 0x0000 (none_0 tail) w (omega arith) (omega arith)
+none_first (suc zero) w tail below h bare = same_at (first tail) (λ w. false) 4096 0x1000 (none_1 tail) w (omega arith) (omega arith)
+none_first (suc (suc zero)) w tail below h bare = same_at (first tail) (λ w. false) 4096 0x2000 (none_2 tail) w (omega arith) (omega arith)
+none_first (suc (suc (suc zero))) w tail below h bare = same_at (first tail) (λ w. false) 4096 0x3000 (none_3 tail) w (omega arith) (omega arith)
+none_first (suc (suc (suc (suc zero)))) w tail below h bare = cc
+none_first (suc (suc (suc (suc (suc zero))))) w tail below h bare = cc
+none_first (suc (suc (suc (suc (suc (suc zero)))))) w tail below h bare = cc
+none_first (suc (suc (suc (suc (suc (suc (suc zero))))))) w tail below h bare = cc
+none_first (suc (suc (suc (suc (suc (suc (suc (suc zero)))))))) w tail below h bare = same_at (first tail) (λ w. false) 4096 0x8000 (none_8 tail) w (omega arith) (omega arith)
+none_first (suc (suc (suc (suc (suc (suc (suc (suc (suc zero))))))))) w tail below h bare = same_at (first tail) (λ w. false) 4096 0x9000 (none_9 tail) w (omega arith) (omega arith)
+none_first (suc (suc (suc (suc (suc (suc (suc (suc (suc (suc zero)))))))))) w tail below h bare = same_at (first tail) (λ w. false) 4096 0xa000 (none_a tail) w (omega arith) (omega arith)
+none_first (suc (suc (suc (suc (suc (suc (suc (suc (suc (suc (suc zero))))))))))) w tail below h bare = same_at (first tail) (λ w. false) 4096 0xb000 (none_b tail) w (omega arith) (omega arith)
+none_first (suc (suc (suc (suc (suc (suc (suc (suc (suc (suc (suc (suc zero)))))))))))) w tail below h bare = same_at (first tail) (λ w. false) 4096 0xc000 (none_c tail) w (omega arith) (omega arith)
+none_first (suc (suc (suc (suc (suc (suc (suc (suc (suc (suc (suc (suc (suc zero))))))))))))) w tail below h bare = same_at (first tail) (λ w. false) 4096 0xd000 (none_d tail) w (omega arith) (omega arith)
+none_first (suc (suc (suc (suc (suc (suc (suc (suc (suc (suc (suc (suc (suc (suc zero)))))))))))))) w tail below h bare = cc
+none_first (suc (suc (suc (suc (suc (suc (suc (suc (suc (suc (suc (suc (suc (suc (suc zero))))))))))))))) w tail below h bare = same_at (first tail) (λ w. false) 4096 0xf000 (none_f tail) w (omega arith) (omega arith)
+none_first (suc (suc (suc (suc (suc (suc (suc (suc (suc (suc (suc (suc (suc (suc (suc (suc d)))))))))))))))) w tail below h bare = absurd (omega arith)
+
+same_by : (d w : ℕ) (tail : List ℕ) → w < 65536 → w / 4096 ≡ d → (b : Bool) → is_bare d ≡ b → changed tail w ≡ wanted tail w
+same_by d w tail below h true bare = stays w tail below (none_first d w tail below h bare)
+same_by zero w tail below h false bare = cc
+same_by (suc zero) w tail below h false bare = cc
+same_by (suc (suc zero)) w tail below h false bare = cc
+same_by (suc (suc (suc zero))) w tail below h false bare = cc
+same_by (suc (suc (suc (suc zero)))) w tail below h false bare = same_at (changed tail) (wanted tail) 4096 0x4000 (agree_4 tail) w (omega arith) (omega arith)
+same_by (suc (suc (suc (suc (suc zero))))) w tail below h false bare = same_at (changed tail) (wanted tail) 4096 0x5000 (agree_5 tail) w (omega arith) (omega arith)
+same_by (suc (suc (suc (suc (suc (suc zero)))))) w tail below h false bare = same_at (changed tail) (wanted tail) 4096 0x6000 (agree_6 tail) w (omega arith) (omega arith)
+same_by (suc (suc (suc (suc (suc (suc (suc zero))))))) w tail below h false bare = same_at (changed tail) (wanted tail) 4096 0x7000 (agree_7 tail) w (omega arith) (omega arith)
+same_by (suc (suc (suc (suc (suc (suc (suc (suc zero)))))))) w tail below h false bare = cc
+same_by (suc (suc (suc (suc (suc (suc (suc (suc (suc zero))))))))) w tail below h false bare = cc
+same_by (suc (suc (suc (suc (suc (suc (suc (suc (suc (suc zero)))))))))) w tail below h false bare = cc
+same_by (suc (suc (suc (suc (suc (suc (suc (suc (suc (suc (suc zero))))))))))) w tail below h false bare = cc
+same_by (suc (suc (suc (suc (suc (suc (suc (suc (suc (suc (suc (suc zero)))))))))))) w tail below h false bare = cc
+same_by (suc (suc (suc (suc (suc (suc (suc (suc (suc (suc (suc (suc (suc zero))))))))))))) w tail below h false bare = cc
+same_by (suc (suc (suc (suc (suc (suc (suc (suc (suc (suc (suc (suc (suc (suc zero)))))))))))))) w tail below h false bare = same_at (changed tail) (wanted tail) 4096 0xe000 (agree_e tail) w (omega arith) (omega arith)
+same_by (suc (suc (suc (suc (suc (suc (suc (suc (suc (suc (suc (suc (suc (suc (suc zero))))))))))))))) w tail below h false bare = cc
+same_by (suc (suc (suc (suc (suc (suc (suc (suc (suc (suc (suc (suc (suc (suc (suc (suc d)))))))))))))))) w tail below h false bare = absurd (omega arith)
 
 -- a word with 8 for its number is one of the same row, and decodes to the instruction with 8
 pub record IsChanged (w : ℕ) (tail : List ℕ) : Type 0 where
@@ -172,7 +196,7 @@ pub record IsChanged (w : ℕ) (tail : List ℕ) : Type 0 where
 
 pub all_changed : (w : ℕ) (tail : List ℕ) → w < 65536 → IsChanged w tail
 all_changed w tail below =
-    let same = same_by (w / 4096) w tail below refl in
+    let same = same_by (w / 4096) w tail below refl (is_bare (w / 4096)) refl in
     let tested : nat_lt (word8 tail w) 65536 ≡ true = ap (λ (s : Shape). s.1) same in
     let low : word8 tail w < 65536 = grind (arith, nat_tests) in record {
       low = low;

@@ -47,7 +47,7 @@ pub record IsReached (row : Row68) (at long : ℕ) : Type 0 where
   pub is : row_of (instruction_of (word ∷ tail)).op at ≡ row
   pub whole : (instruction_of (word ∷ tail)).length ≡ long
 
-reach : (d : Decoded) (row : Row68) (at long : ℕ) → IsDecoded d → row_of d.op at ≡ row → d.length ≡ long → IsReached row at long
+pub reach : (d : Decoded) (row : Row68) (at long : ℕ) → IsDecoded d → row_of d.op at ≡ row → d.length ≡ long → IsReached row at long
 reach d row at long from is whole =
     let own = from.is in record {
       word = from.word;
@@ -69,7 +69,7 @@ pub record AreOf (row : Row) (w : ℕ) (tail : List ℕ) : Type 0 where
   pub entered : IsInstruction (nested w)
   pub all : AreWords (w ∷ tail)
 
-own_decoded : (row : Row) (w : ℕ) (tail : List ℕ) → AreOf row w tail → IsDecoded (made row (w ∷ tail))
+pub own_decoded : (row : Row) (w : ℕ) (tail : List ℕ) → AreOf row w tail → IsDecoded (made row (w ∷ tail))
 own_decoded row w tail of = record { word = w; tail = tail; low = of.low; entered = of.entered; all = of.all; is = made_is row w tail of.low of.is }
 
 kept_decoded : (a b : Bool) (row : Row) (w : ℕ) (tail : List ℕ) → AreOf row w tail → is_branch row ≡ false → IsDecoded (decoded_kept a b (made row (w ∷ tail)))
@@ -139,7 +139,7 @@ quick_reached row w tail at of none f a b =
 
 -- ---- branches
 
-abbrev near : Displacement → Displacement
+abbrev pub near : Displacement → Displacement
 near (displacements.Byte by) = displacements.Byte 2
 near (displacements.Word by) = displacements.Word 2
 
@@ -151,11 +151,11 @@ word_4 : target 4 (displacements.Word 2) ≡ 8
 unfolding target extended signed_of
 word_4 = refl
 
-byte_under : (n : ℕ) → n < 4294967296 → target (under false n) (displacements.Byte 2) ≡ n
+pub byte_under : (n : ℕ) → n < 4294967296 → target (under false n) (displacements.Byte 2) ≡ n
 unfolding target extended signed_of
 byte_under n h = omega arith
 
-word_under : (n : ℕ) → n < 4294967296 → target (under false n) (displacements.Word 2) ≡ n
+pub word_under : (n : ℕ) → n < 4294967296 → target (under false n) (displacements.Word 2) ≡ n
 unfolding target extended signed_of
 word_under n h = omega arith
 
@@ -169,7 +169,7 @@ two_of : (row : Row) (w : ℕ) (tail : List ℕ) → AreOf row w tail → AreOf 
 two_of row w tail of = record { low = of.low; is = of.is; entered = of.entered; all = two_words w of.low }
 
 -- BRA with 2 for its displacement
-bra_by : (b : Bool) (w : ℕ) (tail : List ℕ) → (w % 256 == 0) ≡ b → AreOf rows.Bra w tail
+pub bra_by : (b : Bool) (w : ℕ) (tail : List ℕ) → (w % 256 == 0) ≡ b → AreOf rows.Bra w tail
     → IsDecoded (record { op = ops.Bra (near (displacement_of (w ∷ tail))); length = (made rows.Bra (w ∷ tail)).length })
 unfolding made displacement_of condition_of
 bra_by true w tail is of = rw is (rw is at (own_decoded rows.Bra w (2 ∷ []) (two_of rows.Bra w tail of)))
@@ -196,7 +196,7 @@ bra_reached w tail at of =
     }
 
 -- BSR with 2 for its displacement
-bsr_by : (b : Bool) (w : ℕ) (tail : List ℕ) → (w % 256 == 0) ≡ b → AreOf rows.Bsr w tail
+pub bsr_by : (b : Bool) (w : ℕ) (tail : List ℕ) → (w % 256 == 0) ≡ b → AreOf rows.Bsr w tail
     → IsDecoded (record { op = ops.Bsr (near (displacement_of (w ∷ tail))); length = (made rows.Bsr (w ∷ tail)).length })
 unfolding made displacement_of condition_of
 bsr_by true w tail is of = rw is (rw is at (own_decoded rows.Bsr w (2 ∷ []) (two_of rows.Bsr w tail of)))
@@ -223,7 +223,7 @@ bsr_reached w tail at of =
     }
 
 -- BCC with 2 for its displacement
-bcc_by : (b : Bool) (w : ℕ) (tail : List ℕ) → (w % 256 == 0) ≡ b → AreOf rows.Bcc w tail
+pub bcc_by : (b : Bool) (w : ℕ) (tail : List ℕ) → (w % 256 == 0) ≡ b → AreOf rows.Bcc w tail
     → IsDecoded (record { op = ops.Bcc (condition_of (w ∷ tail)) (near (displacement_of (w ∷ tail))); length = (made rows.Bcc (w ∷ tail)).length })
 unfolding made displacement_of condition_of
 bcc_by true w tail is of = rw is (rw is at (own_decoded rows.Bcc w (2 ∷ []) (two_of rows.Bcc w tail of)))
@@ -249,7 +249,7 @@ bcc_reached w tail at of =
       second = λ n is. cc;
     }
 
-dbcc_decoded : (w : ℕ) (tail : List ℕ) → AreOf rows.Dbcc w tail → IsDecoded (record { op = ops.Dbcc (condition_of (w ∷ tail)) (low_register (w ∷ tail)) 2; length = 4 })
+pub dbcc_decoded : (w : ℕ) (tail : List ℕ) → AreOf rows.Dbcc w tail → IsDecoded (record { op = ops.Dbcc (condition_of (w ∷ tail)) (low_register (w ∷ tail)) 2; length = 4 })
 unfolding made number_at condition_of low_register
 dbcc_decoded w tail of = own_decoded rows.Dbcc w (2 ∷ []) (two_of rows.Dbcc w tail of)
 

@@ -13,9 +13,10 @@ use Rattle.m68k_decode.specs.Rows as rows
 use Rattle.m68k_decode.specs.Rows.{Row}
 use Rattle.m68k_decode.proofs.Table.{decoded_is_picked}
 use Rattle.md_disasm.specs.Rows68.{Row68, row_of}
-use Rattle.md_disasm.specs.Texts68.{text_of}
+use Rattle.md_disasm.specs.Texts68.{row_text, text_of}
+use Rattle.md_disasm.specs.declared.operand68.Operand68.TheVariants as operands
 use Rattle.md_asm_text.specs.Pieces as pieces
-use Rattle.md_asm_text.specs.Pieces.{Piece}
+use Rattle.md_asm_text.specs.Pieces.{Piece, every, is_worded}
 use Rattle.m68k_encode.specs.Encoding.{encoded}
 use Rattle.m68k_form.proofs.Sources.{IsShown, led_pieces, row_pieces, row_split, size_pieces}
 use Rattle.m68k_read.specs.Judged.{padded}
@@ -33,14 +34,17 @@ use Rattle.md_asm.specs.Places.{blank, put}
 use Rattle.md_asm.proofs.Memory.{zeros_long}
 use Rattle.md_asm.specs.declared.placed.Placed.{Placed}
 use Rattle.assembly_laws.specs.Places.{word_at, words_from}
+use Rattle.asm_round_trip.specs.Ranges.{main_allows}
 use Rattle.asm_round_trip.specs.Sources.{main_source}
 use Rattle.asm_round_trip.proofs.Fits.{filled_both, is_plain, misfits_both, moved, named_both, none_misfit, number_of, part_fits, single_named, some_is}
 use Rattle.asm_round_trip.proofs.Line.{free}
 use Rattle.asm_round_trip.proofs.Named68.{is_word, op_free, op_line}
+use Rattle.asm_round_trip.proofs.Operands68.{operand_allows, row_digits}
 use Rattle.asm_round_trip.proofs.Reach68.{AreReached, IsReached, IsThere, row_reached}
 use Rattle.asm_round_trip.proofs.Rounds.{IsCoded, main_done}
 use Rattle.asm_round_trip.proofs.Rows68.{led_filled, led_single, operand_filled, row_filled, row_kept, size_filled, size_single}
 use Rattle.asm_round_trip.proofs.Shown68.{row_shown}
+use Rattle.asm_round_trip.proofs.With68.{IsSomewhere, first_there as first_row, first_with, second_there as second_row, second_with}
 
 -- ---- what words decode to
 
@@ -50,11 +54,13 @@ pub record AreMain (w : ℕ) (tail : List ℕ) : Type 0 where
   pub entered : IsInstruction (nested w)
   pub all : AreWords (w ∷ tail)
 
-record IsKnown (d : Decoded) (at : ℕ) : Type 0 where
+pub record IsKnown (d : Decoded) (at : ℕ) : Type 0 where
   name : is_word d.op ≡ false
   first : IsShown (row_of d.op at).first
   second : IsShown (row_of d.op at).second
   reached : AreReached d at
+  pub first_allows : (n : ℕ) → number_of (led_pieces 32 (row_of d.op at).first) ≡ Some n → main_allows d.op (row_of d.op at).first n ≡ true
+  pub second_allows : (n : ℕ) → number_of (led_pieces 44 (row_of d.op at).second) ≡ Some n → main_allows d.op (row_of d.op at).second n ≡ true
 
 row_word : (row : Row) (words : List ℕ) → IsInstruction (Some row) → is_word (made row words).op ≡ false
 unfolding made
@@ -65,20 +71,61 @@ known_by : (found : Option Row) (w : ℕ) (tail : List ℕ) (at : ℕ) → AreMa
 known_by None w tail at main is entered = absurd entered
 known_by (Some row) w tail at main is entered =
     let own : IsInstruction (Some row) = subst (λ (r : Option Row). IsInstruction r) is main.entered in
-    let shown = row_shown row (w ∷ tail) at entered main.all in record {
+    let shown = row_shown row (w ∷ tail) at entered main.all in
+    let digits = row_digits row (w ∷ tail) at entered in record {
       name = row_word row (w ∷ tail) own;
       first = shown.0;
       second = shown.1;
+      first_allows = λ n is. operand_allows (made row (w ∷ tail)).op 32 (row_of (made row (w ∷ tail)).op at).first n shown.0 digits.0 is;
+      second_allows = λ n is. operand_allows (made row (w ∷ tail)).op 44 (row_of (made row (w ∷ tail)).op at).second n shown.1 digits.1 is;
       reached = row_reached row w tail at (record { low = main.low; is = is; entered = main.entered; all = main.all });
     }
 
-known : (w : ℕ) (tail : List ℕ) (at : ℕ) → AreMain w tail → IsKnown (instruction_of (w ∷ tail)) at
+pub known : (w : ℕ) (tail : List ℕ) (at : ℕ) → AreMain w tail → IsKnown (instruction_of (w ∷ tail)) at
 known w tail at main = rw (decoded_is_picked (w ∷ tail) main.low) (known_by (nested w) w tail at main refl (every_word w main.low main.entered))
 
-own_pieces : (w : ℕ) (tail : List ℕ) (at : ℕ) → AreMain w tail → pieces.pieces (text_of (instruction_of (w ∷ tail)) at) ≡ row_pieces (row_of (instruction_of (w ∷ tail)).op at)
+own_worded : (w : ℕ) (tail : List ℕ) (at : ℕ) → AreMain w tail → every is_worded (row_of (instruction_of (w ∷ tail)).op at).name ≡ true
+own_worded w tail at main = (free (row_of (instruction_of (w ∷ tail)).op at).name (op_free (instruction_of (w ∷ tail)).op at ((known w tail at main).name))).worded
+
+pub own_pieces : (w : ℕ) (tail : List ℕ) (at : ℕ) → AreMain w tail → pieces.pieces (text_of (instruction_of (w ∷ tail)) at) ≡ row_pieces (row_of (instruction_of (w ∷ tail)).op at)
 own_pieces w tail at main =
     let k = known w tail at main in
-    row_split (row_of (instruction_of (w ∷ tail)).op at) ((free (row_of (instruction_of (w ∷ tail)).op at).name (op_free (instruction_of (w ∷ tail)).op at k.name)).worded) k.first k.second
+    row_split (row_of (instruction_of (w ∷ tail)).op at) (own_worded w tail at main) k.first k.second
+
+abbrev pub front : Row68 → List Piece
+front row = pieces.Word row.name ∷ size_pieces row.size
+
+-- the pieces in front of the second operand
+pub front_pieces : (w : ℕ) (tail : List ℕ) (at : ℕ) → AreMain w tail
+    → length (pieces.pieces (row_text (record (row_of (instruction_of (w ∷ tail)).op at) { second = operands.Nothing })))
+    ≡ length (front (row_of (instruction_of (w ∷ tail)).op at) ++ led_pieces 32 (row_of (instruction_of (w ∷ tail)).op at).first)
+front_pieces w tail at main =
+    let row = row_of (instruction_of (w ∷ tail)).op at in
+    ap length (row_split (record row { second = operands.Nothing }) (own_worded w tail at main) ((known w tail at main).first) tt
+    ∙ ap (λ (l : List Piece). front row ++ l) (append-nil (led_pieces 32 row.first)))
+
+-- any other number that an operand allows is there too
+record IsThereToo (d : Decoded) (at n : ℕ) : Type 0 where
+  first : main_allows d.op (row_of d.op at).first n ≡ true → IsSomewhere (first_with n (row_of d.op at))
+  second : main_allows d.op (row_of d.op at).second n ≡ true → IsSomewhere (second_with n (row_of d.op at))
+
+there_by : (found : Option Row) (w : ℕ) (tail : List ℕ) (at n : ℕ) → AreMain w tail → nested w ≡ found → IsEnteredWord w found → at < 4294967296 → IsThereToo (picked found (w ∷ tail)) at n
+there_by None w tail at n main is entered a = absurd entered
+there_by (Some row) w tail at n main is entered a = record {
+  first = λ h. first_row at n a row w tail (record { low = main.low; is = is; entered = main.entered; all = main.all }) h;
+  second = λ h. second_row at n a row w tail (record { low = main.low; is = is; entered = main.entered; all = main.all }) h;
+}
+
+there_too : (w : ℕ) (tail : List ℕ) (at n : ℕ) → AreMain w tail → at < 4294967296 → IsThereToo (instruction_of (w ∷ tail)) at n
+there_too w tail at n main a = rw (decoded_is_picked (w ∷ tail) main.low) (there_by (nested w) w tail at n main refl (every_word w main.low main.entered) a)
+
+pub first_there : (w : ℕ) (tail : List ℕ) (at n : ℕ) → AreMain w tail → at < 4294967296 → main_allows (instruction_of (w ∷ tail)).op (row_of (instruction_of (w ∷ tail)).op at).first n ≡ true
+    → IsSomewhere (first_with n (row_of (instruction_of (w ∷ tail)).op at))
+first_there w tail at n main a h = (there_too w tail at n main a).first h
+
+pub second_there : (w : ℕ) (tail : List ℕ) (at n : ℕ) → AreMain w tail → at < 4294967296 → main_allows (instruction_of (w ∷ tail)).op (row_of (instruction_of (w ∷ tail)).op at).second n ≡ true
+    → IsSomewhere (second_with n (row_of (instruction_of (w ∷ tail)).op at))
+second_there w tail at n main a h = (there_too w tail at n main a).second h
 
 -- ---- words for a row
 
@@ -121,13 +168,10 @@ row_some row at a there = let own = row_code row at there.0 a there.1 in some_is
 under_low : (n : ℕ) → under false n < 4294967296
 under_low n = omega arith
 
-abbrev front : Row68 → List Piece
-front row = pieces.Word row.name ∷ size_pieces row.size
-
 front_filled : (row : Row68) → filled (front row) ≡ front row
 front_filled row = ap (λ (l : List Piece). pieces.Word row.name ∷ l) (size_filled row.size)
 
-size_plain : (row : Row68) → is_plain (size_pieces row.size) ≡ true
+pub size_plain : (row : Row68) → is_plain (size_pieces row.size) ≡ true
 size_plain row = by row.size
   where
     by : (size : Option Size) → is_plain (size_pieces size) ≡ true

@@ -5,7 +5,8 @@ use Rattle.std.proofs.Math.Seq.{take-append_seam}
 use Rattle.z80_decode.specs.declared.op80.Op80.{Op80}
 use Rattle.z80_decode.specs.Instructions.{instruction_of}
 use Rattle.md_disasm.specs.Rows80.{Row80, row_of}
-use Rattle.md_disasm.specs.Texts80.{text_of}
+use Rattle.md_disasm.specs.Texts80.{row_text, text_of}
+use Rattle.md_disasm.specs.declared.operand80.Operand80.TheVariants as operands
 use Rattle.md_asm_text.specs.Pieces as pieces
 use Rattle.md_asm_text.specs.Pieces.{Piece}
 use Rattle.z80_encode.specs.Coded80.{AreBytes}
@@ -13,6 +14,7 @@ use Rattle.z80_encode.specs.Encoding80.{encoded}
 use Rattle.z80_read.specs.Judged.{padded}
 use Rattle.z80_read_laws.specs.Instruction.{is_db}
 use Rattle.z80_read_laws.proofs.Judged.{meant_again}
+use Rattle.z80_read_laws.proofs.Operands.{shown}
 use Rattle.z80_read_laws.proofs.Lengths.{decoded_few, encoded_long}
 use Rattle.z80_read_laws.proofs.Sources.{led_pieces, row_pieces}
 use Rattle.md_asm_code.specs.Codes.{code, sub_code}
@@ -30,7 +32,7 @@ use Rattle.asm_round_trip.proofs.Fill80.{IsReached, all_filled, row_read}
 use Rattle.asm_round_trip.proofs.Fits.{misfits_both, moved, named_both, part_fits, single_named, some_is}
 use Rattle.asm_round_trip.proofs.Named80.{op_line}
 use Rattle.asm_round_trip.proofs.Rounds.{IsCoded, sub_done}
-use Rattle.asm_round_trip.proofs.Rows80.{led_filled, led_single, read_split, row_filled, row_kept}
+use Rattle.asm_round_trip.proofs.Rows80.{front_split, led_filled, led_single, read_split, row_filled, row_kept}
 
 -- ---- bytes for a row
 
@@ -40,7 +42,17 @@ record IsRow (row : Row80) (at long : ℕ) : Type 0 where
   is : code true (row_pieces row) at ≡ Some bytes
   whole : length bytes ≡ long
 
-own_pieces : (bytes : List ℕ) (at : ℕ) → AreBytes bytes → is_db (instruction_of bytes).op ≡ false → pieces.pieces (text_of (instruction_of bytes) at) ≡ row_pieces (row_of (instruction_of bytes).op at)
+pub own_shown : (bytes : List ℕ) (at : ℕ) → AreBytes bytes → is_db (instruction_of bytes).op ≡ false → (shown (row_of (instruction_of bytes).op at).first ≡ true) × (shown (row_of (instruction_of bytes).op at).second ≡ true)
+own_shown bytes at h none =
+    let parts = read_split (row_of (instruction_of bytes).op at) (row_read bytes at h none) in (parts.0, parts.1)
+
+-- the pieces in front of the second operand
+pub front_pieces : (bytes : List ℕ) (at : ℕ) → AreBytes bytes → is_db (instruction_of bytes).op ≡ false
+    → length (pieces.pieces (row_text (record (row_of (instruction_of bytes).op at) { second = operands.Nothing })))
+    ≡ length (pieces.Word (row_of (instruction_of bytes).op at).name ∷ led_pieces 32 (row_of (instruction_of bytes).op at).first)
+front_pieces bytes at h none = ap length (front_split (row_of (instruction_of bytes).op at) (row_read bytes at h none))
+
+pub own_pieces : (bytes : List ℕ) (at : ℕ) → AreBytes bytes → is_db (instruction_of bytes).op ≡ false → pieces.pieces (text_of (instruction_of bytes) at) ≡ row_pieces (row_of (instruction_of bytes).op at)
 own_pieces bytes at h none = (read_split (row_of (instruction_of bytes).op at) (row_read bytes at h none)).2
 
 found_long : (bytes own : List ℕ) (at : ℕ) → AreBytes bytes → at < 65536 → is_db (instruction_of bytes).op ≡ false → sub_code (pieces.pieces (text_of (instruction_of bytes) at)) at ≡ Some own

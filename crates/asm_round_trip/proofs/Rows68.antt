@@ -16,15 +16,19 @@ use Rattle.m68k_form.proofs.Operands.{mode_pieces, number_pieces}
 use Rattle.m68k_form.proofs.Sources.{led_pieces, operand_pieces, row_pieces, size_pieces}
 use Rattle.asm_round_trip.proofs.Fits.{filled_both, is_single}
 
+-- another number in the place of a mode's own
+abbrev pub mode_with : ℕ → Mode → Mode
+mode_with v (modes.Displaced n by) = modes.Displaced n v
+mode_with v (modes.Indexed n index long by) = modes.Indexed n index long v
+mode_with v (modes.AbsShort at) = modes.AbsShort v
+mode_with v (modes.AbsLong at) = modes.AbsLong v
+mode_with v (modes.PcDisplaced by) = modes.PcDisplaced v
+mode_with v (modes.PcIndexed index long by) = modes.PcIndexed index long v
+mode_with v (modes.Immediate n) = modes.Immediate v
+mode_with v mode = mode
+
 abbrev pub mode_filled : Mode → Mode
-mode_filled (modes.Displaced n by) = modes.Displaced n 8
-mode_filled (modes.Indexed n index long by) = modes.Indexed n index long 8
-mode_filled (modes.AbsShort at) = modes.AbsShort 8
-mode_filled (modes.AbsLong at) = modes.AbsLong 8
-mode_filled (modes.PcDisplaced by) = modes.PcDisplaced 8
-mode_filled (modes.PcIndexed index long by) = modes.PcIndexed index long 8
-mode_filled (modes.Immediate n) = modes.Immediate 8
-mode_filled mode = mode
+mode_filled mode = mode_with 8 mode
 
 abbrev pub mode_kept : Bool → Mode → Mode
 mode_kept true mode = mode
@@ -34,13 +38,17 @@ abbrev pub number_kept : Bool → ℕ → ℕ
 number_kept true n = n
 number_kept false n = 8
 
+-- another number in the place of an operand's own
+abbrev pub operand_with : ℕ → Operand68 → Operand68
+operand_with v (operands.Place size mode) = operands.Place size (mode_with v mode)
+operand_with v (operands.Digit n) = operands.Digit v
+operand_with v (operands.Number size n) = operands.Number size v
+operand_with v (operands.Target address) = operands.Target v
+operand_with v (operands.Opcode word) = operands.Opcode v
+operand_with v o = o
+
 abbrev pub operand_filled : Operand68 → Operand68
-operand_filled (operands.Place size mode) = operands.Place size (mode_filled mode)
-operand_filled (operands.Digit n) = operands.Digit 8
-operand_filled (operands.Number size n) = operands.Number size 8
-operand_filled (operands.Target address) = operands.Target 8
-operand_filled (operands.Opcode word) = operands.Opcode 8
-operand_filled o = o
+operand_filled o = operand_with 8 o
 
 abbrev pub kept : Bool → Operand68 → Operand68
 kept true o = o

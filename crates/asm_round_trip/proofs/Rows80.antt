@@ -46,22 +46,36 @@ read_split row h =
     let c = and_parts (shown row.second) (not (is_none row.first) || is_none row.second) b.1 in
     (b.0, c.0, row_split row a.0 b.0 c.0)
 
+-- without its second operand
+pub front_split : (row : Row80) → is_read row ≡ true → pieces.pieces (row_text (record row { second = operands.Nothing })) ≡ pieces.Word row.name ∷ led_pieces 32 row.first
+front_split row h =
+    let a = and_parts (every is_worded row.name) (shown row.first && (shown row.second && (not (is_none row.first) || is_none row.second))) h in
+    let b = and_parts (shown row.first) (shown row.second && (not (is_none row.first) || is_none row.second)) a.1 in
+    row_split (record row { second = operands.Nothing }) a.0 b.0 refl ∙ ap (λ (l : List Piece). pieces.Word row.name ∷ l) (append-nil (led_pieces 32 row.first))
+
 -- ---- 8 for the numbers
 
+abbrev pub place_with : ℕ → Place8 → Place8
+place_with v (places.AtIx by) = places.AtIx v
+place_with v (places.AtIy by) = places.AtIy v
+place_with v (places.At address) = places.At v
+place_with v (places.Number n) = places.Number v
+place_with v place = place
+
 abbrev pub place_filled : Place8 → Place8
-place_filled (places.AtIx by) = places.AtIx 8
-place_filled (places.AtIy by) = places.AtIy 8
-place_filled (places.At address) = places.At 8
-place_filled (places.Number n) = places.Number 8
-place_filled place = place
+place_filled place = place_with 8 place
+
+-- another number in the place of an operand's own
+abbrev pub operand_with : ℕ → Operand80 → Operand80
+operand_with v (operands.Place place) = operands.Place (place_with v place)
+operand_with v (operands.Byte n) = operands.Byte v
+operand_with v (operands.Port n) = operands.Port v
+operand_with v (operands.Word n) = operands.Word v
+operand_with v (operands.AtWord address) = operands.AtWord v
+operand_with v o = o
 
 abbrev pub operand_filled : Operand80 → Operand80
-operand_filled (operands.Place place) = operands.Place (place_filled place)
-operand_filled (operands.Byte n) = operands.Byte 8
-operand_filled (operands.Port n) = operands.Port 8
-operand_filled (operands.Word n) = operands.Word 8
-operand_filled (operands.AtWord address) = operands.AtWord 8
-operand_filled o = o
+operand_filled o = operand_with 8 o
 
 abbrev pub kept : Bool → Operand80 → Operand80
 kept true o = o

@@ -63,7 +63,7 @@ quick_by : (b : Bool) (n : ℕ) → n < 8 → (n == 0) ≡ b → (0 < (if b then
 quick_by true n h e = (omega arith, omega arith)
 quick_by false n h e = (grind (arith, nat_tests), omega arith)
 
-quick_in : (words : List ℕ) → (0 < quick words) × (quick words ≤ 8)
+pub quick_in : (words : List ℕ) → (0 < quick words) × (quick words ≤ 8)
 unfolding quick
 quick_in words = quick_by (high_register words == 0) (high_register words) (high_below words) refl
 

@@ -11,6 +11,7 @@ use Rattle.md_asm_code.specs.Numbers.{any_over, count}
 use Rattle.asm_round_trip.specs.Faults.{HasOver, IsBad, IsUnfit}
 use Rattle.asm_round_trip.specs.Forms.{HasNumber, StandsIn}
 use Rattle.asm_round_trip.proofs.Forms.{form_size, has_fits}
+use Rattle.asm_round_trip.proofs.Ranges.{in_has}
 
 -- ---- numbers that do not fit
 
@@ -75,7 +76,8 @@ unfit_is z80 (bodies.Sub at) said h = let e : 65536 ≤ at = grind (arith, nat_t
 unfit_is z80 bodies.Words said h = over_stands 65536 said h
 unfit_is z80 bodies.Bytes said h = over_stands 256 said h
 unfit_is z80 bodies.Instruction said h =
-    let there = misfit_stands z80 said 0 said h in (there.0, there.1, there.2, never z80 said there.0 there.1 there.3)
+    let there = misfit_stands z80 said 0 said h in
+    let no = never z80 said there.0 there.1 there.3 in (there.0, there.1, there.2, λ range. no (in_has z80 said there.0 there.1 range), no)
 unfit_is z80 bodies.Bad said h = cc
 unfit_is z80 bodies.Nothing said h = cc
 unfit_is z80 (bodies.Org place) said h = cc

@@ -17,6 +17,7 @@ use Rattle.md_asm_code.specs.Numbers.{resolved}
 use Rattle.md_asm.specs.Places.{is_sub}
 use Rattle.md_asm.specs.Rounds.{Read, Round, Slot, round_one, start}
 use Rattle.asm_round_trip.specs.Forms.{HasNumber, IsForm, StandsIn}
+use Rattle.asm_round_trip.specs.Ranges.{IsInRange}
 
 -- behind a label's colon, or in place of a label, stands what is none; or it is no directive, and no instruction of the
 -- processor has its form
@@ -27,13 +28,13 @@ IsBad z80 line = (line.body ≡ bodies.Bad) ⊎ ((line.body ≡ bodies.Instructi
 abbrev pub HasOver : ℕ → List Piece → Type 0
 HasOver limit said = (place : ℕ) × (n : ℕ) × StandsIn said place (Number n) × (limit ≤ n)
 
--- a number does not fit: one of `dc.w` has no 16 bits, one of `db` no 8, the address of `cpu z80` no 16; or no
--- instruction of the line's form has it at its place
+-- a number does not fit: one of `dc.w` has no 16 bits, one of `db` no 8, the address of `cpu z80` no 16; or it is out of
+-- the range of its place, so that no instruction of the line's form has it there
 abbrev pub IsUnfit : Bool → Body → List Piece → Type 0
 IsUnfit z80 bodies.Words said = HasOver 65536 said
 IsUnfit z80 bodies.Bytes said = HasOver 256 said
 IsUnfit z80 (bodies.Sub at) said = 65536 ≤ at
-IsUnfit z80 bodies.Instruction said = (place : ℕ) × (n : ℕ) × StandsIn said place (Number n) × ¬ HasNumber z80 said place n
+IsUnfit z80 bodies.Instruction said = (place : ℕ) × (n : ℕ) × StandsIn said place (Number n) × ¬ IsInRange z80 said place n × ¬ HasNumber z80 said place n
 IsUnfit z80 body said = ⊥
 
 -- no instruction of the processor has these pieces in its text at an address

@@ -1,3 +1,4 @@
 pub mod Sources
 pub mod Forms
+pub mod Ranges
 pub mod Faults

@@ -16,6 +16,7 @@ ghost use Rattle.md_asm.specs.declared.placed.Placed.{Placed};
 ghost use Rattle.assembly_laws.specs.Places.{bytes_from, words_from};
 ghost use Rattle.asm_round_trip.specs.Faults.{IsFaulty};
 ghost use Rattle.asm_round_trip.specs.Forms.{HasNumber, IsForm, StandsIn};
+ghost use Rattle.asm_round_trip.specs.Ranges.{IsInRange};
 ghost use Rattle.asm_round_trip.specs.Sources.{KeepsInstruction, main_source, sub_source};
 
 /// Whatever words or bytes decode to, but what the Z80's text writes as a directive: a source of its text at an address
@@ -44,9 +45,15 @@ pub fn forms_are_known()
         → HasNumber z80 said place n }
 {}
 
+/// The numbers that instructions of a line's form have at a place are those in the range of that place: a byte, a word or a
+/// long, 1 to 8, 0 to 15, a multiple of 8 up to 38h, a displacement or an address, by the operand that the place lies in.
+pub fn numbers_have_their_range()
+    ensures { (z80 : Bool) (said : List Piece) (place n : ℕ) → HasNumber z80 said place n ↔ IsInRange z80 said place n }
+{}
+
 /// What a source's fault says: a line of kind 1 has the form of no instruction, and of kinds 2 and 8 a number that no
-/// instruction of the line's form has at its place, or one that does not fit a directive; of kind 9 it is an instruction's
-/// that no instruction has as its text at the address.
+/// instruction of the line's form has at its place, as it is out of the range there, or one that does not fit a directive; of
+/// kind 9 it is an instruction's that no instruction has as its text at the address.
 pub fn faults_are_right()
     ensures { (source : List ℕ) (line kind : ℕ) → assembly source ≡ Failed line kind → IsFaulty source line kind }
 {}
