@@ -34,8 +34,8 @@ use z80_chip::Chip80;
 
 impl Machine {
     /// The machine at power-on, of a region, with this cartridge and this recording of the pads. All
-    /// memory that it ever needs is taken here, but what it asks for once several workers make a segment,
-    /// to draw lines ahead, and does without where there is none.
+    /// memory that it ever needs is taken here, but that in which lines are drawn ahead: the first segment of
+    /// several workers asks for it before its first event, and the machine goes without where there is none.
     pub fn power_on(
         alloc: Global,
         cart: Arc<Cart>,

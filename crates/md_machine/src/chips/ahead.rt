@@ -4,6 +4,7 @@ use bus_shared::Shared;
 use md_word::NoMemory;
 use std::alloc::Global;
 use std::sync::Arc;
+use std::sync::atomic::{AtomicBool, Ordering};
 use vdp_ahead::{Place, Sheet, Tray};
 
 /// The first line that is drawn ahead of its event, where a helper draws some: by then the lines before it give
@@ -26,8 +27,10 @@ pub(crate) struct Ahead {
     tray: Arc<Tray>,
     /// A sheet that lies neither there nor on the board.
     spare: Option<Box<Sheet>>,
-    /// How many sheets there are. Their memory is asked for once somebody has looked for one.
-    sheets: u8,
+    /// Another one, where both sheets do.
+    other: Option<Box<Sheet>>,
+    /// Whether the memory of the sheets has been asked for.
+    prepared: AtomicBool,
     /// Whether lines of this picture are drawn ahead.
     asked: bool,
     /// Whether one of them was of use.
@@ -43,7 +46,8 @@ impl Ahead {
         Ok(Ahead {
             tray: Arc::new(alloc, Tray::new())?,
             spare: None,
-            sheets: 0,
+            other: None,
+            prepared: AtomicBool::new(false),
             asked: false,
             used: false,
             rest: 0,
@@ -51,9 +55,21 @@ impl Ahead {
         })
     }
 
-    /// Where sheets go to be drawn, for one who draws.
+    /// Where sheets go to be drawn, for one who draws. With the first call both sheets are made, and lie there
+    /// without a line; where there is no memory for one, it is missing from there on.
     pub(crate) fn tray(&self) -> Option<Arc<Tray>> {
+        if !self.prepared.swap(true, Ordering::SeqCst) {
+            self.lay_blank(self.tray.first());
+            self.lay_blank(self.tray.second());
+        }
         self.tray.clone().ok()
+    }
+
+    /// Lays a new sheet without a line in an empty place, if there is memory for one.
+    fn lay_blank(&self, place: &Place) {
+        if let Ok(sheet) = Sheet::blank(self.alloc) {
+            place.ask(sheet);
+        }
     }
 
     /// Whether anyone has ever looked for a sheet to draw.
@@ -90,7 +106,7 @@ impl Ahead {
     {
         if let Some(sheet) = sheet {
             if let Some(other) = shared.take_sheet() {
-                self.spare = Some(other);
+                self.put_by(other);
             }
             shared.lay_sheet(sheet);
         }
@@ -105,11 +121,11 @@ impl Ahead {
             let second = self.idle_sheet(shared);
             if let Some(sheet) = first {
                 let back = ask(sheet, self.tray.first(), pal, FIRST, SECOND, shared);
-                self.keep(back, shared);
+                self.keep(back);
             }
             if let Some(sheet) = second {
                 let back = ask(sheet, self.tray.second(), pal, SECOND, END, shared);
-                self.keep(back, shared);
+                self.keep(back);
             }
         }
     }
@@ -126,11 +142,14 @@ impl Ahead {
         self.asked
     }
 
-    /// A sheet whose lines are not being drawn, if there is one or memory for one.
+    /// A sheet whose lines are not being drawn, if there is one.
     fn idle_sheet(&mut self, shared: &mut Shared) -> Option<Box<Sheet>>
         ensures { shared.new ≡ shared.old }
     {
         if let Some(sheet) = self.spare.take() {
+            return Some(sheet);
+        }
+        if let Some(sheet) = self.other.take() {
             return Some(sheet);
         }
         if let Some(sheet) = shared.take_sheet() {
@@ -139,32 +158,22 @@ impl Ahead {
         if let Some(sheet) = self.tray.first().take() {
             return Some(sheet);
         }
-        if let Some(sheet) = self.tray.second().take() {
-            return Some(sheet);
-        }
-        self.make_sheet()
-    }
-
-    /// A new sheet, as long as there are less than two, if there is memory for one.
-    fn make_sheet(&mut self) -> Option<Box<Sheet>> {
-        if self.sheets >= 2 {
-            return None;
-        }
-        let sheet = Sheet::blank(self.alloc).ok()?;
-        self.sheets += 1;
-        Some(sheet)
+        self.tray.second().take()
     }
 
     /// Keeps a sheet that could not be laid down, if there is one.
-    fn keep(&mut self, sheet: Option<Box<Sheet>>, shared: &mut Shared)
-        ensures { shared.new ≡ shared.old }
-    {
+    fn keep(&mut self, sheet: Option<Box<Sheet>>) {
         if let Some(sheet) = sheet {
-            if self.spare.is_some() {
-                shared.lay_sheet(sheet);
-            } else {
-                self.spare = Some(sheet);
-            }
+            self.put_by(sheet);
+        }
+    }
+
+    /// Keeps a sheet that lies neither on the tray nor on the board.
+    fn put_by(&mut self, sheet: Box<Sheet>) {
+        if self.spare.is_none() {
+            self.spare = Some(sheet);
+        } else {
+            self.other = Some(sheet);
         }
     }
 }
