@@ -9,6 +9,7 @@ ghost use Rattle.md_reached.specs.Settling.{GoesOn};
 ghost use Rattle.debug_script.specs.declared.script.Ending.{Ending};
 ghost use Rattle.debug_script.specs.declared.script.Ending.TheVariants.{OutOfMemory};
 ghost use Rattle.state_images.specs.Images.{HasImage, ImagesValue, settled_of};
+ghost use Rattle.debug_states.specs.Laws.{DebugLaws};
 ghost use Rattle.debug_states.specs.Opened.{PlaysScript};
 
 use md_reached::settling::settled_machines_go_on;
@@ -26,4 +27,12 @@ pub fn kept_machines_go_on()
         → IsRunTo m.console end z entries output → GoesOn end (settled_of images m).console z entries output }
 {
     settled_machines_go_on();
+}
+
+/// Both, for whoever cites them.
+pub fn debug_laws()
+    ensures { DebugLaws }
+{
+    scripts_have_one_outcome();
+    kept_machines_go_on();
 }

@@ -1,2 +1,3 @@
 pub mod Outcomes
 pub mod Rolling
+pub mod Single

@@ -1,5 +1,5 @@
 -- A script of which each line is obeyed has none that is refused.
-use Rattle.std.proofs.Common.{◌≡◌, ◌∙◌, sym, subst, ℕ, ◌+◌, ◌<◌, ◌⊎◌, inl, inr, List, [], ◌∷◌, ◌++◌, Option, Some, arith}
+use Rattle.std.proofs.Common.{◌≡◌, ◌∙◌, sym, subst, ℕ, ◌<◌, ◌⊎◌, inl, inr, List, [], ◌∷◌, ◌++◌, Option, Some, arith}
 use Rattle.rollback_inputs.specs.Inputs.{IsConfirmed, Words}
 use Rattle.rollback_lines.specs.Lines.{line_of}
 use Rattle.rollback_lines.specs.declared.line.Line.{Line}
@@ -11,14 +11,14 @@ use Rattle.rollback_states.specs.Rolls.{ComesTo}
 use Rattle.rollback_states.specs.declared.rolled.Comes.TheVariants.{Done, Refused}
 use Rattle.rollback_states.specs.declared.rolled.Rolled.{Rolled}
 
-some_same : (a b : Line) → ◌≡◌ {A = Option Line} (Some a) (Some b) → a ≡ b
+pub some_same : (a b : Line) → ◌≡◌ {A = Option Line} (Some a) (Some b) → a ≡ b
 some_same a b same = cc
 
 -- so many frames are confirmed, and no other number
 less_or_not : (m n : ℕ) → (m < n) ⊎ ((n < m) ⊎ (m ≡ n))
 less_or_not m n = grind arith
 
-one_confirmed : (local remote : Words) (m n : ℕ) → IsConfirmed local remote m → IsConfirmed local remote n → m ≡ n
+pub one_confirmed : (local remote : Words) (m n : ℕ) → IsConfirmed local remote m → IsConfirmed local remote n → m ≡ n
 one_confirmed local remote m n first second = elim (less_or_not m n) [
   | inl less ↦ absurd (first.greatest (second.below m less))
   | inr (inl more) ↦ absurd (second.greatest (first.below n more))
@@ -26,7 +26,7 @@ one_confirmed local remote m n first second = elim (less_or_not m n) [
 ]
 
 -- what a line makes is one
-obeys_one : (window : ℕ) (old : Script) (asked : Line) (one two : Script) → Obeys window old asked one → Obeys window old asked two → one ≡ two
+pub obeys_one : (window : ℕ) (old : Script) (asked : Line) (one two : Script) → Obeys window old asked one → Obeys window old asked two → one ≡ two
 obeys_one window old (Press player frame buttons) one two first second = first.3 ∙ sym second.3
 obeys_one window old Advance one two first second = first.4 ∙ sym second.4
 
@@ -41,7 +41,7 @@ obeyed_line window (other ∷ before) line after old mid new all first =
     obeyed_line window before line after first.1 mid new (subst (λ (s : Script). ObeysAll window (before ++ line ∷ after) s new) same all.4) first.4
 
 -- no line is both refused and obeyed
-not_both : (window : ℕ) (script next : Script) (line : List ℕ) (fault : LineFault) (asked : Line) → IsRefused window script line fault → line_of line ≡ Some asked → Obeys window script asked next → ⊥
+pub not_both : (window : ℕ) (script next : Script) (line : List ℕ) (fault : LineFault) (asked : Line) → IsRefused window script line fault → line_of line ≡ Some asked → Obeys window script asked next → ⊥
 not_both window script next line faults.Unread asked refused is obeyed = cc
 not_both window script next line faults.Far asked (player, frame, buttons, told, far) is obeyed =
     let done = subst (λ (l : Line). Obeys window script l next) (some_same asked (Press player frame buttons) (sym is ∙ told)) obeyed in
