@@ -205,20 +205,45 @@ fn fill_unshaded(
     }
 }
 
-/// Writes the bytes of the colours of these indices. Each dot but the last is written with one byte
-/// more, in whose place the next dot's first then stands.
+/// Writes the bytes of the colours of these indices, four dots at a time. Each dot but the last is
+/// written with one byte more, in whose place the next dot's first then stands.
+#[tactic(auto, using(crate::proofs::Printed::dot_printed))]
 fn print(table: &[[u8; 4]; 192], line: &[u8; 320], rgb: &mut [u8])
     requires indices { (x : ℕ) → x < 320 → slice_index line.now x < 192 }
     requires entries { (x : ℕ) → x < 320 → length (slice_index_or table.now (slice_index line.now x) []) ≡ 4 }
     requires room { length rgb.old ≡ 960 }
     ensures { (n : ℕ) → n < 960 → slice_index rgb.new n ≡ printed_byte table.now line.now n }
 {
-    for x in 0..319 {
+    for x in 0..79 {
+        let at = 12 * x;
+        let first = table[usize::from(line[4 * x])];
+        print_dot(&first, at, rgb);
+        let second = table[usize::from(line[4 * x + 1])];
+        print_dot(&second, at + 3, rgb);
+        let third = table[usize::from(line[4 * x + 2])];
+        print_dot(&third, at + 6, rgb);
+        let fourth = table[usize::from(line[4 * x + 3])];
+        print_dot(&fourth, at + 9, rgb);
+    }
+    for x in 316..319 {
         let dot = table[usize::from(line[x])];
-        rgb[3 * x..3 * x + 4].copy_from_slice(&dot);
+        print_dot(&dot, 3 * x, rgb);
     }
     let [red, green, blue, _] = table[usize::from(line[319])];
     rgb[957] = red;
     rgb[958] = green;
     rgb[959] = blue;
+}
+
+/// Writes the bytes of a dot at a place, and one more.
+#[inline(always)]
+fn print_dot(dot: &[u8; 4], at: usize, rgb: &mut [u8])
+    requires within { at < 957 }
+    requires dot { length dot.now ≡ 4 }
+    requires whole { length rgb.old ≡ 960 }
+    ensures whole { length rgb.new ≡ 960 }
+    ensures before { (n : ℕ) → n < at → slice_index rgb.new n ≡ slice_index rgb.old n }
+    ensures dot { (n : ℕ) → n < 3 → slice_index rgb.new (at + n) ≡ slice_index dot.now n }
+{
+    rgb[at..at + 4].copy_from_slice(dot);
 }
