@@ -19,7 +19,9 @@ The tables, all if none is named:
                 shrink; output that is closed, full or a pipe that ends: each ends with its status
     memory      a run from a saved state within more and more memory, page by page: status 10 and no changed
                 file, or the whole run
-    space       the same within more and more address space, of which the stack takes its part
+    space       the same within more and more address space, from the least within which the system's loader
+                can start the program
+    stack       every command with a stack of 128 KiB, and of 56 KiB: each ends as with one that is not bounded
     session     a session of the debugger within more and more memory: a front part of its replies and
                 status 10, or all of them and 15 at its last line; the cartridge and the script stay
 
@@ -390,6 +392,16 @@ def least_limit(folder, kind, status, low, *words):
     return high
 
 
+def least_start(folder, kind):
+    """The least limit, a multiple of a page, at which the system starts the program: it takes no word, or has no
+    memory for one."""
+    low, high = 0, least_limit(folder, kind, 2, 0, "run")
+    while high - low > PAGE:
+        middle = (low + high) // 2 // PAGE * PAGE
+        low, high = (low, middle) if bounded(folder, kind, middle, "run")[0] in (2, 10) else (middle, high)
+    return high
+
+
 def memory_wrong(folder, status, text, whole):
     """What is wrong with a run within too little memory, or nothing."""
     made = {name: (folder / name).read_bytes() for name in "fsjt" if (folder / name).exists()}
@@ -406,7 +418,7 @@ def within(folder, kind):
     words = (*RUN, "--load", "old.mds", "--frames", "f", "--sound", "s", "--journal", "j", "--save", "t")
     run(folder, *words)
     whole = {name: (folder / name).read_bytes() for name in "fsjt"}
-    low = least_limit(folder, kind, 2, 0, "run")
+    low = least_start(folder, kind)
     high = least_limit(folder, kind, 0, low, *words) + 16 * PAGE
     for limit in range(low, high, PAGE):
         for name in "fsjt":
@@ -424,6 +436,37 @@ def memory(folder, step):
 def space(folder, step):
     """More and more address space."""
     return within(folder, resource.RLIMIT_AS)
+
+
+EVERY = (
+    ("asm", TOP / "examples" / "show" / "show.asm", "again.bin", "--list", "again.lst"),
+    ("info", "game.bin"),
+    (*RUN, "--save", "t", "--journal", "j"),
+    (*RUN, "--workers", 5, "--frames", "f", "--sound", "s"),
+    (*RUN, "--load", "old.mds", "--frames", "f", "--sound", "s", "--journal", "j", "--save", "t"),
+    (*RUN, "--load", "old.mds", "--workers", 5, "--save", "t"),
+    ("demo", 7, "--cycles", FRAME, "--workers", 1),
+    ("demo", 7, "--cycles", FRAME, "--workers", 5, "--pal"),
+    ("vgm", "j", "v"),
+    ("play", "v", "w"),
+    ("debug", "game.bin", "script"),
+    ("rollback", "game.bin", "inputs", "--window", 16),
+    ("rollback", "large.bin", "inputs", "--window", 16),
+)
+
+
+def stack(folder, step):
+    """Every command with little stack."""
+    save(folder, FRAME)
+    (folder / "large.bin").write_bytes((folder / "game.bin").read_bytes().ljust(1 << 22, b"\0"))
+    (folder / "script").write_bytes(f"run {FRAME}\nstep 3\nregs\n".encode())
+    late = "".join(f"l {frame} 1\n" + (f"r {frame - 5} 8\n" if frame >= 5 else "") + "a\n" for frame in range(12))
+    (folder / "inputs").write_bytes(late.encode())
+    for words in EVERY:
+        whole = run(folder, *words)
+        yield f"no limit: {words[0]}", "" if whole[0] == 0 else f"status {whole[0]} with {whole[1]!r}"
+        for limit in (128 << 10, 56 << 10):
+            yield f"{limit} bytes: {words[0]}", differs(bounded(folder, resource.RLIMIT_STACK, limit, *words), whole)
 
 
 SCRIPT = b"step 1\nregs\nback 5\n"
@@ -463,6 +506,7 @@ TABLES = {
     "stores": stores,
     "memory": memory,
     "space": space,
+    "stack": stack,
     "session": session,
 }
 

@@ -208,10 +208,10 @@ fm_told bytes at part port main sub early e f m s t p h =
     let there = subst (λ (l : List ℕ). fm_port.SpellsPort (at_of bytes) l port) f (subst (λ (a : ℕ). fm_port.SpellsPort a part port) e p) in
     t ∙ (λ i. are_fm_early (m i) (s i) (fm_once (at_of bytes) (part_of fm_port_part bytes) port h.port there h.spells i)) ∙ h.late
 
-pub fm_none : (bytes : List ℕ) (at : ℕ) (part : List ℕ) (answer : Result Port Unspell) (fault : Unspell) → at ≡ at_of bytes → part ≡ part_of fm_port_part bytes → answer ≡ failed fault → ((port : Port) → fm_port.SpellsPort at part port → answer ≡ Ok port) → HasLateFm bytes → true ≡ false
+pub fm_none : (bytes : List ℕ) (at : ℕ) (part : List ℕ) (answer : Result (Unit {0}) Unspell) (fault : Unspell) → at ≡ at_of bytes → part ≡ part_of fm_port_part bytes → answer ≡ failed fault → ((port : Port) → fm_port.SpellsPort at part port → answer ≡ Ok tt) → HasLateFm bytes → true ≡ false
 fm_none bytes at part answer fault e f r only h =
     let there = subst (λ (l : List ℕ). fm_port.SpellsPort at l h.port) (sym f) (subst (λ (a : ℕ). fm_port.SpellsPort a (part_of fm_port_part bytes) h.port) (sym e) h.spells) in
-    let ok : answer ≡ Ok h.port = only h.port there in
+    let ok : answer ≡ Ok tt = only h.port there in
     absurd cc
 
 pub psg_is_late : (bytes : List ℕ) (at : ℕ) (part : List ℕ) (port : List PsgWrite) (main sub : ℕ) (early : Bool) → at ≡ at_of bytes → part ≡ part_of psg_port_part bytes → main ≡ main_next bytes → sub ≡ sub_next bytes → early ≡ are_psg_early main sub port → psg_port.SpellsPort at part port → early ≡ false → HasLatePsg bytes
@@ -226,10 +226,10 @@ psg_told bytes at part port main sub early e f m s t p h =
     let there = subst (λ (l : List ℕ). psg_port.SpellsPort (at_of bytes) l port) f (subst (λ (a : ℕ). psg_port.SpellsPort a part port) e p) in
     t ∙ (λ i. are_psg_early (m i) (s i) (psg_once (at_of bytes) (part_of psg_port_part bytes) port h.port there h.spells i)) ∙ h.late
 
-pub psg_none : (bytes : List ℕ) (at : ℕ) (part : List ℕ) (answer : Result (List PsgWrite) Unspell) (fault : Unspell) → at ≡ at_of bytes → part ≡ part_of psg_port_part bytes → answer ≡ failed fault → ((port : List PsgWrite) → psg_port.SpellsPort at part port → answer ≡ Ok port) → HasLatePsg bytes → true ≡ false
+pub psg_none : (bytes : List ℕ) (at : ℕ) (part : List ℕ) (answer : Result (Unit {0}) Unspell) (fault : Unspell) → at ≡ at_of bytes → part ≡ part_of psg_port_part bytes → answer ≡ failed fault → ((port : List PsgWrite) → psg_port.SpellsPort at part port → answer ≡ Ok tt) → HasLatePsg bytes → true ≡ false
 psg_none bytes at part answer fault e f r only h =
     let there = subst (λ (l : List ℕ). psg_port.SpellsPort at l h.port) (sym f) (subst (λ (a : ℕ). psg_port.SpellsPort a (part_of psg_port_part bytes) h.port) (sym e) h.spells) in
-    let ok : answer ≡ Ok h.port = only h.port there in
+    let ok : answer ≡ Ok tt = only h.port there in
     absurd cc
 
 -- a port holds as many writes as its bytes count

@@ -1,4 +1,4 @@
-ghost use Rattle.std.specs.Prelude.{◌≡◌, ◌≤◌, ◌^◌, ◌==◌, ℕ, false, length};
+ghost use Rattle.std.specs.Prelude.{◌≡◌, ◌≤◌, ◌^◌, ◌==◌, ℕ, false, length, IfOk};
 ghost use Rattle.std.specs.Arc.{arc_value};
 ghost use Rattle.save_state.specs.Items as items;
 ghost use Rattle.save_state.specs.Items.{at_of, region_of, HasLateFm, HasLatePsg, IsMain, MainFails, IsSub, SubFails, IsShared, SharedFails, IsPicture, DrawingFails, IsFm, FmFails, IsPsg, PsgFails};
@@ -19,7 +19,7 @@ use m68k_chip::Chip68;
 use md_fields::{u8_at, u16_at, u64_at};
 use md_machine::first_batch;
 use md_pads::Recording;
-use md_word::Unspell;
+use md_word::{NoMemory, Unspell};
 use psg_sound::{PsgPort, PsgSynth};
 use rom_header::Cart;
 use std::alloc::Global;
@@ -57,37 +57,60 @@ fn is_holder(holder: u8, stage: u8) -> bool
 /// Whether the FM chip's writes that the bytes keep stand well before the next events of their
 /// processors; where there is none nothing else is read. Bytes that keep no port are refused elsewhere.
 #[inline(never)]
-fn are_fm_writes_early(alloc: Global, bytes: &[u8], at: u64) -> bool
+fn are_fm_writes_early(alloc: Global, bytes: &[u8], at: u64) -> Result<bool, NoMemory>
+    requires whole { length bytes.now ≡ state_size }
+    requires cycle { at ≡ at_of bytes.now }
+    requires near { at ≤ last_cycle }
+    ensures late { IfOk result (λ early. early ≡ false → HasLateFm bytes.now) }
+    ensures told { IfOk result (λ early. HasLateFm bytes.now → early ≡ false) }
+{
+    let part = FM_PORT.of(bytes);
+    if u16_at(part, FM_COUNT) == 0 {
+        return Ok(true);
+    }
+    let mut port = Box::new(alloc, FmPort::power_on())?;
+    Ok(are_early_in_fm(&mut port, bytes, at))
+}
+
+/// The same by a port that is made the one that the bytes keep.
+fn are_early_in_fm(port: &mut FmPort, bytes: &[u8], at: u64) -> bool
     requires whole { length bytes.now ≡ state_size }
     requires cycle { at ≡ at_of bytes.now }
     requires near { at ≤ last_cycle }
     ensures late { result ≡ false → HasLateFm bytes.now }
     ensures told { HasLateFm bytes.now → result ≡ false }
 {
-    let part = FM_PORT.of(bytes);
-    if u16_at(part, FM_COUNT) == 0 {
-        return true;
-    }
-    match FmPort::unspell(alloc, part, at) {
-        Ok(port) => port.is_before_next(u64_at(bytes, MAIN.place), u64_at(bytes, SUB.place)),
+    match port.restore(FM_PORT.of(bytes), at) {
+        Ok(()) => port.is_before_next(u64_at(bytes, MAIN.place), u64_at(bytes, SUB.place)),
         Err(_) => true,
     }
 }
 
 /// The same of the PSG's writes.
 #[inline(never)]
-fn are_psg_writes_early(alloc: Global, bytes: &[u8], at: u64) -> bool
+fn are_psg_writes_early(alloc: Global, bytes: &[u8], at: u64) -> Result<bool, NoMemory>
+    requires whole { length bytes.now ≡ state_size }
+    requires cycle { at ≡ at_of bytes.now }
+    ensures late { IfOk result (λ early. early ≡ false → HasLatePsg bytes.now) }
+    ensures told { IfOk result (λ early. HasLatePsg bytes.now → early ≡ false) }
+{
+    let part = PSG_PORT.of(bytes);
+    if u16_at(part, PSG_COUNT) == 0 {
+        return Ok(true);
+    }
+    let mut port = Box::new(alloc, PsgPort::power_on())?;
+    Ok(are_early_in_psg(&mut port, bytes, at))
+}
+
+/// The same by a port that is made the one that the bytes keep.
+fn are_early_in_psg(port: &mut PsgPort, bytes: &[u8], at: u64) -> bool
     requires whole { length bytes.now ≡ state_size }
     requires cycle { at ≡ at_of bytes.now }
     ensures late { result ≡ false → HasLatePsg bytes.now }
     ensures told { HasLatePsg bytes.now → result ≡ false }
 {
-    let part = PSG_PORT.of(bytes);
-    if u16_at(part, PSG_COUNT) == 0 {
-        return true;
-    }
-    match PsgPort::unspell(alloc, part, at) {
-        Ok(port) => port.is_before_next(u64_at(bytes, MAIN.place), u64_at(bytes, SUB.place)),
+    match port.restore(PSG_PORT.of(bytes), at) {
+        Ok(()) => port.is_before_next(u64_at(bytes, MAIN.place), u64_at(bytes, SUB.place)),
         Err(_) => true,
     }
 }
@@ -168,7 +191,8 @@ pub fn read_fm(alloc: Global, bytes: &[u8], at: u64) -> Result<FmSynth, Unspell>
     let synth = placed(&[FM], FmSynth::unspell(alloc, FM.of(bytes), at));
     let is_next = u64_at(bytes, FM_NEXT.place) == first_batch(at);
     let synth = with_rule(synth, is_next, FM_NEXT.place);
-    with_rule(synth, are_fm_writes_early(alloc, bytes, at), FM_WRITES)
+    let early = are_fm_writes_early(alloc, bytes, at)?;
+    with_rule(synth, early, FM_WRITES)
 }
 
 /// The PSG's synthesis, with its next batch and the writes that its port holds.
@@ -181,9 +205,6 @@ pub fn read_psg(alloc: Global, bytes: &[u8], at: u64) -> Result<PsgSynth, Unspel
     let synth = placed(&[PSG], PsgSynth::unspell(alloc, PSG.of(bytes), at));
     let is_next = u64_at(bytes, PSG_NEXT.place) == first_batch(at);
     let synth = with_rule(synth, is_next, PSG_NEXT.place);
-    with_rule(
-        synth,
-        are_psg_writes_early(alloc, bytes, at),
-        PSG_PORT.place,
-    )
+    let early = are_psg_writes_early(alloc, bytes, at)?;
+    with_rule(synth, early, PSG_PORT.place)
 }

@@ -189,7 +189,8 @@ fn read_machine(
 /// The items of a state: the processors, the board with the drawing half of the VDP, and the sound chips.
 type Pieces = ((Chip68, Chip80), ((Shared, ChipVdp), (FmSynth, PsgSynth)));
 
-/// The items, or the least place at which one of them fails.
+/// The items, or the least place at which one of them fails. They lie on the stack here alone.
+#[inline(never)]
 fn read_pieces(
     alloc: Global,
     bytes: &[u8],
@@ -220,6 +221,7 @@ fn read_pieces(
 }
 
 /// The machine of the items at a cycle.
+#[inline(never)]
 fn machine_of(alloc: Global, at: u64, pieces: Pieces) -> Result<Machine, NoMemory>
     requires main { at ≤ (next_of pieces.0.0.state).key.cycle }
     requires sub { at ≤ (sub_next_of pieces.0.1.state).key.cycle }
