@@ -42,15 +42,24 @@ use Rattle.save_state.proofs.Places.{from_first}
 
 -- ---- the items together
 
-pub pieces_read : (cart : List ℕ) (recording : Recorded) (bytes : List ℕ) (m : Result Chip68Value Unspell) (s : Result Chip80Value Unspell) (b : Result Board Unspell) (d : Result Drawing Unspell) (f : Result fm_synths.Synth Unspell) (p : Result psg_synths.Synth Unspell) (processors : Result (Chip68Value × Chip80Value) Unspell) (board : Result (Board × Drawing) Unspell) (sound : Result (fm_synths.Synth × psg_synths.Synth) Unspell) (rest : Result ((Board × Drawing) × (fm_synths.Synth × psg_synths.Synth)) Unspell) (all : Result Pieces Unspell) → processors ≡ both m s → board ≡ both b d → sound ≡ both f p → rest ≡ both board sound → all ≡ both processors rest → Reads (IsMain cart bytes) (MainFails cart bytes) m → Reads (IsSub cart bytes) (SubFails cart bytes) s → Reads (IsShared recording bytes) (SharedFails bytes) b → Reads (IsPicture bytes) (DrawingFails bytes) d → Reads (IsFm bytes) (FmFails bytes) f → Reads (IsPsg bytes) (PsgFails bytes) p → Reads (KeepsPieces cart recording bytes) (Fails cart bytes) all
-pieces_read cart recording bytes m s b d f p processors board sound rest all ep eb es er ea rm rs rb rd rf rp =
-    subst (Reads (KeepsPieces cart recording bytes) (Fails cart bytes)) (sym ea) (
-    joined (KeepsBoth (IsMain cart bytes) (IsSub cart bytes)) (KeepsBoth (KeepsBoth (IsShared recording bytes) (IsPicture bytes)) (KeepsBoth (IsFm bytes) (IsPsg bytes))) (Either (MainFails cart bytes) (SubFails cart bytes)) (Either (Either (SharedFails bytes) (DrawingFails bytes)) (Either (FmFails bytes) (PsgFails bytes))) processors rest
-    (subst (Reads (KeepsBoth (IsMain cart bytes) (IsSub cart bytes)) (Either (MainFails cart bytes) (SubFails cart bytes))) (sym ep) (joined (IsMain cart bytes) (IsSub cart bytes) (MainFails cart bytes) (SubFails cart bytes) m s rm rs))
-    (subst (Reads (KeepsBoth (KeepsBoth (IsShared recording bytes) (IsPicture bytes)) (KeepsBoth (IsFm bytes) (IsPsg bytes))) (Either (Either (SharedFails bytes) (DrawingFails bytes)) (Either (FmFails bytes) (PsgFails bytes)))) (sym er) (
+pub processors_read : (cart bytes : List ℕ) (m : Result Chip68Value Unspell) (s : Result Chip80Value Unspell) (processors : Result (Chip68Value × Chip80Value) Unspell)
+    → processors ≡ both m s → Reads (IsMain cart bytes) (MainFails cart bytes) m → Reads (IsSub cart bytes) (SubFails cart bytes) s → Reads (KeepsBoth (IsMain cart bytes) (IsSub cart bytes)) (Either (MainFails cart bytes) (SubFails cart bytes)) processors
+processors_read cart bytes m s processors e rm rs =
+    subst (Reads (KeepsBoth (IsMain cart bytes) (IsSub cart bytes)) (Either (MainFails cart bytes) (SubFails cart bytes))) (sym e) (joined (IsMain cart bytes) (IsSub cart bytes) (MainFails cart bytes) (SubFails cart bytes) m s rm rs)
+
+pub chips_read : (recording : Recorded) (bytes : List ℕ) (b : Result Board Unspell) (d : Result Drawing Unspell) (f : Result fm_synths.Synth Unspell) (p : Result psg_synths.Synth Unspell) (board : Result (Board × Drawing) Unspell) (sound : Result (fm_synths.Synth × psg_synths.Synth) Unspell) (chips : Result ((Board × Drawing) × (fm_synths.Synth × psg_synths.Synth)) Unspell)
+    → board ≡ both b d → sound ≡ both f p → chips ≡ both board sound → Reads (IsShared recording bytes) (SharedFails bytes) b → Reads (IsPicture bytes) (DrawingFails bytes) d → Reads (IsFm bytes) (FmFails bytes) f → Reads (IsPsg bytes) (PsgFails bytes) p
+    → Reads (KeepsBoth (KeepsBoth (IsShared recording bytes) (IsPicture bytes)) (KeepsBoth (IsFm bytes) (IsPsg bytes))) (Either (Either (SharedFails bytes) (DrawingFails bytes)) (Either (FmFails bytes) (PsgFails bytes))) chips
+chips_read recording bytes b d f p board sound chips eb es ec rb rd rf rp =
+    subst (Reads (KeepsBoth (KeepsBoth (IsShared recording bytes) (IsPicture bytes)) (KeepsBoth (IsFm bytes) (IsPsg bytes))) (Either (Either (SharedFails bytes) (DrawingFails bytes)) (Either (FmFails bytes) (PsgFails bytes)))) (sym ec) (
     joined (KeepsBoth (IsShared recording bytes) (IsPicture bytes)) (KeepsBoth (IsFm bytes) (IsPsg bytes)) (Either (SharedFails bytes) (DrawingFails bytes)) (Either (FmFails bytes) (PsgFails bytes)) board sound
     (subst (Reads (KeepsBoth (IsShared recording bytes) (IsPicture bytes)) (Either (SharedFails bytes) (DrawingFails bytes))) (sym eb) (joined (IsShared recording bytes) (IsPicture bytes) (SharedFails bytes) (DrawingFails bytes) b d rb rd))
-    (subst (Reads (KeepsBoth (IsFm bytes) (IsPsg bytes)) (Either (FmFails bytes) (PsgFails bytes))) (sym es) (joined (IsFm bytes) (IsPsg bytes) (FmFails bytes) (PsgFails bytes) f p rf rp)))))
+    (subst (Reads (KeepsBoth (IsFm bytes) (IsPsg bytes)) (Either (FmFails bytes) (PsgFails bytes))) (sym es) (joined (IsFm bytes) (IsPsg bytes) (FmFails bytes) (PsgFails bytes) f p rf rp)))
+
+pub pieces_read : (cart : List ℕ) (recording : Recorded) (bytes : List ℕ) (processors : Result (Chip68Value × Chip80Value) Unspell) (chips : Result ((Board × Drawing) × (fm_synths.Synth × psg_synths.Synth)) Unspell) (all : Result Pieces Unspell)
+    → all ≡ both processors chips → Reads (KeepsBoth (IsMain cart bytes) (IsSub cart bytes)) (Either (MainFails cart bytes) (SubFails cart bytes)) processors → Reads (KeepsBoth (KeepsBoth (IsShared recording bytes) (IsPicture bytes)) (KeepsBoth (IsFm bytes) (IsPsg bytes))) (Either (Either (SharedFails bytes) (DrawingFails bytes)) (Either (FmFails bytes) (PsgFails bytes))) chips → Reads (KeepsPieces cart recording bytes) (Fails cart bytes) all
+pieces_read cart recording bytes processors chips all e rp rc =
+    subst (Reads (KeepsPieces cart recording bytes) (Fails cart bytes)) (sym e) (joined (KeepsBoth (IsMain cart bytes) (IsSub cart bytes)) (KeepsBoth (KeepsBoth (IsShared recording bytes) (IsPicture bytes)) (KeepsBoth (IsFm bytes) (IsPsg bytes))) (Either (MainFails cart bytes) (SubFails cart bytes)) (Either (Either (SharedFails bytes) (DrawingFails bytes)) (Either (FmFails bytes) (PsgFails bytes))) processors chips rp rc)
 
 -- ---- what fails
 

@@ -10,7 +10,7 @@ ghost use Rattle.save_state.specs.Versions.{IsOtherCart, IsState, IsWrongAt};
 ghost use Rattle.save_state.specs.Items.{at_of, region_of, IsMain, MainFails, IsSub, SubFails, IsShared, SharedFails, IsPicture, DrawingFails, IsFm, FmFails, IsPsg, PsgFails};
 ghost use Rattle.m68k_chip.specs.States.{next_of};
 ghost use Rattle.z80_chip.specs.States.{next_of as sub_next_of};
-ghost use Rattle.save_state.specs.Joining.{Reads};
+ghost use Rattle.save_state.specs.Joining.{Either, KeepsBoth, Reads};
 ghost use Rattle.save_state.specs.Pieces.{KeepsPieces, Fails, built};
 ghost use Rattle.save_state.specs.Layout.{digest_part, part_of, state_size};
 ghost use Rattle.md_word.specs.Clock.{last_cycle};
@@ -187,9 +187,57 @@ fn read_machine(
 }
 
 /// The items of a state: the processors, the board with the drawing half of the VDP, and the sound chips.
-type Pieces = ((Chip68, Chip80), ((Shared, ChipVdp), (FmSynth, PsgSynth)));
+type Pieces = ((Chip68, Chip80), Chips);
 
-/// The items, or the least place at which one of them fails. They lie on the stack here alone.
+/// Both processors, or the least place at which one of them fails.
+#[inline(never)]
+fn read_processors(
+    alloc: Global,
+    bytes: &[u8],
+    at: u64,
+    cart: Arc<Cart>,
+) -> Result<(Chip68, Chip80), Unspell>
+    requires whole { length bytes.now ≡ state_size }
+    requires cycle { at ≡ at_of bytes.now }
+    ensures { Reads (KeepsBoth (IsMain (arc_value cart) bytes.now) (IsSub (arc_value cart) bytes.now))
+        (Either (MainFails (arc_value cart) bytes.now) (SubFails (arc_value cart) bytes.now)) result }
+{
+    let window = cart.clone()?;
+    both(
+        read_main(alloc, bytes, at, cart),
+        read_sub(alloc, bytes, at, window),
+    )
+}
+
+/// The board with the drawing half of the VDP, and the sound chips.
+type Chips = ((Shared, ChipVdp), (FmSynth, PsgSynth));
+
+/// The other chips, or the least place at which one of them fails.
+#[inline(never)]
+fn read_chips(
+    alloc: Global,
+    bytes: &[u8],
+    at: u64,
+    pal: bool,
+    recording: Arc<Recording>,
+) -> Result<Chips, Unspell>
+    requires whole { length bytes.now ≡ state_size }
+    requires cycle { at ≡ at_of bytes.now }
+    requires region { pal ≡ region_of bytes.now }
+    requires begun { 1 ≤ at }
+    requires near { at ≤ last_cycle }
+    ensures { Reads (KeepsBoth (KeepsBoth (IsShared (arc_value recording) bytes.now) (IsPicture bytes.now)) (KeepsBoth (IsFm bytes.now) (IsPsg bytes.now)))
+        (Either (Either (SharedFails bytes.now) (DrawingFails bytes.now)) (Either (FmFails bytes.now) (PsgFails bytes.now))) result }
+{
+    let board = both(
+        read_shared(alloc, bytes, at, pal, recording),
+        read_drawing(alloc, bytes, at, pal),
+    );
+    let sound = both(read_fm(alloc, bytes, at), read_psg(alloc, bytes, at));
+    both(board, sound)
+}
+
+/// The items, or the least place at which one of them fails.
 #[inline(never)]
 fn read_pieces(
     alloc: Global,
@@ -206,17 +254,8 @@ fn read_pieces(
     requires near { at ≤ last_cycle }
     ensures { Reads (KeepsPieces (arc_value cart) (arc_value recording) bytes.now) (Fails (arc_value cart) bytes.now) result }
 {
-    let window = cart.clone()?;
-    let processors = both(
-        read_main(alloc, bytes, at, cart),
-        read_sub(alloc, bytes, at, window),
-    );
-    let board = both(
-        read_shared(alloc, bytes, at, pal, recording),
-        read_drawing(alloc, bytes, at, pal),
-    );
-    let sound = both(read_fm(alloc, bytes, at), read_psg(alloc, bytes, at));
-    let chips = both(board, sound);
+    let processors = read_processors(alloc, bytes, at, cart);
+    let chips = read_chips(alloc, bytes, at, pal, recording);
     both(processors, chips)
 }
 
