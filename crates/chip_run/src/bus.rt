@@ -49,7 +49,7 @@ impl<C: ChipSet, N: Named, L0: Ledger, L1: Ledger, L2: Ledger, L3: Ledger, L4: L
     }
 
     /// The place where the chips lay their errands, if any of them does.
-    pub(crate) fn errands(&self) -> &Option<C::Errands> {
+    fn errands(&self) -> &Option<C::Errands> {
         &self.errands
     }
 
@@ -135,7 +135,7 @@ impl<C: ChipSet, N: Named, L0: Ledger, L1: Ledger, L2: Ledger, L3: Ledger, L4: L
 
     /// Takes the turns of all chips, of which others come to the desk, until all are held and finished. Private
     /// work that is dear goes to the desk.
-    pub(crate) fn take_turns<R: Wait, G: Gate>(
+    fn take_turns<R: Wait, G: Gate>(
         &self,
         rt: &R,
         desk: &Desk<C, N, L0, L1, L2, L3, L4>,
@@ -167,8 +167,43 @@ impl<C: ChipSet, N: Named, L0: Ledger, L1: Ledger, L2: Ledger, L3: Ledger, L4: L
         unreachable!()
     }
 
+    /// The same, and then tells the helpers on the desk that the run has ended, and sees them off.
+    pub(crate) fn take_all_turns<R: Wait, G: Gate>(
+        &self,
+        rt: &R,
+        desk: &Desk<C, N, L0, L1, L2, L3, L4>,
+        helds: &mut Helds<C, N, L0, L1, L2, L3, L4>,
+        gate: &G,
+        helpers: u8,
+    )
+        requires free { AllFree helds.old }
+        requires whole { (L0.parts ≡ 1) × (L1.parts ≡ 1) × (L2.parts ≡ 1) × (L3.parts ≡ 1) × (L4.parts ≡ 1) }
+        ensures free { AllFree helds.new }
+        ensures held { (i : ℕ) → i < C.rules.count → IsSome (place helds.new i) }
+    {
+        self.take_turns(rt, desk, helds, gate);
+        desk.end(rt);
+        desk.see_off(helpers);
+    }
+
+    /// Does the work of a helper: makes the next event of its chip with its private work, unless the leader has
+    /// come to that chip before, then helps, and runs errands where there is nothing to help with.
+    pub(crate) fn help<R: Wait, G: Gate>(
+        &self,
+        rt: &R,
+        desk: &Desk<C, N, L0, L1, L2, L3, L4>,
+        worker: u8,
+        gate: &G,
+    )
+        requires { (L0.parts ≡ 1) × (L1.parts ≡ 1) × (L2.parts ≡ 1) × (L3.parts ≡ 1) × (L4.parts ≡ 1) }
+    {
+        self.begin(rt, desk, worker, gate);
+        desk.help(rt, self.errands());
+        desk.leave();
+    }
+
     /// Makes the next event of a worker's chip, with its private work, unless another has taken that chip.
-    pub(crate) fn begin<R: Wait, G: Gate>(
+    fn begin<R: Wait, G: Gate>(
         &self,
         rt: &R,
         desk: &Desk<C, N, L0, L1, L2, L3, L4>,

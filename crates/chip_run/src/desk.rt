@@ -10,6 +10,9 @@ use std::sync::ledger::Ledger;
 use std::sync::{Condvar, Mutex, Wait};
 use std::thread::yield_now;
 
+/// How many helpers stay at least where they find no work: two can draw both parts of a picture side by side.
+const STAYING: u64 = 2;
+
 /// How often a helper looks for work before it sleeps.
 const LOOKS: u32 = 20_000;
 
@@ -178,9 +181,9 @@ impl<C: ChipSet, N: Named, L0: Ledger, L1: Ledger, L2: Ledger, L3: Ledger, L4: L
 /// Where the worker that takes the turns of all chips, the leader, lays chips whose private work is dear, and
 /// from where helpers take them and lay them back once that work is done.
 ///
-/// The leader sleeps nowhere: it does work that nobody has begun itself. As long as more work may come, one of
-/// the helpers at most looks for it, and the others sleep. A helper that finds none runs an errand where one
-/// lies, but an errand wakes nobody.
+/// The leader sleeps nowhere: it does work that nobody has begun itself. A helper that finds none runs an errand
+/// where one lies, but an errand wakes nobody. As long as more work may come, two of the helpers stay, or as many
+/// as there are chips whose work is dear: they look for work for a while, and then sleep. The others leave.
 #[derive(Drop)]
 pub(crate) struct Desk<
     C: ChipSet,
@@ -195,8 +198,10 @@ pub(crate) struct Desk<
     work: Condvar,
     /// How often something was laid here, wrapping.
     changes: AtomicU64,
-    /// Whether a helper looks for work without sleeping.
-    watched: AtomicBool,
+    /// How many helpers look for work without sleeping, as a count that wraps.
+    watches: AtomicU64,
+    /// How many helpers wait for work at most.
+    staying: u64,
     /// Whether the run has ended.
     ended: AtomicBool,
     /// How many helpers are done with this desk.
@@ -212,8 +217,8 @@ impl<C: ChipSet, N: Named, L0: Ledger, L1: Ledger, L2: Ledger, L3: Ledger, L4: L
     L3,
     L4,
 > {
-    /// An empty desk.
-    pub(crate) fn new() -> Self {
+    /// An empty desk, for helpers of so many chips whose work is dear.
+    pub(crate) fn new(dear: u8) -> Self {
         Desk {
             lock: Mutex::new(Laid {
                 due: Helds::none(),
@@ -223,7 +228,8 @@ impl<C: ChipSet, N: Named, L0: Ledger, L1: Ledger, L2: Ledger, L3: Ledger, L4: L
             }),
             work: Condvar::new(),
             changes: AtomicU64::new(0),
-            watched: AtomicBool::new(false),
+            watches: AtomicU64::new(0),
+            staying: u64::from(dear).max(STAYING),
             ended: AtomicBool::new(false),
             left: AtomicU64::new(0),
         }
@@ -241,7 +247,7 @@ impl<C: ChipSet, N: Named, L0: Ledger, L1: Ledger, L2: Ledger, L3: Ledger, L4: L
     {
         self.put_due(rt, helds, chip);
         self.changes.fetch_add(1, Ordering::SeqCst);
-        if !self.watched.load(Ordering::SeqCst) {
+        if self.watches.load(Ordering::SeqCst) == 0 {
             let _guard = self.lock.lock(rt);
             self.work.notify_one();
         }
@@ -426,15 +432,18 @@ impl<C: ChipSet, N: Named, L0: Ledger, L1: Ledger, L2: Ledger, L3: Ledger, L4: L
         found
     }
 
-    /// Does due private work until no more comes, and runs errands where none is due.
+    /// Does due private work until no more comes, or enough others wait for it, and runs errands where none is
+    /// due.
     pub(crate) fn help<R: Wait>(&self, rt: &R, errands: &Option<C::Errands>) {
         for _ in rt.forever() {
             let seen = self.changes.load(Ordering::SeqCst);
             match self.do_first(rt) {
                 Found::Chip(_) => {}
                 Found::Nothing => {
-                    if !run_errand::<C, R>(rt, errands) {
-                        self.wait_for_change(rt, seen, errands);
+                    if !run_errand::<C, R>(rt, errands)
+                        && !self.wait_for_change(rt, seen, errands)
+                    {
+                        return;
                     }
                 }
                 Found::Over => {
@@ -446,19 +455,28 @@ impl<C: ChipSet, N: Named, L0: Ledger, L1: Ledger, L2: Ledger, L3: Ledger, L4: L
         unreachable!()
     }
 
-    /// Waits for a change after so many: it looks for a while where no other helper does, and then sleeps, but
-    /// not while an errand lies there.
+    /// Waits for a change after so many: it looks for a while, and then sleeps, but not while an errand lies
+    /// there. Answers whether it goes on: it does not where enough other helpers look and no change came.
     ///
     /// No change is missed: it is counted before the one who makes it looks for a watch, and a helper ends its
     /// watch before it looks at the count for the last time, under the lock under which it is woken.
-    fn wait_for_change<R: Wait>(&self, rt: &R, seen: u64, errands: &Option<C::Errands>) {
-        if !self.watched.swap(true, Ordering::SeqCst) {
+    fn wait_for_change<R: Wait>(&self, rt: &R, seen: u64, errands: &Option<C::Errands>) -> bool {
+        let others = self.watches.fetch_add(1, Ordering::SeqCst);
+        if others < self.staying {
             self.look(seen, errands, LOOKS);
-            self.watched.store(false, Ordering::SeqCst);
         }
-        if has_errand::<C>(errands) {
-            return;
+        self.watches.fetch_sub(1, Ordering::SeqCst);
+        if others >= self.staying {
+            return self.changes.load(Ordering::SeqCst) != seen;
         }
+        if !has_errand::<C>(errands) {
+            self.sleep(rt, seen);
+        }
+        true
+    }
+
+    /// Sleeps until a change after so many, unless one came.
+    fn sleep<R: Wait>(&self, rt: &R, seen: u64) {
         let guard = self.lock.lock(rt);
         if self.changes.load(Ordering::SeqCst) == seen {
             let _guard = self.work.wait(rt, guard);
