@@ -8,6 +8,26 @@ times, 7 if not given: with one worker, with each number of WORKERS in turn, 2 a
 again. Prints for each cartridge and number of workers the part that they make of one worker's frames a second: the
 median of the rounds, the least and the greatest. A run counts against the mean of the two of one worker around it,
 since a clock drifts from minute to minute.
+
+Seen on a host with four processors, whose speed changed by half within minutes. Two workers, with sound and journal,
+medians of rounds of 9 to 21 runs of 300 frames:
+
+    show                                            1.15 and 1.17
+    where the Z80 is busy                           1.09 and 1.13
+    chord                                           1.07
+    a transfer in each frame                        1.02
+    a loop of thirteen instructions                 0.96 and 1.00
+    scale                                           0.90 and 0.98
+    pads                                            0.91 and 0.98
+    where the VDP is written to all the time        0.90 and 0.95
+    the shortest frames                             0.89, 0.94 and 1.00
+
+By the least times of five to seven runs of 100 frames five workers made 1.12 on show, 0.94 to 1.00 on chord, and 0.92
+on the shortest frames. Nothing written, two made 1.00 on show, 0.91 on the shortest frames, and 0.90 on scale and
+where the VDP is written to all the time. While the host gave a sixth and more of the time that was wanted to others,
+it was 0.74 to 1.03. The reasons: what the processors do between two events takes less time than to hand it on; each
+frame starts its threads again; and where a cartridge changes the VDP while its picture is drawn, lines that were drawn
+ahead are of no use.
 """
 import argparse
 import pathlib
