@@ -10,9 +10,8 @@ use Rattle.md_top.specs.Inputs.{IsAccepted, IsJudged, Spelled, RecordingCause, V
 use Rattle.md_word.specs.Clock.{last_cycle}
 use Rattle.md_top.specs.Loads.{IsStateJudged}
 use Rattle.state_laws.specs.Verdicts.{Keeps, StateVerdict, StateWrongAt}
-use Rattle.md_top.specs.Runs.{pieces_of, pieces_until}
 use Rattle.md_top.specs.Endings.{Findings, HasCause, InfoEnds, LeavesFiles, RunEnds, RunFiles, accepted_ending, asked_ending, file_ending, loaded_ending, right_ending, status_of}
-use Rattle.md_top.specs.Outputs.{LeavesParts, Parts, Pieces, all_of, nothing, with_part, written}
+use Rattle.md_top.specs.Outputs.{LeavesParts, Parts, Pieces, nothing, with_part, written}
 use Rattle.md_vgm.specs.Outcomes.{Made, Outcome}
 use Rattle.md_args.specs.Words.{Assemble, Command, Convert, Debug, Debugging, Info, Rollback, Rolling, Run, RunCart, RunDemo}
 use Rattle.md_top.specs.Assemblies.{asm_ending}
@@ -62,7 +61,7 @@ run_right : (told : Type 0) (run : Run) (old new : DepotState) (verdict : Verdic
     → IsJudged run.recording old.files verdict → IsStateJudged (Some run) old.files verdict state → ¬ Rose old.read_faults new.read_faults → ¬ Rose old.write_faults new.write_faults → told
     → (status_of ending ≡ status_of (asked_ending run old.files verdict state)) ⊎ (status_of ending ≡ 10)
 run_right told run old new verdict state (Done from frames accesses halted) (end, may, cause) is judged reads writes t =
-    let found = cause t in inl (sym (right_done run old.files verdict state found.0 end.1 found.2 found.1 is judged))
+    let found = cause t in inl (sym (right_done run old.files verdict state found.start end.1 found.above found.begins is judged))
 run_right told run old new verdict state TooFar cause is judged reads writes t = inl (sym (ap status_of (right_far run old.files verdict state cause)))
 run_right told run old new verdict state (Behind from) (near, behind, may, cause) is judged reads writes t =
     let found = cause t in inl (sym (right_behind run old.files verdict state found.0 near (omega (arith, behind, found.2)) found.1 is judged))
@@ -100,10 +99,10 @@ run_right_with : (told : Type 0) (run : Run) (old new : DepotState) (verdict : V
     → IsJudged run.recording old.files verdict → ¬ Rose old.read_faults new.read_faults → ¬ Rose old.write_faults new.write_faults → told
     → IsRunRight run old.files verdict (status_of ending) ⊎ (status_of ending ≡ 10)
 run_right_with told run old new verdict (Done from frames accesses halted) (end, may, cause) is reads writes t =
-    let begins = (cause t).1 in
-    let judged = state_judged run old.files verdict begins.inputs (cause t).0 begins.are is begins.with in
-    right_with run old.files verdict (Keeps (cause t).0) 0 judged
-    (run_right told run old new verdict (Keeps (cause t).0) (Done from frames accesses halted) (end, may, cause) is judged reads writes t)
+    let begins = (cause t).begins in
+    let judged = state_judged run old.files verdict begins.inputs (cause t).start begins.are is begins.with in
+    right_with run old.files verdict (Keeps (cause t).start) 0 judged
+    (run_right told run old new verdict (Keeps (cause t).start) (Done from frames accesses halted) (end, may, cause) is judged reads writes t)
 run_right_with told run old new verdict TooFar cause is reads writes t =
     inl (right_without run old.files verdict TooFar TooFar (λ state. right_far run old.files verdict state cause) refl)
 run_right_with told run old new verdict (Behind from) (near, behind, may, cause) is reads writes t =
@@ -213,16 +212,16 @@ parts_other run old new whole leaves name not_frames no_sound no_journal no_save
 
 leaves_other : (run : Run) (old new : Files) (ending : Ending) → RunFiles run old new ending
     → (name : List ℕ) → run.frames ≢ Some name → run.sound ≢ Some name → run.journal ≢ Some name → run.save ≢ Some name → new name ≡ old name
-leaves_other run old new (Done from frames accesses halted) (start, begins, leaves) name not_frames no_sound no_journal no_save =
-    ap (λ (files : Files). files name) leaves ∙ written_other run old (all_of (pieces_of start run.cycles)) name not_frames no_sound no_journal no_save
-leaves_other run old new FramesFault (start, begins, leaves) name not_frames no_sound no_journal no_save =
-    parts_other run old new (pieces_of start run.cycles) leaves name not_frames no_sound no_journal no_save
-leaves_other run old new SoundFault (start, begins, leaves) name not_frames no_sound no_journal no_save =
-    parts_other run old new (pieces_of start run.cycles) leaves name not_frames no_sound no_journal no_save
-leaves_other run old new JournalFault (start, begins, leaves) name not_frames no_sound no_journal no_save =
-    parts_other run old new (pieces_of start run.cycles) leaves name not_frames no_sound no_journal no_save
-leaves_other run old new SaveFault (start, begins, leaves) name not_frames no_sound no_journal no_save =
-    parts_other run old new (pieces_of start run.cycles) leaves name not_frames no_sound no_journal no_save
+leaves_other run old new (Done from frames accesses halted) (parts, is) name not_frames no_sound no_journal no_save =
+    ap (λ (files : Files). files name) is ∙ written_other run old parts name not_frames no_sound no_journal no_save
+leaves_other run old new FramesFault (parts, is) name not_frames no_sound no_journal no_save =
+    ap (λ (files : Files). files name) is ∙ written_other run old parts name not_frames no_sound no_journal no_save
+leaves_other run old new SoundFault (parts, is) name not_frames no_sound no_journal no_save =
+    ap (λ (files : Files). files name) is ∙ written_other run old parts name not_frames no_sound no_journal no_save
+leaves_other run old new JournalFault (parts, is) name not_frames no_sound no_journal no_save =
+    ap (λ (files : Files). files name) is ∙ written_other run old parts name not_frames no_sound no_journal no_save
+leaves_other run old new SaveFault (parts, is) name not_frames no_sound no_journal no_save =
+    ap (λ (files : Files). files name) is ∙ written_other run old parts name not_frames no_sound no_journal no_save
 leaves_other run old new Memory leaves name not_frames no_sound no_journal no_save = parts_other run old new nothing leaves name not_frames no_sound no_journal no_save
 leaves_other run old new _ leaves name not_frames no_sound no_journal no_save = ap (λ (files : Files). files name) leaves
 

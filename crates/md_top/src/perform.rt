@@ -8,6 +8,7 @@ use crate::converting::convert_file;
 use crate::debugging::debug_cart;
 use crate::demo::run_demo;
 use crate::ending::Ending;
+use crate::laws::runs_begin_once;
 use crate::loading::first_machine;
 use crate::reading::{read_cart, read_inputs};
 use crate::rolling::roll_cart;
@@ -87,6 +88,7 @@ fn run_cart<F: Fn(&mut Machine, u64), D: Depot>(
     if run.cycles <= from {
         return Ending::Behind(from);
     }
+    runs_begin_once();
     match begin(alloc, machine) {
         Ok(course) => begin_and_write(alloc, go_on, run, depot, course),
         Err(NoMemory) => Ending::Memory,
