@@ -1,5 +1,5 @@
 -- In a source that is assembled each number of an instruction is in the range of its place: what stands there has it.
-use Rattle.std.proofs.Common.{◌≡◌, ℕ, zero, suc, ◌<◌, Bool, true, false, List, [], ◌∷◌, append-nil, ap, ◌∙◌, sym, subst, arith}
+use Rattle.std.proofs.Common.{◌≡◌, ℕ, ◌<◌, Bool, true, false, List, [], ◌∷◌, append-nil, ap, ◌∙◌, sym, subst, arith}
 use Rattle.m68k_decode.specs.Instructions as main
 use Rattle.z80_decode.specs.Instructions as sub
 use Rattle.md_disasm.specs.Texts68 as main_texts
@@ -20,20 +20,15 @@ use Rattle.assembly_laws.proofs.Said.{stand_bytes, words_are}
 use Rattle.md_asm_line.specs.Texts.{lines as lines_of}
 use Rattle.asm_round_trip.specs.Fitting.{AreFitting, FitsLines}
 use Rattle.asm_round_trip.specs.Forms.{HasNumber, StandsIn}
+use Rattle.asm_round_trip.proofs.Low68.{cons_low, none_low}
+use Rattle.asm_round_trip.proofs.Places80.{none_byte}
 use Rattle.asm_round_trip.proofs.Ranges.{has_in}
-
-no_byte : AreBytes []
-no_byte i = omega arith
-
-zero_word : AreWords (0 ∷ [])
-zero_word zero = omega arith
-zero_word (suc i) = omega arith
 
 -- words of an instruction that say the pieces have their numbers
 least_has : (words : List ℕ) (said : List Piece) (at : ℕ) → AreWords words → at < 4294967296 → AreLeast words said at → (place n : ℕ) → StandsIn said place (pieces.Number n) → HasNumber false said place n
 least_has [] said at all below least place n stands =
     let none = least.text.whole (0 ∷ []) in
-    let some = encoded_long 0 [] zero_word in
+    let some = encoded_long 0 [] (cons_low 0 [] (omega arith) none_low) in
     absurd (omega (arith, none, some))
 least_has (w ∷ tail) said at all below least place n stands =
     let text : pieces.pieces (main_texts.text_of (main.instruction_of (w ∷ tail)) at) ≡ said
@@ -49,7 +44,7 @@ written_has : (z80 : Bool) (bytes : List ℕ) (said : List Piece) (at : ℕ) →
     → HasNumber z80 said place n
 written_has true bytes said at all below chosen place n stands =
     let text : pieces.pieces (sub_texts.text_of (sub.instruction_of bytes) at) ≡ said
-    = ap (λ (l : List ℕ). pieces.pieces (sub_texts.text_of (sub.instruction_of l) at)) (sym (append-nil bytes)) ∙ chosen.text.text [] no_byte in (
+    = ap (λ (l : List ℕ). pieces.pieces (sub_texts.text_of (sub.instruction_of l) at)) (sym (append-nil bytes)) ∙ chosen.text.text [] none_byte in (
       bytes,
       at,
       record { all = all; instruction = chosen.text.instruction; address = below; alike = ap filled (sym text) },
