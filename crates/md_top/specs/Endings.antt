@@ -28,7 +28,7 @@ use Rattle.md_top.specs.Conversions.{CanConvert, ConvertEnds, ConvertFiles, conv
 use Rattle.md_top.specs.declared.digests.Digests.{Digests}
 use Rattle.md_top.specs.declared.ending.Ending.{Ending}
 use Rattle.md_top.specs.declared.inputs.Inputs.{Inputs}
-use Rattle.md_top.specs.declared.ending.Ending.TheVariants.{Shown, Done, DemoDone, Converted, InputRefused, OutputFault, SourceRefused, ListFault, ScriptFault, ScriptTooLong, ScriptRefused, ScriptMemory, RolledBack, LineRefused, Usage, TooFar, ReadFault, TooLong, Short, NoMark, RecordingFault, RecordingTooLong, RecordingWrong, LoadFault, StateTooLong, StateWrong, OtherCart, Behind, FramesFault, SoundFault, JournalFault, SaveFault, Memory}
+use Rattle.md_top.specs.declared.ending.Ending.TheVariants.{Shown, Done, DemoDone, Converted, InputRefused, OutputFault, SourceRefused, ListFault, ScriptFault, ScriptTooLong, Played, ReplyFault, ScriptRefused, ScriptMemory, RolledBack, LineRefused, Usage, TooFar, ReadFault, TooLong, Short, NoMark, RecordingFault, RecordingTooLong, RecordingWrong, LoadFault, StateTooLong, StateWrong, OtherCart, Behind, FramesFault, SoundFault, JournalFault, SaveFault, Memory}
 
 -- the status that the program ends with
 abbrev pub status_of : Ending → ℕ
@@ -42,8 +42,10 @@ status_of (SourceRefused line kind) = 16
 status_of ListFault = 4
 status_of ScriptFault = 3
 status_of ScriptTooLong = 14
-status_of (ScriptRefused replies line fault) = 15
-status_of (ScriptMemory replies) = 10
+status_of Played = 0
+status_of ReplyFault = 13
+status_of (ScriptRefused line fault) = 15
+status_of ScriptMemory = 10
 status_of (RolledBack rolled) = 0
 status_of (LineRefused line fault) = 18
 status_of Usage = 2
@@ -105,7 +107,7 @@ digest_lines digests =
     (digest_line (codes "frames sha256 ") digests.frames ++ digest_line (codes "samples sha256 ") digests.samples)
     ++ digest_line (codes "journal sha256 ") digests.journal
 
--- what is put: the output, or the one line of a refusal, in a session behind the replies to the lines before it
+-- what is put: the output, or the one line of a refusal; in a session behind the replies, which were put before
 abbrev pub text_of : Option Command → Ending → List ℕ
 text_of (Some command) (Shown lines) = lines
 text_of (Some command) (Done from frames accesses halted) = lines_of from (end_of command) frames accesses halted
@@ -117,8 +119,10 @@ text_of (Some command) (SourceRefused line kind) = source_line line kind
 text_of (Some command) ListFault = codes "fault: writing " ++ unwrap_or (list_name command) [] ++ codes "\n"
 text_of (Some command) ScriptFault = codes "fault: reading " ++ unwrap_or (script_name command) [] ++ codes "\n"
 text_of (Some command) ScriptTooLong = codes "refused: " ++ unwrap_or (script_name command) [] ++ codes " is too long\n"
-text_of (Some command) (ScriptRefused replies line fault) = replies ++ script_line line fault
-text_of (Some command) (ScriptMemory replies) = replies ++ codes "refused: memory\n"
+text_of (Some command) Played = []
+text_of (Some command) ReplyFault = []
+text_of (Some command) (ScriptRefused line fault) = script_line line fault
+text_of (Some command) ScriptMemory = codes "refused: memory\n"
 text_of (Some command) (RolledBack rolled) = rolled_lines rolled
 text_of (Some command) (LineRefused line fault) = inputs_line line fault
 text_of (Some command) TooFar = codes "refused: cycle " ++ decimal (end_of command) ++ codes " is too far\n"
@@ -310,7 +314,7 @@ asked_ending run files verdict state =
 -- behind the script's file
 abbrev pub script_ending : Option (List ℕ) → Scripted → Ending
 script_ending None script = ScriptFault
-script_ending (Some bytes) script = if nat_lt script_limit (length bytes) then ScriptTooLong else played_ending script.replies script.ending
+script_ending (Some bytes) script = if nat_lt script_limit (length bytes) then ScriptTooLong else played_ending script.ending
 
 -- what a session of the debugger comes to, with these files and this outcome of the lines of its script
 abbrev pub debug_ending : Debugging → Files → Scripted → Ending

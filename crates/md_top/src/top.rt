@@ -25,9 +25,9 @@ use std::thread::Threads;
 /// written to it, a segment of at most 896,040 cycles after the other; the lines are put into `out`.
 /// `vgm JOURNAL OUT` writes the VGM file of a journal's sound writes, and `play VGM OUT` the sound file of a VGM
 /// file; with `--pal` by the master clock of PAL. `asm SOURCE OUT` assembles a source, with `--list L` for the list
-/// of its instructions. `debug ROM SCRIPT` puts the replies to the lines of a script of the debugger, at power-on
-/// of the cartridge. `rollback ROM INPUTS --window W` obeys the lines of what two players press, and puts what their
-/// session comes to.
+/// of its instructions. `debug ROM SCRIPT` obeys the lines of a script of the debugger, at power-on of the
+/// cartridge, and puts the reply to each when it was obeyed. `rollback ROM INPUTS --window W` obeys the lines of
+/// what two players press, and puts what their session comes to.
 /// It waits for nobody: whatever `--workers` asks for, one worker makes the run.
 pub fn drive_one<D: Depot, S: Sink>(
     alloc: Global,
@@ -109,6 +109,6 @@ fn obey<F: Fn(&mut Machine, u64), D: Depot, S: Sink>(
     ensures causes { Causes D.told (Some (shown_command command.now))
         (D.state depot.old) (D.state depot.new) (S.state out.old) (S.state out.new) result }
 {
-    let ending = perform(alloc, go_on, command, depot);
+    let ending = perform(alloc, go_on, command, depot, out);
     report(command, ending, out)
 }
