@@ -1,5 +1,5 @@
 -- What a status tells of the ending.
-use Rattle.std.proofs.Common.{◌≡◌, ◌⊎◌, inl, inr, ℕ, ◌<◌, ◌≤◌, List, [], length, Option, Some, None, sym, ap, subst, ◌∙◌, arith}
+use Rattle.std.proofs.Common.{◌≡◌, ◌⊎◌, inl, inr, ℕ, ◌<◌, ◌≤◌, List, [], length, Option, Some, None, refl, sym, ap, subst, ◌∙◌, arith}
 use Rattle.std.specs.Prelude.{IsSomeAnd, unwrap_or}
 use Rattle.md_outer.specs.Outside.{DepotState, Files, Rose, SinkState, bytes_of}
 use Rattle.md_pads.specs.Recording.{GoesWrongAt, IsSpelled}
