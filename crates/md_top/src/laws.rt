@@ -7,13 +7,16 @@ ghost use Rattle.md_args.specs.Words.{Run};
 ghost use Rattle.md_top.specs.Courses.{start_at};
 ghost use Rattle.md_top.specs.Counts.{frames_between, pairs_between};
 ghost use Rattle.md_top.specs.Inputs.{IsVerdict, Verdict};
+ghost use Rattle.md_top.specs.Laws.{ProgramLaws};
 ghost use Rattle.md_top.specs.Loads.{Begins};
 ghost use Rattle.md_top.specs.Resuming.{StateLaws};
 ghost use Rattle.md_top.specs.Runs.{RunLaws, is_quiet, media_from, run_from};
 
+use debug_states::laws::debug_laws;
 use md_machine::{Machine, laws};
 use md_pads::Recording;
 use md_reached::{saved, settling};
+use rollback_states::laws::rollback_laws;
 use state_laws::states_keep_one_machine;
 use std::alloc::Global;
 
@@ -52,6 +55,17 @@ pub fn runs_begin_once()
 {
     bytes_spell_one_recording();
     states_keep_one_machine();
+}
+
+/// What holds of the definitions that the answers of the program cite.
+pub fn program_laws()
+    ensures { ProgramLaws }
+{
+    laws::pads_are_recorded();
+    laws::frames_counted();
+    laws::samples_counted();
+    debug_laws();
+    rollback_laws();
 }
 
 /// A machine after a run from where it is to the cycle `end` has no event left below it.

@@ -1,9 +1,11 @@
 ghost use Rattle.std.specs.Prelude.{◌≡◌, ℕ, ◌≤◌, None, Some, map, string_bytes};
 ghost use Rattle.md_top.specs.Answers.{Answers, Causes};
+ghost use Rattle.md_top.specs.Laws.{ProgramLaws};
 ghost use Rattle.md_top.specs.Workers.{CanGoOn, WentOn};
 ghost use Rattle.md_args.specs.Shown.{shown_command};
 ghost use Rattle.md_args.specs.Words.{command_of};
 
+use crate::laws::program_laws;
 use crate::perform::perform;
 use crate::report::{refuse, report};
 use md_args::{CommandWords, read_words};
@@ -39,7 +41,9 @@ pub fn drive_one<D: Depot, S: Sink>(
         (D.state depot.old) (D.state depot.new) (S.state out.old) (S.state out.new) result }
     ensures causes { Causes D.told (command_of (map string_bytes words.now.items))
         (D.state depot.old) (D.state depot.new) (S.state out.old) (S.state out.new) result }
+    ensures laws { ProgramLaws }
 {
+    program_laws();
     let alone = |machine: &mut Machine, to: u64|
         requires can { CanGoOn machine.old to }
         ensures went { WentOn machine.old to machine.new }
@@ -71,7 +75,9 @@ pub fn drive<D: Depot, S: Sink, G: Gate, Rt: Threads + Wait + Sync>(
         (D.state depot.old) (D.state depot.new) (S.state out.old) (S.state out.new) result }
     ensures causes { Causes D.told (command_of (map string_bytes words.now.items))
         (D.state depot.old) (D.state depot.new) (S.state out.old) (S.state out.new) result }
+    ensures laws { ProgramLaws }
 {
+    program_laws();
     match read_words(alloc, words.as_slice()) {
         Ok(Some(command)) => {
             let number = command.workers();
