@@ -9,6 +9,7 @@ use Rattle.md_args.specs.Words.{Assembling, differ}
 use Rattle.md_asm.specs.Assembly.{AssemblyOutcome, Done, assembly}
 use Rattle.md_asm.specs.declared.placed.Placed.{Placed}
 use Rattle.assembly_laws.specs.Lines.{SaysLines}
+use Rattle.asm_round_trip.specs.Fitting.{FitsLines}
 use Rattle.asm_round_trip.specs.Sources.{KeepsInstruction}
 use Rattle.asm_files.specs.Assemblies.{HoldsParts, IsFound, KeepsSource, LeavesEmpty, LeavesFiles, LeavesParts, SaysSource, WriteCause, WritesFiles, with_both, with_list}
 use Rattle.asm_files.specs.Begun.{IsBegun, with_more}
@@ -88,16 +89,17 @@ kept_of None outcome keeps found = absurd found
 kept_of (Some bytes) outcome keeps found = keeps bytes outcome found.1
 
 said_of : (source : Option (List ℕ)) (image : List ℕ) (lines : List Placed) → ((bytes : List ℕ) (placed : List Placed) → assembly bytes ≡ Done image placed → SaysLines bytes image placed)
-    → AllKeep → IsFound source (Done image lines) → SaysSource source image lines
-said_of None image lines says keeps found = absurd found
-said_of (Some bytes) image lines says keeps found = (says bytes lines found.1, kept_of (Some bytes) (Done image lines) keeps found)
+    → ((bytes : List ℕ) (placed : List Placed) → assembly bytes ≡ Done image placed → FitsLines bytes) → AllKeep → IsFound source (Done image lines) → SaysSource source image lines
+said_of None image lines says fits keeps found = absurd found
+said_of (Some bytes) image lines says fits keeps found = (says bytes lines found.1, fits bytes lines found.1, kept_of (Some bytes) (Done image lines) keeps found)
 
 -- what an assembly leaves, by what its writing leaves
 pub leaves : (words : Assembling) (old before new : Files) (first last : DepotState) (image list : List ℕ) (lines : List Placed) (ending : Comes)
-    → ((bytes : List ℕ) (placed : List Placed) → assembly bytes ≡ Done image placed → SaysLines bytes image placed) → AllKeep
+    → ((bytes : List ℕ) (placed : List Placed) → assembly bytes ≡ Done image placed → SaysLines bytes image placed)
+    → ((bytes : List ℕ) (placed : List Placed) → assembly bytes ≡ Done image placed → FitsLines bytes) → AllKeep
     → before ≡ old → IsFound (old words.source) (Done image lines) → list ≡ list_of image lines
     → WriteCause (length image) first last ending → WritesFiles words before new image list ending → LeavesFiles words old new ending
-leaves words old before new first last image list lines ending says keeps same found is cause left =
+leaves words old before new first last image list lines ending says fits keeps same found is cause left =
     go ending cause (subst (λ (f : Files). WritesFiles words f new image (list_of image lines) ending) same (subst (λ (l : List ℕ). WritesFiles words before new image l ending) is left))
   where
     parts : (new ≡ old) ⊎ HoldsParts words old new image (list_of image lines) → LeavesParts words old new
@@ -109,7 +111,7 @@ leaves words old before new first last image list lines ending says keeps same f
     emptied (inr is) = inr (image, lines, found, is)
 
     go : (ending : Comes) → WriteCause (length image) first last ending → WritesFiles words old new image (list_of image lines) ending → LeavesFiles words old new ending
-    go (Made size) cause left = (image, lines, found, cause, left, said_of (old words.source) image lines says keeps found)
+    go (Made size) cause left = (image, lines, found, cause, left, said_of (old words.source) image lines says fits keeps found)
     go Unwritten cause left = parts left
     go Unlisted cause left = parts left
     go NoMemory cause left = emptied left

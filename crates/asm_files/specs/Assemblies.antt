@@ -6,6 +6,7 @@ use Rattle.md_asm.specs.Assembly.{AssemblyOutcome}
 use Rattle.md_asm.specs.declared.placed.Placed.{Placed}
 use Rattle.assembly_laws.specs.Lines.{SaysLines}
 use Rattle.asm_round_trip.specs.Faults.{IsFaulty}
+use Rattle.asm_round_trip.specs.Fitting.{FitsLines}
 use Rattle.asm_round_trip.specs.Sources.{KeepsInstruction}
 use Rattle.md_args.specs.Words.{Assembling}
 use Rattle.asm_files.specs.Lists.{list_of}
@@ -71,9 +72,10 @@ LeavesEmpty words old new =
     (new ≡ old)
     ⊎ ((image : List ℕ) × (lines : List Placed) × IsFound (old words.source) (assembly.Done image lines) × (new ≡ with_file old words.output []))
 
--- an image says the lines of a source that is held, and if it is one instruction's that stands in it
+-- an image says the lines of a source that is held, whose numbers are in their ranges, and if it is one instruction's that
+-- stands in it
 abbrev pub SaysSource : Option (List ℕ) → List ℕ → List Placed → Type 0
-SaysSource source image lines = IsSomeAnd source (λ bytes. SaysLines bytes image lines) × KeepsSource source (assembly.Done image lines)
+SaysSource source image lines = IsSomeAnd source (λ bytes. SaysLines bytes image lines) × IsSomeAnd source FitsLines × KeepsSource source (assembly.Done image lines)
 
 -- What the files hold then: the outputs the image, which says the lines of its source, and its list, where they were written; parts of them, or what
 -- they held, where a write failed; what they held, or nothing, where memory was wanting; and all others what they held

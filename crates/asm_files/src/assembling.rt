@@ -5,7 +5,7 @@ ghost use Rattle.asm_files.specs.Assemblies.{HasCause, LeavesFiles};
 use crate::comes::Comes;
 use crate::listing::list_of;
 use crate::writing::write_both;
-use asm_round_trip::laws::{faults_are_right, instructions_are_kept};
+use asm_round_trip::laws::{faults_are_right, instructions_are_kept, numbers_are_in_range};
 use assembly_laws::laws::image_says_its_lines;
 use md_args::AsmWords;
 use md_asm::{AsmFault, assemble};
@@ -37,6 +37,7 @@ pub fn assemble_file<D: Depot>(alloc: Global, words: &AsmWords<'_>, depot: &mut 
     };
     let image = assembled.image();
     image_says_its_lines(image);
+    numbers_are_in_range(image);
     match list_of(alloc, image, assembled.lines()) {
         Ok(list) => write_both(alloc, words, image, list.as_bytes(), depot),
         Err(_) => Comes::NoMemory,

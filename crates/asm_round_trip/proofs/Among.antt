@@ -1,11 +1,29 @@
 -- Numbers among pieces, and other numbers in their places.
-use Rattle.std.proofs.Common.{◌≡◌, ℕ, ◌+◌, ◌<◌, ◌≤◌, true, false, nat_lt, List, [], ◌∷◌, ◌++◌, length, append_assoc, length-append, refl, ap, ◌∙◌, sym, arith, Some}
+use Rattle.std.proofs.Common.{◌≡◌, ℕ, ◌+◌, ◌%◌, ◌<◌, ◌≤◌, Bool, true, false, not, nat_le, nat_lt, List, [], ◌∷◌, ◌++◌, length, append_assoc, length-append, refl, ap, ◌∙◌, sym, arith, Some}
 use Rattle.std.proofs.lemmas.Bool.Decides.{nat_tests}
 use Rattle.md_asm_text.specs.Pieces as pieces
 use Rattle.md_asm_text.specs.Pieces.{Piece}
 use Rattle.md_asm_code.specs.Numbers.{filled, filled_piece}
 use Rattle.asm_round_trip.specs.Forms.{StandsIn}
 use Rattle.asm_round_trip.proofs.Fits.{is_plain, is_single, number_of}
+
+-- ---- tests of numbers
+
+pub below : (n limit : ℕ) → nat_lt n limit ≡ true → n < limit
+below n limit h = grind (arith, nat_tests)
+
+pub no_number : (n : ℕ) → nat_lt n 0 ≡ true → ⊥
+no_number n h = let e = below n 0 h in omega (arith, e)
+
+pub at_most : (a b : ℕ) → nat_le a b ≡ true → a ≤ b
+at_most a b h = grind (arith, nat_tests)
+
+pub not_false : (b : Bool) → not b ≡ false → b ≡ true
+not_false true h = refl
+not_false false h = cc
+
+pub byte_stays : (n : ℕ) → n < 256 → n % 256 ≡ n
+byte_stays n h = omega arith
 
 -- ---- another number in the place of each
 

@@ -28,6 +28,7 @@ pub mod RoundTrip68
 pub mod Directive68
 pub mod Forms
 pub mod Ranges
+pub mod InRange
 pub mod Kept
 pub mod Far
 pub mod Faults

@@ -1,5 +1,5 @@
 -- The other direction: a line that has a length has the form of some instruction, and a number that fits stands in one.
-use Rattle.std.proofs.Common.{◌≡◌, ℕ, ◌<◌, Bool, true, false, not, List, [], ◌∷◌, ◌++◌, length, append-nil, refl, ap, ◌∙◌, sym, arith, Option, Some, None}
+use Rattle.std.proofs.Common.{◌≡◌, ℕ, ◌<◌, Bool, true, false, List, [], ◌∷◌, ◌++◌, length, append-nil, refl, ap, ◌∙◌, sym, arith, Option, Some, None}
 use Rattle.std.specs.Prelude.{is_some, option_map}
 use Rattle.m68k_decode.specs.Instructions as main
 use Rattle.z80_decode.specs.Instructions as sub
@@ -18,7 +18,9 @@ use Rattle.asm_laws.proofs.SubChosen.{chosen}
 use Rattle.asm_laws.proofs.SubTexts as sub_found
 use Rattle.asm_laws.proofs.Texts as main_found
 use Rattle.asm_round_trip.specs.Forms.{HasNumber, IsForm, IsMainForm, IsSubForm, StandsIn}
+use Rattle.asm_round_trip.proofs.Among.{not_false}
 use Rattle.asm_round_trip.proofs.Fits.{alone_is, filled_both, filled_long}
+use Rattle.asm_round_trip.proofs.Places80.{none_byte}
 use Rattle.asm_round_trip.proofs.RoundTrip68.{in_bytes_long}
 use Rattle.asm_round_trip.proofs.Sound68.{AreLongs}
 use Rattle.asm_round_trip.proofs.Tried68.{tried_words}
@@ -63,19 +65,16 @@ record IsSubText (said : List Piece) (at : ℕ) (bytes : List ℕ) : Type 0 wher
   text : pieces.pieces (sub_texts.text_of (sub.instruction_of bytes) at) ≡ said
   long : (sub.instruction_of bytes).length ≡ length bytes
 
-no_byte : AreBytes []
-no_byte i = omega arith
-
 sub_text : (said : List Piece) (at : ℕ) (bytes : List ℕ) → at < 65536 → sub_code said at ≡ Some bytes → IsSubText said at bytes
 sub_text said at bytes a is =
     let own = sub_found.found said bytes at is in
     let all : AreBytes bytes = rw own.own (tried_bytes said at) in
     let best = chosen said bytes at all a is in
     let text : pieces.pieces (sub_texts.text_of (sub.instruction_of bytes) at) ≡ said
-    = ap (λ (l : List ℕ). pieces.pieces (sub_texts.text_of (sub.instruction_of l) at)) (sym (append-nil bytes)) ∙ best.text.text [] no_byte in record {
+    = ap (λ (l : List ℕ). pieces.pieces (sub_texts.text_of (sub.instruction_of l) at)) (sym (append-nil bytes)) ∙ best.text.text [] none_byte in record {
       form = λ other same. record { all = all; instruction = best.text.instruction; address = a; alike = same ∙ ap filled (sym text) };
       text = text;
-      long = ap (λ (l : List ℕ). (sub.instruction_of l).length) (sym (append-nil bytes)) ∙ best.text.whole [] no_byte;
+      long = ap (λ (l : List ℕ). (sub.instruction_of l).length) (sym (append-nil bytes)) ∙ best.text.whole [] none_byte;
     }
 
 -- words of the 68000
@@ -116,10 +115,6 @@ mapped (Some bytes) long h = (bytes, refl, cc)
 main_mapped : (found : Option (List ℕ)) (bytes : List ℕ) → option_map in_bytes found ≡ Some bytes → (words : List ℕ) × (found ≡ Some words) × (in_bytes words ≡ bytes)
 main_mapped None bytes h = cc
 main_mapped (Some words) bytes h = (words, refl, cc)
-
-not_false : (b : Bool) → not b ≡ false → b ≡ true
-not_false true h = refl
-not_false false h = cc
 
 -- ---- the other direction
 

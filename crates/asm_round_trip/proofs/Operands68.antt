@@ -23,15 +23,15 @@ use Rattle.m68k_form.proofs.Operands.{IsWritten, mode_pieces, number_pieces}
 use Rattle.m68k_form.proofs.Sources.{IsShown, led_pieces}
 use Rattle.m68k_read.specs.Table.{IsEntered}
 use Rattle.asm_round_trip.specs.Ranges.{digit_allows, main_allows, mode_limit}
-use Rattle.asm_round_trip.proofs.Among.{put_all}
+use Rattle.asm_round_trip.proofs.Among.{below, byte_stays, no_number, put_all}
 use Rattle.asm_round_trip.proofs.Fits.{number_of}
 use Rattle.asm_round_trip.proofs.Rows68.{mode_with, operand_with}
 use Rattle.asm_round_trip.proofs.Shown68.{quick_in}
 
 -- ---- an instruction's own number
 
-below : (n m limit : ℕ) → m ≡ n → m < limit → nat_lt n limit ≡ true
-below n m limit e h = lt-ltb n limit (omega (arith, e, h))
+fits_below : (n m limit : ℕ) → m ≡ n → m < limit → nat_lt n limit ≡ true
+fits_below n m limit e h = lt-ltb n limit (omega (arith, e, h))
 
 -- a number of one digit is one that its instruction has, and no operand is the word of what is no instruction
 abbrev pub DigitFits : Op → Operand68 → Type 0
@@ -40,17 +40,17 @@ DigitFits op (operands.Opcode word) = ⊥
 DigitFits op o = Unit {0}
 
 number_allows : (size : Size) (m n c : ℕ) → m < 4294967296 → number_of (pieces.Mark c ∷ number_pieces size m) ≡ Some n → nat_lt n (modulus_of size) ≡ true
-number_allows Byte m n c h is = let e : m % 256 ≡ n = cc in below n (m % 256) 256 e (omega arith)
-number_allows Word m n c h is = let e : m % 65536 ≡ n = cc in below n (m % 65536) 65536 e (omega arith)
-number_allows Long m n c h is = let e : m ≡ n = cc in below n m 4294967296 e h
+number_allows Byte m n c h is = let e : m % 256 ≡ n = cc in fits_below n (m % 256) 256 e (omega arith)
+number_allows Word m n c h is = let e : m % 65536 ≡ n = cc in fits_below n (m % 65536) 65536 e (omega arith)
+number_allows Long m n c h is = let e : m ≡ n = cc in fits_below n m 4294967296 e h
 
 mode_allows : (size : Size) (mode : Mode) (n c : ℕ) → IsWritten mode → number_of (pieces.Mark c ∷ mode_pieces size mode) ≡ Some n → nat_lt n (mode_limit size mode) ≡ true
-mode_allows size (modes.Displaced r by) n c h is = let e : by ≡ n = cc in below n by 65536 e h
-mode_allows size (modes.Indexed r index long by) n c h is = let e : by ≡ n = cc in below n by 256 e h
-mode_allows size (modes.AbsShort at) n c h is = let e : at ≡ n = cc in below n at 65536 e h
-mode_allows size (modes.AbsLong at) n c h is = let e : at ≡ n = cc in below n at 4294967296 e h
-mode_allows size (modes.PcDisplaced by) n c h is = let e : by ≡ n = cc in below n by 65536 e h
-mode_allows size (modes.PcIndexed index long by) n c h is = let e : by ≡ n = cc in below n by 256 e h
+mode_allows size (modes.Displaced r by) n c h is = let e : by ≡ n = cc in fits_below n by 65536 e h
+mode_allows size (modes.Indexed r index long by) n c h is = let e : by ≡ n = cc in fits_below n by 256 e h
+mode_allows size (modes.AbsShort at) n c h is = let e : at ≡ n = cc in fits_below n at 65536 e h
+mode_allows size (modes.AbsLong at) n c h is = let e : at ≡ n = cc in fits_below n at 4294967296 e h
+mode_allows size (modes.PcDisplaced by) n c h is = let e : by ≡ n = cc in fits_below n by 65536 e h
+mode_allows size (modes.PcIndexed index long by) n c h is = let e : by ≡ n = cc in fits_below n by 256 e h
 mode_allows size (modes.Immediate m) n c h is = number_allows size m n c h is
 mode_allows size (modes.Data r) n c h is = cc
 mode_allows size _ n c h is = cc
@@ -71,7 +71,7 @@ pub operand_allows : (op : Op) (c : ℕ) (o : Operand68) (n : ℕ) → IsShown o
 operand_allows op c (operands.Place size mode) n h d is = mode_allows size mode n c h.1 is
 operand_allows op c (operands.Digit m) n h d is = let e : m ≡ n = cc in subst (λ (k : ℕ). digit_allows op k ≡ true) e d
 operand_allows op c (operands.Number size m) n h d is = number_allows size m n c h is
-operand_allows op c (operands.Target address) n h d is = let e : address ≡ n = cc in below n address 4294967296 e h
+operand_allows op c (operands.Target address) n h d is = let e : address ≡ n = cc in fits_below n address 4294967296 e h
 operand_allows op c (operands.Opcode word) n h d is = absurd d
 operand_allows op c (operands.Registers turned list) n h d is = let none = list_number (list == 0) turned list refl in cc
 operand_allows op c operands.Nothing n h d is = cc
@@ -96,21 +96,12 @@ row_digits _ words at is = (tt, tt)
 
 -- ---- another number in its place
 
-under : (n limit : ℕ) → nat_lt n limit ≡ true → n < limit
-under n limit h = grind (arith, nat_tests)
-
-no_number : (n : ℕ) → nat_lt n 0 ≡ true → ⊥
-no_number n h = let e = under n 0 h in omega (arith, e)
-
-byte_stays : (n : ℕ) → n < 256 → n % 256 ≡ n
-byte_stays n h = omega arith
-
 word_stays : (n : ℕ) → n < 65536 → n % 65536 ≡ n
 word_stays n h = omega arith
 
 number_with : (size : Size) (m n : ℕ) → nat_lt n (modulus_of size) ≡ true → number_pieces size n ≡ put_all n (number_pieces size m)
-number_with Byte m n h = rw (byte_stays n (under n 256 h)) refl
-number_with Word m n h = rw (word_stays n (under n 65536 h)) refl
+number_with Byte m n h = rw (byte_stays n (below n 256 h)) refl
+number_with Word m n h = rw (word_stays n (below n 65536 h)) refl
 number_with Long m n h = refl
 
 pieces_with : (size : Size) (mode : Mode) (n : ℕ) → nat_lt n (mode_limit size mode) ≡ true → mode_pieces size (mode_with n mode) ≡ put_all n (mode_pieces size mode)

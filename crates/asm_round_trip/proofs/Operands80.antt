@@ -1,5 +1,5 @@
 -- The numbers of the Z80's operands: an instruction's own are in their ranges, and others take their places.
-use Rattle.std.proofs.Common.{◌≡◌, ℕ, ◌==◌, ◌%◌, Bool, true, false, not, ◌&&◌, nat_lt, List, ◌∷◌, ◌++◌, refl, ap, ◌∙◌, sym, subst, Some}
+use Rattle.std.proofs.Common.{◌≡◌, ℕ, ◌==◌, ◌%◌, true, false, ◌&&◌, nat_lt, List, ◌∷◌, ◌++◌, refl, ap, ◌∙◌, sym, subst, Some}
 use Rattle.std.specs.Prelude.{nat_le}
 use Rattle.z80_decode.specs.declared.op80.Op80.{Op80}
 use Rattle.z80_decode.specs.declared.op80.Op80.TheVariants as ops
@@ -13,7 +13,7 @@ use Rattle.md_asm_text.specs.Pieces.{Piece}
 use Rattle.z80_read_laws.proofs.Operands.{place_pieces, shown}
 use Rattle.z80_read_laws.proofs.Sources.{led_pieces, row_pieces}
 use Rattle.asm_round_trip.specs.Ranges.{byte_allows, place_limit, sub_allows}
-use Rattle.asm_round_trip.proofs.Among.{put_all, put_both}
+use Rattle.asm_round_trip.proofs.Among.{not_false, put_all, put_both}
 use Rattle.asm_round_trip.proofs.Fits.{number_of}
 use Rattle.asm_round_trip.proofs.Pages80.{is_uneven}
 use Rattle.asm_round_trip.proofs.Rows80.{operand_with, place_with}
@@ -41,10 +41,6 @@ operand_allows op c (operands.Word m) n byte h is = let e : m ≡ n = cc in same
 operand_allows op c (operands.AtWord address) n byte h is = let e : address ≡ n = cc in same_below n address 65536 e h
 operand_allows op c operands.Nothing n byte h is = cc
 operand_allows op c _ n byte h is = cc
-
-not_false : (b : Bool) → not b ≡ false → b ≡ true
-not_false true h = refl
-not_false false h = cc
 
 -- the byte of RST is one that it has
 restart_allows : (address m : ℕ) → is_uneven (ops.Restart address) ≡ false → operands.Byte address ≡ operands.Byte m → byte_allows (ops.Restart address) m ≡ true

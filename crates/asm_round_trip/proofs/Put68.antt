@@ -10,6 +10,7 @@ use Rattle.md_word.specs.declared.size.Size.TheVariants.{Byte, Word, Long}
 use Rattle.m68k_decode.specs.Fields.{high_mode, low_mode, mode_of, number_at, words_of_mode, words_of_number}
 use Rattle.m68k_read.specs.Table.{AreWords}
 use Rattle.asm_round_trip.specs.Ranges.{mode_limit}
+use Rattle.asm_round_trip.proofs.Among.{below, byte_stays, no_number}
 use Rattle.asm_round_trip.proofs.Low68.{cons_low, none_low}
 use Rattle.asm_round_trip.proofs.Rows68.{mode_with}
 
@@ -97,9 +98,6 @@ pub record IsNumber (size : Size) (k n w : ℕ) (tail : List ℕ) : Type 0 where
   pub put : IsPut k (words_of_number size) w tail rest
   pub is : number_at size k (w ∷ rest) ≡ n
 
-byte_stays : (n : ℕ) → n < 256 → n % 256 ≡ n
-byte_stays n h = omega arith
-
 joined : (n : ℕ) → n / 65536 * 65536 + n % 65536 ≡ n
 joined n = omega arith
 
@@ -129,12 +127,6 @@ pub record IsModePut (m r : ℕ) (size : Size) (k n w : ℕ) (tail : List ℕ) :
   pub rest : List ℕ
   pub put : IsPut k (words_of_mode size (mode_of m r size k (w ∷ tail))) w tail rest
   pub is : mode_of m r size k (w ∷ rest) ≡ mode_with n (mode_of m r size k (w ∷ tail))
-
-no_number : (n : ℕ) → nat_lt n 0 ≡ true → ⊥
-no_number n h = let e : n < 0 = grind (arith, nat_tests) in omega (arith, e)
-
-below : (n limit : ℕ) → nat_lt n limit ≡ true → n < limit
-below n limit h = grind (arith, nat_tests)
 
 -- the low byte of a brief extension word
 brief_index : (x n : ℕ) → n < 256 → (x / 256 * 256 + n) / 4096 ≡ x / 4096

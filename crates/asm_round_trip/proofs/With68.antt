@@ -22,6 +22,7 @@ use Rattle.md_disasm.specs.Rows68.{Row68, is_turned, row_of}
 use Rattle.m68k_read.specs.Table.{AreWords}
 use Rattle.md_asm_code.specs.Contents.{under}
 use Rattle.asm_round_trip.specs.Ranges.{main_allows, mode_limit}
+use Rattle.asm_round_trip.proofs.Among.{at_most, below, no_number}
 use Rattle.asm_round_trip.proofs.First68.{high_with, low_with, moveq_row, quick_row, trap_row}
 use Rattle.asm_round_trip.proofs.Low68.{cons_low}
 use Rattle.asm_round_trip.proofs.Put68.{high_put, high_same, low_put, low_same, mode_few, number_few, number_put, number_same, same_behind, same_front, with_counted}
@@ -55,12 +56,6 @@ other row w v tail at wanted a of low row_is is =
     let all = of.all in
     let own : AreOf row v tail = record { low = low; is = row_is; entered = rw (row_is ∙ sym of.is) entered; all = cons_low v tail low (λ i. all (suc i)) } in
     record { at = at; low = a; long = (made row (v ∷ tail)).length; reached = reach (made row (v ∷ tail)) wanted at (made row (v ∷ tail)).length (own_decoded row v tail own) is refl }
-
-below : (n limit : ℕ) → nat_lt n limit ≡ true → n < limit
-below n limit h = grind (arith, nat_tests)
-
-no_number : (n : ℕ) → nat_lt n 0 ≡ true → ⊥
-no_number n h = let e = below n 0 h in omega (arith, e)
 
 -- −(An) and Dn have no number
 paired_none : (b : Bool) (size : Size) (r n : ℕ) → nat_lt n (mode_limit size (if b then modes.PreDec r else modes.Data r)) ≡ true → ⊥
@@ -163,9 +158,6 @@ target_put size n w tail fits all =
     }
 
 -- ---- numbers in the first word
-
-at_most : (a b : ℕ) → nat_le a b ≡ true → a ≤ b
-at_most a b h = grind (arith, nat_tests)
 
 equal : (a b : ℕ) → (a == b) ≡ true → a ≡ b
 equal a b h = grind (arith, nat_tests)

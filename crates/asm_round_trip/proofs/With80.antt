@@ -3,7 +3,6 @@
 use Rattle.std.proofs.Common.{◌≡◌, ℕ, ◌+◌, ◌*◌, ◌/◌, ◌%◌, ◌<◌, ◌≤◌, ◌==◌, Bool, true, false, ◌||◌, cond, List, [], nat_lt, map, refl, ap, sym, subst, arith, if◌then◌else◌}
 use Rattle.std.specs.Prelude.{nat_le}
 use Rattle.std.proofs.lemmas.Bool.{and_parts, true≢false}
-use Rattle.std.proofs.lemmas.Bool.Decides.{nat_tests}
 use Rattle.md_word.proofs.Agree.{range, same_at}
 use Rattle.z80_decode.specs.declared.decoded80.Decoded80.{Decoded80}
 use Rattle.z80_decode.specs.declared.index.Index.{Index}
@@ -26,6 +25,7 @@ use Rattle.z80_read_laws.proofs.Pages.{by_index, by_page}
 use Rattle.md_asm_code.specs.Contents.{under}
 use Rattle.asm_round_trip.specs.Ranges.{byte_allows, place_limit, sub_allows}
 use Rattle.asm_round_trip.proofs.Alone80.{IsThere, if_there, is_near, jump_there, loop_there, still, target_under}
+use Rattle.asm_round_trip.proofs.Among.{at_most, below, no_number}
 use Rattle.asm_round_trip.proofs.Fill80.{IsDecoded, IsReached, bits_decoded, extended_decoded, ix_bits_decoded, ix_decoded, iy_bits_decoded, iy_decoded, not_odd, plain_decoded, reach, row_named}
 use Rattle.asm_round_trip.proofs.Line.{is_free}
 use Rattle.asm_round_trip.proofs.Named80.{op_free}
@@ -286,15 +286,6 @@ near_there (ops.DecrementAndJump by) n at near far h = somewhere (row_with n (ro
 near_there _ n at near far h = cc
 
 -- ---- any number that an operand allows
-
-below : (n limit : ℕ) → nat_lt n limit ≡ true → n < limit
-below n limit h = grind (arith, nat_tests)
-
-at_most : (a b : ℕ) → nat_le a b ≡ true → a ≤ b
-at_most a b h = grind (arith, nat_tests)
-
-no_number : (n : ℕ) → nat_lt n 0 ≡ true → ⊥
-no_number n h = let e = below n 0 h in omega (arith, e)
 
 byte_below : (op : Op80) (n : ℕ) → is_other op ≡ false → byte_allows op n ≡ true → n < 256
 byte_below (ops.Restart address) n other h = cc

@@ -1,4 +1,5 @@
 pub mod Sources
 pub mod Forms
 pub mod Ranges
+pub mod Fitting
 pub mod Faults

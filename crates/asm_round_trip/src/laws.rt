@@ -15,9 +15,12 @@ ghost use Rattle.md_asm.specs.Assembly.{AssemblyOutcome, Done, Failed, assembly}
 ghost use Rattle.md_asm.specs.declared.placed.Placed.{Placed};
 ghost use Rattle.assembly_laws.specs.Places.{bytes_from, words_from};
 ghost use Rattle.asm_round_trip.specs.Faults.{IsFaulty};
+ghost use Rattle.asm_round_trip.specs.Fitting.{FitsLines};
 ghost use Rattle.asm_round_trip.specs.Forms.{HasNumber, IsForm, StandsIn};
 ghost use Rattle.asm_round_trip.specs.Ranges.{IsInRange};
 ghost use Rattle.asm_round_trip.specs.Sources.{KeepsInstruction, main_source, sub_source};
+
+use assembly_laws::laws::{image_says_its_lines, known_bytes};
 
 /// Whatever words or bytes decode to, but what the Z80's text writes as a directive: a source of its text at an address
 /// has an image, and what stands there decodes to it. For the 68000 the address is even, and its bytes stay below 400000h.
@@ -50,6 +53,14 @@ pub fn forms_are_known()
 pub fn numbers_have_their_range()
     ensures { (z80 : Bool) (said : List Piece) (place n : ℕ) → HasNumber z80 said place n ↔ IsInRange z80 said place n }
 {}
+
+/// In a source that has an image each number of an instruction, with the value of each name, is in the range of its place.
+pub fn numbers_are_in_range(image: &[u8])
+    ensures { (source : List ℕ) (lines : List Placed) → assembly source ≡ Done image.now lines → FitsLines source }
+{
+    known_bytes(image);
+    image_says_its_lines(image);
+}
 
 /// What a source's fault says: a line of kind 1 has the form of no instruction, and of kinds 2 and 8 a number that no
 /// instruction of the line's form has at its place, as it is out of the range there, or one that does not fit a directive; of

@@ -69,7 +69,7 @@ code_of z80 bodies.Bad long said at bytes instruction is = cc
 
 -- ---- bytes that stand in an image
 
-stand_bytes : (image : List ℕ) (place : ℕ) (bytes : List ℕ) → AreBytes image → StandsAt image place bytes → AreBytes bytes
+pub stand_bytes : (image : List ℕ) (place : ℕ) (bytes : List ℕ) → AreBytes image → StandsAt image place bytes → AreBytes bytes
 stand_bytes image place bytes all stands k = elim (cases_lt k (length bytes)) [
   | inl within ↦ (let here = all (place + k) in let e = stands k within in omega (arith, here, e))
   | inr past ↦ (let e = get_or_past bytes k 0 past in omega (arith, e))
@@ -114,7 +114,7 @@ rest_bytes bytes rest all k = let here = all (length bytes + k) in let e = get_o
 -- ---- words that stand in an image
 
 -- bytes of words that are bytes are those of words
-words_are : (words : List ℕ) → AreBytes (in_bytes words) → AreWords words
+pub words_are : (words : List ℕ) → AreBytes (in_bytes words) → AreWords words
 unfolding in_bytes
 words_are [] all k = omega arith
 words_are (word ∷ more) all zero = let high = all 0 in omega (arith, high)

@@ -9,7 +9,7 @@ ghost use Rattle.assembly_laws.specs.Lines.{SaysLines};
 use asm_laws::laws::{codes_are_chosen, texts_are_assembled};
 
 /// An image is bytes.
-fn known_bytes(image: &[u8])
+pub fn known_bytes(image: &[u8])
     ensures { AreBytes image.now }
 {
     let _image = image;

@@ -1,5 +1,6 @@
 -- One more line of a script is obeyed.
 use Rattle.std.proofs.Common.{◌≡◌, ◌≢◌, ◌↔◌, ℕ, ◌+◌, ◌<◌, ◌≤◌, ◌⊎◌, inl, inr, Bool, true, false, if◌then◌else◌, nat_lt, get_or, List, [], ◌∷◌, ◌++◌, length, Result, Ok, Err, refl, sym, ap, subst, ◌∙◌, append_assoc, append-nil, arith}
+use Rattle.std.specs.Prelude.{IfErr}
 use Rattle.std.specs.List.{list_all}
 use Rattle.std.specs.Str.{IsAscii, IsUtf8}
 use Rattle.std.proofs.lemmas.Bool.{true≢false}
@@ -7,6 +8,7 @@ use Rattle.std.proofs.lemmas.List.{get_or_past}
 use Rattle.std.proofs.lemmas.List.Folds.{list_all_at}
 use Rattle.std.proofs.lemmas.Str.{IsUtf8-from_ascii}
 use Rattle.text_lines.proofs.Ascii.{ascii_of}
+use Rattle.md_outer.specs.Outside.{IsPrefix, PutsText, SinkState}
 use borrow.Author.Tests.{ltb-true}
 use Rattle.debug_lines.specs.Commands.{behind, command_of, is_seven_bit, read_by, word_in, word_of}
 use Rattle.debug_lines.specs.declared.command.Command.{Command}
@@ -16,7 +18,7 @@ use Rattle.md_machine.specs.Machines.{MachineValue}
 use Rattle.md_debug.specs.Sessions.{Obeys, SessionValue, oldest_of, reply_to}
 use Rattle.md_debug.specs.declared.fault.DebugFault.{DebugFault}
 use Rattle.md_debug.specs.declared.fault.DebugFault.TheVariants.{BadNumber, NoMemory, NotKept, UnknownWord}
-use Rattle.debug_script.specs.Scripts.{IsRefused, ObeysAll, ObeysFirst, Plays}
+use Rattle.debug_script.specs.Scripts.{FailsWithin, IsRefused, ObeysAll, ObeysFirst, Plays, PutsWhole}
 use Rattle.debug_script.specs.declared.script.Ending.{Ending}
 use Rattle.debug_script.specs.declared.script.Ending.TheVariants.{OutOfMemory, Refused}
 
@@ -29,6 +31,45 @@ refused_by session line r UnknownWord is unknown number not_kept other = unknown
 refused_by session line r BadNumber is unknown number not_kept other = number.0 is
 refused_by session line r (NotKept oldest) is unknown number not_kept other = (not_kept oldest).0 is
 refused_by session line r NoMemory is unknown number not_kept other = absurd (other refl)
+
+pub refused_for : {X Images : Type 0} (session : SessionValue Images) (text line : List ℕ) (r : Result X DebugFault) → text ≡ line
+    → ((r ≡ Err UnknownWord) ↔ (command_of text ≡ Err misread.UnknownWord)) → ((r ≡ Err BadNumber) ↔ (command_of text ≡ Err misread.BadNumber))
+    → ((oldest : ℕ) → (r ≡ Err (NotKept oldest)) ↔ ((n : ℕ) × ((command_of text ≡ Ok (Back n)) × ((length session.states < n) × (oldest ≡ oldest_of session)))))
+    → IfErr r (λ fault. fault ≢ NoMemory → IsRefused session line fault)
+refused_for session text line (Ok reply) is unknown number not_kept = tt
+refused_for session text line (Err fault) is unknown number not_kept = λ other.
+    subst (λ (l : List ℕ). IsRefused session l fault) is (refused_by session text (Err fault) fault refl unknown number not_kept other)
+
+-- a second text is put behind one that was put
+pub puts_more : {E F G : Type 0} (told : Type 0) (first second : List ℕ) (old mid new : SinkState) → PutsText {E = E} told first old mid (Ok tt)
+    → PutsText {E = F} told second mid new (Ok tt) → PutsText {E = G} told (first ++ second) old new (Ok tt)
+puts_more told first second old mid new one two = record {
+  later = omega (arith, one.later, two.later);
+  whole = λ t. two.whole t ∙ ap (λ (l : List ℕ). l ++ second) (one.whole t) ∙ append_assoc old.bytes first second;
+  failed = tt;
+  part = tt;
+}
+
+-- a text that was put, or failed, by its bytes
+pub puts_whole : {E : Type 0} (told : Type 0) (text bytes : List ℕ) (old new : SinkState) → PutsText {E = E} told text old new (Ok tt) → text ≡ bytes → PutsWhole told bytes old new
+puts_whole told text bytes old new put is = record {
+  later = put.later;
+  whole = λ t. put.whole t ∙ ap (λ (l : List ℕ). old.bytes ++ l) is;
+  failed = tt;
+  part = tt;
+}
+
+pub fails_within : {E : Type 0} (told : Type 0) (text bytes : List ℕ) (old new : SinkState) (e : E) → PutsText {E = E} told text old new (Err e) → text ≡ bytes → FailsWithin told bytes old new
+fails_within told text bytes old new e put is = record {
+  later = put.later;
+  whole = tt;
+  failed = put.failed;
+  part = subst (λ (l : List ℕ). told → (part : List ℕ) × IsPrefix part l × (new.bytes ≡ old.bytes ++ part)) is put.part;
+}
+
+-- no text is put without a call
+pub puts_none : {E : Type 0} (told : Type 0) (old : SinkState) → PutsText {E = E} told [] old old (Ok tt)
+puts_none told old = record { later = omega arith; whole = λ t. sym (append-nil old.bytes); failed = tt; part = tt }
 
 -- bytes that are no text have one that is not ASCII
 pub not_text : (line : List ℕ) → ¬ IsUtf8 line → command_of line ≡ Err misread.UnknownWord

@@ -5,6 +5,7 @@ use Rattle.debug_lines.specs.declared.command.Command.{Command}
 use Rattle.debug_lines.specs.declared.command.Command.TheVariants.{Back}
 use Rattle.debug_lines.specs.declared.command.Misread.TheVariants as misread
 use Rattle.md_machine.specs.Machines.{MachineValue}
+use Rattle.md_outer.specs.Outside.{PutsText, SinkState}
 use Rattle.md_debug.specs.Sessions.{Obeys, SessionValue, oldest_of, reply_to}
 use Rattle.md_debug.specs.declared.fault.DebugFault.{DebugFault}
 use Rattle.md_debug.specs.declared.fault.DebugFault.TheVariants as faults
@@ -18,6 +19,14 @@ IsRefused session line faults.UnknownWord = command_of line ≡ Err misread.Unkn
 IsRefused session line faults.BadNumber = command_of line ≡ Err misread.BadNumber
 IsRefused session line (faults.NotKept oldest) = (n : ℕ) × ((command_of line ≡ Ok (Back n)) × ((length session.states < n) × (oldest ≡ oldest_of session)))
 IsRefused session line faults.NoMemory = ⊥
+
+-- the text was put whole
+abbrev pub PutsWhole : Type 0 → List ℕ → SinkState → SinkState → Type 0
+PutsWhole told text old new = PutsText {E = Unit {0}} told text old new (Ok tt)
+
+-- the sink failed within the text
+abbrev pub FailsWithin : Type 0 → List ℕ → SinkState → SinkState → Type 0
+FailsWithin told text old new = PutsText {E = Unit {0}} told text old new (Err tt)
 
 module _ {Images : Type 0} (size : Images → ℕ) (spelling : Images → MachineValue → List ℕ) (keeps : Images → List ℕ → MachineValue → Type 0) where
   -- all lines were obeyed, one after another: the session then, and the replies in their order
@@ -40,3 +49,25 @@ module _ {Images : Type 0} (size : Images → ℕ) (spelling : Images → Machin
       (before : List (List ℕ)) × (line : List ℕ) × (after : List (List ℕ)) × ObeysFirst lines before (line ∷ after) old new replies
       × (number ≡ length before + 1) × IsRefused new line fault
   Plays lines old new replies OutOfMemory = (before : List (List ℕ)) × (after : List (List ℕ)) × (mid : SessionValue Images) × ObeysFirst lines before after old mid replies
+
+  -- a script ended so, and the replies to the lines that were obeyed were put
+  pub record PutsReplies (told : Type 0) (lines : List (List ℕ)) (old new : SessionValue Images) (out out' : SinkState) (ending : Ending) : Type 0 where
+    pub replies : List ℕ
+    pub plays : Plays lines old new replies ending
+    pub puts : PutsWhole told replies out out'
+
+  -- a reply could not be put: the lines before its own were obeyed and their replies put; then its line was obeyed,
+  -- the last one, and a front part of its reply was put
+  pub record StopsAtReply (told : Type 0) (lines : List (List ℕ)) (old new : SessionValue Images) (out out' : SinkState) : Type 0 where
+    pub before : List (List ℕ)
+    pub line : List ℕ
+    pub after : List (List ℕ)
+    pub replies : List ℕ
+    pub command : Command
+    pub mid : SessionValue Images
+    pub between : SinkState
+    pub first : ObeysFirst lines before (line ∷ after) old mid replies
+    pub puts : PutsWhole told replies out between
+    pub asks : command_of line ≡ Ok command
+    pub obeys : Obeys size spelling keeps mid command new
+    pub fails : FailsWithin told (reply_to command new) between out'

@@ -1,18 +1,18 @@
-ghost use Rattle.std.specs.Prelude.{◌≡◌, ◌≢◌, ◌++◌, ℕ, OnOk, OnErr, IfErr, Ok, Err};
+ghost use Rattle.std.specs.Prelude.{◌≡◌, ◌≢◌, OnErr, IfOk, IfErr, Ok};
 ghost use Rattle.debug_lines.specs.Commands.{command_of};
 ghost use Rattle.debug_lines.specs.declared.command.Command.{Command};
 ghost use Rattle.md_debug.specs.Sessions.{Obeys, reply_to};
 ghost use Rattle.text_lines.specs.Lines.{lines_of};
-ghost use Rattle.debug_script.specs.Scripts.{IsRefused, Plays};
+ghost use Rattle.debug_script.specs.Scripts.{IsRefused, PutsReplies, StopsAtReply};
 
 use md_debug::{DebugFault, Session};
 use md_machine::Machine;
+use md_outer::{Failed, Sink};
 use page_ring::Images;
-use std::alloc::Global;
 use std::str::from_utf8;
 use text_lines::first_line;
 
-/// How a script ends.
+/// How a script ends of which each reply is put.
 #[derive(Clone, Copy)]
 pub enum Ending {
     /// Each of its lines was obeyed.
@@ -23,37 +23,31 @@ pub enum Ending {
     OutOfMemory,
 }
 
-/// What a script comes to: the replies of the lines that were obeyed, in their order, and its end.
-#[derive(Drop)]
-pub struct Played {
-    pub replies: Vec<u8>,
-    pub ending: Ending,
-}
-
-/// Obeys the lines of a script one after another, up to the first one that is refused.
-pub fn play<I: Images<Machine>>(alloc: Global, session: &mut Session<I>, script: &[u8]) -> Played
-    ensures { Plays I.size I.spelling I.keeps (lines_of script.now) session.old session.new result.replies.items result.ending }
+/// Obeys the lines of a script one after another, up to the first one that is refused, and puts the reply to
+/// each before the next one is obeyed. Where a reply cannot be put, no further line is obeyed.
+pub fn play<I: Images<Machine>, S: Sink>(
+    session: &mut Session<I>,
+    script: &[u8],
+    out: &mut S,
+) -> Result<Ending, Failed>
+    ensures ends { IfOk result (λ ending. PutsReplies I.size I.spelling I.keeps S.told (lines_of script.now) session.old session.new (S.state out.old) (S.state out.new) ending) }
+    ensures stops { OnErr result (StopsAtReply I.size I.spelling I.keeps S.told (lines_of script.now) session.old session.new (S.state out.old) (S.state out.new)) }
 {
-    let mut replies = Vec::new(alloc);
     let mut number = 0;
     let mut rest = script;
     while !rest.is_empty() {
         let (line, after) = first_line(rest);
         number += 1;
-        match obey(session, line, &mut replies) {
+        let reply = match obey(session, line) {
+            Ok(reply) => reply,
+            Err(fault) => return Ok(ending_of(number, fault)),
+        };
+        match out.put(reply.as_slice()) {
             Ok(()) => rest = after,
-            Err(fault) => {
-                return Played {
-                    replies,
-                    ending: ending_of(number, fault),
-                };
-            }
+            Err(failed) => return Err(failed),
         }
     }
-    Played {
-        replies,
-        ending: Ending::Obeyed,
-    }
+    Ok(Ending::Obeyed)
 }
 
 /// How a script ends at a line that is not obeyed.
@@ -69,40 +63,15 @@ fn ending_of(number: u64, fault: DebugFault) -> Ending
     }
 }
 
-/// Obeys a line, and appends its reply.
-fn obey<I: Images<Machine>>(
-    session: &mut Session<I>,
-    line: &[u8],
-    replies: &mut Vec<u8>,
-) -> Result<(), DebugFault>
-    ensures obeyed { OnOk result ((command : Command) × ((command_of line.now ≡ Ok command) × (Obeys I.size I.spelling I.keeps session.old command session.new
-        × (replies.new.items ≡ replies.old.items ++ reply_to command session.new)))) }
-    ensures refused { IfErr result (λ fault. fault ≢ DebugFault.NoMemory → IsRefused session.old line.now fault × (session.new ≡ session.old)) }
-    ensures replies { OnErr result (replies.new.items ≡ replies.old.items) }
+/// Obeys a line, and returns its reply. After a fault the session is as before.
+fn obey<I: Images<Machine>>(session: &mut Session<I>, line: &[u8]) -> Result<Vec<u8>, DebugFault>
+    ensures obeyed { IfOk result (λ reply. (command : Command) × ((command_of line.now ≡ Ok command) × (Obeys I.size I.spelling I.keeps session.old command session.new
+        × (reply.items ≡ reply_to command session.new)))) }
+    ensures refused { IfErr result (λ fault. fault ≢ DebugFault.NoMemory → IsRefused session.old line.now fault) }
+    ensures fault { OnErr result (session.new ≡ session.old) }
 {
     match from_utf8(line) {
-        Ok(text) => obey_text(session, text, replies),
+        Ok(text) => session.obey(text),
         Err(_) => Err(DebugFault::UnknownWord),
-    }
-}
-
-/// Obeys a line that is a text, and appends its reply.
-fn obey_text<I: Images<Machine>>(
-    session: &mut Session<I>,
-    line: &str,
-    replies: &mut Vec<u8>,
-) -> Result<(), DebugFault>
-    ensures obeyed { OnOk result ((command : Command) × ((command_of line.now ≡ Ok command) × (Obeys I.size I.spelling I.keeps session.old command session.new
-        × (replies.new.items ≡ replies.old.items ++ reply_to command session.new)))) }
-    ensures refused { IfErr result (λ fault. fault ≢ DebugFault.NoMemory → IsRefused session.old line.now fault × (session.new ≡ session.old)) }
-    ensures replies { OnErr result (replies.new.items ≡ replies.old.items) }
-{
-    let reply = match session.obey(line) {
-        Ok(reply) => reply,
-        Err(fault) => return Err(fault),
-    };
-    match replies.extend_from_slice(reply.as_slice()) {
-        Ok(()) => Ok(()),
-        Err(_) => Err(DebugFault::NoMemory),
     }
 }

@@ -1,11 +1,14 @@
 -- The machines of a session have images.
 use Rattle.std.proofs.Common.{◌≡◌, ℕ, ◌≤◌, List, [], ◌∷◌, Result, Ok, Err, refl, sym, ap, subst, ◌∙◌}
-use Rattle.std.specs.Prelude.{IfOk}
+use Rattle.std.specs.Prelude.{IfOk, OnErr}
 use Rattle.debug_kept.specs.Kept.{padded}
 use Rattle.text_lines.specs.Lines.{lines_of}
-use Rattle.debug_script.specs.Scripts.{ObeysAll}
+use Rattle.md_outer.specs.Outside.{SinkState}
+use Rattle.md_outer.specs.declared.sink.Failed.{Failed}
+use Rattle.debug_script.specs.Scripts.{ObeysAll, Plays, PutsReplies, StopsAtReply}
+use Rattle.debug_script.specs.declared.script.Ending.{Ending}
 use Rattle.debug_script.specs.declared.script.Ending.TheVariants.{OutOfMemory}
-use Rattle.debug_states.specs.Opened.{PlaysScript, images_with, opened}
+use Rattle.debug_states.specs.Opened.{PlaysScript, PutsScript, StopsScript, images_with, opened}
 use Rattle.md_debug.specs.Sessions.{SessionValue}
 use Rattle.md_word.specs.Clock.{last_cycle}
 use Rattle.md_word.specs.declared.event.Entry.{Entry}
@@ -44,8 +47,28 @@ none_obeyed : (session : SessionValue ImagesValue) → ObeysAll size_of image_of
 unfolding ObeysAll
 none_obeyed session = (refl, refl)
 
-pub plays_none : (cart script replies : List ℕ) → replies ≡ [] → PlaysScript cart script replies OutOfMemory
-plays_none cart script replies none =
+pub plays_none : (cart script : List ℕ) → PlaysScript cart script [] OutOfMemory
+plays_none cart script =
     let session : SessionValue ImagesValue = opened (images_with cart) in
-    subst (λ (l : List ℕ). PlaysScript cart script l OutOfMemory) (sym none)
-    (record { after = session; plays = ([], lines_of script, session, record { parts = refl; obeyed = none_obeyed session }) })
+    record { after = session; plays = ([], lines_of script, session, record { parts = refl; obeyed = none_obeyed session }) }
+
+-- what is put in the session at power-on
+pub puts_script : (told : Type 0) (cart script : List ℕ) (old new : SessionValue ImagesValue) (out out' : SinkState) (result : Result Ending Failed) → old ≡ opened (images_with cart)
+    → IfOk result (λ ending. PutsReplies size_of image_of Keeps told (lines_of script) old new out out' ending) → IfOk result (λ ending. PutsScript told cart script out out' ending)
+puts_script told cart script old new out out' (Err failed) is put = tt
+puts_script told cart script old new out out' (Ok ending) is put = record {
+  replies = put.replies;
+  plays = record {
+    after = new;
+    plays = subst (λ (s : SessionValue ImagesValue). Plays size_of image_of Keeps (lines_of script) s new put.replies ending) is put.plays;
+  };
+  puts = put.puts;
+}
+
+pub stops_script : (told : Type 0) (cart script : List ℕ) (old new : SessionValue ImagesValue) (out out' : SinkState) (result : Result Ending Failed) → old ≡ opened (images_with cart)
+    → OnErr result (StopsAtReply size_of image_of Keeps told (lines_of script) old new out out') → OnErr result (StopsScript told cart script out out')
+stops_script told cart script old new out out' (Ok ending) is stops = tt
+stops_script told cart script old new out out' (Err failed) is stops = record {
+  after = new;
+  stops = subst (λ (s : SessionValue ImagesValue). StopsAtReply size_of image_of Keeps told (lines_of script) s new out out') is stops;
+}

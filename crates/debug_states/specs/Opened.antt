@@ -2,8 +2,9 @@
 use Rattle.std.specs.Prelude.{ℕ, false, List, [], ◌∷◌}
 use Rattle.debug_kept.specs.Kept.{padded}
 use Rattle.text_lines.specs.Lines.{lines_of}
-use Rattle.debug_script.specs.Scripts.{Plays}
+use Rattle.debug_script.specs.Scripts.{Plays, PutsWhole, StopsAtReply}
 use Rattle.debug_script.specs.declared.script.Ending.{Ending}
+use Rattle.md_outer.specs.Outside.{SinkState}
 use Rattle.md_pads.specs.Recording.{no_frames}
 use Rattle.md_debug.specs.Sessions.{SessionValue}
 use Rattle.state_images.specs.Images.{ImagesValue, Keeps, first_of, image_of, size_of}
@@ -26,3 +27,14 @@ opened images = record {
 pub record PlaysScript (cart script : List ℕ) (replies : List ℕ) (ending : Ending) : Type 0 where
   pub after : SessionValue ImagesValue
   pub plays : Plays size_of image_of Keeps (lines_of script) (opened (images_with cart)) after replies ending
+
+-- the lines of a script come to this ending there, and the replies to those that were obeyed were put
+pub record PutsScript (told : Type 0) (cart script : List ℕ) (out out' : SinkState) (ending : Ending) : Type 0 where
+  pub replies : List ℕ
+  pub plays : PlaysScript cart script replies ending
+  pub puts : PutsWhole told replies out out'
+
+-- a reply to a line of a script could not be put there: the replies before it were put, and a front part of it
+pub record StopsScript (told : Type 0) (cart script : List ℕ) (out out' : SinkState) : Type 0 where
+  pub after : SessionValue ImagesValue
+  pub stops : StopsAtReply size_of image_of Keeps told (lines_of script) (opened (images_with cart)) after out out'

@@ -1,8 +1,9 @@
-ghost use Rattle.std.specs.Prelude.{◌≡◌, IfOk};
-ghost use Rattle.debug_states.specs.Opened.{PlaysScript, images_with, opened};
+ghost use Rattle.std.specs.Prelude.{◌≡◌, IfOk, OnErr};
+ghost use Rattle.debug_states.specs.Opened.{PutsScript, StopsScript, images_with, opened};
 
-use debug_script::{Ending, Played, play};
+use debug_script::{Ending, play};
 use md_debug::Session;
+use md_outer::{Failed, Sink};
 use md_pads::Recording;
 use md_word::NoMemory;
 use rom_header::Cart;
@@ -37,24 +38,32 @@ fn session_with(alloc: Global, cart: Cart) -> Result<Session<StateImages>, NoMem
     open(alloc, images)
 }
 
-/// What a script comes to at power-on of a cartridge: the replies to its lines in their order, up to the first
-/// line that is refused.
-pub fn play_script(alloc: Global, cart: Cart, script: &[u8]) -> Played
-    ensures { PlaysScript cart script.now result.replies.items result.ending }
+/// Obeys the lines of a script one after another at power-on of a cartridge, up to the first one that is refused,
+/// and puts the reply to each before the next one is obeyed. Where a reply cannot be put, no further line is obeyed.
+pub fn play_script<S: Sink>(
+    alloc: Global,
+    cart: Cart,
+    script: &[u8],
+    out: &mut S,
+) -> Result<Ending, Failed>
+    ensures ends { IfOk result (λ ending. PutsScript S.told cart script.now (S.state out.old) (S.state out.new) ending) }
+    ensures stops { OnErr result (StopsScript S.told cart script.now (S.state out.old) (S.state out.new)) }
 {
     match session_with(alloc, cart) {
-        Ok(session) => played(alloc, session, script),
-        Err(NoMemory) => Played {
-            replies: Vec::new(alloc),
-            ending: Ending::OutOfMemory,
-        },
+        Ok(session) => played(session, script, out),
+        Err(NoMemory) => Ok(Ending::OutOfMemory),
     }
 }
 
-/// What it comes to in a session.
-fn played(alloc: Global, session: Session<StateImages>, script: &[u8]) -> Played
-    ensures { (cart : _) → session ≡ opened (images_with cart) → PlaysScript cart script.now result.replies.items result.ending }
+/// Plays it in a session.
+fn played<S: Sink>(
+    session: Session<StateImages>,
+    script: &[u8],
+    out: &mut S,
+) -> Result<Ending, Failed>
+    ensures ends { (cart : _) → session ≡ opened (images_with cart) → IfOk result (λ ending. PutsScript S.told cart script.now (S.state out.old) (S.state out.new) ending) }
+    ensures stops { (cart : _) → session ≡ opened (images_with cart) → OnErr result (StopsScript S.told cart script.now (S.state out.old) (S.state out.new)) }
 {
     let mut session = session;
-    play(alloc, &mut session, script)
+    play(&mut session, script, out)
 }

@@ -6,6 +6,7 @@ pub mod Counts
 pub mod Emptied
 pub mod FrameCounts
 pub mod Frames
+pub mod Halves
 pub mod Handed
 pub mod Held
 pub mod Joined

@@ -5,6 +5,7 @@ pub mod Cores
 pub mod Drained
 pub mod First
 pub mod FmCode
+pub mod Halves
 pub mod Laws
 pub mod LineLaws
 pub mod Lines

@@ -3,14 +3,19 @@
 ghost use Rattle.std.specs.Prelude.{◌≡◌, ℕ, Bool, ◌+◌, ◌-◌, ◌*◌, ◌/◌, ◌^◌, ◌<◌, ◌≤◌, ◌++◌, List, length};
 ghost use Rattle.md_word.specs.declared.event.Entry.{Entry};
 ghost use Rattle.chip_core.specs.Limits.{events_within};
+ghost use Rattle.chip_core.specs.Machines as machines;
+ghost use Rattle.bus_shared.specs.Board.{Board, IsBoard};
 ghost use Rattle.md_pads.specs.Recording.{Recorded};
-ghost use Rattle.md_machine.specs.Console.{AllBelow, Console, IsQuiet, IsRunTo, journal, key_in, media_after, mover, power_on, ran};
+ghost use Rattle.md_machine.specs.Console.{AllBelow, Console, IsQuiet, IsRunTo, journal, key_in, media_after, moved, mover, power_on, ran};
+ghost use Rattle.md_machine.specs.Halves.{LeavesChip};
 ghost use Rattle.md_machine.specs.Lists.{ListsEndAsRun};
 ghost use Rattle.md_machine.specs.Owners.{HasOneOwner};
 ghost use Rattle.md_machine.specs.Pads.{ShowsPads};
-ghost use Rattle.md_machine.specs.Rules.{five};
+ghost use Rattle.md_machine.specs.Refinement.{console_of};
+ghost use Rattle.md_machine.specs.Rules.{IsChip, five};
 ghost use Rattle.md_machine.specs.ValidParts.{HasValidParts};
 ghost use Rattle.md_machine.specs.Starts.{IsStart, Start, batches_below, frames_below};
+ghost use Rattle.md_machine.specs.declared.chips.Chip.{Chip};
 ghost use Rattle.md_machine.specs.Media as outputs;
 ghost use Rattle.md_machine.specs.Media.{Media};
 
@@ -122,6 +127,14 @@ pub fn one_owner(cart: &Cart)
     cart.bytes();
     laws::stages::<MdChips>();
 }
+
+/// Of an access the half under the lock leaves each field of the chip, but for what its request hands over; so all
+/// private work is done by the other half. Both together, or a sample, are the move of the machine as it is defined.
+pub fn halves_are_moves()
+    ensures leaves { (chip : Chip) (board : Board) → LeavesChip chip (five.perform chip board).chip }
+    ensures moved { (m : machines.Machine Chip Board) (i : ℕ) → machines.IsValid five IsChip IsBoard m → i < 5
+        → console_of (machines.move five m i) ≡ moved (console_of m) i }
+{}
 
 /// The parts of a machine are valid.
 pub fn parts_are_valid(machine: &Machine)

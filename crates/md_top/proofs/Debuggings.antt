@@ -1,40 +1,42 @@
 -- A session of the debugger: what a status tells of its ending.
-use Rattle.std.proofs.Common.{◌≡◌, ◌≢◌, ◌⊎◌, inl, inr, ℕ, ◌<◌, ◌≤◌, Bool, cond, List, [], length, Option, Some, None, refl, sym, ap, subst, ◌∙◌, arith}
+use Rattle.std.proofs.Common.{◌≡◌, ◌≢◌, ◌⊎◌, inl, inr, ℕ, ◌<◌, ◌≤◌, Bool, cond, List, [], ◌++◌, length, Err, Option, Some, None, refl, sym, ap, subst, ◌∙◌, arith}
 use Rattle.std.specs.Prelude.{IsSomeAnd, unwrap_or}
 use Rattle.std.proofs.lemmas.Bool.{le-ltb, lt-ltb}
-use Rattle.md_outer.specs.Outside.{DepotState, Files, GoesOn, Rose}
+use Rattle.md_debug.specs.Sessions.{reply_to}
+use Rattle.md_outer.specs.Outside.{DepotState, Files, GoesOn, Rose, SinkState}
 use Rattle.md_args.specs.Words.{Assembling, Conversion, Debug, Debugging, Demo, Run}
 use Rattle.debug_script.specs.declared.script.Ending.{Ending as ScriptEnding}
 use Rattle.debug_script.specs.declared.script.Ending.TheVariants.{Obeyed, OutOfMemory, Refused}
-use Rattle.debug_states.specs.Opened.{PlaysScript}
+use Rattle.debug_states.specs.Opened.{PlaysScript, PutsScript, StopsScript}
 use Rattle.debug_states.proofs.Scripts.{one_script}
 use Rattle.md_top.specs.Assemblies.{AsmEnds}
 use Rattle.md_top.specs.Conversions.{ConvertEnds}
-use Rattle.md_top.specs.Debuggings.{CanDebug, DebugEnds, IsPlayed, IsRefusedScript, IsScripted, Scripted, played_ending, script_limit}
+use Rattle.md_top.specs.Debuggings.{CanDebug, DebugEnds, IsPlayed, IsRefusedScript, IsScripted, Scripted, ShowsReplies, played_ending, script_limit}
 use Rattle.md_top.specs.Demos.{DemoEnds}
 use Rattle.md_top.specs.Endings.{InfoEnds, RunEnds, debug_ending, script_ending, status_of}
 use Rattle.md_top.specs.Inputs.{CartCause, IsAccepted, IsMissing, cart_of}
 use Rattle.md_top.specs.declared.ending.Ending.{Ending}
-use Rattle.md_top.specs.declared.ending.Ending.TheVariants.{Behind, DemoDone, FramesFault, InputRefused, JournalFault, ListFault, LoadFault, Memory, OtherCart, OutputFault, ReadFault, RecordingFault, RecordingWrong, SaveFault, ScriptFault, ScriptMemory, ScriptRefused, ScriptTooLong, Shown, SoundFault, SourceRefused, StateWrong, TooFar, Usage}
+use Rattle.md_top.specs.declared.ending.Ending.TheVariants.{Behind, DemoDone, FramesFault, InputRefused, JournalFault, ListFault, LoadFault, Memory, OtherCart, OutputFault, Played, ReadFault, RecordingFault, RecordingWrong, ReplyFault, SaveFault, ScriptFault, ScriptMemory, ScriptRefused, ScriptTooLong, SoundFault, SourceRefused, StateWrong, TooFar, Usage}
 use Rattle.md_top.proofs.Kept.{unread_before}
+use Rattle.md_top.proofs.Puts.{puts_on}
 use Rattle.md_top.proofs.Right.{cart_always, cart_there, file_there, file_within, right_accepted}
 use Rattle.md_top.proofs.Statuses.{missing_cart}
 
 -- no other command refuses a script
 pub info_script : (told : Type 0) (rom : List ℕ) (old new : DepotState) (ending : Ending) → InfoEnds told rom old new ending → status_of ending ≡ 15 → ⊥
-info_script told rom old new (ScriptRefused replies line fault) cause is = absurd cause
+info_script told rom old new (ScriptRefused line fault) cause is = absurd cause
 info_script told rom old new _ cause is = absurd (omega (arith, is))
 
 pub run_script : (told : Type 0) (run : Run) (old new : DepotState) (ending : Ending) → RunEnds told run old new ending → status_of ending ≡ 15 → ⊥
-run_script told run old new (ScriptRefused replies line fault) cause is = absurd cause.1
+run_script told run old new (ScriptRefused line fault) cause is = absurd cause.1
 run_script told run old new _ cause is = absurd (omega (arith, is))
 
 pub convert_script : (told : Type 0) (conversion : Conversion) (old new : DepotState) (ending : Ending) → ConvertEnds told conversion old new ending → status_of ending ≡ 15 → ⊥
-convert_script told conversion old new (ScriptRefused replies line fault) cause is = absurd cause
+convert_script told conversion old new (ScriptRefused line fault) cause is = absurd cause
 convert_script told conversion old new _ cause is = absurd (omega (arith, is))
 
 pub asm_script : (told : Type 0) (words : Assembling) (old new : DepotState) (ending : Ending) → AsmEnds told words old new ending → status_of ending ≡ 15 → ⊥
-asm_script told words old new (ScriptRefused replies line fault) cause is = absurd cause
+asm_script told words old new (ScriptRefused line fault) cause is = absurd cause
 asm_script told words old new _ cause is = absurd (omega (arith, is))
 
 pub demo_script : (demo : Demo) (ending : Ending) → DemoEnds demo ending → status_of ending ≡ 15 → ⊥
@@ -89,7 +91,7 @@ module _ (told : Type 0) (words : Debugging) (old new : DepotState) where
   debug_source _ cause is = absurd (omega (arith, is))
 
   pub debug_refused : (ending : Ending) → Ends ending → status_of ending ≡ 15 → IsRefusedScript told words old.files
-  debug_refused (ScriptRefused replies line fault) cause is = (replies, line, fault, cause)
+  debug_refused (ScriptRefused line fault) cause is = (cause.0, line, fault, cause.1)
   debug_refused _ cause is = absurd (omega (arith, is))
 
   pub debug_write_fault : (ending : Ending) → Ends ending → status_of ending ≡ 4 → Rose old.write_faults new.write_faults
@@ -125,22 +127,22 @@ script_missing file script none = ap (λ (f : Option (List ℕ)). script_ending 
 script_long : (file : Option (List ℕ)) (script : Scripted) → IsSomeAnd file (λ bytes. script_limit < length bytes) → script_ending file script ≡ ScriptTooLong
 script_long None script long = absurd long
 script_long (Some bytes) script long =
-    ap (λ (b : Bool). cond b ScriptTooLong (played_ending script.replies script.ending)) (lt-ltb script_limit (length bytes) long)
+    ap (λ (b : Bool). cond b ScriptTooLong (played_ending script.ending)) (lt-ltb script_limit (length bytes) long)
 
 -- the script that is played
 script_played : (file : Option (List ℕ)) (cart replies : List ℕ) (ending : ScriptEnding) → IsSomeAnd file (λ script. (length script ≤ script_limit) × PlaysScript cart script replies ending)
-    → (script_ending file (record { replies = replies; ending = ending }) ≡ played_ending replies ending) × PlaysScript cart (unwrap_or file []) replies ending
+    → (script_ending file (record { replies = replies; ending = ending }) ≡ played_ending ending) × PlaysScript cart (unwrap_or file []) replies ending
 script_played None cart replies ending played = absurd played
 script_played (Some bytes) cart replies ending (within, plays) =
-    (ap (λ (b : Bool). cond b ScriptTooLong (played_ending replies ending)) (le-ltb script_limit (length bytes) within), plays)
+    (ap (λ (b : Bool). cond b ScriptTooLong (played_ending ending)) (le-ltb script_limit (length bytes) within), plays)
 
 debug_played : (words : Debugging) (files : Files) (replies : List ℕ) (ending : ScriptEnding) → IsPlayed words files replies ending
-    → debug_ending words files (record { replies = replies; ending = ending }) ≡ played_ending replies ending
+    → debug_ending words files (record { replies = replies; ending = ending }) ≡ played_ending ending
 debug_played words files replies ending (accepted, played) =
     right_accepted (files words.rom) _ accepted ∙ (script_played (files words.script) (cart_of words.rom files) replies ending played).0
 
 debug_with : (words : Debugging) (files : Files) (replies : List ℕ) (ending : ScriptEnding) → IsPlayed words files replies ending → ending ≢ OutOfMemory
-    → IsDebugRight words files (status_of (played_ending replies ending))
+    → IsDebugRight words files (status_of (played_ending ending))
 debug_with words files replies ending played memory = (
   record { replies = replies; ending = ending },
   inl ((script_played (files words.script) (cart_of words.rom files) replies ending played.1).1, memory),
@@ -160,20 +162,21 @@ debug_cart told words old new ending cause clean t = elim (cart_always told word
   | inr memory ↦ inr memory
 ]
 
-pub debug_right : (told : Type 0) (words : Debugging) (old new : DepotState) (ending : Ending) → DebugEnds told words old new ending
+pub debug_right : (told : Type 0) (words : Debugging) (old new : DepotState) (ending : Ending) → DebugEnds told words old new ending → (ending ≡ ReplyFault → ⊥)
     → ¬ Rose old.read_faults new.read_faults → told → IsDebugRight words old.files (status_of ending) ⊎ (status_of ending ≡ 10)
-debug_right told words old new (Shown replies) cause clean t = inl (debug_with words old.files replies Obeyed (cause t) not_obeyed)
-debug_right told words old new (ScriptRefused replies line fault) cause clean t =
-    inl (debug_with words old.files replies (Refused line fault) (cause t) (not_refused line fault))
-debug_right told words old new (ScriptMemory replies) cause clean t = inr refl
-debug_right told words old new ScriptFault (accepted, inl rose) clean t = absurd (clean rose)
-debug_right told words old new ScriptFault (accepted, inr missing) clean t =
+debug_right told words old new Played (replies, played) whole clean t = inl (debug_with words old.files replies Obeyed (played t) not_obeyed)
+debug_right told words old new ReplyFault cause whole clean t = absurd (whole refl)
+debug_right told words old new (ScriptRefused line fault) (replies, played) whole clean t =
+    inl (debug_with words old.files replies (Refused line fault) (played t) (not_refused line fault))
+debug_right told words old new ScriptMemory cause whole clean t = inr refl
+debug_right told words old new ScriptFault (accepted, inl rose) whole clean t = absurd (clean rose)
+debug_right told words old new ScriptFault (accepted, inr missing) whole clean t =
     inl (debug_without words old.files ScriptFault ScriptFault
     (λ script. right_accepted (old.files words.rom) _ (accepted t) ∙ script_missing (old.files words.script) script missing.1) refl)
-debug_right told words old new ScriptTooLong (accepted, long) clean t =
+debug_right told words old new ScriptTooLong (accepted, long) whole clean t =
     inl (debug_without words old.files ScriptTooLong ScriptTooLong
     (λ script. right_accepted (old.files words.rom) _ (accepted t) ∙ script_long (old.files words.script) script (long t)) refl)
-debug_right told words old new other cause clean t = debug_cart told words old new other cause clean t
+debug_right told words old new other cause whole clean t = debug_cart told words old new other cause clean t
 
 -- ---- each line is obeyed
 
@@ -186,32 +189,53 @@ script_obeyed (Some bytes) cart replies others line fault all refused =
     cc
 
 pub debug_done : (told : Type 0) (words : Debugging) (old new : DepotState) (ending : Ending) → CanDebug words old.files → DebugEnds told words old new ending
-    → ¬ Rose old.read_faults new.read_faults → told → (status_of ending ≡ 0) ⊎ (status_of ending ≡ 10)
-debug_done told words old new (Shown replies) ready cause clean t = inl refl
-debug_done told words old new (ScriptRefused replies line fault) ready cause clean t =
-    absurd (script_obeyed (old.files words.script) (cart_of words.rom old.files) ready.0 replies line fault ready.1.1 (cause t).1)
-debug_done told words old new (ScriptMemory replies) ready cause clean t = inr refl
-debug_done told words old new ScriptFault ready (accepted, inl rose) clean t = absurd (clean rose)
-debug_done told words old new ScriptFault ready (accepted, inr missing) clean t = absurd (file_there (old.files words.script) _ ready.1.1 missing.1)
-debug_done told words old new ScriptTooLong ready (accepted, long) clean t = absurd (file_within script_limit (old.files words.script) _ ready.1.1 (long t))
-debug_done told words old new other ready cause clean t = cart_there told words.rom old new other ready.1.0 cause clean t
+    → (ending ≡ ReplyFault → ⊥) → ¬ Rose old.read_faults new.read_faults → told → (status_of ending ≡ 0) ⊎ (status_of ending ≡ 10)
+debug_done told words old new Played ready cause whole clean t = inl refl
+debug_done told words old new ReplyFault ready cause whole clean t = absurd (whole refl)
+debug_done told words old new (ScriptRefused line fault) ready (replies, played) whole clean t =
+    absurd (script_obeyed (old.files words.script) (cart_of words.rom old.files) ready.0 replies line fault ready.1.1 (played t).1)
+debug_done told words old new ScriptMemory ready cause whole clean t = inr refl
+debug_done told words old new ScriptFault ready (accepted, inl rose) whole clean t = absurd (clean rose)
+debug_done told words old new ScriptFault ready (accepted, inr missing) whole clean t = absurd (file_there (old.files words.script) _ ready.1.1 missing.1)
+debug_done told words old new ScriptTooLong ready (accepted, long) whole clean t = absurd (file_within script_limit (old.files words.script) _ ready.1.1 (long t))
+debug_done told words old new other ready cause whole clean t = cart_there told words.rom old new other ready.1.0 cause clean t
 
 -- ---- what was fetched
 
 -- why a session ends behind its cartridge
-pub played_cause : (told : Type 0) (words : Debugging) (old new : DepotState) (cart script replies : List ℕ) (ending : ScriptEnding)
-    → (told → IsAccepted (old.files words.rom) × (cart ≡ cart_of words.rom old.files)) → (told → old.files words.script ≡ Some script) → length script ≤ script_limit
-    → PlaysScript cart script replies ending → DebugEnds told words old new (played_ending replies ending)
-played_cause told words old new cart script replies ending found is within plays = by ending (λ t. (
+played_files : (told : Type 0) (words : Debugging) (files : Files) (cart script : List ℕ) (P : List ℕ → List ℕ → Type 0)
+    → (told → IsAccepted (files words.rom) × (cart ≡ cart_of words.rom files)) → (told → files words.script ≡ Some script) → length script ≤ script_limit → P cart script
+    → told → IsAccepted (files words.rom) × IsSomeAnd (files words.script) (λ s. (length s ≤ script_limit) × P (cart_of words.rom files) s)
+played_files told words files cart script P found is within plays t = (
   (found t).0,
-  subst (λ (f : Option (List ℕ)). IsSomeAnd f (λ s. (length s ≤ script_limit) × PlaysScript (cart_of words.rom old.files) s replies ending)) (sym (is t))
-      (within, subst (λ (c : List ℕ). PlaysScript c script replies ending) (found t).1 plays),
-))
+  subst (λ (f : Option (List ℕ)). IsSomeAnd f (λ s. (length s ≤ script_limit) × P (cart_of words.rom files) s)) (sym (is t))
+      (within, subst (λ (c : List ℕ). P c script) (found t).1 plays),
+)
+
+pub played_cause : (told sink : Type 0) (words : Debugging) (old new : DepotState) (cart script : List ℕ) (out out' : SinkState) (ending : ScriptEnding)
+    → (told → IsAccepted (old.files words.rom) × (cart ≡ cart_of words.rom old.files)) → (told → old.files words.script ≡ Some script) → length script ≤ script_limit
+    → PutsScript sink cart script out out' ending
+    → DebugEnds told words old new (played_ending ending) × ShowsReplies told sink words old.files (played_ending ending) out out'
+played_cause told sink words old new cart script out out' ending found is within put =
+    by ending (played_files told words old.files cart script (λ c s. PlaysScript c s put.replies ending) found is within put.plays)
   where
-    by : (e : ScriptEnding) → (told → IsPlayed words old.files replies e) → DebugEnds told words old new (played_ending replies e)
-    by Obeyed played = played
-    by (Refused line fault) played = played
-    by OutOfMemory played = played
+    by : (e : ScriptEnding) → (told → IsPlayed words old.files put.replies e) → DebugEnds told words old new (played_ending e) × ShowsReplies told sink words old.files (played_ending e) out out'
+    by Obeyed played = ((put.replies, played), (put.replies, played, put.puts))
+    by (Refused line fault) played = ((put.replies, played), (put.replies, played, put.puts))
+    by OutOfMemory played = ((put.replies, played), (put.replies, played, put.puts))
+
+-- a reply could not be put
+pub stopped_cause : (told sink : Type 0) (words : Debugging) (old new : DepotState) (cart script : List ℕ) (out out' : SinkState)
+    → (told → IsAccepted (old.files words.rom) × (cart ≡ cart_of words.rom old.files)) → (told → old.files words.script ≡ Some script) → length script ≤ script_limit
+    → StopsScript sink cart script out out' → DebugEnds told words old new ReplyFault × ShowsReplies told sink words old.files ReplyFault out out'
+stopped_cause told sink words old new cart script out out' found is within stopped = let stops = stopped.stops in (
+  λ t. ((found t).0, subst (λ (f : Option (List ℕ)). IsSomeAnd f (λ s. length s ≤ script_limit)) (sym (is t)) within),
+  (
+    stops.replies ++ reply_to stops.command stopped.after,
+    played_files told words old.files cart script (λ c s. StopsScript sink c s out out') found is within stopped,
+    puts_on sink stops.replies (reply_to stops.command stopped.after) out stops.between out' (Err tt) stops.puts stops.fails,
+  ),
+)
 
 pub unread_cause : (told : Type 0) (words : Debugging) (old mid new : DepotState) → (told → IsAccepted (old.files words.rom)) → (told → mid.files ≡ old.files) → GoesOn old mid
     → Rose mid.read_faults new.read_faults ⊎ (told × (mid.files words.script ≡ None)) → DebugEnds told words old new ScriptFault
@@ -223,10 +247,12 @@ long_cause told words old mid new accepted same long =
     (accepted, λ t. subst (λ (files : Files). IsSomeAnd (files words.script) (λ script. script_limit < length script)) (same t) (long t))
 
 -- why a session has no cartridge
-pub cart_ends : (told : Type 0) (words : Debugging) (old new : DepotState) (ending : Ending) → CartCause told words.rom old new ending → DebugEnds told words old new ending
-cart_ends told words old new (Shown lines) cause = absurd cause
-cart_ends told words old new (ScriptRefused replies line fault) cause = absurd cause
-cart_ends told words old new (ScriptMemory replies) cause = absurd cause
-cart_ends told words old new ScriptFault cause = absurd cause
-cart_ends told words old new ScriptTooLong cause = absurd cause
-cart_ends told words old new _ cause = cause
+pub cart_ends : (told sink : Type 0) (words : Debugging) (old new : DepotState) (out : SinkState) (ending : Ending) → CartCause told words.rom old new ending
+    → DebugEnds told words old new ending × ShowsReplies told sink words old.files ending out out
+cart_ends told sink words old new out Played cause = absurd cause
+cart_ends told sink words old new out ReplyFault cause = absurd cause
+cart_ends told sink words old new out (ScriptRefused line fault) cause = absurd cause
+cart_ends told sink words old new out ScriptMemory cause = absurd cause
+cart_ends told sink words old new out ScriptFault cause = absurd cause
+cart_ends told sink words old new out ScriptTooLong cause = absurd cause
+cart_ends told sink words old new out _ cause = (cause, refl)

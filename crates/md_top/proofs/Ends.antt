@@ -2,12 +2,12 @@
 use Rattle.std.proofs.Common.{◌≡◌, ◌≢◌, ℕ, ◌^◌, ◌<◌, ◌≤◌, List, Result, Ok, Err, Option, Some, None, append-nil, subst, sym, ◌∙◌, arith}
 use Rattle.std.specs.Prelude.{IfErr, IsSome, OnOk, OnErr}
 use Rattle.md_outer.specs.Outside.{DepotState, Files, GoesOn}
-use Rattle.md_top.specs.Endings.{HoldsUntil, RunCause, RunEnds, RunFiles, RunLeaves}
+use Rattle.md_top.specs.Endings.{HoldsUntil, RunCause, RunEnds, RunFiles, RunLeaves, RunsFrom}
 use Rattle.md_top.specs.Inputs.{InputCause}
 use Rattle.md_word.specs.Clock.{last_cycle}
 use Rattle.md_top.specs.Limits.{IsEnd}
 use Rattle.md_top.specs.Loads.{Begins, LoadCause, MayBeginAt}
-use Rattle.md_top.specs.Outputs.{Adds, AddsParts, AreBegun, Holds, IsBegun, IsUnwritten, IsWriteFault, LeavesParts, Pieces, lengthened, nothing}
+use Rattle.md_top.specs.Outputs.{Adds, AddsParts, AreBegun, Holds, IsBegun, IsUnwritten, IsWriteFault, LeavesParts, Pieces, all_of, lengthened, nothing}
 use Rattle.md_top.specs.Runs.{RunLaws, frames_to, journal_to, pieces_of, pieces_until, sound_until, state_to}
 use Rattle.md_machine.specs.Starts.{IsStart, Start}
 use Rattle.md_args.specs.Words.{Run}
@@ -150,30 +150,45 @@ refused-leaves told run old new SaveFault cause same = absurd cause
 refused-leaves told run old new Memory cause same = untouched run old.files new.files same
 refused-leaves told run old new _ cause same = same
 
--- a run that found its start
-pub end-of-run : (told : Type 0) (run : Run) (start : Start) (old mid new : DepotState) (ending : Ending) → IsEnd run.cycles → MayBeginAt run start.at
-    → (told → Begins run old.files start) → start.at < run.cycles → GoesOn old mid → RunCause start run mid new ending → RunEnds told run old new ending
-end-of-run told run start old mid new (Done from frames accesses halted) end may begins ahead on cause =
-    (end, (λ none. cause.from ∙ may none), λ t. (start, begins t, ahead, cause))
-end-of-run told run start old mid new Memory end may begins ahead on cause = tt
-end-of-run told run start old mid new FramesFault end may begins ahead on cause =
-    (end, λ t. (start, begins t, ahead), cause-before start run old mid new FramesFault on cause)
-end-of-run told run start old mid new SoundFault end may begins ahead on cause =
-    (end, λ t. (start, begins t, ahead), cause-before start run old mid new SoundFault on cause)
-end-of-run told run start old mid new JournalFault end may begins ahead on cause =
-    (end, λ t. (start, begins t, ahead), cause-before start run old mid new JournalFault on cause)
-end-of-run told run start old mid new SaveFault end may begins ahead on cause =
-    (end, λ t. (start, begins t, ahead), cause-before start run old mid new SaveFault on cause)
-end-of-run told run start old mid new _ end may begins ahead on cause = absurd cause
+-- a run that found its start; it found it there alone
+abbrev AreOne : Type 0
+AreOne = (run : Run) (files : Files) (a b : Start) → Begins run files a → Begins run files b → a ≡ b
 
-pub files-of-run : (run : Run) (start : Start) (old new : Files) (ending : Ending) → Begins run old start → RunLeaves start run old new ending → RunFiles run old new ending
-files-of-run run start old new (Done from frames accesses halted) begins leaves = (start, begins, leaves)
-files-of-run run start old new FramesFault begins leaves = (start, begins, leaves)
-files-of-run run start old new SoundFault begins leaves = (start, begins, leaves)
-files-of-run run start old new JournalFault begins leaves = (start, begins, leaves)
-files-of-run run start old new SaveFault begins leaves = (start, begins, leaves)
-files-of-run run start old new Memory begins leaves = leaves
-files-of-run run start old new _ begins leaves = leaves
+run-from : (run : Run) (start : Start) (old mid new : DepotState) (ending : Ending) → AreOne → Begins run old.files start → start.at < run.cycles → GoesOn old mid
+    → RunCause start run mid new ending → RunLeaves start run old.files new.files ending → RunsFrom run old new ending
+run-from run start old mid new ending one begins ahead on cause leaves = record {
+  start = start;
+  begins = begins;
+  alone = λ other also. one run old.files other start also begins;
+  above = ahead;
+  cause = cause-before start run old mid new ending on cause;
+  files = leaves;
+}
+
+pub end-of-run : (told : Type 0) (run : Run) (start : Start) (old mid new : DepotState) (ending : Ending) → AreOne → IsEnd run.cycles → MayBeginAt run start.at
+    → (told → Begins run old.files start) → start.at < run.cycles → GoesOn old mid → RunCause start run mid new ending
+    → (told → RunLeaves start run old.files new.files ending) → RunEnds told run old new ending
+end-of-run told run start old mid new (Done from frames accesses halted) one end may begins ahead on cause leaves =
+    (end, (λ none. cause.from ∙ may none), λ t. run-from run start old mid new (Done from frames accesses halted) one (begins t) ahead on cause (leaves t))
+end-of-run told run start old mid new Memory one end may begins ahead on cause leaves = tt
+end-of-run told run start old mid new FramesFault one end may begins ahead on cause leaves =
+    (end, (λ t. run-from run start old mid new FramesFault one (begins t) ahead on cause (leaves t)), cause-before start run old mid new FramesFault on cause)
+end-of-run told run start old mid new SoundFault one end may begins ahead on cause leaves =
+    (end, (λ t. run-from run start old mid new SoundFault one (begins t) ahead on cause (leaves t)), cause-before start run old mid new SoundFault on cause)
+end-of-run told run start old mid new JournalFault one end may begins ahead on cause leaves =
+    (end, (λ t. run-from run start old mid new JournalFault one (begins t) ahead on cause (leaves t)), cause-before start run old mid new JournalFault on cause)
+end-of-run told run start old mid new SaveFault one end may begins ahead on cause leaves =
+    (end, (λ t. run-from run start old mid new SaveFault one (begins t) ahead on cause (leaves t)), cause-before start run old mid new SaveFault on cause)
+end-of-run told run start old mid new _ one end may begins ahead on cause leaves = absurd cause
+
+pub files-of-run : (run : Run) (start : Start) (old new : Files) (ending : Ending) → RunLeaves start run old new ending → RunFiles run old new ending
+files-of-run run start old new (Done from frames accesses halted) leaves = (all_of (pieces_of start run.cycles), leaves)
+files-of-run run start old new FramesFault leaves = (leaves.parts, leaves.files)
+files-of-run run start old new SoundFault leaves = (leaves.parts, leaves.files)
+files-of-run run start old new JournalFault leaves = (leaves.parts, leaves.files)
+files-of-run run start old new SaveFault leaves = (leaves.parts, leaves.files)
+files-of-run run start old new Memory leaves = leaves
+files-of-run run start old new _ leaves = leaves
 
 -- a run that found no machine
 pub load-ends : (told : Type 0) (run : Run) (old new : DepotState) (ending : Ending) → run.cycles ≤ last_cycle → LoadCause told run old new ending → RunEnds told run old new ending

@@ -18,5 +18,6 @@ pub mod Right
 pub mod Rollings
 pub mod Rows
 pub mod Segments
+pub mod Starts
 pub mod Statuses
 pub mod Writes

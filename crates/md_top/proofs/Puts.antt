@@ -2,6 +2,7 @@
 use Rattle.std.proofs.Common.{◌≡◌, ℕ, ◌≤◌, List, [], ◌++◌, Result, Ok, Err, ◌⊎◌, inl, inr, ap, ◌∙◌, sym, append-nil, append_assoc, arith}
 use Rattle.std.specs.Prelude.{OnErr, OnOk}
 use Rattle.md_top.specs.Answers.{PutsAll, PutsOutput, PutsPart}
+use Rattle.debug_script.proofs.Scripts.{puts_more}
 use Rattle.md_outer.specs.Outside.{IsPrefix, PutsText, Rose, SinkState}
 use Rattle.md_top.proofs.Writes.{prefix-append}
 
@@ -14,12 +15,7 @@ rose_later before mid now later rose = omega arith
 -- a second text behind one that was put
 pub puts_on : {E F : Type 0} (told : Type 0) (first second : List ℕ) (old mid new : SinkState) (result : Result (Unit {0}) F)
     → PutsText {E = E} told first old mid (Ok tt) → PutsText told second mid new result → PutsText told (first ++ second) old new result
-puts_on told first second old mid new (Ok done) one two = record {
-  later = omega (arith, one.later, two.later);
-  whole = λ t. two.whole t ∙ ap (λ (l : List ℕ). l ++ second) (one.whole t) ∙ append_assoc old.bytes first second;
-  failed = tt;
-  part = tt;
-}
+puts_on told first second old mid new (Ok done) one two = puts_more told first second old mid new one two
 puts_on told first second old mid new (Err fault) one two = record {
   later = omega (arith, one.later, two.later);
   whole = tt;
@@ -30,10 +26,6 @@ puts_on told first second old mid new (Err fault) one two = record {
     (two.part t).2 ∙ ap (λ (l : List ℕ). l ++ (two.part t).0) (one.whole t) ∙ append_assoc old.bytes first (two.part t).0,
   );
 }
-
--- no text is put without a call
-pub puts_none : {E : Type 0} (told : Type 0) (old : SinkState) → PutsText {E = E} told [] old old (Ok tt)
-puts_none told old = record { later = omega arith; whole = λ t. sym (append-nil old.bytes); failed = tt; part = tt }
 
 -- no second text behind one that failed
 pub puts_stop : {E F : Type 0} (told : Type 0) (first second : List ℕ) (old new : SinkState) (e : E) (f : F)

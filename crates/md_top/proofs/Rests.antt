@@ -1,12 +1,14 @@
 -- A run that came to its end ends well.
-use Rattle.std.proofs.Common.{◌≡◌, ℕ, ◌^◌, ◌≤◌, List, ◌++◌, refl, sym, ap, subst, ◌∙◌, arith}
+use Rattle.std.proofs.Common.{◌≡◌, ℕ, ◌^◌, ◌≤◌, Bool, List, ◌++◌, refl, sym, ap, subst, ◌∙◌, arith}
 use Rattle.md_word.specs.declared.event.Entry.{Entry}
 use Rattle.md_machine.specs.Lists.{ListsEndAsRun}
 use Rattle.md_machine.specs.Console.{Console, IsRunTo}
 use Rattle.md_machine.specs.Machines.{MachineValue}
-use Rattle.md_machine.specs.Media.{joined}
-use Rattle.md_machine.specs.Starts.{Start}
+use Rattle.md_machine.specs.Media.{Media, joined}
+use Rattle.md_machine.specs.Outputs.{frames_bytes, journal_bytes, sound_bytes}
+use Rattle.md_machine.specs.Starts.{IsStart, Start}
 use Rattle.md_machine.proofs.Kept.{cart-stays}
+use Rattle.md_machine.proofs.Regions.{run_stays}
 use Rattle.md_reached.specs.Reached.{IsReached}
 use Rattle.md_reached.specs.Settling.{GoesOn}
 use Rattle.save_state.specs.Ready.{IsReady}
@@ -15,23 +17,50 @@ use Rattle.save_state.specs.States.{kept_bytes, settled_console, state_bytes}
 use Rattle.md_top.specs.Courses.{CameTo}
 use Rattle.md_top.specs.Counts.{frames_between}
 use Rattle.md_top.specs.Limits.{IsEnd}
-use Rattle.md_top.specs.Resuming.{GoesOnFrom, IsKept, RunsWell, StateLaws}
-use Rattle.md_top.specs.Runs.{RunLaws, entries_from, halted_from, media_from, moves_from, run_from, state_to}
+use Rattle.md_top.specs.Resuming.{GoesOnFrom, IsKept, RunsWell, StateLaws, saved_start}
+use Rattle.md_top.specs.Runs.{RunLaws, entries_from, frames_to, halted_from, journal_to, media_from, moves_from, run_from, state_to}
 use Rattle.md_top.proofs.Counts.{frames-left, pairs-counted}
 use Rattle.md_top.proofs.LeastRuns.{Found, Later, later_run, run-found, run-made}
+use Rattle.md_top.proofs.Segments.{frames_bytes-append, journal_bytes-append, paired, sound_bytes-append}
+
+-- the bytes of the rest stand behind those of the first part
+rest-frames : (start : Start) (at end : ℕ) (output : Media) → RunLaws start → at ≤ 2 ^ 50 → media_from start end ≡ joined (media_from start at) output
+    → frames_to start end ≡ frames_to start at ++ frames_bytes (saved_start start at).console.pal output.frames
+unfolding frames_to
+rest-frames start at end output laws small more =
+    let region : (run_from start at).pal ≡ start.console.pal =
+    (run_stays start.console (run_from start at) at (entries_from start at) (media_from start at) (run-made start at laws small)).pal in
+    ap (λ (m : Media). frames_bytes start.console.pal m.frames) more
+    ∙ frames_bytes-append start.console.pal (media_from start at).frames output.frames
+    ∙ ap (λ (pal : Bool). frames_bytes start.console.pal (media_from start at).frames ++ frames_bytes pal output.frames) (sym region)
+
+rest-sound : (start : Start) (at end : ℕ) (output : Media) → IsStart start → RunLaws start → at ≤ 2 ^ 50 → media_from start end ≡ joined (media_from start at) output
+    → sound_bytes (media_from start end) ≡ sound_bytes (media_from start at) ++ sound_bytes output
+rest-sound start at end output is laws small more =
+    ap sound_bytes more ∙ sound_bytes-append (media_from start at) output (paired start at is laws small)
+
+rest-journal : (start : Start) (at end : ℕ) (later : List Entry) → entries_from start end ≡ entries_from start at ++ later
+    → journal_to start end ≡ journal_to start at ++ journal_bytes later
+unfolding journal_to
+rest-journal start at end later more = ap journal_bytes more ∙ journal_bytes-append (entries_from start at) later
 
 -- the saved state goes on as the run
-rest-goes-on : (start : Start) (at : ℕ) → RunLaws start → StateLaws → IsReached at (run_from start at) → GoesOnFrom start at
+rest-goes-on : (start : Start) (at : ℕ) → IsStart start → RunLaws start → StateLaws → IsReached at (run_from start at) → GoesOnFrom start at
 unfolding state_to
-rest-goes-on start at laws states reached = λ end after entries output within near run.
+rest-goes-on start at is laws states reached = λ end after entries output within near run.
     let more : Later start at end = later_run start at end laws (omega (arith, near)) within in
     let on : GoesOn end (settled_console at (run_from start at)) (run_from start end) more.entries more.output =
     states.goes_on (run_from start at) (run_from start end) at end more.entries more.output reached.parts reached.start.quiet within (omega (arith, near)) more.run in
     let one : (on.after ≡ after) × (more.entries ≡ entries) × (more.output ≡ output) =
     states.one_run (settled_console at (run_from start at)) on.after after end more.entries entries more.output output on.run run in
+    let made : entries_from start end ≡ entries_from start at ++ entries = more.more_entries ∙ ap (λ (l : List Entry). entries_from start at ++ l) one.1 in
+    let rendered : media_from start end ≡ joined (media_from start at) output = more.more_media ∙ ap (joined (media_from start at)) one.2 in
     record {
-      entries = more.more_entries ∙ ap (λ (l : List Entry). entries_from start at ++ l) one.1;
-      media = more.more_media ∙ ap (joined (media_from start at)) one.2;
+      entries = made;
+      media = rendered;
+      frames = rest-frames start at end output laws (omega (arith, within, near)) rendered;
+      sound = rest-sound start at end output is laws (omega (arith, within, near)) rendered;
+      journal = rest-journal start at end entries made;
       state = sym (ap (kept_bytes end) on.same) ∙ ap (state_bytes end) one.0;
     }
 
@@ -64,7 +93,7 @@ ends-here start machine accesses finished came told states lists end saved =
       halted = ap (λ (m : Console). m.main.halted) found.console;
       heard = λ inputs same. came.heard inputs machine.console machine.at (entries_from start machine.at) (media_from start machine.at) same small came.run;
       kept = kept start machine.at machine.console found.console (saved (states.ready machine.at machine.console end.0 end.1 reached));
-      rest = rest-goes-on start machine.at came.laws states (subst (IsReached machine.at) found.console reached);
+      rest = rest-goes-on start machine.at came.from came.laws states (subst (IsReached machine.at) found.console reached);
     }
 
 pub ends-well : (start : Start) (end : ℕ) (machine : MachineValue) (accesses finished : ℕ) → machine.at ≡ end → CameTo start machine accesses → finished ≡ frames_between start.console.pal start.at end → StateLaws → ListsEndAsRun start.at start.console → IsEnd end

@@ -96,7 +96,7 @@ module _ (told : Type 0) (words : Rolling) (old new : DepotState) where
   roll_source _ cause is = absurd (omega (arith, is))
 
   pub roll_script : (ending : Ending) → Ends ending → status_of ending ≡ 15 → ⊥
-  roll_script (ScriptRefused replies line fault) cause is = absurd cause
+  roll_script (ScriptRefused line fault) cause is = absurd cause
   roll_script _ cause is = absurd (omega (arith, is))
 
   pub roll_refused : (ending : Ending) → Ends ending → status_of ending ≡ 18 → IsRefusedLine told words old.files

@@ -1,34 +1,35 @@
 -- The answers one by one, from the answer as a whole.
-use Rattle.std.proofs.Common.{◌≡◌, ◌≢◌, ◌⊎◌, inl, inr, ℕ, ◌≤◌, List, [], Option, Some, None, refl, sym, ap, ◌∙◌, arith}
+use Rattle.std.proofs.Common.{◌≡◌, ◌≢◌, ◌⊎◌, inl, inr, ℕ, ◌≤◌, List, [], Option, Some, None, refl, sym, ap, subst, ◌∙◌, arith}
 use Rattle.std.specs.Prelude.{codes}
 use Rattle.rom_header.specs.Header.{header_lines}
 use Rattle.md_pads.specs.Recording.{no_frames}
 use Rattle.md_outer.specs.Outside.{DepotState, Files, Rose, SinkState}
 use Rattle.md_outer.proofs.WrittenFiles.{with_file-other}
-use Rattle.md_top.specs.Answers.{Answers, AreFindingsRight, Causes, IsRight, PutsAll, PutsPart, Reports}
+use Rattle.md_top.specs.Answers.{Answers, AreFindingsRight, Causes, IsRight, PutsAll, PutsPart, Reports, Shows}
 use Rattle.md_top.specs.Inputs.{IsAccepted, IsJudged, Spelled, RecordingCause, Verdict, cart_of}
 use Rattle.md_word.specs.Clock.{last_cycle}
 use Rattle.md_top.specs.Loads.{IsStateJudged}
 use Rattle.state_laws.specs.Verdicts.{Keeps, StateVerdict, StateWrongAt}
-use Rattle.md_top.specs.Runs.{pieces_of, pieces_until}
 use Rattle.md_top.specs.Endings.{Findings, HasCause, InfoEnds, LeavesFiles, RunEnds, RunFiles, accepted_ending, asked_ending, file_ending, loaded_ending, right_ending, status_of}
-use Rattle.md_top.specs.Outputs.{LeavesParts, Parts, Pieces, all_of, nothing, with_part, written}
+use Rattle.md_top.specs.Outputs.{LeavesParts, Parts, Pieces, nothing, with_part, written}
 use Rattle.md_vgm.specs.Outcomes.{Made, Outcome}
 use Rattle.md_args.specs.Words.{Assemble, Command, Convert, Debug, Debugging, Info, Rollback, Rolling, Run, RunCart, RunDemo}
-use Rattle.md_top.specs.Assemblies.{asm_ending}
-use Rattle.md_top.specs.Conversions.{convert_ending}
+use Rattle.md_top.specs.Assemblies.{AsmEnds, asm_ending}
+use Rattle.md_top.specs.Conversions.{ConvertEnds, convert_ending}
 use Rattle.md_top.specs.Debuggings.{Scripted}
+use Rattle.md_top.specs.Demos.{DemoEnds}
+use Rattle.md_top.specs.Rollings.{RollEnds}
 use Rattle.debug_script.specs.declared.script.Ending.TheVariants.{Obeyed}
 use Rattle.rollback_states.specs.declared.rolled.Comes.TheVariants as comes
 use Rattle.md_top.specs.declared.ending.Ending.{Ending}
-use Rattle.md_top.specs.declared.ending.Ending.TheVariants.{Shown, Done, Usage, TooFar, RecordingFault, RecordingTooLong, RecordingWrong, LoadFault, StateTooLong, StateWrong, OtherCart, Behind, FramesFault, SoundFault, JournalFault, SaveFault, Memory}
+use Rattle.md_top.specs.declared.ending.Ending.TheVariants.{Shown, Done, ReplyFault, Usage, TooFar, RecordingFault, RecordingTooLong, RecordingWrong, LoadFault, StateTooLong, StateWrong, OtherCart, Behind, FramesFault, SoundFault, JournalFault, SaveFault, Memory}
 use Rattle.md_top.proofs.Assemblies.{asm_behind, asm_done, asm_far, asm_other, asm_read_fault, asm_refused_input, asm_refused_source, asm_right, asm_state, asm_usage, asm_write_fault, asm_wrong, assembled_other, convert_source, info_source, run_source}
 use Rattle.md_top.proofs.Conversions.{convert_behind, convert_done, convert_far, convert_other, convert_read_fault, convert_refused, convert_right, convert_state, convert_usage, convert_write_fault, convert_wrong, converted_other, info_refused, made_outcome, run_refused}
 use Rattle.md_top.proofs.Debuggings.{IsDebugRight, asm_script, convert_script, debug_behind, debug_done, debug_far, debug_input, debug_other, debug_read_fault, debug_refused, debug_right, debug_source, debug_state, debug_usage, debug_write_fault, debug_wrong, demo_script, info_script, run_script}
 use Rattle.md_top.proofs.Demos.{demo_behind, demo_far, demo_far_only, demo_never, demo_refused, demo_right, demo_source, right_demo_done}
 use Rattle.md_top.proofs.Right.{IsRunRight, cart_always, cart_right, load_right_with, recording_always, recording_judged, recording_right, right_accepted, right_behind, right_behind_cart, right_done, right_far, right_load, right_near, right_with, right_without, state_judged}
 use Rattle.md_top.proofs.Rollings.{IsRollRight, asm_line, convert_line, debug_line, demo_line, info_line, roll_behind, roll_done, roll_far, roll_input, roll_other, roll_read_fault, roll_refused, roll_right, roll_script, roll_source, roll_state, roll_usage, roll_write_fault, roll_wrong, run_line}
-use Rattle.md_top.proofs.Statuses.{reported, of_ending, info_usage, run_usage, info_far, run_far, info_read_fault, run_read_fault, info_wrong, run_wrong, info_state, run_state, info_other, run_other, info_behind, run_behind, info_write_fault, run_write_fault, far_only}
+use Rattle.md_top.proofs.Statuses.{is_reply_fault, reply_failed, reported, shown_later, of_ending, info_usage, run_usage, info_far, run_far, info_read_fault, run_read_fault, info_wrong, run_wrong, info_state, run_state, info_other, run_other, info_behind, run_behind, info_write_fault, run_write_fault, far_only}
 
 -- WITHOUT A FAULT
 
@@ -62,7 +63,7 @@ run_right : (told : Type 0) (run : Run) (old new : DepotState) (verdict : Verdic
     → IsJudged run.recording old.files verdict → IsStateJudged (Some run) old.files verdict state → ¬ Rose old.read_faults new.read_faults → ¬ Rose old.write_faults new.write_faults → told
     → (status_of ending ≡ status_of (asked_ending run old.files verdict state)) ⊎ (status_of ending ≡ 10)
 run_right told run old new verdict state (Done from frames accesses halted) (end, may, cause) is judged reads writes t =
-    let found = cause t in inl (sym (right_done run old.files verdict state found.0 end.1 found.2 found.1 is judged))
+    let found = cause t in inl (sym (right_done run old.files verdict state found.start end.1 found.above found.begins is judged))
 run_right told run old new verdict state TooFar cause is judged reads writes t = inl (sym (ap status_of (right_far run old.files verdict state cause)))
 run_right told run old new verdict state (Behind from) (near, behind, may, cause) is judged reads writes t =
     let found = cause t in inl (sym (right_behind run old.files verdict state found.0 near (omega (arith, behind, found.2)) found.1 is judged))
@@ -100,10 +101,10 @@ run_right_with : (told : Type 0) (run : Run) (old new : DepotState) (verdict : V
     → IsJudged run.recording old.files verdict → ¬ Rose old.read_faults new.read_faults → ¬ Rose old.write_faults new.write_faults → told
     → IsRunRight run old.files verdict (status_of ending) ⊎ (status_of ending ≡ 10)
 run_right_with told run old new verdict (Done from frames accesses halted) (end, may, cause) is reads writes t =
-    let begins = (cause t).1 in
-    let judged = state_judged run old.files verdict begins.inputs (cause t).0 begins.are is begins.with in
-    right_with run old.files verdict (Keeps (cause t).0) 0 judged
-    (run_right told run old new verdict (Keeps (cause t).0) (Done from frames accesses halted) (end, may, cause) is judged reads writes t)
+    let begins = (cause t).begins in
+    let judged = state_judged run old.files verdict begins.inputs (cause t).start begins.are is begins.with in
+    right_with run old.files verdict (Keeps (cause t).start) 0 judged
+    (run_right told run old new verdict (Keeps (cause t).start) (Done from frames accesses halted) (end, may, cause) is judged reads writes t)
 run_right_with told run old new verdict TooFar cause is reads writes t =
     inl (right_without run old.files verdict TooFar TooFar (λ state. right_far run old.files verdict state cause) refl)
 run_right_with told run old new verdict (Behind from) (near, behind, may, cause) is reads writes t =
@@ -182,13 +183,13 @@ ready_ends : (status right : ℕ) → (status ≡ right) ⊎ (status ≡ 10) →
 ready_ends status right (inl is) done = inl (is ∙ done)
 ready_ends status right (inr memory) done = inr memory
 
-out_fault : (status of : ℕ) {P : Type 0} → (status ≡ of) ⊎ ((status ≡ 13) × P) → (of ≡ 13 → ⊥) → status ≡ 13 → P
-out_fault status of (inl same) other is = absurd (other (sym same ∙ is))
-out_fault status of (inr (out, rose)) other is = rose
+out_fault : (status of : ℕ) {P : Type 0} → (status ≡ of) ⊎ ((status ≡ 13) × P) → (of ≡ 13 → P) → status ≡ 13 → P
+out_fault status of (inl same) ends is = ends (sym same ∙ is)
+out_fault status of (inr (out, rose)) ends is = rose
 
-not_out : (ending : Ending) → status_of ending ≡ 13 → ⊥
-not_out Usage is = omega (arith, is)
-not_out _ is = omega (arith, is)
+-- no other command puts replies
+not_out : {P : Type 0} (Cause : Ending → Type 0) (ending : Ending) → Cause ending → (Cause ReplyFault → ⊥) → status_of ending ≡ 13 → P
+not_out Cause ending cause none is = absurd (none (subst Cause (is_reply_fault ending is) cause))
 
 -- FILES OF OTHER NAMES
 
@@ -213,16 +214,16 @@ parts_other run old new whole leaves name not_frames no_sound no_journal no_save
 
 leaves_other : (run : Run) (old new : Files) (ending : Ending) → RunFiles run old new ending
     → (name : List ℕ) → run.frames ≢ Some name → run.sound ≢ Some name → run.journal ≢ Some name → run.save ≢ Some name → new name ≡ old name
-leaves_other run old new (Done from frames accesses halted) (start, begins, leaves) name not_frames no_sound no_journal no_save =
-    ap (λ (files : Files). files name) leaves ∙ written_other run old (all_of (pieces_of start run.cycles)) name not_frames no_sound no_journal no_save
-leaves_other run old new FramesFault (start, begins, leaves) name not_frames no_sound no_journal no_save =
-    parts_other run old new (pieces_of start run.cycles) leaves name not_frames no_sound no_journal no_save
-leaves_other run old new SoundFault (start, begins, leaves) name not_frames no_sound no_journal no_save =
-    parts_other run old new (pieces_of start run.cycles) leaves name not_frames no_sound no_journal no_save
-leaves_other run old new JournalFault (start, begins, leaves) name not_frames no_sound no_journal no_save =
-    parts_other run old new (pieces_of start run.cycles) leaves name not_frames no_sound no_journal no_save
-leaves_other run old new SaveFault (start, begins, leaves) name not_frames no_sound no_journal no_save =
-    parts_other run old new (pieces_of start run.cycles) leaves name not_frames no_sound no_journal no_save
+leaves_other run old new (Done from frames accesses halted) (parts, is) name not_frames no_sound no_journal no_save =
+    ap (λ (files : Files). files name) is ∙ written_other run old parts name not_frames no_sound no_journal no_save
+leaves_other run old new FramesFault (parts, is) name not_frames no_sound no_journal no_save =
+    ap (λ (files : Files). files name) is ∙ written_other run old parts name not_frames no_sound no_journal no_save
+leaves_other run old new SoundFault (parts, is) name not_frames no_sound no_journal no_save =
+    ap (λ (files : Files). files name) is ∙ written_other run old parts name not_frames no_sound no_journal no_save
+leaves_other run old new JournalFault (parts, is) name not_frames no_sound no_journal no_save =
+    ap (λ (files : Files). files name) is ∙ written_other run old parts name not_frames no_sound no_journal no_save
+leaves_other run old new SaveFault (parts, is) name not_frames no_sound no_journal no_save =
+    ap (λ (files : Files). files name) is ∙ written_other run old parts name not_frames no_sound no_journal no_save
 leaves_other run old new Memory leaves name not_frames no_sound no_journal no_save = parts_other run old new nothing leaves name not_frames no_sound no_journal no_save
 leaves_other run old new _ leaves name not_frames no_sound no_journal no_save = ap (λ (files : Files). files name) leaves
 
@@ -274,11 +275,11 @@ none_causes told old out out' status (inr ten) = record {
   others = λ t. tt;
 }
 
-pub causes_of : (told sink : Type 0) (command : Command) (old new : DepotState) (out out' : SinkState) (status : ℕ) (ending : Ending)
+pub causes_of : (told sink : Type 0) (command : Command) (old new : DepotState) (out between out' : SinkState) (status : ℕ) (ending : Ending)
     → HasCause told (Some command) old new ending → (told → LeavesFiles (Some command) old.files new.files ending)
-    → Reports sink (Some command) ending out out' status → Causes told (Some command) old new out out' status
-causes_of told sink (Info rom) old new out out' status ending cause leaves reports =
-    let by = reported sink (Some (Info rom)) ending out out' status reports in
+    → Shows told sink (Some command) old.files ending out between → Reports sink (Some command) ending between out' status → Causes told (Some command) old new out out' status
+causes_of told sink (Info rom) old new out between out' status ending cause leaves shown reports =
+    let by = reported sink (Some (Info rom)) ending out between out' status (shown_later told sink (Some (Info rom)) old.files ending out between shown) reports in
     record {
       usage = λ two. absurd (info_usage told rom old new ending cause (of_ending status (status_of ending) 2 by two (λ is. omega (arith, is))));
       refused = λ none. absurd (is_asked (Info rom) none);
@@ -294,7 +295,7 @@ causes_of told sink (Info rom) old new out out' status ending cause leaves repor
       script_refused = λ fifteen. absurd (info_script told rom old new ending cause (of_ending status (status_of ending) 15 by fifteen (λ is. omega (arith, is))));
       line_refused = λ eighteen. absurd (info_line told rom old new ending cause (of_ending status (status_of ending) 18 by eighteen (λ is. omega (arith, is))));
       write_fault = λ four. info_write_fault told rom old new ending cause (of_ending status (status_of ending) 4 by four (λ is. omega (arith, is)));
-      out_fault = λ thirteen. out_fault status (status_of ending) by (not_out ending) thirteen;
+      out_fault = λ thirteen. out_fault status (status_of ending) by (not_out (InfoEnds told rom old new) ending cause (λ none. none)) thirteen;
       exact = λ clean t verdict is outcome known.
           exact_other (Some (Info rom)) old.files verdict outcome status (inl (tt, tt, tt))
           (exact_is status (status_of ending) (status_of (right_ending (Some (Info rom)) old.files verdict none_found outcome)) by clean.puts
@@ -306,13 +307,13 @@ causes_of told sink (Info rom) old new out out' status ending cause leaves repor
           (ap status_of (right_accepted (old.files rom) (Shown (header_lines (cart_of rom old.files))) ready));
       others = λ t name not_frames no_sound no_journal no_save no_output no_image. ap (λ (files : Files). files name) (leaves t);
     }
-causes_of told sink (RunCart run) old new out out' status ending cause leaves reports =
-    let by = reported sink (Some (RunCart run)) ending out out' status reports in
+causes_of told sink (RunCart run) old new out between out' status ending cause leaves shown reports =
+    let by = reported sink (Some (RunCart run)) ending out between out' status (shown_later told sink (Some (RunCart run)) old.files ending out between shown) reports in
     record {
       usage = λ two. absurd (run_usage told run old new ending cause (of_ending status (status_of ending) 2 by two (λ is. omega (arith, is))));
       refused = λ none. absurd (is_asked (RunCart run) none);
       too_far = λ eleven. run_far told run old new ending cause (of_ending status (status_of ending) 11 by eleven (λ is. omega (arith, is)));
-      far_refused = λ far. far_only told sink run old new out out' status ending cause reports far;
+      far_refused = λ far. far_only told sink run old new between out' status ending cause reports far;
       read_fault = λ three. run_read_fault told run old new ending cause (of_ending status (status_of ending) 3 by three (λ is. omega (arith, is)));
       wrong = λ six. run_wrong told run old new ending cause (of_ending status (status_of ending) 6 by six (λ is. omega (arith, is)));
       state_wrong = λ seven. run_state told run old new ending cause (of_ending status (status_of ending) 7 by seven (λ is. omega (arith, is)));
@@ -323,7 +324,7 @@ causes_of told sink (RunCart run) old new out out' status ending cause leaves re
       script_refused = λ fifteen. absurd (run_script told run old new ending cause (of_ending status (status_of ending) 15 by fifteen (λ is. omega (arith, is))));
       line_refused = λ eighteen. absurd (run_line told run old new ending cause (of_ending status (status_of ending) 18 by eighteen (λ is. omega (arith, is))));
       write_fault = λ four. run_write_fault told run old new ending cause (of_ending status (status_of ending) 4 by four (λ is. omega (arith, is)));
-      out_fault = λ thirteen. out_fault status (status_of ending) by (not_out ending) thirteen;
+      out_fault = λ thirteen. out_fault status (status_of ending) by (not_out (RunEnds told run old new) ending cause (λ none. none.1)) thirteen;
       exact = λ clean t verdict is outcome known.
           exact_run run old.files verdict outcome status (status_of ending) by clean.puts (run_right_with told run old new verdict ending cause is clean.reads clean.writes t);
       complete = λ clean t ready.
@@ -338,8 +339,8 @@ causes_of told sink (RunCart run) old new out out' status ending cause leaves re
           (right_done run old.files verdict state ready.1.0 ready.0.1 ready.1.2 begins is judged);
       others = λ t name not_frames no_sound no_journal no_save no_output no_image. leaves_other run old.files new.files ending (leaves t) name not_frames no_sound no_journal no_save;
     }
-causes_of told sink (Convert conversion) old new out out' status ending cause leaves reports =
-    let by = reported sink (Some (Convert conversion)) ending out out' status reports in
+causes_of told sink (Convert conversion) old new out between out' status ending cause leaves shown reports =
+    let by = reported sink (Some (Convert conversion)) ending out between out' status (shown_later told sink (Some (Convert conversion)) old.files ending out between shown) reports in
     record {
       usage = λ two. absurd (convert_usage told conversion old new ending cause (of_ending status (status_of ending) 2 by two (λ is. omega (arith, is))));
       refused = λ none. absurd (is_asked (Convert conversion) none);
@@ -355,7 +356,7 @@ causes_of told sink (Convert conversion) old new out out' status ending cause le
       script_refused = λ fifteen. absurd (convert_script told conversion old new ending cause (of_ending status (status_of ending) 15 by fifteen (λ is. omega (arith, is))));
       line_refused = λ eighteen. absurd (convert_line told conversion old new ending cause (of_ending status (status_of ending) 18 by eighteen (λ is. omega (arith, is))));
       write_fault = λ four. convert_write_fault told conversion old new ending cause (of_ending status (status_of ending) 4 by four (λ is. omega (arith, is)));
-      out_fault = λ thirteen. out_fault status (status_of ending) by (not_out ending) thirteen;
+      out_fault = λ thirteen. out_fault status (status_of ending) by (not_out (ConvertEnds told conversion old new) ending cause (λ none. none)) thirteen;
       exact = λ clean t verdict is outcome known.
           exact_other (Some (Convert conversion)) old.files verdict outcome status (inl (tt, tt, tt))
           (exact_is status (status_of ending) (status_of (convert_ending conversion old.files outcome)) by clean.puts
@@ -368,14 +369,14 @@ causes_of told sink (Convert conversion) old new out out' status ending cause le
           (convert_done conversion (old.files conversion.input) ready.0 ready.1.0);
       others = λ t name not_frames no_sound no_journal no_save no_output no_image. converted_other conversion old.files new.files ending (leaves t) name no_output;
     }
-causes_of told sink (RunDemo demo) old new out out' status ending (same, ends) leaves reports =
-    let by = reported sink (Some (RunDemo demo)) ending out out' status reports in
+causes_of told sink (RunDemo demo) old new out between out' status ending (same, ends) leaves shown reports =
+    let by = reported sink (Some (RunDemo demo)) ending out between out' status (shown_later told sink (Some (RunDemo demo)) old.files ending out between shown) reports in
     let never = λ (n : ℕ) (is : status_of ending ≡ n) (some : 1 ≤ n) (few : n ≤ 8). demo_never demo ending n ends is some few in
     record {
       usage = λ two. absurd (never 2 (of_ending status (status_of ending) 2 by two (λ is. omega (arith, is))) (omega arith) (omega arith));
       refused = λ none. absurd (is_asked (RunDemo demo) none);
       too_far = λ eleven. demo_far demo ending ends (of_ending status (status_of ending) 11 by eleven (λ is. omega (arith, is)));
-      far_refused = λ far. demo_far_only sink demo out out' status ending ends reports far;
+      far_refused = λ far. demo_far_only sink demo between out' status ending ends reports far;
       read_fault = λ three. absurd (never 3 (of_ending status (status_of ending) 3 by three (λ is. omega (arith, is))) (omega arith) (omega arith));
       wrong = λ six. absurd (never 6 (of_ending status (status_of ending) 6 by six (λ is. omega (arith, is))) (omega arith) (omega arith));
       state_wrong = λ seven. absurd (never 7 (of_ending status (status_of ending) 7 by seven (λ is. omega (arith, is))) (omega arith) (omega arith));
@@ -386,7 +387,7 @@ causes_of told sink (RunDemo demo) old new out out' status ending (same, ends) l
       script_refused = λ fifteen. absurd (demo_script demo ending ends (of_ending status (status_of ending) 15 by fifteen (λ is. omega (arith, is))));
       line_refused = λ eighteen. absurd (demo_line demo ending ends (of_ending status (status_of ending) 18 by eighteen (λ is. omega (arith, is))));
       write_fault = λ four. absurd (never 4 (of_ending status (status_of ending) 4 by four (λ is. omega (arith, is))) (omega arith) (omega arith));
-      out_fault = λ thirteen. out_fault status (status_of ending) by (not_out ending) thirteen;
+      out_fault = λ thirteen. out_fault status (status_of ending) by (not_out (DemoEnds demo) ending ends (λ none. none)) thirteen;
       exact = λ clean t verdict is outcome known.
           exact_other (Some (RunDemo demo)) old.files verdict outcome status (inl (tt, tt, tt))
           (exact_is status (status_of ending) (status_of (right_ending (Some (RunDemo demo)) old.files verdict none_found outcome)) by clean.puts
@@ -398,8 +399,8 @@ causes_of told sink (RunDemo demo) old new out out' status ending (same, ends) l
           (right_demo_done demo old.files (Spelled no_frames) none_found (Made []) ready);
       others = λ t name not_frames no_sound no_journal no_save no_output no_image. ap (λ (files : Files). files name) (leaves t);
     }
-causes_of told sink (Assemble words) old new out out' status ending cause leaves reports =
-    let by = reported sink (Some (Assemble words)) ending out out' status reports in
+causes_of told sink (Assemble words) old new out between out' status ending cause leaves shown reports =
+    let by = reported sink (Some (Assemble words)) ending out between out' status (shown_later told sink (Some (Assemble words)) old.files ending out between shown) reports in
     record {
       usage = λ two. absurd (asm_usage told words old new ending cause (of_ending status (status_of ending) 2 by two (λ is. omega (arith, is))));
       refused = λ none. absurd (is_asked (Assemble words) none);
@@ -415,7 +416,7 @@ causes_of told sink (Assemble words) old new out out' status ending cause leaves
       script_refused = λ fifteen. absurd (asm_script told words old new ending cause (of_ending status (status_of ending) 15 by fifteen (λ is. omega (arith, is))));
       line_refused = λ eighteen. absurd (asm_line told words old new ending cause (of_ending status (status_of ending) 18 by eighteen (λ is. omega (arith, is))));
       write_fault = λ four. asm_write_fault told words old new ending cause (of_ending status (status_of ending) 4 by four (λ is. omega (arith, is)));
-      out_fault = λ thirteen. out_fault status (status_of ending) by (not_out ending) thirteen;
+      out_fault = λ thirteen. out_fault status (status_of ending) by (not_out (AsmEnds told words old new) ending cause (λ none. none)) thirteen;
       exact = λ clean t verdict is outcome known.
           exact_other (Some (Assemble words)) old.files verdict outcome status (inl (tt, tt, tt))
           (exact_is status (status_of ending) (status_of (asm_ending words old.files)) by clean.puts
@@ -427,8 +428,9 @@ causes_of told sink (Assemble words) old new out out' status ending cause leaves
           (asm_done (old.files words.source) ready.0 ready.1 ready.2);
       others = λ t name not_frames no_sound no_journal no_save no_output no_image. assembled_other words old.files new.files ending (leaves t) name no_image.0 no_image.1;
     }
-causes_of told sink (Debug words) old new out out' status ending cause leaves reports =
-    let by = reported sink (Some (Debug words)) ending out out' status reports in
+causes_of told sink (Debug words) old new out between out' status ending cause leaves shown reports =
+    let by = reported sink (Some (Debug words)) ending out between out' status (shown_later told sink (Some (Debug words)) old.files ending out between shown) reports in
+    let failed = reply_failed told sink words old.files ending out between out' status shown reports in
     record {
       usage = λ two. absurd (debug_usage told words old new ending cause (of_ending status (status_of ending) 2 by two (λ is. omega (arith, is))));
       refused = λ none. absurd (is_asked (Debug words) none);
@@ -444,15 +446,15 @@ causes_of told sink (Debug words) old new out out' status ending cause leaves re
       script_refused = λ fifteen. debug_refused told words old new ending cause (of_ending status (status_of ending) 15 by fifteen (λ is. omega (arith, is)));
       line_refused = λ eighteen. absurd (debug_line told words old new ending cause (of_ending status (status_of ending) 18 by eighteen (λ is. omega (arith, is))));
       write_fault = λ four. debug_write_fault told words old new ending cause (of_ending status (status_of ending) 4 by four (λ is. omega (arith, is)));
-      out_fault = λ thirteen. out_fault status (status_of ending) by (not_out ending) thirteen;
+      out_fault = λ thirteen. out_fault status (status_of ending) by (λ is. failed (is_reply_fault ending is)) thirteen;
       exact = λ clean t verdict is outcome known.
-          exact_debug words old.files verdict outcome status (status_of ending) by clean.puts (debug_right told words old new ending cause clean.reads t);
+          exact_debug words old.files verdict outcome status (status_of ending) by clean.puts (debug_right told words old new ending cause (λ is. clean.puts (failed is)) clean.reads t);
       complete = λ clean t ready.
-          ready_ends status 0 (exact_is status (status_of ending) 0 by clean.puts (debug_done told words old new ending ready cause clean.reads t)) refl;
+          ready_ends status 0 (exact_is status (status_of ending) 0 by clean.puts (debug_done told words old new ending ready cause (λ is. clean.puts (failed is)) clean.reads t)) refl;
       others = λ t name not_frames no_sound no_journal no_save no_output no_image. ap (λ (files : Files). files name) (leaves t);
     }
-causes_of told sink (Rollback words) old new out out' status ending cause leaves reports =
-    let by = reported sink (Some (Rollback words)) ending out out' status reports in
+causes_of told sink (Rollback words) old new out between out' status ending cause leaves shown reports =
+    let by = reported sink (Some (Rollback words)) ending out between out' status (shown_later told sink (Some (Rollback words)) old.files ending out between shown) reports in
     record {
       usage = λ two. absurd (roll_usage told words old new ending cause (of_ending status (status_of ending) 2 by two (λ is. omega (arith, is))));
       refused = λ none. absurd (is_asked (Rollback words) none);
@@ -468,7 +470,7 @@ causes_of told sink (Rollback words) old new out out' status ending cause leaves
       script_refused = λ fifteen. absurd (roll_script told words old new ending cause (of_ending status (status_of ending) 15 by fifteen (λ is. omega (arith, is))));
       line_refused = λ eighteen. roll_refused told words old new ending cause (of_ending status (status_of ending) 18 by eighteen (λ is. omega (arith, is)));
       write_fault = λ four. roll_write_fault told words old new ending cause (of_ending status (status_of ending) 4 by four (λ is. omega (arith, is)));
-      out_fault = λ thirteen. out_fault status (status_of ending) by (not_out ending) thirteen;
+      out_fault = λ thirteen. out_fault status (status_of ending) by (not_out (RollEnds told words old new) ending cause (λ none. none)) thirteen;
       exact = λ clean t verdict is outcome known.
           exact_roll words old.files verdict outcome status (status_of ending) by clean.puts (roll_right told words old new ending cause clean.reads t);
       complete = λ clean t ready.
@@ -504,6 +506,16 @@ memory_leaves (Some (RunCart run)) files = record {
   files = refl;
 }
 
+memory_shown : (told sink : Type 0) (command : Option Command) (files : Files) (out : SinkState) → Shows told sink command files Memory out out
+memory_shown told sink None files out = refl
+memory_shown told sink (Some (Info rom)) files out = refl
+memory_shown told sink (Some (RunCart run)) files out = refl
+memory_shown told sink (Some (RunDemo demo)) files out = refl
+memory_shown told sink (Some (Convert conversion)) files out = refl
+memory_shown told sink (Some (Assemble words)) files out = refl
+memory_shown told sink (Some (Debug words)) files out = refl
+memory_shown told sink (Some (Rollback words)) files out = refl
+
 memory_reports : (sink : Type 0) (command : Option Command) (out out' : SinkState) (status : ℕ) → status ≡ 10
     → PutsAll sink (codes "refused: memory\n") out out' ⊎ PutsPart sink (codes "refused: memory\n") out out' → Reports sink command Memory out out' status
 memory_reports sink None out out' status ten put = (ten, put)
@@ -515,6 +527,8 @@ memory_answers told sink command old out out' status ten put = record {
   ending = Memory;
   cause = memory_cause told command old;
   files = λ t. memory_leaves command old.files;
+  between = out;
+  shown = memory_shown told sink command old.files out;
   reports = memory_reports sink command out out' status ten put;
 }
 
@@ -522,5 +536,6 @@ pub memory_causes : (told sink : Type 0) (command : Option Command) (old : Depot
     → PutsAll sink (codes "refused: memory\n") out out' ⊎ PutsPart sink (codes "refused: memory\n") out out' → Causes told command old old out out' status
 memory_causes told sink None old out out' status ten put = none_causes told old out out' status (inr ten)
 memory_causes told sink (Some command) old out out' status ten put =
-    causes_of told sink command old old out out' status Memory (memory_cause told (Some command) old) (λ t. memory_leaves (Some command) old.files)
+    causes_of told sink command old old out out out' status Memory (memory_cause told (Some command) old) (λ t. memory_leaves (Some command) old.files)
+    (memory_shown told sink (Some command) old.files out)
     (memory_reports sink (Some command) out out' status ten put)

@@ -1,32 +1,75 @@
 -- What a status tells of the ending.
-use Rattle.std.proofs.Common.{◌≡◌, ◌⊎◌, inl, inr, ℕ, ◌<◌, ◌≤◌, List, [], length, Option, Some, None, sym, ◌∙◌, arith}
+use Rattle.std.proofs.Common.{◌≡◌, ◌⊎◌, inl, inr, ℕ, ◌<◌, ◌≤◌, List, [], length, Option, Some, None, refl, sym, ap, subst, ◌∙◌, arith}
 use Rattle.std.specs.Prelude.{IsSomeAnd, unwrap_or}
 use Rattle.md_outer.specs.Outside.{DepotState, Files, Rose, SinkState, bytes_of}
 use Rattle.md_pads.specs.Recording.{GoesWrongAt, IsSpelled}
-use Rattle.md_top.specs.Answers.{IsBehind, PutsOutput, Reports}
+use Rattle.md_top.specs.Answers.{IsBehind, PutsOutput, Reports, Shows}
 use Rattle.md_top.specs.Inputs.{IsMissing, RecordingCause, recording_limit}
 use Rattle.md_word.specs.Clock.{last_cycle}
 use Rattle.md_top.specs.Loads.{IsLoadFound}
 use Rattle.state_laws.specs.Verdicts.{OfOther, StateWrongAt}
 use Rattle.md_top.specs.Endings.{InfoEnds, RunEnds, status_of, text_of}
-use Rattle.md_args.specs.Words.{Command, Info, Run, RunCart}
+use Rattle.md_top.proofs.Puts.{rose_later}
+use Rattle.md_args.specs.Words.{Assemble, Command, Convert, Debug, Debugging, Info, Rollback, Run, RunCart, RunDemo}
+use Rattle.md_top.specs.Debuggings.{ShowsReplies}
 use Rattle.md_top.specs.declared.ending.Ending.{Ending}
-use Rattle.md_top.specs.declared.ending.Ending.TheVariants.{Shown, Done, DemoDone, Converted, RolledBack, OutputFault, ListFault, Usage, TooFar, ReadFault, RecordingFault, RecordingWrong, LoadFault, ScriptFault, StateWrong, OtherCart, Behind, FramesFault, SoundFault, JournalFault, SaveFault, Memory}
+use Rattle.md_top.specs.declared.ending.Ending.TheVariants.{Shown, Played, ReplyFault, ScriptMemory, ScriptRefused, Done, DemoDone, Converted, RolledBack, OutputFault, ListFault, Usage, TooFar, ReadFault, RecordingFault, RecordingWrong, LoadFault, ScriptFault, StateWrong, OtherCart, Behind, FramesFault, SoundFault, JournalFault, SaveFault, Memory}
+
+-- what was shown before lowers no count of faults
+replies_later : (told sink : Type 0) (words : Debugging) (files : Files) (ending : Ending) (out between : SinkState) → ShowsReplies told sink words files ending out between
+    → out.faults ≤ between.faults
+replies_later told sink words files Played out between shown = shown.2.later
+replies_later told sink words files (ScriptRefused line fault) out between shown = shown.2.later
+replies_later told sink words files ScriptMemory out between shown = shown.2.later
+replies_later told sink words files ReplyFault out between shown = shown.2.later
+replies_later told sink words files _ out between shown = subst (λ (s : SinkState). out.faults ≤ s.faults) (sym shown) (omega arith)
+
+pub shown_later : (told sink : Type 0) (command : Option Command) (files : Files) (ending : Ending) (out between : SinkState) → Shows told sink command files ending out between
+    → out.faults ≤ between.faults
+shown_later told sink (Some (Debug words)) files ending out between shown = replies_later told sink words files ending out between shown
+shown_later told sink None files ending out between shown = subst (λ (s : SinkState). out.faults ≤ s.faults) (sym shown) (omega arith)
+shown_later told sink (Some (Info rom)) files ending out between shown = subst (λ (s : SinkState). out.faults ≤ s.faults) (sym shown) (omega arith)
+shown_later told sink (Some (RunCart run)) files ending out between shown = subst (λ (s : SinkState). out.faults ≤ s.faults) (sym shown) (omega arith)
+shown_later told sink (Some (RunDemo demo)) files ending out between shown = subst (λ (s : SinkState). out.faults ≤ s.faults) (sym shown) (omega arith)
+shown_later told sink (Some (Convert conversion)) files ending out between shown = subst (λ (s : SinkState). out.faults ≤ s.faults) (sym shown) (omega arith)
+shown_later told sink (Some (Assemble words)) files ending out between shown = subst (λ (s : SinkState). out.faults ≤ s.faults) (sym shown) (omega arith)
+shown_later told sink (Some (Rollback words)) files ending out between shown = subst (λ (s : SinkState). out.faults ≤ s.faults) (sym shown) (omega arith)
 
 -- the status is the ending's, but where the sink failed within an output
-pub put_output : (told : Type 0) (text : List ℕ) (out out' : SinkState) (status : ℕ) → PutsOutput told text out out' status
+put_output : (told : Type 0) (text : List ℕ) (out out' : SinkState) (status : ℕ) → PutsOutput told text out out' status
     → (status ≡ 0) ⊎ ((status ≡ 13) × Rose out.faults out'.faults)
 put_output told text out out' status (inl put) = inl put.0
 put_output told text out out' status (inr part) = inr (part.0, part.1.rose)
 
-pub reported : (sink : Type 0) (command : Option Command) (ending : Ending) (out out' : SinkState) (status : ℕ) → Reports sink command ending out out' status
-    → (status ≡ status_of ending) ⊎ ((status ≡ 13) × Rose out.faults out'.faults)
-reported sink command (Shown lines) out out' status reports = put_output sink (text_of command (Shown lines)) out out' status reports
-reported sink command (Done from frames accesses halted) out out' status reports = put_output sink (text_of command (Done from frames accesses halted)) out out' status reports
-reported sink command (DemoDone summary) out out' status reports = put_output sink (text_of command (DemoDone summary)) out out' status reports
-reported sink command (Converted size) out out' status reports = put_output sink (text_of command (Converted size)) out out' status reports
-reported sink command (RolledBack rolled) out out' status reports = put_output sink (text_of command (RolledBack rolled)) out out' status reports
-reported sink command _ out out' status reports = inl reports.0
+reported_then : (sink : Type 0) (command : Option Command) (ending : Ending) (between out' : SinkState) (status : ℕ) → Reports sink command ending between out' status
+    → (status ≡ status_of ending) ⊎ ((status ≡ 13) × Rose between.faults out'.faults)
+reported_then sink command (Shown lines) out out' status reports = put_output sink (text_of command (Shown lines)) out out' status reports
+reported_then sink command (Done from frames accesses halted) out out' status reports =
+    put_output sink (text_of command (Done from frames accesses halted)) out out' status reports
+reported_then sink command (DemoDone summary) out out' status reports = put_output sink (text_of command (DemoDone summary)) out out' status reports
+reported_then sink command (Converted size) out out' status reports = put_output sink (text_of command (Converted size)) out out' status reports
+reported_then sink command (RolledBack rolled) out out' status reports = put_output sink (text_of command (RolledBack rolled)) out out' status reports
+reported_then sink command _ out out' status reports = inl reports.0
+
+pub reported : (sink : Type 0) (command : Option Command) (ending : Ending) (out between out' : SinkState) (status : ℕ) → out.faults ≤ between.faults
+    → Reports sink command ending between out' status → (status ≡ status_of ending) ⊎ ((status ≡ 13) × Rose out.faults out'.faults)
+reported sink command ending out between out' status later reports = elim (reported_then sink command ending between out' status reports) [
+  | inl is ↦ inl is
+  | inr part ↦ inr (part.0, rose_later out.faults between.faults out'.faults later part.1)
+]
+
+-- the sink failed within a reply
+pub reply_failed : (told sink : Type 0) (words : Debugging) (files : Files) (ending : Ending) (out between out' : SinkState) (status : ℕ)
+    → ShowsReplies told sink words files ending out between → Reports sink (Some (Debug words)) ending between out' status → ending ≡ ReplyFault → Rose out.faults out'.faults
+reply_failed told sink words files ending out between out' status shown reports is =
+    let rose : Rose out.faults between.faults = (subst (λ (e : Ending). ShowsReplies told sink words files e out between) is shown).2.failed in
+    let same : out' ≡ between = (subst (λ (e : Ending). Reports sink (Some (Debug words)) e between out' status) is reports).1 in
+    subst (λ (s : SinkState). Rose out.faults s.faults) (sym same) rose
+
+-- no other ending has the status of one
+pub is_reply_fault : (ending : Ending) → status_of ending ≡ 13 → ending ≡ ReplyFault
+is_reply_fault ReplyFault is = refl
+is_reply_fault _ is = absurd (omega (arith, is))
 
 -- a status other than 13 is the ending's
 pub of_ending : (status of n : ℕ) {P : Type 0} → (status ≡ of) ⊎ ((status ≡ 13) × P) → status ≡ n → (n ≡ 13 → ⊥) → of ≡ n

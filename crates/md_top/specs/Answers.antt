@@ -11,11 +11,11 @@ use Rattle.md_vgm.specs.Outcomes.{Outcome}
 use Rattle.md_args.specs.Words.{Assemble, Command, Convert, Debug, Info, Rollback, RunCart, RunDemo, assembling_in, conversion_in, debugging_in, end_of, frames_name, journal_name, recording_name, rolling_in, run_in, save_name, sound_name}
 use Rattle.md_top.specs.Assemblies.{IsRefusedSource}
 use Rattle.md_top.specs.Conversions.{IsInputOutcome, IsRefusedInput}
-use Rattle.md_top.specs.Debuggings.{IsRefusedScript, IsScripted}
+use Rattle.md_top.specs.Debuggings.{IsRefusedScript, IsScripted, ShowsReplies}
 use Rattle.md_top.specs.Rollings.{IsRefusedLine, IsRollFound}
 use Rattle.md_top.specs.Endings.{Findings, HasCause, IsReady, LeavesFiles, right_ending, status_of, text_of}
 use Rattle.md_top.specs.declared.ending.Ending.{Ending}
-use Rattle.md_top.specs.declared.ending.Ending.TheVariants.{Converted, DemoDone, Done, RolledBack, Shown}
+use Rattle.md_top.specs.declared.ending.Ending.TheVariants.{Converted, DemoDone, Done, Played, ReplyFault, RolledBack, Shown}
 
 -- the text was put, where the sink tells it
 pub record PutsAll (told : Type 0) (text : List ℕ) (old new : SinkState) : Type 0 where
@@ -31,22 +31,32 @@ pub record PutsPart (told : Type 0) (text : List ℕ) (old new : SinkState) : Ty
 abbrev pub PutsOutput : Type 0 → List ℕ → SinkState → SinkState → ℕ → Type 0
 PutsOutput told text old new status = ((status ≡ 0) × PutsAll told text old new) ⊎ ((status ≡ 13) × PutsPart told text old new)
 
--- the status, and what was put: a sink that fails changes the status of a command that ended well alone
+-- what was put when a command ends so, before that is reported: in a session the replies, else nothing
+abbrev pub Shows : Type 0 → Type 0 → Option Command → Files → Ending → SinkState → SinkState → Type 0
+Shows told sink (Some (Debug words)) files ending old new = ShowsReplies told sink words files ending old new
+Shows told sink command files ending old new = new ≡ old
+
+-- the status, and what was put then: a sink that fails changes the status of a command that ended well alone
 abbrev pub Reports : Type 0 → Option Command → Ending → SinkState → SinkState → ℕ → Type 0
 Reports told command (Shown lines) old new status = PutsOutput told (text_of command (Shown lines)) old new status
 Reports told command (Done from frames accesses halted) old new status = PutsOutput told (text_of command (Done from frames accesses halted)) old new status
 Reports told command (DemoDone summary) old new status = PutsOutput told (text_of command (DemoDone summary)) old new status
 Reports told command (Converted size) old new status = PutsOutput told (text_of command (Converted size)) old new status
 Reports told command (RolledBack rolled) old new status = PutsOutput told (text_of command (RolledBack rolled)) old new status
+Reports told command Played old new status = (status ≡ 0) × (new ≡ old)
+Reports told command ReplyFault old new status = (status ≡ 13) × (new ≡ old)
 Reports told command ending old new status =
     (status ≡ status_of ending) × (PutsAll told (text_of command ending) old new ⊎ PutsPart told (text_of command ending) old new)
 
--- The answer as a whole: some ending has its cause, has left the files so, and was reported.
+-- The answer as a whole: some ending has its cause, has left the files so, and was reported behind what was shown
+-- before it.
 pub record Answers (depot_told sink_told : Type 0) (command : Option Command) (old new : DepotState) (out out' : SinkState) (status : ℕ) : Type 0 where
   pub ending : Ending
   pub cause : HasCause depot_told command old new ending
   pub files : depot_told → LeavesFiles command old.files new.files ending
-  pub reports : Reports sink_told command ending out out' status
+  pub between : SinkState
+  pub shown : Shows depot_told sink_told command old.files ending out between
+  pub reports : Reports sink_told command ending between out' status
 
 -- no count of faults rose
 pub record NoFaults (old new : DepotState) (out out' : SinkState) : Type 0 where

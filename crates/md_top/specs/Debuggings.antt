@@ -1,15 +1,16 @@
 -- How a session of the debugger ends: its causes and what is put.
 use Rattle.std.specs.Prelude.{◌≡◌, ◌≢◌, ◌⊎◌, ℕ, ◌<◌, ◌≤◌, List, ◌++◌, length, codes, decimal, Option, Some, None, IsSomeAnd}
-use Rattle.md_outer.specs.Outside.{DepotState, Files, Rose, bytes_of}
+use Rattle.md_outer.specs.Outside.{DepotState, Files, Rose, SinkState, bytes_of}
 use Rattle.md_args.specs.Words.{Debugging}
 use Rattle.md_debug.specs.declared.fault.DebugFault.{DebugFault}
 use Rattle.md_debug.specs.declared.fault.DebugFault.TheVariants.{BadNumber, NoMemory, NotKept, UnknownWord}
 use Rattle.debug_script.specs.declared.script.Ending.{Ending as ScriptEnding}
 use Rattle.debug_script.specs.declared.script.Ending.TheVariants.{Obeyed, OutOfMemory, Refused}
-use Rattle.debug_states.specs.Opened.{PlaysScript}
+use Rattle.debug_script.specs.Scripts.{FailsWithin, PutsWhole}
+use Rattle.debug_states.specs.Opened.{PlaysScript, StopsScript}
 use Rattle.md_top.specs.Inputs.{CartCause, IsAccepted, cart_of}
 use Rattle.md_top.specs.declared.ending.Ending.{Ending}
-use Rattle.md_top.specs.declared.ending.Ending.TheVariants.{ScriptFault, ScriptMemory, ScriptRefused, ScriptTooLong, Shown}
+use Rattle.md_top.specs.declared.ending.Ending.TheVariants.{Played, ReplyFault, ScriptFault, ScriptMemory, ScriptRefused, ScriptTooLong}
 
 -- the greatest length of a script
 abbrev pub script_limit : ℕ
@@ -27,21 +28,38 @@ abbrev pub script_line : ℕ → DebugFault → List ℕ
 script_line line fault = (codes "refused: script line " ++ decimal line) ++ fault_text fault
 
 -- what a script comes to, as an ending
-abbrev pub played_ending : List ℕ → ScriptEnding → Ending
-played_ending replies Obeyed = Shown replies
-played_ending replies (Refused line fault) = ScriptRefused replies line fault
-played_ending replies OutOfMemory = ScriptMemory replies
+abbrev pub played_ending : ScriptEnding → Ending
+played_ending Obeyed = Played
+played_ending (Refused line fault) = ScriptRefused line fault
+played_ending OutOfMemory = ScriptMemory
 
 -- the cartridge is accepted and the script held, within its limit; its lines come to these replies and this ending
 abbrev pub IsPlayed : Debugging → Files → List ℕ → ScriptEnding → Type 0
 IsPlayed words held replies ending =
     IsAccepted (held words.rom) × IsSomeAnd (held words.script) (λ script. (length script ≤ script_limit) × PlaysScript (cart_of words.rom held) script replies ending)
 
+-- a reply to a line of the script could not be put
+abbrev pub IsStopped : Type 0 → Debugging → Files → SinkState → SinkState → Type 0
+IsStopped told words held out out' =
+    IsAccepted (held words.rom) × IsSomeAnd (held words.script) (λ script. (length script ≤ script_limit) × StopsScript told (cart_of words.rom held) script out out')
+
+-- What was put when a session ends so: the replies to the lines that were obeyed, each when its line was; where one
+-- of them could not be put, those before it and a front part of it.
+abbrev pub ShowsReplies : Type 0 → Type 0 → Debugging → Files → Ending → SinkState → SinkState → Type 0
+ShowsReplies told sink words held Played out out' = (replies : List ℕ) × (told → IsPlayed words held replies Obeyed) × PutsWhole sink replies out out'
+ShowsReplies told sink words held (ScriptRefused line fault) out out' =
+    (replies : List ℕ) × (told → IsPlayed words held replies (Refused line fault)) × PutsWhole sink replies out out'
+ShowsReplies told sink words held ScriptMemory out out' = (replies : List ℕ) × (told → IsPlayed words held replies OutOfMemory) × PutsWhole sink replies out out'
+ShowsReplies told sink words held ReplyFault out out' = (replies : List ℕ) × (told → IsStopped sink words held out out') × FailsWithin sink replies out out'
+ShowsReplies told sink words held ending out out' = out' ≡ out
+
 -- Why a session ends. Each cause says that the earlier ones do not stand.
 abbrev pub DebugEnds : Type 0 → Debugging → DepotState → DepotState → Ending → Type 0
-DebugEnds told words old new (Shown replies) = told → IsPlayed words old.files replies Obeyed
-DebugEnds told words old new (ScriptRefused replies line fault) = told → IsPlayed words old.files replies (Refused line fault)
-DebugEnds told words old new (ScriptMemory replies) = told → IsPlayed words old.files replies OutOfMemory
+DebugEnds told words old new Played = (replies : List ℕ) × (told → IsPlayed words old.files replies Obeyed)
+DebugEnds told words old new (ScriptRefused line fault) = (replies : List ℕ) × (told → IsPlayed words old.files replies (Refused line fault))
+DebugEnds told words old new ScriptMemory = (replies : List ℕ) × (told → IsPlayed words old.files replies OutOfMemory)
+DebugEnds told words old new ReplyFault =
+    told → IsAccepted (old.files words.rom) × IsSomeAnd (old.files words.script) (λ script. length script ≤ script_limit)
 DebugEnds told words old new ScriptFault =
     (told → IsAccepted (old.files words.rom)) × (Rose old.read_faults new.read_faults ⊎ (told × (old.files words.script ≡ None)))
 DebugEnds told words old new ScriptTooLong =

@@ -17,7 +17,7 @@ use Rattle.md_top.specs.Loads.{Begins, CanRun, LoadCause, MayBeginAt, state_limi
 use Rattle.state_laws.specs.Verdicts.{Keeps, OfOther, StateVerdict, StateWrongAt}
 use Rattle.md_top.specs.Resuming.{RunsWell}
 use Rattle.md_top.specs.Runs.{entries_from, halted_from, media_from, pieces_of, pieces_until, powered_on}
-use Rattle.md_top.specs.Outputs.{Holds, IsUnwritten, LeavesParts, nothing}
+use Rattle.md_top.specs.Outputs.{Holds, IsUnwritten, LeavesOthers, LeavesParts, nothing}
 use Rattle.md_vgm.specs.Outcomes.{Outcome}
 use Rattle.md_args.specs.Words.{Assemble, Command, Convert, Debug, Debugging, Demo, Info, Rollback, Rolling, Run, RunCart, RunDemo, end_of, frames_name, journal_name, list_name, load_name, output_of, recording_name, rom_of, save_name, script_name, sound_name}
 use Rattle.md_top.specs.Assemblies.{AsmEnds, AsmFiles, CanAssemble, asm_ending, source_line}
@@ -28,7 +28,7 @@ use Rattle.md_top.specs.Conversions.{CanConvert, ConvertEnds, ConvertFiles, conv
 use Rattle.md_top.specs.declared.digests.Digests.{Digests}
 use Rattle.md_top.specs.declared.ending.Ending.{Ending}
 use Rattle.md_top.specs.declared.inputs.Inputs.{Inputs}
-use Rattle.md_top.specs.declared.ending.Ending.TheVariants.{Shown, Done, DemoDone, Converted, InputRefused, OutputFault, SourceRefused, ListFault, ScriptFault, ScriptTooLong, ScriptRefused, ScriptMemory, RolledBack, LineRefused, Usage, TooFar, ReadFault, TooLong, Short, NoMark, RecordingFault, RecordingTooLong, RecordingWrong, LoadFault, StateTooLong, StateWrong, OtherCart, Behind, FramesFault, SoundFault, JournalFault, SaveFault, Memory}
+use Rattle.md_top.specs.declared.ending.Ending.TheVariants.{Shown, Done, DemoDone, Converted, InputRefused, OutputFault, SourceRefused, ListFault, ScriptFault, ScriptTooLong, Played, ReplyFault, ScriptRefused, ScriptMemory, RolledBack, LineRefused, Usage, TooFar, ReadFault, TooLong, Short, NoMark, RecordingFault, RecordingTooLong, RecordingWrong, LoadFault, StateTooLong, StateWrong, OtherCart, Behind, FramesFault, SoundFault, JournalFault, SaveFault, Memory}
 
 -- the status that the program ends with
 abbrev pub status_of : Ending → ℕ
@@ -42,8 +42,10 @@ status_of (SourceRefused line kind) = 16
 status_of ListFault = 4
 status_of ScriptFault = 3
 status_of ScriptTooLong = 14
-status_of (ScriptRefused replies line fault) = 15
-status_of (ScriptMemory replies) = 10
+status_of Played = 0
+status_of ReplyFault = 13
+status_of (ScriptRefused line fault) = 15
+status_of ScriptMemory = 10
 status_of (RolledBack rolled) = 0
 status_of (LineRefused line fault) = 18
 status_of Usage = 2
@@ -105,7 +107,7 @@ digest_lines digests =
     (digest_line (codes "frames sha256 ") digests.frames ++ digest_line (codes "samples sha256 ") digests.samples)
     ++ digest_line (codes "journal sha256 ") digests.journal
 
--- what is put: the output, or the one line of a refusal, in a session behind the replies to the lines before it
+-- what is put: the output, or the one line of a refusal; in a session behind the replies, which were put before
 abbrev pub text_of : Option Command → Ending → List ℕ
 text_of (Some command) (Shown lines) = lines
 text_of (Some command) (Done from frames accesses halted) = lines_of from (end_of command) frames accesses halted
@@ -117,8 +119,10 @@ text_of (Some command) (SourceRefused line kind) = source_line line kind
 text_of (Some command) ListFault = codes "fault: writing " ++ unwrap_or (list_name command) [] ++ codes "\n"
 text_of (Some command) ScriptFault = codes "fault: reading " ++ unwrap_or (script_name command) [] ++ codes "\n"
 text_of (Some command) ScriptTooLong = codes "refused: " ++ unwrap_or (script_name command) [] ++ codes " is too long\n"
-text_of (Some command) (ScriptRefused replies line fault) = replies ++ script_line line fault
-text_of (Some command) (ScriptMemory replies) = replies ++ codes "refused: memory\n"
+text_of (Some command) Played = []
+text_of (Some command) ReplyFault = []
+text_of (Some command) (ScriptRefused line fault) = script_line line fault
+text_of (Some command) ScriptMemory = codes "refused: memory\n"
 text_of (Some command) (RolledBack rolled) = rolled_lines rolled
 text_of (Some command) (LineRefused line fault) = inputs_line line fault
 text_of (Some command) TooFar = codes "refused: cycle " ++ decimal (end_of command) ++ codes " is too far\n"
@@ -156,6 +160,31 @@ abbrev pub RunCause : Start → Run → DepotState → DepotState → Ending →
 RunCause start run old new (Done from frames accesses halted) = RunsWell start run.cycles from frames accesses halted
 RunCause start run old new ending = IsUnwritten run old new ending
 
+-- the outputs hold what the run from a start made below a cycle
+abbrev pub HoldsUntil : Start → Run → Files → Files → ℕ → Type 0
+HoldsUntil start run old new at = Holds run old new (pieces_until start run.cycles at)
+
+-- what the files hold once the run from a start has ended
+abbrev pub RunLeaves : Start → Run → Files → Files → Ending → Type 0
+RunLeaves start run old new (Done from frames accesses halted) = Holds run old new (pieces_of start run.cycles)
+RunLeaves start run old new FramesFault = LeavesParts run old new (pieces_of start run.cycles)
+RunLeaves start run old new SoundFault = LeavesParts run old new (pieces_of start run.cycles)
+RunLeaves start run old new JournalFault = LeavesParts run old new (pieces_of start run.cycles)
+RunLeaves start run old new SaveFault = LeavesParts run old new (pieces_of start run.cycles)
+RunLeaves start run old new Memory = LeavesParts run old new nothing
+RunLeaves start run old new ending = new ≡ old
+
+-- A RUN THAT BEGAN, from one start: why it ended, what is promised of it where it ended well, and what its outputs
+-- hold then
+pub record RunsFrom (run : Run) (old new : DepotState) (ending : Ending) : Type 0 where
+  pub start : Start
+  pub begins : Begins run old.files start
+  -- with no other does it begin: its files spell one recording alone, and keep one machine alone
+  pub alone : (other : Start) → Begins run old.files other → other ≡ start
+  pub above : start.at < run.cycles
+  pub cause : RunCause start run old new ending
+  pub files : RunLeaves start run old.files new.files ending
+
 -- Why each may come. What a file holds is spoken of where the depot tells it. Each cause says that
 -- the earlier ones do not stand.
 
@@ -173,11 +202,11 @@ RunEnds told run old new (Behind from) =
     × (told → (start : Start) × Begins run old.files start × (from ≡ start.at))
 RunEnds told run old new (Done from frames accesses halted) =
     IsEnd run.cycles × MayBeginAt run from
-    × (told → (start : Start) × Begins run old.files start × (start.at < run.cycles) × RunCause start run old new (Done from frames accesses halted))
-RunEnds told run old new FramesFault = IsEnd run.cycles × (told → CanRun run old.files) × IsUnwritten run old new FramesFault
-RunEnds told run old new SoundFault = IsEnd run.cycles × (told → CanRun run old.files) × IsUnwritten run old new SoundFault
-RunEnds told run old new JournalFault = IsEnd run.cycles × (told → CanRun run old.files) × IsUnwritten run old new JournalFault
-RunEnds told run old new SaveFault = IsEnd run.cycles × (told → CanRun run old.files) × IsUnwritten run old new SaveFault
+    × (told → RunsFrom run old new (Done from frames accesses halted))
+RunEnds told run old new FramesFault = IsEnd run.cycles × (told → RunsFrom run old new FramesFault) × IsUnwritten run old new FramesFault
+RunEnds told run old new SoundFault = IsEnd run.cycles × (told → RunsFrom run old new SoundFault) × IsUnwritten run old new SoundFault
+RunEnds told run old new JournalFault = IsEnd run.cycles × (told → RunsFrom run old new JournalFault) × IsUnwritten run old new JournalFault
+RunEnds told run old new SaveFault = IsEnd run.cycles × (told → RunsFrom run old new SaveFault) × IsUnwritten run old new SaveFault
 RunEnds told run old new LoadFault = (run.cycles ≤ last_cycle) × LoadCause told run old new LoadFault
 RunEnds told run old new StateTooLong = (run.cycles ≤ last_cycle) × LoadCause told run old new StateTooLong
 RunEnds told run old new (StateWrong place) = (run.cycles ≤ last_cycle) × LoadCause told run old new (StateWrong place)
@@ -197,31 +226,14 @@ HasCause told (Some (Assemble words)) old new ending = AsmEnds told words old ne
 HasCause told (Some (Debug words)) old new ending = DebugEnds told words old new ending
 HasCause told (Some (Rollback words)) old new ending = RollEnds told words old new ending
 
--- the outputs hold what the run from a start made below a cycle
-abbrev pub HoldsUntil : Start → Run → Files → Files → ℕ → Type 0
-HoldsUntil start run old new at = Holds run old new (pieces_until start run.cycles at)
-
--- what the files hold once the run from a start has ended
-abbrev pub RunLeaves : Start → Run → Files → Files → Ending → Type 0
-RunLeaves start run old new (Done from frames accesses halted) = Holds run old new (pieces_of start run.cycles)
-RunLeaves start run old new FramesFault = LeavesParts run old new (pieces_of start run.cycles)
-RunLeaves start run old new SoundFault = LeavesParts run old new (pieces_of start run.cycles)
-RunLeaves start run old new JournalFault = LeavesParts run old new (pieces_of start run.cycles)
-RunLeaves start run old new SaveFault = LeavesParts run old new (pieces_of start run.cycles)
-RunLeaves start run old new Memory = LeavesParts run old new nothing
-RunLeaves start run old new ending = new ≡ old
-
--- what the files hold once a run has ended that found its start in them
-abbrev pub StartLeaves : Run → Files → Files → Ending → Type 0
-StartLeaves run old new ending = (start : Start) × Begins run old start × RunLeaves start run old new ending
-
--- what the files hold once a run has ended, or was refused
+-- what the files hold once a run has ended, or was refused; what the outputs hold of a run that began stands with its
+-- cause
 abbrev pub RunFiles : Run → Files → Files → Ending → Type 0
-RunFiles run old new (Done from frames accesses halted) = StartLeaves run old new (Done from frames accesses halted)
-RunFiles run old new FramesFault = StartLeaves run old new FramesFault
-RunFiles run old new SoundFault = StartLeaves run old new SoundFault
-RunFiles run old new JournalFault = StartLeaves run old new JournalFault
-RunFiles run old new SaveFault = StartLeaves run old new SaveFault
+RunFiles run old new (Done from frames accesses halted) = LeavesOthers run old new
+RunFiles run old new FramesFault = LeavesOthers run old new
+RunFiles run old new SoundFault = LeavesOthers run old new
+RunFiles run old new JournalFault = LeavesOthers run old new
+RunFiles run old new SaveFault = LeavesOthers run old new
 RunFiles run old new Memory = LeavesParts run old new nothing
 RunFiles run old new ending = new ≡ old
 
@@ -302,7 +314,7 @@ asked_ending run files verdict state =
 -- behind the script's file
 abbrev pub script_ending : Option (List ℕ) → Scripted → Ending
 script_ending None script = ScriptFault
-script_ending (Some bytes) script = if nat_lt script_limit (length bytes) then ScriptTooLong else played_ending script.replies script.ending
+script_ending (Some bytes) script = if nat_lt script_limit (length bytes) then ScriptTooLong else played_ending script.ending
 
 -- what a session of the debugger comes to, with these files and this outcome of the lines of its script
 abbrev pub debug_ending : Debugging → Files → Scripted → Ending

@@ -8,6 +8,7 @@ pub mod Demos
 pub mod Endings
 pub mod Heard
 pub mod Inputs
+pub mod Laws
 pub mod Least
 pub mod Limits
 pub mod Loads

@@ -68,6 +68,10 @@ pub record LeavesParts (run : Run) (old new : Files) (whole : Pieces) : Type 0 w
   pub state : IsPartOf parts.state whole.state
   pub files : new ≡ written run old parts
 
+-- no file but the outputs changes
+abbrev pub LeavesOthers : Run → Files → Files → Type 0
+LeavesOthers run old new = (parts : Parts) × (new ≡ written run old parts)
+
 -- an output that is asked for could not be written: a count of faults rose
 abbrev pub IsWriteFault : Run → DepotState → DepotState → Ending → Type 0
 IsWriteFault run old new FramesFault = IsSome run.frames × Rose old.write_faults new.write_faults

@@ -4,6 +4,7 @@ use Rattle.md_word.specs.declared.event.Entry.{Entry}
 use Rattle.md_machine.specs.Console.{Console, IsQuiet, IsRunTo}
 use Rattle.md_machine.specs.Lists.{ListsEndAsRun}
 use Rattle.md_machine.specs.Media.{Media, joined}
+use Rattle.md_machine.specs.Outputs.{frames_bytes, journal_bytes, sound_bytes}
 use Rattle.md_machine.specs.ValidParts.{HasValidParts}
 use Rattle.md_machine.specs.Starts.{Start}
 use Rattle.md_reached.specs.Reached.{IsReached}
@@ -14,24 +15,32 @@ use Rattle.save_state.specs.Versions.{IsState}
 use Rattle.md_top.specs.Counts.{pairs_between}
 use Rattle.md_top.specs.Heard.{IsHeard}
 use Rattle.md_word.specs.Clock.{last_cycle}
-use Rattle.md_top.specs.Runs.{entries_from, halted_from, media_from, run_from, state_to}
+use Rattle.md_top.specs.Runs.{entries_from, frames_to, halted_from, journal_to, media_from, run_from, state_to}
 
--- what a run from a start has to save at a cycle is a saved state of its cartridge, and keeps the machine
--- there, settled
+-- where a run goes on from what is saved at a cycle: the machine there, settled
+abbrev pub saved_start : Start → ℕ → Start
+saved_start start at = record { at = at; console = settled_console at (run_from start at) }
+
+-- what a run from a start has to save at a cycle is a saved state of its cartridge, and keeps that machine
 abbrev pub IsKept : Start → ℕ → Type 0
-IsKept start at = IsState start.console.cart (state_to start at) (record { at = at; console = settled_console at (run_from start at) })
+IsKept start at = IsState start.console.cart (state_to start at) (saved_start start at)
 
 -- a run that goes on from a cycle makes what the whole run makes behind it, and comes to the same state
 pub record IsRest (start : Start) (at end : ℕ) (after : Console) (later : List Entry) (output : Media) : Type 0 where
   pub entries : entries_from start end ≡ entries_from start at ++ later
   pub media : media_from start end ≡ joined (media_from start at) output
+  -- in bytes: the whole run's frames, its sound behind the header, and its journal are those of the first part, and
+  -- behind them those of the rest
+  pub frames : frames_to start end ≡ frames_to start at ++ frames_bytes (saved_start start at).console.pal output.frames
+  pub sound : sound_bytes (media_from start end) ≡ sound_bytes (media_from start at) ++ sound_bytes output
+  pub journal : journal_to start end ≡ journal_to start at ++ journal_bytes later
   pub state : state_to start end ≡ state_bytes end after
 
 -- whoever runs the machine that is saved at a cycle on makes the rest of the run
 abbrev pub GoesOnFrom : Start → ℕ → Type 0
 GoesOnFrom start at =
     (end : ℕ) (after : Console) (entries : List Entry) (output : Media) → at ≤ end → end ≤ last_cycle
-    → IsRunTo (settled_console at (run_from start at)) end after entries output → IsRest start at end after entries output
+    → IsRunTo (saved_start start at).console end after entries output → IsRest start at end after entries output
 
 -- A RUN THAT ENDS WELL, from a start to a cycle: what is promised of it, and of what is told of it
 pub record RunsWell (start : Start) (end : ℕ) (begun finished counted : ℕ) (since : Option ℕ) : Type 0 where

@@ -8,7 +8,7 @@ use rollback_states::Rolled;
 /// What a command line comes to.
 #[derive(Drop)]
 pub(crate) enum Ending {
-    /// The lines of a cartridge's header, or the replies to a script of which each line was obeyed.
+    /// The lines of a cartridge's header.
     Shown(Text),
     /// The run ended well.
     Done {
@@ -37,15 +37,18 @@ pub(crate) enum Ending {
     ScriptFault,
     /// It is longer than its limit.
     ScriptTooLong,
+    /// Each line of the script was obeyed, and its reply put.
+    Played,
+    /// A reply to a line of the script could not be put.
+    ReplyFault,
     /// A line of the script is refused, behind the replies to those before it.
     ScriptRefused {
-        replies: Text,
         /// Its number, from 1 on.
         line: u64,
         fault: DebugFault,
     },
     /// Memory was wanting for a line of the script, behind the replies to those before it.
-    ScriptMemory(Text),
+    ScriptMemory,
     /// Each line of what two players press was obeyed.
     RolledBack(Rolled),
     /// A line of what two players press is refused.

@@ -1,15 +1,23 @@
 //! Laws of the definitions that the contracts cite, each on a call that does nothing else.
-ghost use Rattle.std.specs.Prelude.{◌≡◌, ◌<◌, ◌^◌, true, length};
-ghost use Rattle.md_machine.specs.Starts.{IsStart};
+ghost use Rattle.std.specs.Prelude.{◌≡◌, ℕ, ◌<◌, ◌^◌, List, true, length};
+ghost use Rattle.md_outer.specs.Outside.{Files};
+ghost use Rattle.md_pads.specs.Recording.{Recorded, Spells};
+ghost use Rattle.md_machine.specs.Starts.{IsStart, Start};
+ghost use Rattle.md_args.specs.Words.{Run};
 ghost use Rattle.md_top.specs.Courses.{start_at};
 ghost use Rattle.md_top.specs.Counts.{frames_between, pairs_between};
 ghost use Rattle.md_top.specs.Inputs.{IsVerdict, Verdict};
+ghost use Rattle.md_top.specs.Laws.{ProgramLaws};
+ghost use Rattle.md_top.specs.Loads.{Begins};
 ghost use Rattle.md_top.specs.Resuming.{StateLaws};
 ghost use Rattle.md_top.specs.Runs.{RunLaws, is_quiet, media_from, run_from};
 
+use debug_states::laws::debug_laws;
 use md_machine::{Machine, laws};
 use md_pads::Recording;
 use md_reached::{saved, settling};
+use rollback_states::laws::rollback_laws;
+use state_laws::states_keep_one_machine;
 use std::alloc::Global;
 
 /// What the laws of the machine say of the runs from where a machine is.
@@ -33,6 +41,31 @@ pub(crate) fn states_keep_laws()
     saved::reached_may_be_kept();
     settling::settled_machines_go_on();
     laws::one_run();
+}
+
+/// No bytes spell two recordings.
+pub fn bytes_spell_one_recording()
+    ensures { (bytes : List ℕ) (a b : Recorded) → Spells bytes a → Spells bytes b → a ≡ b }
+{}
+
+/// With the same files no run begins from two starts: they hold one cartridge, spell one recording alone, and keep
+/// one machine alone.
+pub fn runs_begin_once()
+    ensures { (run : Run) (files : Files) (a b : Start) → Begins run files a → Begins run files b → a ≡ b }
+{
+    bytes_spell_one_recording();
+    states_keep_one_machine();
+}
+
+/// What holds of the definitions that the answers of the program cite.
+pub fn program_laws()
+    ensures { ProgramLaws }
+{
+    laws::pads_are_recorded();
+    laws::frames_counted();
+    laws::samples_counted();
+    debug_laws();
+    rollback_laws();
 }
 
 /// A machine after a run from where it is to the cycle `end` has no event left below it.

@@ -1,4 +1,5 @@
 ghost use Rattle.std.specs.Prelude.{◌≡◌, ℕ, Some};
+ghost use Rattle.md_top.specs.Answers.{Shows};
 ghost use Rattle.md_top.specs.Endings.{HasCause, InfoEnds, LeavesFiles, RunEnds, RunFiles};
 ghost use Rattle.md_top.specs.Workers.{CanGoOn, WentOn};
 ghost use Rattle.md_args.specs.Shown.{shown_command, shown_run};
@@ -8,6 +9,7 @@ use crate::converting::convert_file;
 use crate::debugging::debug_cart;
 use crate::demo::run_demo;
 use crate::ending::Ending;
+use crate::laws::runs_begin_once;
 use crate::loading::first_machine;
 use crate::reading::{read_cart, read_inputs};
 use crate::rolling::roll_cart;
@@ -16,22 +18,25 @@ use crate::segment::begin;
 use crate::text::Text;
 use md_args::{CommandWords, RunWords};
 use md_machine::Machine;
-use md_outer::Depot;
+use md_outer::{Depot, Sink};
 use md_word::NoMemory;
 use md_word::clock::LAST_CYCLE;
 use std::alloc::Global;
 
-/// Does what the words ask for, up to what is to be put. `go_on` makes each segment of a run.
-pub(crate) fn perform<F: Fn(&mut Machine, u64), D: Depot>(
+/// Does what the words ask for, up to what is to be put of its ending; a session of the debugger puts its replies.
+/// `go_on` makes each segment of a run.
+pub(crate) fn perform<F: Fn(&mut Machine, u64), D: Depot, S: Sink>(
     alloc: Global,
     go_on: &F,
     command: &CommandWords<'_>,
     depot: &mut D,
+    out: &mut S,
 ) -> Ending
     requires may { (m : _) (to : ℕ) → CanGoOn m.now to → F.pre go_on.now m to }
     requires goes { (m : _) (to : ℕ) (after : _) → F.post go_on.now m to tt after → WentOn m.now to after.now }
     ensures cause { HasCause D.told (Some (shown_command command.now)) (D.state depot.old) (D.state depot.new) result }
     ensures files { D.told → LeavesFiles (Some (shown_command command.now)) (D.state depot.old).files (D.state depot.new).files result }
+    ensures shown { Shows D.told S.told (Some (shown_command command.now)) (D.state depot.old).files result (S.state out.old) (S.state out.new) }
 {
     match command {
         CommandWords::Info(rom) => show_header(alloc, rom, depot),
@@ -39,7 +44,7 @@ pub(crate) fn perform<F: Fn(&mut Machine, u64), D: Depot>(
         CommandWords::Demo(demo) => run_demo(alloc, go_on, demo),
         CommandWords::Convert(words) => convert_file(alloc, words, depot),
         CommandWords::Assemble(words) => assemble_source(alloc, words, depot),
-        CommandWords::Debug(words) => debug_cart(alloc, words, depot),
+        CommandWords::Debug(words) => debug_cart(alloc, words, depot, out),
         CommandWords::Rollback(words) => roll_cart(alloc, words, depot),
     }
 }
@@ -87,6 +92,7 @@ fn run_cart<F: Fn(&mut Machine, u64), D: Depot>(
     if run.cycles <= from {
         return Ending::Behind(from);
     }
+    runs_begin_once();
     match begin(alloc, machine) {
         Ok(course) => begin_and_write(alloc, go_on, run, depot, course),
         Err(NoMemory) => Ending::Memory,

@@ -9,7 +9,7 @@ ghost use Rattle.md_args.specs.Shown.{shown_command};
 
 use crate::assembling::refuse_source;
 use crate::converting::refuse_input;
-use crate::debugging::{refuse_rest, refuse_script};
+use crate::debugging::refuse_script;
 use crate::ending::Ending;
 use crate::put::{put_three, put_two};
 use crate::report_demo::put_summary;
@@ -68,12 +68,10 @@ pub(crate) fn report<S: Sink>(command: &CommandWords<'_>, ending: Ending, out: &
         Ending::ScriptTooLong => {
             refuse_file(out, 14, "refused: ", command.script(), " is too long\n")
         }
-        Ending::ScriptRefused {
-            replies,
-            line,
-            fault,
-        } => refuse_script(out, replies.bytes(), line, fault),
-        Ending::ScriptMemory(replies) => refuse_rest(out, replies.bytes()),
+        Ending::Played => 0,
+        Ending::ReplyFault => 13,
+        Ending::ScriptRefused { line, fault } => refuse_script(out, line, fault),
+        Ending::ScriptMemory => refuse(out, 10, "refused: memory\n", "", ""),
         Ending::RolledBack(rolled) => status_of(put_rolled(out, &rolled)),
         Ending::LineRefused { line, fault } => refuse_line(out, line, fault),
         Ending::Memory => refuse(out, 10, "refused: memory\n", "", ""),

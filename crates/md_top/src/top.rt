@@ -1,9 +1,11 @@
 ghost use Rattle.std.specs.Prelude.{◌≡◌, ℕ, ◌≤◌, None, Some, map, string_bytes};
 ghost use Rattle.md_top.specs.Answers.{Answers, Causes};
+ghost use Rattle.md_top.specs.Laws.{ProgramLaws};
 ghost use Rattle.md_top.specs.Workers.{CanGoOn, WentOn};
 ghost use Rattle.md_args.specs.Shown.{shown_command};
 ghost use Rattle.md_args.specs.Words.{command_of};
 
+use crate::laws::program_laws;
 use crate::perform::perform;
 use crate::report::{refuse, report};
 use md_args::{CommandWords, read_words};
@@ -25,9 +27,9 @@ use std::thread::Threads;
 /// written to it, a segment of at most 896,040 cycles after the other; the lines are put into `out`.
 /// `vgm JOURNAL OUT` writes the VGM file of a journal's sound writes, and `play VGM OUT` the sound file of a VGM
 /// file; with `--pal` by the master clock of PAL. `asm SOURCE OUT` assembles a source, with `--list L` for the list
-/// of its instructions. `debug ROM SCRIPT` puts the replies to the lines of a script of the debugger, at power-on
-/// of the cartridge. `rollback ROM INPUTS --window W` obeys the lines of what two players press, and puts what their
-/// session comes to.
+/// of its instructions. `debug ROM SCRIPT` obeys the lines of a script of the debugger, at power-on of the
+/// cartridge, and puts the reply to each when it was obeyed. `rollback ROM INPUTS --window W` obeys the lines of
+/// what two players press, and puts what their session comes to.
 /// It waits for nobody: whatever `--workers` asks for, one worker makes the run.
 pub fn drive_one<D: Depot, S: Sink>(
     alloc: Global,
@@ -39,7 +41,9 @@ pub fn drive_one<D: Depot, S: Sink>(
         (D.state depot.old) (D.state depot.new) (S.state out.old) (S.state out.new) result }
     ensures causes { Causes D.told (command_of (map string_bytes words.now.items))
         (D.state depot.old) (D.state depot.new) (S.state out.old) (S.state out.new) result }
+    ensures laws { ProgramLaws }
 {
+    program_laws();
     let alone = |machine: &mut Machine, to: u64|
         requires can { CanGoOn machine.old to }
         ensures went { WentOn machine.old to machine.new }
@@ -71,7 +75,9 @@ pub fn drive<D: Depot, S: Sink, G: Gate, Rt: Threads + Wait + Sync>(
         (D.state depot.old) (D.state depot.new) (S.state out.old) (S.state out.new) result }
     ensures causes { Causes D.told (command_of (map string_bytes words.now.items))
         (D.state depot.old) (D.state depot.new) (S.state out.old) (S.state out.new) result }
+    ensures laws { ProgramLaws }
 {
+    program_laws();
     match read_words(alloc, words.as_slice()) {
         Ok(Some(command)) => {
             let number = command.workers();
@@ -109,6 +115,6 @@ fn obey<F: Fn(&mut Machine, u64), D: Depot, S: Sink>(
     ensures causes { Causes D.told (Some (shown_command command.now))
         (D.state depot.old) (D.state depot.new) (S.state out.old) (S.state out.new) result }
 {
-    let ending = perform(alloc, go_on, command, depot);
+    let ending = perform(alloc, go_on, command, depot, out);
     report(command, ending, out)
 }

@@ -1,3 +1,4 @@
+use crate::crowd::Crowd;
 use crate::errand::Errand;
 use crate::meeting::Meeting;
 use crate::pair;
@@ -19,6 +20,19 @@ fn several_workers_meet_at_the_gate(rt: HostRuntime) -> Result<(), Fail> {
             let _core = run_core(&rt, core, 1000, workers, &gate);
         }
         assert!(rt; gate.met(2), "with {workers} workers");
+    }
+    Ok(())
+}
+
+// Each of several workers passes for its own chip on a thread of its own: with fewer threads, or with a chip that
+// another worker moves, they would never all be at the gate. Each of the five chips has an event below the end.
+#[test]
+fn each_worker_passes_for_its_chip_on_its_own_thread(rt: HostRuntime) -> Result<(), Fail> {
+    for workers in 2..6u32 {
+        let gate = Crowd::new(u64::from(workers));
+        let core = power_on(rt.alloc(), 5000)?;
+        let _core = run_core(&rt, core, 16200, workers, &gate);
+        assert!(rt; gate.met(), "with {workers} workers");
     }
     Ok(())
 }

@@ -4,6 +4,7 @@ use Rattle.md_asm.specs.Assembly.{Done, assembly}
 use Rattle.md_asm.specs.Seen.{image_seen, lines_seen}
 use Rattle.md_asm.specs.declared.placed.Placed.{Placed}
 use Rattle.assembly_laws.specs.Lines.{SaysLines}
+use Rattle.asm_round_trip.specs.Fitting.{FitsLines}
 use Rattle.asm_files.proofs.Files.{found_in, leaves, left_by}
 use Rattle.asm_files.proofs.assembling.assemble_file.Goals as goal
 
@@ -13,6 +14,7 @@ returns-in-Ok-list_of-clause-files g c = λ t.
     (g.D.Depot.state c.write_both.new.depot).files (g.D.Depot.state c.fetch.new.self) (g.D.Depot.state c.write_both.new.depot)
     (image_seen c.in-Ok-assemble.assembled) c.as_bytes.result.now (lines_seen c.in-Ok-assemble.assembled) c.write_both.result
     (subst (λ (image : List ℕ). (bytes : List ℕ) (placed : List Placed) → assembly bytes ≡ Done image placed → SaysLines bytes image placed) c.image-image.ensures c.image_says_its_lines.ensures)
+    (subst (λ (image : List ℕ). (bytes : List ℕ) (placed : List Placed) → assembly bytes ≡ Done image placed → FitsLines bytes) c.image-image.ensures c.numbers_are_in_range.ensures)
     c.instructions_are_kept.ensures (c.in-Ok.ensures.files t)
     (found_in (g.D.Depot.state c.args.depot.now).files (shown_assembling c.args.words.now) c.in-Ok.source.items c.as_slice.result.now (image_seen c.in-Ok-assemble.assembled) (lines_seen c.in-Ok-assemble.assembled)
     (c.in-Ok.ensures.bytes t) c.in-Ok.ensures.within c.as_slice.ensures.value c.in-Ok-assemble.ensures.done)

@@ -1,13 +1,10 @@
-use Rattle.std.proofs.Common.{subst}
-use Rattle.text_lines.specs.Lines.{lines_of}
-use Rattle.debug_script.specs.Scripts.{Plays}
-use Rattle.md_debug.specs.Sessions.{SessionValue}
-use Rattle.state_images.specs.Images.{ImagesValue, Keeps, image_of, size_of}
+use Rattle.debug_states.proofs.Opening.{puts_script, stops_script}
 use Rattle.debug_states.proofs.playing.played.Goals as goal
 
-pub returns : goal.returns
-returns c = λ cart is. record {
-  after = c.play.new.session;
-  plays =
-      subst (λ (s : SessionValue ImagesValue). Plays size_of image_of Keeps (lines_of c.args.script.now) s c.play.new.session c.play.result.replies.items c.play.result.ending) is c.play.ensures;
-}
+pub returns-clause-ends : goal.returns-clause-ends
+returns-clause-ends g c = λ cart is.
+    puts_script g.S.Sink.told cart c.args.script.now c.args.session c.play.new.session (g.S.Sink.state c.args.out.now) (g.S.Sink.state c.play.new.out) c.play.result is c.play.ensures.ends
+
+pub returns-clause-stops : goal.returns-clause-stops
+returns-clause-stops g c = λ cart is.
+    stops_script g.S.Sink.told cart c.args.script.now c.args.session c.play.new.session (g.S.Sink.state c.args.out.now) (g.S.Sink.state c.play.new.out) c.play.result is c.play.ensures.stops

@@ -1,4 +1,4 @@
-use Rattle.md_top.proofs.Puts.{puts_none}
+use Rattle.debug_script.proofs.Scripts.{puts_none}
 use Rattle.md_top.proofs.report.put_halted.Goals as goal
 
 pub returns-in-None : goal.returns-in-None

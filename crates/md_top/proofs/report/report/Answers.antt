@@ -1,3 +1,4 @@
+use Rattle.std.proofs.Common.{refl}
 use Rattle.md_top.proofs.report.report.Goals as goal
 
 pub returns-in-ReadFault : goal.returns-in-ReadFault
@@ -52,11 +53,17 @@ pub returns-in-ScriptTooLong : goal.returns-in-ScriptTooLong
 returns-in-ScriptTooLong g c =
     rw c.in-ScriptTooLong.is (c.refuse_file-in-ScriptTooLong.ensures.status, rw c.script-in-ScriptTooLong.ensures at c.refuse_file-in-ScriptTooLong.ensures.put)
 
+pub returns-in-Played : goal.returns-in-Played
+returns-in-Played g c = rw c.in-Played.is (refl, refl)
+
+pub returns-in-ReplyFault : goal.returns-in-ReplyFault
+returns-in-ReplyFault g c = rw c.in-ReplyFault.is (refl, refl)
+
 pub returns-in-ScriptRefused : goal.returns-in-ScriptRefused
-returns-in-ScriptRefused g c = rw c.in-ScriptRefused.is (c.refuse_script.ensures.status, rw c.bytes-in-ScriptRefused.ensures at c.refuse_script.ensures.put)
+returns-in-ScriptRefused g c = rw c.in-ScriptRefused.is (c.refuse_script.ensures.status, c.refuse_script.ensures.put)
 
 pub returns-in-ScriptMemory : goal.returns-in-ScriptMemory
-returns-in-ScriptMemory g c = rw c.in-ScriptMemory.is (c.refuse_rest.ensures.status, rw c.bytes-in-ScriptMemory.ensures at c.refuse_rest.ensures.put)
+returns-in-ScriptMemory g c = rw c.in-ScriptMemory.is (c.refuse-in-ScriptMemory.ensures.status, c.refuse-in-ScriptMemory.ensures.put)
 
 pub returns-in-LineRefused : goal.returns-in-LineRefused
 returns-in-LineRefused g c = rw c.in-LineRefused.is (c.refuse_line.ensures.status, c.refuse_line.ensures.put)

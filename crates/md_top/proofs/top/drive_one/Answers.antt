@@ -14,7 +14,7 @@ returns-in-Ok-None-clause-answer g c =
     (λ (asked : Option Command). Answers g.D.Depot.told g.S.Sink.told asked (g.D.Depot.state c.args.depot.now) (g.D.Depot.state c.args.depot.now)
     (g.S.Sink.state c.args.out.now) (g.S.Sink.state c.refuse.new.out) c.refuse.result)
     words
-    (record { ending = Usage; cause = tt; files = λ t. refl; reports = (c.refuse.ensures.status, c.refuse.ensures.put) })
+    (record { ending = Usage; cause = tt; files = λ t. refl; between = g.S.Sink.state c.args.out.now; shown = refl; reports = (c.refuse.ensures.status, c.refuse.ensures.put) })
 
 pub returns-in-Ok-None-clause-causes : goal.returns-in-Ok-None-clause-causes
 returns-in-Ok-None-clause-causes g c =
