@@ -42,6 +42,53 @@ impl Meeting {
     }
 }
 
+/// A gate at which the first chip of each of so many workers waits, at its first pass of each segment, until those
+/// of all have come: so each of them passes on another thread.
+#[derive(Drop)]
+pub(crate) struct Crowd {
+    workers: u64,
+    came: AtomicU64,
+    missed: AtomicBool,
+}
+
+impl Crowd {
+    pub(crate) fn new(workers: u64) -> Crowd {
+        Crowd {
+            workers,
+            came: AtomicU64::new(0),
+            missed: AtomicBool::new(false),
+        }
+    }
+
+    /// Comes in, and waits until all have come in as often.
+    fn come(&self) {
+        let before = self.came.fetch_add(1, Ordering::SeqCst);
+        let earlier = before.checked_div(self.workers).unwrap_or(0);
+        let all = earlier.saturating_add(1).saturating_mul(self.workers);
+        for _look in 0..LOOKS {
+            if self.came.load(Ordering::SeqCst) >= all {
+                return;
+            }
+            yield_now();
+        }
+        self.missed.store(true, Ordering::SeqCst);
+    }
+
+    /// Whether each came in so often, and none passed alone.
+    pub(crate) fn met(&self, times: u64) -> bool {
+        self.came.load(Ordering::SeqCst) == self.workers.saturating_mul(times)
+            && !self.missed.load(Ordering::SeqCst)
+    }
+}
+
+impl Gate for Crowd {
+    fn pass(&self, chip: u8, turn: u64) {
+        if turn == 0 && u64::from(chip) < self.workers {
+            self.come();
+        }
+    }
+}
+
 impl Gate for Meeting {
     fn pass(&self, chip: u8, turn: u64) {
         match (chip, turn) {

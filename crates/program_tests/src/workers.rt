@@ -1,6 +1,6 @@
 // Runs of several workers, which meet at a gate.
-use crate::meeting::Meeting;
-use md_outer::{MemDepot, MemSink};
+use crate::meeting::{Crowd, Meeting};
+use md_outer::{Gate, MemDepot, MemSink};
 use md_top::drive;
 use std::alloc::{AllocError, Global};
 use std::sync::Wait;
@@ -33,6 +33,19 @@ fn words_of(alloc: Global, workers: u32) -> Result<Vec<String>, AllocError> {
     Ok(words)
 }
 
+/// The status of a run of two segments by so many workers, who pass a gate.
+fn status_at<R: Threads + Wait + Sync, G: Gate>(
+    rt: &R,
+    alloc: Global,
+    workers: u32,
+    gate: &G,
+) -> Result<u8, AllocError> {
+    let words = words_of(alloc, workers)?;
+    let mut depot = depot_of(alloc)?;
+    let mut out = MemSink::new(alloc, 1 << 16, Vec::new(alloc))?;
+    Ok(drive(rt, alloc, &words, &mut depot, &mut out, gate))
+}
+
 /// Whether a run of two segments by so many workers ends well, and the first two chips wait for one another in each.
 fn meets<R: Threads + Wait + Sync>(
     rt: &R,
@@ -40,10 +53,18 @@ fn meets<R: Threads + Wait + Sync>(
     workers: u32,
 ) -> Result<bool, AllocError> {
     let gate = Meeting::new();
-    let words = words_of(alloc, workers)?;
-    let mut depot = depot_of(alloc)?;
-    let mut out = MemSink::new(alloc, 1 << 16, Vec::new(alloc))?;
-    let status = drive(rt, alloc, &words, &mut depot, &mut out, &gate);
+    let status = status_at(rt, alloc, workers, &gate)?;
+    Ok(status == 0 && gate.met(2))
+}
+
+/// The same where the first chips of all workers wait for one another.
+fn gathers<R: Threads + Wait + Sync>(
+    rt: &R,
+    alloc: Global,
+    workers: u32,
+) -> Result<bool, AllocError> {
+    let gate = Crowd::new(u64::from(workers));
+    let status = status_at(rt, alloc, workers, &gate)?;
     Ok(status == 0 && gate.met(2))
 }
 
@@ -53,6 +74,17 @@ fn meets<R: Threads + Wait + Sync>(
 fn several_workers_meet_in_each_segment(rt: HostRuntime) -> Result<(), Fail> {
     for workers in 2..6 {
         if !meets(&rt, rt.alloc(), workers)? {
+            return Err(Fail::from(workers));
+        }
+    }
+    Ok(())
+}
+
+// In each of two segments each worker passes for its own chip on a thread of its own.
+#[test]
+fn each_worker_has_a_thread_in_each_segment(rt: HostRuntime) -> Result<(), Fail> {
+    for workers in 2..6 {
+        if !gathers(&rt, rt.alloc(), workers)? {
             return Err(Fail::from(workers));
         }
     }
