@@ -1,13 +1,12 @@
 -- How a run ends: what the outputs hold on the way, and why it stops.
-use Rattle.std.proofs.Common.{◌≡◌, ◌≢◌, ℕ, ◌^◌, ◌<◌, ◌≤◌, List, Result, Ok, Err, Option, Some, None, append-nil, subst, sym, ◌∙◌, arith}
+use Rattle.std.proofs.Common.{◌≡◌, ◌≢◌, ℕ, ◌^◌, ◌<◌, ◌≤◌, List, [], Result, Ok, Err, Option, Some, None, append-nil, refl, subst, sym, ◌∙◌, arith}
 use Rattle.std.specs.Prelude.{IfErr, IsSome, OnOk, OnErr}
 use Rattle.md_outer.specs.Outside.{DepotState, Files, GoesOn}
 use Rattle.md_top.specs.Endings.{HoldsUntil, RunCause, RunEnds, RunFiles, RunLeaves, RunsFrom}
-use Rattle.md_top.specs.Inputs.{InputCause}
 use Rattle.md_word.specs.Clock.{last_cycle}
 use Rattle.md_top.specs.Limits.{IsEnd}
 use Rattle.md_top.specs.Loads.{Begins, LoadCause, MayBeginAt}
-use Rattle.md_top.specs.Outputs.{Adds, AddsParts, AreBegun, Holds, IsBegun, IsUnwritten, IsWriteFault, LeavesParts, Pieces, all_of, lengthened, nothing}
+use Rattle.md_top.specs.Outputs.{Adds, AddsParts, AreBegun, Holds, IsBegun, IsUnwritten, IsWriteFault, LeavesParts, Parts, Pieces, all_of, lengthened, nothing}
 use Rattle.md_top.specs.Runs.{RunLaws, frames_to, journal_to, pieces_of, pieces_until, sound_until, state_to}
 use Rattle.md_machine.specs.Starts.{IsStart, Start}
 use Rattle.md_args.specs.Words.{Run}
@@ -130,9 +129,12 @@ unwritten-leaves start run first files old new Memory fault leaves = leaves
 unwritten-leaves start run first files old new _ fault leaves = absurd fault
 
 -- no output is begun
+abbrev no_part : Parts
+no_part = record { frames = None; sound = None; journal = None; state = None }
+
 pub untouched : (run : Run) (old new : Files) → new ≡ old → LeavesParts run old new nothing
 untouched run old new same = record {
-  parts = record { frames = None; sound = None; journal = None; state = None };
+  parts = no_part;
   frames = tt;
   sound = tt;
   journal = tt;
@@ -140,18 +142,17 @@ untouched run old new same = record {
   files = same;
 }
 
-pub refused-leaves : (told : Type 0) (run : Run) (old new : DepotState) (ending : Ending) → InputCause told run old new ending
-    → new.files ≡ old.files → RunFiles run old.files new.files ending
-refused-leaves told run old new (Done from frames accesses halted) cause same = absurd cause
-refused-leaves told run old new FramesFault cause same = absurd cause
-refused-leaves told run old new SoundFault cause same = absurd cause
-refused-leaves told run old new JournalFault cause same = absurd cause
-refused-leaves told run old new SaveFault cause same = absurd cause
-refused-leaves told run old new Memory cause same = untouched run old.files new.files same
-refused-leaves told run old new _ cause same = same
+pub unchanged : (run : Run) (old new : Files) (ending : Ending) → new ≡ old → RunFiles run old new ending
+unchanged run old new (Done from frames accesses halted) same = (no_part, same)
+unchanged run old new FramesFault same = (no_part, same)
+unchanged run old new SoundFault same = (no_part, same)
+unchanged run old new JournalFault same = (no_part, same)
+unchanged run old new SaveFault same = (no_part, same)
+unchanged run old new Memory same = untouched run old new same
+unchanged run old new _ same = same
 
 -- a run that found its start; it found it there alone
-abbrev AreOne : Type 0
+abbrev pub AreOne : Type 0
 AreOne = (run : Run) (files : Files) (a b : Start) → Begins run files a → Begins run files b → a ≡ b
 
 run-from : (run : Run) (start : Start) (old mid new : DepotState) (ending : Ending) → AreOne → Begins run old.files start → start.at < run.cycles → GoesOn old mid
@@ -199,14 +200,33 @@ load-ends told run old new (OtherCart kept given) near cause = (near, cause)
 load-ends told run old new Memory near cause = tt
 load-ends told run old new _ near cause = absurd cause.2
 
-pub load-leaves : (told : Type 0) (run : Run) (old new : DepotState) (ending : Ending) → LoadCause told run old new ending
-    → new.files ≡ old.files → RunFiles run old.files new.files ending
-load-leaves told run old new Memory cause same = untouched run old.files new.files same
-load-leaves told run old new LoadFault cause same = same
-load-leaves told run old new StateTooLong cause same = same
-load-leaves told run old new (StateWrong place) cause same = same
-load-leaves told run old new (OtherCart kept given) cause same = same
-load-leaves told run old new _ cause same = absurd cause.2
+-- an output that is begun and empty
+pub empty-parts : (run : Run) (old new : Files) → Holds run old new nothing → LeavesParts run old new nothing
+empty-parts run old new holds = record {
+  parts = all_of nothing;
+  frames = ([], refl);
+  sound = ([], refl);
+  journal = ([], refl);
+  state = ([], refl);
+  files = holds;
+}
+
+-- a run that found its start, and did not begin
+pub unbegun-run : (told : Type 0) (run : Run) (start : Start) (old mid new : DepotState) (ending : Ending) → AreOne → IsEnd run.cycles → MayBeginAt run start.at
+    → (told → Begins run old.files start) → start.at < run.cycles → GoesOn old mid → (told → mid.files ≡ old.files) → IsUnwritten run mid new ending
+    → (told → LeavesParts run mid.files new.files nothing) → RunEnds told run old new ending
+unbegun-run told run start old mid new ending one end may begins ahead on same unwritten leaves =
+    end-of-run told run start old mid new ending one end may begins ahead on (unwritten-cause start run mid new ending unwritten)
+    (λ t. subst (λ (files : Files). RunLeaves start run files new.files ending) (same t)
+    (unwritten-leaves start run mid.files new.files mid new ending unwritten (leaves t)))
+
+pub unbegun-files : (run : Run) (old new : DepotState) (first files : Files) (ending : Ending) → IsUnwritten run old new ending → LeavesParts run first files nothing → RunFiles run first files ending
+unbegun-files run old new first files FramesFault unwritten leaves = (leaves.parts, leaves.files)
+unbegun-files run old new first files SoundFault unwritten leaves = (leaves.parts, leaves.files)
+unbegun-files run old new first files JournalFault unwritten leaves = (leaves.parts, leaves.files)
+unbegun-files run old new first files SaveFault unwritten leaves = (leaves.parts, leaves.files)
+unbegun-files run old new first files Memory unwritten leaves = leaves
+unbegun-files run old new first files _ unwritten leaves = absurd unwritten
 
 -- NUMBERS OF BEGUN OUTPUTS
 

@@ -18,6 +18,7 @@ pub mod Right
 pub mod Rollings
 pub mod Rows
 pub mod Segments
+pub mod Stages
 pub mod Starts
 pub mod Statuses
 pub mod Writes

@@ -17,4 +17,5 @@ pub mod Resuming
 pub mod Rollings
 pub mod Runs
 pub mod Saves
+pub mod Stages
 pub mod Workers

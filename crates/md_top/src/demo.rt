@@ -1,9 +1,10 @@
-ghost use Rattle.std.specs.Prelude.{◌≡◌, ℕ, ◌<◌, IfOk};
+ghost use Rattle.std.specs.Prelude.{◌≡◌, ℕ, ◌<◌, IfOk, IfErr};
 ghost use Rattle.md_machine.specs.Starts.{Start};
 ghost use Rattle.md_top.specs.Courses.{CameFrom, IsAtStart, IsFresh, IsUnderway, cycle_of, start_at, start_in};
 ghost use Rattle.md_top.specs.Demos.{DemoEnds, HaveUntil, IsSummary, demo_start};
 ghost use Rattle.md_top.specs.Limits.{IsEnd};
 ghost use Rattle.md_top.specs.Limits as limits;
+ghost use Rattle.md_top.specs.Stages.{IsAboutToRunDemo};
 ghost use Rattle.md_top.specs.Workers.{CanGoOn, WentOn};
 ghost use Rattle.md_args.specs.Shown.{shown_demo};
 ghost use Rattle.md_demo.specs.Demo as meaning;
@@ -28,31 +29,26 @@ use rom_header::Cart;
 use save_state::laws::kept;
 use std::alloc::Global;
 
-/// Runs the demonstration cartridge that the words ask for, from power-on and with nothing pressed on
-/// the pads, and sums up what it makes. `go_on` makes each segment.
-pub(crate) fn run_demo<F: Fn(&mut Machine, u64)>(
-    alloc: Global,
-    go_on: &F,
-    demo: &DemoWords,
-) -> Ending
-    requires may { (m : _) (to : ℕ) → CanGoOn m.now to → F.pre go_on.now m to }
-    requires goes { (m : _) (to : ℕ) (after : _) → F.post go_on.now m to tt after → WentOn m.now to after.now }
-    ensures { DemoEnds (shown_demo demo.now) result }
+/// The run of the demonstration cartridge that the words ask for, at power-on and with nothing pressed on the
+/// pads.
+pub(crate) fn begin_demo(alloc: Global, demo: &DemoWords) -> Result<Course, Ending>
+    ensures about { IfOk result (IsAboutToRunDemo (shown_demo demo.now)) }
+    ensures err { IfErr result (DemoEnds (shown_demo demo.now)) }
 {
     let demo = *demo;
     if demo.cycles > LAST_CYCLE {
-        return Ending::TooFar;
+        return Err(Ending::TooFar);
     }
     if demo.cycles == 0 {
-        return Ending::Behind(0);
+        return Err(Ending::Behind(0));
     }
     let machine = match demo_machine(alloc, &demo) {
         Ok(machine) => machine,
-        Err(NoMemory) => return Ending::Memory,
+        Err(NoMemory) => return Err(Ending::Memory),
     };
     match begin(alloc, machine) {
-        Ok(course) => Ending::DemoDone(sum_up(go_on, demo.cycles, course)),
-        Err(NoMemory) => Ending::Memory,
+        Ok(course) => Ok(course),
+        Err(NoMemory) => Err(Ending::Memory),
     }
 }
 
@@ -85,7 +81,7 @@ fn accepted_cart(alloc: Global, number: u64) -> Result<Cart, NoMemory>
 }
 
 /// Runs from its start to the end in as few segments as reach it, and sums up what each makes.
-fn sum_up<F: Fn(&mut Machine, u64)>(go_on: &F, end: u64, course: Course) -> Summary
+pub(crate) fn sum_up<F: Fn(&mut Machine, u64)>(go_on: &F, end: u64, course: Course) -> Summary
     requires may { (m : _) (to : ℕ) → CanGoOn m.now to → F.pre go_on.now m to }
     requires goes { (m : _) (to : ℕ) (after : _) → F.post go_on.now m to tt after → WentOn m.now to after.now }
     requires end { IsEnd end }

@@ -2,19 +2,22 @@
 #![tactic(auto)]
 
 mod assembling;
+mod begun_run;
 mod converting;
 mod course;
 mod debugging;
 mod demo;
 mod digests;
 mod ending;
+mod finishing;
 mod hashers;
 mod inputs;
 pub mod laws;
 mod loading;
 mod output;
 mod outputs;
-mod perform;
+mod prepared;
+mod preparing;
 mod put;
 mod reading;
 mod report;
@@ -28,5 +31,8 @@ mod summary;
 mod text;
 mod top;
 
+pub use finishing::{finish, finish_one};
 pub use md_demo::demo_cart;
+pub use prepared::Prepared;
+pub use preparing::prepare;
 pub use top::{drive, drive_one};

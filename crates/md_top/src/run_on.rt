@@ -16,9 +16,9 @@ ghost use Rattle.md_args.specs.Shown.{shown_run};
 use crate::course::Course;
 use crate::ending::Ending;
 use crate::laws::states_keep_laws;
-use crate::output::{append_all, append_sound, begin_all};
+use crate::output::{append_all, append_sound};
 use crate::outputs::Outputs;
-use crate::saving::{make_buffers, save};
+use crate::saving::save;
 use crate::segment::advance;
 use crate::state_buffers::StateBuffers;
 use md_args::RunWords;
@@ -26,42 +26,13 @@ use md_files::wav_head;
 use md_machine::Machine;
 use md_machine::laws::lists_end_as_run;
 use md_outer::Depot;
-use md_word::NoMemory;
 use md_word::clock::BATCH;
 use md_word::region::{finished_at, frame_cycles};
 use save_state::laws::kept;
-use std::alloc::Global;
-
-/// Takes the memory that a run needs beside its machine's, begins its outputs, and makes it. `go_on` makes
-/// each segment.
-pub(crate) fn begin_and_write<F: Fn(&mut Machine, u64), D: Depot>(
-    alloc: Global,
-    go_on: &F,
-    run: &RunWords<'_>,
-    depot: &mut D,
-    course: Course,
-) -> Ending
-    requires may { (m : _) (to : ℕ) → CanGoOn m.now to → F.pre go_on.now m to }
-    requires goes { (m : _) (to : ℕ) (after : _) → F.post go_on.now m to tt after → WentOn m.now to after.now }
-    requires end { IsEnd run.now.cycles }
-    requires before { cycle_of course < run.now.cycles }
-    requires start { IsAtStart course }
-    ensures cause { RunCause (start_in course) (shown_run run.now) (D.state depot.old) (D.state depot.new) result }
-    ensures files { D.told → RunLeaves (start_in course) (shown_run run.now) (D.state depot.old).files (D.state depot.new).files result }
-{
-    let buffers = match make_buffers(alloc, run) {
-        Ok(buffers) => buffers,
-        Err(NoMemory) => return Ending::Memory,
-    };
-    match begin_all(alloc, run, depot) {
-        Ok(outputs) => write_all(go_on, run, &outputs, depot, course, buffers),
-        Err(ending) => ending,
-    }
-}
 
 /// Runs from its start to the end, and writes what it makes into its outputs, which are begun. All memory
 /// is taken.
-fn write_all<F: Fn(&mut Machine, u64), D: Depot>(
+pub(crate) fn write_all<F: Fn(&mut Machine, u64), D: Depot>(
     go_on: &F,
     run: &RunWords<'_>,
     outputs: &Outputs,

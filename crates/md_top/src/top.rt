@@ -1,15 +1,11 @@
-ghost use Rattle.std.specs.Prelude.{◌≡◌, ℕ, ◌≤◌, None, Some, map, string_bytes};
+ghost use Rattle.std.specs.Prelude.{map, string_bytes};
 ghost use Rattle.md_top.specs.Answers.{Answers, Causes};
 ghost use Rattle.md_top.specs.Laws.{ProgramLaws};
-ghost use Rattle.md_top.specs.Workers.{CanGoOn, WentOn};
-ghost use Rattle.md_args.specs.Shown.{shown_command};
 ghost use Rattle.md_args.specs.Words.{command_of};
 
+use crate::finishing::{finish, finish_one};
 use crate::laws::program_laws;
-use crate::perform::perform;
-use crate::report::{refuse, report};
-use md_args::{CommandWords, read_words};
-use md_machine::Machine;
+use crate::preparing::prepare;
 use md_outer::{Depot, Gate, Sink};
 use std::alloc::Global;
 use std::sync::Wait;
@@ -30,7 +26,8 @@ use std::thread::Threads;
 /// of its instructions. `debug ROM SCRIPT` obeys the lines of a script of the debugger, at power-on of the
 /// cartridge, and puts the reply to each when it was obeyed. `rollback ROM INPUTS --window W` obeys the lines of
 /// what two players press, and puts what their session comes to.
-/// It waits for nobody: whatever `--workers` asks for, one worker makes the run.
+/// It is `prepare` and then `finish_one`, and waits for nobody: whatever `--workers` asks for, one worker makes the
+/// run.
 pub fn drive_one<D: Depot, S: Sink>(
     alloc: Global,
     words: &Vec<String>,
@@ -44,20 +41,12 @@ pub fn drive_one<D: Depot, S: Sink>(
     ensures laws { ProgramLaws }
 {
     program_laws();
-    let alone = |machine: &mut Machine, to: u64|
-        requires can { CanGoOn machine.old to }
-        ensures went { WentOn machine.old to machine.new }
-    {
-        machine.alone(to);
-    };
-    match read_words(alloc, words.as_slice()) {
-        Ok(Some(command)) => obey(alloc, &alone, &command, depot, out),
-        Ok(None) => refuse(out, 2, "refused: usage\n", "", ""),
-        Err(_) => refuse(out, 10, "refused: memory\n", "", ""),
-    }
+    let prepared = prepare(alloc, words, depot, out);
+    finish_one(prepared, depot, out)
 }
 
-/// Does the same as `drive_one`, a run with as many workers as `--workers K` asks for, 1 to 5.
+/// Does the same as `drive_one`, a run with as many workers as `--workers K` asks for, 1 to 5: it is `prepare` and
+/// then `finish`.
 ///
 /// One worker, and where nothing is said of them, is `drive_one`. Of several the caller is the last;
 /// each other one is a thread, and passes the gate before it looks for the turn of a chip. The
@@ -78,43 +67,6 @@ pub fn drive<D: Depot, S: Sink, G: Gate, Rt: Threads + Wait + Sync>(
     ensures laws { ProgramLaws }
 {
     program_laws();
-    match read_words(alloc, words.as_slice()) {
-        Ok(Some(command)) => {
-            let number = command.workers();
-            if number > 1 {
-                let together = |machine: &mut Machine, to: u64|
-                    requires some { 1 ≤ number }
-                    requires few { number ≤ 5 }
-                    requires can { CanGoOn machine.old to }
-                    ensures went { WentOn machine.old to machine.new }
-                {
-                    machine.segment(rt, to, number, gate);
-                };
-                obey(alloc, &together, &command, depot, out)
-            } else {
-                drive_one(alloc, words, depot, out)
-            }
-        }
-        Ok(None) => drive_one(alloc, words, depot, out),
-        Err(_) => refuse(out, 10, "refused: memory\n", "", ""),
-    }
-}
-
-/// Does what a command asks for, and reports what it comes to. `go_on` makes each segment of a run.
-fn obey<F: Fn(&mut Machine, u64), D: Depot, S: Sink>(
-    alloc: Global,
-    go_on: &F,
-    command: &CommandWords<'_>,
-    depot: &mut D,
-    out: &mut S,
-) -> u8
-    requires may { (m : _) (to : ℕ) → CanGoOn m.now to → F.pre go_on.now m to }
-    requires goes { (m : _) (to : ℕ) (after : _) → F.post go_on.now m to tt after → WentOn m.now to after.now }
-    ensures answer { Answers D.told S.told (Some (shown_command command.now))
-        (D.state depot.old) (D.state depot.new) (S.state out.old) (S.state out.new) result }
-    ensures causes { Causes D.told (Some (shown_command command.now))
-        (D.state depot.old) (D.state depot.new) (S.state out.old) (S.state out.new) result }
-{
-    let ending = perform(alloc, go_on, command, depot, out);
-    report(command, ending, out)
+    let prepared = prepare(alloc, words, depot, out);
+    finish(rt, prepared, depot, out, gate)
 }

@@ -1,0 +1,113 @@
+-- What comes of a command line from where it was prepared to.
+use Rattle.std.proofs.Common.{◌≡◌, ◌≢◌, ◌⊎◌, inl, inr, ℕ, Option, Some, None, refl, sym, ap, subst, ◌∙◌, arith}
+use Rattle.std.specs.Prelude.{codes}
+use Rattle.md_outer.specs.Outside.{DepotState, Files, Rose, SinkState}
+use Rattle.md_args.specs.Words.{Command, Demo, Run, RunCart, RunDemo, Info, Convert, Assemble, Debug, Rollback}
+use Rattle.md_top.specs.Answers.{PutsAll, PutsPart, Reports, Shows}
+use Rattle.md_top.specs.Courses.{start_in}
+use Rattle.md_top.specs.Demos.{IsSummary, demo_start}
+use Rattle.md_top.specs.Endings.{HasCause, LeavesFiles, RunCause, RunLeaves, status_of}
+use Rattle.md_top.specs.Outputs.{Holds, nothing}
+use Rattle.md_top.specs.Stages.{IsAboutToRun, IsAboutToRunDemo, IsAnswered, LeavesBegun}
+use Rattle.md_top.specs.declared.begun_run.BegunRun.{BegunRun}
+use Rattle.md_top.specs.declared.course.Course.{Course}
+use Rattle.md_top.specs.declared.ending.Ending.{Ending}
+use Rattle.md_top.specs.declared.ending.Ending.TheVariants.{Done, DemoDone, FramesFault, SoundFault, JournalFault, SaveFault, Memory, Usage}
+use Rattle.md_top.specs.declared.summary.Summary.{Summary}
+use Rattle.md_machine.specs.Starts.{Start}
+use Rattle.md_top.proofs.Ends.{AreOne, end-of-run, files-of-run, untouched}
+use Rattle.md_top.proofs.Rows.{causes_of, memory_answers, memory_causes, none_causes}
+use Rattle.md_top.proofs.Statuses.{reported}
+
+-- BEFORE THE FIRST SEGMENT
+
+-- where no file changes no output is begun
+pub unbegun : (command : Option Command) (old new : Files) → new ≡ old → LeavesBegun command old new
+unbegun None old new same = tt
+unbegun (Some (Info rom)) old new same = tt
+unbegun (Some (RunCart run)) old new same = untouched run old new same
+unbegun (Some (RunDemo demo)) old new same = same
+unbegun (Some (Convert conversion)) old new same = tt
+unbegun (Some (Assemble words)) old new same = tt
+unbegun (Some (Debug words)) old new same = tt
+unbegun (Some (Rollback words)) old new same = tt
+
+-- BEHIND THE LAST
+
+-- words that ask for nothing
+pub usage_answered : (told sink : Type 0) (command : Option Command) (old now : DepotState) (out out' : SinkState) (status : ℕ) → command ≡ None → now ≡ old → status ≡ 2
+    → PutsAll sink (codes "refused: usage\n") out out' ⊎ PutsPart sink (codes "refused: usage\n") out out' → IsAnswered told sink command old now out out' status
+usage_answered told sink command old now out out' status none same two put =
+    subst (λ (asked : Option Command). IsAnswered told sink asked old now out out' status) (sym none)
+    (subst (λ (new : DepotState). IsAnswered told sink None old new out out' status) (sym same)
+    (record { ending = Usage; cause = tt; files = λ t. refl; between = out; shown = refl; reports = (two, put) }, none_causes told old out out' status (inl two)))
+
+-- words for which memory was wanting
+pub memory_answered : (told sink : Type 0) (command : Option Command) (old now : DepotState) (out out' : SinkState) (status : ℕ) → now ≡ old → status ≡ 10
+    → PutsAll sink (codes "refused: memory\n") out out' ⊎ PutsPart sink (codes "refused: memory\n") out out' → IsAnswered told sink command old now out out' status
+memory_answered told sink command old now out out' status same ten put =
+    subst (λ (new : DepotState). IsAnswered told sink command old new out out' status) (sym same)
+    (memory_answers told sink command old out out' status ten put, memory_causes told sink command old out out' status ten put)
+
+-- a command that came to an ending
+pub ended_answered : (told sink : Type 0) (command : Option Command) (asked : Command) (old new : DepotState) (out between out' : SinkState) (status : ℕ) (ending : Ending)
+    → Some asked ≡ command → HasCause told (Some asked) old new ending → (told → LeavesFiles (Some asked) old.files new.files ending)
+    → Shows told sink (Some asked) old.files ending out between → Reports sink (Some asked) ending between out' status → IsAnswered told sink command old new out out' status
+ended_answered told sink command asked old new out between out' status ending same cause leaves shown reports =
+    subst (λ (words : Option Command). IsAnswered told sink words old new out out' status) same (
+      record { ending = ending; cause = cause; files = leaves; between = between; shown = shown; reports = reports },
+      causes_of told sink asked old new out between out' status ending cause leaves shown reports,
+    )
+
+-- a run
+pub run_answered : (told sink : Type 0) (run : Run) (begun : BegunRun) (first now new : DepotState) (out out' : SinkState) (status : ℕ) (ending : Ending) → AreOne
+    → IsAboutToRun told run first now begun → RunCause (start_in begun.course) run now new ending
+    → (told → (files : Files) → Holds run files now.files nothing → RunLeaves (start_in begun.course) run files new.files ending)
+    → Reports sink (Some (RunCart run)) ending out out' status → IsAnswered told sink (Some (RunCart run)) first new out out' status
+run_answered told sink run begun first now new out out' status ending one about cause leaves reports =
+    let start : Start = start_in begun.course in
+    let left : told → RunLeaves start run first.files new.files ending = λ t. leaves t first.files (about.empty t) in
+    ended_answered told sink (Some (RunCart run)) (RunCart run) first new out out out' status ending refl
+    (end-of-run told run start first now new ending one about.has.end about.has.may about.has.begins about.has.above about.later cause left)
+    (λ t. files-of-run run start first.files new.files ending (left t)) refl reports
+
+-- a run of a demonstration cartridge
+pub demo_answered : (told sink : Type 0) (demo : Demo) (course : Course) (now : DepotState) (out out' : SinkState) (status : ℕ) → IsAboutToRunDemo demo course
+    → (summary : Summary) × IsSummary (start_in course) demo.cycles summary × Reports sink (Some (RunDemo demo)) (DemoDone summary) out out' status
+    → IsAnswered told sink (Some (RunDemo demo)) now now out out' status
+demo_answered told sink demo course now out out' status about (summary, is, reports) =
+    ended_answered told sink (Some (RunDemo demo)) (RunDemo demo) now now out out out' status (DemoDone summary) refl
+    (refl, (about.end, subst (λ (start : Start). IsSummary start demo.cycles summary) about.start is)) (λ t. refl) refl reports
+
+-- the same with the words that asked for it, and the depot as it was before
+pub asked_answered : (told sink : Type 0) (command : Option Command) (asked : Command) (old new : DepotState) (out out' : SinkState) (status : ℕ)
+    → Some asked ≡ command → IsAnswered told sink (Some asked) old new out out' status → IsAnswered told sink command old new out out' status
+asked_answered told sink command asked old new out out' status same is = subst (λ (words : Option Command). IsAnswered told sink words old new out out' status) same is
+
+pub kept_answered : (told sink : Type 0) (command : Option Command) (old now : DepotState) (out out' : SinkState) (status : ℕ)
+    → now ≡ old → IsAnswered told sink command now now out out' status → IsAnswered told sink command old now out out' status
+kept_answered told sink command old now out out' status same is = subst (λ (before : DepotState). IsAnswered told sink command before now out out' status) same is
+
+-- and where nothing was put before
+pub shown_answered : (told sink : Type 0) (command : Option Command) (old new : DepotState) (before out out' : SinkState) (status : ℕ)
+    → out ≡ before → IsAnswered told sink command old new out out' status → IsAnswered told sink command old new before out' status
+shown_answered told sink command old new before out out' status same is = subst (λ (first : SinkState). IsAnswered told sink command old new first out' status) same is
+
+-- NO WANT OF MEMORY
+
+pub run_not_ten : (start : Start) (run : Run) (old new : DepotState) (ending : Ending) → RunCause start run old new ending → ending ≢ Memory → status_of ending ≡ 10 → ⊥
+run_not_ten start run old new (Done from frames accesses halted) cause other is = omega (arith, is)
+run_not_ten start run old new FramesFault cause other is = omega (arith, is)
+run_not_ten start run old new SoundFault cause other is = omega (arith, is)
+run_not_ten start run old new JournalFault cause other is = omega (arith, is)
+run_not_ten start run old new SaveFault cause other is = omega (arith, is)
+run_not_ten start run old new Memory cause other is = other refl
+run_not_ten start run old new _ cause other is = absurd cause
+
+pub not_ten : (sink : Type 0) (command : Option Command) (ending : Ending) (out out' : SinkState) (status : ℕ) → Reports sink command ending out out' status
+    → (status_of ending ≡ 10 → ⊥) → status ≡ 10 → ⊥
+not_ten sink command ending out out' status reports other ten = by (reported sink command ending out out out' status (omega arith) reports)
+  where
+    by : (status ≡ status_of ending) ⊎ ((status ≡ 13) × Rose out.faults out'.faults) → ⊥
+    by (inl same) = other (sym same ∙ ten)
+    by (inr (thirteen, rose)) = omega (arith, thirteen, ten)
