@@ -1,7 +1,7 @@
 -- Up to four bytes are filled up with others behind them.
 use Rattle.std.proofs.Common.{◌≡◌, ℕ, zero, suc, ◌<◌, ◌≤◌, List, [], ◌∷◌, ◌++◌, length, replicate, refl, arith}
-use Rattle.z80_encode.specs.Coded80.{AreBytes}
-use Rattle.z80_read.specs.Judged.{padded}
+use Rattle.asm_z80.specs.Coded80.{AreBytes}
+use Rattle.asm_z80.specs.Judged.{padded}
 
 four : (a b c d : ℕ) → a < 256 → b < 256 → c < 256 → d < 256 → AreBytes (a ∷ b ∷ c ∷ d ∷ [])
 four a b c d ha hb hc hd zero = ha

@@ -10,14 +10,14 @@ use Rattle.m68k_decode.specs.Rows.{Row}
 use Rattle.m68k_decode.specs.declared.decoded.Decoded.{Decoded}
 use Rattle.m68k_decode.specs.declared.op.Op.TheVariants as ops
 use Rattle.m68k_decode.proofs.Table.{decoded_is_picked}
-use Rattle.m68k_encode.specs.Encoding.{encoded, extension, first_word}
+use Rattle.asm_m68k.specs.Encoding.{encoded, extension, first_word}
 use Rattle.md_disasm.specs.Texts68.{text_of}
 use Rattle.md_asm_text.specs.Pieces as texts
 use Rattle.md_asm_text.specs.Pieces.{Piece, is_worded, opened, pieces, split}
-use Rattle.m68k_form.specs.Reading.{Source, size_of, read_source, with_operands, with_size}
-use Rattle.m68k_read.specs.Building.{built, meant, stem_in, stem_of}
-use Rattle.m68k_read.specs.Judged.{tried}
-use Rattle.m68k_read.specs.Table.{IsInstruction}
+use Rattle.asm_m68k.specs.Reading.{Source, size_of, read_source, with_operands, with_size}
+use Rattle.asm_m68k.specs.Building.{built, meant, stem_in, stem_of}
+use Rattle.asm_m68k.specs.Judged.{tried}
+use Rattle.asm_m68k.specs.Table.{IsInstruction}
 
 -- ---- what is read of a directive's text
 

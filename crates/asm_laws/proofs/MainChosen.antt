@@ -3,16 +3,16 @@ use Rattle.std.proofs.Common.{◌≡◌, ◌⊎◌, inl, inr, ℕ, zero, suc, �
 use Rattle.std.specs.Prelude.{slice_index}
 use Rattle.m68k_decode.specs.Instructions.{instruction_of}
 use Rattle.m68k_decode.specs.Nested.{nested}
-use Rattle.m68k_encode.specs.Encoding.{encoded}
+use Rattle.asm_m68k.specs.Encoding.{encoded}
 use Rattle.md_disasm.specs.Texts68.{text_of}
 use Rattle.md_asm_text.specs.Pieces.{Piece, pieces}
-use Rattle.m68k_form.specs.Reading.{read_source}
-use Rattle.m68k_read.specs.Building.{meant}
-use Rattle.m68k_read.specs.Judged.{tried}
-use Rattle.m68k_read.specs.Said.{Says}
-use Rattle.m68k_read.specs.Table.{AreWords, IsInstruction}
-use Rattle.m68k_read.proofs.Judged.{meant_again}
-use Rattle.md_asm_code.specs.Codes.{main_code}
+use Rattle.asm_m68k.specs.Reading.{read_source}
+use Rattle.asm_m68k.specs.Building.{meant}
+use Rattle.asm_m68k.specs.Judged.{tried}
+use Rattle.asm_m68k.specs.Said.{Says}
+use Rattle.asm_m68k.specs.Table.{AreWords, IsInstruction}
+use Rattle.asm_m68k.proofs.Judged.{meant_again}
+use Rattle.md_asm.specs.Codes.{main_code}
 use Rattle.asm_laws.specs.Chosen.{AreLeast, IsBefore}
 use Rattle.asm_laws.proofs.MainCodes.{encoded_long, own_or_later}
 use Rattle.asm_laws.proofs.Texts.{assembled_again, found, going_on, keeps_text}

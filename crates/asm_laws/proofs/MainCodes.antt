@@ -15,10 +15,10 @@ use Rattle.m68k_decode.specs.Nested.{nested}
 use Rattle.m68k_decode.specs.Rows as rows
 use Rattle.m68k_decode.specs.Rows.{Row}
 use Rattle.m68k_decode.proofs.Table.{decoded_is_picked}
-use Rattle.m68k_encode.specs.Encoding.{brief, displacement_words, encoded, extension, mode_words, number_words}
-use Rattle.m68k_encode.proofs.Again.{words_counted}
-use Rattle.m68k_encode.proofs.FirstWord.{first_again}
-use Rattle.m68k_read.specs.Table.{AreWords}
+use Rattle.asm_m68k.specs.Encoding.{brief, displacement_words, encoded, extension, mode_words, number_words}
+use Rattle.asm_m68k.proofs.Again.{words_counted}
+use Rattle.asm_m68k.proofs.FirstWord.{first_again}
+use Rattle.asm_m68k.specs.Table.{AreWords}
 use Rattle.asm_laws.specs.Chosen.{IsBefore}
 
 -- none is greater than the word from a place on

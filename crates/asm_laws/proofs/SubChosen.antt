@@ -3,15 +3,15 @@ use Rattle.std.proofs.Common.{◌≡◌, ◌⊎◌, ℕ, zero, suc, ◌<◌, ◌
 use Rattle.z80_decode.specs.Instructions.{instruction_of}
 use Rattle.md_disasm.specs.Texts80.{text_of}
 use Rattle.md_asm_text.specs.Pieces.{Piece, pieces}
-use Rattle.z80_encode.specs.Coded80.{AreBytes}
-use Rattle.z80_encode.specs.Encoding80.{encoded}
-use Rattle.z80_read.specs.Building.{meant}
-use Rattle.z80_read.specs.Judged.{tried}
-use Rattle.z80_read.specs.Reading.{read_source}
-use Rattle.z80_read_laws.specs.Instruction.{is_db}
-use Rattle.z80_read_laws.proofs.Judged.{meant_again, tried_is}
-use Rattle.z80_read_laws.proofs.Lengths.{decoded_few, encoded_long}
-use Rattle.md_asm_code.specs.Codes.{sub_code}
+use Rattle.asm_z80.specs.Coded80.{AreBytes}
+use Rattle.asm_z80.specs.Encoding80.{encoded}
+use Rattle.asm_z80.specs.Building.{meant}
+use Rattle.asm_z80.specs.Judged.{tried}
+use Rattle.asm_z80.specs.Reading.{read_source}
+use Rattle.asm_z80.specs.Instruction.{is_db}
+use Rattle.asm_z80.proofs.Judged.{meant_again, tried_is}
+use Rattle.asm_z80.proofs.Lengths.{decoded_few, encoded_long}
+use Rattle.md_asm.specs.Codes.{sub_code}
 use Rattle.asm_laws.specs.Chosen.{AreChosen, IsPassed, Says}
 use Rattle.asm_laws.proofs.SubCodes.{own_or_passed}
 use Rattle.asm_laws.proofs.SubTexts.{assembled_again, found, keeps_text}

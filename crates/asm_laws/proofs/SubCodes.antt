@@ -11,10 +11,10 @@ use Rattle.z80_decode.proofs.Table.{decoded_is_nested}
 use Rattle.z80_decode.specs.Fields.{memory_of, place_of, lower, pair_of, stacked_of, condition_of, bit_of}
 use Rattle.z80_decode.specs.Instructions.{instruction_of}
 use Rattle.z80_decode.specs.Nested.{of_bytes, bits, shift, arithmetic, accumulator, block_of, block_op, relative_jumps, pair_loads, memory_loads, pair_steps, step, number_loads, low_group, loads, returns, jumps, calls, control, by_opcode, low_names_hl, names_hl, indexed, ports, pairs_extended, modes, specials, extended, nested}
-use Rattle.z80_encode.specs.Coded80.{AreBytes}
-use Rattle.z80_encode.specs.Encoding80.{encoded, opcode_of, operands, prefixes}
-use Rattle.z80_encode.proofs.Again80.{is_prefix}
-use Rattle.z80_read_laws.proofs.Pages.{by_index, by_page}
+use Rattle.asm_z80.specs.Coded80.{AreBytes}
+use Rattle.asm_z80.specs.Encoding80.{encoded, opcode_of, operands, prefixes}
+use Rattle.asm_z80.proofs.Again80.{is_prefix}
+use Rattle.asm_z80.proofs.Pages.{by_index, by_page}
 use Rattle.asm_laws.specs.Chosen.{IsPassed}
 
 low_byte : (first second : ℕ) → first < 256 → (second * 256 + first) % 256 ≡ first

@@ -6,16 +6,16 @@ use Rattle.z80_decode.specs.declared.decoded80.Decoded80.{Decoded80}
 use Rattle.md_disasm.specs.Texts80.{text_of}
 use Rattle.md_asm_text.specs.Pieces.{Piece, pieces}
 use Rattle.md_asm_text.proofs.Alike.{all_alike_is}
-use Rattle.z80_encode.specs.Coded80.{AreBytes}
-use Rattle.z80_encode.specs.Encoding80.{encoded}
-use Rattle.z80_read.specs.Building.{meant}
-use Rattle.z80_read.specs.Judged.{padded, tried}
-use Rattle.z80_read.specs.Reading.{read_source}
-use Rattle.z80_read_laws.specs.Instruction.{is_db}
-use Rattle.z80_read_laws.proofs.Judged.{meant_again, said_again, tried_again, tried_zero}
-use Rattle.z80_read_laws.proofs.Lengths.{decoded_few, encoded_long}
-use Rattle.md_asm_code.specs.Codes.{say_bytes, sub_code}
-use Rattle.md_asm_code.proofs.Told.{sub_said}
+use Rattle.asm_z80.specs.Coded80.{AreBytes}
+use Rattle.asm_z80.specs.Encoding80.{encoded}
+use Rattle.asm_z80.specs.Building.{meant}
+use Rattle.asm_z80.specs.Judged.{padded, tried}
+use Rattle.asm_z80.specs.Reading.{read_source}
+use Rattle.asm_z80.specs.Instruction.{is_db}
+use Rattle.asm_z80.proofs.Judged.{meant_again, said_again, tried_again, tried_zero}
+use Rattle.asm_z80.proofs.Lengths.{decoded_few, encoded_long}
+use Rattle.md_asm.specs.Codes.{say_bytes, sub_code}
+use Rattle.md_asm.proofs.Told.{sub_said}
 use Rattle.asm_laws.proofs.Bytes.{filled_up, padded_bytes}
 use Rattle.asm_laws.proofs.Texts.{let_through}
 

@@ -7,13 +7,13 @@ use Rattle.m68k_decode.specs.declared.decoded.Decoded.{Decoded}
 use Rattle.md_disasm.specs.Texts68.{text_of}
 use Rattle.md_asm_text.specs.Pieces.{Piece, pieces}
 use Rattle.md_asm_text.proofs.Alike.{all_alike_is}
-use Rattle.m68k_form.specs.Reading.{read_source}
-use Rattle.m68k_read.specs.Building.{meant}
-use Rattle.m68k_read.specs.Judged.{padded, tried}
-use Rattle.m68k_read.specs.Table.{AreWords, IsInstruction}
-use Rattle.m68k_read.proofs.Judged.{said_again, tried_again}
-use Rattle.md_asm_code.specs.Codes.{main_code, say_words}
-use Rattle.md_asm_code.proofs.Told.{main_said}
+use Rattle.asm_m68k.specs.Reading.{read_source}
+use Rattle.asm_m68k.specs.Building.{meant}
+use Rattle.asm_m68k.specs.Judged.{padded, tried}
+use Rattle.asm_m68k.specs.Table.{AreWords, IsInstruction}
+use Rattle.asm_m68k.proofs.Judged.{said_again, tried_again}
+use Rattle.md_asm.specs.Codes.{main_code, say_words}
+use Rattle.md_asm.proofs.Told.{main_said}
 use Rattle.asm_laws.proofs.Directives.{tried_instruction}
 use Rattle.asm_laws.proofs.Lengths.{encoded_few, filled_up, padded_words}
 

@@ -6,10 +6,10 @@ use Rattle.m68k_decode.specs.Nested.{nested}
 use Rattle.z80_decode.specs.Instructions.{instruction_of}
 use Rattle.md_disasm.specs.Texts80.{text_of}
 use Rattle.md_asm_text.specs.Pieces.{Piece, pieces}
-use Rattle.m68k_read.specs.Said as main
-use Rattle.m68k_read.specs.Table.{AreWords, IsInstruction}
-use Rattle.z80_encode.specs.Coded80.{AreBytes}
-use Rattle.z80_read_laws.specs.Instruction.{is_db}
+use Rattle.asm_m68k.specs.Said as main
+use Rattle.asm_m68k.specs.Table.{AreWords, IsInstruction}
+use Rattle.asm_z80.specs.Coded80.{AreBytes}
+use Rattle.asm_z80.specs.Instruction.{is_db}
 
 -- ---- the Z80
 

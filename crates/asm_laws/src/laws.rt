@@ -7,11 +7,11 @@ ghost use Rattle.z80_decode.specs.Instructions as sub;
 ghost use Rattle.md_disasm.specs.Texts68 as main_texts;
 ghost use Rattle.md_disasm.specs.Texts80 as sub_texts;
 ghost use Rattle.md_asm_text.specs.Pieces.{Piece, pieces};
-ghost use Rattle.m68k_read.specs.Said.{Says as MainSays};
-ghost use Rattle.m68k_read.specs.Table.{AreWords, IsInstruction};
-ghost use Rattle.z80_encode.specs.Coded80.{AreBytes};
-ghost use Rattle.z80_read_laws.specs.Instruction.{is_db};
-ghost use Rattle.md_asm_code.specs.Codes.{main_code, sub_code};
+ghost use Rattle.asm_m68k.specs.Said.{Says as MainSays};
+ghost use Rattle.asm_m68k.specs.Table.{AreWords, IsInstruction};
+ghost use Rattle.asm_z80.specs.Coded80.{AreBytes};
+ghost use Rattle.asm_z80.specs.Instruction.{is_db};
+ghost use Rattle.md_asm.specs.Codes.{main_code, sub_code};
 ghost use Rattle.asm_laws.specs.Chosen.{AreChosen, AreLeast, Says};
 
 /// Whatever words or bytes decode to, its text at an address is assembled there to words or bytes that decode to it,

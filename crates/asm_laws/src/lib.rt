@@ -1,4 +1,8 @@
-//! Laws of the assembler: an instruction is assembled from its own text, and what is assembled has the line's text.
+//! Laws of the assembler: each code says its line, texts are assembled, and what is disassembled comes again.
 #![tactic(auto)]
 
+pub mod assemblies;
 pub mod laws;
+pub mod round_trip;
+
+

@@ -1,5 +1,5 @@
 // States that the debugger keeps, of short images.
-use debug_kept::KeptStates;
+use md_debug::KeptStates;
 use row_lines::{RowError, bytes, number};
 use std::alloc::Global;
 

@@ -1,7 +1,7 @@
 // Lines of scripts.
 use crate::fixture::told;
-use debug_lines::{Command, Misread, read_command};
-use rollback_lines::{Line, Player, read_line};
+use debug_text::{Command, Misread, read_command};
+use md_rollback::{Line, Player, read_line};
 use row_lines::{RowError, bytes};
 use std::alloc::Global;
 

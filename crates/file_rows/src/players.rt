@@ -1,6 +1,6 @@
 // What two players press, and what is expected of them.
 use crate::fixture::{halves, told, two};
-use rollback_inputs::{InputFault, Inputs, MOST_FRAMES};
+use md_rollback::{InputFault, Inputs, MOST_FRAMES};
 use row_lines::{RowError, number, place_of, word};
 use std::alloc::Global;
 

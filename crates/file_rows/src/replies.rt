@@ -1,7 +1,7 @@
 // Replies of the debugger, for the cartridge of 512 bytes that branches to itself at 1FCh.
 use crate::cartridges::in_one_line;
 use crate::fixture::{halves, told, two};
-use debug_replies::{address_reply, byte_reply, instruction_reply, register_reply, report_reply};
+use debug_text::{address_reply, byte_reply, instruction_reply, register_reply, report_reply};
 use md_word::{NoMemory, Regs};
 use row_lines::{RowError, long, number, push};
 use std::alloc::Global;

@@ -4,8 +4,8 @@ use Rattle.std.specs.Prelude.{◌==◌, ◌%◌}
 use Rattle.std.proofs.lemmas.Bool.Decides.{nat_tests}
 use Rattle.std.proofs.Math.Nat.{eq-or-lt_of_le}
 use Rattle.md_asm_text.specs.Pieces.{pieces}
-use Rattle.md_asm_line.specs.Lines.{Line, line_of}
-use Rattle.md_asm_code.specs.Contents.{is_unfit, size}
+use Rattle.md_asm_text.specs.Lines.{Line, line_of}
+use Rattle.md_asm.specs.Contents.{is_unfit, size}
 use Rattle.md_asm.specs.Held.{IsAddress}
 use Rattle.md_asm.specs.Places.{WrittenPlaces, address, any_written, is_sub, is_too_large, with_written}
 use Rattle.md_asm.specs.Rounds.{On, Outcome, Read, Round, Slot, Step, Stop, behind, fault_of, go_on, has_bytes, is_twice, kept_if, labelled, moved, round_one, sized_step, slot_of, start, line_step, unless, wants_even}

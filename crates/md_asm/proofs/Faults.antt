@@ -3,9 +3,9 @@ use Rattle.std.proofs.Common.{◌≡◌, ℕ, ◌+◌, ◌≤◌, Bool, true, fa
 use Rattle.std.specs.Prelude.{◌==◌, ◌%◌}
 use Rattle.std.proofs.lemmas.Bool.Decides.{nat_tests}
 use Rattle.md_asm_text.specs.Pieces.{pieces}
-use Rattle.md_asm_line.specs.Lines.{Line}
-use Rattle.md_asm_line.specs.Texts.{lines}
-use Rattle.md_asm_code.specs.Contents.{is_unfit}
+use Rattle.md_asm_text.specs.Lines.{Line}
+use Rattle.md_asm_text.specs.Texts.{lines}
+use Rattle.md_asm.specs.Contents.{is_unfit}
 use Rattle.md_asm.specs.Places.{any_written, is_sub, is_too_large}
 use Rattle.md_asm.specs.Rounds.{Read, Round, fault_of, has_bytes, is_twice, round_one, wants_even}
 use Rattle.md_asm.specs.declared.kind.Kind.{Kind}

@@ -2,8 +2,8 @@
 use Rattle.std.proofs.Common.{◌≡◌, ℕ, ◌+◌, ◌<◌, ◌≤◌, ◌⊎◌, inl, inr, List, [], ◌∷◌, length, get_or, refl, sym, ap, ◌∙◌, arith}
 use Rattle.std.proofs.lemmas.Bool.{cases_lt}
 use Rattle.md_asm_text.specs.Pieces.{pieces}
-use Rattle.md_asm_code.specs.Contents.{Far, Good, Settled, Unfit, Unknown}
-use Rattle.md_asm_code.specs.Numbers.{Names, resolved}
+use Rattle.md_asm.specs.Contents.{Far, Good, Settled, Unfit, Unknown}
+use Rattle.md_asm.specs.Numbers.{Names, resolved}
 use Rattle.md_asm.specs.Held.{StandsAt}
 use Rattle.md_asm.specs.Places.{put}
 use Rattle.md_asm.specs.Rounds.{Filled, Hit, Onto, Patched, Slot, Whole, fill_on, put_settled, round_two, settled_slot, with_slot}

@@ -1,8 +1,8 @@
 -- The image of a source holds the bytes of each line.
 use Rattle.std.proofs.Common.{◌≡◌, ℕ, ◌+◌, ◌≤◌, List, [], ◌∷◌, length, take, refl, arith}
 use Rattle.md_asm_text.specs.Pieces.{pieces}
-use Rattle.md_asm_line.specs.Texts.{lines as lines_of}
-use Rattle.md_asm_code.specs.Numbers.{Names, resolved}
+use Rattle.md_asm_text.specs.Texts.{lines as lines_of}
+use Rattle.md_asm.specs.Numbers.{Names, resolved}
 use Rattle.md_asm.specs.Assembly.{Done, assembly, assembly_of, places_of, second}
 use Rattle.md_asm.specs.Held.{AreHeld, HoldsLines, IsHeld}
 use Rattle.md_asm.specs.Places.{WrittenPlaces, blank}

@@ -5,3 +5,4 @@ pub mod Held
 pub mod Memory
 pub mod Places
 pub mod Slots
+pub mod Told

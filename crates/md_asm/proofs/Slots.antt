@@ -3,9 +3,9 @@ use Rattle.std.proofs.Common.{◌≡◌, ℕ, ◌+◌, ◌≤◌, ◌==◌, Bool
 use Rattle.std.proofs.lemmas.Bool.{eqb-true}
 use Rattle.md_asm_text.specs.Pieces as pieces
 use Rattle.md_asm_text.specs.Pieces.{Piece}
-use Rattle.md_asm_line.specs.declared.body.Body.{Body}
-use Rattle.md_asm_code.specs.Contents.{Far, Good, Settled, Unfit, Unknown, content, is_unfit, settled_line, sized}
-use Rattle.md_asm_code.specs.Numbers.{Names, has_name, resolved}
+use Rattle.md_asm_text.specs.declared.body.Body.{Body}
+use Rattle.md_asm.specs.Contents.{Far, Good, Settled, Unfit, Unknown, content, is_unfit, settled_line, sized}
+use Rattle.md_asm.specs.Numbers.{Names, has_name, resolved}
 use Rattle.md_asm.specs.Kept.{AreKept, SettlesOn, FitsAt, IsKept}
 use Rattle.md_asm.specs.declared.entry.Entry.{Entry}
 

@@ -1,8 +1,8 @@
 -- What a source is assembled to.
 use Rattle.std.specs.Prelude.{ℕ, Bool, true, false, if◌then◌else◌, List, [], ◌∷◌, take}
-use Rattle.md_asm_line.specs.Texts.{lines}
-use Rattle.md_asm_line.specs.declared.body.Body.{Body}
-use Rattle.md_asm_line.specs.declared.body.Body.TheVariants as bodies
+use Rattle.md_asm_text.specs.Texts.{lines}
+use Rattle.md_asm_text.specs.declared.body.Body.{Body}
+use Rattle.md_asm_text.specs.declared.body.Body.TheVariants as bodies
 use Rattle.md_asm.specs.Places.{blank}
 use Rattle.md_asm.specs.Rounds.{Faulty, Filled, Outcome, Read, Refused, Round, Slot, Whole, round_one, round_two, start}
 use Rattle.md_asm.specs.declared.kind.Kind.{Kind}

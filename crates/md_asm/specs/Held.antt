@@ -1,8 +1,8 @@
 -- What an image holds of the lines of its source.
 use Rattle.std.specs.Prelude.{ℕ, ◌≡◌, ◌+◌, ◌<◌, Bool, true, false, List, [], ◌∷◌, length, slice_index}
-use Rattle.md_asm_line.specs.Texts.{lines as lines_of}
-use Rattle.md_asm_code.specs.Contents.{Good}
-use Rattle.md_asm_code.specs.Numbers.{Names}
+use Rattle.md_asm_text.specs.Texts.{lines as lines_of}
+use Rattle.md_asm.specs.Contents.{Good}
+use Rattle.md_asm.specs.Numbers.{Names}
 use Rattle.md_asm.specs.Assembly.{places_of}
 use Rattle.md_asm.specs.Rounds.{Read, Round, Slot, round_one, settled_slot, start}
 use Rattle.md_asm.specs.declared.placed.Placed.{Placed}

@@ -1,9 +1,9 @@
 -- What holds of the lines that are kept for the second round.
 use Rattle.std.specs.Prelude.{ℕ, ◌≡◌, ◌+◌, ◌<◌, ◌≤◌, Bool, true, List, [], ◌∷◌, IfSome, length, vec_len}
 use Rattle.md_asm_text.specs.Pieces.{Piece, pieces}
-use Rattle.md_asm_line.specs.declared.body.Body.{Body}
-use Rattle.md_asm_code.specs.Contents.{Far, Good, Settled, Unfit, Unknown, settled_line}
-use Rattle.md_asm_code.specs.Numbers.{Names, resolved}
+use Rattle.md_asm_text.specs.declared.body.Body.{Body}
+use Rattle.md_asm.specs.Contents.{Far, Good, Settled, Unfit, Unknown, settled_line}
+use Rattle.md_asm.specs.Numbers.{Names, resolved}
 use Rattle.md_asm.specs.declared.entry.Entry.{Entry}
 use Rattle.md_asm.specs.declared.pass.Pass.{Pass}
 

@@ -1,6 +1,10 @@
 pub mod Assembly
+pub mod Codes
+pub mod Contents
 pub mod Held
 pub mod Kept
+pub mod Numbers
 pub mod Places
 pub mod Rounds
 pub mod Seen
+pub mod SeenCodes

@@ -3,11 +3,11 @@ use Rattle.std.specs.Prelude.{ℕ, ◌+◌, ◌%◌, Bool, true, false, not, ◌
 use Rattle.std.specs.Map.{update}
 use Rattle.std.specs.Str.{bytes_eq}
 use Rattle.md_asm_text.specs.Pieces.{pieces}
-use Rattle.md_asm_line.specs.Lines.{Line, line_of}
-use Rattle.md_asm_line.specs.declared.body.Body.{Body}
-use Rattle.md_asm_line.specs.declared.body.Body.TheVariants as bodies
-use Rattle.md_asm_code.specs.Contents.{Settled, Good, Unknown, Unfit, Far, is_unfit, settled_line, size}
-use Rattle.md_asm_code.specs.Numbers.{Names, resolved}
+use Rattle.md_asm_text.specs.Lines.{Line, line_of}
+use Rattle.md_asm_text.specs.declared.body.Body.{Body}
+use Rattle.md_asm_text.specs.declared.body.Body.TheVariants as bodies
+use Rattle.md_asm.specs.Contents.{Settled, Good, Unknown, Unfit, Far, is_unfit, settled_line, size}
+use Rattle.md_asm.specs.Numbers.{Names, resolved}
 use Rattle.md_asm.specs.Places.{WrittenPlaces, address, any_written, is_sub, is_too_large, put, with_written}
 use Rattle.md_asm.specs.declared.kind.Kind.{Kind}
 use Rattle.md_asm.specs.declared.kind.Kind.TheVariants as kinds

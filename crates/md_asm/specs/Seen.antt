@@ -1,6 +1,6 @@
 -- What the code keeps, as the definitions have it.
 use Rattle.std.specs.Prelude.{ℕ, ◌≡◌, false, List, map, Option, Some, None, slice_index_or}
-use Rattle.md_asm_code.specs.Seen.{names_seen}
+use Rattle.md_asm.specs.SeenCodes.{names_seen}
 use Rattle.md_asm.specs.Assembly.{AssemblyOutcome, Failed, number_of}
 use Rattle.md_asm.specs.Places.{WrittenPlaces}
 use Rattle.md_asm.specs.Rounds.{Faulty, Filled, Hit, On, Onto, Outcome, Patched, Refused, Round, Slot, Step, Stop}

@@ -1,6 +1,6 @@
 ghost use Rattle.std.specs.Prelude.{◌≡◌, ◌≤◌, IfErr, IfOk, OnOk, length, map, vec_len};
-ghost use Rattle.md_asm_line.specs.Texts.{lines as lines_of};
-ghost use Rattle.md_asm_code.specs.Seen.{names_seen};
+ghost use Rattle.md_asm_text.specs.Texts.{lines as lines_of};
+ghost use Rattle.md_asm.specs.SeenCodes.{names_seen};
 ghost use Rattle.md_asm.specs.Assembly as meaning;
 ghost use Rattle.md_asm.specs.Kept.{AreKept, IsPass};
 ghost use Rattle.md_asm.specs.Places as places;
@@ -16,8 +16,8 @@ use crate::pass::Pass;
 use crate::patching::patch;
 use crate::placed::Placed;
 use crate::processor::Processor;
-use md_asm_code::Names;
-use md_asm_line::{Body, next_line};
+use crate::Names;
+use md_asm_text::{Body, next_line};
 use md_word::NoMemory;
 use std::alloc::Global;
 

@@ -1,4 +1,4 @@
-use md_asm_line::Body;
+use md_asm_text::Body;
 
 /// A line that has bytes.
 #[derive(Drop)]

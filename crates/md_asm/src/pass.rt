@@ -1,7 +1,7 @@
 use crate::cells::Cells;
 use crate::entry::Entry;
 use crate::processor::Processor;
-use md_asm_code::Names;
+use crate::Names;
 
 /// What the lines so far come to.
 #[derive(Drop)]

@@ -1,5 +1,5 @@
 ghost use Rattle.std.specs.Prelude.{◌≡◌, ◌+◌, ◌≤◌, ◌<◌, IfOk, length, true};
-ghost use Rattle.md_asm_code.specs.Seen.{names_seen, settled_seen};
+ghost use Rattle.md_asm.specs.SeenCodes.{names_seen, settled_seen};
 ghost use Rattle.md_asm.specs.Kept.{FitsAt, IsKept};
 ghost use Rattle.md_asm.specs.Places as places;
 ghost use Rattle.md_asm.specs.Rounds as rounds;
@@ -7,7 +7,7 @@ ghost use Rattle.md_asm.specs.Seen.{patched_seen, slot_seen};
 
 use crate::entry::Entry;
 use crate::kind::Kind;
-use md_asm_code::{Names, Settled, resolve, settle};
+use crate::{Names, Settled, resolve, settle};
 use md_asm_text::split;
 use md_word::NoMemory;
 use std::alloc::Global;

@@ -1,4 +1,5 @@
 pub mod Alike
+pub mod Cuts
 pub mod Runs
 pub mod Splits
 pub mod Values

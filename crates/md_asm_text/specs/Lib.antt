@@ -1,6 +1,10 @@
 pub mod Alike
+pub mod Bodies
 pub mod Bounds
+pub mod Lines
 pub mod Operands
 pub mod Pieces
 pub mod Runs
+pub mod Seen
 pub mod Shown
+pub mod Texts

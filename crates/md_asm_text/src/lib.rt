@@ -1,15 +1,23 @@
-//! The pieces of an instruction's text: words, numbers, names and single characters; and the operands among
-//! them.
+//! The lines of a source and the texts in them: what a line holds, its pieces, its operands, and whether two texts are
+//! the same.
 #![tactic(auto)]
 
+mod body;
 mod characters;
 mod comparing;
+mod cutting;
+mod directives;
+mod line;
 mod operands;
 mod piece;
 mod splitter;
+mod trimming;
 mod words;
 
+pub use body::Body;
 pub use comparing::same;
+pub use cutting::next_line;
+pub use line::{Line, read_line};
 pub use operands::{first_operand, second_operand};
 pub use piece::Piece;
 pub use splitter::split;

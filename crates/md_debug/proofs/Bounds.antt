@@ -2,11 +2,11 @@
 use Rattle.std.proofs.Common.{◌≡◌, ℕ, ◌%◌, ◌^◌, ◌<◌, ◌≤◌, ◌&&◌, ◌==◌, Bool, true, false, nat_le, if◌then◌else◌, List, Option, Some, None, codes, bytes_eq, option_map, option_and_then, Ok, Err, refl, subst, arith}
 use Rattle.std.specs.List.{list_all}
 use Rattle.std.proofs.lemmas.Bool.Decides.{nat_tests}
-use Rattle.debug_lines.specs.Commands.{bare, behind, command_of, even_place, is_seven_bit, number_in, numbered, place_in, read_by, within, word_in, word_of}
-use Rattle.debug_lines.specs.Numbers.{address_of, decimal_of}
-use Rattle.debug_lines.specs.declared.command.Command.{Command}
-use Rattle.debug_lines.specs.declared.command.Command.TheVariants.{Step, RunTo, Back, Regs, Mem, Dis, Trace, Report}
-use Rattle.debug_lines.specs.declared.command.Misread.TheVariants.{UnknownWord}
+use Rattle.debug_text.specs.Commands.{bare, behind, command_of, even_place, is_seven_bit, number_in, numbered, place_in, read_by, within, word_in, word_of}
+use Rattle.debug_text.specs.Numbers.{address_of, decimal_of}
+use Rattle.debug_text.specs.declared.command.Command.{Command}
+use Rattle.debug_text.specs.declared.command.Command.TheVariants.{Step, RunTo, Back, Regs, Mem, Dis, Trace, Report}
+use Rattle.debug_text.specs.declared.command.Misread.TheVariants.{UnknownWord}
 use Rattle.md_debug.specs.Sessions.{IsWithinBounds}
 use Rattle.md_word.specs.Clock.{last_cycle}
 

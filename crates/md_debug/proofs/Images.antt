@@ -3,7 +3,7 @@ use Rattle.std.proofs.Common.{◌≡◌, ℕ, zero, suc, ◌+◌, ◌-◌, ◌<�
 use Rattle.std.proofs.lemmas.List.{get_or-drop, get_or-take, length-drop, length-take, take_at}
 use Rattle.md_machine.specs.Machines.{MachineValue}
 use Rattle.page_ring.specs.Kept.{IsPushed}
-use Rattle.debug_kept.specs.Kept.{all_pages, padded, per_state, state_size}
+use Rattle.md_debug.specs.Kept.{all_pages, padded, per_state, state_size}
 use Rattle.md_debug.specs.Keeping.{AreImages, image_in}
 
 module _ (size : ℕ) (keeps : List ℕ → MachineValue → Type 0) where

@@ -5,7 +5,7 @@ use Rattle.circular_buffer.specs.Buffer.{Buffer}
 use Rattle.md_word.specs.Clock.{last_cycle}
 use Rattle.md_machine.specs.Machines.{MachineValue}
 use Rattle.page_ring.specs.Kept.{IsPushed}
-use Rattle.debug_kept.specs.Kept.{KeptValue, all_pages, padded, per_state, state_size}
+use Rattle.md_debug.specs.Kept.{KeptValue, all_pages, padded, per_state, state_size}
 use Rattle.md_debug.specs.Debuggees.{IsDebuggee, most_output}
 use Rattle.md_debug.specs.declared.debuggee.Debuggee.{Debuggee}
 use Rattle.md_debug.specs.Going.{RunsTo, Steps, drained, start_of}

@@ -1,7 +1,14 @@
+pub mod Alike
 pub mod Begun
 pub mod Bounds
+pub mod Few
 pub mod Images
 pub mod Kept
 pub mod Latest
+pub mod Machines
 pub mod Near
+pub mod Opening
+pub mod Outcomes
+pub mod PlayedScripts
 pub mod Runs
+pub mod Scripts

@@ -6,7 +6,7 @@ use Rattle.md_machine.specs.Console.{Console, IsRunTo}
 use Rattle.md_machine.specs.Machines.{MachineValue}
 use Rattle.md_machine.specs.Media.{Media, no_media}
 use Rattle.md_machine.specs.Starts.{IsStart}
-use Rattle.debug_kept.specs.Kept.{KeptValue, state_size}
+use Rattle.md_debug.specs.Kept.{KeptValue, state_size}
 use Rattle.md_debug.specs.Debuggees.{IsDebuggee}
 use Rattle.md_debug.specs.Going.{drained, start_of}
 use Rattle.md_debug.specs.declared.debuggee.Debuggee.{Debuggee}

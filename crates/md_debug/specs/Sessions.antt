@@ -1,17 +1,17 @@
 -- What a session is, what a command makes of it, and the reply.
 use Rattle.std.specs.Prelude.{◌≡◌, ℕ, ◌-◌, ◌%◌, ◌^◌, ◌<◌, ◌≤◌, ⊤, List, [], ◌∷◌, ◌++◌, length, get_or, take, drop}
 use Rattle.circular_buffer.specs.Buffer.{keep_last}
-use Rattle.debug_lines.specs.declared.command.Command.{Command}
-use Rattle.debug_lines.specs.declared.command.Command.TheVariants.{Step, RunTo, Back, Regs, Mem, Dis, Trace, Report}
-use Rattle.debug_lines.specs.declared.command.Misread.{Misread}
-use Rattle.debug_lines.specs.declared.command.Misread.TheVariants as misread
-use Rattle.debug_replies.specs.Replies.{address_reply, byte_reply, cycle_reply, instruction_reply, register_reply}
-use Rattle.debug_replies.specs.Report.{report_reply}
+use Rattle.debug_text.specs.declared.command.Command.{Command}
+use Rattle.debug_text.specs.declared.command.Command.TheVariants.{Step, RunTo, Back, Regs, Mem, Dis, Trace, Report}
+use Rattle.debug_text.specs.declared.command.Misread.{Misread}
+use Rattle.debug_text.specs.declared.command.Misread.TheVariants as misread
+use Rattle.debug_text.specs.Replies.{address_reply, byte_reply, cycle_reply, instruction_reply, register_reply}
+use Rattle.debug_text.specs.Report.{report_reply}
 use Rattle.md_machine.specs.Machines.{MachineValue}
 use Rattle.md_word.specs.Clock.{last_cycle}
 use Rattle.page_ring.specs.Kept.{IsPushed}
 use Rattle.md_debug.specs.Going.{RunsTo, Steps, latest, least_of, start_of}
-use Rattle.debug_kept.specs.Kept.{all_pages, padded, per_state}
+use Rattle.md_debug.specs.Kept.{all_pages, padded, per_state}
 use Rattle.md_debug.specs.Keeping.{image_in}
 use Rattle.md_debug.specs.declared.fault.DebugFault.{DebugFault}
 use Rattle.md_debug.specs.declared.fault.DebugFault.TheVariants as faults

@@ -1,7 +1,7 @@
 ghost use Rattle.std.specs.Prelude.{◌≡◌};
 ghost use Rattle.md_debug.specs.Sessions.{refusal};
 
-use debug_lines::Misread;
+use debug_text::Misread;
 use md_word::NoMemory;
 
 /// Why a line of a script is refused.

@@ -4,8 +4,15 @@
 
 mod debuggee;
 mod fault;
+mod kept_states;
 mod laws;
+mod playing;
+mod script;
 mod session;
+pub mod session_laws;
 
 pub use fault::DebugFault;
+pub use kept_states::KeptStates;
+pub use playing::{open, play_script};
+pub use script::{Ending, play};
 pub use session::Session;

@@ -1,11 +1,11 @@
 ghost use Rattle.std.specs.Prelude.{◌≡◌, ◌≢◌, ◌↔◌, ℕ, ◌+◌, ◌<◌, ◌≤◌, [], ◌∷◌, length, vec_capacity, string_bytes, take, get_or, IfOk, IfErr, OnErr, Ok, Err};
-ghost use Rattle.debug_lines.specs.Commands.{command_of};
-ghost use Rattle.debug_lines.specs.declared.command.Command.{Command};
-ghost use Rattle.debug_lines.specs.declared.command.Command.TheVariants as commands;
-ghost use Rattle.debug_lines.specs.declared.command.Misread.TheVariants as misread;
-ghost use Rattle.debug_replies.specs.Replies.{address_reply, cycle_reply};
+ghost use Rattle.debug_text.specs.Commands.{command_of};
+ghost use Rattle.debug_text.specs.declared.command.Command.{Command};
+ghost use Rattle.debug_text.specs.declared.command.Command.TheVariants as commands;
+ghost use Rattle.debug_text.specs.declared.command.Misread.TheVariants as misread;
+ghost use Rattle.debug_text.specs.Replies.{address_reply, cycle_reply};
 ghost use Rattle.circular_buffer.specs.Buffer.{keep_last};
-ghost use Rattle.debug_kept.specs.Kept.{padded, state_size};
+ghost use Rattle.md_debug.specs.Kept.{padded, state_size};
 ghost use Rattle.md_word.specs.Clock.{last_cycle};
 ghost use Rattle.md_debug.specs.Going.{least_of};
 ghost use Rattle.md_debug.specs.Keeping.{KeepsMachines, image_in};
@@ -13,9 +13,9 @@ ghost use Rattle.md_debug.specs.Sessions.{IsQuestion, IsWithinBounds, Keeps, Obe
 
 use crate::debuggee::Debuggee;
 use crate::fault::{DebugFault, refused};
-use debug_kept::KeptStates;
-use debug_lines::{Command, read_command};
-use debug_replies::{
+use crate::KeptStates;
+use debug_text::{Command, read_command};
+use debug_text::{
     address_reply, byte_reply, instruction_reply, put_cycle, register_reply, report_reply,
 };
 use md_machine::Machine;

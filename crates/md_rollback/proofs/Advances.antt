@@ -7,11 +7,11 @@ use Rattle.md_machine.specs.Console.{Console, journal, media_after, power_on, ra
 use Rattle.md_machine.specs.Machines.{MachineValue}
 use Rattle.md_machine.specs.Media.{no_media}
 use Rattle.md_reached.specs.Reached.{IsReached}
-use Rattle.rollback_images.specs.Images.{AreImagesBelow, Image, Kept, ReachBackTo, image_at}
-use Rattle.rollback_images.proofs.Below.{dropped-below, reach-behind, reach-dropped}
-use Rattle.rollback_inputs.specs.Inputs.{AreInputs, InputsValue, IsFixed, expected_frames, frame_at, most_frames}
-use Rattle.rollback_inputs.proofs.Expected.{frames-long, frames-small}
-use Rattle.rollback_inputs.proofs.FixedFrames.{back-within, fixed-next}
+use Rattle.md_rollback.specs.Images.{AreImagesBelow, Image, Kept, ReachBackTo, image_at}
+use Rattle.md_rollback.proofs.Below.{dropped-below, reach-behind, reach-dropped}
+use Rattle.md_rollback.specs.Inputs.{AreInputs, InputsValue, IsFixed, expected_frames, frame_at, most_frames}
+use Rattle.md_rollback.proofs.Expected.{frames-long, frames-small}
+use Rattle.md_rollback.proofs.FixedFrames.{back-within, fixed-next}
 use Rattle.md_rollback.specs.Played.{AreMade, IsImageOf, IsMachineOf, IsPlayed, IsPlayedAlike, KeepsReached}
 use Rattle.md_rollback.specs.Sessions.{IsSession}
 use Rattle.md_rollback.proofs.Kept.{images-with}

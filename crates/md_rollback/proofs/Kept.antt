@@ -2,9 +2,9 @@
 use Rattle.std.proofs.Common.{◌≡◌, ◌∙◌, refl, sym, ap, subst, ℕ, ◌+◌, ◌<◌, ◌≤◌, List, ◌∷◌, take, arith}
 use Rattle.md_pads.specs.Recording.{Frame}
 use Rattle.md_machine.specs.Console.{Console}
-use Rattle.rollback_images.specs.Images.{AreImagesBelow, Image, Kept}
-use Rattle.rollback_images.proofs.Below.{below-with, reach-pushed, taken-below, widened}
-use Rattle.rollback_inputs.specs.Inputs.{frame_at}
+use Rattle.md_rollback.specs.Images.{AreImagesBelow, Image, Kept}
+use Rattle.md_rollback.proofs.Below.{below-with, reach-pushed, taken-below, widened}
+use Rattle.md_rollback.specs.Inputs.{frame_at}
 use Rattle.md_rollback.specs.Played.{AreMade, IsImageOf}
 
 -- an image is that of another recording too, where both have the same frames before it

@@ -1,4 +1,14 @@
 pub mod Advances
+pub mod Below
+pub mod Expected
+pub mod FixedFrames
+pub mod Followed
 pub mod Kept
 pub mod Near
+pub mod Numerals
+pub mod Outcomes
+pub mod Pushed
+pub mod Rolling
+pub mod Scripts
+pub mod Single
 pub mod Steps

@@ -2,7 +2,7 @@
 use Rattle.std.proofs.Common.{◌≡◌, ◌∙◌, refl, sym, subst, Bool, true, false, ℕ, zero, suc, ◌+◌, ◌-◌, ◌%◌, ◌<◌, ◌≤◌, ◌⊎◌, inl, inr, List, ◌∷◌, length, take, arith}
 use Rattle.std.specs.Prelude.{IsTrue}
 use Rattle.std.proofs.lemmas.Bool.{cases_lt}
-use Rattle.rollback_images.specs.Images.{Image, Kept, ReachBackTo, image_at}
+use Rattle.md_rollback.specs.Images.{Image, Kept, ReachBackTo, image_at}
 
 -- the newest image is the last of those that are kept, one in four frames from the one behind `right` on
 pub record IsNewest (right frames : ℕ) (images : List Image) : Type 0 where

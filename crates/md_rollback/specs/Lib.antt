@@ -1,2 +1,9 @@
+pub mod Following
+pub mod Images
+pub mod Inputs
+pub mod Laws
+pub mod Lines
 pub mod Played
+pub mod Rolls
+pub mod Scripts
 pub mod Sessions

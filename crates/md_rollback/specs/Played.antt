@@ -9,7 +9,7 @@ use Rattle.md_machine.specs.Media.{Media, no_media}
 use Rattle.md_reached.specs.Reached.{IsReached}
 use Rattle.recording_laws.specs.Recorded.{AreAlikeBelow}
 use Rattle.save_state.specs.States.{settled_console}
-use Rattle.rollback_images.specs.Images.{AreImagesBelow, Kept, ReachBackTo}
+use Rattle.md_rollback.specs.Images.{AreImagesBelow, Kept, ReachBackTo}
 
 -- the machine that a run of NTSC from power-on with this cartridge and recording is at a cycle, seen with what stands
 -- below the cycle settled

@@ -3,8 +3,8 @@ use Rattle.std.specs.Prelude.{ℕ, ◌+◌, ◌<◌, ◌≤◌, List, length}
 use Rattle.md_pads.specs.Recording.{Frame}
 use Rattle.md_machine.specs.Console.{Console}
 use Rattle.md_machine.specs.Machines.{MachineValue}
-use Rattle.rollback_inputs.specs.Inputs.{InputsValue, IsFixed, Words, most_frames}
-use Rattle.rollback_images.specs.Images.{AreImagesBelow, Image, ReachBackTo}
+use Rattle.md_rollback.specs.Inputs.{InputsValue, IsFixed, Words, most_frames}
+use Rattle.md_rollback.specs.Images.{AreImagesBelow, Image, ReachBackTo}
 use Rattle.md_rollback.specs.Played.{IsImageOf, IsPlayed, KeepsReached}
 
 -- a session as contracts see it

@@ -1,12 +1,12 @@
 ghost use Rattle.std.specs.Prelude.{◌≡◌, ◌≤◌, ◌<◌, ◌∷◌, ℕ, [], drop, length, take, IfOk};
 ghost use Rattle.md_word.specs.Clock.{last_cycle};
 ghost use Rattle.save_state.specs.States.{settled_console};
-ghost use Rattle.rollback_images.specs.Images.{image_at};
+ghost use Rattle.md_rollback.specs.Images.{image_at};
 
 use md_machine::Machine;
 use md_word::NoMemory;
 use replays::Replays;
-use rollback_images::KeptImages;
+use crate::KeptImages;
 use std::alloc::Global;
 use std::marker::Model;
 
@@ -21,7 +21,7 @@ pub(crate) struct Images {
 
 impl Model for Images {
     ghost use Rattle.std.specs.Prelude.{◌≤◌, vec_capacity};
-    ghost use Rattle.rollback_images.specs.Images.{Kept};
+    ghost use Rattle.md_rollback.specs.Images.{Kept};
 
     ghost Value = { Kept };
 

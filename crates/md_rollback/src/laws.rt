@@ -2,10 +2,10 @@
 
 ghost use Rattle.std.specs.Prelude.{ℕ, List, ◌≤◌};
 ghost use Rattle.md_machine.specs.Machines.{MachineValue};
-ghost use Rattle.rollback_inputs.specs.Inputs.{IsConfirmed, IsMore, Words, expected_frames};
+ghost use Rattle.md_rollback.specs.Inputs.{IsConfirmed, IsMore, Words, expected_frames};
 ghost use Rattle.md_rollback.specs.Played.{IsMachineOf};
 
-use rollback_inputs::laws;
+use crate::input_laws;
 
 /// Of confirmed frames the machine is that of all words that are ever given, whatever comes beyond them.
 pub fn confirmed_machines_stay()

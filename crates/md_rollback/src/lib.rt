@@ -3,12 +3,38 @@
 #![tactic(auto)]
 
 mod fault;
+mod frames;
 mod images;
+mod input_fault;
+pub mod input_laws;
+mod inputs;
+mod kept_images;
 pub mod laws;
+mod line;
+mod line_fault;
+mod number;
+mod opening;
+pub mod outcome_laws;
 mod play;
+mod reading;
 mod recording;
+mod rolled;
+mod running;
+mod script;
 mod session;
+mod words;
 
 pub use fault::AdvanceFault;
-pub use rollback_inputs::InputFault;
+pub use frames::same_frames;
+pub use input_fault::InputFault;
+pub use inputs::Inputs;
+pub use kept_images::KeptImages;
+pub use line::{Line, Player};
+pub use line_fault::LineFault;
+pub use opening::session;
+pub use reading::read_line;
+pub use rolled::{Comes, Rolled};
+pub use running::run_script;
+pub use script::{Ending, play};
 pub use session::Session;
+pub use words::MOST_FRAMES;

@@ -4,8 +4,8 @@ ghost use Rattle.md_pads.specs.Recording.{Frame, IsFrame, IsRecording, recording
 ghost use Rattle.md_pads.specs.declared.version.Version.TheVariants.{First};
 ghost use Rattle.md_word.specs.Clock.{frame as frame_length};
 ghost use Rattle.md_machine.specs.Media.{no_media};
-ghost use Rattle.rollback_inputs.specs.Inputs.{most_frames};
-ghost use Rattle.rollback_images.specs.Images.{AreImagesBelow, ReachBackTo, image_at};
+ghost use Rattle.md_rollback.specs.Inputs.{most_frames};
+ghost use Rattle.md_rollback.specs.Images.{AreImagesBelow, ReachBackTo, image_at};
 ghost use Rattle.md_rollback.specs.Played.{AreMade, IsImageOf, IsPlayed, IsPlayedAlike, KeepsReached};
 
 use crate::images::Images;

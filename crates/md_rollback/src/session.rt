@@ -3,8 +3,8 @@ ghost use Rattle.md_pads.specs.Recording.{no_frames};
 ghost use Rattle.md_word.specs.Clock.{frame as frame_length, last_cycle};
 ghost use Rattle.md_machine.specs.Console.{power_on};
 ghost use Rattle.md_machine.specs.Media.{no_media};
-ghost use Rattle.rollback_inputs.specs.Inputs.{IsConfirmed, expected_frames, given, most_frames, no_words};
-ghost use Rattle.rollback_images.specs.Images.{ReachBackTo};
+ghost use Rattle.md_rollback.specs.Inputs.{IsConfirmed, expected_frames, given, most_frames, no_words};
+ghost use Rattle.md_rollback.specs.Images.{ReachBackTo};
 ghost use Rattle.md_rollback.specs.Played.{IsMachineOf, KeepsReached};
 
 use crate::fault::AdvanceFault;
@@ -14,8 +14,8 @@ use md_machine::Machine;
 use md_reached::saved;
 use md_word::NoMemory;
 use replays::Replays;
-use rollback_images::KeptImages;
-use rollback_inputs::{InputFault, Inputs, MOST_FRAMES, same_frames};
+use crate::KeptImages;
+use crate::{InputFault, Inputs, MOST_FRAMES, same_frames};
 use std::alloc::Global;
 use std::marker::Model;
 

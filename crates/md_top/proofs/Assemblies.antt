@@ -6,11 +6,11 @@ use Rattle.md_outer.proofs.WrittenFiles.{with_file-other}
 use Rattle.md_asm.specs.Assembly as assembly
 use Rattle.md_asm.specs.declared.placed.Placed.{Placed}
 use Rattle.md_args.specs.Words.{Assemble, Assembling, Conversion, Run}
-use Rattle.asm_files.specs.Assemblies as files
-use Rattle.asm_files.specs.Assemblies.{HoldsParts, IsFound, LeavesEmpty, LeavesParts, limit, with_list}
-use Rattle.asm_files.proofs.Endings.{right}
-use Rattle.asm_files.specs.declared.comes.Comes.{Comes}
-use Rattle.asm_files.specs.declared.comes.Comes.TheVariants as comes
+use Rattle.file_commands.specs.Assemblies as files
+use Rattle.file_commands.specs.Assemblies.{HoldsParts, IsFound, LeavesEmpty, LeavesParts, limit, with_list}
+use Rattle.file_commands.proofs.AssemblyEndings.{right}
+use Rattle.file_commands.specs.declared.comes.Comes.{Comes}
+use Rattle.file_commands.specs.declared.comes.Comes.TheVariants as comes
 use Rattle.md_top.specs.Assemblies.{AsmEnds, AsmFiles, IsRefusedSource, as_ending, asm_ending}
 use Rattle.md_top.specs.Conversions.{ConvertEnds}
 use Rattle.md_top.specs.Endings.{InfoEnds, RunEnds, status_of}

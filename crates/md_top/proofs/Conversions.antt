@@ -6,11 +6,11 @@ use Rattle.md_outer.specs.Outside.{DepotState, Files, Rose}
 use Rattle.md_outer.proofs.WrittenFiles.{with_file-other}
 use Rattle.md_vgm.specs.Outcomes.{Made, Outcome}
 use Rattle.md_args.specs.Words.{Conversion, Convert, Run}
-use Rattle.vgm_files.specs.Conversions as files
-use Rattle.vgm_files.specs.Conversions.{IsFound, IsOutcome, limit}
-use Rattle.vgm_files.proofs.Endings.{right}
-use Rattle.vgm_files.specs.declared.converted.Converted.{Converted as Comes}
-use Rattle.vgm_files.specs.declared.converted.Converted.TheVariants as converted
+use Rattle.file_commands.specs.Conversions as files
+use Rattle.file_commands.specs.Conversions.{IsFound, IsOutcome, limit}
+use Rattle.file_commands.proofs.ConversionEndings.{right}
+use Rattle.file_commands.specs.declared.converted.Converted.{Converted as Comes}
+use Rattle.file_commands.specs.declared.converted.Converted.TheVariants as converted
 use Rattle.md_top.specs.Conversions.{ConvertEnds, ConvertFiles, IsRefusedInput, as_ending, convert_ending}
 use Rattle.md_top.specs.Endings.{InfoEnds, RunEnds, status_of}
 use Rattle.md_top.specs.Inputs.{IsMissing}

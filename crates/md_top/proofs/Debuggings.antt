@@ -5,10 +5,10 @@ use Rattle.std.proofs.lemmas.Bool.{le-ltb, lt-ltb}
 use Rattle.md_debug.specs.Sessions.{reply_to}
 use Rattle.md_outer.specs.Outside.{DepotState, Files, GoesOn, Rose, SinkState}
 use Rattle.md_args.specs.Words.{Assembling, Conversion, Debug, Debugging, Demo, Run}
-use Rattle.debug_script.specs.declared.script.Ending.{Ending as ScriptEnding}
-use Rattle.debug_script.specs.declared.script.Ending.TheVariants.{Obeyed, OutOfMemory, Refused}
-use Rattle.debug_states.specs.Opened.{PlaysScript, PutsScript, StopsScript}
-use Rattle.debug_states.proofs.Scripts.{one_script}
+use Rattle.md_debug.specs.declared.script.Ending.{Ending as ScriptEnding}
+use Rattle.md_debug.specs.declared.script.Ending.TheVariants.{Obeyed, OutOfMemory, Refused}
+use Rattle.md_debug.specs.Opened.{PlaysScript, PutsScript, StopsScript}
+use Rattle.md_debug.proofs.PlayedScripts.{one_script}
 use Rattle.md_top.specs.Assemblies.{AsmEnds}
 use Rattle.md_top.specs.Conversions.{ConvertEnds}
 use Rattle.md_top.specs.Debuggings.{CanDebug, DebugEnds, IsPlayed, IsRefusedScript, IsScripted, Scripted, ShowsReplies, played_ending, script_limit}

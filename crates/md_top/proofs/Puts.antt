@@ -2,7 +2,7 @@
 use Rattle.std.proofs.Common.{◌≡◌, ℕ, ◌≤◌, List, [], ◌++◌, Result, Ok, Err, ◌⊎◌, inl, inr, ap, ◌∙◌, sym, append-nil, append_assoc, arith}
 use Rattle.std.specs.Prelude.{OnErr, OnOk}
 use Rattle.md_top.specs.Answers.{PutsAll, PutsOutput, PutsPart}
-use Rattle.debug_script.proofs.Scripts.{puts_more}
+use Rattle.md_debug.proofs.Scripts.{puts_more}
 use Rattle.md_outer.specs.Outside.{IsPrefix, PutsText, Rose, SinkState}
 use Rattle.md_top.proofs.Writes.{prefix-append}
 

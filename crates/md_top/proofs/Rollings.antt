@@ -4,12 +4,12 @@ use Rattle.std.specs.Prelude.{IsSomeAnd, unwrap_or}
 use Rattle.std.proofs.lemmas.Bool.{le-ltb, lt-ltb}
 use Rattle.md_outer.specs.Outside.{DepotState, Files, GoesOn, Rose}
 use Rattle.md_args.specs.Words.{Assembling, Conversion, Debugging, Demo, Rollback, Rolling, Run}
-use Rattle.rollback_script.specs.declared.fault.LineFault.{LineFault}
-use Rattle.rollback_states.specs.Rolls.{ComesTo}
-use Rattle.rollback_states.specs.declared.rolled.Comes.{Comes}
-use Rattle.rollback_states.specs.declared.rolled.Comes.TheVariants as comes
-use Rattle.rollback_states.specs.declared.rolled.Rolled.{Rolled}
-use Rattle.rollback_states.proofs.Outcomes.{done_or_refused}
+use Rattle.md_rollback.specs.declared.line_fault.LineFault.{LineFault}
+use Rattle.md_rollback.specs.Rolls.{ComesTo}
+use Rattle.md_rollback.specs.declared.rolled.Comes.{Comes}
+use Rattle.md_rollback.specs.declared.rolled.Comes.TheVariants as comes
+use Rattle.md_rollback.specs.declared.rolled.Rolled.{Rolled}
+use Rattle.md_rollback.proofs.Outcomes.{done_or_refused}
 use Rattle.md_top.specs.Assemblies.{AsmEnds}
 use Rattle.md_top.specs.Conversions.{ConvertEnds}
 use Rattle.md_top.specs.Debuggings.{DebugEnds}

@@ -19,8 +19,8 @@ use Rattle.md_top.specs.Conversions.{ConvertEnds, convert_ending}
 use Rattle.md_top.specs.Debuggings.{Scripted}
 use Rattle.md_top.specs.Demos.{DemoEnds}
 use Rattle.md_top.specs.Rollings.{RollEnds}
-use Rattle.debug_script.specs.declared.script.Ending.TheVariants.{Obeyed}
-use Rattle.rollback_states.specs.declared.rolled.Comes.TheVariants as comes
+use Rattle.md_debug.specs.declared.script.Ending.TheVariants.{Obeyed}
+use Rattle.md_rollback.specs.declared.rolled.Comes.TheVariants as comes
 use Rattle.md_top.specs.declared.ending.Ending.{Ending}
 use Rattle.md_top.specs.declared.ending.Ending.TheVariants.{Shown, Done, ReplyFault, Usage, TooFar, RecordingFault, RecordingTooLong, RecordingWrong, LoadFault, StateTooLong, StateWrong, OtherCart, Behind, FramesFault, SoundFault, JournalFault, SaveFault, Memory}
 use Rattle.md_top.proofs.Assemblies.{asm_behind, asm_done, asm_far, asm_other, asm_read_fault, asm_refused_input, asm_refused_source, asm_right, asm_state, asm_usage, asm_write_fault, asm_wrong, assembled_other, convert_source, info_source, run_source}

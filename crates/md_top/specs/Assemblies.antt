@@ -4,10 +4,10 @@ use Rattle.md_outer.specs.Outside.{DepotState, Files}
 use Rattle.md_asm.specs.Assembly as assembly
 use Rattle.md_asm.specs.declared.placed.Placed.{Placed}
 use Rattle.md_args.specs.Words.{Assembling}
-use Rattle.asm_files.specs.Assemblies as files
-use Rattle.asm_files.specs.Assemblies.{IsAtFault, IsFound}
-use Rattle.asm_files.specs.declared.comes.Comes.TheVariants as comes
-use Rattle.asm_files.specs.declared.comes.Comes.{Comes}
+use Rattle.file_commands.specs.Assemblies as files
+use Rattle.file_commands.specs.Assemblies.{IsAtFault, IsFound}
+use Rattle.file_commands.specs.declared.comes.Comes.TheVariants as comes
+use Rattle.file_commands.specs.declared.comes.Comes.{Comes}
 use Rattle.md_top.specs.declared.ending.Ending.{Ending}
 use Rattle.md_top.specs.declared.ending.Ending.TheVariants.{Converted, ListFault, OutputFault, ReadFault, SourceRefused, TooLong, Memory}
 

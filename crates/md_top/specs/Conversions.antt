@@ -5,10 +5,10 @@ use Rattle.md_vgm.specs.Outcomes.{Failed, Outcome}
 use Rattle.md_vgm.specs.declared.fault.VgmFault.{VgmFault}
 use Rattle.md_vgm.specs.declared.fault.VgmFault.TheVariants.{Form, Dense, Long, NoMemory}
 use Rattle.md_args.specs.Words.{Conversion}
-use Rattle.vgm_files.specs.Conversions as files
-use Rattle.vgm_files.specs.Conversions.{IsFound, IsMadeOf, IsOutcome}
-use Rattle.vgm_files.specs.declared.converted.Converted.TheVariants as converted
-use Rattle.vgm_files.specs.declared.converted.Converted.{Converted as Comes}
+use Rattle.file_commands.specs.Conversions as files
+use Rattle.file_commands.specs.Conversions.{IsFound, IsMadeOf, IsOutcome}
+use Rattle.file_commands.specs.declared.converted.Converted.TheVariants as converted
+use Rattle.file_commands.specs.declared.converted.Converted.{Converted as Comes}
 use Rattle.md_top.specs.declared.ending.Ending.{Ending}
 use Rattle.md_top.specs.declared.ending.Ending.TheVariants.{Converted, InputRefused, OutputFault, ReadFault, TooLong, Memory}
 

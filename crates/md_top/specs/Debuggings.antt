@@ -4,10 +4,10 @@ use Rattle.md_outer.specs.Outside.{DepotState, Files, Rose, SinkState, bytes_of}
 use Rattle.md_args.specs.Words.{Debugging}
 use Rattle.md_debug.specs.declared.fault.DebugFault.{DebugFault}
 use Rattle.md_debug.specs.declared.fault.DebugFault.TheVariants.{BadNumber, NoMemory, NotKept, UnknownWord}
-use Rattle.debug_script.specs.declared.script.Ending.{Ending as ScriptEnding}
-use Rattle.debug_script.specs.declared.script.Ending.TheVariants.{Obeyed, OutOfMemory, Refused}
-use Rattle.debug_script.specs.Scripts.{FailsWithin, PutsWhole}
-use Rattle.debug_states.specs.Opened.{PlaysScript, StopsScript}
+use Rattle.md_debug.specs.declared.script.Ending.{Ending as ScriptEnding}
+use Rattle.md_debug.specs.declared.script.Ending.TheVariants.{Obeyed, OutOfMemory, Refused}
+use Rattle.md_debug.specs.Scripts.{FailsWithin, PutsWhole}
+use Rattle.md_debug.specs.Opened.{PlaysScript, StopsScript}
 use Rattle.md_top.specs.Inputs.{CartCause, IsAccepted, cart_of}
 use Rattle.md_top.specs.declared.ending.Ending.{Ending}
 use Rattle.md_top.specs.declared.ending.Ending.TheVariants.{Played, ReplyFault, ScriptFault, ScriptMemory, ScriptRefused, ScriptTooLong}

@@ -23,7 +23,7 @@ use Rattle.md_args.specs.Words.{Assemble, Command, Convert, Debug, Debugging, De
 use Rattle.md_top.specs.Assemblies.{AsmEnds, AsmFiles, CanAssemble, asm_ending, source_line}
 use Rattle.md_top.specs.Debuggings.{CanDebug, DebugEnds, Scripted, played_ending, script_limit, script_line}
 use Rattle.md_top.specs.Rollings.{CanRoll, RollEnds, comes_ending, inputs_limit, inputs_line, rolled_lines}
-use Rattle.rollback_states.specs.declared.rolled.Comes.{Comes}
+use Rattle.md_rollback.specs.declared.rolled.Comes.{Comes}
 use Rattle.md_top.specs.Conversions.{CanConvert, ConvertEnds, ConvertFiles, convert_ending, fault_line}
 use Rattle.md_top.specs.declared.digests.Digests.{Digests}
 use Rattle.md_top.specs.declared.ending.Ending.{Ending}

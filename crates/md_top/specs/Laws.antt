@@ -6,8 +6,8 @@ use Rattle.md_machine.specs.Console.{Console, IsRunTo, power_on, ran}
 use Rattle.md_machine.specs.Media.{Media}
 use Rattle.md_machine.specs.Pads.{ShowsPads}
 use Rattle.md_machine.specs.Starts.{IsStart, Start, batches_below, frames_below}
-use Rattle.debug_states.specs.Laws.{DebugLaws}
-use Rattle.rollback_states.specs.Laws.{RollbackLaws}
+use Rattle.md_debug.specs.Laws.{DebugLaws}
+use Rattle.md_rollback.specs.Laws.{RollbackLaws}
 
 pub record ProgramLaws : Type 0 where
   -- from power-on, whatever was moved, the pads show the recording's words of the frame whose line behind the picture

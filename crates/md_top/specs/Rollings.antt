@@ -3,12 +3,12 @@ use Rattle.std.specs.Prelude.{◌≡◌, ◌≢◌, ◌⊎◌, ℕ, ◌<◌, ◌
 use Rattle.hex.specs.Hex.{encode_lower}
 use Rattle.md_outer.specs.Outside.{DepotState, Files, Rose, bytes_of}
 use Rattle.md_args.specs.Words.{Rolling}
-use Rattle.rollback_script.specs.declared.fault.LineFault.{LineFault}
-use Rattle.rollback_script.specs.declared.fault.LineFault.TheVariants as faults
-use Rattle.rollback_states.specs.Rolls.{ComesTo}
-use Rattle.rollback_states.specs.declared.rolled.Comes.{Comes}
-use Rattle.rollback_states.specs.declared.rolled.Comes.TheVariants as comes
-use Rattle.rollback_states.specs.declared.rolled.Rolled.{Rolled}
+use Rattle.md_rollback.specs.declared.line_fault.LineFault.{LineFault}
+use Rattle.md_rollback.specs.declared.line_fault.LineFault.TheVariants as faults
+use Rattle.md_rollback.specs.Rolls.{ComesTo}
+use Rattle.md_rollback.specs.declared.rolled.Comes.{Comes}
+use Rattle.md_rollback.specs.declared.rolled.Comes.TheVariants as comes
+use Rattle.md_rollback.specs.declared.rolled.Rolled.{Rolled}
 use Rattle.md_top.specs.Inputs.{CartCause, IsAccepted, cart_of}
 use Rattle.md_top.specs.declared.ending.Ending.{Ending}
 use Rattle.md_top.specs.declared.ending.Ending.TheVariants.{LineRefused, Memory, RolledBack, ScriptFault, ScriptTooLong}

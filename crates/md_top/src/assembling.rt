@@ -6,7 +6,7 @@ ghost use Rattle.md_top.specs.Assemblies.{AsmEnds, AsmFiles, source_line};
 
 use crate::ending::Ending;
 use crate::report::refuse;
-use asm_files::{Comes, assemble_file};
+use file_commands::{Comes, assemble_file};
 use itoa::Buffer;
 use md_args::AsmWords;
 use md_outer::{Depot, Sink};

@@ -9,7 +9,7 @@ use md_args::ConvertWords;
 use md_outer::{Depot, Sink};
 use md_vgm::VgmFault;
 use std::alloc::Global;
-use vgm_files::{Converted, convert};
+use file_commands::{Converted, convert};
 
 /// Makes the file that the words ask for of another one.
 pub(crate) fn convert_file<D: Depot>(

@@ -2,8 +2,8 @@ use crate::summary::Summary;
 use crate::text::Text;
 use md_debug::DebugFault;
 use md_vgm::VgmFault;
-use rollback_script::LineFault;
-use rollback_states::Rolled;
+use md_rollback::LineFault;
+use md_rollback::Rolled;
 
 /// What a command line comes to.
 #[derive(Drop)]

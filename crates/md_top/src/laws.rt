@@ -12,11 +12,11 @@ ghost use Rattle.md_top.specs.Loads.{Begins};
 ghost use Rattle.md_top.specs.Resuming.{StateLaws};
 ghost use Rattle.md_top.specs.Runs.{RunLaws, is_quiet, media_from, run_from};
 
-use debug_states::laws::debug_laws;
+use md_debug::session_laws::debug_laws;
 use md_machine::{Machine, laws};
 use md_pads::Recording;
 use md_reached::{saved, settling};
-use rollback_states::laws::rollback_laws;
+use md_rollback::outcome_laws::rollback_laws;
 use state_laws::states_keep_one_machine;
 use std::alloc::Global;
 

@@ -1,7 +1,7 @@
 ghost use Rattle.std.specs.Prelude.{◌≡◌, ◌≤◌, ◌⊎◌};
 ghost use Rattle.md_args.specs.Shown.{shown_rolling};
 ghost use Rattle.md_outer.specs.Outside.{PutsText};
-ghost use Rattle.rollback_states.specs.Rolls.{ComesTo};
+ghost use Rattle.md_rollback.specs.Rolls.{ComesTo};
 ghost use Rattle.md_top.specs.Answers.{PutsAll, PutsPart};
 ghost use Rattle.md_top.specs.Rollings.{RollEnds, comes_ending, counts_lines, inputs_line, line_fault_text, rolled_lines};
 
@@ -12,8 +12,8 @@ use crate::report_demo::put_digest_line;
 use itoa::Buffer;
 use md_args::RollbackWords;
 use md_outer::{Depot, Failed, Fetch, Sink};
-use rollback_script::LineFault;
-use rollback_states::{Comes, Rolled, run_script};
+use md_rollback::LineFault;
+use md_rollback::{Comes, Rolled, run_script};
 use rom_header::Cart;
 use std::alloc::Global;
 use std::sync::Arc;

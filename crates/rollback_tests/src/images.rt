@@ -2,7 +2,7 @@
 ghost use Rattle.std.specs.Prelude.{◌≡◌, ◌∷◌, OnOk, take};
 
 use md_word::NoMemory;
-use rollback_images::KeptImages;
+use md_rollback::KeptImages;
 use std::alloc::Global;
 use std::test::Fail;
 

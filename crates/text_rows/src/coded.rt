@@ -1,9 +1,9 @@
-use m68k_read::words_of;
+use asm_m68k::words_of;
 use md_asm_text::split;
 use md_disasm::{text68, text80};
 use row_lines::{RowError, long, word};
 use std::alloc::{AllocError, Global};
-use z80_read::bytes_of;
+use asm_z80::bytes_of;
 
 /// An instruction of either processor at an address: its words, or its bytes, and how many of them are told.
 #[derive(Clone, Copy)]

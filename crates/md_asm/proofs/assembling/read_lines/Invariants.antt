@@ -1,5 +1,5 @@
 use Rattle.std.proofs.Common.{◌≡◌, ◌+◌, ◌≤◌, length}
-use Rattle.md_asm_line.specs.Texts.{lines}
+use Rattle.md_asm_text.specs.Texts.{lines}
 use Rattle.md_asm.specs.Kept.{IsPass}
 use Rattle.md_asm.specs.Rounds.{round_one}
 use Rattle.md_asm.specs.Seen.{round_seen}

@@ -1,5 +1,5 @@
 use Rattle.std.proofs.Common.{◌≡◌, length, map, vec_len}
-use Rattle.md_asm_code.specs.Seen.{names_seen}
+use Rattle.md_asm.specs.SeenCodes.{names_seen}
 use Rattle.md_asm.specs.Kept.{AreKept}
 use Rattle.md_asm.specs.Places.{blank}
 use Rattle.md_asm.specs.Rounds.{round_two}

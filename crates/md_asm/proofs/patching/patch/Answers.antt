@@ -1,6 +1,6 @@
 use Rattle.std.proofs.Common.{◌∙◌, List, ℕ, ap, length, sym, arith}
 use Rattle.md_asm_text.specs.Pieces.{pieces}
-use Rattle.md_asm_code.specs.Seen.{names_seen}
+use Rattle.md_asm.specs.SeenCodes.{names_seen}
 use Rattle.md_asm.specs.Kept.{SettlesOn}
 use Rattle.md_asm.specs.Places as places
 use Rattle.md_asm.specs.Rounds as rounds

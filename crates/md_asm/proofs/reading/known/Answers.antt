@@ -1,6 +1,6 @@
 use Rattle.std.proofs.Common.{◌∙◌, ap, map, sym}
 use Rattle.md_asm_text.specs.Shown.{shown}
-use Rattle.md_asm_code.specs.Seen.{settled_seen}
+use Rattle.md_asm.specs.SeenCodes.{settled_seen}
 use Rattle.md_asm.proofs.Slots.{settles_without_names}
 use Rattle.md_asm.proofs.reading.known.Goals as goal
 

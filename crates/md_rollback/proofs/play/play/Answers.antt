@@ -1,6 +1,6 @@
 use Rattle.std.proofs.Common.{◌≡◌, ◌+◌, ◌<◌, ◌≤◌, ◌∙◌, refl, sym, subst, List, ℕ, ap, arith}
 use Rattle.md_pads.specs.Recording.{Frame}
-use Rattle.rollback_images.specs.Images.{AreImagesBelow, Kept}
+use Rattle.md_rollback.specs.Images.{AreImagesBelow, Kept}
 use Rattle.md_rollback.specs.Played.{AreMade, IsImageOf, IsPlayed}
 use Rattle.md_rollback.proofs.Kept.{made-next, made-none}
 use Rattle.md_rollback.proofs.Near.{IsNewest, near-next, newest-next}

@@ -1,5 +1,5 @@
 use Rattle.std.proofs.Common.{◌≡◌, ℕ, ◌+◌, ◌<◌, ◌≤◌}
-use Rattle.rollback_images.specs.Images.{ReachBackTo}
+use Rattle.md_rollback.specs.Images.{ReachBackTo}
 use Rattle.md_rollback.specs.Played.{AreMade, IsPlayed}
 use Rattle.md_rollback.proofs.Near.{IsNewest}
 use Rattle.md_rollback.proofs.play.play.Given as goal

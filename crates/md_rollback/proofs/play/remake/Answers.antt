@@ -4,8 +4,8 @@ use Rattle.std.proofs.lemmas.Bool.{eqb-true}
 use Rattle.std.specs.Arc.{arc_value}
 use Rattle.md_pads.specs.Recording.{Frame, IsFrame, Recorded, recording_of}
 use Rattle.md_pads.proofs.Frames.{frames_are}
-use Rattle.rollback_images.specs.Images.{AreImagesBelow, Kept, image_at}
-use Rattle.rollback_images.proofs.Below.{image-dropped, widened}
+use Rattle.md_rollback.specs.Images.{AreImagesBelow, Kept, image_at}
+use Rattle.md_rollback.proofs.Below.{image-dropped, widened}
 use Rattle.md_rollback.specs.Played.{AreMade, IsImageOf, IsPlayed, IsPlayedAlike}
 use Rattle.md_rollback.proofs.Steps.{frames-are}
 use Rattle.md_rollback.proofs.play.remake.Goals as goal

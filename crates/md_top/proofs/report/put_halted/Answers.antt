@@ -1,4 +1,4 @@
-use Rattle.debug_script.proofs.Scripts.{puts_none}
+use Rattle.md_debug.proofs.Scripts.{puts_none}
 use Rattle.md_top.proofs.report.put_halted.Goals as goal
 
 pub returns-in-None : goal.returns-in-None

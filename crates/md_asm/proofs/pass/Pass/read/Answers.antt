@@ -1,5 +1,5 @@
 use Rattle.std.proofs.Common.{◌∙◌, sym}
-use Rattle.md_asm_line.specs.Seen.{line_seen}
+use Rattle.md_asm_text.specs.Seen.{line_seen}
 use Rattle.md_asm.specs.Seen.{round_seen}
 use Rattle.md_asm.proofs.Faults.{within}
 use Rattle.md_asm.proofs.pass.Pass.read.Goals as goal

@@ -1,6 +1,6 @@
 use Rattle.std.proofs.Common.{◌≡◌, ℕ, sym, ◌∙◌, arith}
-use Rattle.debug_lines.specs.declared.command.Command.{Command}
-use Rattle.debug_lines.specs.declared.command.Command.TheVariants.{Back}
+use Rattle.debug_text.specs.declared.command.Command.{Command}
+use Rattle.debug_text.specs.declared.command.Command.TheVariants.{Back}
 use Rattle.md_debug.proofs.session.Session.carry_out.Goals as goal
 
 same_back : (a b : ℕ) → ◌≡◌ {A = Command} (Back a) (Back b) → a ≡ b

@@ -1,7 +1,7 @@
 use Rattle.std.proofs.Common.{◌≡◌, Result, Ok, sym, ap, ◌∙◌}
-use Rattle.debug_lines.specs.Commands.{command_of}
-use Rattle.debug_lines.specs.declared.command.Command.{Command}
-use Rattle.debug_lines.specs.declared.command.Misread.{Misread}
+use Rattle.debug_text.specs.Commands.{command_of}
+use Rattle.debug_text.specs.declared.command.Command.{Command}
+use Rattle.debug_text.specs.declared.command.Misread.{Misread}
 use Rattle.md_debug.proofs.Bounds.{bounds_of}
 use Rattle.md_debug.proofs.session.Session.obey.Goals as goal
 

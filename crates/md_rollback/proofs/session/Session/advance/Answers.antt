@@ -1,9 +1,9 @@
 use Rattle.std.proofs.Common.{◌≡◌, ◌∙◌, ◌+◌, ◌<◌, ◌≤◌, ap, sym, subst, List, ℕ, length, drop, arith}
 use Rattle.md_pads.specs.Recording.{Frame, IsRecording, recording_of}
 use Rattle.md_machine.specs.Machines.{MachineValue}
-use Rattle.rollback_images.specs.Images.{AreImagesBelow, Kept, ReachBackTo, image_at}
-use Rattle.rollback_inputs.specs.Inputs.{expected_frames}
-use Rattle.rollback_inputs.proofs.Expected.{frames-long}
+use Rattle.md_rollback.specs.Images.{AreImagesBelow, Kept, ReachBackTo, image_at}
+use Rattle.md_rollback.specs.Inputs.{expected_frames}
+use Rattle.md_rollback.proofs.Expected.{frames-long}
 use Rattle.md_rollback.specs.Played.{AreMade, IsImageOf, IsMachineOf, IsPlayed, IsPlayedAlike}
 use Rattle.md_rollback.specs.Sessions.{IsSession, SessionValue}
 use Rattle.md_rollback.proofs.Advances.{back-few, expected-long, found-by, images-here, machine-here, may-be-recorded, session-next}

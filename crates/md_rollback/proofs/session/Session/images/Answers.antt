@@ -1,5 +1,5 @@
 use Rattle.std.proofs.Common.{◌+◌, ◌≤◌, ◌∙◌, ap, sym, subst}
-use Rattle.rollback_images.specs.Images.{Kept, ReachBackTo}
+use Rattle.md_rollback.specs.Images.{Kept, ReachBackTo}
 use Rattle.md_rollback.specs.Sessions.{SessionValue}
 use Rattle.md_rollback.proofs.session.Session.images.Goals as goal
 

@@ -5,7 +5,7 @@ use Rattle.md_machine.specs.Console.{power_on}
 use Rattle.md_machine.specs.Machines.{MachineValue}
 use Rattle.md_reached.specs.Reached.{IsReached}
 use Rattle.save_state.specs.States.{settled_console}
-use Rattle.rollback_images.specs.Images.{Kept}
+use Rattle.md_rollback.specs.Images.{Kept}
 use Rattle.md_rollback.specs.Sessions.{IsSession}
 use Rattle.md_rollback.proofs.Advances.{first-played, first-session, one-pushed}
 use Rattle.md_rollback.proofs.Steps.{image-made}

@@ -1,3 +1,0 @@
-pub mod Assemblies
-pub mod Begun
-pub mod Lists

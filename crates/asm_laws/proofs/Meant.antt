@@ -1,0 +1,168 @@
+-- The other direction: a line that has a length has the form of some instruction, and a number that fits stands in one.
+use Rattle.std.proofs.Common.{◌≡◌, ℕ, ◌<◌, Bool, true, false, List, [], ◌∷◌, ◌++◌, length, append-nil, refl, ap, ◌∙◌, sym, arith, Option, Some, None}
+use Rattle.std.specs.Prelude.{is_some, option_map}
+use Rattle.m68k_decode.specs.Instructions as main
+use Rattle.z80_decode.specs.Instructions as sub
+use Rattle.md_disasm.specs.Texts68 as main_texts
+use Rattle.md_disasm.specs.Texts80 as sub_texts
+use Rattle.md_asm_text.specs.Pieces as pieces
+use Rattle.md_asm_text.specs.Pieces.{Piece}
+use Rattle.asm_m68k.specs.Table.{AreWords}
+use Rattle.asm_z80.specs.Coded80.{AreBytes}
+use Rattle.md_asm_text.specs.declared.body.Body.TheVariants.{Instruction}
+use Rattle.md_asm.specs.Codes.{code, in_bytes, main_code, sub_code}
+use Rattle.md_asm.specs.Contents.{misfit, size, under}
+use Rattle.md_asm.specs.Numbers.{alone, filled}
+use Rattle.asm_laws.proofs.MainChosen.{least}
+use Rattle.asm_laws.proofs.SubChosen.{chosen}
+use Rattle.asm_laws.proofs.SubTexts as sub_found
+use Rattle.asm_laws.proofs.Texts as main_found
+use Rattle.asm_laws.specs.Forms.{HasNumber, IsForm, IsMainForm, IsSubForm, StandsIn}
+use Rattle.asm_laws.proofs.Among.{not_false}
+use Rattle.asm_laws.proofs.Fits.{alone_is, filled_both, filled_long}
+use Rattle.asm_laws.proofs.Places80.{none_byte}
+use Rattle.asm_laws.proofs.RoundTrip68.{in_bytes_long}
+use Rattle.asm_laws.proofs.Sound68.{AreLongs}
+use Rattle.asm_laws.proofs.Tried68.{tried_words}
+use Rattle.asm_laws.proofs.Tried80.{tried_bytes}
+
+-- ---- pieces with 8 for their numbers
+
+filled_again : (said : List Piece) → filled (filled said) ≡ filled said
+filled_again [] = refl
+filled_again (pieces.Word word ∷ ps) = ap (λ (l : List Piece). pieces.Word word ∷ l) (filled_again ps)
+filled_again (pieces.Number n ∷ ps) = ap (λ (l : List Piece). pieces.Number 8 ∷ l) (filled_again ps)
+filled_again (pieces.Name name ∷ ps) = ap (λ (l : List Piece). pieces.Number 8 ∷ l) (filled_again ps)
+filled_again (pieces.Mark c ∷ ps) = ap (λ (l : List Piece). pieces.Mark c ∷ l) (filled_again ps)
+
+filled_longs : (said : List Piece) → AreLongs (filled said)
+filled_longs [] = tt
+filled_longs (pieces.Word word ∷ ps) = filled_longs ps
+filled_longs (pieces.Number n ∷ ps) = (omega arith, filled_longs ps)
+filled_longs (pieces.Name name ∷ ps) = (omega arith, filled_longs ps)
+filled_longs (pieces.Mark c ∷ ps) = filled_longs ps
+
+longs_both : (xs ys : List Piece) → AreLongs xs → AreLongs ys → AreLongs (xs ++ ys)
+longs_both [] ys h k = k
+longs_both (pieces.Word word ∷ ps) ys h k = longs_both ps ys h k
+longs_both (pieces.Number n ∷ ps) ys h k = (h.0, longs_both ps ys h.1 k)
+longs_both (pieces.Name name ∷ ps) ys h k = longs_both ps ys h k
+longs_both (pieces.Mark c ∷ ps) ys h k = longs_both ps ys h k
+
+-- with one number beside
+single_filled : (front behind : List Piece) (n : ℕ) → filled (filled front ++ pieces.Number n ∷ filled behind) ≡ filled (front ++ pieces.Number n ∷ behind)
+single_filled front behind n =
+    filled_both (filled front) (pieces.Number n ∷ filled behind)
+    ∙ ap (λ (l : List Piece). l ++ pieces.Number 8 ∷ filled (filled behind)) (filled_again front)
+    ∙ ap (λ (l : List Piece). filled front ++ pieces.Number 8 ∷ l) (filled_again behind)
+    ∙ sym (filled_both front (pieces.Number n ∷ behind))
+
+-- ---- what is assembled has a text
+
+-- bytes of the Z80 that are found for pieces
+record IsSubText (said : List Piece) (at : ℕ) (bytes : List ℕ) : Type 0 where
+  form : (other : List Piece) → filled other ≡ filled said → IsSubForm other bytes at
+  text : pieces.pieces (sub_texts.text_of (sub.instruction_of bytes) at) ≡ said
+  long : (sub.instruction_of bytes).length ≡ length bytes
+
+sub_text : (said : List Piece) (at : ℕ) (bytes : List ℕ) → at < 65536 → sub_code said at ≡ Some bytes → IsSubText said at bytes
+sub_text said at bytes a is =
+    let own = sub_found.found said bytes at is in
+    let all : AreBytes bytes = rw own.own (tried_bytes said at) in
+    let best = chosen said bytes at all a is in
+    let text : pieces.pieces (sub_texts.text_of (sub.instruction_of bytes) at) ≡ said
+    = ap (λ (l : List ℕ). pieces.pieces (sub_texts.text_of (sub.instruction_of l) at)) (sym (append-nil bytes)) ∙ best.text.text [] none_byte in record {
+      form = λ other same. record { all = all; instruction = best.text.instruction; address = a; alike = same ∙ ap filled (sym text) };
+      text = text;
+      long = ap (λ (l : List ℕ). (sub.instruction_of l).length) (sym (append-nil bytes)) ∙ best.text.whole [] none_byte;
+    }
+
+-- words of the 68000
+record IsMainText (said : List Piece) (at : ℕ) (words : List ℕ) : Type 0 where
+  word : ℕ
+  tail : List ℕ
+  are : words ≡ word ∷ tail
+  form : (other : List Piece) → filled other ≡ filled said → IsMainForm other word tail at
+  text : pieces.pieces (main_texts.text_of (main.instruction_of (word ∷ tail)) at) ≡ said
+  long : (main.instruction_of (word ∷ tail)).length ≡ length (in_bytes words)
+
+main_text : (said : List Piece) (at : ℕ) (words : List ℕ) → AreLongs said → at < 4294967296 → main_code said at ≡ Some words → IsMainText said at words
+main_text said at [] longs a is = let own = (main_found.found said [] at is).own in cc
+main_text said at (word ∷ tail) longs a is =
+    let own = main_found.found said (word ∷ tail) at is in
+    let all : AreWords (word ∷ tail) = rw own.own (tried_words said at longs) in
+    let best = least said (word ∷ tail) at all a is in
+    let text : pieces.pieces (main_texts.text_of (main.instruction_of (word ∷ tail)) at) ≡ said
+    = ap (λ (l : List ℕ). pieces.pieces (main_texts.text_of (main.instruction_of l) at)) (sym (append-nil (word ∷ tail))) ∙ best.text.text [] in record {
+      word = word;
+      tail = tail;
+      are = refl;
+      form = λ other same. record { first = all 0; instruction = best.instruction; words = all; address = a; alike = same ∙ ap filled (sym text) };
+      text = text;
+      long = ap (λ (l : List ℕ). (main.instruction_of l).length) (sym (append-nil (word ∷ tail))) ∙ best.text.whole [] ∙ sym (in_bytes_long (word ∷ tail));
+    }
+
+-- ---- what has a value
+
+found_of : (found : Option (List ℕ)) → is_some found ≡ true → (bytes : List ℕ) × (found ≡ Some bytes)
+found_of None h = cc
+found_of (Some bytes) h = (bytes, refl)
+
+mapped : (found : Option (List ℕ)) (long : ℕ) → option_map length found ≡ Some long → (bytes : List ℕ) × (found ≡ Some bytes) × (length bytes ≡ long)
+mapped None long h = cc
+mapped (Some bytes) long h = (bytes, refl, cc)
+
+main_mapped : (found : Option (List ℕ)) (bytes : List ℕ) → option_map in_bytes found ≡ Some bytes → (words : List ℕ) × (found ≡ Some words) × (in_bytes words ≡ bytes)
+main_mapped None bytes h = cc
+main_mapped (Some words) bytes h = (words, refl, cc)
+
+-- ---- the other direction
+
+pub size_form : (z80 : Bool) (said : List Piece) (long : ℕ) → size z80 Instruction said ≡ Some long → IsForm z80 said long
+size_form true said long h =
+    let there = mapped (sub_code (filled said) 4) long h in
+    let own = sub_text (filled said) 4 there.0 (omega arith) there.1 in
+    (there.0, 4, own.form said (sym (filled_again said)), own.long ∙ there.2)
+size_form false said long h =
+    let there = mapped (option_map in_bytes (main_code (filled said) 4)) long h in
+    let words = main_mapped (main_code (filled said) 4) there.0 there.1 in
+    let own = main_text (filled said) 4 words.0 (filled_longs said) (omega arith) words.1 in
+    (own.word, own.tail, 4, own.form said (sym (filled_again said)), own.long ∙ ap length words.2 ∙ there.2)
+
+under_sub : (n : ℕ) → under true n < 65536
+under_sub n = omega arith
+
+under_main : (n : ℕ) → under false n < 4294967296
+under_main n = omega arith
+
+-- with 8 for all numbers but one
+alone_stands : (said front behind : List Piece) (place n : ℕ) → said ≡ front ++ pieces.Number n ∷ behind → length front ≡ place
+    → alone said place (pieces.Number n) ≡ filled front ++ pieces.Number n ∷ filled behind
+alone_stands said front behind place n is long =
+    ap (λ (l : List Piece). alone l place (pieces.Number n)) is ∙ ap (λ (k : ℕ). alone (front ++ pieces.Number n ∷ behind) k (pieces.Number n)) (sym long) ∙ alone_is front behind n
+
+pub fits_has : (z80 : Bool) (said : List Piece) (place n : ℕ) → n < 4294967296 → StandsIn said place (pieces.Number n) → misfit z80 said place (pieces.Number n) ≡ false
+    → HasNumber z80 said place n
+fits_has true said place n low (front, behind, is, long) h =
+    let tried = alone said place (pieces.Number n) in
+    let there = found_of (sub_code tried (under true n)) (not_false _ h) in
+    let own = sub_text tried (under true n) there.0 (under_sub n) there.1 in
+    let same = alone_stands said front behind place n is long in (
+      there.0,
+      under true n,
+      own.form said (ap filled is ∙ sym (single_filled front behind n) ∙ ap filled (sym same)),
+      (filled front, filled behind, own.text ∙ same, filled_long front ∙ long),
+    )
+fits_has false said place n low (front, behind, is, long) h =
+    let tried = alone said place (pieces.Number n) in
+    let same = alone_stands said front behind place n is long in
+    let longs : AreLongs tried = rw same (longs_both (filled front) (pieces.Number n ∷ filled behind) (filled_longs front) (low, filled_longs behind)) in
+    let found = found_of (code false tried (under false n)) (not_false _ h) in
+    let words = main_mapped (main_code tried (under false n)) found.0 found.1 in
+    let own = main_text tried (under false n) words.0 longs (under_main n) words.1 in (
+      own.word,
+      own.tail,
+      under false n,
+      own.form said (ap filled is ∙ sym (single_filled front behind n) ∙ ap filled (sym same)),
+      (filled front, filled behind, own.text ∙ same, filled_long front ∙ long),
+    )

@@ -1,0 +1,74 @@
+-- What a source's fault says of its line, where the line is bad or a number does not fit.
+use Rattle.std.specs.Prelude.{◌≡◌, ◌⊎◌, ℕ, ◌+◌, ◌<◌, ◌≤◌, Bool, true, false, List, ◌∷◌, ◌++◌, length}
+use Rattle.m68k_decode.specs.Instructions as main
+use Rattle.m68k_decode.specs.Nested.{nested}
+use Rattle.z80_decode.specs.Instructions as sub
+use Rattle.md_disasm.specs.Texts68 as main_texts
+use Rattle.md_disasm.specs.Texts80 as sub_texts
+use Rattle.md_asm_text.specs.Pieces.{Number, Piece, pieces}
+use Rattle.asm_m68k.specs.Table.{AreWords, IsInstruction}
+use Rattle.asm_z80.specs.Coded80.{AreBytes}
+use Rattle.asm_z80.specs.Instruction.{is_db}
+use Rattle.md_asm_text.specs.Lines.{Line, line_of}
+use Rattle.md_asm_text.specs.Texts.{lines as lines_of}
+use Rattle.md_asm_text.specs.declared.body.Body.{Body}
+use Rattle.md_asm_text.specs.declared.body.Body.TheVariants as bodies
+use Rattle.md_asm.specs.Numbers.{resolved}
+use Rattle.md_asm.specs.Places.{is_sub}
+use Rattle.md_asm.specs.Rounds.{Read, Round, Slot, round_one, start}
+use Rattle.asm_laws.specs.Forms.{HasNumber, IsForm, StandsIn}
+use Rattle.asm_laws.specs.Ranges.{IsInRange}
+
+-- behind a label's colon, or in place of a label, stands what is none; or it is no directive, and no instruction of the
+-- processor has its form
+abbrev pub IsBad : Bool → Line → Type 0
+IsBad z80 line = (line.body ≡ bodies.Bad) ⊎ ((line.body ≡ bodies.Instruction) × ((long : ℕ) → ¬ IsForm z80 (pieces line.text) long))
+
+-- a number stands among the pieces that is not below a limit
+abbrev pub HasOver : ℕ → List Piece → Type 0
+HasOver limit said = (place : ℕ) × (n : ℕ) × StandsIn said place (Number n) × (limit ≤ n)
+
+-- a number does not fit: one of `dc.w` has no 16 bits, one of `db` no 8, the address of `cpu z80` no 16; or it is out of
+-- the range of its place, so that no instruction of the line's form has it there
+abbrev pub IsUnfit : Bool → Body → List Piece → Type 0
+IsUnfit z80 bodies.Words said = HasOver 65536 said
+IsUnfit z80 bodies.Bytes said = HasOver 256 said
+IsUnfit z80 (bodies.Sub at) said = 65536 ≤ at
+IsUnfit z80 bodies.Instruction said = (place : ℕ) × (n : ℕ) × StandsIn said place (Number n) × ¬ IsInRange z80 said place n × ¬ HasNumber z80 said place n
+IsUnfit z80 body said = ⊥
+
+-- no instruction of the processor has these pieces in its text at an address
+abbrev pub HasNoText : Bool → List Piece → ℕ → Type 0
+HasNoText true said at =
+    (bytes : List ℕ) → AreBytes bytes → is_db (sub.instruction_of bytes).op ≡ false → ¬ (pieces (sub_texts.text_of (sub.instruction_of bytes) at) ≡ said)
+HasNoText false said at =
+    (word : ℕ) (tail : List ℕ) → word < 65536 → IsInstruction (nested word) → AreWords (word ∷ tail)
+    → ¬ (pieces (main_texts.text_of (main.instruction_of (word ∷ tail)) at) ≡ said)
+
+-- the line of a number, and what the lines in front of it come to, which are at no fault of the first round
+pub record IsRead (source : List ℕ) (line : ℕ) (round : Round) (text : List ℕ) : Type 0 where
+  pub front : List (List ℕ)
+  pub behind : List (List ℕ)
+  pub lines : lines_of source ≡ front ++ text ∷ behind
+  pub number : line ≡ 1 + length front
+  pub read : round_one start 1 front ≡ Read round
+
+-- the line of a number among those that have bytes, of a source that is at no fault of the first round
+pub record IsSlot (source : List ℕ) (line : ℕ) (round : Round) (slot : Slot) : Type 0 where
+  pub read : round_one start 1 (lines_of source) ≡ Read round
+  pub front : List Slot
+  pub behind : List Slot
+  pub slots : round.slots ≡ front ++ slot ∷ behind
+  pub number : slot.line ≡ line
+
+-- a line at fault is bad where the kind is 1, has a written number that does not fit where it is 2, and the value of a
+-- name that does not fit where it is 8; where it is 9 it is an instruction's, and with the value of each name no instruction
+-- has its text at its address
+pub record IsFaulty (source : List ℕ) (line kind : ℕ) : Type 0 where
+  pub bad_line : kind ≡ 1 → (round : Round) × (text : List ℕ) × IsRead source line round text × IsBad (is_sub round.processor) (line_of text)
+  pub bad_number : kind ≡ 2 → (round : Round) × (text : List ℕ) × IsRead source line round text
+      × IsUnfit (is_sub round.processor) (line_of text).body (pieces (line_of text).text)
+  pub does_not_fit : kind ≡ 8 → (round : Round) × (slot : Slot) × IsSlot source line round slot
+      × IsUnfit slot.sub slot.body (resolved round.names (pieces slot.text))
+  pub far : kind ≡ 9 → (round : Round) × (slot : Slot) × IsSlot source line round slot × (slot.body ≡ bodies.Instruction)
+      × HasNoText slot.sub (resolved round.names (pieces slot.text)) slot.address

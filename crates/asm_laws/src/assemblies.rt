@@ -1,0 +1,27 @@
+//! Laws of the definitions that the contracts cite, each on a call that does nothing else.
+
+ghost use Rattle.std.specs.Prelude.{◌≡◌, ℕ, List};
+ghost use Rattle.asm_z80.specs.Coded80.{AreBytes};
+ghost use Rattle.md_asm.specs.Assembly.{Done, assembly};
+ghost use Rattle.md_asm.specs.declared.placed.Placed.{Placed};
+ghost use Rattle.asm_laws.specs.Lines.{SaysLines};
+
+use crate::assemblies::{codes_are_chosen, texts_are_assembled};
+
+/// An image is bytes.
+pub fn known_bytes(image: &[u8])
+    ensures { AreBytes image.now }
+{
+    let _image = image;
+}
+
+/// In the image of a source each line that is an instruction stands at its place: what is decoded there has, at its
+/// address, the text of the line, each name replaced by its number; it is the instruction that has this text there; and of
+/// all bytes that have it the chosen ones stand there.
+pub fn image_says_its_lines(image: &[u8])
+    ensures { (source : List ℕ) (lines : List Placed) → assembly source ≡ Done image.now lines → SaysLines source image.now lines }
+{
+    known_bytes(image);
+    texts_are_assembled();
+    codes_are_chosen();
+}

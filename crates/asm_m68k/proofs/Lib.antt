@@ -1,0 +1,9 @@
+pub mod Again
+pub mod Decoded
+pub mod Entered
+pub mod FirstWord
+pub mod Instructions
+pub mod Judged
+pub mod Lists
+pub mod Operands
+pub mod Sources

@@ -1,0 +1,19 @@
+-- The words that are tried for an instruction that is written.
+use Rattle.std.specs.Prelude.{ℕ, List, [], ◌∷◌}
+use Rattle.asm_m68k.specs.Encoding.{encoded}
+use Rattle.md_asm_text.specs.Pieces.{Piece}
+use Rattle.asm_m68k.specs.Building.{meant}
+use Rattle.asm_m68k.specs.Reading.{read_source}
+
+-- the words of what is made of the pieces
+abbrev pub tried : List Piece → ℕ → List ℕ
+tried said at = encoded (meant (read_source said) at)
+
+-- one to five words, filled up with 0 to five
+abbrev pub padded : List ℕ → List ℕ
+padded [] = 0 ∷ 0 ∷ 0 ∷ 0 ∷ 0 ∷ []
+padded (a ∷ []) = a ∷ 0 ∷ 0 ∷ 0 ∷ 0 ∷ []
+padded (a ∷ b ∷ []) = a ∷ b ∷ 0 ∷ 0 ∷ 0 ∷ []
+padded (a ∷ b ∷ c ∷ []) = a ∷ b ∷ c ∷ 0 ∷ 0 ∷ []
+padded (a ∷ b ∷ c ∷ d ∷ []) = a ∷ b ∷ c ∷ d ∷ 0 ∷ []
+padded (a ∷ b ∷ c ∷ d ∷ e ∷ rest) = a ∷ b ∷ c ∷ d ∷ e ∷ []

@@ -1,0 +1,11 @@
+pub mod Building
+pub mod Coded
+pub mod Encoding
+pub mod Entered
+pub mod Forms
+pub mod Judged
+pub mod Reading
+pub mod Said
+pub mod Seen
+pub mod Table
+pub mod Written

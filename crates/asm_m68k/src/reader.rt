@@ -1,0 +1,84 @@
+ghost use Rattle.std.specs.Prelude.{◌≡◌, ◌<◌, ◌≤◌, ◌&&◌, ◌++◌, ◌∷◌, [], ◌+◌, map, length, not, take, drop, false};
+ghost use Rattle.md_asm_text.specs.Shown.{shown};
+ghost use Rattle.asm_m68k.specs.Forms.{IsForm};
+ghost use Rattle.asm_m68k.specs.Reading as reading;
+ghost use Rattle.asm_m68k.specs.Written.{source_seen};
+
+use crate::form::Form;
+use crate::reading::{begins, operand_form};
+use md_asm_text::{Piece, first_operand, second_operand};
+use md_word::Size;
+
+/// An instruction as it is written.
+#[derive(Clone, Copy)]
+pub struct Source<'a> {
+    pub stem: &'a [u8],
+    pub size: Option<Size>,
+    pub first: Form,
+    pub second: Form,
+}
+
+/// The size of a letter.
+fn size_of(word: &[u8]) -> Size
+    ensures { result ≡ reading.size_of word.now }
+{
+    if begins(98, word) {
+        Size::Byte
+    } else if begins(119, word) {
+        Size::Word
+    } else {
+        Size::Long
+    }
+}
+
+fn with_operands<'a>(stem: &'a [u8], size: Option<Size>, pieces: &[Piece<'a>]) -> Source<'a>
+    ensures seen { source_seen result ≡ reading.with_operands stem.now size (map shown pieces.now) }
+    ensures first { IsForm result.first }
+    ensures second { IsForm result.second }
+{
+    match pieces {
+        [] => Source {
+            stem,
+            size,
+            first: Form::Nothing,
+            second: Form::Nothing,
+        },
+        [_, rest @ ..] => Source {
+            stem,
+            size,
+            first: operand_form(first_operand(rest)),
+            second: operand_form(second_operand(rest)),
+        },
+    }
+}
+
+fn with_size<'a>(stem: &'a [u8], pieces: &[Piece<'a>]) -> Source<'a>
+    ensures seen { source_seen result ≡ reading.with_size stem.now (map shown pieces.now) }
+    ensures first { IsForm result.first }
+    ensures second { IsForm result.second }
+{
+    match pieces {
+        [Piece::Mark(46), Piece::Word(word), rest @ ..] => {
+            with_operands(stem, Some(size_of(word)), rest)
+        }
+        _ => with_operands(stem, None, pieces),
+    }
+}
+
+/// What is read of an instruction's pieces.
+#[tactic(auto, unfolding(crate::specs::Reading::read_source))]
+pub fn read<'a>(pieces: &[Piece<'a>]) -> Source<'a>
+    ensures seen { source_seen result ≡ reading.read_source (map shown pieces.now) }
+    ensures first { IsForm result.first }
+    ensures second { IsForm result.second }
+{
+    match pieces {
+        [Piece::Word(stem), rest @ ..] => with_size(stem, rest),
+        _ => Source {
+            stem: &[],
+            size: None,
+            first: Form::Nothing,
+            second: Form::Nothing,
+        },
+    }
+}

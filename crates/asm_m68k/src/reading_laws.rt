@@ -1,0 +1,18 @@
+//! Laws of reading, as calls that do nothing and stand for what they ensure.
+
+ghost use Rattle.std.specs.Prelude.{◌≡◌, ◌<◌, ◌∷◌, ◌++◌, ℕ, List};
+ghost use Rattle.m68k_decode.specs.Instructions.{instruction_of};
+ghost use Rattle.m68k_decode.specs.Nested.{nested};
+ghost use Rattle.md_disasm.specs.Texts68.{text_of};
+ghost use Rattle.md_asm_text.specs.Pieces.{Piece, pieces};
+ghost use Rattle.asm_m68k.specs.Judged.{tried};
+ghost use Rattle.asm_m68k.specs.Table.{AreWords, IsInstruction};
+
+/// The words that are tried for the text of an instruction decode to that instruction, and words that
+/// say a text and are tried for it say it whatever follows them.
+pub fn texts_are_read()
+    ensures back { (word : ℕ) (tail rest : List ℕ) (at : ℕ) → word < 65536 → IsInstruction (nested word) → AreWords (word ∷ tail) → at < 4294967296
+        → instruction_of (tried (pieces (text_of (instruction_of (word ∷ tail)) at)) at ++ rest) ≡ instruction_of (word ∷ tail) }
+    ensures said { (word : ℕ) (tail more rest : List ℕ) (said : List Piece) (at : ℕ) → word < 65536 → IsInstruction (nested word) → AreWords (word ∷ tail ++ more) → at < 4294967296
+        → word ∷ tail ≡ tried said at → pieces (text_of (instruction_of (word ∷ tail ++ more)) at) ≡ said → instruction_of (word ∷ tail ++ rest) ≡ instruction_of (word ∷ tail ++ more) }
+{}

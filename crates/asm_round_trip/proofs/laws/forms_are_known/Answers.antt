@@ -1,6 +1,0 @@
-use Rattle.asm_round_trip.proofs.Forms.{form_size, has_fits}
-use Rattle.asm_round_trip.proofs.Meant.{fits_has, size_form}
-use Rattle.asm_round_trip.proofs.laws.forms_are_known.Goals as goal
-
-pub returns : goal.returns
-returns c = record { size = λ z80 said long. (size_form z80 said long, form_size z80 said long); fits = has_fits; fits_only = fits_has }

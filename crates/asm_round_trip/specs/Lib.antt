@@ -1,5 +1,0 @@
-pub mod Sources
-pub mod Forms
-pub mod Ranges
-pub mod Fitting
-pub mod Faults

@@ -1,0 +1,10 @@
+pub mod Again80
+pub mod Bytes80
+pub mod Judged
+pub mod Law80
+pub mod Lengths
+pub mod Operands
+pub mod Pages
+pub mod Read
+pub mod Rebuilt
+pub mod Sources

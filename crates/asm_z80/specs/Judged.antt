@@ -1,0 +1,18 @@
+-- The bytes that are tried for an instruction that is written.
+use Rattle.std.specs.Prelude.{ℕ, List, [], ◌∷◌}
+use Rattle.md_asm_text.specs.Pieces.{Piece}
+use Rattle.asm_z80.specs.Encoding80.{encoded}
+use Rattle.asm_z80.specs.Building.{meant}
+use Rattle.asm_z80.specs.Reading.{read_source}
+
+-- the bytes of what is made of the pieces
+abbrev pub tried : List Piece → ℕ → List ℕ
+tried said at = encoded (meant (read_source said) at)
+
+-- one to four bytes, filled up with 0 to four
+abbrev pub padded : List ℕ → List ℕ
+padded [] = 0 ∷ 0 ∷ 0 ∷ 0 ∷ []
+padded (a ∷ []) = a ∷ 0 ∷ 0 ∷ 0 ∷ []
+padded (a ∷ b ∷ []) = a ∷ b ∷ 0 ∷ 0 ∷ []
+padded (a ∷ b ∷ c ∷ []) = a ∷ b ∷ c ∷ 0 ∷ []
+padded (a ∷ b ∷ c ∷ d ∷ rest) = a ∷ b ∷ c ∷ d ∷ []

@@ -1,0 +1,10 @@
+pub mod Building
+pub mod Coded80
+pub mod Encoding80
+pub mod Entered
+pub mod Forms
+pub mod Instruction
+pub mod Judged
+pub mod Reading
+pub mod Words
+pub mod Written

@@ -1,0 +1,332 @@
+ghost use Rattle.std.specs.Prelude.{◌≡◌, ◌%◌};
+ghost use Rattle.asm_z80.specs.Building as building;
+ghost use Rattle.asm_z80.specs.Forms.{seen};
+ghost use Rattle.asm_z80.specs.Words as meaning;
+
+use crate::form::Form80;
+use crate::stem::Stem80;
+use crate::words::{
+    at_pair, bit_of, condition_of, displaced, index_of, is_af, is_index, is_pair, is_special,
+    mode_of, pair_of, register8, special_of,
+};
+use z80_decode::{Condition, Index, Op80, Pair, Place8, Task80};
+
+/// The word of an operand.
+fn word_in<'a>(form: Form80<'a>) -> &'a [u8]
+    ensures { result.now ≡ building.word_in (seen form.entry) }
+{
+    match form {
+        Form80::Worded(word) | Form80::AtWord(word) => word,
+        _ => &[],
+    }
+}
+
+/// The number of an operand.
+fn number(form: Form80<'_>) -> u32
+    ensures { result ≡ building.number (seen form.entry) }
+{
+    match form {
+        Form80::Bare(n) | Form80::AtNumber(n) => n,
+        _ => 0,
+    }
+}
+
+fn is_nothing(form: Form80<'_>) -> bool
+    ensures { result ≡ building.is_nothing (seen form.entry) }
+{
+    match form {
+        Form80::Nothing => true,
+        _ => false,
+    }
+}
+
+fn is_at_number(form: Form80<'_>) -> bool
+    ensures { result ≡ building.is_at_number (seen form.entry) }
+{
+    match form {
+        Form80::AtNumber(_) => true,
+        _ => false,
+    }
+}
+
+fn is_at_word(form: Form80<'_>) -> bool
+    ensures { result ≡ building.is_at_word (seen form.entry) }
+{
+    match form {
+        Form80::AtWord(_) => true,
+        _ => false,
+    }
+}
+
+/// Whether an operand is a register of 16 bits that is no address.
+fn names_pair(form: Form80<'_>) -> bool
+    ensures { result ≡ building.names_pair (seen form.entry) }
+{
+    match form {
+        Form80::Worded(word) => is_pair(word),
+        _ => false,
+    }
+}
+
+/// Whether an operand is I or R.
+fn names_special(form: Form80<'_>) -> bool
+    ensures { result ≡ building.names_special (seen form.entry) }
+{
+    match form {
+        Form80::Worded(word) => is_special(word),
+        _ => false,
+    }
+}
+
+/// The low 8 bits of a number.
+fn byte(form: Form80<'_>) -> u8
+    ensures { result ≡ building.byte (seen form.entry) }
+{
+    (number(form) % 256) as u8
+}
+
+/// The low 16 bits of a number.
+fn word(form: Form80<'_>) -> u16
+    ensures { result ≡ building.word (seen form.entry) }
+{
+    (number(form) % 65536) as u16
+}
+
+/// An operand of 8 bits.
+fn place(form: Form80<'_>) -> Place8
+    ensures { result ≡ building.place (seen form.entry) }
+{
+    match form {
+        Form80::Nothing => Place8::A,
+        Form80::Worded(word) => register8(word),
+        Form80::AtWord(word) => at_pair(word),
+        Form80::Displaced(word, n) => displaced(word, (n % 256) as u8),
+        Form80::Bare(n) => Place8::Number((n % 256) as u8),
+        Form80::AtNumber(n) => Place8::At((n % 65536) as u16),
+    }
+}
+
+fn pair(form: Form80<'_>) -> Pair
+    ensures { result ≡ building.pair (seen form.entry) }
+{
+    pair_of(word_in(form))
+}
+
+fn index(form: Form80<'_>) -> Index
+    ensures { result ≡ building.index (seen form.entry) }
+{
+    index_of(word_in(form))
+}
+
+fn condition(form: Form80<'_>) -> Condition
+    ensures { result ≡ meaning.condition_of (building.word_in (seen form.entry)) }
+{
+    condition_of(word_in(form))
+}
+
+/// The distance of a relative jump of two bytes that stands at an address.
+#[tactic(auto, unfolding(crate::specs::Building::distance))]
+fn distance(at: u16, to: u32) -> u8
+    ensures { result ≡ building.distance at to }
+{
+    ((u64::from(to) + 131_070 - u64::from(at)) % 256) as u8
+}
+
+fn load_pair(first: Form80<'_>, second: Form80<'_>) -> Op80
+    ensures { result ≡ building.load_pair (seen first.entry) (seen second.entry) }
+{
+    if names_pair(second) {
+        Op80::LoadStackPointer(index(second))
+    } else if is_at_number(second) {
+        if is_index(word_in(first)) {
+            Op80::LoadIndex(index(first), word(second))
+        } else {
+            Op80::LoadPairExtended(pair(first), word(second))
+        }
+    } else {
+        Op80::LoadPair(pair(first), word(second))
+    }
+}
+
+fn store_pair(first: Form80<'_>, second: Form80<'_>) -> Op80
+    ensures { result ≡ building.store_pair (seen first.entry) (seen second.entry) }
+{
+    if is_index(word_in(second)) {
+        Op80::StoreIndex(word(first), index(second))
+    } else {
+        Op80::StorePairExtended(word(first), pair(second))
+    }
+}
+
+fn load(first: Form80<'_>, second: Form80<'_>) -> Op80
+    ensures { result ≡ building.load (seen first.entry) (seen second.entry) }
+{
+    if names_pair(first) {
+        load_pair(first, second)
+    } else if names_pair(second) {
+        store_pair(first, second)
+    } else if names_special(first) {
+        Op80::LoadToSpecial(special_of(word_in(first)))
+    } else if names_special(second) {
+        Op80::LoadFromSpecial(special_of(word_in(second)))
+    } else {
+        Op80::Load(place(first), place(second))
+    }
+}
+
+fn exchange(first: Form80<'_>, second: Form80<'_>) -> Op80
+    ensures { result ≡ building.exchange (seen first.entry) (seen second.entry) }
+{
+    if is_at_word(first) {
+        Op80::ExchangeStack(index(second))
+    } else if is_af(word_in(first)) {
+        Op80::ExchangeAf
+    } else {
+        Op80::ExchangeDeHl
+    }
+}
+
+fn jump(first: Form80<'_>, second: Form80<'_>) -> Op80
+    ensures { result ≡ building.jump (seen first.entry) (seen second.entry) }
+{
+    if is_at_word(first) {
+        Op80::JumpIndex(index(first))
+    } else if is_nothing(second) {
+        Op80::Jump(word(first))
+    } else {
+        Op80::JumpIf(condition(first), word(second))
+    }
+}
+
+fn relative(at: u16, first: Form80<'_>, second: Form80<'_>) -> Op80
+    ensures { result ≡ building.relative at (seen first.entry) (seen second.entry) }
+{
+    if is_nothing(second) {
+        Op80::JumpRelative(distance(at, number(first)))
+    } else {
+        Op80::JumpRelativeIf(condition(first), distance(at, number(second)))
+    }
+}
+
+fn call(first: Form80<'_>, second: Form80<'_>) -> Op80
+    ensures { result ≡ building.call (seen first.entry) (seen second.entry) }
+{
+    if is_nothing(second) {
+        Op80::Call(word(first))
+    } else {
+        Op80::CallIf(condition(first), word(second))
+    }
+}
+
+fn returned(first: Form80<'_>) -> Op80
+    ensures { result ≡ building.return (seen first.entry) }
+{
+    if is_nothing(first) {
+        Op80::Return
+    } else {
+        Op80::ReturnIf(condition(first))
+    }
+}
+
+fn add(first: Form80<'_>, second: Form80<'_>) -> Op80
+    ensures { result ≡ building.add (seen first.entry) (seen second.entry) }
+{
+    if names_pair(first) {
+        Op80::AddPair(index(first), pair(second))
+    } else {
+        Op80::Arithmetic(Task80::Add, place(second))
+    }
+}
+
+fn add_with_carry(first: Form80<'_>, second: Form80<'_>) -> Op80
+    ensures { result ≡ building.add_with_carry (seen first.entry) (seen second.entry) }
+{
+    if names_pair(first) {
+        Op80::AddPairWithCarry(pair(second))
+    } else {
+        Op80::Arithmetic(Task80::Adc, place(second))
+    }
+}
+
+fn subtract_with_carry(first: Form80<'_>, second: Form80<'_>) -> Op80
+    ensures { result ≡ building.subtract_with_carry (seen first.entry) (seen second.entry) }
+{
+    if names_pair(first) {
+        Op80::SubtractPairWithCarry(pair(second))
+    } else {
+        Op80::Arithmetic(Task80::Sbc, place(second))
+    }
+}
+
+fn increment(first: Form80<'_>) -> Op80
+    ensures { result ≡ building.increment (seen first.entry) }
+{
+    if names_pair(first) {
+        Op80::IncrementPair(pair(first))
+    } else {
+        Op80::Step(Task80::Inc, place(first))
+    }
+}
+
+fn decrement(first: Form80<'_>) -> Op80
+    ensures { result ≡ building.decrement (seen first.entry) }
+{
+    if names_pair(first) {
+        Op80::DecrementPair(pair(first))
+    } else {
+        Op80::Step(Task80::Dec, place(first))
+    }
+}
+
+fn input(first: Form80<'_>, second: Form80<'_>) -> Op80
+    ensures { result ≡ building.input (seen first.entry) (seen second.entry) }
+{
+    if is_at_number(second) {
+        Op80::InputAtNumber(byte(second))
+    } else {
+        Op80::Input(place(first))
+    }
+}
+
+fn output(first: Form80<'_>, second: Form80<'_>) -> Op80
+    ensures { result ≡ building.output (seen first.entry) (seen second.entry) }
+{
+    if is_at_number(first) {
+        Op80::OutputAtNumber(byte(first))
+    } else {
+        Op80::Output(place(second))
+    }
+}
+
+/// The instruction of a name and two operands, at an address.
+#[tactic(auto, unfolding(crate::specs::Building::built))]
+pub(crate) fn built(stem: Stem80, first: Form80<'_>, second: Form80<'_>, at: u16) -> Op80
+    ensures { result ≡ building.built stem (seen first.entry) (seen second.entry) at }
+{
+    match stem {
+        Stem80::Alone(op) => op,
+        Stem80::Load => load(first, second),
+        Stem80::Push => Op80::Push(pair(first)),
+        Stem80::Pop => Op80::Pop(pair(first)),
+        Stem80::Exchange => exchange(first, second),
+        Stem80::Add => add(first, second),
+        Stem80::AddWithCarry => add_with_carry(first, second),
+        Stem80::SubtractWithCarry => subtract_with_carry(first, second),
+        Stem80::Arithmetic(task) => Op80::Arithmetic(task, place(first)),
+        Stem80::Increment => increment(first),
+        Stem80::Decrement => decrement(first),
+        Stem80::SetInterruptMode => Op80::SetInterruptMode(mode_of(word_in(first))),
+        Stem80::Change(task) => Op80::Change(task, place(first)),
+        Stem80::ResetBit => Op80::Change(Task80::Res(bit_of(word_in(first))), place(second)),
+        Stem80::SetBit => Op80::Change(Task80::Set(bit_of(word_in(first))), place(second)),
+        Stem80::TestBit => Op80::TestBit(bit_of(word_in(first)), place(second)),
+        Stem80::Jump => jump(first, second),
+        Stem80::JumpRelative => relative(at, first, second),
+        Stem80::DecrementAndJump => Op80::DecrementAndJump(distance(at, number(first))),
+        Stem80::Call => call(first, second),
+        Stem80::Return => returned(first),
+        Stem80::Restart => Op80::Restart(byte(first)),
+        Stem80::Input => input(first, second),
+        Stem80::Output => output(first, second),
+    }
+}

@@ -1,0 +1,65 @@
+ghost use Rattle.std.specs.Prelude.{◌≡◌, ◌↔◌, map, IfOk, IfSome, IfNone, IsTrue};
+ghost use Rattle.z80_decode.specs.Instructions.{instruction_of};
+ghost use Rattle.md_disasm.specs.Texts80.{text_of};
+ghost use Rattle.md_asm_text.specs.Pieces as texts;
+ghost use Rattle.md_asm_text.specs.Shown.{shown};
+ghost use Rattle.asm_z80.specs.Building as building;
+ghost use Rattle.asm_z80.specs.Judged as judged;
+ghost use Rattle.asm_z80.specs.Reading as reading;
+
+use crate::building::built;
+use crate::reader::read;
+use crate::stems::stem_of;
+use md_asm_text::{Piece, same, split};
+use md_disasm::text80;
+use md_word::NoMemory;
+use std::alloc::Global;
+use z80_decode::{Op80, decode};
+use crate::{Bytes, encode};
+
+/// One to four bytes, filled up with 0.
+fn padded(bytes: &[u8]) -> [u8; 4]
+    ensures { result ≡ judged.padded bytes.now }
+{
+    match bytes {
+        [] => [0, 0, 0, 0],
+        [a] => [*a, 0, 0, 0],
+        [a, b] => [*a, *b, 0, 0],
+        [a, b, c] => [*a, *b, *c, 0],
+        [a, b, c, d, ..] => [*a, *b, *c, *d],
+    }
+}
+
+/// What is made of the pieces of an instruction.
+#[tactic(auto, unfolding(crate::specs::Building::meant))]
+fn meant(pieces: &[Piece<'_>], at: u16) -> Op80
+    ensures { result ≡ building.meant (reading.read_source (map shown pieces.now)) at }
+{
+    let source = read(pieces);
+    built(stem_of(source.stem), source.first, source.second, at)
+}
+
+/// Whether bytes say the pieces at an address.
+fn is_said(alloc: Global, bytes: &[u8], pieces: &[Piece<'_>], at: u16) -> Result<bool, NoMemory>
+    ensures { IfOk result (λ said. IsTrue said ↔ (texts.pieces (text_of (instruction_of (judged.padded bytes.now)) at) ≡ map shown pieces.now)) }
+{
+    let decoded = decode(&padded(bytes));
+    let text = text80(alloc, &decoded, at)?;
+    let own = split(alloc, text.as_bytes())?;
+    Ok(same(&own, pieces))
+}
+
+/// The bytes of an instruction of the Z80 that is written, at an address, or none where its pieces are
+/// those of no instruction's text there.
+pub fn bytes_of(alloc: Global, pieces: &[Piece<'_>], at: u16) -> Result<Option<Bytes>, NoMemory>
+    ensures some { IfOk result (λ found. IfSome found (λ bytes. bytes.items ≡ judged.tried (map shown pieces.now) at)) }
+    ensures said { IfOk result (λ found. IfSome found (λ bytes. texts.pieces (text_of (instruction_of (judged.padded bytes.items)) at) ≡ map shown pieces.now)) }
+    ensures none { IfOk result (λ found. IfNone found (texts.pieces (text_of (instruction_of (judged.padded (judged.tried (map shown pieces.now) at))) at) ≡ map shown pieces.now → ⊥)) }
+{
+    let bytes = encode(&meant(pieces, at));
+    if is_said(alloc, bytes.as_slice(), pieces, at)? {
+        Ok(Some(bytes))
+    } else {
+        Ok(None)
+    }
+}

@@ -1,0 +1,21 @@
+//! The assembler's side of the Z80: the bytes of an instruction, the forms of its operands, and the instruction that a
+//! text names.
+#![tactic(auto)]
+
+mod building;
+mod codes;
+mod encoder;
+pub mod encoding_laws;
+mod form;
+mod judge;
+mod opcode;
+mod operands;
+mod reader;
+pub mod reading_laws;
+mod stem;
+mod stems;
+mod words;
+
+pub use encoder::encode;
+pub use judge::bytes_of;
+pub use operands::Bytes;

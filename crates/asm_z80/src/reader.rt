@@ -1,0 +1,81 @@
+ghost use Rattle.std.specs.Prelude.{◌≡◌, map};
+ghost use Rattle.md_asm_text.specs.Shown.{shown};
+ghost use Rattle.asm_z80.specs.Forms.{seen};
+ghost use Rattle.asm_z80.specs.Reading as reading;
+ghost use Rattle.asm_z80.specs.Written.{source_seen};
+
+use crate::form::Form80;
+use md_asm_text::{Piece, first_operand, second_operand};
+
+/// An instruction as it is written.
+#[derive(Clone, Copy)]
+pub(crate) struct Source80<'a> {
+    pub(crate) stem: &'a [u8],
+    pub(crate) first: Form80<'a>,
+    pub(crate) second: Form80<'a>,
+}
+
+/// Behind a word in brackets.
+fn based<'a>(word: &'a [u8], pieces: &[Piece<'a>]) -> Form80<'a>
+    ensures { seen result ≡ reading.based word.now (map shown pieces.now) }
+{
+    match pieces {
+        [_, Piece::Number(n), ..] => Form80::Displaced(word, *n),
+        _ => Form80::AtWord(word),
+    }
+}
+
+/// Behind a bracket.
+fn bracketed<'a>(pieces: &[Piece<'a>]) -> Form80<'a>
+    ensures { seen result ≡ reading.bracketed (map shown pieces.now) }
+{
+    match pieces {
+        [Piece::Number(n), ..] => Form80::AtNumber(*n),
+        [Piece::Word(word), rest @ ..] => based(word, rest),
+        _ => Form80::Nothing,
+    }
+}
+
+/// The form of an operand.
+fn operand_form<'a>(pieces: &[Piece<'a>]) -> Form80<'a>
+    ensures { seen result ≡ reading.operand_form (map shown pieces.now) }
+{
+    match pieces {
+        [] => Form80::Nothing,
+        [Piece::Word(word), ..] => Form80::Worded(word),
+        [Piece::Number(n), ..] => Form80::Bare(*n),
+        [_, rest @ ..] => bracketed(rest),
+    }
+}
+
+fn with_operands<'a>(stem: &'a [u8], pieces: &[Piece<'a>]) -> Source80<'a>
+    ensures { source_seen result ≡ reading.with_operands stem.now (map shown pieces.now) }
+{
+    match pieces {
+        [] => Source80 {
+            stem,
+            first: Form80::Nothing,
+            second: Form80::Nothing,
+        },
+        [_, rest @ ..] => Source80 {
+            stem,
+            first: operand_form(first_operand(rest)),
+            second: operand_form(second_operand(rest)),
+        },
+    }
+}
+
+/// What is read of an instruction's pieces.
+#[tactic(auto, unfolding(crate::specs::Reading::read_source))]
+pub(crate) fn read<'a>(pieces: &[Piece<'a>]) -> Source80<'a>
+    ensures { source_seen result ≡ reading.read_source (map shown pieces.now) }
+{
+    match pieces {
+        [Piece::Word(stem), rest @ ..] => with_operands(stem, rest),
+        _ => Source80 {
+            stem: &[],
+            first: Form80::Nothing,
+            second: Form80::Nothing,
+        },
+    }
+}

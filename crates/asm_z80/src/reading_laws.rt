@@ -1,0 +1,25 @@
+//! Laws of reading, as calls that do nothing and stand for what they ensure.
+
+ghost use Rattle.std.specs.Prelude.{◌≡◌, ◌<◌, ◌≤◌, ◌++◌, ℕ, List, false, length};
+ghost use Rattle.z80_decode.specs.Instructions.{instruction_of};
+ghost use Rattle.md_disasm.specs.Texts80.{text_of};
+ghost use Rattle.md_asm_text.specs.Pieces.{Piece, pieces};
+ghost use Rattle.asm_z80.specs.Coded80.{AreBytes};
+ghost use Rattle.asm_z80.specs.Encoding80.{encoded};
+ghost use Rattle.asm_z80.specs.Judged.{tried};
+ghost use Rattle.asm_z80.specs.Instruction.{is_db};
+
+/// The bytes that are tried for the text of an instruction decode to that instruction, and bytes that
+/// say a text and are tried for it say it whatever follows them.
+pub fn texts_are_read()
+    ensures back { (bytes rest : List ℕ) (at : ℕ) → AreBytes bytes → AreBytes rest → at < 65536 → is_db (instruction_of bytes).op ≡ false
+        → instruction_of (tried (pieces (text_of (instruction_of bytes) at)) at ++ rest) ≡ instruction_of bytes }
+    ensures said { (bytes more rest : List ℕ) (said : List Piece) (at : ℕ) → AreBytes (bytes ++ more) → AreBytes rest → at < 65536
+        → bytes ≡ tried said at → pieces (text_of (instruction_of (bytes ++ more)) at) ≡ said → instruction_of (bytes ++ rest) ≡ instruction_of (bytes ++ more) }
+{}
+
+/// The bytes of what bytes decode to are as many as it takes of them, and four at the most.
+pub fn codes_have_their_length()
+    ensures long { (bytes : List ℕ) → AreBytes bytes → length (encoded (instruction_of bytes).op) ≡ (instruction_of bytes).length }
+    ensures few { (bytes : List ℕ) → AreBytes bytes → (instruction_of bytes).length ≤ 4 }
+{}

@@ -1,4 +1,0 @@
-use Rattle.debug_states.proofs.laws.debug_laws.Goals as goal
-
-pub returns : goal.returns
-returns c = record { one = c.scripts_have_one_outcome.ensures; kept = c.kept_machines_go_on.ensures }

@@ -1,9 +1,0 @@
-use Rattle.std.proofs.Common.{◌≡◌, subst}
-use Rattle.std.specs.Prelude.{IfOk}
-use Rattle.debug_states.specs.Opened.{opened}
-use Rattle.md_debug.specs.Sessions.{SessionValue}
-use Rattle.state_images.specs.Images.{ImagesValue}
-use Rattle.debug_states.proofs.playing.session_with.Goals as goal
-
-pub returns : goal.returns
-returns c = subst (λ (x : ImagesValue). IfOk c.open.result (λ (s : SessionValue ImagesValue). s ≡ opened x)) c.in_ok-images.ensures c.open.ensures

@@ -1,0 +1,20 @@
+//! The debugger's texts: the commands that lines spell, and the replies to them. No machine stands below it.
+#![tactic(auto)]
+
+mod command;
+mod cycle;
+mod line;
+mod memory;
+mod number;
+mod registers;
+mod report;
+mod trace;
+
+pub use command::{Command, Misread};
+pub use cycle::put_cycle;
+pub use line::{behind, is_ascii, read_command, word_in};
+pub use memory::{byte_reply, instruction_reply};
+pub use number::read_decimal;
+pub use registers::register_reply;
+pub use report::report_reply;
+pub use trace::address_reply;

@@ -1,0 +1,3 @@
+pub mod AssemblyEndings
+pub mod ConversionEndings
+pub mod Files

@@ -1,0 +1,116 @@
+-- What the assembling of a file comes to, and what the files hold then.
+use Rattle.std.specs.Prelude.{◌≡◌, ◌⊎◌, ℕ, ◌<◌, ◌≤◌, nat_lt, if◌then◌else◌, List, [], length, Option, None, Some, IsSomeAnd}
+use Rattle.md_outer.specs.Outside.{DepotState, Files, IsPrefix, Rose, with_file}
+use Rattle.md_asm.specs.Assembly as assembly
+use Rattle.md_asm.specs.Assembly.{AssemblyOutcome}
+use Rattle.md_asm.specs.declared.placed.Placed.{Placed}
+use Rattle.asm_laws.specs.Lines.{SaysLines}
+use Rattle.asm_laws.specs.Faults.{IsFaulty}
+use Rattle.asm_laws.specs.Fitting.{FitsLines}
+use Rattle.asm_laws.specs.Sources.{KeepsInstruction}
+use Rattle.md_args.specs.Words.{Assembling}
+use Rattle.file_commands.specs.Lists.{list_of}
+use Rattle.file_commands.specs.declared.comes.Comes.{Comes}
+use Rattle.file_commands.specs.declared.comes.Comes.TheVariants.{Made, Unread, TooLong, Refused, Unwritten, Unlisted, NoMemory}
+
+-- the greatest length of a source
+abbrev pub limit : ℕ
+limit = 1048576
+
+-- a source that is held, within its limit, is assembled to this
+abbrev pub IsFound : Option (List ℕ) → AssemblyOutcome → Type 0
+IsFound source outcome = IsSomeAnd source (λ bytes. (length bytes ≤ limit) × (assembly.assembly bytes ≡ outcome))
+
+-- a source that is held is assembled to this, and if it is one instruction's that stands there
+abbrev pub KeepsSource : Option (List ℕ) → AssemblyOutcome → Type 0
+KeepsSource source outcome = IsSomeAnd source (λ bytes. KeepsInstruction bytes outcome)
+
+-- a source that is held, within its limit, is refused: it is no instruction's, and its line is at fault
+abbrev pub IsAtFault : Option (List ℕ) → ℕ → ℕ → Type 0
+IsAtFault source line kind =
+    IsFound source (assembly.Failed line kind) × KeepsSource source (assembly.Failed line kind) × IsSomeAnd source (λ bytes. IsFaulty bytes line kind)
+
+-- Why each ending may come. What a file holds is spoken of where the depot tells it.
+abbrev pub HasCause : Type 0 → Assembling → DepotState → DepotState → Comes → Type 0
+HasCause told words old new (Made size) =
+    told → (image : List ℕ) × (lines : List Placed) × IsFound (old.files words.source) (assembly.Done image lines) × (size ≡ length image)
+HasCause told words old new Unread = Rose old.read_faults new.read_faults ⊎ (told × (old.files words.source ≡ None))
+HasCause told words old new TooLong = told → IsSomeAnd (old.files words.source) (λ bytes. limit < length bytes)
+HasCause told words old new (Refused line kind) = told → IsAtFault (old.files words.source) line kind
+HasCause told words old new Unwritten =
+    Rose old.write_faults new.write_faults
+    × (told → (image : List ℕ) × (lines : List Placed) × IsFound (old.files words.source) (assembly.Done image lines))
+HasCause told words old new Unlisted =
+    Rose old.write_faults new.write_faults
+    × (told → (image : List ℕ) × (lines : List Placed) × IsFound (old.files words.source) (assembly.Done image lines))
+HasCause told words old new NoMemory = Unit {0}
+
+-- the files with this list, if one is asked for
+abbrev pub with_list : Option (List ℕ) → Files → List ℕ → Files
+with_list None files list = files
+with_list (Some name) files list = with_file files name list
+
+-- the files with an image and a list in those that are named
+abbrev pub with_both : Assembling → Files → List ℕ → List ℕ → Files
+with_both words files image list = with_list words.list (with_file files words.output image) list
+
+-- a part of the image was written, and of the list, which may not have been begun
+abbrev pub HoldsParts : Assembling → Files → Files → List ℕ → List ℕ → Type 0
+HoldsParts words old new image list =
+    ((part : List ℕ) × IsPrefix part image × (new ≡ with_file old words.output part))
+    ⊎ ((part : List ℕ) × (listed : List ℕ) × IsPrefix part image × IsPrefix listed list × (new ≡ with_both words old part listed))
+
+-- the source is assembled, and so much of it was written, or nothing was
+abbrev pub LeavesParts : Assembling → Files → Files → Type 0
+LeavesParts words old new =
+    (new ≡ old)
+    ⊎ ((image : List ℕ) × (lines : List Placed) × IsFound (old words.source) (assembly.Done image lines) × HoldsParts words old new image (list_of image lines))
+
+-- memory was wanting: no file changed, or the source is assembled, and the output is empty, with the list's file as it was
+abbrev pub LeavesEmpty : Assembling → Files → Files → Type 0
+LeavesEmpty words old new =
+    (new ≡ old)
+    ⊎ ((image : List ℕ) × (lines : List Placed) × IsFound (old words.source) (assembly.Done image lines) × (new ≡ with_file old words.output []))
+
+-- an image says the lines of a source that is held, whose numbers are in their ranges, and if it is one instruction's that
+-- stands in it
+abbrev pub SaysSource : Option (List ℕ) → List ℕ → List Placed → Type 0
+SaysSource source image lines = IsSomeAnd source (λ bytes. SaysLines bytes image lines) × IsSomeAnd source FitsLines × KeepsSource source (assembly.Done image lines)
+
+-- What the files hold then: the outputs the image, which says the lines of its source, and its list, where they were written; parts of them, or what
+-- they held, where a write failed; what they held, or nothing, where memory was wanting; and all others what they held
+abbrev pub LeavesFiles : Assembling → Files → Files → Comes → Type 0
+LeavesFiles words old new (Made size) =
+    (image : List ℕ) × (lines : List Placed) × IsFound (old words.source) (assembly.Done image lines) × (size ≡ length image)
+    × (new ≡ with_both words old image (list_of image lines)) × SaysSource (old words.source) image lines
+LeavesFiles words old new Unwritten = LeavesParts words old new
+LeavesFiles words old new Unlisted = LeavesParts words old new
+LeavesFiles words old new NoMemory = LeavesEmpty words old new
+LeavesFiles words old new Unread = new ≡ old
+LeavesFiles words old new TooLong = new ≡ old
+LeavesFiles words old new (Refused line kind) = new ≡ old
+
+-- The ending where neither a fault nor want of memory comes between, by what the source is assembled to.
+abbrev pub made_ending : AssemblyOutcome → Comes
+made_ending (assembly.Done image lines) = Made (length image)
+made_ending (assembly.Failed line kind) = Refused line kind
+
+abbrev pub right_ending : Option (List ℕ) → Comes
+right_ending None = Unread
+right_ending (Some bytes) = if nat_lt limit (length bytes) then TooLong else made_ending (assembly.assembly bytes)
+
+-- why writing an image of this length and its list comes to this
+abbrev pub WriteCause : ℕ → DepotState → DepotState → Comes → Type 0
+WriteCause size old new (Made written) = written ≡ size
+WriteCause size old new Unwritten = Rose old.write_faults new.write_faults
+WriteCause size old new Unlisted = Rose old.write_faults new.write_faults
+WriteCause size old new NoMemory = Unit {0}
+WriteCause size old new Unread = ⊥
+WriteCause size old new TooLong = ⊥
+WriteCause size old new (Refused line kind) = ⊥
+
+-- what the files hold then
+abbrev pub WritesFiles : Assembling → Files → Files → List ℕ → List ℕ → Comes → Type 0
+WritesFiles words old new image list (Made written) = new ≡ with_both words old image list
+WritesFiles words old new image list NoMemory = (new ≡ old) ⊎ (new ≡ with_file old words.output [])
+WritesFiles words old new image list ending = (new ≡ old) ⊎ HoldsParts words old new image list

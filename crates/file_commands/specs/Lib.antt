@@ -1,0 +1,4 @@
+pub mod Assemblies
+pub mod Begun
+pub mod Conversions
+pub mod Lists

@@ -1,4 +1,0 @@
-pub mod Decoded
-pub mod Entered
-pub mod Instructions
-pub mod Judged

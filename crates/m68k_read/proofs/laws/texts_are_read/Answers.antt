@@ -1,8 +1,0 @@
-use Rattle.m68k_read.proofs.Judged.{said_again, tried_again}
-use Rattle.m68k_read.proofs.laws.texts_are_read.Goals as goal
-
-pub returns-clause-back : goal.returns-clause-back
-returns-clause-back c = tried_again
-
-pub returns-clause-said : goal.returns-clause-said
-returns-clause-said c = said_again

@@ -1,0 +1,35 @@
+-- The bytes of an instruction: those of the encoding of an instruction whose text has its pieces.
+use Rattle.std.specs.Prelude.{ℕ, ◌/◌, ◌%◌, Bool, true, false, if◌then◌else◌, List, [], ◌∷◌, Option, Some, None, option_map}
+use Rattle.m68k_decode.specs.Instructions as main
+use Rattle.z80_decode.specs.Instructions as sub
+use Rattle.md_disasm.specs.Texts68 as main_texts
+use Rattle.md_disasm.specs.Texts80 as sub_texts
+use Rattle.md_asm_text.specs.Alike.{all_alike}
+use Rattle.md_asm_text.specs.Pieces.{Piece, pieces}
+use Rattle.asm_m68k.specs.Judged as main_read
+use Rattle.asm_z80.specs.Judged as sub_read
+
+-- words of the 68000 decode to an instruction whose text at an address has these pieces
+abbrev pub say_words : List ℕ → List Piece → ℕ → Bool
+say_words words said at = all_alike (pieces (main_texts.text_of (main.instruction_of (main_read.padded words)) at)) said
+
+-- bytes of the Z80 do so
+abbrev pub say_bytes : List ℕ → List Piece → ℕ → Bool
+say_bytes bytes said at = all_alike (pieces (sub_texts.text_of (sub.instruction_of (sub_read.padded bytes)) at)) said
+
+-- the words that are read and encoded, where they say the pieces
+unfoldable pub main_code : List Piece → ℕ → Option (List ℕ)
+main_code said at = if say_words (main_read.tried said at) said at then Some (main_read.tried said at) else None
+
+unfoldable pub sub_code : List Piece → ℕ → Option (List ℕ)
+sub_code said at = if say_bytes (sub_read.tried said at) said at then Some (sub_read.tried said at) else None
+
+-- words as bytes, the high byte first
+unfoldable pub in_bytes : List ℕ → List ℕ
+in_bytes [] = []
+in_bytes (word ∷ more) = word / 256 ∷ word % 256 ∷ in_bytes more
+
+-- the bytes of an instruction of one processor at an address
+abbrev pub code : Bool → List Piece → ℕ → Option (List ℕ)
+code true said at = sub_code said at
+code false said at = option_map in_bytes (main_code said at)

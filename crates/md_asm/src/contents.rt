@@ -1,0 +1,130 @@
+ghost use Rattle.std.specs.Prelude.{◌≡◌, ◌<◌, ◌*◌, ◌≤◌, IfOk, IfSome, length, map, option_map, true};
+ghost use Rattle.md_asm_text.specs.Shown.{shown};
+ghost use Rattle.md_asm.specs.Contents as contents;
+ghost use Rattle.md_asm.specs.SeenCodes.{settled_seen};
+
+use crate::codes::code;
+use crate::data::{any_over, bytes_of, count, words_of};
+use crate::fitting::misfits;
+use crate::numbers::{fill, has_name};
+use crate::settled::Settled;
+use md_asm_text::Body;
+use md_asm_text::Piece;
+use md_word::NoMemory;
+use std::alloc::Global;
+
+/// The length of an instruction of one processor, or none where it is none.
+fn instruction_size(
+    alloc: Global,
+    z80: bool,
+    pieces: &[Piece<'_>],
+) -> Result<Option<usize>, NoMemory>
+    ensures { IfOk result (λ size. size ≡ contents.size z80 Body.Instruction (map shown pieces.now)) }
+{
+    let filled = fill(alloc, pieces)?;
+    match code(alloc, z80, filled.as_slice(), 4)? {
+        Some(bytes) => Ok(Some(bytes.len())),
+        None => Ok(None),
+    }
+}
+
+/// The length of a line in bytes, or none where it is no line.
+pub fn size(
+    alloc: Global,
+    z80: bool,
+    body: Body,
+    pieces: &[Piece<'_>],
+) -> Result<Option<usize>, NoMemory>
+    ensures { IfOk result (λ size. size ≡ contents.size z80 body (map shown pieces.now)) }
+{
+    match body {
+        Body::Bad => Ok(None),
+        Body::Words => Ok(Some(2 * count(pieces))),
+        Body::Bytes => Ok(Some(count(pieces))),
+        Body::Instruction => instruction_size(alloc, z80, pieces),
+        Body::Nothing | Body::Org(_) | Body::Main | Body::Sub(_) => Ok(Some(0)),
+    }
+}
+
+/// Whether a number of a line does not fit.
+pub fn is_unfit(
+    alloc: Global,
+    z80: bool,
+    body: Body,
+    pieces: &[Piece<'_>],
+) -> Result<bool, NoMemory>
+    ensures { IfOk result (λ unfit. unfit ≡ contents.is_unfit z80 body (map shown pieces.now)) }
+{
+    match body {
+        Body::Sub(at) => Ok(at >= 65_536),
+        Body::Words => Ok(any_over(65_536, pieces)),
+        Body::Bytes => Ok(any_over(256, pieces)),
+        Body::Instruction => misfits(alloc, z80, pieces),
+        Body::Bad | Body::Nothing | Body::Org(_) | Body::Main => Ok(false),
+    }
+}
+
+/// The bytes of a line without names at an address, or none where no instruction's text is the line's there.
+pub(crate) fn content(
+    alloc: Global,
+    z80: bool,
+    body: Body,
+    pieces: &[Piece<'_>],
+    at: u32,
+) -> Result<Option<Vec<u8>>, NoMemory>
+    requires { z80 ≡ true → at < 65536 }
+    ensures { IfOk result (λ found. option_map (λ bytes. bytes.items) found ≡ contents.content z80 body (map shown pieces.now) at) }
+{
+    match body {
+        Body::Words => {
+            let bytes = words_of(alloc, pieces)?;
+            Ok(Some(bytes))
+        }
+        Body::Bytes => {
+            let bytes = bytes_of(alloc, pieces)?;
+            Ok(Some(bytes))
+        }
+        Body::Instruction => code(alloc, z80, pieces, at),
+        Body::Bad | Body::Nothing | Body::Org(_) | Body::Main | Body::Sub(_) => {
+            Ok(Some(Vec::new(alloc)))
+        }
+    }
+}
+
+/// What bytes of a line are worth that has this length.
+fn sized(found: Option<Vec<u8>>, long: usize) -> Settled
+    ensures { settled_seen result ≡ contents.sized long (option_map (λ bytes. bytes.items) found) }
+{
+    match found {
+        Some(bytes) => {
+            if bytes.len() == long {
+                Settled::Good(bytes)
+            } else {
+                Settled::Far
+            }
+        }
+        None => Settled::Far,
+    }
+}
+
+/// What a line of a length comes to at an address, with its names resolved.
+pub fn settle(
+    alloc: Global,
+    z80: bool,
+    body: Body,
+    long: usize,
+    pieces: &[Piece<'_>],
+    at: u32,
+) -> Result<Settled, NoMemory>
+    requires { z80 ≡ true → at < 65536 }
+    ensures { IfOk result (λ settled. settled_seen settled ≡ contents.settled_line z80 body long (map shown pieces.now) at) }
+{
+    if has_name(pieces) {
+        return Ok(Settled::Unknown);
+    }
+    if is_unfit(alloc, z80, body, pieces)? {
+        return Ok(Settled::Unfit);
+    }
+    let found = content(alloc, z80, body, pieces, at)?;
+    Ok(sized(found, long))
+}

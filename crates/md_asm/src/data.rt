@@ -1,0 +1,91 @@
+ghost use Rattle.std.specs.Prelude.{◌≡◌, ◌≤◌, ◌++◌, IfOk, OnOk, length, map};
+ghost use Rattle.md_asm_text.specs.Shown.{shown};
+ghost use Rattle.md_asm.specs.Numbers as numbers;
+
+use md_asm_text::Piece;
+use md_word::NoMemory;
+use std::alloc::Global;
+
+/// How many numbers and names there are.
+#[tactic(auto, unfolding(crate::specs::Numbers::count))]
+pub(crate) fn count(pieces: &[Piece<'_>]) -> usize
+    ensures value { result ≡ numbers.count (map shown pieces.now) }
+    ensures within { result ≤ length pieces.now }
+{
+    let mut found = 0;
+    let mut rest = pieces;
+    while let [piece, after @ ..] = rest {
+        match piece {
+            Piece::Number(_) | Piece::Name(_) => found += 1,
+            _ => {}
+        }
+        rest = after;
+    }
+    found
+}
+
+/// Whether a number is not below a limit.
+#[tactic(auto, unfolding(crate::specs::Numbers::any_over))]
+pub(crate) fn any_over(limit: u32, pieces: &[Piece<'_>]) -> bool
+    ensures { result ≡ numbers.any_over limit (map shown pieces.now) }
+{
+    let mut rest = pieces;
+    while let [piece, after @ ..] = rest {
+        if let Piece::Number(n) = piece
+            && limit <= *n
+        {
+            return true;
+        }
+        rest = after;
+    }
+    false
+}
+
+/// Appends a number as a byte.
+fn put_byte(bytes: &mut Vec<u8>, piece: &Piece<'_>) -> Result<(), NoMemory>
+    ensures { OnOk result (bytes.new.items ≡ bytes.old.items ++ numbers.byte_of (shown piece.now)) }
+{
+    if let Piece::Number(n) = piece {
+        bytes.push((*n % 256) as u8)?;
+    }
+    Ok(())
+}
+
+/// Appends a number as a word, the high byte first.
+fn put_word(bytes: &mut Vec<u8>, piece: &Piece<'_>) -> Result<(), NoMemory>
+    ensures { OnOk result (bytes.new.items ≡ bytes.old.items ++ numbers.word_of (shown piece.now)) }
+{
+    if let Piece::Number(n) = piece {
+        bytes.push((*n / 256 % 256) as u8)?;
+        bytes.push((*n % 256) as u8)?;
+    }
+    Ok(())
+}
+
+/// The numbers as bytes.
+#[tactic(auto, unfolding(crate::specs::Numbers::bytes_of))]
+pub(crate) fn bytes_of(alloc: Global, pieces: &[Piece<'_>]) -> Result<Vec<u8>, NoMemory>
+    ensures { IfOk result (λ bytes. bytes.items ≡ numbers.bytes_of (map shown pieces.now)) }
+{
+    let mut bytes = Vec::new(alloc);
+    let mut rest = pieces;
+    while let [piece, after @ ..] = rest {
+        put_byte(&mut bytes, piece)?;
+        rest = after;
+    }
+    Ok(bytes)
+}
+
+/// The numbers as words, the high byte first.
+#[tactic(auto, unfolding(crate::specs::Numbers::words_of))]
+pub(crate) fn words_of(alloc: Global, pieces: &[Piece<'_>]) -> Result<Vec<u8>, NoMemory>
+    ensures { IfOk result (λ bytes. bytes.items ≡ numbers.words_of (map shown pieces.now)) }
+{
+    let mut bytes = Vec::new(alloc);
+    let mut rest = pieces;
+    while let [piece, after @ ..] = rest {
+        put_word(&mut bytes, piece)?;
+        rest = after;
+    }
+    Ok(bytes)
+}

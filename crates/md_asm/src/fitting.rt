@@ -1,0 +1,76 @@
+ghost use Rattle.std.specs.Prelude.{◌≡◌, ◌<◌, ◌+◌, IfOk, length, map, true};
+ghost use Rattle.md_asm_text.specs.Shown.{shown};
+ghost use Rattle.md_asm_text.specs.Pieces as texts;
+ghost use Rattle.md_asm.specs.Contents as contents;
+ghost use Rattle.md_asm.specs.Numbers as numbers;
+
+use crate::codes::code;
+use crate::numbers::fill;
+use md_asm_text::Piece;
+use md_word::NoMemory;
+use std::alloc::Global;
+
+/// The address 4 below, from which a branch to a number is in its reach.
+fn under(z80: bool, n: u32) -> u32
+    ensures value { result ≡ contents.under z80 n }
+    ensures low { z80 ≡ true → result < 65536 }
+{
+    if z80 {
+        ((u64::from(n) + 65_532) % 65_536) as u32
+    } else {
+        ((u64::from(n) + 4_294_967_292) % 4_294_967_296) as u32
+    }
+}
+
+/// The pieces with 8 for each number and name, and a number at one place.
+fn alone<'a>(
+    alloc: Global,
+    pieces: &[Piece<'a>],
+    i: usize,
+    n: u32,
+) -> Result<Vec<Piece<'a>>, NoMemory>
+    requires { i < length pieces.now }
+    ensures { IfOk result (λ v. map shown v.items ≡ numbers.alone (map shown pieces.now) i (texts.Number n)) }
+{
+    let mut tried = fill(alloc, pieces)?;
+    tried[i] = Piece::Number(n);
+    Ok(tried)
+}
+
+/// Whether a piece at a place among pieces is a number that does not fit.
+fn misfit(
+    alloc: Global,
+    z80: bool,
+    pieces: &[Piece<'_>],
+    i: usize,
+    piece: &Piece<'_>,
+) -> Result<bool, NoMemory>
+    requires { i < length pieces.now }
+    ensures { IfOk result (λ misfits. misfits ≡ contents.misfit z80 (map shown pieces.now) i (shown piece.now)) }
+{
+    match piece {
+        Piece::Number(n) => {
+            let tried = alone(alloc, pieces, i, *n)?;
+            let found = code(alloc, z80, tried.as_slice(), under(z80, *n))?;
+            Ok(found.is_none())
+        }
+        _ => Ok(false),
+    }
+}
+
+/// Whether a number of an instruction does not fit.
+#[tactic(auto, unfolding(crate::specs::Contents::misfits))]
+pub(crate) fn misfits(alloc: Global, z80: bool, pieces: &[Piece<'_>]) -> Result<bool, NoMemory>
+    ensures { IfOk result (λ misfits. misfits ≡ contents.misfits z80 (map shown pieces.now) 0 (map shown pieces.now)) }
+{
+    let mut i = 0;
+    let mut rest = pieces;
+    while let [piece, after @ ..] = rest {
+        if misfit(alloc, z80, pieces, i, piece)? {
+            return Ok(true);
+        }
+        i += 1;
+        rest = after;
+    }
+    Ok(false)
+}

@@ -1,4 +1,0 @@
-pub mod Codes
-pub mod Contents
-pub mod Numbers
-pub mod Seen

@@ -1,4 +1,0 @@
-pub mod Bodies
-pub mod Lines
-pub mod Seen
-pub mod Texts

@@ -1,0 +1,56 @@
+ghost use Rattle.std.specs.Prelude.{◌≡◌, ◌<◌, ◌≤◌, ◌+◌, ◌∷◌, length, take, drop, nat_lt};
+ghost use Rattle.md_asm_text.specs.Texts as meaning;
+
+/// How many characters stand in front of the first one like this.
+#[tactic(auto, unfolding(crate::specs::Texts::before, crate::specs::Texts::behind, crate::specs::Texts::has))]
+fn index_of(text: &[u8], mark: u8) -> usize
+    ensures within { result ≤ length text.now }
+    ensures before { take result text.now ≡ meaning.before mark text.now }
+    ensures behind { drop (result + 1) text.now ≡ meaning.behind mark text.now }
+    ensures found { nat_lt result (length text.now) ≡ meaning.has mark text.now }
+{
+    for (i, c) in text.iter().enumerate() {
+        if *c == mark {
+            return i;
+        }
+    }
+    text.len()
+}
+
+/// Whether a text has such a character.
+pub(crate) fn has(text: &[u8], mark: u8) -> bool
+    ensures { result ≡ meaning.has mark text.now }
+{
+    index_of(text, mark) < text.len()
+}
+
+/// The text in front of the first such character.
+pub(crate) fn before(text: &[u8], mark: u8) -> &[u8]
+    ensures { result.now ≡ meaning.before mark text.now }
+{
+    let count = index_of(text, mark);
+    &text[..count]
+}
+
+/// The text behind the first such character.
+pub(crate) fn behind(text: &[u8], mark: u8) -> &[u8]
+    ensures { result.now ≡ meaning.behind mark text.now }
+{
+    let count = index_of(text, mark);
+    if count < text.len() {
+        &text[count + 1..]
+    } else {
+        &text[count..]
+    }
+}
+
+/// The first line of a text, and what stands behind it.
+pub fn next_line(text: &[u8]) -> (&[u8], &[u8])
+    requires { 0 < length text.now }
+    ensures lines { meaning.lines text.now ≡ result.0.now ∷ meaning.lines result.1.now }
+    ensures shorter { length result.1.now < length text.now }
+{
+    let line = before(text, 10);
+    let rest = behind(text, 10);
+    (line, rest)
+}

@@ -1,0 +1,91 @@
+ghost use Rattle.std.specs.Prelude.{◌≡◌, IfOk, map, option_map};
+ghost use Rattle.md_asm_text.specs.Pieces as texts;
+ghost use Rattle.md_asm_text.specs.Shown.{shown};
+ghost use Rattle.md_asm_text.specs.Lines as lines;
+ghost use Rattle.md_asm_text.specs.Seen.{line_seen};
+
+use crate::body::Body;
+use crate::cutting::{before, behind, has};
+use crate::directives::told;
+use crate::trimming::{cut_back, unblanked};
+use crate::{Piece, is_name, split};
+use md_word::NoMemory;
+use std::alloc::Global;
+
+/// A line of a source.
+#[derive(Drop)]
+pub struct Line<'a> {
+    /// A name in front of a colon.
+    pub label: Option<&'a [u8]>,
+    /// What stands behind it, without blanks at either end.
+    pub text: &'a [u8],
+    /// The pieces of this text.
+    pub pieces: Vec<Piece<'a>>,
+    pub body: Body,
+}
+
+/// What a text without blanks at either end is, by its pieces.
+fn body_of(text: &[u8], pieces: &[Piece<'_>]) -> Body
+    requires { map shown pieces.now ≡ texts.pieces text.now }
+    ensures { result ≡ lines.body_of text.now }
+{
+    if text.is_empty() {
+        Body::Nothing
+    } else {
+        told(pieces)
+    }
+}
+
+/// A line with this label, which says this text.
+fn with_body<'a>(
+    alloc: Global,
+    label: Option<&'a [u8]>,
+    text: &'a [u8],
+) -> Result<Line<'a>, NoMemory>
+    ensures line { IfOk result (λ line. line_seen line ≡ lines.with_body (option_map (λ name. name.now) label.entry) text.now) }
+    ensures pieces { IfOk result (λ line. map shown line.pieces.items ≡ texts.pieces line.text.now) }
+{
+    let said = split(alloc, text)?;
+    let body = body_of(text, said.as_slice());
+    Ok(Line {
+        label,
+        text,
+        pieces: said,
+        body,
+    })
+}
+
+/// What a text without a comment and blanks at either end is.
+fn labelled<'a>(alloc: Global, text: &'a [u8]) -> Result<Line<'a>, NoMemory>
+    ensures line { IfOk result (λ line. line_seen line ≡ lines.labelled text.now) }
+    ensures pieces { IfOk result (λ line. map shown line.pieces.items ≡ texts.pieces line.text.now) }
+{
+    if !has(text, 58) {
+        return with_body(alloc, None, text);
+    }
+    let name = before(text, 58);
+    if is_name(name) {
+        with_body(alloc, Some(name), unblanked(behind(text, 58)))
+    } else {
+        let nothing: &'a [u8] = &[];
+        let said = split(alloc, nothing)?;
+        Ok(Line {
+            label: None,
+            text: nothing,
+            pieces: said,
+            body: Body::Bad,
+        })
+    }
+}
+
+/// A line of a source, of its text without the line feed.
+///
+/// What stands from a semicolon on is a comment. Spaces and tabs at either end and behind the label's colon are left
+/// out. A directive has one space behind its name and none elsewhere.
+#[tactic(auto, unfolding(crate::specs::Lines::line_of))]
+pub fn read_line<'a>(alloc: Global, text: &'a [u8]) -> Result<Line<'a>, NoMemory>
+    ensures line { IfOk result (λ line. line_seen line ≡ lines.line_of text.now) }
+    ensures pieces { IfOk result (λ line. map shown line.pieces.items ≡ texts.pieces line.text.now) }
+{
+    labelled(alloc, cut_back(unblanked(before(text, 59))))
+}

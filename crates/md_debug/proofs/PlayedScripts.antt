@@ -1,0 +1,16 @@
+-- A script comes to one outcome alone, where memory is not wanting.
+use Rattle.std.proofs.Common.{◌≡◌, ◌≢◌, List, ℕ, ap}
+use Rattle.text_lines.specs.Lines.{lines_of}
+use Rattle.md_debug.specs.declared.script.Ending.{Ending}
+use Rattle.md_debug.specs.declared.script.Ending.TheVariants.{OutOfMemory}
+use Rattle.md_debug.specs.Opened.{PlaysScript, images_with, opened}
+use Rattle.md_debug.proofs.Outcomes.{one_outcome}
+use Rattle.md_machine.specs.Starts.{Start}
+use Rattle.state_images.specs.Images.{Keeps, drained, image_of, size_of}
+use Rattle.state_images.proofs.Machines.{keep_one}
+
+pub one_script : (cart script first second : List ℕ) (ending other : Ending) → PlaysScript cart script first ending → PlaysScript cart script second other
+    → ending ≢ OutOfMemory → other ≢ OutOfMemory → (first ≡ second) × (ending ≡ other)
+one_script cart script first second ending other one two =
+    one_outcome size_of image_of Keeps (λ images m w same. ap (λ (s : Start). image_of images (drained s.at s.console)) same) keep_one
+    (lines_of script) (opened (images_with cart)) one.after two.after first second ending other one.plays two.plays

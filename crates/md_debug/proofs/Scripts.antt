@@ -1,0 +1,151 @@
+-- One more line of a script is obeyed.
+use Rattle.std.proofs.Common.{◌≡◌, ◌≢◌, ◌↔◌, ℕ, ◌+◌, ◌<◌, ◌≤◌, ◌⊎◌, inl, inr, Bool, true, false, if◌then◌else◌, nat_lt, get_or, List, [], ◌∷◌, ◌++◌, length, Result, Ok, Err, refl, sym, ap, subst, ◌∙◌, append_assoc, append-nil, arith}
+use Rattle.std.specs.Prelude.{IfErr}
+use Rattle.std.specs.List.{list_all}
+use Rattle.std.specs.Str.{IsAscii, IsUtf8}
+use Rattle.std.proofs.lemmas.Bool.{true≢false}
+use Rattle.std.proofs.lemmas.List.{get_or_past}
+use Rattle.std.proofs.lemmas.List.Folds.{list_all_at}
+use Rattle.std.proofs.lemmas.Str.{IsUtf8-from_ascii}
+use Rattle.text_lines.proofs.Ascii.{ascii_of}
+use Rattle.md_outer.specs.Outside.{IsPrefix, PutsText, SinkState}
+use borrow.Author.Tests.{ltb-true}
+use Rattle.debug_text.specs.Commands.{behind, command_of, is_seven_bit, read_by, word_in, word_of}
+use Rattle.debug_text.specs.declared.command.Command.{Command}
+use Rattle.debug_text.specs.declared.command.Command.TheVariants.{Back}
+use Rattle.debug_text.specs.declared.command.Misread.TheVariants as misread
+use Rattle.md_machine.specs.Machines.{MachineValue}
+use Rattle.md_debug.specs.Sessions.{Obeys, SessionValue, oldest_of, reply_to}
+use Rattle.md_debug.specs.declared.fault.DebugFault.{DebugFault}
+use Rattle.md_debug.specs.declared.fault.DebugFault.TheVariants.{BadNumber, NoMemory, NotKept, UnknownWord}
+use Rattle.md_debug.specs.Scripts.{FailsWithin, IsRefused, ObeysAll, ObeysFirst, Plays, PutsWhole}
+use Rattle.md_debug.specs.declared.script.Ending.{Ending}
+use Rattle.md_debug.specs.declared.script.Ending.TheVariants.{OutOfMemory, Refused}
+
+-- why a session refuses a line
+pub refused_by : {X Images : Type 0} (session : SessionValue Images) (line : List ℕ) (r : Result X DebugFault) (fault : DebugFault) → r ≡ Err fault
+    → ((r ≡ Err UnknownWord) ↔ (command_of line ≡ Err misread.UnknownWord)) → ((r ≡ Err BadNumber) ↔ (command_of line ≡ Err misread.BadNumber))
+    → ((oldest : ℕ) → (r ≡ Err (NotKept oldest)) ↔ ((n : ℕ) × ((command_of line ≡ Ok (Back n)) × ((length session.states < n) × (oldest ≡ oldest_of session)))))
+    → fault ≢ NoMemory → IsRefused session line fault
+refused_by session line r UnknownWord is unknown number not_kept other = unknown.0 is
+refused_by session line r BadNumber is unknown number not_kept other = number.0 is
+refused_by session line r (NotKept oldest) is unknown number not_kept other = (not_kept oldest).0 is
+refused_by session line r NoMemory is unknown number not_kept other = absurd (other refl)
+
+pub refused_for : {X Images : Type 0} (session : SessionValue Images) (text line : List ℕ) (r : Result X DebugFault) → text ≡ line
+    → ((r ≡ Err UnknownWord) ↔ (command_of text ≡ Err misread.UnknownWord)) → ((r ≡ Err BadNumber) ↔ (command_of text ≡ Err misread.BadNumber))
+    → ((oldest : ℕ) → (r ≡ Err (NotKept oldest)) ↔ ((n : ℕ) × ((command_of text ≡ Ok (Back n)) × ((length session.states < n) × (oldest ≡ oldest_of session)))))
+    → IfErr r (λ fault. fault ≢ NoMemory → IsRefused session line fault)
+refused_for session text line (Ok reply) is unknown number not_kept = tt
+refused_for session text line (Err fault) is unknown number not_kept = λ other.
+    subst (λ (l : List ℕ). IsRefused session l fault) is (refused_by session text (Err fault) fault refl unknown number not_kept other)
+
+-- a second text is put behind one that was put
+pub puts_more : {E F G : Type 0} (told : Type 0) (first second : List ℕ) (old mid new : SinkState) → PutsText {E = E} told first old mid (Ok tt)
+    → PutsText {E = F} told second mid new (Ok tt) → PutsText {E = G} told (first ++ second) old new (Ok tt)
+puts_more told first second old mid new one two = record {
+  later = omega (arith, one.later, two.later);
+  whole = λ t. two.whole t ∙ ap (λ (l : List ℕ). l ++ second) (one.whole t) ∙ append_assoc old.bytes first second;
+  failed = tt;
+  part = tt;
+}
+
+-- a text that was put, or failed, by its bytes
+pub puts_whole : {E : Type 0} (told : Type 0) (text bytes : List ℕ) (old new : SinkState) → PutsText {E = E} told text old new (Ok tt) → text ≡ bytes → PutsWhole told bytes old new
+puts_whole told text bytes old new put is = record {
+  later = put.later;
+  whole = λ t. put.whole t ∙ ap (λ (l : List ℕ). old.bytes ++ l) is;
+  failed = tt;
+  part = tt;
+}
+
+pub fails_within : {E : Type 0} (told : Type 0) (text bytes : List ℕ) (old new : SinkState) (e : E) → PutsText {E = E} told text old new (Err e) → text ≡ bytes → FailsWithin told bytes old new
+fails_within told text bytes old new e put is = record {
+  later = put.later;
+  whole = tt;
+  failed = put.failed;
+  part = subst (λ (l : List ℕ). told → (part : List ℕ) × IsPrefix part l × (new.bytes ≡ old.bytes ++ part)) is put.part;
+}
+
+-- no text is put without a call
+pub puts_none : {E : Type 0} (told : Type 0) (old : SinkState) → PutsText {E = E} told [] old old (Ok tt)
+puts_none told old = record { later = omega arith; whole = λ t. sym (append-nil old.bytes); failed = tt; part = tt }
+
+-- bytes that are no text have one that is not ASCII
+pub not_text : (line : List ℕ) → ¬ IsUtf8 line → command_of line ≡ Err misread.UnknownWord
+not_text line other = by (list_all is_seven_bit line) refl where
+  by : (b : Bool) → list_all is_seven_bit line ≡ b → command_of line ≡ Err misread.UnknownWord
+  by true all = absurd (other (IsUtf8-from_ascii line (ascii_of line all)))
+  by false some = ap (λ (b : Bool). if b then read_by (word_of (word_in line)) (behind line) else Err misread.UnknownWord) some
+
+module _ {Images : Type 0} (size : Images → ℕ) (spelling : Images → MachineValue → List ℕ) (keeps : Images → List ℕ → MachineValue → Type 0) where
+  pub obeys_none : (session : SessionValue Images) (replies : List ℕ) → replies ≡ [] → ObeysAll size spelling keeps [] session session replies
+  unfolding ObeysAll
+  obeys_none session replies none = (refl, none)
+
+  pub obeys_more : (before : List (List ℕ)) (line : List ℕ) (command : Command) (old mid new : SessionValue Images) (replies all : List ℕ)
+      → ObeysAll size spelling keeps before old mid replies → command_of line ≡ Ok command → Obeys size spelling keeps mid command new
+      → all ≡ replies ++ reply_to command new → ObeysAll size spelling keeps (before ++ line ∷ []) old new all
+  unfolding ObeysAll
+  obeys_more [] line command old mid new replies all so_far is obeys there = (
+    command,
+    new,
+    [],
+    is,
+    subst (λ (s : SessionValue Images). Obeys size spelling keeps s command new) so_far.0 obeys,
+    (refl, refl),
+    there ∙ ap (λ (l : List ℕ). l ++ reply_to command new) so_far.1 ∙ sym (append-nil (reply_to command new)),
+  )
+  obeys_more (first ∷ before) line command old mid new replies all so_far is obeys there = (
+    so_far.0,
+    so_far.1,
+    so_far.2 ++ reply_to command new,
+    so_far.3,
+    so_far.4,
+    obeys_more before line command so_far.1 mid new so_far.2 (so_far.2 ++ reply_to command new) so_far.5 is obeys refl,
+    there ∙ ap (λ (l : List ℕ). l ++ reply_to command new) so_far.6 ∙ append_assoc (reply_to so_far.0 so_far.1) so_far.2 (reply_to command new),
+  )
+
+  pub first_more : (lines before after : List (List ℕ)) (line : List ℕ) (command : Command) (old mid new : SessionValue Images) (replies all : List ℕ)
+      → ObeysFirst size spelling keeps lines before (line ∷ after) old mid replies → command_of line ≡ Ok command → Obeys size spelling keeps mid command new
+      → all ≡ replies ++ reply_to command new → ObeysFirst size spelling keeps lines (before ++ line ∷ []) after old new all
+  first_more lines before after line command old mid new replies all so_far is obeys there = record {
+    parts = so_far.parts ∙ sym (append_assoc before (line ∷ []) after);
+    obeyed = obeys_more before line command old mid new replies all so_far.obeyed is obeys there;
+  }
+
+  -- all lines are obeyed
+  pub plays_done : (lines before after : List (List ℕ)) (old new : SessionValue Images) (replies : List ℕ) → after ≡ [] → ObeysFirst size spelling keeps lines before after old new replies
+      → ObeysAll size spelling keeps lines old new replies
+  plays_done lines before after old new replies none so_far =
+      let all : lines ≡ before = so_far.parts ∙ ap (λ (l : List (List ℕ)). before ++ l) none ∙ append-nil before in
+      subst (λ (l : List (List ℕ)). ObeysAll size spelling keeps l old new replies) (sym all) so_far.obeyed
+
+  -- a line is not obeyed
+  refused_at : (lines before after : List (List ℕ)) (line : List ℕ) (old mid new : SessionValue Images) (replies : List ℕ) (ending : Ending) (number : ℕ) (fault : DebugFault)
+      → ObeysFirst size spelling keeps lines before (line ∷ after) old mid replies → number ≡ length before + 1 → ending ≡ Refused number fault → IsRefused mid line fault × (new ≡ mid)
+      → Plays size spelling keeps lines old new replies ending
+  refused_at lines before after line old mid new replies ending number fault so_far is ends refused =
+      subst (Plays size spelling keeps lines old new replies) (sym ends) (
+        before,
+        line,
+        after,
+        subst (λ (s : SessionValue Images). ObeysFirst size spelling keeps lines before (line ∷ after) old s replies) (sym refused.1) so_far,
+        is,
+        subst (λ (s : SessionValue Images). IsRefused s line fault) (sym refused.1) refused.0,
+      )
+
+  pub plays_stopped : (lines before after : List (List ℕ)) (line : List ℕ) (old mid new : SessionValue Images) (replies : List ℕ) (ending : Ending) (number : ℕ) (fault : DebugFault)
+      → ObeysFirst size spelling keeps lines before (line ∷ after) old mid replies → number ≡ length before + 1 → (fault ≡ NoMemory → ending ≡ OutOfMemory) → (fault ≢ NoMemory → ending ≡ Refused number fault)
+      → (fault ≢ NoMemory → IsRefused mid line fault × (new ≡ mid)) → Plays size spelling keeps lines old new replies ending
+  plays_stopped lines before after line old mid new replies ending number NoMemory so_far is memory ends refused =
+      subst (Plays size spelling keeps lines old new replies) (sym (memory refl)) (before, line ∷ after, mid, so_far)
+  plays_stopped lines before after line old mid new replies ending number UnknownWord so_far is memory ends refused =
+      let other : UnknownWord ≢ NoMemory = λ e. cc in
+      refused_at lines before after line old mid new replies ending number UnknownWord so_far is (ends other) (refused other)
+  plays_stopped lines before after line old mid new replies ending number BadNumber so_far is memory ends refused =
+      let other : BadNumber ≢ NoMemory = λ e. cc in
+      refused_at lines before after line old mid new replies ending number BadNumber so_far is (ends other) (refused other)
+  plays_stopped lines before after line old mid new replies ending number (NotKept oldest) so_far is memory ends refused =
+      let other : NotKept oldest ≢ NoMemory = λ e. cc in
+      refused_at lines before after line old mid new replies ending number (NotKept oldest) so_far is (ends other) (refused other)

@@ -1,0 +1,77 @@
+ghost use Rattle.std.specs.Prelude.{◌≡◌, ◌≢◌, OnErr, IfOk, IfErr, Ok};
+ghost use Rattle.debug_text.specs.Commands.{command_of};
+ghost use Rattle.debug_text.specs.declared.command.Command.{Command};
+ghost use Rattle.md_debug.specs.Sessions.{Obeys, reply_to};
+ghost use Rattle.text_lines.specs.Lines.{lines_of};
+ghost use Rattle.md_debug.specs.Scripts.{IsRefused, PutsReplies, StopsAtReply};
+
+use crate::{DebugFault, Session};
+use md_machine::Machine;
+use md_outer::{Failed, Sink};
+use page_ring::Images;
+use std::str::from_utf8;
+use text_lines::first_line;
+
+/// How a script ends of which each reply is put.
+#[derive(Clone, Copy)]
+pub enum Ending {
+    /// Each of its lines was obeyed.
+    Obeyed,
+    /// The line of this number, from 1 on, is refused.
+    Refused(u64, DebugFault),
+    /// Memory was wanting.
+    OutOfMemory,
+}
+
+/// Obeys the lines of a script one after another, up to the first one that is refused, and puts the reply to
+/// each before the next one is obeyed. Where a reply cannot be put, no further line is obeyed.
+pub fn play<I: Images<Machine>, S: Sink>(
+    session: &mut Session<I>,
+    script: &[u8],
+    out: &mut S,
+) -> Result<Ending, Failed>
+    ensures ends { IfOk result (λ ending. PutsReplies I.size I.spelling I.keeps S.told (lines_of script.now) session.old session.new (S.state out.old) (S.state out.new) ending) }
+    ensures stops { OnErr result (StopsAtReply I.size I.spelling I.keeps S.told (lines_of script.now) session.old session.new (S.state out.old) (S.state out.new)) }
+{
+    let mut number = 0;
+    let mut rest = script;
+    while !rest.is_empty() {
+        let (line, after) = first_line(rest);
+        number += 1;
+        let reply = match obey(session, line) {
+            Ok(reply) => reply,
+            Err(fault) => return Ok(ending_of(number, fault)),
+        };
+        match out.put(reply.as_slice()) {
+            Ok(()) => rest = after,
+            Err(failed) => return Err(failed),
+        }
+    }
+    Ok(Ending::Obeyed)
+}
+
+/// How a script ends at a line that is not obeyed.
+fn ending_of(number: u64, fault: DebugFault) -> Ending
+    ensures memory { fault ≡ DebugFault.NoMemory → result ≡ Ending.OutOfMemory }
+    ensures refused { fault ≢ DebugFault.NoMemory → result ≡ Ending.Refused number fault }
+{
+    match fault {
+        DebugFault::NoMemory => Ending::OutOfMemory,
+        DebugFault::UnknownWord | DebugFault::BadNumber | DebugFault::NotKept { .. } => {
+            Ending::Refused(number, fault)
+        }
+    }
+}
+
+/// Obeys a line, and returns its reply. After a fault the session is as before.
+fn obey<I: Images<Machine>>(session: &mut Session<I>, line: &[u8]) -> Result<Vec<u8>, DebugFault>
+    ensures obeyed { IfOk result (λ reply. (command : Command) × ((command_of line.now ≡ Ok command) × (Obeys I.size I.spelling I.keeps session.old command session.new
+        × (reply.items ≡ reply_to command session.new)))) }
+    ensures refused { IfErr result (λ fault. fault ≢ DebugFault.NoMemory → IsRefused session.old line.now fault) }
+    ensures fault { OnErr result (session.new ≡ session.old) }
+{
+    match from_utf8(line) {
+        Ok(text) => session.obey(text),
+        Err(_) => Err(DebugFault::UnknownWord),
+    }
+}

@@ -1,0 +1,19 @@
+-- What holds of the words of two players and of what their scripts come to.
+use Rattle.std.specs.Prelude.{◌≡◌, ◌≢◌, ℕ, ◌≤◌, List}
+use Rattle.md_machine.specs.Machines.{MachineValue}
+use Rattle.md_rollback.specs.Inputs.{IsConfirmed, IsExpected, IsMore, Words, expected, expected_frames}
+use Rattle.md_rollback.specs.Played.{IsMachineOf}
+use Rattle.md_rollback.specs.Rolls.{ComesTo}
+use Rattle.md_rollback.specs.declared.rolled.Comes.{Comes}
+use Rattle.md_rollback.specs.declared.rolled.Comes.TheVariants.{NoMemory}
+
+pub record RollbackLaws : Type 0 where
+  -- a script comes to one outcome alone, where memory is not wanting
+  pub one : (cart : List ℕ) (window : ℕ) (text : List ℕ) (first second : Comes) → ComesTo cart window text first → ComesTo cart window text second
+      → first ≢ NoMemory → second ≢ NoMemory → first ≡ second
+  -- the expected word of a frame is its own, or that of the latest frame before it whose word was given, or 0
+  pub latest : (words : Words) (f : ℕ) → IsExpected words f (expected words f)
+  -- of confirmed frames the machine is that of all words that are ever given, whatever comes beyond them
+  pub confirmed : (cart : List ℕ) (local remote more_local more_remote : Words) (confirmed frames : ℕ) (machine : MachineValue) → IsConfirmed local remote confirmed → frames ≤ confirmed
+      → IsMore local more_local → IsMore remote more_remote
+      → IsMachineOf cart (expected_frames local remote frames) frames machine → IsMachineOf cart (expected_frames more_local more_remote frames) frames machine

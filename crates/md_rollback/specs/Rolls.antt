@@ -1,0 +1,40 @@
+-- What a script comes to with a cartridge, from power-on of NTSC on. This project's profile.
+use Rattle.std.specs.Prelude.{◌≡◌, ℕ, ◌*◌, false, List}
+use Rattle.sha2.specs.Sha256.{sha256}
+use Rattle.md_word.specs.Clock.{frame}
+use Rattle.md_word.specs.declared.event.Entry.{Entry}
+use Rattle.md_pads.specs.Recording.{recording_of}
+use Rattle.md_machine.specs.Console.{Console, IsRunTo, power_on}
+use Rattle.md_machine.specs.Media.{Media}
+use Rattle.save_state.specs.States.{state_bytes}
+use Rattle.text_lines.specs.Lines.{lines_of}
+use Rattle.md_rollback.specs.Inputs.{IsConfirmed}
+use Rattle.md_rollback.specs.Sessions.{SessionValue}
+use Rattle.md_rollback.specs.Scripts.{Plays, Script, begun}
+use Rattle.md_rollback.specs.declared.script.Ending.TheVariants as endings
+use Rattle.md_rollback.specs.declared.rolled.Comes.{Comes}
+use Rattle.md_rollback.specs.declared.rolled.Comes.TheVariants.{Done, Refused, NoMemory}
+use Rattle.md_rollback.specs.declared.rolled.Rolled.{Rolled}
+
+-- the digest is that of the state that a run from power-on saves at a cycle, with these words on the pads
+pub record IsDigestOf (cart : List ℕ) (script : Script) (digest : List ℕ) : Type 0 where
+  pub last : Console
+  pub entries : List Entry
+  pub output : Media
+  pub run : IsRunTo (power_on cart (recording_of script.played) false) (frame * script.frames) last entries output
+  pub digest_is : digest ≡ sha256 (state_bytes (frame * script.frames) last)
+
+-- what is told of a session
+pub record IsRolled (session : SessionValue) (rolled : Rolled) : Type 0 where
+  pub frames : rolled.frames ≡ session.frames
+  pub confirmed : rolled.confirmed ≡ session.confirmed
+  pub digest : rolled.digest ≡ sha256 (state_bytes session.machine.at session.machine.console)
+
+-- what a script comes to: all lines were obeyed, and it is told how many frames were made, how many are confirmed,
+-- and the digest of the state; or its first line is refused that is
+abbrev pub ComesTo : List ℕ → ℕ → List ℕ → Comes → Type 0
+ComesTo cart window text (Done rolled) =
+    (script : Script) × Plays window (lines_of text) begun script endings.Obeyed × (rolled.frames ≡ script.frames)
+    × IsConfirmed script.local script.remote rolled.confirmed × IsDigestOf cart script rolled.digest
+ComesTo cart window text (Refused line fault) = (script : Script) × Plays window (lines_of text) begun script (endings.Refused line fault)
+ComesTo cart window text NoMemory = Unit {0}

@@ -1,0 +1,22 @@
+use crate::LineFault;
+
+/// What the last frame of a session came to.
+#[derive(Clone, Copy)]
+pub struct Rolled {
+    /// How many frames were made.
+    pub frames: u64,
+    /// How many are confirmed.
+    pub confirmed: u64,
+    /// The SHA-256 of the bytes of the machine's saved state.
+    pub digest: [u8; 32],
+}
+
+/// What a script comes to.
+#[derive(Clone, Copy)]
+pub enum Comes {
+    /// Each of its lines was obeyed.
+    Done(Rolled),
+    /// The line of this number, from 1 on, is refused.
+    Refused(u64, LineFault),
+    NoMemory,
+}

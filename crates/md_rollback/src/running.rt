@@ -1,0 +1,47 @@
+ghost use Rattle.std.specs.Prelude.{◌≤◌, IfOk};
+ghost use Rattle.std.specs.Arc.{arc_value};
+ghost use Rattle.md_rollback.specs.Rolls.{ComesTo, IsRolled};
+
+use crate::opening::session;
+use crate::rolled::{Comes, Rolled};
+use crate::Session;
+use md_word::NoMemory;
+use crate::{Ending, play};
+use rom_header::Cart;
+use save_state::write;
+use sha2::{Digest, Sha256};
+use state_replays::StateReplays;
+use std::alloc::Global;
+use std::sync::Arc;
+
+/// Obeys a script with a cartridge, from power-on of NTSC on.
+pub fn run_script(alloc: Global, cart: Arc<Cart>, window: u32, script: &[u8]) -> Comes
+    requires some { 1 ≤ window }
+    requires most { window ≤ 16 }
+    ensures { ComesTo (arc_value cart) window script.now result }
+{
+    let mut session = match session(alloc, cart, window) {
+        Ok(session) => session,
+        Err(NoMemory) => return Comes::NoMemory,
+    };
+    match play(&mut session, script) {
+        Ending::Obeyed => match last_frame(alloc, &session) {
+            Ok(rolled) => Comes::Done(rolled),
+            Err(NoMemory) => Comes::NoMemory,
+        },
+        Ending::Refused(line, fault) => Comes::Refused(line, fault),
+        Ending::OutOfMemory => Comes::NoMemory,
+    }
+}
+
+/// What a session has come to.
+fn last_frame(alloc: Global, session: &Session<StateReplays>) -> Result<Rolled, NoMemory>
+    ensures { IfOk result (IsRolled session.now) }
+{
+    let bytes = write(alloc, session.machine())?;
+    Ok(Rolled {
+        frames: session.frames(),
+        confirmed: session.confirmed(),
+        digest: Sha256::digest(bytes.as_slice()),
+    })
+}

@@ -1,0 +1,165 @@
+ghost use Rattle.std.specs.Prelude.{◌≡◌, ℕ, List, OnOk, IfErr, Some};
+ghost use Rattle.text_lines.specs.Lines.{lines_of};
+ghost use Rattle.md_rollback.specs.Lines.{line_of};
+ghost use Rattle.md_rollback.specs.declared.line.Line.{Line as Asked};
+ghost use Rattle.md_rollback.specs.declared.line.Line.TheVariants as asked;
+ghost use Rattle.md_rollback.specs.declared.line.Player.TheVariants as players;
+ghost use Rattle.md_rollback.specs.Following.{Follows};
+ghost use Rattle.md_rollback.specs.Following as following;
+ghost use Rattle.md_rollback.specs.Scripts.{IsFault, IsRefusedInput, Obeys, Plays, Script, ending_at};
+ghost use Rattle.md_rollback.specs.Scripts as scripts;
+
+use crate::line_fault::LineFault;
+use crate::{AdvanceFault, InputFault, Session};
+use replays::Replays;
+use crate::{Line, Player, read_line};
+use text_lines::first_line;
+
+/// How a script ends.
+#[derive(Clone, Copy)]
+pub enum Ending {
+    /// Each of its lines was obeyed.
+    Obeyed,
+    /// The line of this number, from 1 on, is refused.
+    Refused(u64, LineFault),
+    /// Memory was wanting.
+    OutOfMemory,
+}
+
+/// Obeys the lines of a script one after another, up to the first one that is refused.
+pub fn play<R: Replays>(session: &mut Session<R>, script: &[u8]) -> Ending
+    ensures { (cart : List ℕ) (old : Script) → Follows cart session.old old
+        → (new : Script) × Plays session.old.window (lines_of script.now) old new result × Follows cart session.new new }
+{
+    let mut number = 0;
+    let mut rest = script;
+    while !rest.is_empty() {
+        let (line, after) = first_line(rest);
+        number += 1;
+        match obey(session, line) {
+            Ok(()) => rest = after,
+            Err(fault) => return ending_of(number, fault),
+        }
+    }
+    Ending::Obeyed
+}
+
+/// How a script ends at a line that is not obeyed.
+fn ending_of(number: u64, fault: Option<LineFault>) -> Ending
+    ensures { result ≡ ending_at number fault }
+{
+    match fault {
+        Some(fault) => Ending::Refused(number, fault),
+        None => Ending::OutOfMemory,
+    }
+}
+
+/// Obeys a line. It is refused for a fault, or where memory is wanting, without one.
+fn obey<R: Replays>(session: &mut Session<R>, line: &[u8]) -> Result<(), Option<LineFault>>
+    ensures window { session.new.window ≡ session.old.window }
+    ensures obeyed { OnOk result ((cart : List ℕ) (old : Script) → Follows cart session.old old
+        → (asked : Asked) × (new : Script) × (line_of line.now ≡ Some asked) × Obeys session.old.window old asked new × Follows cart session.new new) }
+    ensures refused { IfErr result (λ fault. (session.new ≡ session.old) × ((cart : List ℕ) (old : Script) → Follows cart session.old old → IsFault session.old.window old line.now fault)) }
+{
+    match read_line(line) {
+        Some(Line::Press(player, frame, buttons)) => match press(session, player, frame, buttons) {
+            Ok(()) => Ok(()),
+            Err(fault) => Err(Some(fault_of(fault))),
+        },
+        Some(Line::Advance) => go_on(session),
+        None => Err(Some(LineFault::Unread)),
+    }
+}
+
+fn fault_of(fault: InputFault) -> LineFault
+    ensures { result ≡ scripts.fault_of fault }
+{
+    match fault {
+        InputFault::Far { .. } => LineFault::Far,
+        InputFault::Given { .. } => LineFault::Given,
+        InputFault::Buttons => LineFault::Buttons,
+    }
+}
+
+/// Gives a player's buttons in a frame.
+fn press<R: Replays>(
+    session: &mut Session<R>,
+    player: Player,
+    frame: u64,
+    buttons: u16,
+) -> Result<(), InputFault>
+    ensures window { session.new.window ≡ session.old.window }
+    ensures obeyed { OnOk result ((cart : List ℕ) (old : Script) → Follows cart session.old old
+        → (new : Script) × Obeys session.old.window old (asked.Press player frame buttons) new × Follows cart session.new new) }
+    ensures refused { IfErr result (λ fault. (session.new ≡ session.old) × ((cart : List ℕ) (old : Script) → Follows cart session.old old → IsRefusedInput old player frame buttons fault)) }
+{
+    match player {
+        Player::Local => press_local(session, frame, buttons),
+        Player::Remote => press_remote(session, frame, buttons),
+    }
+}
+
+/// Gives player 1's buttons in a frame.
+fn press_local<R: Replays>(
+    session: &mut Session<R>,
+    frame: u64,
+    buttons: u16,
+) -> Result<(), InputFault>
+    ensures window { session.new.window ≡ session.old.window }
+    ensures obeyed { OnOk result ((cart : List ℕ) (old : Script) → Follows cart session.old old
+        → (new : Script) × Obeys session.old.window old (asked.Press players.Local frame buttons) new × Follows cart session.new new) }
+    ensures refused { IfErr result (λ fault. (session.new ≡ session.old) × ((cart : List ℕ) (old : Script) → Follows cart session.old old → IsRefusedInput old players.Local frame buttons fault)) }
+{
+    match session.local(frame, buttons) {
+        Ok(()) => {
+            session.confirmed();
+            Ok(())
+        }
+        Err(fault) => Err(fault),
+    }
+}
+
+/// Gives player 2's buttons in a frame.
+fn press_remote<R: Replays>(
+    session: &mut Session<R>,
+    frame: u64,
+    buttons: u16,
+) -> Result<(), InputFault>
+    ensures window { session.new.window ≡ session.old.window }
+    ensures obeyed { OnOk result ((cart : List ℕ) (old : Script) → Follows cart session.old old
+        → (new : Script) × Obeys session.old.window old (asked.Press players.Remote frame buttons) new × Follows cart session.new new) }
+    ensures refused { IfErr result (λ fault. (session.new ≡ session.old) × ((cart : List ℕ) (old : Script) → Follows cart session.old old → IsRefusedInput old players.Remote frame buttons fault)) }
+{
+    match session.remote(frame, buttons) {
+        Ok(()) => {
+            session.confirmed();
+            Ok(())
+        }
+        Err(fault) => Err(fault),
+    }
+}
+
+/// Makes the next frame.
+fn go_on<R: Replays>(session: &mut Session<R>) -> Result<(), Option<LineFault>>
+    ensures window { session.new.window ≡ session.old.window }
+    ensures obeyed { OnOk result ((cart : List ℕ) (old : Script) → Follows cart session.old old
+        → (new : Script) × Obeys session.old.window old asked.Advance new × Follows cart session.new new) }
+    ensures refused { IfErr result (λ fault. (session.new ≡ session.old)
+        × ((cart : List ℕ) (old : Script) (line : List ℕ) → Follows cart session.old old → line_of line ≡ Some asked.Advance → IsFault session.old.window old line fault)) }
+{
+    session.frames();
+    match session.advance() {
+        Ok(()) => Ok(()),
+        Err(fault) => Err(fault_at(fault)),
+    }
+}
+
+fn fault_at(fault: AdvanceFault) -> Option<LineFault>
+    ensures { result ≡ following.fault_at fault }
+{
+    match fault {
+        AdvanceFault::Waiting { .. } => Some(LineFault::Waiting),
+        AdvanceFault::Ended => Some(LineFault::Ended),
+        AdvanceFault::NoMemory => None,
+    }
+}

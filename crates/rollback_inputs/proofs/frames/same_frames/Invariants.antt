@@ -1,6 +1,0 @@
-use Rattle.std.proofs.Common.{◌≡◌, ℕ, ◌<◌}
-use Rattle.rollback_inputs.specs.Inputs.{frame_at}
-use Rattle.rollback_inputs.proofs.frames.same_frames.Given as goal
-
-abbrev pub invariant-loop-frame : goal.invariant-loop-frame
-invariant-loop-frame l = (f : ℕ) → f < l.frame → frame_at l.played f ≡ frame_at l.expected f

@@ -1,9 +1,0 @@
-use Rattle.std.proofs.Common.{subst, sym}
-use Rattle.rollback_inputs.specs.Inputs.{AreInputs, Words, no_words}
-use Rattle.rollback_inputs.proofs.Expected.{no-words-known}
-use Rattle.rollback_inputs.proofs.inputs.Inputs.make.Goals as goal
-
-pub invariant_of-result : goal.invariant_of-result
-invariant_of-result c =
-    subst (λ (local : Words). AreInputs (record { local = local; remote = c.in_ok-remote.remote.items; confirmed = 0 })) (sym c.in_ok-local.ensures)
-    (subst (λ (remote : Words). AreInputs (record { local = no_words; remote = remote; confirmed = 0 })) (sym c.in_ok-remote.ensures) no-words-known)

@@ -1,6 +1,0 @@
-use Rattle.std.proofs.Common.{◌∙◌, sym}
-use Rattle.rollback_lines.proofs.Numerals.{buttons-are}
-use Rattle.rollback_lines.proofs.number.read_buttons.Goals as goal
-
-pub returns-then-are_digits : goal.returns-then-are_digits
-returns-then-are_digits c = c.ok.ensures.value ∙ buttons-are c.args.word.now c.from_str_radix.result (sym c.are_digits.ensures ∙ c.if-are_digits.true) c.from_str_radix.ensures.value

@@ -1,6 +1,0 @@
--- A name of the code's table, as the definition has it.
-use Rattle.z80_read.specs.Building.{Entry, entry_for}
-use Rattle.z80_read.specs.declared.stems.Named.{Named}
-
-abbrev pub entered : Named → Entry
-entered named = entry_for named.0.now named.1
