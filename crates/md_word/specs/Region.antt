@@ -23,7 +23,15 @@ height tall = if tall then 240 else 224
 abbrev pub finished_at : Bool → ℕ
 finished_at pal = if pal then 820800 else 766080
 
--- the bytes of a picture of 320 dots a row, three for each dot
+-- the dots of a scanline of a picture
+abbrev pub picture_width : ℕ
+picture_width = 320
+
+-- the bytes of a scanline of a picture: red, green and blue of each dot
+abbrev pub scanline_length : ℕ
+scanline_length = 960
+
+-- the bytes of a picture of 320 dots a scanline, three for each dot
 abbrev pub picture_length : Bool → ℕ
 picture_length pal = if pal then 230400 else 215040
 
