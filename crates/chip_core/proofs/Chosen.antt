@@ -1,6 +1,7 @@
 -- The event that a look at all chips finds is enabled, and none is found only where no key lies
 -- below the end.
-use Rattle.std.proofs.Common.{◌≡◌, ℕ, ◌^◌, ◌<◌, ◌≤◌, true, false, cond, refl, sym, ◌∙◌, ap, ap₂, subst, arith, ◌⊎◌, inl, inr, List, length, slice_index_or, Option, Some, None}
+use Rattle.std.proofs.Common.{◌≡◌, ℕ, ◌<◌, ◌≤◌, true, false, cond, refl, sym, ◌∙◌, ap, ap₂, subst, arith, ◌⊎◌, inl, inr, List, length, slice_index_or, Option, Some, None}
+use Rattle.md_word.specs.Clock.{cycle_limit}
 use Rattle.md_word.specs.declared.event.Next.{Next}
 use Rattle.md_word.specs.declared.key.Key.{Key}
 use Rattle.chip_core.specs.declared.event.Event.{Event}
@@ -45,7 +46,7 @@ module _ {Chip Shared Pins : Type 0} (rules : Rules Chip Shared Pins) (chip_ok :
         let same = ap (λ (n : Next). n.key.cycle) is in
         omega arith
 
-    pub reached : t ≤ least.key.cycle → t ≤ 2 ^ 50 → ReachesEnd rules chip_ok shared_ok t v v
+    pub reached : t ≤ least.key.cycle → t ≤ cycle_limit → ReachesEnd rules chip_ok shared_ok t v v
     reached late small base base_core st =
         is_run_to rules chip_ok shared_ok law (seen rules base) (valid-core rules chip_ok shared_ok base base_core) t small (seen rules v) (tidy-core rules chip_ok shared_ok v core) st (quiet-found late)
 

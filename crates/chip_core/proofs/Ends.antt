@@ -1,7 +1,8 @@
 -- A core without a key below the end is the machine after all events below it, with the whole
 -- journal.
-use Rattle.std.proofs.Common.{◌≡◌, ◌≢◌, ℕ, zero, suc, ◌^◌, ◌<◌, ◌≤◌, false, refl, sym, ◌∙◌, ap, subst, arith, ◌⊎◌, inl, inr}
+use Rattle.std.proofs.Common.{◌≡◌, ◌≢◌, ℕ, zero, suc, ◌<◌, ◌≤◌, false, refl, sym, ◌∙◌, ap, subst, arith, ◌⊎◌, inl, inr}
 use Rattle.std.proofs.lemmas.Bool.{cases_lt}
+use Rattle.md_word.specs.Clock.{cycle_limit}
 use Rattle.chip_core.specs.Chips.{Rules, Lawful}
 use Rattle.chip_core.specs.Machines.{Machine, key_of, is_sample, mover, run, made, AllBelow, IsQuiet, IsRunTo, IsValid}
 use Rattle.chip_core.specs.Standing.{StandsFor}
@@ -57,7 +58,7 @@ module _ {Chip Shared Pins : Type 0} (rules : Rules Chip Shared Pins) (base : Ma
       go j b same (inr ne) = made-other rules base i j ne ∙ same
 
 module _ {Chip Shared Pins : Type 0} (rules : Rules Chip Shared Pins) (chip_ok : Chip → Type 0) (shared_ok : Shared → Type 0) (law : Lawful rules chip_ok shared_ok) where
-  pub is_run_to : (base : Seen Chip Shared) → IsValid rules chip_ok shared_ok base.machine → (t : ℕ) → t ≤ 2 ^ 50 → (s : Seen Chip Shared) → IsTidy rules chip_ok shared_ok s
+  pub is_run_to : (base : Seen Chip Shared) → IsValid rules chip_ok shared_ok base.machine → (t : ℕ) → t ≤ cycle_limit → (s : Seen Chip Shared) → IsTidy rules chip_ok shared_ok s
       → Stands rules base t s → IsQuiet rules s.machine t → IsRunTo rules base.machine t s.machine s.journal
   is_run_to base base_ok t small s tidy st quiet = record {
     moves = end.last;

@@ -1,17 +1,15 @@
 -- Samples of the same pins, one behind the other.
-use Rattle.std.proofs.Common.{◌≡◌, ℕ, zero, suc, ◌+◌, ◌-◌, ◌^◌, ◌<◌, ◌≤◌, ◌⊎◌, inl, inr, true, false, refl, sym, ◌∙◌, ap, subst, arith}
+use Rattle.std.proofs.Common.{◌≡◌, ℕ, zero, suc, ◌+◌, ◌-◌, ◌<◌, ◌≤◌, ◌⊎◌, inl, inr, true, false, refl, sym, ◌∙◌, ap, subst, arith}
 use Rattle.std.proofs.lemmas.Bool.{cases_lt}
 use Rattle.std.proofs.lemmas.Bool.Decides.{nat_tests}
+use Rattle.md_word.specs.Clock.{cycle_limit}
 use Rattle.md_word.specs.declared.key.Key.{Key}
 use Rattle.md_word.specs.Keys.{key_lt}
 use Rattle.chip_core.specs.Chips.{ArePins, Follows, IsDue, Lawful, Rules, SamplesBelow, SamplesTo, sampled}
 
 -- a key below one that is not above a cycle
-pub below-cycle : (k end : Key) → key_lt k end ≡ true → key_lt (record { cycle = 2 ^ 50; chip = 0 }) end ≡ false → k.cycle < 2 ^ 50
+pub below-cycle : (k end : Key) → key_lt k end ≡ true → key_lt (record { cycle = cycle_limit; chip = 0 }) end ≡ false → k.cycle < cycle_limit
 below-cycle k end h le = grind (arith, nat_tests)
-
-pub end-cycle : (end : Key) → key_lt (record { cycle = 2 ^ 50; chip = 0 }) end ≡ false → end.cycle ≤ 2 ^ 50
-end-cycle end le = grind (arith, nat_tests)
 
 pub below-end : (k end : Key) → key_lt k end ≡ true → k.cycle ≤ end.cycle
 below-end k end h = grind (arith, nat_tests)
@@ -46,7 +44,7 @@ module _ {Chip Shared Pins : Type 0} (rules : Rules Chip Shared Pins) (chip_ok :
     pub number : (rules.next after).key.chip ≡ i
     pub later : (rules.next before).key.cycle + n ≤ (rules.next after).key.cycle
 
-  one-risen : (pins : Pins) (i : ℕ) → ArePins rules shared_ok pins i → i < rules.count → (end : Key) → key_lt (record { cycle = 2 ^ 50; chip = 0 }) end ≡ false
+  one-risen : (pins : Pins) (i : ℕ) → ArePins rules shared_ok pins i → i < rules.count → (end : Key) → key_lt (record { cycle = cycle_limit; chip = 0 }) end ≡ false
       → (n : ℕ) (b c : Chip) → Risen i n b c → SamplesBelow rules end c → Risen i (suc n) b (rules.sample c pins)
   one-risen pins i are h end small n b c before next = record {
     ok = subst (λ p. chip_ok (rules.sample c p)) (sym are.is) (law.sample_chip c are.shared i due);
@@ -60,20 +58,20 @@ module _ {Chip Shared Pins : Type 0} (rules : Rules Chip Shared Pins) (chip_ok :
       follows : Follows rules.gap (rules.next c).key (rules.next (rules.sample c pins)).key
       follows = subst (λ p. Follows rules.gap (rules.next c).key (rules.next (rules.sample c p)).key) (sym are.is) (law.sample_next c are.shared i due)
 
-  all-risen : (pins : Pins) (i : ℕ) → ArePins rules shared_ok pins i → i < rules.count → (end : Key) → key_lt (record { cycle = 2 ^ 50; chip = 0 }) end ≡ false
+  all-risen : (pins : Pins) (i : ℕ) → ArePins rules shared_ok pins i → i < rules.count → (end : Key) → key_lt (record { cycle = cycle_limit; chip = 0 }) end ≡ false
       → (c : Chip) → chip_ok c → (rules.next c).key.chip ≡ i → (n : ℕ) → ((k : ℕ) → k < n → SamplesBelow rules end (sampled rules k pins c)) → Risen i n c (sampled rules n pins c)
   unfolding sampled
   all-risen pins i are h end small c ok number zero each = record { ok = ok; number = number; later = omega arith }
   all-risen pins i are h end small c ok number (suc n) each =
       one-risen pins i are h end small n c (sampled rules n pins c) (all-risen pins i are h end small c ok number n (λ k q. each k (omega arith))) (each n (omega arith))
 
-  pub samples-risen : (pins : Pins) (i : ℕ) → ArePins rules shared_ok pins i → i < rules.count → (end : Key) → key_lt (record { cycle = 2 ^ 50; chip = 0 }) end ≡ false
+  pub samples-risen : (pins : Pins) (i : ℕ) → ArePins rules shared_ok pins i → i < rules.count → (end : Key) → key_lt (record { cycle = cycle_limit; chip = 0 }) end ≡ false
       → (n : ℕ) (c d : Chip) → chip_ok c → (rules.next c).key.chip ≡ i → SamplesTo rules n end pins c d → Risen i n c d
   samples-risen pins i are h end small n c d ok number to = subst (λ x. Risen i n c x) (sym to.is) (all-risen pins i are h end small c ok number n to.each)
 
   -- there are no more samples than cycles
-  pub samples-few : (pins : Pins) (i : ℕ) → ArePins rules shared_ok pins i → i < rules.count → (end : Key) → key_lt (record { cycle = 2 ^ 50; chip = 0 }) end ≡ false
-      → (n : ℕ) (c d : Chip) → chip_ok c → (rules.next c).key.chip ≡ i → SamplesTo rules n end pins c d → n ≤ 2 ^ 50
+  pub samples-few : (pins : Pins) (i : ℕ) → ArePins rules shared_ok pins i → i < rules.count → (end : Key) → key_lt (record { cycle = cycle_limit; chip = 0 }) end ≡ false
+      → (n : ℕ) (c d : Chip) → chip_ok c → (rules.next c).key.chip ≡ i → SamplesTo rules n end pins c d → n ≤ cycle_limit
   samples-few pins i are h end small n c d ok number to =
       let some = to.some in
       let rise = (all-risen pins i are h end small c ok number (n - 1) (λ k q. to.each k (omega arith))).later in

@@ -1,7 +1,8 @@
 -- Each enabled event keeps what a core stands for, and that it is tidy.
-use Rattle.std.proofs.Common.{◌≡◌, ◌≢◌, ℕ, ◌+◌, ◌*◌, ◌^◌, ◌<◌, ◌≤◌, true, false, refl, sym, ◌∙◌, ap, subst, arith, inl, inr, List, [], ◌∷◌}
+use Rattle.std.proofs.Common.{◌≡◌, ◌≢◌, ℕ, ◌+◌, ◌*◌, ◌<◌, ◌≤◌, true, false, refl, sym, ◌∙◌, ap, subst, arith, inl, inr, List, [], ◌∷◌}
 use Rattle.std.proofs.lemmas.Bool.Decides.{nat_tests}
 use Rattle.std.proofs.lemmas.List.Elements.{All-nil, All-weaker}
+use Rattle.md_word.specs.Clock.{cycle_limit}
 use Rattle.md_word.specs.declared.event.Entry.{Entry}
 use Rattle.md_word.specs.declared.key.Key.{Key}
 use Rattle.md_word.specs.Keys.{key_lt}
@@ -34,7 +35,7 @@ module _ {Chip Shared Pins : Type 0} (rules : Rules Chip Shared Pins) (chip_ok :
   }
 
   -- what an access and a sample have in common
-  tidy_move : (s : Seen Chip Shared) → IsTidy rules chip_ok shared_ok s → (i : ℕ) → i < rules.count → (key_of rules s.machine i).cycle < 2 ^ 50 → (entered : List Entry)
+  tidy_move : (s : Seen Chip Shared) → IsTidy rules chip_ok shared_ok s → (i : ℕ) → i < rules.count → (key_of rules s.machine i).cycle < cycle_limit → (entered : List Entry)
       → IsTidy rules chip_ok shared_ok (record { machine = move rules s.machine i; bound = put s.bound i (left_bound rules s.machine i); journal = entered })
   tidy_move s tidy i h low entered = record {
     valid = moved;
@@ -54,12 +55,12 @@ module _ {Chip Shared Pins : Type 0} (rules : Rules Chip Shared Pins) (chip_ok :
           rank-not_lt (key_of rules (move rules s.machine i) i) (left_bound rules s.machine i) (omega arith) (omega arith) (omega arith)
 
   -- each enabled event leaves a tidy core
-  pub tidy-after : (s : Seen Chip Shared) → IsTidy rules chip_ok shared_ok s → (e : Event) → IsEnabled rules s (2 ^ 50) e → IsTidy rules chip_ok shared_ok (after rules s e)
+  pub tidy-after : (s : Seen Chip Shared) → IsTidy rules chip_ok shared_ok s → (e : Event) → IsEnabled rules s cycle_limit e → IsTidy rules chip_ok shared_ok (after rules s e)
   tidy-after s tidy (Announce i) en = tidy_announce s tidy i en.0
   tidy-after s tidy (Perform i) en = tidy_move s tidy i en.0 en.2 (after rules s (Perform i)).journal
   tidy-after s tidy (Sample i) en = tidy_move s tidy i en.0 en.2 s.journal
 
-  module _ (base : Machine Chip Shared) (base_ok : IsValid rules chip_ok shared_ok base) (t : ℕ) (small : t ≤ 2 ^ 50) (opening : ℕ → Key) where
+  module _ (base : Machine Chip Shared) (base_ok : IsValid rules chip_ok shared_ok base) (t : ℕ) (small : t ≤ cycle_limit) (opening : ℕ → Key) where
     stands_announce : (s : Seen Chip Shared) → IsTidy rules chip_ok shared_ok s → (count : ℕ → ℕ) → StandsFor rules base opening t s.machine s.bound s.journal count → (i : ℕ) → i < rules.count
         → StandsFor rules base opening t s.machine (put s.bound i (key_of rules s.machine i)) s.journal count
     stands_announce s tidy count st i h = record {
@@ -106,23 +107,23 @@ module _ {Chip Shared Pins : Type 0} (rules : Rules Chip Shared Pins) (chip_ok :
         none = record { each = λ k h. absurd (omega arith) }
 
   -- each enabled event keeps what the core stands for
-  pub stands-after : (base : Seen Chip Shared) → IsValid rules chip_ok shared_ok base.machine → (t : ℕ) → t ≤ 2 ^ 50 → (s : Seen Chip Shared) → IsTidy rules chip_ok shared_ok s → (e : Event) → IsEnabled rules s t e
+  pub stands-after : (base : Seen Chip Shared) → IsValid rules chip_ok shared_ok base.machine → (t : ℕ) → t ≤ cycle_limit → (s : Seen Chip Shared) → IsTidy rules chip_ok shared_ok s → (e : Event) → IsEnabled rules s t e
       → Stands rules base t s → Stands rules base t (after rules s e)
   stands-after base base_ok t small s tidy e en st = (counted st.0 e, stands_move base.machine base_ok t small base.bound s tidy st.0 st.1 e en)
 
   -- and so does a list of them
-  pub tidy-leads : (t : ℕ) → t ≤ 2 ^ 50 → (s : Seen Chip Shared) → IsTidy rules chip_ok shared_ok s → (es : List Event) (z : Seen Chip Shared) → Leads rules t s es z → IsTidy rules chip_ok shared_ok z
+  pub tidy-leads : (t : ℕ) → t ≤ cycle_limit → (s : Seen Chip Shared) → IsTidy rules chip_ok shared_ok s → (es : List Event) (z : Seen Chip Shared) → Leads rules t s es z → IsTidy rules chip_ok shared_ok z
   tidy-leads t small s tidy [] z l = subst (λ (w : Seen Chip Shared). IsTidy rules chip_ok shared_ok w) (sym l) tidy
-  tidy-leads t small s tidy (e ∷ es) z l = tidy-leads t small (after rules s e) (tidy-after s tidy e (enabled-wider s t (2 ^ 50) small e l.0)) es z l.1
+  tidy-leads t small s tidy (e ∷ es) z l = tidy-leads t small (after rules s e) (tidy-after s tidy e (enabled-wider s t cycle_limit small e l.0)) es z l.1
 
-  pub stands-leads : (base : Seen Chip Shared) → IsValid rules chip_ok shared_ok base.machine → (t : ℕ) → t ≤ 2 ^ 50 → (s : Seen Chip Shared) → IsTidy rules chip_ok shared_ok s → (es : List Event) (z : Seen Chip Shared)
+  pub stands-leads : (base : Seen Chip Shared) → IsValid rules chip_ok shared_ok base.machine → (t : ℕ) → t ≤ cycle_limit → (s : Seen Chip Shared) → IsTidy rules chip_ok shared_ok s → (es : List Event) (z : Seen Chip Shared)
       → Leads rules t s es z → Stands rules base t s → Stands rules base t z
   stands-leads base base_ok t small s tidy [] z l st = subst (λ (w : Seen Chip Shared). Stands rules base t w) (sym l) st
   stands-leads base base_ok t small s tidy (e ∷ es) z l st =
-      stands-leads base base_ok t small (after rules s e) (tidy-after s tidy e (enabled-wider s t (2 ^ 50) small e l.0)) es z l.1 (stands-after base base_ok t small s tidy e l.0 st)
+      stands-leads base base_ok t small (after rules s e) (tidy-after s tidy e (enabled-wider s t cycle_limit small e l.0)) es z l.1 (stands-after base base_ok t small s tidy e l.0 st)
 
   -- no chip of the core stands before its place in the base
-  pub keys-later : (base : Seen Chip Shared) → IsValid rules chip_ok shared_ok base.machine → (t : ℕ) → t ≤ 2 ^ 50 → (s : Seen Chip Shared) → Stands rules base t s → (i : ℕ) → i < rules.count
+  pub keys-later : (base : Seen Chip Shared) → IsValid rules chip_ok shared_ok base.machine → (t : ℕ) → t ≤ cycle_limit → (s : Seen Chip Shared) → Stands rules base t s → (i : ℕ) → i < rules.count
       → (key_of rules base.machine i).cycle ≤ (key_of rules s.machine i).cycle
   keys-later base base_ok t small s st i h =
       let p = st.1.path i h in

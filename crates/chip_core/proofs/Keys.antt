@@ -102,12 +102,6 @@ total-falls (suc n) f g i d h fall le = go (same_or n i) (λ ne. total-falls n f
         let last = le n (omega arith) ne in
         omega (arith, total-suc n f, total-suc n g)
 
-pub total-same : (n : ℕ) (f g : ℕ → ℕ) → ((i : ℕ) → i < n → f i ≡ g i) → total n f ≡ total n g
-total-same n f g same =
-    let a = total-le n f g (λ i h. let e = same i h in omega arith) in
-    let b = total-le n g f (λ i h. let e = same i h in omega arith) in
-    omega arith
-
 -- a number a gap lower has a quotient that is one lower
 pub div-falls : (a b g : ℕ) → 1 ≤ g → b + g ≤ a → b / g + 1 ≤ a / g
 div-falls a b g pos h =

@@ -1,6 +1,7 @@
 -- What lists of enabled events lead to: how many they are, what they enter, and what is kept.
-use Rattle.std.proofs.Common.{◌≡◌, ℕ, ◌+◌, ◌-◌, ◌^◌, ◌<◌, ◌≤◌, refl, sym, ◌∙◌, ap, subst, arith, List, [], ◌∷◌, ◌++◌, length, length-append, length-take, take, slice_index_or}
+use Rattle.std.proofs.Common.{◌≡◌, ℕ, ◌+◌, ◌-◌, ◌<◌, ◌≤◌, refl, sym, ◌∙◌, ap, subst, arith, List, [], ◌∷◌, ◌++◌, length, length-append, length-take, take, slice_index_or}
 use Rattle.std.proofs.lemmas.List.{take_more}
+use Rattle.md_word.specs.Clock.{cycle_limit}
 use Rattle.chip_core.specs.declared.event.Event.{Event}
 use Rattle.chip_core.specs.declared.event.Event.TheVariants.{Announce, Perform, Sample}
 use Rattle.chip_core.specs.Chips.{Rules, Lawful}
@@ -59,7 +60,7 @@ module _ {Chip Shared Pins : Type 0} (rules : Rules Chip Shared Pins) where
   room-after t room s z has e en is es w l = has (e ∷ es) w (en, subst (λ (x : Seen Chip Shared). Leads rules t x es w) is l)
 
 module _ {Chip Shared Pins : Type 0} (rules : Rules Chip Shared Pins) (chip_ok : Chip → Type 0) (shared_ok : Shared → Type 0) (law : Lawful rules chip_ok shared_ok)
-    (v : CoreValue Chip Shared) (core : IsCore rules chip_ok shared_ok v) (t : ℕ) (small : t ≤ 2 ^ 50) (list : List Event) (n : ℕ) (h : n ≤ length list) (z : Seen Chip Shared)
+    (v : CoreValue Chip Shared) (core : IsCore rules chip_ok shared_ok v) (t : ℕ) (small : t ≤ cycle_limit) (list : List Event) (n : ℕ) (h : n ≤ length list) (z : Seen Chip Shared)
     (led : Leads rules t (seen rules v) (take n list) z) where
   pub led-stands : (base : CoreValue Chip Shared) → IsCore rules chip_ok shared_ok base → Stands rules (seen rules base) t (seen rules v) → Stands rules (seen rules base) t z
   led-stands base base_core st = stands-leads rules chip_ok shared_ok law (seen rules base) (valid-core rules chip_ok shared_ok base base_core) t small (seen rules v) (tidy-core rules chip_ok shared_ok v core) (take n list) z led st

@@ -1,8 +1,9 @@
 -- From the lists of a core to the functions of the definitions: what the code writes is what the
 -- events say.
-use Rattle.std.proofs.Common.{◌≡◌, ◌≢◌, ℕ, ◌+◌, ◌^◌, ◌<◌, ◌≤◌, true, false, sym, ◌∙◌, ap, ap₂, subst, arith, ◌⊎◌, inl, inr, List, [], ◌∷◌, ◌++◌, length, slice_index_or, slice_set, get_or-set_same, get_or-set_other}
+use Rattle.std.proofs.Common.{◌≡◌, ◌≢◌, ℕ, ◌+◌, ◌<◌, ◌≤◌, true, false, sym, ◌∙◌, ap, ap₂, subst, arith, ◌⊎◌, inl, inr, List, [], ◌∷◌, ◌++◌, length, slice_index_or, slice_set, get_or-set_same, get_or-set_other}
 use mathlib.Core.Path.{fun_ext}
 use Rattle.std.proofs.lemmas.List.{get_or_read}
+use Rattle.md_word.specs.Clock.{cycle_limit}
 use Rattle.md_word.specs.declared.event.Entry.{Entry}
 use Rattle.md_word.specs.declared.event.Next.{Next}
 use Rattle.md_word.specs.declared.key.Key.{Key}
@@ -116,21 +117,21 @@ module _ {Chip Shared Pins : Type 0} (rules : Rules Chip Shared Pins) (chip_ok :
 
   module _ (law : Lawful rules chip_ok shared_ok) where
     -- what an event left is a core
-    pub core-after : (v w : CoreValue Chip Shared) → IsCore rules chip_ok shared_ok v → (e : Event) → IsEnabled rules (seen rules v) (2 ^ 50) e → length w.chips ≡ rules.count → length w.bounds ≡ rules.count
+    pub core-after : (v w : CoreValue Chip Shared) → IsCore rules chip_ok shared_ok v → (e : Event) → IsEnabled rules (seen rules v) cycle_limit e → length w.chips ≡ rules.count → length w.bounds ≡ rules.count
         → seen rules w ≡ after rules (seen rules v) e → IsCore rules chip_ok shared_ok w
     core-after v w core e en cs bs is =
         core-tidy w cs bs (subst (λ (s : Seen Chip Shared). IsTidy rules chip_ok shared_ok s) (sym is) (tidy-after rules chip_ok shared_ok law (seen rules v) (tidy-core v core) e en))
 
     -- and it stands for what the core stood for
     pub stands-core : (v u w : CoreValue Chip Shared) → v ≡ u → IsCore rules chip_ok shared_ok v → (e : Event) → seen rules w ≡ after rules (seen rules v) e
-        → (t : ℕ) → t ≤ 2 ^ 50 → IsEnabled rules (seen rules u) t e → KeepsStanding rules chip_ok shared_ok t u w
+        → (t : ℕ) → t ≤ cycle_limit → IsEnabled rules (seen rules u) t e → KeepsStanding rules chip_ok shared_ok t u w
     stands-core v u w same core e is t small en base base_core st =
         subst (λ (s : Seen Chip Shared). Stands rules (seen rules base) t s) (sym is)
         (stands-after rules chip_ok shared_ok law (seen rules base) (valid-core base base_core) t small (seen rules v) (tidy-core v core) e
         (subst (λ (x : CoreValue Chip Shared). IsEnabled rules (seen rules x) t e) (sym same) en) (subst (λ (x : CoreValue Chip Shared). Stands rules (seen rules base) t (seen rules x)) (sym same) st))
 
     -- a core with an empty journal stands for itself
-    pub stands-itself : (v : CoreValue Chip Shared) → IsCore rules chip_ok shared_ok v → (t : ℕ) → t ≤ 2 ^ 50 → v.journal ≡ [] → Stands rules (seen rules v) t (seen rules v)
+    pub stands-itself : (v : CoreValue Chip Shared) → IsCore rules chip_ok shared_ok v → (t : ℕ) → t ≤ cycle_limit → v.journal ≡ [] → Stands rules (seen rules v) t (seen rules v)
     stands-itself v core t small empty = (
       λ i. 0,
       subst (λ (es : List Entry). StandsFor rules (machine_of rules v) (seen rules v).bound t (machine_of rules v) (seen rules v).bound es (λ i. 0)) (sym empty)
@@ -138,7 +139,7 @@ module _ {Chip Shared Pins : Type 0} (rules : Rules Chip Shared Pins) (chip_ok :
     )
 
     -- an event leaves less work
-    pub work-next : (v w : CoreValue Chip Shared) → IsCore rules chip_ok shared_ok v → (t : ℕ) → t ≤ 2 ^ 50 → (e : Event) → IsEnabled rules (seen rules v) t e → seen rules w ≡ after rules (seen rules v) e
+    pub work-next : (v w : CoreValue Chip Shared) → IsCore rules chip_ok shared_ok v → (t : ℕ) → t ≤ cycle_limit → (e : Event) → IsEnabled rules (seen rules v) t e → seen rules w ≡ after rules (seen rules v) e
         → work rules t (seen rules w) < work rules t (seen rules v)
     work-next v w core t small e en is =
         let fall = work-falls rules chip_ok shared_ok law t small (seen rules v) (tidy-core v core) e en in

@@ -1,8 +1,9 @@
 -- The stages of a run: how keys rise, what each chip has done, and that a chip whose key lies below
 -- the end comes to its move.
-use Rattle.std.proofs.Common.{◌≡◌, ◌≢◌, ℕ, zero, suc, ◌+◌, ◌-◌, ◌/◌, ◌^◌, ◌<◌, ◌≤◌, true, false, cond, ◌==◌, refl, sym, ◌∙◌, ap, subst, arith, ◌⊎◌, inl, inr, List, [], ◌∷◌, ◌++◌, length, append-nil, length-append, All, nat_lt}
+use Rattle.std.proofs.Common.{◌≡◌, ◌≢◌, ℕ, zero, suc, ◌+◌, ◌-◌, ◌/◌, ◌<◌, ◌≤◌, true, false, cond, ◌==◌, refl, sym, ◌∙◌, ap, subst, arith, ◌⊎◌, inl, inr, List, [], ◌∷◌, ◌++◌, length, append-nil, length-append, All, nat_lt}
 use Rattle.std.proofs.lemmas.Bool.Decides.{nat_tests}
 use Rattle.std.proofs.lemmas.List.Elements.{filter-append, All-nil, All-cons, All-head, All-tail}
+use Rattle.md_word.specs.Clock.{cycle_limit}
 use Rattle.md_word.specs.declared.event.Entry.{Entry}
 use Rattle.md_word.specs.declared.key.Key.{Key}
 use Rattle.chip_core.specs.Chips.{Rules, Lawful}
@@ -106,7 +107,7 @@ module _ {Chip Shared Pins : Type 0} (rules : Rules Chip Shared Pins) (base : Ma
       (λ j q ih all. ih (All-left P (journal rules base j) (entries rules (run rules base j) (mover rules (run rules base j))) (subst (λ es. All P es) (journal-suc rules base j) all))) k h
 
 module _ {Chip Shared Pins : Type 0} (rules : Rules Chip Shared Pins) (chip_ok : Chip → Type 0) (shared_ok : Shared → Type 0) (law : Lawful rules chip_ok shared_ok)
-    (base : Machine Chip Shared) (base_ok : IsValid rules chip_ok shared_ok base) (t : ℕ) (small : t ≤ 2 ^ 50) where
+    (base : Machine Chip Shared) (base_ok : IsValid rules chip_ok shared_ok base) (t : ℕ) (small : t ≤ cycle_limit) where
   -- each stage below the end is valid
   pub run-valid : (n : ℕ) → AllBelow rules base t n → IsValid rules chip_ok shared_ok (run rules base n)
   run-valid zero below = subst (λ (m : Machine Chip Shared). IsValid rules chip_ok shared_ok m) (sym (run-zero rules base)) base_ok
@@ -127,7 +128,7 @@ module _ {Chip Shared Pins : Type 0} (rules : Rules Chip Shared Pins) (chip_ok :
           ⊎ ((mover rules (run rules base n) ≢ i) × (key_of rules (run rules base (suc n)) i ≡ key_of rules (run rules base n) i))
       go (inl e) =
           let last = below.each n (omega arith) in
-          let low : (key_of rules (run rules base n) i).cycle < 2 ^ 50 = subst (λ k. (key_of rules (run rules base n) k).cycle < 2 ^ 50) e (omega arith) in
+          let low : (key_of rules (run rules base n) i).cycle < cycle_limit = subst (λ k. (key_of rules (run rules base n) k).cycle < cycle_limit) e (omega arith) in
           inl (
             e,
             subst (λ (m : Machine Chip Shared). (key_of rules (run rules base n) i).cycle + rules.gap i ≤ (key_of rules m i).cycle)

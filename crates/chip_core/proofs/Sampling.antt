@@ -1,6 +1,7 @@
 -- A chip that samples on, before a limit.
-use Rattle.std.proofs.Common.{◌≡◌, ℕ, zero, suc, ◌+◌, ◌^◌, ◌<◌, ◌≤◌, true, cond, refl, sym, ◌∙◌, ap, ap₂, subst, arith, List, length, slice_index_or, slice_set}
+use Rattle.std.proofs.Common.{◌≡◌, ℕ, zero, suc, ◌+◌, ◌<◌, ◌≤◌, true, cond, refl, sym, ◌∙◌, ap, ap₂, subst, arith, List, length, slice_index_or, slice_set}
 use Rattle.std.proofs.lemmas.Bool.Decides.{nat_tests}
+use Rattle.md_word.specs.Clock.{cycle_limit}
 use Rattle.md_word.specs.declared.event.Entry.{Entry}
 use Rattle.md_word.specs.declared.key.Key.{Key}
 use Rattle.md_word.specs.Keys.{key_lt}
@@ -148,7 +149,7 @@ module _ {Chip Shared Pins : Type 0} (rules : Rules Chip Shared Pins) (chip_ok :
     pub least : IsLeastLimit rules t s.bound rules.count i end → IsLeastLimit rules t z.bound rules.count i end
     pub less : work rules t z + n ≤ work rules t s
 
-  module _ (t : ℕ) (small : t ≤ 2 ^ 50) where
+  module _ (t : ℕ) (small : t ≤ cycle_limit) where
     -- a sample, and the announcement
     module _ (s : Seen Chip Shared) (tidy : IsTidy rules chip_ok shared_ok s) (i : ℕ) (en : IsEnabled rules s t (Sample i)) where
       sample-reaches : Reaches rules t s (after rules (after rules s (Sample i)) (Announce i))
@@ -185,7 +186,7 @@ module _ {Chip Shared Pins : Type 0} (rules : Rules Chip Shared Pins) (chip_ok :
       sampled-on z on = subst (λ x. Sampled t end i on.samples s x) (sym on.is) (on-sampled on.samples on.each)
 
   -- samples before a limit leave a core
-  pub core-sampled : (v w : CoreValue Chip Shared) → IsCore rules chip_ok shared_ok v → (i : ℕ) → i < rules.count → (end : Key) → IsLimit rules (2 ^ 50) (seen rules v).bound rules.count i end
+  pub core-sampled : (v w : CoreValue Chip Shared) → IsCore rules chip_ok shared_ok v → (i : ℕ) → i < rules.count → (end : Key) → IsLimit rules cycle_limit (seen rules v).bound rules.count i end
       → SamplesOn rules end i (seen rules v) (seen rules w) → length w.chips ≡ rules.count → length w.bounds ≡ rules.count → IsCore rules chip_ok shared_ok w
   core-sampled v w core i h end limit on cs bs =
-      core-tidy rules chip_ok shared_ok w cs bs (sampled-on (2 ^ 50) (omega arith) (seen rules v) (tidy-core rules chip_ok shared_ok v core) i h end limit (seen rules w) on).tidy
+      core-tidy rules chip_ok shared_ok w cs bs (sampled-on cycle_limit (omega arith) (seen rules v) (tidy-core rules chip_ok shared_ok v core) i h end limit (seen rules w) on).tidy

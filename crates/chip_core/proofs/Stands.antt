@@ -1,8 +1,9 @@
 -- Each event keeps what a core stands for, and a core without a key below the end is the one that
 -- the run leads to.
-use Rattle.std.proofs.Common.{◌≡◌, ◌≢◌, ℕ, suc, ◌+◌, ◌^◌, ◌<◌, ◌≤◌, Bool, true, false, ◌==◌, refl, sym, ◌∙◌, ap, ap₂, subst, arith, ◌⊎◌, inl, inr, List, [], ◌∷◌, ◌++◌, length, append-nil, All, true≢false}
+use Rattle.std.proofs.Common.{◌≡◌, ◌≢◌, ℕ, suc, ◌+◌, ◌<◌, ◌≤◌, Bool, true, false, ◌==◌, refl, sym, ◌∙◌, ap, ap₂, subst, arith, ◌⊎◌, inl, inr, List, [], ◌∷◌, ◌++◌, length, append-nil, All, true≢false}
 use Rattle.std.proofs.lemmas.Bool.{cases_lt}
 use Rattle.std.proofs.lemmas.List.Elements.{filter-append, All-push, All-weaker}
+use Rattle.md_word.specs.Clock.{cycle_limit}
 use Rattle.md_word.specs.declared.event.Entry.{Entry}
 use Rattle.md_word.specs.declared.key.Key.{Key}
 use Rattle.md_word.specs.Keys.{key_lt}
@@ -19,7 +20,7 @@ pub looks : {Chip Shared Pins : Type 0} (rules : Rules Chip Shared Pins) (j i : 
 looks rules j i w = w
 
 module _ {Chip Shared Pins : Type 0} (rules : Rules Chip Shared Pins) (chip_ok : Chip → Type 0) (shared_ok : Shared → Type 0) (law : Lawful rules chip_ok shared_ok)
-    (base : Machine Chip Shared) (base_ok : IsValid rules chip_ok shared_ok base) (t : ℕ) (small : t ≤ 2 ^ 50) (opening : ℕ → Key)
+    (base : Machine Chip Shared) (base_ok : IsValid rules chip_ok shared_ok base) (t : ℕ) (small : t ≤ cycle_limit) (opening : ℕ → Key)
     (s : Seen Chip Shared) (tidy : IsTidy rules chip_ok shared_ok s) (count : ℕ → ℕ)
     (st : StandsFor rules base opening t s.machine s.bound s.journal count) where
   bound-small : (i : ℕ) → i < rules.count → (s.bound i).chip < 8
@@ -272,8 +273,8 @@ module _ {Chip Shared Pins : Type 0} (rules : Rules Chip Shared Pins) (chip_ok :
         held : s.journal ++ (accessed rules s.machine i).entry ∷ [] ≡ journal rules base (suc k)
         held = sym (journal-suc rules base k ∙ ap₂ (λ xs ys. xs ++ ys) (sym turn.1) entry_k)
 
-        low : (key_of rules s.machine i).cycle < 2 ^ 50
-        low = let l = below.each k (omega arith) in subst (λ (w : Key). w.cycle < 2 ^ 50) (sym key-here) (omega arith)
+        low : (key_of rules s.machine i).cycle < cycle_limit
+        low = let l = below.each k (omega arith) in subst (λ (w : Key). w.cycle < cycle_limit) (sym key-here) (omega arith)
 
         key : (accessed rules s.machine i).entry.key ≡ key_of rules s.machine i
         key = entry-key rules chip_ok shared_ok law s.machine tidy.valid i h low access

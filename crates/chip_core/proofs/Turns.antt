@@ -1,8 +1,9 @@
 -- Where each bound is its chip's key: the chip of least bound makes its event, and its next one is
 -- announced.
-use Rattle.std.proofs.Common.{◌≡◌, ℕ, ◌+◌, ◌^◌, ◌<◌, ◌≤◌, true, false, cond, refl, sym, ◌∙◌, ap, ap₂, subst, arith, ◌⊎◌, inl, inr, List, [], ◌∷◌, ◌++◌, length, add-one, slice_index_or, slice_set}
+use Rattle.std.proofs.Common.{◌≡◌, ℕ, ◌+◌, ◌<◌, ◌≤◌, true, false, cond, refl, sym, ◌∙◌, ap, ap₂, subst, arith, ◌⊎◌, inl, inr, List, [], ◌∷◌, ◌++◌, length, add-one, slice_index_or, slice_set}
 use Rattle.std.proofs.lemmas.Bool.Decides.{nat_tests}
 use Rattle.std.proofs.lemmas.List.{get_or_read}
+use Rattle.md_word.specs.Clock.{cycle_limit}
 use mathlib.Core.Path.{fun_ext}
 use Rattle.md_word.specs.declared.event.Entry.{Entry}
 use Rattle.md_word.specs.declared.event.Next.{Next}
@@ -132,7 +133,7 @@ module _ {Chip Shared Pins : Type 0} (rules : Rules Chip Shared Pins) (chip_ok :
             (put-back s.bound i (key_of rules s.machine i) (same-key (s.bound i) (key_of rules s.machine i) e (tidy.under i h))),
       ))
 
-  module _ (t : ℕ) (small : t ≤ 2 ^ 50) (s : Seen Chip Shared) (tidy : IsTidy rules chip_ok shared_ok s) where
+  module _ (t : ℕ) (small : t ≤ cycle_limit) (s : Seen Chip Shared) (tidy : IsTidy rules chip_ok shared_ok s) where
     -- the chip of least bound comes before all others
     pub first-enabled : AreKeys rules s rules.count → (i : ℕ) → i ≡ least_below s.bound rules.count → (s.bound i).cycle < t
         → (i < rules.count) × IsEnabled rules s t (own_event rules s i)
@@ -173,7 +174,7 @@ module _ {Chip Shared Pins : Type 0} (rules : Rules Chip Shared Pins) (chip_ok :
     -- a turn: the event, and the announcement
     module _ (i : ℕ) (h : i < rules.count) (en : IsEnabled rules s t (own_event rules s i)) where
       tidy-own : IsTidy rules chip_ok shared_ok (after rules s (own_event rules s i))
-      tidy-own = tidy-after rules chip_ok shared_ok law s tidy (own_event rules s i) (enabled-wider rules chip_ok shared_ok law s t (2 ^ 50) small (own_event rules s i) en)
+      tidy-own = tidy-after rules chip_ok shared_ok law s tidy (own_event rules s i) (enabled-wider rules chip_ok shared_ok law s t cycle_limit small (own_event rules s i) en)
 
       announced : Reaches rules t (after rules s (own_event rules s i)) (after rules (after rules s (own_event rules s i)) (Announce i))
       announced = announced-reaches t (after rules s (own_event rules s i)) tidy-own i h
@@ -222,24 +223,24 @@ module _ {Chip Shared Pins : Type 0} (rules : Rules Chip Shared Pins) (chip_ok :
           some (e ∷ es) l due = let falls = work-leads rules chip_ok shared_ok law t small s tidy (e ∷ es) z l in omega arith
 
   -- an event and an announcement leave a core
-  pub core-turned : (v w : CoreValue Chip Shared) → IsCore rules chip_ok shared_ok v → (e : Event) → IsEnabled rules (seen rules v) (2 ^ 50) e → (i : ℕ) → i < rules.count
+  pub core-turned : (v w : CoreValue Chip Shared) → IsCore rules chip_ok shared_ok v → (e : Event) → IsEnabled rules (seen rules v) cycle_limit e → (i : ℕ) → i < rules.count
       → length w.chips ≡ rules.count → length w.bounds ≡ rules.count → seen rules w ≡ after rules (after rules (seen rules v) e) (Announce i) → IsCore rules chip_ok shared_ok w
   core-turned v w core e en i h cs bs is =
       let tidy = tidy-after rules chip_ok shared_ok law (seen rules v) (tidy-core rules chip_ok shared_ok v core) e en in
-      let r = announced-reaches (2 ^ 50) (after rules (seen rules v) e) tidy i h in
+      let r = announced-reaches cycle_limit (after rules (seen rules v) e) tidy i h in
       core-tidy rules chip_ok shared_ok w cs bs
       (subst (λ (s : Seen Chip Shared). IsTidy rules chip_ok shared_ok s) (sym is)
-      (tidy-leads rules chip_ok shared_ok law (2 ^ 50) (omega arith) (after rules (seen rules v) e) tidy r.0 (after rules (after rules (seen rules v) e) (Announce i)) r.1))
+      (tidy-leads rules chip_ok shared_ok law cycle_limit (omega arith) (after rules (seen rules v) e) tidy r.0 (after rules (after rules (seen rules v) e) (Announce i)) r.1))
 
   -- what enabled events lead to keeps what the core stood for, and has room
-  pub ends-there : (v w : CoreValue Chip Shared) → IsCore rules chip_ok shared_ok v → IsCore rules chip_ok shared_ok w → (t : ℕ) → t ≤ 2 ^ 50 → Reaches rules t (seen rules v) (seen rules w)
+  pub ends-there : (v w : CoreValue Chip Shared) → IsCore rules chip_ok shared_ok v → IsCore rules chip_ok shared_ok w → (t : ℕ) → t ≤ cycle_limit → Reaches rules t (seen rules v) (seen rules w)
       → IsQuiet rules (machine_of rules w) t → ReachesEnd rules chip_ok shared_ok t v w
   ends-there v w core core_w t small r quiet base base_core st =
       is_run_to rules chip_ok shared_ok law (seen rules base) (valid-core rules chip_ok shared_ok base base_core) t small (seen rules w) (tidy-core rules chip_ok shared_ok w core_w)
       (stands-leads rules chip_ok shared_ok law (seen rules base) (valid-core rules chip_ok shared_ok base base_core) t small (seen rules v) (tidy-core rules chip_ok shared_ok v core) r.0 (seen rules w) r.1 st)
       quiet
 
-  pub first-there : (v w : CoreValue Chip Shared) → IsCore rules chip_ok shared_ok v → IsCore rules chip_ok shared_ok w → (t : ℕ) → t ≤ 2 ^ 50 → Reaches rules t (seen rules v) (seen rules w)
+  pub first-there : (v w : CoreValue Chip Shared) → IsCore rules chip_ok shared_ok v → IsCore rules chip_ok shared_ok w → (t : ℕ) → t ≤ cycle_limit → Reaches rules t (seen rules v) (seen rules w)
       → IsQuiet rules (machine_of rules w) t → v.journal ≡ [] → IsRunTo rules (machine_of rules v) t (machine_of rules w) w.journal
   first-there v w core core_w t small r quiet empty =
       ends-there v w core core_w t small r quiet v core (stands-itself rules chip_ok shared_ok law v core t small empty)

@@ -1,7 +1,8 @@
 -- How much is left to do: it falls with each event, so it bounds the events, the moves and the
 -- entries.
-use Rattle.std.proofs.Common.{◌≡◌, ◌≢◌, ℕ, zero, suc, ◌+◌, ◌-◌, ◌*◌, ◌/◌, ◌^◌, ◌<◌, ◌≤◌, Bool, true, false, cond, sym, ◌∙◌, ap, subst, arith, ◌⊎◌, inl, inr, List, [], ◌∷◌, length, length-append, nat_lt}
+use Rattle.std.proofs.Common.{◌≡◌, ◌≢◌, ℕ, zero, suc, ◌+◌, ◌-◌, ◌*◌, ◌/◌, ◌<◌, ◌≤◌, Bool, true, false, cond, sym, ◌∙◌, ap, subst, arith, ◌⊎◌, inl, inr, List, [], ◌∷◌, length, length-append, nat_lt}
 use Rattle.std.proofs.lemmas.Bool.Decides.{nat_tests}
+use Rattle.md_word.specs.Clock.{cycle_limit}
 use Rattle.md_word.specs.declared.key.Key.{Key}
 use Rattle.md_word.specs.Keys.{key_lt}
 use Rattle.chip_core.specs.declared.event.Event.{Event}
@@ -31,7 +32,7 @@ module _ {Chip Shared Pins : Type 0} (rules : Rules Chip Shared Pins) where
   abbrev pub work : ℕ → Seen Chip Shared → ℕ
   work t s = total rules.count (work_of t s.machine s.bound)
 
-module _ {Chip Shared Pins : Type 0} (rules : Rules Chip Shared Pins) (chip_ok : Chip → Type 0) (shared_ok : Shared → Type 0) (law : Lawful rules chip_ok shared_ok) (t : ℕ) (small : t ≤ 2 ^ 50) where
+module _ {Chip Shared Pins : Type 0} (rules : Rules Chip Shared Pins) (chip_ok : Chip → Type 0) (shared_ok : Shared → Type 0) (law : Lawful rules chip_ok shared_ok) (t : ℕ) (small : t ≤ cycle_limit) where
   -- a move takes one of the moves that are left to its chip, and leaves the others' alone
   moved-left : (s : Seen Chip Shared) → IsTidy rules chip_ok shared_ok s → (i : ℕ) → i < rules.count → (key_of rules s.machine i).cycle < t
       → moves_left rules t (move rules s.machine i) i + 1 ≤ moves_left rules t s.machine i
@@ -93,7 +94,7 @@ module _ {Chip Shared Pins : Type 0} (rules : Rules Chip Shared Pins) (chip_ok :
   work-leads s tidy [] z l = let e = ap (work rules t) l in omega arith
   work-leads s tidy (e ∷ es) z l =
       let fall = work-falls s tidy e l.0 in
-      let rest = work-leads (after rules s e) (tidy-after rules chip_ok shared_ok law s tidy e (enabled-wider rules chip_ok shared_ok law s t (2 ^ 50) small e l.0)) es z l.1 in
+      let rest = work-leads (after rules s e) (tidy-after rules chip_ok shared_ok law s tidy e (enabled-wider rules chip_ok shared_ok law s t cycle_limit small e l.0)) es z l.1 in
       omega arith
 
   pub room-leads : (s : Seen Chip Shared) → IsTidy rules chip_ok shared_ok s → (es : List Event) (z : Seen Chip Shared) → Leads rules t s es z
@@ -101,7 +102,7 @@ module _ {Chip Shared Pins : Type 0} (rules : Rules Chip Shared Pins) (chip_ok :
   room-leads s tidy [] z l = let e = ap (λ (w : Seen Chip Shared). length w.journal + all_moves_left rules t w.machine) l in omega arith
   room-leads s tidy (e ∷ es) z l =
       let fall = room-falls s tidy e l.0 in
-      let rest = room-leads (after rules s e) (tidy-after rules chip_ok shared_ok law s tidy e (enabled-wider rules chip_ok shared_ok law s t (2 ^ 50) small e l.0)) es z l.1 in
+      let rest = room-leads (after rules s e) (tidy-after rules chip_ok shared_ok law s tidy e (enabled-wider rules chip_ok shared_ok law s t cycle_limit small e l.0)) es z l.1 in
       omega arith
 
   -- a free place for each move that is left is a free place for each access

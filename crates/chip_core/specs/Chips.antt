@@ -1,5 +1,6 @@
 -- What a set of chips does, as functions on the plain data that contracts see.
-use Rattle.std.specs.Prelude.{◌≡◌, ℕ, zero, suc, ◌+◌, ◌^◌, ◌<◌, ◌≤◌, Bool, true, false}
+use Rattle.std.specs.Prelude.{◌≡◌, ℕ, zero, suc, ◌+◌, ◌<◌, ◌≤◌, Bool, true, false}
+use Rattle.md_word.specs.Clock.{cycle_limit}
 use Rattle.md_word.specs.declared.event.Entry.{Entry}
 use Rattle.md_word.specs.declared.event.Next.{Next}
 use Rattle.md_word.specs.declared.key.Key.{Key}
@@ -64,7 +65,7 @@ module _ {Chip Shared Pins : Type 0} (rules : Rules Chip Shared Pins) (chip_ok :
     pub shared : shared_ok s
     pub number : (rules.next c).key.chip ≡ i
     pub kind : (rules.next c).sample ≡ sample
-    pub cycle : (rules.next c).key.cycle < 2 ^ 50
+    pub cycle : (rules.next c).key.cycle < cycle_limit
 
   -- the chip is one that the locked part of an access left, and its private work is due
   pub record IsPerformed (c : Chip) : Type 0 where
@@ -79,7 +80,7 @@ module _ {Chip Shared Pins : Type 0} (rules : Rules Chip Shared Pins) (chip_ok :
     pub some : 1 ≤ rules.count
     pub few : rules.count ≤ 5
     pub gap_some : (i : ℕ) → i < rules.count → 1 ≤ rules.gap i
-    pub gap_few : (i : ℕ) → i < rules.count → rules.gap i ≤ 2 ^ 50
+    pub gap_few : (i : ℕ) → i < rules.count → rules.gap i ≤ cycle_limit
     pub access_chip : (c : Chip) (s : Shared) (i : ℕ) → IsDue c s i false → chip_ok (rules.advance (rules.perform c s).chip)
     pub access_shared : (c : Chip) (s : Shared) (i : ℕ) → IsDue c s i false → shared_ok (rules.perform c s).shared
     pub access_next : (c : Chip) (s : Shared) (i : ℕ) → IsDue c s i false

@@ -1,4 +1,5 @@
-ghost use Rattle.std.specs.Prelude.{◌≡◌, ◌^◌, ◌<◌, ◌↔◌, IsTrue, false};
+ghost use Rattle.std.specs.Prelude.{◌≡◌, ◌<◌, ◌↔◌, IsTrue, false};
+ghost use Rattle.md_word.specs.Clock.{cycle_limit};
 ghost use Rattle.md_word.specs.Keys.{key_lt};
 ghost use Rattle.chip_core.specs.Chips.{ArePins, RunsTo, SamplesBelow};
 
@@ -20,7 +21,7 @@ pub fn run<C: ChipSet>(chip: &mut C::Chip, pins: &C::Pins, until: &Key) -> u64
     requires sample { SamplesBelow C.rules until.now chip.old }
     requires pins { ArePins C.rules C.shared_ok pins.now (C.rules.next chip.old).key.chip }
     requires number { (C.rules.next chip.old).key.chip < C.rules.count }
-    requires time { key_lt (record { cycle = 2 ^ 50; chip = 0 }) until.now ≡ false }
+    requires time { key_lt (record { cycle = cycle_limit; chip = 0 }) until.now ≡ false }
     ensures { RunsTo C.rules result until.now pins.now chip.old chip.new }
 {
     let _first = C::next(chip);

@@ -1,4 +1,5 @@
-ghost use Rattle.std.specs.Prelude.{◌≡◌, ℕ, ◌^◌, ◌<◌, ◌≤◌, true, false, List};
+ghost use Rattle.std.specs.Prelude.{◌≡◌, ℕ, ◌<◌, ◌≤◌, true, false, List};
+ghost use Rattle.md_word.specs.Clock.{cycle_limit};
 
 use md_word::{Entry, Key, Next};
 use std::sync::Wait;
@@ -52,7 +53,7 @@ pub trait ChipSet: Send + Sync {
     /// The chip's private work is then due: `advance` is its next call.
     fn perform(chip: &mut Self::Chip, shared: &mut Self::Shared) -> Entry
         requires access { (rules.next chip.old).sample ≡ false }
-        requires cycle { (rules.next chip.old).key.cycle < 2 ^ 50 }
+        requires cycle { (rules.next chip.old).key.cycle < cycle_limit }
         ensures chip { chip.new ≡ (rules.perform chip.old shared.old).chip }
         ensures shared { shared.new ≡ (rules.perform chip.old shared.old).shared }
         ensures entry { result ≡ (rules.perform chip.old shared.old).entry };
@@ -83,15 +84,15 @@ pub trait ChipSet: Send + Sync {
     /// A sample of the input pins, and the private work up to the chip's next event.
     fn sample(chip: &mut Self::Chip, pins: &Self::Pins)
         requires sample { (rules.next chip.old).sample ≡ true }
-        requires cycle { (rules.next chip.old).key.cycle < 2 ^ 50 }
+        requires cycle { (rules.next chip.old).key.cycle < cycle_limit }
         ensures { chip.new ≡ rules.sample chip.old pins.now };
 
     /// The sample that is due and, if the chip knows what they come to, samples of the same pins after
     /// it, each before the key `end`; answers how many that were.
     fn sample_ahead(chip: &mut Self::Chip, pins: &Self::Pins, end: &Key) -> u64
         requires sample { SamplesBelow rules end.now chip.old }
-        requires cycle { (rules.next chip.old).key.cycle < 2 ^ 50 }
-        requires time { end.now.cycle ≤ 2 ^ 50 }
+        requires cycle { (rules.next chip.old).key.cycle < cycle_limit }
+        requires time { end.now.cycle ≤ cycle_limit }
         ensures { SamplesTo rules result end.now pins.now chip.old chip.new }
     {
         Self::sample(chip, pins);

@@ -1,7 +1,8 @@
 //! Laws of the least machine, as calls: `run_least` does what it says, and the others do nothing
 //! and stand for what they ensure.
 
-ghost use Rattle.std.specs.Prelude.{◌≡◌, ℕ, ◌+◌, ◌-◌, ◌*◌, ◌^◌, ◌<◌, ◌≤◌, false, [], ◌++◌, List, length};
+ghost use Rattle.std.specs.Prelude.{◌≡◌, ℕ, ◌+◌, ◌-◌, ◌*◌, ◌<◌, ◌≤◌, false, [], ◌++◌, List, length};
+ghost use Rattle.md_word.specs.Clock.{cycle_limit};
 ghost use Rattle.md_word.specs.declared.event.Entry.{Entry};
 ghost use Rattle.md_word.specs.Keys.{key_lt};
 ghost use Rattle.chip_core.specs.declared.event.Event.{Event};
@@ -16,7 +17,7 @@ use crate::{ChipSet, Core};
 
 /// A free place for each move that can lie below `t` is a free place for each access below it.
 pub fn room<C: ChipSet>(core: &Core<C>, t: u64)
-    requires time { t ≤ 2 ^ 50 }
+    requires time { t ≤ cycle_limit }
     requires room { length core.now.journal + all_moves_left C.rules t (machine_of C.rules core.now) ≤ core.now.room }
     ensures { HasRoom C.rules t (seen C.rules core.now) core.now.room }
 {
@@ -43,7 +44,7 @@ pub fn one_run<C: ChipSet>()
 pub fn stages<C: ChipSet>()
     ensures core { (v : CoreValue C.Chip C.Shared) → IsCore C.rules C.chip_ok C.shared_ok v
         → IsValid C.rules C.chip_ok C.shared_ok (machine_of C.rules v) }
-    ensures valid { (m : Machine C.Chip C.Shared) (t n : ℕ) → t ≤ 2 ^ 50 → IsValid C.rules C.chip_ok C.shared_ok m
+    ensures valid { (m : Machine C.Chip C.Shared) (t n : ℕ) → t ≤ cycle_limit → IsValid C.rules C.chip_ok C.shared_ok m
         → AllBelow C.rules m t n → IsValid C.rules C.chip_ok C.shared_ok (run C.rules m n) }
     ensures mover { (m : Machine C.Chip C.Shared) → mover C.rules m < C.rules.count }
     ensures least { (m : Machine C.Chip C.Shared) (i : ℕ) → IsValid C.rules C.chip_ok C.shared_ok m → i < C.rules.count
@@ -54,14 +55,14 @@ pub fn stages<C: ChipSet>()
 
 /// How many moves and entries can lie below `t`, where a chip's moves take a gap each.
 pub fn limits<C: ChipSet>()
-    ensures spread { (m : Machine C.Chip C.Shared) (t n i : ℕ) → t ≤ 2 ^ 50 → IsValid C.rules C.chip_ok C.shared_ok m
+    ensures spread { (m : Machine C.Chip C.Shared) (t n i : ℕ) → t ≤ cycle_limit → IsValid C.rules C.chip_ok C.shared_ok m
         → AllBelow C.rules m t n → i < C.rules.count
         → (key_of C.rules m i).cycle + made C.rules m i n * C.rules.gap i ≤ (key_of C.rules (run C.rules m n) i).cycle }
-    ensures made { (m : Machine C.Chip C.Shared) (t n i : ℕ) → t ≤ 2 ^ 50 → IsValid C.rules C.chip_ok C.shared_ok m
+    ensures made { (m : Machine C.Chip C.Shared) (t n i : ℕ) → t ≤ cycle_limit → IsValid C.rules C.chip_ok C.shared_ok m
         → AllBelow C.rules m t n → i < C.rules.count → made C.rules m i n ≤ moves_left C.rules t m i }
-    ensures entered { (m : Machine C.Chip C.Shared) (t n : ℕ) → t ≤ 2 ^ 50 → IsValid C.rules C.chip_ok C.shared_ok m
+    ensures entered { (m : Machine C.Chip C.Shared) (t n : ℕ) → t ≤ cycle_limit → IsValid C.rules C.chip_ok C.shared_ok m
         → AllBelow C.rules m t n → length (journal C.rules m n) ≤ all_moves_left C.rules t m }
-    ensures within { (m : Machine C.Chip C.Shared) (from t : ℕ) → t ≤ 2 ^ 50 → IsQuiet C.rules m from
+    ensures within { (m : Machine C.Chip C.Shared) (from t : ℕ) → t ≤ cycle_limit → IsQuiet C.rules m from
         → all_moves_left C.rules t m ≤ moves_within C.rules (t - from) }
 {}
 
@@ -70,26 +71,26 @@ pub fn limits<C: ChipSet>()
 pub fn events<C: ChipSet>()
     ensures core { (v : CoreValue C.Chip C.Shared) → IsCore C.rules C.chip_ok C.shared_ok v
         → IsTidy C.rules C.chip_ok C.shared_ok (seen C.rules v) }
-    ensures first { (base : Seen C.Chip C.Shared) (t : ℕ) → t ≤ 2 ^ 50 → IsValid C.rules C.chip_ok C.shared_ok base.machine
+    ensures first { (base : Seen C.Chip C.Shared) (t : ℕ) → t ≤ cycle_limit → IsValid C.rules C.chip_ok C.shared_ok base.machine
         → StandsFor C.rules base.machine base.bound t base.machine base.bound [] (λ i. 0) }
     ensures tidy { (s : Seen C.Chip C.Shared) (e : Event) → IsTidy C.rules C.chip_ok C.shared_ok s
-        → IsEnabled C.rules s (2 ^ 50) e → IsTidy C.rules C.chip_ok C.shared_ok (after C.rules s e) }
-    ensures stands { (base s : Seen C.Chip C.Shared) (t : ℕ) (count : ℕ → ℕ) (e : Event) → t ≤ 2 ^ 50
+        → IsEnabled C.rules s cycle_limit e → IsTidy C.rules C.chip_ok C.shared_ok (after C.rules s e) }
+    ensures stands { (base s : Seen C.Chip C.Shared) (t : ℕ) (count : ℕ → ℕ) (e : Event) → t ≤ cycle_limit
         → IsValid C.rules C.chip_ok C.shared_ok base.machine → IsTidy C.rules C.chip_ok C.shared_ok s
         → StandsFor C.rules base.machine base.bound t s.machine s.bound s.journal count
         → IsEnabled C.rules s t e
         → let z = after C.rules s e in
         StandsFor C.rules base.machine base.bound t z.machine z.bound z.journal (counted count e) }
-    ensures ended { (base s : Seen C.Chip C.Shared) (t : ℕ) → t ≤ 2 ^ 50
+    ensures ended { (base s : Seen C.Chip C.Shared) (t : ℕ) → t ≤ cycle_limit
         → IsValid C.rules C.chip_ok C.shared_ok base.machine → IsTidy C.rules C.chip_ok C.shared_ok s
         → Stands C.rules base t s → IsQuiet C.rules s.machine t
         → IsRunTo C.rules base.machine t s.machine s.journal }
-    ensures entered { (base s : Seen C.Chip C.Shared) (t : ℕ) → t ≤ 2 ^ 50 → IsValid C.rules C.chip_ok C.shared_ok base.machine
+    ensures entered { (base s : Seen C.Chip C.Shared) (t : ℕ) → t ≤ cycle_limit → IsValid C.rules C.chip_ok C.shared_ok base.machine
         → Stands C.rules base t s → length s.journal ≤ all_moves_left C.rules t base.machine }
-    ensures later { (base s : Seen C.Chip C.Shared) (t from : ℕ) → t ≤ 2 ^ 50
+    ensures later { (base s : Seen C.Chip C.Shared) (t from : ℕ) → t ≤ cycle_limit
         → IsValid C.rules C.chip_ok C.shared_ok base.machine → Stands C.rules base t s
         → IsQuiet C.rules base.machine from → IsQuiet C.rules s.machine from }
-    ensures few { (s z : Seen C.Chip C.Shared) (t from : ℕ) (list : List Event) → t ≤ 2 ^ 50
+    ensures few { (s z : Seen C.Chip C.Shared) (t from : ℕ) (list : List Event) → t ≤ cycle_limit
         → IsTidy C.rules C.chip_ok C.shared_ok s → IsQuiet C.rules s.machine from
         → Leads C.rules t s list z → length list ≤ events_within C.rules (t - from) }
 {}

@@ -1,4 +1,5 @@
-ghost use Rattle.std.specs.Prelude.{◌≡◌, ◌^◌, ◌<◌, ◌≤◌, ◌↔◌, IsTrue, vec_capacity, IfNone, IfSome, MatchOption};
+ghost use Rattle.std.specs.Prelude.{◌≡◌, ◌<◌, ◌≤◌, ◌↔◌, IsTrue, vec_capacity, IfNone, IfSome, MatchOption};
+ghost use Rattle.md_word.specs.Clock.{cycle_limit};
 ghost use Rattle.chip_core.specs.Cores.{CoreValue, IsCore, IsShaped, ReachesEnd, machine_of, seen};
 ghost use Rattle.chip_core.specs.Events.{IsChosen, IsEnabled};
 ghost use Rattle.chip_core.specs.Looks.{least_lagging};
@@ -178,7 +179,7 @@ impl<C: ChipSet> Core<C> {
         ensures enabled { MatchOption result (IsQuiet C.rules (machine_of C.rules self.now) t)
             (λ e. IsShort C.rules (machine_of C.rules self.now) t × IsEnabled C.rules (seen C.rules self.now) t e) }
         ensures chosen { IfSome result (λ e. IsChosen C.rules (seen C.rules self.now) e) }
-        ensures reached { t ≤ 2 ^ 50 → IfNone result (ReachesEnd C.rules C.chip_ok C.shared_ok t self.now self.now) }
+        ensures reached { t ≤ cycle_limit → IfNone result (ReachesEnd C.rules C.chip_ok C.shared_ok t self.now self.now) }
         ensures core { IsCore C.rules C.chip_ok C.shared_ok self.now }
     {
         let found = self.found();

@@ -1,7 +1,8 @@
 -- What a section keeps: the locked parts stay a core that stands for the base, and the held chip
 -- stays on its path.
-use Rattle.std.proofs.Common.{◌≡◌, ◌≢◌, ℕ, zero, suc, ◌+◌, ◌^◌, ◌<◌, ◌≤◌, true, false, refl, sym, ◌∙◌, ap, subst, arith, List, [], ◌∷◌, length, slice_set, length-set, length-append, get_or-set_same, get_or-set_other, true≢false}
+use Rattle.std.proofs.Common.{◌≡◌, ◌≢◌, ℕ, zero, suc, ◌+◌, ◌<◌, ◌≤◌, true, false, refl, sym, ◌∙◌, ap, subst, arith, List, [], ◌∷◌, length, slice_set, length-set, length-append, get_or-set_same, get_or-set_other, true≢false}
 use Rattle.std.proofs.lemmas.List.{set-set}
+use Rattle.md_word.specs.Clock.{cycle_limit}
 use Rattle.md_word.specs.declared.key.Key.{Key}
 use Rattle.md_word.specs.Keys.{key_lt}
 use Rattle.chip_core.specs.declared.event.Event.{Event}
@@ -46,7 +47,7 @@ module _ {Chip Shared Pins : Type 0} (rules : Rules Chip Shared Pins) (chip_ok :
       (λ e. tidy-after rules chip_ok shared_ok law s tidy (Announce i) (h, e))
       (λ e. subst (λ (w : Seen Chip Shared). IsTidy rules chip_ok shared_ok w) (sym (same-bound s tidy i h e)) tidy)
 
-  module _ (base : CoreValue Chip Shared) (base_core : IsCore rules chip_ok shared_ok base) (t : ℕ) (small : t ≤ 2 ^ 50) where
+  module _ (base : CoreValue Chip Shared) (base_core : IsCore rules chip_ok shared_ok base) (t : ℕ) (small : t ≤ cycle_limit) where
     abbrev StandsWith : Seen Chip Shared → (ℕ → ℕ) → Type 0
     StandsWith s count = StandsFor rules (machine_of rules base) (seen rules base).bound t s.machine s.bound s.journal count
 
@@ -149,7 +150,7 @@ module _ {Chip Shared Pins : Type 0} (rules : Rules Chip Shared Pins) (chip_ok :
               machine = move rules m i;
               shared = shared-access rules m i (kind false access);
               tidy = subst (λ (b : ℕ → Key). IsTidy rules chip_ok shared_ok (record { machine = move rules m i; bound = b; journal = (after rules s (Perform i)).journal })) (sym bounds-z)
-                  (tidy-after rules chip_ok shared_ok law s tidy-s (Perform i) (enabled-wider rules chip_ok shared_ok law s t (2 ^ 50) lk.small (Perform i) enabled-access));
+                  (tidy-after rules chip_ok shared_ok law s tidy-s (Perform i) (enabled-wider rules chip_ok shared_ok law s t cycle_limit lk.small (Perform i) enabled-access));
               stands = subst (λ (b : ℕ → Key). StandsFor rules (machine_of rules base) (seen rules base).bound t (move rules m i) b (after rules s (Perform i)).journal (count_of (slice_set counts i (h.amount + 1)))) (sym bounds-z)
                   (subst (λ (n : ℕ → ℕ). StandsFor rules (machine_of rules base) (seen rules base).bound t (move rules m i) (after rules s (Perform i)).bound (after rules s (Perform i)).journal n) (sym counts-next) stands-access);
             }))
@@ -191,7 +192,7 @@ module _ {Chip Shared Pins : Type 0} (rules : Rules Chip Shared Pins) (chip_ok :
               machine = move rules m i;
               shared = shared-sample rules m i (kind true sample) ∙ lk.shared;
               tidy = subst (λ (b : ℕ → Key). IsTidy rules chip_ok shared_ok (record { machine = move rules m i; bound = b; journal = p.journal })) (sym bounds-z)
-                  (tidy-after rules chip_ok shared_ok law s tidy-s (Sample i) (enabled-wider rules chip_ok shared_ok law s t (2 ^ 50) lk.small (Sample i) enabled-sample));
+                  (tidy-after rules chip_ok shared_ok law s tidy-s (Sample i) (enabled-wider rules chip_ok shared_ok law s t cycle_limit lk.small (Sample i) enabled-sample));
               stands = subst (λ (b : ℕ → Key). StandsFor rules (machine_of rules base) (seen rules base).bound t (move rules m i) b p.journal (count_of (slice_set counts i (h.amount + 1)))) (sym bounds-z)
                   (subst (λ (n : ℕ → ℕ). StandsFor rules (machine_of rules base) (seen rules base).bound t (move rules m i) (after rules s (Sample i)).bound p.journal n) (sym counts-next) stands-sample);
             })
@@ -220,10 +221,10 @@ module _ {Chip Shared Pins : Type 0} (rules : Rules Chip Shared Pins) (chip_ok :
             until.least (rules.next h.chip).key turn.early (λ j q ne w. ap (key_lt (rules.next h.chip).key) (outer j ne) ∙ ap (λ (x : Chip). key_lt (rules.next x).key (s.bound j)) (sym same_chip) ∙ above j (omega (arith, many)) (ne, λ _. w)),
           )
 
-          small-end : key_lt (record { cycle = 2 ^ 50; chip = 0 }) end ≡ false
+          small-end : key_lt (record { cycle = cycle_limit; chip = 0 }) end ≡ false
           small-end =
-              by_test (key_lt (record { cycle = 2 ^ 50; chip = 0 }) end)
-              (λ e. absurd (let far = (limit (record { cycle = 2 ^ 50; chip = 0 }) e).0 in let low = lk.small in omega arith))
+              by_test (key_lt (record { cycle = cycle_limit; chip = 0 }) end)
+              (λ e. absurd (let far = (limit (record { cycle = cycle_limit; chip = 0 }) e).0 in let low = lk.small in omega arith))
               (λ e. e)
 
           record Goes (n : ℕ) (z : Seen Chip Shared) : Type 0 where
@@ -247,7 +248,7 @@ module _ {Chip Shared Pins : Type 0} (rules : Rules Chip Shared Pins) (chip_ok :
               en = sample-enabled rules t z i end low next g.limit
 
               tidy : IsTidy rules chip_ok shared_ok (after rules z (Sample i))
-              tidy = tidy-after rules chip_ok shared_ok law z g.tidy (Sample i) (enabled-wider rules chip_ok shared_ok law z t (2 ^ 50) lk.small (Sample i) en)
+              tidy = tidy-after rules chip_ok shared_ok law z g.tidy (Sample i) (enabled-wider rules chip_ok shared_ok law z t cycle_limit lk.small (Sample i) en)
 
           goes : (n : ℕ) → ((j : ℕ) → j < n → SamplesBelow rules end (sampled_n rules j (rules.pins m.shared i) (m.chip i))) → Goes n (sampled_on rules n s i)
           unfolding sampled_on

@@ -1,10 +1,11 @@
 -- The chips taken out of their list are the base's, each at the start of its path.
-use Rattle.std.proofs.Common.{◌≡◌, ℕ, zero, suc, ◌+◌, ◌^◌, ◌<◌, ◌≤◌, refl, sym, ◌∙◌, ap, ap₂, subst, arith, Option, Some, IsSome, List, [], ◌∷◌, ◌++◌, ◌⊎◌, inl, inr, length, length-append, slice_index_or}
+use Rattle.std.proofs.Common.{◌≡◌, ℕ, zero, suc, ◌+◌, ◌<◌, ◌≤◌, refl, sym, ◌∙◌, ap, ap₂, subst, arith, Option, Some, IsSome, List, [], ◌∷◌, ◌++◌, ◌⊎◌, inl, inr, length, length-append, slice_index_or}
 use Rattle.std.proofs.lemmas.Bool.{cases_lt}
 use mathlib.Core.Path.{fun_ext}
 use Rattle.std.proofs.Math.ListN.{get_or-append}
 use Rattle.std.proofs.Math.Seq.{get_or-append_seam}
 use Rattle.std.proofs.lemmas.List.{nil_from_length}
+use Rattle.md_word.specs.Clock.{cycle_limit}
 use Rattle.md_word.specs.declared.event.Entry.{Entry}
 use Rattle.chip_core.specs.Chips.{Rules, Lawful}
 use Rattle.chip_core.specs.Cores.{CoreValue, IsCore, chip_in, machine_of, seen}
@@ -113,7 +114,7 @@ module _ {Chip Shared Pins : Type 0} (rules : Rules Chip Shared Pins) (chip_ok :
 
 module _ {Chip Shared Pins : Type 0} (rules : Rules Chip Shared Pins) (chip_ok : Chip → Type 0) (shared_ok : Shared → Type 0) (law : Lawful rules chip_ok shared_ok) where
   -- what lies behind the lock at the start, of the core itself as base
-  locked-core : (v : CoreValue Chip Shared) → IsCore rules chip_ok shared_ok v → (t : ℕ) → t ≤ 2 ^ 50 → v.journal ≡ [] → all_moves_left rules t (machine_of rules v) ≤ v.room
+  locked-core : (v : CoreValue Chip Shared) → IsCore rules chip_ok shared_ok v → (t : ℕ) → t ≤ cycle_limit → v.journal ≡ [] → all_moves_left rules t (machine_of rules v) ≤ v.room
       → IsLocked rules chip_ok shared_ok (record v { room = 0 }) t (record { end = t; shared = v.shared; bounds = v.bounds; journal = v.journal; room = v.room }) (0 ∷ 0 ∷ 0 ∷ 0 ∷ 0 ∷ [])
   locked-core v core t small empty room = record {
     base_core = record { shape = core.shape; shared = core.shared; chip = core.chip };
@@ -130,7 +131,7 @@ module _ {Chip Shared Pins : Type 0} (rules : Rules Chip Shared Pins) (chip_ok :
         (stands_first rules chip_ok shared_ok law (machine_of rules v) (valid-core rules chip_ok shared_ok v core) t small (seen rules v).bound));
   }
 
-  pub locked-first : (v w base : CoreValue Chip Shared) → v ≡ w → IsCore rules chip_ok shared_ok v → (t e : ℕ) → e ≡ t → t ≤ 2 ^ 50 → v.journal ≡ [] → all_moves_left rules t (machine_of rules v) ≤ v.room → base ≡ record v { room = 0 }
+  pub locked-first : (v w base : CoreValue Chip Shared) → v ≡ w → IsCore rules chip_ok shared_ok v → (t e : ℕ) → e ≡ t → t ≤ cycle_limit → v.journal ≡ [] → all_moves_left rules t (machine_of rules v) ≤ v.room → base ≡ record v { room = 0 }
       → (counts : List ℕ) → counts ≡ 0 ∷ 0 ∷ 0 ∷ 0 ∷ 0 ∷ []
       → IsLocked rules chip_ok shared_ok base e (record { end = t; shared = w.shared; bounds = w.bounds; journal = w.journal; room = w.room }) counts
   locked-first v w base is core t e same small empty room from counts none =

@@ -67,9 +67,6 @@ pub record Told (n : ℕ) (first : Bool) (bs : List Key) (told : Bool) (cs : Lis
   pub unchanged : told ≡ false → (first ≡ false) × AreUnchanged bs cs
   pub changed : told ≡ true → (first ≡ true) ⊎ IsChanged bs cs
 
-pub told-first : (first : Bool) (bs : List Key) → Told 0 first bs first bs
-told-first first bs = record { count = refl; later = λ j le. refl; unchanged = λ e. (e, λ j. refl); changed = λ e. inl e }
-
 pub told-past : (n : ℕ) (first : Bool) (bs : List Key) (told : Bool) (cs : List Key) → Told n first bs told cs → Told (n + 1) first bs told cs
 told-past n first bs told cs t = record { count = t.count; later = λ j le. t.later j (omega arith); unchanged = t.unchanged; changed = t.changed }
 
@@ -112,10 +109,6 @@ noted n told cs told2 ds before after keeps before_is after_is same differs = re
     go : (told ≡ true) ⊎ (after ≢ before) → (told ≡ true) ⊎ (slice_get ds n ≢ slice_get cs n)
     go (inl e) = inl e
     go (inr ne) = inr (λ e. ne (after_is ∙ e ∙ sym before_is))
-
--- two sweeps of which neither tells of a change
-pub told-twice : (bs cs ds : List Key) → AreUnchanged bs cs → AreUnchanged cs ds → AreUnchanged bs ds
-told-twice bs cs ds a b = λ j. b j ∙ a j
 
 -- ---- who waits
 

@@ -1,4 +1,5 @@
-ghost use Rattle.std.specs.Prelude.{◌≡◌, ◌+◌, ◌^◌, ◌<◌, ◌≤◌, IfSome, Some, [], ◌∷◌, vec_capacity};
+ghost use Rattle.std.specs.Prelude.{◌≡◌, ◌+◌, ◌<◌, ◌≤◌, IfSome, Some, [], ◌∷◌, vec_capacity};
+ghost use Rattle.md_word.specs.Clock.{cycle_limit};
 ghost use Rattle.chip_core.specs.Cores.{machine_of};
 ghost use Rattle.chip_core.specs.Limits.{all_moves_left};
 ghost use Rattle.chip_run.specs.Making.{AreFirst, Remains, first_held};
@@ -62,7 +63,7 @@ impl<C: ChipSet, N: Named, L0: Ledger, L1: Ledger, L2: Ledger, L3: Ledger, L4: L
         requires base { C.core_of N.base ≡ record core { room = 0 } }
         requires end { N.end ≡ t }
         requires places { N.room ≡ core.room }
-        requires time { t ≤ 2 ^ 50 }
+        requires time { t ≤ cycle_limit }
         requires empty { core.journal ≡ [] }
         requires room { all_moves_left C.rules t (machine_of C.rules core) ≤ core.room }
         requires names { (blanks.l0.name ≡ L0.name) × (blanks.l1.name ≡ L1.name) × (blanks.l2.name ≡ L2.name) × (blanks.l3.name ≡ L3.name) × (blanks.l4.name ≡ L4.name) }
@@ -134,7 +135,7 @@ impl<C: ChipSet, N: Named, L0: Ledger, L1: Ledger, L2: Ledger, L3: Ledger, L4: L
         requires base { C.core_of N.base ≡ record core { room = 0 } }
         requires end { N.end ≡ t }
         requires places { N.room ≡ core.room }
-        requires time { t ≤ 2 ^ 50 }
+        requires time { t ≤ cycle_limit }
         requires empty { core.journal ≡ [] }
         requires room { all_moves_left C.rules t (machine_of C.rules core) ≤ core.room }
         requires names { (blanks.l0.name ≡ L0.name) × (blanks.l1.name ≡ L1.name) × (blanks.l2.name ≡ L2.name) × (blanks.l3.name ≡ L3.name) × (blanks.l4.name ≡ L4.name) }

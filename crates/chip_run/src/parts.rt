@@ -1,4 +1,5 @@
-ghost use Rattle.std.specs.Prelude.{◌≡◌, ◌^◌, ◌<◌, ◌≤◌, true, false, length, vec_capacity};
+ghost use Rattle.std.specs.Prelude.{◌≡◌, ◌<◌, ◌≤◌, true, false, length, vec_capacity};
+ghost use Rattle.md_word.specs.Clock.{cycle_limit};
 ghost use Rattle.chip_core.specs.Cores.{bound_in};
 ghost use Rattle.chip_run.specs.Parts.{PartsValue};
 ghost use Rattle.chip_run.specs.Steps.{HasLease, HasPlaceFor, HasTurn, IsAccess, IsStep, announced};
@@ -66,7 +67,7 @@ impl<C: ChipSet> Parts<C> {
     pub(crate) fn step(&mut self, chip: &mut C::Chip, number: u8) -> Stepped<C::Pins>
         requires bounds { length self.old.bounds ≡ C.rules.count }
         requires number { number < C.rules.count }
-        requires time { self.old.end ≤ 2 ^ 50 }
+        requires time { self.old.end ≤ cycle_limit }
         requires place { HasPlaceFor C.rules self.old number chip.old }
         ensures { IsStep C.rules self.old number chip.old result self.new chip.new }
     {
@@ -103,7 +104,7 @@ impl<C: ChipSet> Parts<C> {
     pub(crate) fn access(&mut self, chip: &mut C::Chip, number: u8) -> bool
         requires bounds { length self.old.bounds ≡ C.rules.count }
         requires number { number < C.rules.count }
-        requires time { self.old.end ≤ 2 ^ 50 }
+        requires time { self.old.end ≤ cycle_limit }
         requires place { HasPlaceFor C.rules self.old number chip.old }
         requires shared { C.shared_ok self.old.shared }
         requires turn { bound_in self.old.bounds number ≡ (C.rules.next chip.old).key → HasTurn C.rules self.old number chip.old }
@@ -145,7 +146,7 @@ impl<C: ChipSet> Parts<C> {
     pub(crate) fn lease(&mut self, chip: &C::Chip, number: u8) -> Option<Key>
         requires bounds { length self.old.bounds ≡ C.rules.count }
         requires number { number < C.rules.count }
-        requires time { self.old.end ≤ 2 ^ 50 }
+        requires time { self.old.end ≤ cycle_limit }
         ensures { HasLease C.rules self.old number chip.now result self.new }
     {
         let next = C::next(chip);

@@ -1,5 +1,6 @@
 -- The answer that a processor keeps fits its request.
-use Rattle.std.proofs.Common.{◌≡◌, IfSome, IsSome, sym, ap, subst, ℕ, ◌<◌, ◌^◌, false, refl, ◌∙◌}
+use Rattle.std.proofs.Common.{◌≡◌, IfSome, IsSome, sym, ap, subst, ℕ, ◌<◌, false, refl, ◌∙◌}
+use Rattle.md_word.specs.Clock.{cycle_limit}
 use Rattle.z80_chip.specs.Events.{asked_of, handed}
 use Rattle.z80_chip.specs.States.{State80, next_of as sub_next_of}
 use Rattle.md_word.specs.declared.event.Next.{Next}
@@ -48,10 +49,10 @@ performed-kind (Draw b) s c is kind = cc
 performed-kind (Fm b) s c is kind = cc
 performed-kind (Psg b) s c is kind = cc
 
-pub performed-cycle : (before : Chip) (s : Board) (c : SubValue) → Sub c ≡ (perform before s).chip → (next before).key.cycle < 2 ^ 50 → c.chip.state.next < 2 ^ 50
+pub performed-cycle : (before : Chip) (s : Board) (c : SubValue) → Sub c ≡ (perform before s).chip → (next before).key.cycle < cycle_limit → c.chip.state.next < cycle_limit
 performed-cycle (Main b) s c is below = cc
 performed-cycle (Sub b) s c is below =
-    subst (λ (v : SubValue). v.chip.state.next < 2 ^ 50) (sym (ap sub_of is)) (subst (λ (n : ℕ). n < 2 ^ 50) (sym (handed-same b.chip.state).1) below)
+    subst (λ (v : SubValue). v.chip.state.next < cycle_limit) (sym (ap sub_of is)) (subst (λ (n : ℕ). n < cycle_limit) (sym (handed-same b.chip.state).1) below)
 performed-cycle (Draw b) s c is below = cc
 performed-cycle (Fm b) s c is below = cc
 performed-cycle (Psg b) s c is below = cc
@@ -64,9 +65,9 @@ performed-view (Draw b) s c is = subst (λ (v : DrawValue). IsSome v.view) (sym 
 performed-view (Fm b) s c is = cc
 performed-view (Psg b) s c is = cc
 
-pub performed-line : (before : Chip) (s : Board) (c : DrawValue) → Draw c ≡ (perform before s).chip → (next before).key.cycle < 2 ^ 50 → c.chip.next < 2 ^ 50
+pub performed-line : (before : Chip) (s : Board) (c : DrawValue) → Draw c ≡ (perform before s).chip → (next before).key.cycle < cycle_limit → c.chip.next < cycle_limit
 performed-line (Main b) s c is below = cc
 performed-line (Sub b) s c is below = cc
-performed-line (Draw b) s c is below = subst (λ (v : DrawValue). v.chip.next < 2 ^ 50) (sym (ap draw_of is)) below
+performed-line (Draw b) s c is below = subst (λ (v : DrawValue). v.chip.next < cycle_limit) (sym (ap draw_of is)) below
 performed-line (Fm b) s c is below = cc
 performed-line (Psg b) s c is below = cc

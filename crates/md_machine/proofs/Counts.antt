@@ -1,6 +1,7 @@
 -- How many samples and entries a run makes.
 use Rattle.std.proofs.Common.{◌≡◌, ◌⊎◌, inl, inr, ℕ, zero, suc, ◌+◌, ◌-◌, ◌*◌, ◌<◌, ◌≤◌, cond, Bool, true, false, List, [], ◌∷◌, length, length-append, refl, ap, ◌∙◌, subst, arith, lit<, ◌++◌}
 use Rattle.std.specs.Prelude.{ℤ}
+use Rattle.md_word.specs.Clock as clock
 use Rattle.md_word.specs.declared.event.Entry.{Entry}
 use Rattle.m68k_chip.specs.Events.{request_of}
 use Rattle.m68k_chip.specs.States.{next_of}
@@ -15,7 +16,7 @@ use Rattle.md_machine.proofs.Samples.{levels-long, sides-long}
 
 -- a sound chip's samples among those of both, the cycle of its next batch, and what a move does to them
 data Batch {A : Type 0} (of : Media → List A) (next : Console → ℕ) (z : Console) (i : ℕ) : Type 0 where
-  made : (key_in z i).cycle ≡ next z → next (moved z i) ≡ next z + 16128 → length (of (rendered z i)) ≡ 16 → Batch of next z i
+  made : (key_in z i).cycle ≡ next z → next (moved z i) ≡ next z + clock.batch → length (of (rendered z i)) ≡ 16 → Batch of next z i
   none : next (moved z i) ≡ next z → of (rendered z i) ≡ [] → Batch of next z i
 
 record Beat (A : Type 0) : Type 0 where
@@ -84,9 +85,9 @@ psg_beat = record {
 -- the batches of the first n moves from a start
 record Batches {A : Type 0} (p : Beat A) (start : Start) (end n : ℕ) : Type 0 where
   batches : ℕ
-  next : p.next (ran start.console n) ≡ 16128 * (batches_below start.at + batches + 1)
+  next : p.next (ran start.console n) ≡ clock.batch * (batches_below start.at + batches + 1)
   count : length (p.of (media_after start.console n)) ≡ 16 * batches
-  last : (batches ≡ 0) ⊎ (16128 * (batches_below start.at + batches) < end)
+  last : (batches ≡ 0) ⊎ (clock.batch * (batches_below start.at + batches) < end)
 
 -- the samples of one move more
 longer : {A : Type 0} (p : Beat A) (first second : Media) → length (p.of (joined first second)) ≡ length (p.of first) + length (p.of second)
@@ -124,7 +125,7 @@ batches-to p start end (suc n) is below =
     (p.batch (ran start.console n) (mover (ran start.console n)) (mover-lt (ran start.console n)))
 
 -- so many batches are those between the start and the end
-all_made : (before end batches : ℕ) → end ≤ 16128 * (before + batches + 1) → (batches ≡ 0) ⊎ (16128 * (before + batches) < end)
+all_made : (before end batches : ℕ) → end ≤ clock.batch * (before + batches + 1) → (batches ≡ 0) ⊎ (clock.batch * (before + batches) < end)
     → batches ≡ batches_below end - before
 all_made before end batches late (inl nothing) = omega (arith, late, nothing)
 all_made before end batches late (inr last) = omega (arith, late, last)
@@ -133,14 +134,14 @@ counted : {A : Type 0} (p : Beat A) (start : Start) (z : Console) (end : ℕ) (e
     → IsRunTo start.console end z entries sound → length (p.of sound) ≡ 16 * (batches_below end - batches_below start.at)
 counted p start z end entries sound is run =
     let made : Batches p start end run.moves = batches-to p start end run.moves is run.below in
-    let at : p.next z ≡ 16128 * (batches_below start.at + made.batches + 1) = ap p.next run.console ∙ made.next in
-    let late : end ≤ 16128 * (batches_below start.at + made.batches + 1) = subst (λ (n : ℕ). end ≤ n) at (p.late z end run.quiet) in
+    let at : p.next z ≡ clock.batch * (batches_below start.at + made.batches + 1) = ap p.next run.console ∙ made.next in
+    let late : end ≤ clock.batch * (batches_below start.at + made.batches + 1) = subst (λ (n : ℕ). end ≤ n) at (p.late z end run.quiet) in
     ap (λ (s : Media). length (p.of s)) run.rendered_to ∙ made.count
     ∙ ap (λ k. 16 * k) (all_made (batches_below start.at) end made.batches late made.last)
 
 -- the next batch behind a run is the first from its end on
-next_first : (at end batches : ℕ) → at ≤ end → end ≤ 16128 * (batches_below at + batches + 1)
-    → (batches ≡ 0) ⊎ (16128 * (batches_below at + batches) < end) → 16128 * (batches_below at + batches + 1) ≡ first_batch end
+next_first : (at end batches : ℕ) → at ≤ end → end ≤ clock.batch * (batches_below at + batches + 1)
+    → (batches ≡ 0) ⊎ (clock.batch * (batches_below at + batches) < end) → clock.batch * (batches_below at + batches + 1) ≡ first_batch end
 next_first at end batches later late (inl nothing) = omega (arith, later, late, nothing)
 next_first at end batches later late (inr last) = omega (arith, later, late, last)
 
@@ -148,8 +149,8 @@ goes_on : {A : Type 0} (p : Beat A) (start : Start) (z : Console) (end : ℕ) (e
     → IsRunTo start.console end z entries sound → p.next z ≡ first_batch end
 goes_on p start z end entries sound is later run =
     let made : Batches p start end run.moves = batches-to p start end run.moves is run.below in
-    let at : p.next z ≡ 16128 * (batches_below start.at + made.batches + 1) = ap p.next run.console ∙ made.next in
-    let late : end ≤ 16128 * (batches_below start.at + made.batches + 1) = subst (λ (n : ℕ). end ≤ n) at (p.late z end run.quiet) in
+    let at : p.next z ≡ clock.batch * (batches_below start.at + made.batches + 1) = ap p.next run.console ∙ made.next in
+    let late : end ≤ clock.batch * (batches_below start.at + made.batches + 1) = subst (λ (n : ℕ). end ≤ n) at (p.late z end run.quiet) in
     at ∙ next_first start.at end made.batches later late made.last
 
 pub sides-counted : (start : Start) (z : Console) (end : ℕ) (entries : List Entry) (sound : Media) → IsStart start

@@ -1,6 +1,7 @@
 -- How many frames a run makes: one for each start of the line behind the picture.
 use Rattle.std.proofs.Common.{◌≡◌, ◌⊎◌, ℕ, zero, suc, ◌+◌, ◌-◌, ◌*◌, ◌/◌, ◌%◌, ◌<◌, ◌≤◌, ◌==◌, cond, Bool, true, false, List, [], length, length-append, Some, None, refl, sym, ap, ◌∙◌, subst, arith, lit<, inl, inr}
 use Rattle.std.proofs.lemmas.Bool.{eq-eqb, eqb-true, true≢false}
+use Rattle.md_word.specs.Clock as clock
 use Rattle.md_word.specs.declared.event.Entry.{Entry}
 use Rattle.m68k_chip.specs.States.{next_of}
 use Rattle.z80_chip.specs.States.{next_of as sub_next_of}
@@ -19,7 +20,7 @@ use Rattle.md_machine.proofs.Regions.{ran_stays}
 
 -- a move, by whether it is the event of a line
 data LineMove (z : Console) (i : ℕ) : Type 0 where
-  made : (key_in z i).cycle ≡ z.line → (moved z i).line ≡ z.line + 3420 → length (rendered z i).frames ≡ cond (line_of z.line z.pal == rows z.pal) 1 0 → LineMove z i
+  made : (key_in z i).cycle ≡ z.line → (moved z i).line ≡ z.line + clock.line → length (rendered z i).frames ≡ cond (line_of z.line z.pal == rows z.pal) 1 0 → LineMove z i
   none : (moved z i).line ≡ z.line → (rendered z i).frames ≡ [] → LineMove z i
 
 line-leaves : (b : Bool) (x y : Console) (c : ℕ) → x.line ≡ c → y.line ≡ c → (cond b x y).line ≡ c
@@ -41,29 +42,29 @@ move-by-line z =
     (made refl refl (frames-long z)) (none refl refl) (none refl refl)
 
 -- a line more
-one-more : (b pal : Bool) (lines : ℕ) → (line_of (3420 * lines) pal == rows pal) ≡ b → finishes pal lines + cond b 1 0 ≡ finishes pal (lines + 1)
+one-more : (b pal : Bool) (lines : ℕ) → (line_of (clock.line * lines) pal == rows pal) ≡ b → finishes pal lines + cond b 1 0 ≡ finishes pal (lines + 1)
 unfolding line_of
 one-more true pal n is =
-    let at : 3420 * n / 3420 % lines pal ≡ rows pal = eqb-true _ _ is in
-    let same : 3420 * n / 3420 ≡ n = omega arith in
+    let at : clock.line * n / clock.line % lines pal ≡ rows pal = eqb-true _ _ is in
+    let same : clock.line * n / clock.line ≡ n = omega arith in
     one-more-by pal n (subst (λ (k : ℕ). k % lines pal ≡ rows pal) same at)
 one-more false pal n is =
-    let other : 3420 * n / 3420 % lines pal ≡ rows pal → ⊥ = λ e. absurd (true≢false (sym (eq-eqb _ _ e) ∙ is)) in
-    let same : 3420 * n / 3420 ≡ n = omega arith in
+    let other : clock.line * n / clock.line % lines pal ≡ rows pal → ⊥ = λ e. absurd (true≢false (sym (eq-eqb _ _ e) ∙ is)) in
+    let same : clock.line * n / clock.line ≡ n = omega arith in
     let here : finishes pal n ≡ finishes pal (n + 1) = none-more-by pal n (subst (λ (k : ℕ). k % lines pal ≡ rows pal → ⊥) same other) in
     omega (arith, here)
 
 -- how many lines begin below a cycle
 abbrev lines_below : ℕ → ℕ
-lines_below at = (at + 3419) / 3420
+lines_below at = (at + 3419) / clock.line
 
 -- the lines of the first n moves from a start
 record Lines (start : Start) (end n : ℕ) : Type 0 where
   lines : ℕ
   later : lines_below start.at ≤ lines
-  next : (ran start.console n).line ≡ 3420 * lines
+  next : (ran start.console n).line ≡ clock.line * lines
   count : finishes start.console.pal (lines_below start.at) + length (media_after start.console n).frames ≡ finishes start.console.pal lines
-  last : (lines ≡ lines_below start.at) ⊎ (3420 * (lines - 1) < end)
+  last : (lines ≡ lines_below start.at) ⊎ (clock.line * (lines - 1) < end)
 
 longer : (m : Console) (n : ℕ) → length (media_after m (suc n)).frames ≡ length (media_after m n).frames + length (rendered (ran m n) (mover (ran m n))).frames
 unfolding media_after
@@ -80,16 +81,16 @@ unfolding ran
 line-more start end n before below (made at next one) =
     let m : Console = start.console in
     let pal : Bool = m.pal in
-    let line : (ran m n).line ≡ 3420 * before.lines = before.next in
-    let fresh : length (rendered (ran m n) (mover (ran m n))).frames ≡ cond (line_of (3420 * before.lines) pal == rows pal) 1 0 =
+    let line : (ran m n).line ≡ clock.line * before.lines = before.next in
+    let fresh : length (rendered (ran m n) (mover (ran m n))).frames ≡ cond (line_of (clock.line * before.lines) pal == rows pal) 1 0 =
     one ∙ ap (λ (c : ℕ). cond (line_of c (ran m n).pal == rows (ran m n).pal) 1 0) line
-    ∙ ap (λ (q : Bool). cond (line_of (3420 * before.lines) q == rows q) 1 0) (ran_stays m n).pal in
+    ∙ ap (λ (q : Bool). cond (line_of (clock.line * before.lines) q == rows q) 1 0) (ran_stays m n).pal in
     record {
       lines = before.lines + 1;
       later = omega (arith, before.later);
       next = omega (arith, next, line);
       count = counted_on (finishes pal (lines_below start.at)) (length (media_after m n).frames) (length (media_after m (suc n)).frames) (finishes pal before.lines) (length (rendered (ran m n) (mover (ran m n))).frames)
-          (finishes pal (before.lines + 1)) (longer m n) before.count (ap (λ (k : ℕ). finishes pal before.lines + k) fresh ∙ one-more (line_of (3420 * before.lines) pal == rows pal) pal before.lines refl);
+          (finishes pal (before.lines + 1)) (longer m n) before.count (ap (λ (k : ℕ). finishes pal before.lines + k) fresh ∙ one-more (line_of (clock.line * before.lines) pal == rows pal) pal before.lines refl);
       last = inr (omega (arith, at, line, below));
     }
 line-more start end n before below (none next silent) = record {
@@ -123,7 +124,7 @@ none-left n = omega arith
 none-over : (n m : ℕ) → n ≤ m → n - m ≡ 0
 none-over n m l = omega (arith, l)
 
-counted : (pal : Bool) (at end lines : ℕ) → end ≤ 3420 * lines → lines_below at ≤ lines → (lines ≡ lines_below at) ⊎ (3420 * (lines - 1) < end)
+counted : (pal : Bool) (at end lines : ℕ) → end ≤ clock.line * lines → lines_below at ≤ lines → (lines ≡ lines_below at) ⊎ (clock.line * (lines - 1) < end)
     → finishes pal lines - finishes pal (lines_below at) ≡ frames_below pal end - frames_below pal at
 counted pal at end lines late later (inl first) =
     let within : lines_below end ≤ lines_below at = omega (arith, late, first) in
@@ -144,14 +145,14 @@ unfolding key_in
 counts-frames start z end entries output is run =
     let made : Lines start end run.moves = lines-to start end run.moves is run.below in
     let late : end ≤ z.line = run.quiet 2 (lit< tt) in
-    let at : z.line ≡ 3420 * made.lines = ap (λ (m : Console). m.line) run.console ∙ made.next in
+    let at : z.line ≡ clock.line * made.lines = ap (λ (m : Console). m.line) run.console ∙ made.next in
     let pal : Bool = start.console.pal in
     let few : length (media_after start.console run.moves).frames ≡ finishes pal made.lines - finishes pal (lines_below start.at) =
     what_came (finishes pal (lines_below start.at)) (length (media_after start.console run.moves).frames) (finishes pal made.lines) made.count in
     ap (λ (m : Media). length m.frames) run.rendered_to ∙ few ∙ counted pal start.at end made.lines (subst (λ (n : ℕ). end ≤ n) at late) made.later made.last
 
 -- the next line behind a run is the first from its end on
-next_first : (at end lines : ℕ) → at ≤ end → end ≤ 3420 * lines → (lines ≡ lines_below at) ⊎ (3420 * (lines - 1) < end) → 3420 * lines ≡ first_line end
+next_first : (at end lines : ℕ) → at ≤ end → end ≤ clock.line * lines → (lines ≡ lines_below at) ⊎ (clock.line * (lines - 1) < end) → clock.line * lines ≡ first_line end
 next_first at end lines later late (inl first) = omega (arith, later, late, first)
 next_first at end lines later late (inr last) = omega (arith, later, late, last)
 
@@ -161,5 +162,5 @@ unfolding key_in
 line-goes-on start z end entries output is later run =
     let made : Lines start end run.moves = lines-to start end run.moves is run.below in
     let late : end ≤ z.line = run.quiet 2 (lit< tt) in
-    let at : z.line ≡ 3420 * made.lines = ap (λ (m : Console). m.line) run.console ∙ made.next in
+    let at : z.line ≡ clock.line * made.lines = ap (λ (m : Console). m.line) run.console ∙ made.next in
     at ∙ next_first start.at end made.lines later (subst (λ (n : ℕ). end ≤ n) at late) made.last

@@ -1,6 +1,7 @@
 -- The frame that the drawing half keeps is that of the record's run: over a segment there is one at most.
 use Rattle.std.proofs.Common.{◌≡◌, ◌⊎◌, ℕ, zero, suc, ◌+◌, ◌<◌, ◌≤◌, ◌==◌, ◌%◌, cond, Bool, true, false, List, [], ◌∷◌, ◌++◌, refl, sym, ap, ◌∙◌, arith, subst, lit<, inl, inr, Option, Some, None, length, eqb-true}
 use Rattle.std.proofs.lemmas.List.{append-nil}
+use Rattle.md_word.specs.Clock as clock
 use Rattle.chip_core.specs.Machines as machines
 use Rattle.chip_core.specs.Machines.{AllBelow, IsValid, Machine, is_sample, key_of, move, put, run}
 use Rattle.vdp_time.specs.Lines.{line_of}
@@ -35,18 +36,18 @@ record Finished (pal : Bool) (from next : ℕ) : Type 0 where
   behind : from ≤ at
   before : at < next
   line : line_of at pal ≡ rows pal
-  whole : at % 3420 ≡ 0
+  whole : at % clock.line ≡ 0
 
 -- no frame is kept but one that was finished behind a cycle
 abbrev Once : Bool → ℕ → ℕ → Option (List ℕ) → Type 0
 Once pal from next frame = (frames_of frame ≡ []) ⊎ Finished pal from next
 
 -- within a frame's cycles none follows
-none-follows : (pal : Bool) (from next : ℕ) → Finished pal from next → line_of next pal ≡ rows pal → next % 3420 ≡ 0 → next < from + frame_cycles pal → ⊥
+none-follows : (pal : Bool) (from next : ℕ) → Finished pal from next → line_of next pal ≡ rows pal → next % clock.line ≡ 0 → next < from + frame_cycles pal → ⊥
 unfolding line_of
 none-follows pal from next f line whole near = only_one pal from f.at next f.behind f.before f.line f.whole line whole near
 
-none-before : (pal : Bool) (from next : ℕ) (frame : Option (List ℕ)) → Once pal from next frame → line_of next pal ≡ rows pal → next % 3420 ≡ 0 → next < from + frame_cycles pal → frames_of frame ≡ []
+none-before : (pal : Bool) (from next : ℕ) (frame : Option (List ℕ)) → Once pal from next frame → line_of next pal ≡ rows pal → next % clock.line ≡ 0 → next < from + frame_cycles pal → frames_of frame ≡ []
 none-before pal from next frame (inl none) line whole near = none
 none-before pal from next frame (inr f) line whole near = absurd (none-follows pal from next f line whole near)
 
@@ -56,8 +57,8 @@ framed_by : (b : Bool) (old : Option (List ℕ)) (picture : List ℕ) (frames : 
 framed_by true old picture frames same none = ap (λ (l : List (List ℕ)). l ++ (picture ∷ [])) (sym (none refl) ∙ same)
 framed_by false old picture frames same none = same ∙ sym (append-nil frames)
 
-once_by : (b pal : Bool) (old : Option (List ℕ)) (picture : List ℕ) (from next : ℕ) → (b ≡ true → line_of next pal ≡ rows pal) → next % 3420 ≡ 0 → from ≤ next → Once pal from next old
-    → Once pal from (next + 3420) (cond b (Some picture) old)
+once_by : (b pal : Bool) (old : Option (List ℕ)) (picture : List ℕ) (from next : ℕ) → (b ≡ true → line_of next pal ≡ rows pal) → next % clock.line ≡ 0 → from ≤ next → Once pal from next old
+    → Once pal from (next + clock.line) (cond b (Some picture) old)
 once_by true pal old picture from next line whole behind once =
     inr (record { at = next; behind = behind; before = omega arith; line = line refl; whole = whole })
 once_by false pal old picture from next line whole behind (inl none) = inl none
@@ -83,7 +84,7 @@ frame-after : (v : DrawValue) (s : Board)
 unfolding drawn_from line_drawn picture_after finished
 frame-after v s = ap (λ (d : Drawing). d.frame) (told-drawn (view_on v s) (record v.chip { has_view = false }) refl)
 
-next-after : (v : DrawValue) (s : Board) → (draw_advance (draw_perform v s).chip).chip.next ≡ v.chip.next + 3420
+next-after : (v : DrawValue) (s : Board) → (draw_advance (draw_perform v s).chip).chip.next ≡ v.chip.next + clock.line
 unfolding drawn_from line_drawn
 next-after v s = refl
 
@@ -119,7 +120,7 @@ line-framed pal m v frames from is ok near before =
     ap (λ (d : Drawing). d.frame) left ∙ frame-after v m.shared in
     let region : (draw_advance (draw_perform v m.shared).chip).chip.pal ≡ v.chip.pal = region-after v m.shared in
     let its : v.chip.pal ≡ pal = subst (λ (d : Drawing). d.pal ≡ pal) here before.region in
-    let later : (drawing_of (move five m 2)).next ≡ v.chip.next + 3420 = ap (λ (d : Drawing). d.next) left ∙ next-after v m.shared in
+    let later : (drawing_of (move five m 2)).next ≡ v.chip.next + clock.line = ap (λ (d : Drawing). d.next) left ∙ next-after v m.shared in
     let behind : from ≤ v.chip.next = subst (λ (d : Drawing). from ≤ d.next) here before.behind in
     let once : Once pal from v.chip.next v.chip.frame = subst (λ (d : Drawing). Once pal from d.next d.frame) here before.once in
     let on_line : (line_of v.chip.next v.chip.pal == rows v.chip.pal) ≡ true → line_of v.chip.next pal ≡ rows pal =
@@ -134,7 +135,7 @@ line-framed pal m v frames from is ok near before =
           ∙ ap (λ (l : List (List ℕ)). frames ++ l) (sym (line-made m v is));
       behind = omega (arith, later, behind);
       once = subst (λ (n : ℕ). Once pal from n (drawing_of (move five m 2)).frame) (sym later)
-          (subst (λ (f : Option (List ℕ)). Once pal from (v.chip.next + 3420) f) (sym frame)
+          (subst (λ (f : Option (List ℕ)). Once pal from (v.chip.next + clock.line) f) (sym frame)
           (once_by (line_of v.chip.next v.chip.pal == rows v.chip.pal) pal v.chip.frame (picture_on v m.shared) from v.chip.next on_line ok.chip.at_line behind once));
     }
 
@@ -194,8 +195,3 @@ pub frames-kept : (m : Machine Chip Board) (from to n : ℕ) → ValidTo m n →
     → to ≤ from + frame_cycles (drawing_of m).pal → AllBelow five m to n → frames_of (draw_of ((run five m n).chip 2)).chip.frame ≡ (media_after (console_of m) n).frames
 frames-kept m from to n valid here movers none quiet near below =
     (frames-framed (drawing_of m).pal m from to n valid movers none quiet near below (first-framed m from here none quiet)).same
-
--- there is one at most
-pub one-frame : (frame : Option (List ℕ)) → length (frames_of frame) ≤ 1
-one-frame None = omega arith
-one-frame (Some picture) = omega arith

@@ -1,5 +1,6 @@
 -- A move of the five chips is the record's move.
 use Rattle.std.proofs.Common.{◌≡◌, ℕ, zero, suc, ◌<◌, Bool, true, false, cond, ◌+◌, List, [], ◌∷◌, length, None, refl, sym, ap, ◌∙◌, arith, lit<}
+use Rattle.md_word.specs.Clock as clock
 use Rattle.md_word.specs.declared.event.Entry.{Entry}
 use Rattle.md_word.specs.declared.key.Key.{Key}
 use Rattle.chip_core.specs.Machines.{IsValid, Machine, entries, is_sample, key_of, move, put}
@@ -92,7 +93,7 @@ line-seen : (z : Console) (view : LineView) (d : Drawing) → view.pal ≡ d.pal
       note = (drawn_from view (record { next = d.next; note = d.note; has_view = true; picture = d.picture; frame = None; pal = d.pal })).note;
       picture = (drawn_from view (record { next = d.next; note = d.note; has_view = true; picture = d.picture; frame = None; pal = d.pal })).picture;
       pal = d.pal;
-      line = d.next + 3420;
+      line = d.next + clock.line;
     }
 unfolding drawn_from line_drawn picture_after
 line-seen z view d same =

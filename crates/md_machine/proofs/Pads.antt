@@ -70,7 +70,7 @@ shown_high : (pal : Bool) (recording : Recorded) (n f : ℕ) → rows pal < n �
 shown_high pal recording n f h e = rw (lt-leb n (rows pal) h) (ap (pads_of recording) e)
 
 -- the line behind the picture is as many lines on as the picture has rows
-behind-rows : (pal : Bool) (k : ℕ) → line * k % frame_cycles pal ≡ finished_at pal → line * k % frame_cycles pal ≡ 3420 * rows pal
+behind-rows : (pal : Bool) (k : ℕ) → line * k % frame_cycles pal ≡ finished_at pal → line * k % frame_cycles pal ≡ line * rows pal
 behind-rows pal k e = e ∙ finished-rows pal
 
 some-behind : (pal : Bool) (k : ℕ) → line * k % frame_cycles pal ≡ finished_at pal → rows pal < k + 1
@@ -119,7 +119,7 @@ line_shows : (pal : Bool) (recording : Recorded) (z : Console) → ShowsPads pal
 unfolding line_moved line_board pads_board
 line_shows pal recording z shows =
     let k : ℕ = lines_begun z in
-    let next : (z.line + 3420) / line ≡ k + 1 = omega (arith, shows.lines) in
+    let next : (z.line + line) / line ≡ k + 1 = omega (arith, shows.lines) in
     let started : Board = video_started z.shared z.line z.note in
     let region : started.vdp.pal ≡ pal = begun_region z.line z.note z.shared.vdp ∙ shows.region in
     let test : Bool = z.line % frame_cycles started.vdp.pal == finished_at started.vdp.pal in

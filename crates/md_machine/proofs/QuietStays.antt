@@ -1,5 +1,6 @@
 -- No event of a run stands before the first one.
-use Rattle.std.proofs.Common.{◌≡◌, ℕ, ◌+◌, ◌*◌, ◌<◌, ◌≤◌, ◌^◌, sym, ap, ◌∙◌, subst, arith}
+use Rattle.std.proofs.Common.{◌≡◌, ℕ, ◌+◌, ◌*◌, ◌<◌, ◌≤◌, sym, ap, ◌∙◌, subst, arith}
+use Rattle.md_word.specs.Clock.{cycle_limit}
 use Rattle.md_word.specs.declared.key.Key.{Key}
 use Rattle.chip_core.specs.Machines.{IsValid, Machine, key_of, made, run}
 use Rattle.chip_core.specs.Machines as machines
@@ -17,11 +18,11 @@ use Rattle.md_machine.proofs.ValidParts.{Stages, console_again, machine_in, vali
 
 -- a chip's key rises by a gap at each of its moves
 abbrev pub Spread : Type 0
-Spread = (m : Machine Chip Board) (t n i : ℕ) → t ≤ 2 ^ 50 → IsValid five IsChip IsBoard m → machines.AllBelow five m t n → i < five.count
+Spread = (m : Machine Chip Board) (t n i : ℕ) → t ≤ cycle_limit → IsValid five IsChip IsBoard m → machines.AllBelow five m t n → i < five.count
     → (key_of five m i).cycle + made five m i n * five.gap i ≤ (key_of five (run five m n) i).cycle
 
 -- the keys of a valid machine rise over a run
-pub keys-rise : Stages → Movers → Spread → (m : Console) (end n i : ℕ) → end ≤ 2 ^ 50 → HasValidParts m → consoles.AllBelow m end n → i < 5
+pub keys-rise : Stages → Movers → Spread → (m : Console) (end n i : ℕ) → end ≤ cycle_limit → HasValidParts m → consoles.AllBelow m end n → i < 5
     → (key_in m i).cycle ≤ (key_in (ran m n) i).cycle
 keys-rise stages movers spread m end n i small has below less =
     let first : Machine Chip Board = machine_in m in
@@ -38,7 +39,7 @@ keys-rise stages movers spread m end n i small has below less =
     subst (λ (k : Key). k.cycle ≤ (key_in (ran m n) i).cycle) start (subst (λ (k : Key). (key_of five first i).cycle ≤ k.cycle) last more)
 
 -- so what is quiet before a cycle stays so
-pub stays-quiet : Stages → Movers → Spread → (m : Console) (at end n : ℕ) → end ≤ 2 ^ 50 → HasValidParts m → IsQuiet at m → consoles.AllBelow m end n
+pub stays-quiet : Stages → Movers → Spread → (m : Console) (at end n : ℕ) → end ≤ cycle_limit → HasValidParts m → IsQuiet at m → consoles.AllBelow m end n
     → IsQuiet at (ran m n)
 stays-quiet stages movers spread m at end n small has quiet below = λ i less.
     let rise = keys-rise stages movers spread m end n i small has below less in

@@ -57,7 +57,3 @@ ran_stays m (suc n) =
 
 pub run_stays : (m w : Console) (end : ℕ) (entries : List Entry) (output : Media) → IsRunTo m end w entries output → Stays m w
 run_stays m w end entries output run = subst (Stays m) (sym run.console) (ran_stays m run.moves)
-
--- a machine of one region stays one
-pub stays_one : (m w : Console) → Stays m w → IsOneRegion m → IsOneRegion w
-stays_one m w stays one = stays.pal ∙ one ∙ sym stays.region

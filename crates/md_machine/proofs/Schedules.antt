@@ -1,6 +1,6 @@
 -- Lists of enabled events of the five chips end as the run, in one go and segment after segment.
-use Rattle.std.proofs.Common.{◌≡◌, ◌∙◌, ℕ, ◌+◌, ◌-◌, ◌<◌, ◌≤◌, ◌^◌, false, refl, sym, ap, subst, arith, lit<, le_trans, List, [], ◌∷◌, ◌++◌, length}
-use Rattle.md_word.specs.Clock.{last_cycle}
+use Rattle.std.proofs.Common.{◌≡◌, ◌∙◌, ℕ, ◌+◌, ◌-◌, ◌<◌, ◌≤◌, false, refl, sym, ap, subst, arith, lit<, le_trans, List, [], ◌∷◌, ◌++◌, length}
+use Rattle.md_word.specs.Clock.{cycle_limit, last_cycle}
 use Rattle.md_word.specs.Keys.{key_lt}
 use Rattle.md_word.specs.Region.{frame_cycles}
 use Rattle.md_word.specs.declared.event.Entry.{Entry}
@@ -40,13 +40,13 @@ use Rattle.md_machine.proofs.ValidParts.{Stages, console_again, machine_in, vali
 pub record CoreLaws : Type 0 where
   pub mover : Movers
   pub valid : Stages
-  pub made : (m : Machine Chip Board) (t n i : ℕ) → t ≤ 2 ^ 50 → IsValid five IsChip IsBoard m → AllBelow five m t n → i < five.count
+  pub made : (m : Machine Chip Board) (t n i : ℕ) → t ≤ cycle_limit → IsValid five IsChip IsBoard m → AllBelow five m t n → i < five.count
       → made five m i n ≤ moves_left five t m i
-  pub first : (base : Seen Chip Board) (t : ℕ) → t ≤ 2 ^ 50 → IsValid five IsChip IsBoard base.machine
+  pub first : (base : Seen Chip Board) (t : ℕ) → t ≤ cycle_limit → IsValid five IsChip IsBoard base.machine
       → StandsFor five base.machine base.bound t base.machine base.bound [] (λ i. 0)
-  pub ended : (base s : Seen Chip Board) (t : ℕ) → t ≤ 2 ^ 50 → IsValid five IsChip IsBoard base.machine → IsTidy five IsChip IsBoard s
+  pub ended : (base s : Seen Chip Board) (t : ℕ) → t ≤ cycle_limit → IsValid five IsChip IsBoard base.machine → IsTidy five IsChip IsBoard s
       → Stands five base t s → machines.IsQuiet five s.machine t → machines.IsRunTo five base.machine t s.machine s.journal
-  pub few : (s z : Seen Chip Board) (t from : ℕ) (list : List Event) → t ≤ 2 ^ 50 → IsTidy five IsChip IsBoard s
+  pub few : (s z : Seen Chip Board) (t from : ℕ) (list : List Event) → t ≤ cycle_limit → IsTidy five IsChip IsBoard s
       → machines.IsQuiet five s.machine from → Leads five t s list z → length list ≤ events_within five (t - from)
 
 -- a core at the beginning of a segment: it keeps nothing, and no event stands below the cycle
@@ -56,12 +56,12 @@ record IsFresh (at : ℕ) (s : Seen Chip Board) : Type 0 where
   journal : s.journal ≡ []
   media : kept_in s.machine ≡ no_media
 
-small : (to : ℕ) → to ≤ last_cycle → to ≤ 2 ^ 50
+small : (to : ℕ) → to ≤ last_cycle → to ≤ cycle_limit
 small to far = omega (arith, far)
 
 -- ---- a list of enabled events from such a core
 
-module _ (laws : CoreLaws) (at : ℕ) (s : Seen Chip Board) (fresh : IsFresh at s) (to : ℕ) (far : to ≤ 2 ^ 50) (list : List Event) (z : Seen Chip Board) (leads : Leads five to s list z) where
+module _ (laws : CoreLaws) (at : ℕ) (s : Seen Chip Board) (fresh : IsFresh at s) (to : ℕ) (far : to ≤ cycle_limit) (list : List Event) (z : Seen Chip Board) (leads : Leads five to s list z) where
   valid : IsValid five IsChip IsBoard s.machine
   valid = fresh.tidy.valid
 
@@ -128,7 +128,7 @@ segment-on : CoreLaws → (start : Console) (before : Between) (segment : Segmen
     → IsRunTo start before.at (console_of before.core.machine) before.entries before.media
     → IsRunTo start segment.to (console_of (drained segment.core).machine) (before.entries ++ segment.core.journal) (joined before.media (kept_in segment.core.machine))
 segment-on laws start before segment fresh is made =
-    let far : segment.to ≤ 2 ^ 50 = small segment.to is.far in
+    let far : segment.to ≤ cycle_limit = small segment.to is.far in
     let own : IsRunTo (console_of before.core.machine) segment.to (console_of segment.core.machine) segment.core.journal (kept_in segment.core.machine) =
     segment-came laws before.at before.core fresh segment.to far segment.events segment.core is.leads is.near is.ended in
     subst (λ (m : Console). IsRunTo start segment.to m (before.entries ++ segment.core.journal) (joined before.media (kept_in segment.core.machine)))

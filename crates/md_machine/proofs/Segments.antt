@@ -1,6 +1,7 @@
 -- A segment of the five chips' run, as the record's.
 use Rattle.std.proofs.Common.{◌≡◌, refl, ℕ, suc, ◌+◌, ◌-◌, ◌*◌, ◌/◌, ◌<◌, ◌≤◌, cond, Bool, true, false, List, length, ap, ◌∙◌, arith, subst, lit<, zero, sym, ◌==◌, ◌⊎◌, inl, inr}
 use Rattle.std.specs.Prelude.{nat_lt}
+use Rattle.md_word.specs.Clock as clock
 use Rattle.md_word.specs.declared.event.Entry.{Entry}
 use Rattle.md_word.specs.declared.key.Key.{Key}
 use Rattle.chip_core.specs.Limits.{all_moves_left, moves_left, moves_within, total}
@@ -29,11 +30,11 @@ within-few true span short = omega (arith, short)
 within-few false span short = omega (arith, short)
 
 -- how many batches of a sound chip
-left-of : (pal : Bool) (key to : ℕ) → to ≤ key + frame_cycles pal → (to - key) / 16128 + 1 ≤ most_batches pal
+left-of : (pal : Bool) (key to : ℕ) → to ≤ key + frame_cycles pal → (to - key) / clock.batch + 1 ≤ most_batches pal
 left-of true key to near = omega (arith, near)
 left-of false key to near = omega (arith, near)
 
-left_by : (b pal : Bool) (key to : ℕ) → to ≤ key + frame_cycles pal → cond b ((to - key) / 16128 + 1) 0 ≤ most_batches pal
+left_by : (b pal : Bool) (key to : ℕ) → to ≤ key + frame_cycles pal → cond b ((to - key) / clock.batch + 1) 0 ≤ most_batches pal
 left_by true pal key to near = left-of pal key to near
 left_by false pal key to near = omega arith
 

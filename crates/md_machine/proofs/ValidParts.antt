@@ -1,5 +1,6 @@
 -- The parts of a machine stay valid over a run.
-use Rattle.std.proofs.Common.{◌≡◌, ℕ, ◌≤◌, ◌^◌, Bool, List, refl, sym, subst, arith, lit<, lit≤}
+use Rattle.std.proofs.Common.{◌≡◌, ℕ, ◌≤◌, Bool, List, refl, sym, subst, arith, lit<, lit≤}
+use Rattle.md_word.specs.Clock.{cycle_limit}
 use Rattle.chip_core.specs.Cores.{machine_of}
 use Rattle.chip_core.specs.Machines.{IsValid, Machine, key_of, run}
 use Rattle.chip_core.specs.Machines as machines
@@ -95,9 +96,9 @@ parts_begun cart recording pal image = record {
 
 -- the stages of a run of valid machines are valid
 abbrev pub Stages : Type 0
-Stages = (m : Machine Chip Board) (t n : ℕ) → t ≤ 2 ^ 50 → IsValid five IsChip IsBoard m → machines.AllBelow five m t n → IsValid five IsChip IsBoard (run five m n)
+Stages = (m : Machine Chip Board) (t n : ℕ) → t ≤ cycle_limit → IsValid five IsChip IsBoard m → machines.AllBelow five m t n → IsValid five IsChip IsBoard (run five m n)
 
-pub parts_ran : Stages → Movers → (m : Console) (end n : ℕ) → end ≤ 2 ^ 50 → HasValidParts m → consoles.AllBelow m end n → HasValidParts (ran m n)
+pub parts_ran : Stages → Movers → (m : Console) (end n : ℕ) → end ≤ cycle_limit → HasValidParts m → consoles.AllBelow m end n → HasValidParts (ran m n)
 parts_ran stages movers m end n small has below =
     let first : Machine Chip Board = machine_in m in
     let valid : IsValid five IsChip IsBoard first = valid_in m has in

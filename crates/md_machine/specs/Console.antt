@@ -1,6 +1,7 @@
 -- The machine as one record, and what a move of each chip changes. Each memory that may be written
 -- stands once; the cartridge stands with each of the two processors.
 use Rattle.std.specs.Prelude.{◌≡◌, ℕ, Bool, zero, suc, ◌+◌, ◌-◌, ◌*◌, ◌/◌, ◌<◌, ◌≤◌, ◌==◌, ◌&&◌, cond, true, List, [], ◌∷◌, ◌++◌, length, Option, None}
+use Rattle.md_word.specs.Clock as clock
 use Rattle.md_word.specs.declared.event.Entry.{Entry}
 use Rattle.md_word.specs.declared.key.Key.{Key}
 use Rattle.chip_core.specs.Machines.{least_below}
@@ -65,8 +66,8 @@ power_on cart recording pal = record {
   picture = (drawings.at_power_on pal).picture;
   pal = pal;
   line = 0;
-  fm_cycle = 16128;
-  psg_cycle = 16128;
+  fm_cycle = clock.batch;
+  psg_cycle = clock.batch;
   fm = fm_synths.at_power_on;
   psg = at_power_on;
   shared = boards.power_on recording pal;
@@ -74,7 +75,7 @@ power_on cart recording pal = record {
 
 -- the number of the first sample of the batch at a cycle
 abbrev pub first_of : ℕ → ℕ
-first_of cycle = 16 * (cycle / 16128 - 1)
+first_of cycle = 16 * (cycle / clock.batch - 1)
 
 -- the keys of the next events
 unfoldable pub key_in : Console → ℕ → Key
@@ -121,7 +122,7 @@ unfoldable pub line_moved : Console → Console
 line_moved m = record m {
   note = (line_done m).note;
   picture = (line_done m).picture;
-  line = m.line + 3420;
+  line = m.line + clock.line;
   shared = line_board m.shared m.line m.note;
 }
 
@@ -133,7 +134,7 @@ fm_taken m = fm_ports.taken_below m.fm_cycle m.shared.fm.writes
 unfoldable pub fm_moved : Console → Console
 fm_moved m = record m {
   fm = fm_batches.after_batch (first_of m.fm_cycle) m.fm (fm_taken m);
-  fm_cycle = m.fm_cycle + 16128;
+  fm_cycle = m.fm_cycle + clock.batch;
   shared = fm_board m.shared m.fm_cycle;
 }
 
@@ -141,7 +142,7 @@ fm_moved m = record m {
 unfoldable pub psg_moved : Console → Console
 psg_moved m = record m {
   psg = after_batch (first_of m.psg_cycle) m.psg (taken_below m.psg_cycle m.shared.psg);
-  psg_cycle = m.psg_cycle + 16128;
+  psg_cycle = m.psg_cycle + clock.batch;
   shared = psg_board m.shared m.psg_cycle;
 }
 

@@ -1,5 +1,6 @@
 -- The parts of the machine at power-on.
 use Rattle.std.specs.Prelude.{ℕ, Bool, List, [], ◌∷◌}
+use Rattle.md_word.specs.Clock as clock
 use Rattle.md_word.specs.declared.key.Key.{Key}
 use Rattle.m68k_chip.specs.States.{power_on}
 use Rattle.z80_chip.specs.States as states80
@@ -28,4 +29,4 @@ first_chips cart pal = chips_of (first_parts cart pal)
 abbrev pub first_bounds : List Key
 first_bounds =
     record { cycle = 0; chip = 0 } ∷ record { cycle = 0; chip = 1 } ∷ record { cycle = 0; chip = 2 }
-    ∷ record { cycle = 16128; chip = 3 } ∷ record { cycle = 16128; chip = 4 } ∷ []
+    ∷ record { cycle = clock.batch; chip = 3 } ∷ record { cycle = clock.batch; chip = 4 } ∷ []

@@ -1,5 +1,5 @@
 -- What the scheduler asks of the five chips.
-use Rattle.std.specs.Prelude.{◌≡◌, ℕ, ◌^◌, ◌<◌, ◌≤◌, nat_le, Bool, true, false, ◌==◌, refl, List, ◌++◌, length, cond, ◌+◌, ◌||◌, Option, Some, None}
+use Rattle.std.specs.Prelude.{◌≡◌, ℕ, ◌<◌, ◌≤◌, nat_le, Bool, true, false, ◌==◌, refl, List, ◌++◌, length, cond, ◌+◌, ◌||◌, Option, Some, None}
 use Rattle.std.proofs.Common.{arith, sym, length-append, lit<, lit≤, ap, subst, Result, Ok, Err, IfSome, IsTrue, leb-true, true≢false}
 use Rattle.chip_core.specs.Chips.{Follows, IsDue, Lawful}
 use Rattle.md_word.specs.declared.key.Key.{Key}
@@ -18,6 +18,7 @@ use Rattle.bus_shared.specs.Entries.{main_entry}
 use Rattle.fm_chip.specs.Batches as fm_batches
 use Rattle.bus_shared.proofs.Keeps.{fm_board-ok, fm_taken-few, line-ok, main-ok, psg_board-ok}
 use Rattle.std.proofs.lemmas.List.FromFn.{length-map-range_with_len}
+use Rattle.md_word.specs.Clock as clock
 use Rattle.bus_shared.proofs.Keeps as keeps
 use Rattle.bus_shared.proofs.Keeps.{HandsOver}
 use Rattle.bus_shared.proofs.Touches.{batch_pins_stay, fm_batch_pins_stay, sub_pins_stay}
@@ -126,9 +127,9 @@ handed-next : (state : State80) → (handed state).next ≡ state.next
 unfolding handed
 handed-next state = refl
 
-sub-later : (c : SubValue) (s : Board) → IsSub c → (sub_next_of c.chip.state).sample ≡ false → c.chip.state.next + 45 ≤ (sub_advance (sub_perform c s).chip).chip.state.next
+sub-later : (c : SubValue) (s : Board) → IsSub c → (sub_next_of c.chip.state).sample ≡ false → c.chip.state.next + clock.sub_gap ≤ (sub_advance (sub_perform c s).chip).chip.state.next
 sub-later c s ok kind =
-    subst (λ (n : ℕ). n + 45 ≤ (sub_advance (sub_perform c s).chip).chip.state.next) (handed-next c.chip.state)
+    subst (λ (n : ℕ). n + clock.sub_gap ≤ (sub_advance (sub_perform c s).chip).chip.state.next) (handed-next c.chip.state)
     (laws80.answered-later (laws80.of c.chip.cart (handed c.chip.state)) _ (laws80.handed-ok c.chip ok) (handed-kind c.chip.state kind))
 
 -- the levels of the pins are known
@@ -250,7 +251,7 @@ access-entry (Fm c) s i d = refl
 access-entry (Psg c) s i d = refl
 
 -- each gap is one of four
-gap_from : (b0 b1 b2 : Bool) → (1 ≤ cond b0 28 (cond b1 45 (cond b2 3420 16128))) × (cond b0 28 (cond b1 45 (cond b2 3420 16128)) ≤ 2 ^ 50)
+gap_from : (b0 b1 b2 : Bool) → (1 ≤ cond b0 clock.main_gap (cond b1 clock.sub_gap (cond b2 clock.line clock.batch))) × (cond b0 clock.main_gap (cond b1 clock.sub_gap (cond b2 clock.line clock.batch)) ≤ clock.cycle_limit)
 gap_from true b1 b2 = (lit≤ tt, lit≤ tt)
 gap_from false true b2 = (lit≤ tt, lit≤ tt)
 gap_from false false true = (lit≤ tt, lit≤ tt)

@@ -3,7 +3,7 @@ use Rattle.std.specs.Prelude.{◌≡◌, ℕ, ◌+◌, ◌<◌, ◌≤◌, ◌&&
 use Rattle.std.proofs.Common.{refl, sym, ap, ◌∙◌, arith, inl, inr}
 use Rattle.std.proofs.lemmas.Bool.{cases_Bool, le-ltb, ltb-false, ltb-true}
 use Rattle.md_word.specs.Clock.{line}
-use Rattle.md_word.specs.Region.{height, rows}
+use Rattle.md_word.specs.Region.{height, picture_width, rows}
 use Rattle.vdp_ports.specs.Vdp.{Vdp}
 use Rattle.vdp_time.specs.Lines.{line_of}
 use Rattle.vdp_planes.specs.Dots.{Dot}
@@ -39,7 +39,7 @@ pub is_drawn : {A : Type 0} (d : Drawing) (f : A → LineView) (view : Option A)
 is_drawn d f view ok is = record { chip = ok; view = is ∙ ap not (sym (some-told f view)) }
 
 -- the next line comes 3,420 cycles later
-pub drawn-next : (view : LineView) (d : Drawing) → (drawn_from view d).next ≡ d.next + 3420
+pub drawn-next : (view : LineView) (d : Drawing) → (drawn_from view d).next ≡ d.next + line
 unfolding drawn_from line_drawn
 drawn-next view d = refl
 
@@ -71,7 +71,7 @@ note-behind v w y first second = rw (le-ltb y (display_height v) first, le-ltb y
 
 -- a line that is drawn from a view and the dots of its sprites
 line-made : (view : LineView) (s : List Dot) (note : SpriteNote) (d : Drawing) → note ≡ note_on (line_of d.next d.pal) view
-    → (line_of d.next d.pal < display_height view → (x : ℕ) → x < 320 → dot_at s x ≡ sprite_dot view (line_of d.next d.pal) x)
+    → (line_of d.next d.pal < display_height view → (x : ℕ) → x < picture_width → dot_at s x ≡ sprite_dot view (line_of d.next d.pal) x)
     → line_drawn view s note d ≡ drawn_from view d
 unfolding drawn_from
 line-made view s note d noted dots =
@@ -120,14 +120,14 @@ filled_region cycle vdp view = elim (cases_Bool (nat_lt (line_of cycle view.pal)
 
 -- a line that is drawn from a view which was lent, and comes back with it
 pub lent_drawn : (view : LineView) (s : List Dot) (note : SpriteNote) (d : Drawing) → view.pal ≡ d.pal → note ≡ note_on (line_of d.next d.pal) view
-    → (line_of d.next d.pal < display_height view → (x : ℕ) → x < 320 → dot_at s x ≡ sprite_dot view (line_of d.next d.pal) x)
+    → (line_of d.next d.pal < display_height view → (x : ℕ) → x < picture_width → dot_at s x ≡ sprite_dot view (line_of d.next d.pal) x)
     → answered view s note d ≡ record (drawn_from (told_view d.next view) d) { has_view = true }
 unfolding answered
 lent_drawn view s note d same noted dots = ap (λ (after : Drawing). record after { has_view = true }) (line-made view s note d noted dots ∙ sym (told-drawn view d same))
 
 -- a line that is drawn straight from a scene
 pub straight_drawn : (view : LineView) (s : List Dot) (note : SpriteNote) (d : Drawing) → d.has_view ≡ true → view.pal ≡ d.pal → note ≡ note_on (line_of d.next d.pal) view
-    → (line_of d.next d.pal < display_height view → (x : ℕ) → x < 320 → dot_at s x ≡ sprite_dot view (line_of d.next d.pal) x)
+    → (line_of d.next d.pal < display_height view → (x : ℕ) → x < picture_width → dot_at s x ≡ sprite_dot view (line_of d.next d.pal) x)
     → line_drawn view s note d ≡ record (drawn_from (told_view d.next view) (record d { has_view = false })) { has_view = true }
 straight_drawn view s note d home same noted dots =
     line-made view s note d noted dots ∙ sym (told-drawn view d same) ∙ sym (drawn-home (told_view d.next view) d home)

@@ -1,5 +1,6 @@
 -- What each chip of the set does, put into the scheduler's form.
 use Rattle.std.specs.Prelude.{ℕ, ◌+◌, ◌-◌, ◌*◌, ◌/◌, ◌==◌, nat_le, Bool, true, false, ◌||◌, if◌then◌else◌, List, ◌++◌, length, Option, Some, None}
+use Rattle.md_word.specs.Clock as clock
 use Rattle.md_word.specs.declared.event.Next.{Next}
 use Rattle.md_word.specs.declared.main_bus.Answer68.{Answer68}
 use Rattle.md_word.specs.declared.pins.Pins80.{Pins80}
@@ -105,7 +106,7 @@ psg_next cycle = record { key = record { cycle = cycle; chip = 4 }; sample = fal
 
 -- the number of the first sample of the batch at a cycle
 abbrev pub first_of : ℕ → ℕ
-first_of cycle = 16 * (cycle / 16128 - 1)
+first_of cycle = 16 * (cycle / clock.batch - 1)
 
 -- the samples are kept as long as there is room for a batch
 abbrev pub kept : {A : Type 0} → List A → List A → List A
@@ -126,7 +127,7 @@ abbrev pub fm_advance : FmValue → FmValue
 fm_advance c =
     record {
       synth = fm_batches.after_batch (first_of c.cycle) c.synth c.taken;
-      cycle = c.cycle + 16128;
+      cycle = c.cycle + clock.batch;
       taken = c.taken;
       samples = kept c.samples (fm_batches.samples (first_of c.cycle) c.synth c.taken);
     }
@@ -145,7 +146,7 @@ abbrev pub psg_advance : PsgValue → PsgValue
 psg_advance c =
     record {
       synth = after_batch (first_of c.cycle) c.synth c.taken;
-      cycle = c.cycle + 16128;
+      cycle = c.cycle + clock.batch;
       taken = c.taken;
       samples = kept c.samples (samples (first_of c.cycle) c.synth c.taken);
     }
@@ -192,7 +193,7 @@ writes writer chip = writer == 0 || writer == 2
 
 -- the least cycles between two events of each chip
 abbrev pub gap : ℕ → ℕ
-gap i = if i == 0 then 28 else (if i == 1 then 45 else (if i == 2 then 3420 else 16128))
+gap i = if i == 0 then clock.main_gap else (if i == 1 then clock.sub_gap else (if i == 2 then clock.line else clock.batch))
 
 -- the set
 abbrev pub five : Rules Chip Board Pins

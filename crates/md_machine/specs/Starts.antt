@@ -1,15 +1,16 @@
 -- Where a run may begin: at power-on, or where a saved state was kept.
 use Rattle.std.specs.Prelude.{◌≡◌, ℕ, ◌+◌, ◌-◌, ◌*◌, ◌/◌, Bool}
+use Rattle.md_word.specs.Clock as clock
 use Rattle.md_word.specs.Region.{finished_at, frame_cycles}
 use Rattle.md_machine.specs.Console.{Console, IsQuiet}
 
 -- the first event of a line from a cycle on
 abbrev pub first_line : ℕ → ℕ
-first_line at = 3420 * ((at + 3419) / 3420)
+first_line at = clock.line * ((at + 3419) / clock.line)
 
 -- the first batch of samples from a cycle on; none stands at 0
 abbrev pub first_batch : ℕ → ℕ
-first_batch at = 16128 * ((at - 1) / 16128 + 1)
+first_batch at = clock.batch * ((at - 1) / clock.batch + 1)
 
 -- a cycle, and the machine at it
 pub record Start : Type 0 where
@@ -25,7 +26,7 @@ pub record IsStart (start : Start) : Type 0 where
 
 -- how many batches of samples stand below a cycle: one at each multiple of 16128, from the first on
 abbrev pub batches_below : ℕ → ℕ
-batches_below end = (end - 1) / 16128
+batches_below end = (end - 1) / clock.batch
 
 -- how many frames of a region are finished below a cycle, each at the start of the line behind its
 -- picture

@@ -1,4 +1,5 @@
-ghost use Rattle.std.specs.Prelude.{◌≡◌, ◌^◌, ◌<◌, ◌≤◌, false};
+ghost use Rattle.std.specs.Prelude.{◌≡◌, ◌<◌, ◌≤◌, false};
+ghost use Rattle.md_word.specs.Clock.{cycle_limit};
 ghost use Rattle.md_machine.specs.Rules as rules;
 
 use arrayvec::ArrayVec;
@@ -10,9 +11,9 @@ pub(crate) const MOST_SAMPLES: usize = 1_072;
 
 /// The number of the first sample of the batch at a cycle.
 pub(crate) fn first_sample(cycle: u64) -> u64
-    requires { cycle < 2 ^ 50 }
+    requires { cycle < cycle_limit }
     ensures value { result ≡ rules.first_of cycle }
-    ensures most { result ≤ 2 ^ 50 }
+    ensures most { result ≤ cycle_limit }
 {
     16 * (cycle / BATCH).saturating_sub(1)
 }

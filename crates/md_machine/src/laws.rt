@@ -1,6 +1,7 @@
 //! Laws of the machine, as calls that do nothing and stand for what they ensure.
 
-ghost use Rattle.std.specs.Prelude.{◌≡◌, ℕ, Bool, ◌+◌, ◌-◌, ◌*◌, ◌/◌, ◌^◌, ◌<◌, ◌≤◌, ◌++◌, List, length};
+ghost use Rattle.std.specs.Prelude.{◌≡◌, ℕ, Bool, ◌+◌, ◌-◌, ◌*◌, ◌/◌, ◌<◌, ◌≤◌, ◌++◌, List, length};
+ghost use Rattle.md_word.specs.Clock as clock;
 ghost use Rattle.md_word.specs.declared.event.Entry.{Entry};
 ghost use Rattle.chip_core.specs.Limits.{events_within};
 ghost use Rattle.chip_core.specs.Machines as machines;
@@ -90,7 +91,7 @@ pub fn frames_counted()
 
 /// From a machine on there are never more events below a cycle than cycles up to it, and chips.
 pub fn few_events(machine: &Machine)
-    ensures { (end n : ℕ) → end ≤ 2 ^ 50 → AllBelow machine.now.console end n → n ≤ end - machine.now.at + 5 }
+    ensures { (end n : ℕ) → end ≤ clock.cycle_limit → AllBelow machine.now.console end n → n ≤ end - machine.now.at + 5 }
 {
     machine.few_events();
 }
@@ -108,7 +109,7 @@ pub fn lists_end_as_run(machine: &Machine)
 
 /// How many events a list of enabled events of the five chips has at most, over so many cycles.
 pub fn few_in_list()
-    ensures { (span : ℕ) → events_within five span ≤ 2 * (span / 28 + span / 45 + span / 3420 + 2 * (span / 16128) + 10) }
+    ensures { (span : ℕ) → events_within five span ≤ 2 * (span / clock.main_gap + span / clock.sub_gap + span / clock.line + 2 * (span / clock.batch) + 10) }
 {}
 
 /// From power-on, after any number of events, the pads show no button before the line behind the picture
@@ -121,7 +122,7 @@ pub fn pads_are_recorded()
 /// From power-on, after events below a cycle of at most 2^50, the Z80's RAM and bank register have one
 /// owner: the Z80 or the bus.
 pub fn one_owner(cart: &Cart)
-    ensures { (recording : Recorded) (pal : Bool) (end n : ℕ) → end ≤ 2 ^ 50 → AllBelow (power_on cart.now recording pal) end n
+    ensures { (recording : Recorded) (pal : Bool) (end n : ℕ) → end ≤ clock.cycle_limit → AllBelow (power_on cart.now recording pal) end n
         → HasOneOwner (ran (power_on cart.now recording pal) n) }
 {
     cart.bytes();
@@ -152,7 +153,7 @@ pub fn parts_start_valid(cart: &Cart)
 
 /// They stay so after any events below a cycle of at most 2^50.
 pub fn parts_stay_valid()
-    ensures { (m : Console) (end n : ℕ) → end ≤ 2 ^ 50 → HasValidParts m → AllBelow m end n → HasValidParts (ran m n) }
+    ensures { (m : Console) (end n : ℕ) → end ≤ clock.cycle_limit → HasValidParts m → AllBelow m end n → HasValidParts (ran m n) }
 {
     laws::stages::<MdChips>();
 }
@@ -164,7 +165,7 @@ pub fn region_stays()
 
 /// Where no event stood before a cycle, none does after any events below a cycle of at most 2^50.
 pub fn quiet_stays()
-    ensures { (m : Console) (at end n : ℕ) → end ≤ 2 ^ 50 → HasValidParts m → IsQuiet at m → AllBelow m end n → IsQuiet at (ran m n) }
+    ensures { (m : Console) (at end n : ℕ) → end ≤ clock.cycle_limit → HasValidParts m → IsQuiet at m → AllBelow m end n → IsQuiet at (ran m n) }
 {
     laws::stages::<MdChips>();
     laws::limits::<MdChips>();

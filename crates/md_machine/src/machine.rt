@@ -1,6 +1,6 @@
-ghost use Rattle.std.specs.Prelude.{◌≡◌, ℕ, ◌≤◌, ◌<◌, ◌+◌, ◌-◌, ◌*◌, ◌^◌, ◌++◌, [], IfOk, length, vec_len, vec_capacity};
+ghost use Rattle.std.specs.Prelude.{◌≡◌, ℕ, ◌≤◌, ◌<◌, ◌+◌, ◌-◌, ◌*◌, ◌++◌, [], IfOk, length, vec_len, vec_capacity};
 ghost use Rattle.std.specs.Arc.{arc_value};
-ghost use Rattle.md_word.specs.Clock.{last_cycle};
+ghost use Rattle.md_word.specs.Clock.{cycle_limit, last_cycle};
 ghost use Rattle.md_word.specs.Region.{frame_cycles};
 ghost use Rattle.chip_core.specs.Cores.{CoreValue, IsCore, machine_of};
 ghost use Rattle.chip_core.specs.Machines.{IsQuiet};
@@ -111,7 +111,7 @@ impl Machine {
 
     /// From here on there are never more events below a cycle than cycles up to it, and chips.
     pub(crate) fn few_events(&self)
-        ensures { (end n : ℕ) → end ≤ 2 ^ 50 → AllBelow self.now.console end n → n ≤ end - self.now.at + 5 }
+        ensures { (end n : ℕ) → end ≤ cycle_limit → AllBelow self.now.console end n → n ≤ end - self.now.at + 5 }
     {
         laws::stages::<MdChips>();
         laws::limits::<MdChips>();

@@ -32,19 +32,3 @@ lacks_mask n place =
       | inl one ↦ rw (masked, one) (ne_eqb (1 * 2 ^ place) 0 (λ e. omega arith))
       | inr other ↦ let none : bit_at n place ≡ 0 = omega arith in rw (masked, none) (eq-eqb (0 * 2 ^ place) 0 (omega arith))
     ]
-
--- a level as a number
-bool_byte-cond : (digit : Bool) → cond digit 1 0 ≡ bool_byte digit
-bool_byte-cond true = refl
-bool_byte-cond false = refl
-
--- one more binary digit
-pub binary-more : (digits : List Bool) (i : ℕ) → i < length digits → binary (take (i + 1) digits) ≡ 2 * binary (take i digits) + bool_byte (get_or digits i false)
-binary-more digits i lt =
-    ap binary (take_more digits i false lt)
-    ∙ fold-append (λ (number : ℕ) (digit : Bool). 2 * number + cond digit 1 0) 0 (take i digits) (get_or digits i false ∷ [])
-    ∙ ap (λ (d : ℕ). 2 * binary (take i digits) + d) (bool_byte-cond (get_or digits i false))
-
--- and the place that it takes
-pub power-more : (i : ℕ) → i < 8 → (2 ^ (i + 1) ≡ 2 * 2 ^ i) × (2 ^ i ≤ 128)
-power-more i lt = (rw add-one (let double = pow-suc 2 i in omega arith), pow-le-pow_right {n = 2} (omega arith) {i = i} {j = 7} (omega arith))

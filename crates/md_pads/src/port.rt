@@ -1,4 +1,5 @@
-ghost use Rattle.std.specs.Prelude.{◌≡◌, ◌≤◌, ◌^◌, Bool, true, false, [], ◌∷◌, length};
+ghost use Rattle.std.specs.Prelude.{◌≡◌, ◌≤◌, Bool, true, false, [], ◌∷◌, length};
+ghost use Rattle.md_word.specs.Clock.{cycle_limit};
 ghost use Rattle.md_pads.specs.Buttons.{button_a, start, word_of};
 ghost use Rattle.md_pads.specs.Pad.{binary, cleared, control_written, counted, fourth_lines, in_force, is_th_high, lines, lines_by, pad_value, released, third_lines, value_written};
 
@@ -26,7 +27,7 @@ pub struct PadPort {
 }
 
 impl Model for PadPort {
-    ghost use Rattle.std.specs.Prelude.{◌≤◌, ◌^◌};
+    ghost use Rattle.std.specs.Prelude.{◌≤◌};
     ghost use Rattle.md_pads.specs.Pad.{Port};
 
     ghost Value = { Port };
@@ -35,7 +36,7 @@ impl Model for PadPort {
 
     ghost inverse = { λ port. record { value = port.value; control = port.control; count = port.count; fall = port.fall } };
 
-    ghost invariant = { λ port. (port.count ≤ 4) × (port.fall ≤ 2 ^ 50) };
+    ghost invariant = { λ port. (port.count ≤ 4) × (port.fall ≤ cycle_limit) };
 }
 
 impl PadPort {
@@ -54,7 +55,7 @@ impl PadPort {
     /// The port with these latches, count of falls and cycle of the last.
     pub fn with(value: u8, control: u8, count: u8, fall: u64) -> PadPort
         requires count { count ≤ 4 }
-        requires fall { fall ≤ 2 ^ 50 }
+        requires fall { fall ≤ cycle_limit }
         ensures { result ≡ record { value = value; control = control; count = count; fall = fall } }
     {
         PadPort {
@@ -81,7 +82,7 @@ impl PadPort {
 
     /// Writes the value latch at a master cycle. A fall of TH is counted.
     pub fn write_value(&mut self, cycle: u64, value: u8)
-        requires { cycle ≤ 2 ^ 50 }
+        requires { cycle ≤ cycle_limit }
         ensures { self.new ≡ value_written cycle value self.old }
     {
         let was_high = self.is_th_high();
@@ -91,7 +92,7 @@ impl PadPort {
 
     /// Writes the control latch at a master cycle. A fall of TH is counted.
     pub fn write_control(&mut self, cycle: u64, value: u8)
-        requires { cycle ≤ 2 ^ 50 }
+        requires { cycle ≤ cycle_limit }
         ensures { self.new ≡ control_written cycle value self.old }
     {
         let was_high = self.is_th_high();
@@ -147,7 +148,7 @@ impl PadPort {
 
     /// Counts a fall of TH behind a write at a cycle, by whether TH was 1 before it.
     fn count_fall(&mut self, cycle: u64, was_high: bool)
-        requires { cycle ≤ 2 ^ 50 }
+        requires { cycle ≤ cycle_limit }
         ensures { self.new ≡ counted cycle was_high self.old }
     {
         if was_high && !self.is_th_high() {

@@ -4,10 +4,6 @@ use Rattle.md_word.specs.Region.{finished_at, finishes, frame_cycles, height, li
 
 -- ---- the numbers of a region agree, and their bounds
 
-pub frame-lines : (pal : Bool) → frame_cycles pal ≡ 3420 * lines pal
-frame-lines true = refl
-frame-lines false = refl
-
 pub finished-rows : (pal : Bool) → finished_at pal ≡ 3420 * rows pal
 finished-rows true = refl
 finished-rows false = refl
@@ -15,29 +11,6 @@ finished-rows false = refl
 pub picture-rows : (pal : Bool) → picture_length pal ≡ 960 * rows pal
 picture-rows true = refl
 picture-rows false = refl
-
--- a sample of the FM chip takes 1,008 cycles
-pub rate-clock : (pal : Bool) → sound_rate pal ≡ master_clock pal / 1008
-rate-clock true = refl
-rate-clock false = refl
-
-pub frame-few : (pal : Bool) → frame_cycles pal ≤ 1070460
-frame-few true = omega arith
-frame-few false = omega arith
-
-pub frame-some : (pal : Bool) → 896040 ≤ frame_cycles pal
-frame-some true = omega arith
-frame-some false = omega arith
-
-pub finished-within : (pal : Bool) → finished_at pal < frame_cycles pal
-finished-within true = omega arith
-finished-within false = omega arith
-
-pub height-row : (pal tall : Bool) → (tall ≡ true → pal ≡ true) → height tall ≤ rows pal
-height-row true true h = omega arith
-height-row true false h = omega arith
-height-row false false h = omega arith
-height-row false true h = absurd (cc (h refl))
 
 -- ---- one line of the frame's end within a frame's cycles
 
@@ -60,15 +33,6 @@ none-more-by false n other = omega (arith, other)
 pub finishes-below : (pal : Bool) (end : ℕ) → finishes pal ((end + 3419) / 3420) ≡ (end + (frame_cycles pal - finished_at pal - 1)) / frame_cycles pal
 finishes-below true end = omega arith
 finishes-below false end = omega arith
-
--- as the program counts them
-pub whole-frames : (pal : Bool) (end : ℕ) → finished_at pal < end % frame_cycles pal → end / frame_cycles pal + 1 ≡ (end + (frame_cycles pal - finished_at pal - 1)) / frame_cycles pal
-whole-frames true end late = omega (arith, late)
-whole-frames false end late = omega (arith, late)
-
-pub part-frames : (pal : Bool) (end : ℕ) → end % frame_cycles pal ≤ finished_at pal → end / frame_cycles pal ≡ (end + (frame_cycles pal - finished_at pal - 1)) / frame_cycles pal
-part-frames true end early = omega (arith, early)
-part-frames false end early = omega (arith, early)
 
 -- ---- the frame whose pads' line began last
 

@@ -1,4 +1,5 @@
-ghost use Rattle.std.specs.Prelude.{◌≡◌, ◌^◌, ◌≤◌, []};
+ghost use Rattle.std.specs.Prelude.{◌≡◌, ◌≤◌, []};
+ghost use Rattle.md_word.specs.Clock.{cycle_limit};
 ghost use Rattle.chip_core.specs.Cores.{machine_of};
 ghost use Rattle.chip_core.specs.Limits.{all_moves_left};
 ghost use Rattle.chip_run.specs.Places.{AllFree};
@@ -22,7 +23,7 @@ fn first_section<C: ChipSet, N: Named, L0: Ledger, L1: Ledger, L2: Ledger, L3: L
     requires base { C.core_of N.base ≡ record core { room = 0 } }
     requires end { N.end ≡ t }
     requires places { N.room ≡ core.room }
-    requires time { t ≤ 2 ^ 50 }
+    requires time { t ≤ cycle_limit }
     requires empty { core.journal ≡ [] }
     requires room { all_moves_left C.rules t (machine_of C.rules core) ≤ core.room }
     requires names { (blanks.l0.name ≡ L0.name) × (blanks.l1.name ≡ L1.name) × (blanks.l2.name ≡ L2.name) × (blanks.l3.name ≡ L3.name) × (blanks.l4.name ≡ L4.name) }
@@ -65,7 +66,7 @@ fn moves_alone<
     requires base { C.core_of N.base ≡ record core { room = 0 } }
     requires end { N.end ≡ t }
     requires places { N.room ≡ core.room }
-    requires time { t ≤ 2 ^ 50 }
+    requires time { t ≤ cycle_limit }
     requires empty { core.journal ≡ [] }
     requires room { all_moves_left C.rules t (machine_of C.rules core) ≤ core.room }
     requires names { (blanks.l0.name ≡ L0.name) × (blanks.l1.name ≡ L1.name) × (blanks.l2.name ≡ L2.name) × (blanks.l3.name ≡ L3.name) × (blanks.l4.name ≡ L4.name) }
@@ -123,7 +124,7 @@ fn blanks() -> Blanks<Brand, Brand, Brand, Brand, Brand>
 }
 
 fn first_turn<C: ChipSet>(core: Core<C>, t: u64) -> Option<(Turn, Option<Key>)>
-    requires time { t ≤ 2 ^ 50 }
+    requires time { t ≤ cycle_limit }
     requires empty { core.journal ≡ [] }
     requires room { all_moves_left C.rules t (machine_of C.rules core) ≤ core.room }
 {
@@ -133,7 +134,7 @@ fn first_turn<C: ChipSet>(core: Core<C>, t: u64) -> Option<(Turn, Option<Key>)>
 }
 
 fn moves_to<C: ChipSet, R: Wait>(rt: &R, core: Core<C>, t: u64) -> Option<[u32; 5]>
-    requires time { t ≤ 2 ^ 50 }
+    requires time { t ≤ cycle_limit }
     requires empty { core.journal ≡ [] }
     requires room { all_moves_left C.rules t (machine_of C.rules core) ≤ core.room }
 {

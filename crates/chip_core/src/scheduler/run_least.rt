@@ -1,4 +1,5 @@
-ghost use Rattle.std.specs.Prelude.{◌≡◌, ℕ, ◌^◌, ◌<◌, ◌≤◌, ◌↔◌, [], IsTrue, length, MatchOption};
+ghost use Rattle.std.specs.Prelude.{◌≡◌, ℕ, ◌<◌, ◌≤◌, ◌↔◌, [], IsTrue, length, MatchOption};
+ghost use Rattle.md_word.specs.Clock.{cycle_limit};
 ghost use Rattle.chip_core.specs.declared.event.Event.{Event};
 ghost use Rattle.chip_core.specs.Chips.{SamplesBelow};
 ghost use Rattle.chip_core.specs.Cores.{IsCore, ReachesEnd, chip_in, machine_of, seen};
@@ -17,7 +18,7 @@ use md_word::Key;
 /// The journal has to have a free place for each access below `t`, which [`crate::laws::room`]
 /// shows.
 pub fn run_least<C: ChipSet>(core: &mut Core<C>, t: u64)
-    requires time { t ≤ 2 ^ 50 }
+    requires time { t ≤ cycle_limit }
     requires room { HasRoom C.rules t (seen C.rules core.old) core.old.room }
     ensures run { ReachesEnd C.rules C.chip_ok C.shared_ok t core.old core.new }
     ensures first { core.old.journal ≡ []
@@ -79,7 +80,7 @@ impl<C: ChipSet> Core<C> {
     /// its next event.
     fn turn(&mut self, chip: u8)
         requires chip { chip < C.rules.count }
-        requires enabled { IsEnabled C.rules (seen C.rules self.old) (2 ^ 50) (own_event C.rules (seen C.rules self.old) chip) }
+        requires enabled { IsEnabled C.rules (seen C.rules self.old) cycle_limit (own_event C.rules (seen C.rules self.old) chip) }
         requires room { HasPlace (length self.old.journal) self.old.room (own_event C.rules (seen C.rules self.old) chip) }
         ensures after { seen C.rules self.new ≡ past_access C.rules (seen C.rules self.old) chip }
         ensures room { self.new.room ≡ self.old.room }
@@ -94,7 +95,7 @@ impl<C: ChipSet> Core<C> {
     /// The chip samples on, below cycle `t` and the bounds of the others that write its pins, as long as it
     /// may.
     fn sample_on(&mut self, t: u64, chip: u8)
-        requires time { t ≤ 2 ^ 50 }
+        requires time { t ≤ cycle_limit }
         requires chip { chip < C.rules.count }
         requires keys { AreKeys C.rules (seen C.rules self.old) C.rules.count }
         ensures led { Reaches C.rules t (seen C.rules self.old) (seen C.rules self.new) }
@@ -146,7 +147,7 @@ impl<C: ChipSet> Core<C> {
         requires chip { chip < C.rules.count }
         requires pins { pins.now ≡ C.rules.pins self.old.shared chip }
         requires sample { SamplesBelow C.rules end.now (chip_in C.rules self.old.chips chip) }
-        requires limit { IsLimit C.rules (2 ^ 50) (seen C.rules self.old).bound C.rules.count chip end.now }
+        requires limit { IsLimit C.rules cycle_limit (seen C.rules self.old).bound C.rules.count chip end.now }
         ensures on { SamplesOn C.rules end.now chip (seen C.rules self.old) (seen C.rules self.new) }
         ensures shared { self.new.shared ≡ self.old.shared }
         ensures room { self.new.room ≡ self.old.room }
@@ -162,7 +163,7 @@ impl<C: ChipSet> Core<C> {
     }
 
     fn turn_access(&mut self, chip: u8)
-        requires enabled { IsEnabled C.rules (seen C.rules self.old) (2 ^ 50) (Event.Perform chip) }
+        requires enabled { IsEnabled C.rules (seen C.rules self.old) cycle_limit (Event.Perform chip) }
         requires room { length self.old.journal < self.old.room }
         ensures after { seen C.rules self.new
             ≡ after C.rules (after C.rules (seen C.rules self.old) (Event.Perform chip)) (Event.Announce chip) }

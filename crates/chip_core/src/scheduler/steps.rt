@@ -1,4 +1,5 @@
-ghost use Rattle.std.specs.Prelude.{◌≡◌, ℕ, ◌+◌, ◌-◌, ◌^◌, ◌<◌, ◌≤◌, length, take, slice_get, Some};
+ghost use Rattle.std.specs.Prelude.{◌≡◌, ℕ, ◌+◌, ◌-◌, ◌<◌, ◌≤◌, length, take, slice_get, Some};
+ghost use Rattle.md_word.specs.Clock.{cycle_limit};
 ghost use Rattle.chip_core.specs.Cores.{KeepsStanding, machine_of, seen};
 ghost use Rattle.chip_core.specs.declared.event.Event.{Event};
 ghost use Rattle.chip_core.specs.Events.{HasPlace, IsEnabled, Leads, after};
@@ -13,7 +14,7 @@ impl<C: ChipSet> Core<C> {
     pub fn announce(&mut self, chip: u8)
         requires { IsEnabled C.rules (seen C.rules self.old) 0 (Event.Announce chip) }
         ensures after { seen C.rules self.new ≡ after C.rules (seen C.rules self.old) (Event.Announce chip) }
-        ensures stands { (t : ℕ) → t ≤ 2 ^ 50 → IsEnabled C.rules (seen C.rules self.old) t (Event.Announce chip)
+        ensures stands { (t : ℕ) → t ≤ cycle_limit → IsEnabled C.rules (seen C.rules self.old) t (Event.Announce chip)
             → KeepsStanding C.rules C.chip_ok C.shared_ok t self.old self.new }
         ensures room { self.new.room ≡ self.old.room }
     {
@@ -25,10 +26,10 @@ impl<C: ChipSet> Core<C> {
     /// The chip makes its access, which the journal enters, and its private work; its bound becomes
     /// a gap after the access.
     pub fn perform(&mut self, chip: u8)
-        requires enabled { IsEnabled C.rules (seen C.rules self.old) (2 ^ 50) (Event.Perform chip) }
+        requires enabled { IsEnabled C.rules (seen C.rules self.old) cycle_limit (Event.Perform chip) }
         requires room { length self.old.journal < self.old.room }
         ensures after { seen C.rules self.new ≡ after C.rules (seen C.rules self.old) (Event.Perform chip) }
-        ensures stands { (t : ℕ) → t ≤ 2 ^ 50 → IsEnabled C.rules (seen C.rules self.old) t (Event.Perform chip)
+        ensures stands { (t : ℕ) → t ≤ cycle_limit → IsEnabled C.rules (seen C.rules self.old) t (Event.Perform chip)
             → KeepsStanding C.rules C.chip_ok C.shared_ok t self.old self.new }
         ensures room { self.new.room ≡ self.old.room }
     {
@@ -42,9 +43,9 @@ impl<C: ChipSet> Core<C> {
 
     /// The chip makes its sample and its private work; its bound becomes a gap after the sample.
     pub fn sample(&mut self, chip: u8)
-        requires { IsEnabled C.rules (seen C.rules self.old) (2 ^ 50) (Event.Sample chip) }
+        requires { IsEnabled C.rules (seen C.rules self.old) cycle_limit (Event.Sample chip) }
         ensures after { seen C.rules self.new ≡ after C.rules (seen C.rules self.old) (Event.Sample chip) }
-        ensures stands { (t : ℕ) → t ≤ 2 ^ 50 → IsEnabled C.rules (seen C.rules self.old) t (Event.Sample chip)
+        ensures stands { (t : ℕ) → t ≤ cycle_limit → IsEnabled C.rules (seen C.rules self.old) t (Event.Sample chip)
             → KeepsStanding C.rules C.chip_ok C.shared_ok t self.old self.new }
         ensures room { self.new.room ≡ self.old.room }
     {
@@ -57,7 +58,7 @@ impl<C: ChipSet> Core<C> {
     }
 
     pub(crate) fn carry_out(&mut self, event: Event)
-        requires enabled { IsEnabled C.rules (seen C.rules self.old) (2 ^ 50) event }
+        requires enabled { IsEnabled C.rules (seen C.rules self.old) cycle_limit event }
         requires room { HasPlace (length self.old.journal) self.old.room event }
         ensures after { seen C.rules self.new ≡ after C.rules (seen C.rules self.old) event }
         ensures room { self.new.room ≡ self.old.room }
@@ -73,7 +74,7 @@ impl<C: ChipSet> Core<C> {
     ///
     /// The journal has to have a free place for each event of the list.
     pub fn run_events(&mut self, t: u64, list: &[Event]) -> usize
-        requires time { t ≤ 2 ^ 50 }
+        requires time { t ≤ cycle_limit }
         requires room { length self.old.journal + length list.now ≤ self.old.room }
         ensures within { result ≤ length list.now }
         ensures led { Leads C.rules t (seen C.rules self.old) (take result list.now) (seen C.rules self.new) }
@@ -97,7 +98,7 @@ impl<C: ChipSet> Core<C> {
 /// The bound that a move leaves: its chip comes again after a gap at the earliest.
 fn bound_after<C: ChipSet>(key: &Key, chip: u8) -> Key
     requires chip { chip < C.rules.count }
-    requires cycle { key.now.cycle < 2 ^ 50 }
+    requires cycle { key.now.cycle < cycle_limit }
     ensures { result ≡ record { cycle = key.now.cycle + C.rules.gap chip; chip = chip } }
 {
     Key {

@@ -1,4 +1,5 @@
-ghost use Rattle.std.specs.Prelude.{◌≡◌, ◌^◌, ◌<◌, IfOk, IsSome, None, true, false, is_some, not, option_copied, IfSome, length};
+ghost use Rattle.std.specs.Prelude.{◌≡◌, ◌<◌, IfOk, IsSome, None, true, false, is_some, not, option_copied, IfSome, length};
+ghost use Rattle.md_word.specs.Clock.{cycle_limit};
 ghost use Rattle.vdp_chip.specs.Drawing.{next_of};
 ghost use Rattle.md_word.specs.Region.{picture_length};
 ghost use Rattle.vdp_planes.specs.View.{seen};
@@ -66,7 +67,7 @@ impl DrawChip {
     /// The part of a line's event that needs the board: the view is filled.
     #[tactic(auto, using(crate::specs::LineLaws::told_filled, crate::specs::LineLaws::filled_region), unfolding(bus_shared::specs::Accesses::carried))]
     pub(crate) fn perform(&mut self, shared: &mut Shared) -> Entry
-        requires { self.old.chip.next < 2 ^ 50 }
+        requires { self.old.chip.next < cycle_limit }
         ensures chip { self.new ≡ (rules.draw_perform self.old shared.old).chip }
         ensures shared { shared.new ≡ (rules.draw_perform self.old shared.old).shared }
         ensures entry { result ≡ (rules.draw_perform self.old shared.old).entry }
@@ -81,7 +82,7 @@ impl DrawChip {
     /// Draws the line from the view that was filled.
     pub(crate) fn advance(&mut self)
         requires view { IsSome self.old.view }
-        requires cycle { self.old.chip.next < 2 ^ 50 }
+        requires cycle { self.old.chip.next < cycle_limit }
         ensures { self.new ≡ rules.draw_advance self.old }
     {
         if let Some(view) = self.view.take() {
@@ -92,7 +93,7 @@ impl DrawChip {
     /// Both halves of a line's event. Where the view is here, the line is drawn straight from the board, or was
     /// drawn ahead.
     pub(crate) fn access(&mut self, shared: &mut Shared) -> Entry
-        requires { self.old.chip.next < 2 ^ 50 }
+        requires { self.old.chip.next < cycle_limit }
         ensures chip { self.new ≡ rules.draw_advance (rules.draw_perform self.old shared.old).chip }
         ensures shared { shared.new ≡ (rules.draw_perform self.old shared.old).shared }
         ensures entry { result ≡ (rules.draw_perform self.old shared.old).entry }
@@ -167,7 +168,7 @@ fn lent_view(chip: &mut ChipVdp, view: &mut Option<Box<LineView>>) -> (Box<LineV
 fn draw_lent(chip: &mut ChipVdp, view: Box<LineView>)
     requires view { chip.old.has_view ≡ false }
     requires region { view.value.pal ≡ chip.old.pal }
-    requires cycle { chip.old.next < 2 ^ 50 }
+    requires cycle { chip.old.next < cycle_limit }
     ensures { chip.new ≡ record (lines.drawn_from (lines.told_view chip.old.next view.value) chip.old) { has_view = true } }
 {
     let mut dots = clear_dots();
@@ -182,7 +183,7 @@ fn draw_line(chip: &mut ChipVdp, sheet: Option<&Sheet>, scene: &Scene) -> bool
     requires view { chip.old.has_view ≡ true }
     requires region { (seen scene.now).pal ≡ chip.old.pal }
     requires sheet { IfSome sheet (λ s. s.now.view ≡ record (seen scene.now) { pal = s.now.view.pal }) }
-    requires cycle { chip.old.next < 2 ^ 50 }
+    requires cycle { chip.old.next < cycle_limit }
     ensures { chip.new ≡ record (lines.drawn_from (lines.told_view chip.old.next (seen scene.now)) (record chip.old { has_view = false })) { has_view = true } }
 {
     if let Some(sheet) = sheet {
@@ -197,7 +198,7 @@ fn draw_line(chip: &mut ChipVdp, sheet: Option<&Sheet>, scene: &Scene) -> bool
 /// Takes the next line from a sheet, if it was drawn there; answers whether it was.
 fn place_ahead(chip: &mut ChipVdp, sheet: &Sheet) -> bool
     requires view { chip.old.has_view ≡ true }
-    requires cycle { chip.old.next < 2 ^ 50 }
+    requires cycle { chip.old.next < cycle_limit }
     ensures placed { result ≡ true → sheet.now.view.pal ≡ chip.old.pal }
     ensures drawn { result ≡ true → chip.new ≡ record (lines.drawn_from (lines.told_view chip.old.next sheet.now.view) (record chip.old { has_view = false })) { has_view = true } }
     ensures not { result ≡ false → chip.new ≡ chip.old }
@@ -215,7 +216,7 @@ fn place_ahead(chip: &mut ChipVdp, sheet: &Sheet) -> bool
 fn draw_straight(chip: &mut ChipVdp, scene: &Scene)
     requires view { chip.old.has_view ≡ true }
     requires region { (seen scene.now).pal ≡ chip.old.pal }
-    requires cycle { chip.old.next < 2 ^ 50 }
+    requires cycle { chip.old.next < cycle_limit }
     ensures { chip.new ≡ record (lines.drawn_from (lines.told_view chip.old.next (seen scene.now)) (record chip.old { has_view = false })) { has_view = true } }
 {
     let mut dots = clear_dots();

@@ -1,4 +1,5 @@
-ghost use Rattle.std.specs.Prelude.{◌≡◌, ◌^◌, ◌<◌, ◌≤◌, true, false, None, IfOk, IfSome, IsSome};
+ghost use Rattle.std.specs.Prelude.{◌≡◌, ◌<◌, ◌≤◌, true, false, None, IfOk, IfSome, IsSome};
+ghost use Rattle.md_word.specs.Clock.{cycle_limit};
 ghost use Rattle.m68k_chip.specs.Events.{WentAhead, request_of};
 ghost use Rattle.m68k_chip.specs.Validity.{Fits};
 ghost use Rattle.m68k_chip.specs.States.{next_of};
@@ -56,7 +57,7 @@ impl MainChip {
     #[tactic(auto, unfolding(m68k_chip::specs::States::next_of, bus_shared::specs::Accesses::main_answer))]
     pub(crate) fn perform(&mut self, shared: &mut Shared) -> Entry
         requires access { (next_of self.old.chip.state).sample ≡ false }
-        requires cycle { self.old.chip.state.next < 2 ^ 50 }
+        requires cycle { self.old.chip.state.next < cycle_limit }
         ensures chip { self.new ≡ (rules.main_perform self.old shared.old).chip }
         ensures shared { shared.new ≡ (rules.main_perform self.old shared.old).shared }
         ensures entry { result ≡ (rules.main_perform self.old shared.old).entry }
@@ -72,7 +73,7 @@ impl MainChip {
     #[tactic(auto, unfolding(m68k_chip::specs::States::next_of))]
     pub(crate) fn access(&mut self, shared: &mut Shared) -> Entry
         requires access { (next_of self.old.chip.state).sample ≡ false }
-        requires cycle { self.old.chip.state.next < 2 ^ 50 }
+        requires cycle { self.old.chip.state.next < cycle_limit }
         ensures chip { self.new ≡ rules.main_advance (rules.main_perform self.old shared.old).chip }
         ensures shared { shared.new ≡ (rules.main_perform self.old shared.old).shared }
         ensures entry { result ≡ (rules.main_perform self.old shared.old).entry }
@@ -89,7 +90,7 @@ impl MainChip {
     /// The private work after an access.
     pub(crate) fn advance(&mut self)
         requires access { (next_of self.old.chip.state).sample ≡ false }
-        requires cycle { self.old.chip.state.next < 2 ^ 50 }
+        requires cycle { self.old.chip.state.next < cycle_limit }
         requires answer { IsSome self.old.answer }
         requires fits { IfSome self.old.answer (Fits (request_of self.old.chip.cart self.old.chip.state)) }
         ensures { self.new ≡ rules.main_advance self.old }
@@ -101,7 +102,7 @@ impl MainChip {
 
     pub(crate) fn sample(&mut self, pins: Pins68)
         requires sample { (next_of self.old.chip.state).sample ≡ true }
-        requires cycle { self.old.chip.state.next < 2 ^ 50 }
+        requires cycle { self.old.chip.state.next < cycle_limit }
         ensures { self.new ≡ rules.main_sample self.old pins.level }
     {
         self.chip.sample(pins);
@@ -110,8 +111,8 @@ impl MainChip {
     /// A sample, and those of the same pins below cycle `end` after it; answers how many that were.
     pub(crate) fn sample_ahead(&mut self, pins: Pins68, end: u64) -> u64
         requires sample { (next_of self.old.chip.state).sample ≡ true }
-        requires cycle { self.old.chip.state.next < 2 ^ 50 }
-        requires end { end ≤ 2 ^ 50 }
+        requires cycle { self.old.chip.state.next < cycle_limit }
+        requires end { end ≤ cycle_limit }
         ensures state { WentAhead result end self.old.chip.cart pins.level self.old.chip.state self.new.chip.state }
         ensures cart { self.new.chip.cart ≡ self.old.chip.cart }
         ensures answer { self.new.answer ≡ self.old.answer }

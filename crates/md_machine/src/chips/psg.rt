@@ -1,4 +1,5 @@
-ghost use Rattle.std.specs.Prelude.{◌≡◌, ◌^◌, ◌<◌, IfOk, [], ◌+◌};
+ghost use Rattle.std.specs.Prelude.{◌≡◌, ◌<◌, IfOk, [], ◌+◌};
+ghost use Rattle.md_word.specs.Clock.{cycle_limit};
 ghost use Rattle.md_machine.specs.Rules as rules;
 
 use crate::batches::{MOST_SAMPLES, batch_at, first_sample, keep};
@@ -62,7 +63,7 @@ impl PsgChip {
     /// Takes the writes for the batch that is due.
     #[tactic(auto, unfolding(bus_shared::specs::Accesses::carried))]
     pub(crate) fn perform(&mut self, shared: &mut Shared) -> Entry
-        requires { self.old.cycle < 2 ^ 50 }
+        requires { self.old.cycle < cycle_limit }
         ensures chip { self.new ≡ (rules.psg_perform self.old shared.old).chip }
         ensures shared { shared.new ≡ (rules.psg_perform self.old shared.old).shared }
         ensures entry { result ≡ (rules.psg_perform self.old shared.old).entry }
@@ -80,7 +81,7 @@ impl PsgChip {
 
     /// Makes the samples of the batch that is due.
     pub(crate) fn advance(&mut self)
-        requires { self.old.cycle < 2 ^ 50 }
+        requires { self.old.cycle < cycle_limit }
         ensures { self.new ≡ rules.psg_advance self.old }
     {
         let first = first_sample(self.cycle);

@@ -1,4 +1,5 @@
-ghost use Rattle.std.specs.Prelude.{◌≡◌, ◌^◌, ◌<◌, ◌≤◌, false, true, IfSome, IsSome};
+ghost use Rattle.std.specs.Prelude.{◌≡◌, ◌<◌, ◌≤◌, false, true, IfSome, IsSome};
+ghost use Rattle.md_word.specs.Clock.{cycle_limit};
 ghost use Rattle.z80_chip.specs.Events.{WentAhead, asked_of};
 ghost use Rattle.z80_chip.specs.States.{next_of};
 ghost use Rattle.z80_parcel.specs.Requests.{Fits};
@@ -40,7 +41,7 @@ impl SubChip {
     #[tactic(auto, unfolding(z80_chip::specs::States::next_of))]
     pub(crate) fn perform(&mut self, shared: &mut Shared) -> Entry
         requires access { (next_of self.old.chip.state).sample ≡ false }
-        requires cycle { self.old.chip.state.next < 2 ^ 50 }
+        requires cycle { self.old.chip.state.next < cycle_limit }
         ensures chip { self.new ≡ (rules.sub_perform self.old shared.old).chip }
         ensures shared { shared.new ≡ (rules.sub_perform self.old shared.old).shared }
         ensures entry { result ≡ (rules.sub_perform self.old shared.old).entry }
@@ -54,7 +55,7 @@ impl SubChip {
     /// The private work after an access.
     pub(crate) fn advance(&mut self)
         requires access { (next_of self.old.chip.state).sample ≡ false }
-        requires cycle { self.old.chip.state.next < 2 ^ 50 }
+        requires cycle { self.old.chip.state.next < cycle_limit }
         requires answer { IsSome self.old.answer }
         requires fits { IfSome self.old.answer (Fits (asked_of self.old.chip.cart self.old.chip.state)) }
         ensures { self.new ≡ rules.sub_advance self.old }
@@ -66,7 +67,7 @@ impl SubChip {
 
     pub(crate) fn sample(&mut self, pins: &Pins80)
         requires sample { (next_of self.old.chip.state).sample ≡ true }
-        requires cycle { self.old.chip.state.next < 2 ^ 50 }
+        requires cycle { self.old.chip.state.next < cycle_limit }
         ensures { self.new ≡ rules.sub_sample self.old pins.now }
     {
         self.chip.sample(*pins);
@@ -75,8 +76,8 @@ impl SubChip {
     /// A sample, and those of the same pins below cycle `end` after it; answers how many that were.
     pub(crate) fn sample_ahead(&mut self, pins: &Pins80, end: u64) -> u64
         requires sample { (next_of self.old.chip.state).sample ≡ true }
-        requires cycle { self.old.chip.state.next < 2 ^ 50 }
-        requires end { end ≤ 2 ^ 50 }
+        requires cycle { self.old.chip.state.next < cycle_limit }
+        requires end { end ≤ cycle_limit }
         ensures state { WentAhead result end self.old.chip.cart pins.now self.old.chip.state self.new.chip.state }
         ensures cart { self.new.chip.cart ≡ self.old.chip.cart }
         ensures answer { self.new.answer ≡ self.old.answer }

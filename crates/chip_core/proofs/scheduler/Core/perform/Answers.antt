@@ -1,4 +1,5 @@
-use Rattle.std.proofs.Common.{◌≡◌, refl, ◌^◌, slice_set, ◌∙◌, arith, vec_capacity, length-set}
+use Rattle.std.proofs.Common.{◌≡◌, refl, slice_set, ◌∙◌, arith, vec_capacity, length-set}
+use Rattle.md_word.specs.Clock.{cycle_limit}
 use Rattle.chip_core.specs.Cores.{CoreValue, seen}
 use Rattle.chip_core.specs.Events.{IsEnabled, after}
 use Rattle.chip_core.specs.declared.event.Event.TheVariants.{Perform}
@@ -15,12 +16,12 @@ now g c =
     core_value g.C.ChipSet.rules c.access-entry.new.shared (slice_set c.self.inside.chips.items c.args.chip c.access-entry.new.chip)
     (slice_set c.self.inside.bounds.items c.args.chip c.bound_after.result) c.push_reserved.new.self.items (vec_capacity c.push_reserved.new.self)
 
-enabled : (g : Over) (c : goal.After-push_reserved g) → IsEnabled g.C.ChipSet.rules (seen g.C.ChipSet.rules (before g c)) (2 ^ 50) (Perform c.args.chip)
-enabled g c = enabled-at g.C.ChipSet.rules (before g c) c.args.self.now (2 ^ 50) (Perform c.args.chip) c.self.view_is c.requires.enabled
+enabled : (g : Over) (c : goal.After-push_reserved g) → IsEnabled g.C.ChipSet.rules (seen g.C.ChipSet.rules (before g c)) cycle_limit (Perform c.args.chip)
+enabled g c = enabled-at g.C.ChipSet.rules (before g c) c.args.self.now cycle_limit (Perform c.args.chip) c.self.view_is c.requires.enabled
 
 left : (g : Over) (c : goal.After-push_reserved g) → seen g.C.ChipSet.rules (now g c) ≡ after g.C.ChipSet.rules (seen g.C.ChipSet.rules (before g c)) (Perform c.args.chip)
 left g c =
-    held-performed g.C.ChipSet.rules (before g c) c.args.chip (2 ^ 50) (enabled g c)
+    held-performed g.C.ChipSet.rules (before g c) c.args.chip cycle_limit (enabled g c)
     (omega (arith, c.requires.enabled.0, c.self.invariant.shape.chip_count)) (omega (arith, c.requires.enabled.0, c.self.invariant.shape.bound_count))
     c.index_mut-held.result.now (g.C.ChipSet.rules.perform c.index_mut-held.result.now c.self.inside.shared).chip c.access-entry.new.chip c.next-next.result c.bound_after.result c.access-entry.new.shared c.access-entry.result c.push_reserved.new.self.items (vec_capacity c.push_reserved.new.self)
     c.index_mut-held.ensures.value c.next-next.ensures.value c.access-entry.ensures.shared refl c.access-entry.ensures.entry c.access-entry.ensures.chip c.bound_after.ensures c.push_reserved.ensures.items

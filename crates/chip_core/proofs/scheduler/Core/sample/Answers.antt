@@ -1,4 +1,5 @@
-use Rattle.std.proofs.Common.{◌≡◌, ◌^◌, slice_set, ◌∙◌, arith, vec_capacity, length-set}
+use Rattle.std.proofs.Common.{◌≡◌, slice_set, ◌∙◌, arith, vec_capacity, length-set}
+use Rattle.md_word.specs.Clock.{cycle_limit}
 use Rattle.chip_core.specs.Cores.{CoreValue, seen}
 use Rattle.chip_core.specs.Events.{IsEnabled, after}
 use Rattle.chip_core.specs.declared.event.Event.TheVariants.{Sample}
@@ -15,12 +16,12 @@ now g c =
     core_value g.C.ChipSet.rules c.self.inside.shared (slice_set c.self.inside.chips.items c.args.chip c.sample.new.chip)
     (slice_set c.self.inside.bounds.items c.args.chip c.bound_after.result) c.self.inside.journal.items (vec_capacity c.self.inside.journal)
 
-enabled : (g : Over) (c : goal.After-drop-pins g) → IsEnabled g.C.ChipSet.rules (seen g.C.ChipSet.rules (before g c)) (2 ^ 50) (Sample c.args.chip)
-enabled g c = enabled-at g.C.ChipSet.rules (before g c) c.args.self.now (2 ^ 50) (Sample c.args.chip) c.self.view_is c.requires
+enabled : (g : Over) (c : goal.After-drop-pins g) → IsEnabled g.C.ChipSet.rules (seen g.C.ChipSet.rules (before g c)) cycle_limit (Sample c.args.chip)
+enabled g c = enabled-at g.C.ChipSet.rules (before g c) c.args.self.now cycle_limit (Sample c.args.chip) c.self.view_is c.requires
 
 left : (g : Over) (c : goal.After-drop-pins g) → seen g.C.ChipSet.rules (now g c) ≡ after g.C.ChipSet.rules (seen g.C.ChipSet.rules (before g c)) (Sample c.args.chip)
 left g c =
-    held-sampled g.C.ChipSet.rules (before g c) c.args.chip (2 ^ 50) (enabled g c)
+    held-sampled g.C.ChipSet.rules (before g c) c.args.chip cycle_limit (enabled g c)
     (omega (arith, c.requires.0, c.self.invariant.shape.chip_count)) (omega (arith, c.requires.0, c.self.invariant.shape.bound_count))
     c.index_mut-held.result.now c.sample.new.chip c.next-next.result c.bound_after.result c.pins-pins.result
     c.index_mut-held.ensures.value c.next-next.ensures.value c.pins-pins.ensures.value c.sample.ensures c.bound_after.ensures

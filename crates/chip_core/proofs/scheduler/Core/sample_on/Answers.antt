@@ -1,4 +1,5 @@
-use Rattle.std.proofs.Common.{◌^◌, sym, ◌∙◌, ap, arith}
+use Rattle.std.proofs.Common.{sym, ◌∙◌, ap, arith}
+use Rattle.md_word.specs.Clock.{cycle_limit}
 use Rattle.chip_core.specs.Cores.{seen}
 use Rattle.chip_core.proofs.Lists.{tidy-core}
 use Rattle.chip_core.proofs.Sampling.{Sampled, limit-wider, sampled-on}
@@ -8,7 +9,7 @@ use Rattle.chip_core.proofs.scheduler.Core.sample_on.Goals as goal
 
 pub turn_samples-requires-clause-limit : goal.turn_samples-requires-clause-limit
 turn_samples-requires-clause-limit g c κs within =
-    limit-wider g.C.ChipSet.rules c.args.t (2 ^ 50) c.requires.time (seen g.C.ChipSet.rules c.loop-end.self).bound g.C.ChipSet.rules.count c.args.chip c.limit-end.result c.loop-end.invariant.limit
+    limit-wider g.C.ChipSet.rules c.args.t cycle_limit c.requires.time (seen g.C.ChipSet.rules c.loop-end.self).bound g.C.ChipSet.rules.count c.args.chip c.limit-end.result c.loop-end.invariant.limit
 
 came : (g : Over) (c : goal.After-turn_samples g)
     → Sampled g.C.ChipSet.rules g.C.ChipSet.chip_ok g.C.ChipSet.shared_ok (g.met.C.ChipSet g.world.𝓛 g.world.𝓜 g.world.𝓡 ((λ s x. x), (λ x. x), (λ x. x), (λ x. x))).lawful c.args.t c.limit-end.result c.args.chip c.turn_samples.ensures.on.samples (seen g.C.ChipSet.rules c.loop-end.self) (seen g.C.ChipSet.rules c.turn_samples.new.self)

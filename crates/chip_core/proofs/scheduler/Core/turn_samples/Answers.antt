@@ -1,5 +1,6 @@
-use Rattle.std.proofs.Common.{◌<◌, ◌^◌, slice_set, ap, sym, subst, ◌∙◌, arith, length, vec_capacity, length-set}
+use Rattle.std.proofs.Common.{◌<◌, slice_set, ap, sym, subst, ◌∙◌, arith, length, vec_capacity, length-set}
 use Rattle.std.proofs.lemmas.List.{get_or_read}
+use Rattle.md_word.specs.Clock.{cycle_limit}
 use Rattle.chip_core.specs.Chips.{SamplesTo}
 use Rattle.chip_core.specs.Cores.{CoreValue, IsCore, seen}
 use Rattle.chip_core.specs.Events.{SamplesOn}
@@ -10,7 +11,7 @@ use Rattle.chip_core.proofs.scheduler.Core.turn_samples.Given.{Over}
 use Rattle.chip_core.proofs.scheduler.Core.turn_samples.Goals as goal
 
 pub sample_ahead-requires-clause-time : goal.sample_ahead-requires-clause-time
-sample_ahead-requires-clause-time g c = limit-cycle g.C.ChipSet.rules (2 ^ 50) (seen g.C.ChipSet.rules c.args.self.now).bound g.C.ChipSet.rules.count c.args.chip c.args.end.now c.requires.limit
+sample_ahead-requires-clause-time g c = limit-cycle g.C.ChipSet.rules cycle_limit (seen g.C.ChipSet.rules c.args.self.now).bound g.C.ChipSet.rules.count c.args.chip c.args.end.now c.requires.limit
 
 -- the fields as they were, and as the code left them
 abbrev before : (g : Over) → goal.After-self-2-1 g → CoreValue g.row.C-Chip.Denot g.row.C-Shared.Denot
@@ -36,7 +37,7 @@ on g c =
 core : (g : Over) (c : goal.After-self-2-1 g) → IsCore g.C.ChipSet.rules g.C.ChipSet.chip_ok g.C.ChipSet.shared_ok (now g c)
 core g c =
     core-sampled g.C.ChipSet.rules g.C.ChipSet.chip_ok g.C.ChipSet.shared_ok (g.met.C.ChipSet g.world.𝓛 g.world.𝓜 g.world.𝓡 ((λ s x. x), (λ x. x), (λ x. x), (λ x. x))).lawful (before g c) (now g c) c.self.invariant c.args.chip c.requires.chip c.args.end.now
-    (subst (λ (v : CoreValue g.row.C-Chip.Denot g.row.C-Shared.Denot). IsLimit g.C.ChipSet.rules (2 ^ 50) (seen g.C.ChipSet.rules v).bound g.C.ChipSet.rules.count c.args.chip c.args.end.now) (sym c.self.view_is) c.requires.limit)
+    (subst (λ (v : CoreValue g.row.C-Chip.Denot g.row.C-Shared.Denot). IsLimit g.C.ChipSet.rules cycle_limit (seen g.C.ChipSet.rules v).bound g.C.ChipSet.rules.count c.args.chip c.args.end.now) (sym c.self.view_is) c.requires.limit)
     (on g c) (length-set c.self.inside.chips.items c.args.chip c.sample_ahead.new.chip ∙ c.self.invariant.shape.chip_count)
     (length-set c.self.inside.bounds.items c.args.chip c.next-next.result.key ∙ c.self.invariant.shape.bound_count)
 

@@ -1,4 +1,5 @@
-use Rattle.std.proofs.Common.{subst, sym, ◌∙◌, ◌^◌}
+use Rattle.std.proofs.Common.{subst, sym, ◌∙◌}
+use Rattle.md_word.specs.Clock.{cycle_limit}
 use Rattle.chip_core.specs.Cores.{seen}
 use Rattle.chip_core.specs.Events.{AreKeys, HasRoom, Reaches, own_event}
 use Rattle.chip_core.proofs.Keeps.{enabled-wider}
@@ -13,7 +14,7 @@ turn-requires-clause-chip g c κs within =
 
 pub turn-requires-clause-enabled : goal.turn-requires-clause-enabled
 turn-requires-clause-enabled g c κs within =
-    enabled-wider g.C.ChipSet.rules g.C.ChipSet.chip_ok g.C.ChipSet.shared_ok (g.met.C.ChipSet g.world.𝓛 g.world.𝓜 g.world.𝓡 ((λ s x. x), (λ x. x), (λ x. x), (λ x. x))).lawful (seen g.C.ChipSet.rules c.loop-chip.core) c.args.t (2 ^ 50) c.requires.time (own_event g.C.ChipSet.rules (seen g.C.ChipSet.rules c.loop-chip.core) c.in-Some.chip)
+    enabled-wider g.C.ChipSet.rules g.C.ChipSet.chip_ok g.C.ChipSet.shared_ok (g.met.C.ChipSet g.world.𝓛 g.world.𝓜 g.world.𝓡 ((λ s x. x), (λ x. x), (λ x. x), (λ x. x))).lawful (seen g.C.ChipSet.rules c.loop-chip.core) c.args.t cycle_limit c.requires.time (own_event g.C.ChipSet.rules (seen g.C.ChipSet.rules c.loop-chip.core) c.in-Some.chip)
     (first-enabled g.C.ChipSet.rules g.C.ChipSet.chip_ok g.C.ChipSet.shared_ok (g.met.C.ChipSet g.world.𝓛 g.world.𝓜 g.world.𝓡 ((λ s x. x), (λ x. x), (λ x. x), (λ x. x))).lawful
     c.args.t c.requires.time (seen g.C.ChipSet.rules c.loop-chip.core) (tidy-core g.C.ChipSet.rules g.C.ChipSet.chip_ok g.C.ChipSet.shared_ok c.loop-chip.core c.loop-chip.invariant.core) c.loop-chip.invariant.keys c.in-Some.chip c.in-Some.ensures.found.0 c.in-Some.ensures.found.1).1
 
