@@ -11,7 +11,7 @@ use Rattle.bus_shared.specs.Fm.{fm_board}
 use Rattle.md_machine.specs.Console.{Console, IsRunTo, fm_moved, line_moved, main_moved, moved, mover, psg_moved, ran, sub_moved}
 use Rattle.md_machine.specs.Media.{Media}
 use Rattle.md_machine.specs.Movers.{mover-lt}
-use Rattle.md_machine.specs.Regions.{IsOneRegion, Stays}
+use Rattle.md_machine.specs.Regions.{Stays}
 use Rattle.md_machine.proofs.Moves.{five-each}
 
 one_of : (b : Bool) (old x y : Console) → Stays old x → Stays old y → Stays old (cond b x y)

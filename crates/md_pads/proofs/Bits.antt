@@ -1,15 +1,11 @@
 -- One bit of a number, as code tests it by a mask and as the definitions name it by its place.
-use Rattle.std.proofs.Common.{◌≡◌, ℕ, ◌+◌, ◌*◌, ◌^◌, ◌<◌, ◌≤◌, Bool, true, false, not, cond, eqb, List, [], ◌∷◌, length, take, get_or, refl, ap, ◌∙◌, inl, inr, add-one, arith}
-use mir.Val.{bool_byte}
+use Rattle.std.proofs.Common.{◌≡◌, ℕ, ◌*◌, ◌^◌, ◌<◌, not, eqb, inl, inr, arith}
 use Rattle.std.specs.Int.{bit_at}
 use Rattle.std.specs.Int.RustNames.{bit_and}
 use Rattle.std.proofs.lemmas.Bool.{cases_eq, eq-eqb, ne_eqb}
-use Rattle.std.proofs.Math.Nat.{pow-suc, pow-le-pow_right}
-use Rattle.std.proofs.lemmas.List.{take_more}
-use Rattle.std.proofs.lemmas.List.Sums.{fold-append}
 use Rattle.std.proofs.lemmas.Nat.{pow_pos}
 use Rattle.std.proofs.lemmas.Nat.Bits.{and_pow, bit_at-lt}
-use Rattle.md_pads.specs.Pad.{is_set, binary}
+use Rattle.md_pads.specs.Pad.{is_set}
 
 -- the mask of a bit is there whole exactly where the bit is 1
 pub has_mask : (n place : ℕ) → eqb (bit_and n (2 ^ place)) (2 ^ place) ≡ is_set n place

@@ -1,6 +1,6 @@
 -- Arithmetic of lines and frames in both regions.
 use Rattle.std.proofs.Common.{◌≡◌, ℕ, ◌+◌, ◌-◌, ◌*◌, ◌/◌, ◌%◌, ◌<◌, ◌≤◌, Bool, true, false, refl, arith}
-use Rattle.md_word.specs.Region.{finished_at, finishes, frame_cycles, height, lines, master_clock, picture_length, rows, sound_rate}
+use Rattle.md_word.specs.Region.{finished_at, finishes, frame_cycles, lines, picture_length, rows}
 
 -- ---- the numbers of a region agree, and their bounds
 
