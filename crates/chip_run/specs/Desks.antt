@@ -2,8 +2,8 @@
 use Rattle.std.specs.Prelude.{◌≡◌, ℕ, Option, IfSome}
 use Rattle.chip_run.specs.Held.{HeldValue}
 use Rattle.chip_run.specs.Places.{AllFree, FreeBut, Places}
-use Rattle.chip_run.specs.declared.desk.Found.{Found}
-use Rattle.chip_run.specs.declared.desk.Found.TheVariants as Founds
+use Rattle.chip_run.specs.declared.desk.laid.Found.{Found}
+use Rattle.chip_run.specs.declared.desk.laid.Found.TheVariants as Founds
 use Rattle.chip_run.specs.declared.leading.Led.{Led}
 use Rattle.chip_run.specs.declared.leading.Led.TheVariants as Leds
 use Rattle.chip_run.specs.declared.leading.Turned.{Turned}

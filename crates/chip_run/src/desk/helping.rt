@@ -1,0 +1,149 @@
+ghost use Rattle.chip_run.specs.Places.{AllFree};
+
+use crate::desk::Desk;
+use crate::desk::laid::Found;
+use crate::{Helds, Named};
+use chip_core::ChipSet;
+use std::hint::spin_loop;
+use std::sync::Wait;
+use std::sync::atomic::Ordering;
+use std::sync::ledger::Ledger;
+
+/// How often a helper looks for work before it sleeps.
+const LOOKS: u32 = 20_000;
+
+/// How often it looks for an errand before it ends, where no more work comes.
+const LAST_LOOKS: u32 = 1_000;
+
+/// Whether an errand lies there that nobody has begun.
+fn has_errand<C: ChipSet>(errands: &Option<C::Errands>) -> bool {
+    match errands {
+        Some(errands) => C::has_errand(errands),
+        None => false,
+    }
+}
+
+/// Runs an errand, if one lies there that nobody has begun; answers whether one did.
+fn run_errand<C: ChipSet, R: Wait>(rt: &R, errands: &Option<C::Errands>) -> bool {
+    let Some(errands) = errands else {
+        return false;
+    };
+    if !C::has_errand(errands) {
+        return false;
+    }
+    C::run_errand(rt, errands);
+    true
+}
+
+impl<C: ChipSet, N: Named, L0: Ledger, L1: Ledger, L2: Ledger, L3: Ledger, L4: Ledger> Desk<
+    C,
+    N,
+    L0,
+    L1,
+    L2,
+    L3,
+    L4,
+> {
+    /// Does private work that is due, if there is any; answers what was found.
+    fn do_first<R: Wait>(&self, rt: &R) -> Found {
+        let mut one = Helds::none();
+        self.do_with(rt, &mut one)
+    }
+
+    /// The same with a holder in which no work is due.
+    fn do_with<R: Wait>(&self, rt: &R, one: &mut Helds<C, N, L0, L1, L2, L3, L4>) -> Found
+        requires { AllFree one.old }
+        ensures { AllFree one.new }
+    {
+        let found = self.take_first(rt, one);
+        match found {
+            Found::Chip(chip) => {
+                one.settle(chip);
+                self.lay_done(rt, one, chip);
+            }
+            Found::Nothing => {}
+            Found::Over => {}
+        }
+        found
+    }
+
+    /// Does due private work until no more comes, or enough others wait for it, and runs errands where none is
+    /// due.
+    pub(crate) fn help<R: Wait>(&self, rt: &R, errands: &Option<C::Errands>) {
+        for _ in rt.forever() {
+            let seen = self.changes.load(Ordering::SeqCst);
+            match self.do_first(rt) {
+                Found::Chip(_) => {}
+                Found::Nothing => {
+                    if !run_errand::<C, R>(rt, errands)
+                        && !self.wait_for_change(rt, seen, errands)
+                    {
+                        return;
+                    }
+                }
+                Found::Over => {
+                    self.linger(rt, errands);
+                    return;
+                }
+            }
+        }
+        unreachable!()
+    }
+
+    /// Waits for a change after so many: it looks for a while, and then sleeps, but not while an errand lies
+    /// there. Answers whether it goes on: it does not where enough other helpers look and no change came.
+    ///
+    /// No change is missed: it is counted before the one who makes it looks for a watch, and a helper ends its
+    /// watch before it looks at the count for the last time, under the lock under which it is woken.
+    fn wait_for_change<R: Wait>(&self, rt: &R, seen: u64, errands: &Option<C::Errands>) -> bool {
+        let others = self.watches.fetch_add(1, Ordering::SeqCst);
+        if others < self.staying {
+            self.look(seen, errands, LOOKS);
+        }
+        self.watches.fetch_sub(1, Ordering::SeqCst);
+        if others >= self.staying {
+            return self.changes.load(Ordering::SeqCst) != seen;
+        }
+        if !has_errand::<C>(errands) {
+            self.sleep(rt, seen);
+        }
+        true
+    }
+
+    /// Sleeps until a change after so many, unless one came.
+    fn sleep<R: Wait>(&self, rt: &R, seen: u64) {
+        let guard = self.lock.lock(rt);
+        if self.changes.load(Ordering::SeqCst) == seen {
+            let _guard = self.work.wait(rt, guard);
+        }
+    }
+
+    /// Looks for a change after so many, or for an errand, until there is one, so often at most.
+    fn look(&self, seen: u64, errands: &Option<C::Errands>, times: u32) {
+        for _ in 0..times {
+            if self.changes.load(Ordering::SeqCst) != seen || has_errand::<C>(errands) {
+                return;
+            }
+            spin_loop();
+        }
+    }
+
+    /// Looks for an errand for a while, and runs it and those that lie there then, as long as the run has not
+    /// ended: from there the leader waits for the helper.
+    ///
+    /// No end is missed: the run is marked as ended before that is counted as a change, and a helper reads the
+    /// count before the mark.
+    fn linger<R: Wait>(&self, rt: &R, errands: &Option<C::Errands>) {
+        let seen = self.changes.load(Ordering::SeqCst);
+        if errands.is_none() || self.ended.load(Ordering::SeqCst) {
+            return;
+        }
+        self.look(seen, errands, LAST_LOOKS);
+        for _ in rt.forever() {
+            if self.ended.load(Ordering::SeqCst) || !run_errand::<C, R>(rt, errands) {
+                return;
+            }
+        }
+        unreachable!()
+    }
+}
