@@ -1,5 +1,5 @@
 -- The frame that the drawing half keeps is that of the record's run: over a segment there is one at most.
-use Rattle.std.proofs.Common.{◌≡◌, ◌⊎◌, ℕ, zero, suc, ◌+◌, ◌<◌, ◌≤◌, ◌==◌, ◌%◌, cond, Bool, true, false, List, ◌∷◌, ◌++◌, refl, sym, ap, ◌∙◌, arith, subst, lit<, inl, inr, Option, Some, None, eqb-true}
+use Rattle.std.proofs.Common.{◌≡◌, ◌⊎◌, ℕ, zero, suc, ◌+◌, ◌<◌, ◌≤◌, ◌==◌, ◌%◌, cond, Bool, true, false, List, [], ◌∷◌, ◌++◌, refl, sym, ap, ◌∙◌, arith, subst, lit<, inl, inr, Option, Some, None, eqb-true}
 use Rattle.std.proofs.lemmas.List.{append-nil}
 use Rattle.md_word.specs.Clock as clock
 use Rattle.chip_core.specs.Machines as machines

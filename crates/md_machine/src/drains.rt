@@ -1,22 +1,119 @@
-ghost use Rattle.std.specs.Prelude.{◌≡◌, ◌<◌, ◌+◌, ◌*◌, ◌≤◌, ◌++◌, IfSome, drop, length, option_copied, vec_len, vec_capacity};
+ghost use Rattle.std.specs.Prelude.{◌≡◌, ◌<◌, ◌+◌, ◌*◌, ◌≤◌, ◌++◌, [], IfSome, drop, length, option_copied, vec_len, vec_capacity};
 ghost use Rattle.md_word.specs.Region.{picture_length};
 ghost use Rattle.md_machine.specs.Refinement.{draw_of};
 ghost use Rattle.md_machine.specs.Lines.{frames_of};
-ghost use Rattle.md_machine.specs.Outputs.{first_sums, frame_length, frames_bytes, journal_bytes, mixed_bytes, sample_bytes};
-ghost use Rattle.chip_core.specs.Cores.{IsCore};
-ghost use Rattle.bus_shared.specs.Board.{IsBoard};
+ghost use Rattle.md_machine.specs.Outputs.{first_sums, frame_length, frames_bytes, journal_bytes, mixed_bytes, sample_bytes, sound_bytes};
+ghost use Rattle.chip_core.specs.Cores.{CoreValue, IsCore};
+ghost use Rattle.bus_shared.specs.Board.{Board, IsBoard};
+ghost use Rattle.md_machine.specs.declared.chips.Chip.{Chip};
 ghost use Rattle.md_machine.specs.Drained as drained;
 ghost use Rattle.md_machine.specs.Drained.{with_emptied};
+ghost use Rattle.md_machine.specs.Machines.{machine_at};
+ghost use Rattle.md_machine.specs.Media.{no_media};
 ghost use Rattle.md_machine.specs.Rules.{IsChip, five};
 
 use crate::chips::Chip;
+use crate::machine::Machine;
 use crate::set::MdChips;
 use chip_core::Core;
 use md_files::{mix, ppm_head, put_entry, put_frame, put_pair};
 use md_word::Entry;
 
+impl Machine {
+    /// Appends the journal's records of the accesses since the machine was last drained.
+    pub fn drain_entries(&mut self, into: &mut Vec<u8>)
+        requires { vec_len into.old + 16 * length self.old.entries ≤ vec_capacity into.old }
+        ensures bytes { into.new.items ≡ into.old.items ++ journal_bytes self.old.entries }
+        ensures length { vec_len into.new ≡ vec_len into.old + 16 * length self.old.entries }
+        ensures machine { self.new ≡ record self.old { entries = [] } }
+        ensures room { vec_capacity into.new ≡ vec_capacity into.old }
+    {
+        put_entries(self.core().journal(), into);
+        self.clear_journal();
+    }
+
+    /// Appends the frame that was finished since the machine was last drained, with its head, if one was.
+    pub fn drain_frames(&mut self, into: &mut Vec<u8>)
+        requires { vec_len into.old + frame_length self.old.console.pal * length self.old.media.frames ≤ vec_capacity into.old }
+        ensures bytes { into.new.items ≡ into.old.items ++ frames_bytes self.old.console.pal self.old.media.frames }
+        ensures length { vec_len into.new ≡ vec_len into.old + frame_length self.old.console.pal * length self.old.media.frames }
+        ensures machine { self.new ≡ record self.old { media = record self.old.media { frames = [] } } }
+        ensures room { vec_capacity into.old ≤ vec_capacity into.new }
+    {
+        let pal = self.pal();
+        put_frames(frame_in(&self.core().chips()[2]), pal, into);
+        self.empty_draw();
+    }
+
+    /// Appends the pairs of samples that were made since the machine was last drained.
+    pub fn drain_pairs(&mut self, into: &mut Vec<u8>)
+        requires { vec_len into.old + 4 * length self.old.media.levels ≤ vec_capacity into.old }
+        ensures bytes { into.new.items ≡ into.old.items ++ sound_bytes self.old.media }
+        ensures length { vec_len into.new ≡ vec_len into.old + 4 * length self.old.media.levels }
+        ensures machine { self.new ≡ record self.old { media = record self.old.media { sides = []; levels = [] } } }
+        ensures room { vec_capacity into.new ≡ vec_capacity into.old }
+    {
+        let chips = self.core().chips();
+        put_pairs(levels_in(&chips[4]), sides_in(&chips[3]), into);
+        self.empty_fm();
+        self.empty_psg();
+    }
+
+    /// Lets all go that was made since the machine was last drained: the journal's entries, the frame and the
+    /// samples.
+    pub fn discard(&mut self)
+        ensures { self.new ≡ record self.old { entries = []; media = no_media } }
+    {
+        self.clear_journal();
+        self.empty_draw();
+        self.empty_fm();
+        self.empty_psg();
+    }
+
+    /// Lets the journal's entries go.
+    fn clear_journal(&mut self)
+        ensures { self.new ≡ record self.old { entries = [] } }
+    {
+        if let Some(core) = &mut self.core {
+            core.clear_journal();
+        }
+    }
+
+    /// Lets the frame or the samples go that the chip of a number keeps.
+    fn empty(&mut self, number: usize)
+        requires { number < 5 }
+        ensures { (core : CoreValue Chip Board) × (machine_at self.old.at core ≡ self.old) × IsCore five IsChip IsBoard core
+            × (self.new ≡ machine_at self.old.at (with_emptied core number)) }
+    {
+        if let Some(core) = &mut self.core {
+            empty_chip(core, number);
+        }
+    }
+
+    /// Lets the frame go.
+    fn empty_draw(&mut self)
+        ensures { self.new ≡ record self.old { media = record self.old.media { frames = [] } } }
+    {
+        self.empty(2);
+    }
+
+    /// Lets the FM synthesis' samples go.
+    fn empty_fm(&mut self)
+        ensures { self.new ≡ record self.old { media = record self.old.media { sides = [] } } }
+    {
+        self.empty(3);
+    }
+
+    /// Lets the PSG's samples go.
+    fn empty_psg(&mut self)
+        ensures { self.new ≡ record self.old { media = record self.old.media { levels = [] } } }
+    {
+        self.empty(4);
+    }
+}
+
 /// Appends the records of entries.
-pub(crate) fn put_entries(entries: &[Entry], into: &mut Vec<u8>)
+fn put_entries(entries: &[Entry], into: &mut Vec<u8>)
     requires { vec_len into.old + 16 * length entries.now ≤ vec_capacity into.old }
     ensures bytes { into.new.items ≡ into.old.items ++ journal_bytes entries.now }
     ensures length { vec_len into.new ≡ vec_len into.old + 16 * length entries.now }
@@ -29,7 +126,7 @@ pub(crate) fn put_entries(entries: &[Entry], into: &mut Vec<u8>)
 
 /// Appends a frame of a region with its head, where there is one.
 #[tactic(auto, using(crate::specs::Outputs::a_length), unfolding(crate::specs::Outputs::frames_bytes))]
-pub(crate) fn put_frames(frame: Option<&[u8]>, pal: bool, into: &mut Vec<u8>)
+fn put_frames(frame: Option<&[u8]>, pal: bool, into: &mut Vec<u8>)
     requires size { IfSome (option_copied frame) (λ picture. length picture ≡ picture_length pal) }
     requires room { vec_len into.old + frame_length pal * length (frames_of (option_copied frame)) ≤ vec_capacity into.old }
     ensures bytes { into.new.items ≡ into.old.items ++ frames_bytes pal (frames_of (option_copied frame.entry)) }
@@ -44,7 +141,7 @@ pub(crate) fn put_frames(frame: Option<&[u8]>, pal: bool, into: &mut Vec<u8>)
 
 /// Appends the pairs of samples: each level with the sums of the same number, or with silence where there
 /// are none.
-pub(crate) fn put_pairs(levels: &[i32], sides: &[(i32, i32)], into: &mut Vec<u8>)
+fn put_pairs(levels: &[i32], sides: &[(i32, i32)], into: &mut Vec<u8>)
     requires { vec_len into.old + 4 * length levels.now ≤ vec_capacity into.old }
     ensures bytes { into.new.items ≡ into.old.items ++ mixed_bytes levels.now sides.now }
     ensures length { vec_len into.new ≡ vec_len into.old + 4 * length levels.now }
@@ -83,7 +180,7 @@ fn put_pair_of(sums: (i32, i32), level: &i32, into: &mut Vec<u8>)
 }
 
 /// The frame that a chip keeps: another chip than the drawing half of the VDP has none.
-pub(crate) fn frame_in(chip: &Chip) -> Option<&[u8]>
+fn frame_in(chip: &Chip) -> Option<&[u8]>
     ensures value { option_copied result ≡ drained.frame_of chip.now }
     ensures size { IfSome (option_copied result) (λ picture. length picture ≡ picture_length (draw_of chip.now).chip.pal) }
 {
@@ -94,7 +191,7 @@ pub(crate) fn frame_in(chip: &Chip) -> Option<&[u8]>
 }
 
 /// The sums that a chip keeps: another chip than the FM synthesis has none.
-pub(crate) fn sides_in(chip: &Chip) -> &[(i32, i32)]
+fn sides_in(chip: &Chip) -> &[(i32, i32)]
     ensures { result.now ≡ drained.sides_of chip.now }
 {
     match chip {
@@ -104,7 +201,7 @@ pub(crate) fn sides_in(chip: &Chip) -> &[(i32, i32)]
 }
 
 /// The levels that a chip keeps: another chip than the PSG has none.
-pub(crate) fn levels_in(chip: &Chip) -> &[i32]
+fn levels_in(chip: &Chip) -> &[i32]
     ensures { result.now ≡ drained.levels_of chip.now }
 {
     match chip {
@@ -114,7 +211,7 @@ pub(crate) fn levels_in(chip: &Chip) -> &[i32]
 }
 
 /// Lets the frame or the samples go that the chip of a number keeps.
-pub(crate) fn empty_chip(core: &mut Core<MdChips>, number: usize)
+fn empty_chip(core: &mut Core<MdChips>, number: usize)
     requires { number < 5 }
     ensures value { core.new ≡ with_emptied core.old number }
     ensures core { IsCore five IsChip IsBoard core.new }

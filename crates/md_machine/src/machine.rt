@@ -1,25 +1,18 @@
-ghost use Rattle.std.specs.Prelude.{◌≡◌, ℕ, ◌≤◌, ◌<◌, ◌+◌, ◌-◌, ◌*◌, ◌++◌, [], IfOk, length, vec_len, vec_capacity};
+ghost use Rattle.std.specs.Prelude.{◌≡◌, ℕ, ◌≤◌, ◌<◌, ◌+◌, ◌-◌, [], length};
 ghost use Rattle.std.specs.Arc.{arc_value};
 ghost use Rattle.md_word.specs.Clock.{cycle_limit, last_cycle};
 ghost use Rattle.md_word.specs.Region.{frame_cycles};
-ghost use Rattle.chip_core.specs.Cores.{CoreValue, IsCore, machine_of};
+ghost use Rattle.chip_core.specs.Cores.{IsCore, machine_of};
 ghost use Rattle.chip_core.specs.Machines.{IsQuiet};
-ghost use Rattle.bus_shared.specs.Board.{Board, IsBoard};
-ghost use Rattle.md_machine.specs.Drained.{with_emptied};
-ghost use Rattle.md_machine.specs.declared.chips.Chip.{Chip};
+ghost use Rattle.bus_shared.specs.Board.{IsBoard};
 ghost use Rattle.md_machine.specs.Console.{AllBelow, IsRunTo, key_in, mover};
-ghost use Rattle.md_machine.specs.Outputs.{frame_length, frames_bytes, journal_bytes, sound_bytes};
 ghost use Rattle.md_machine.specs.Lists.{ListsEndAsRun};
-ghost use Rattle.md_machine.specs.Refinement.{main_of};
 ghost use Rattle.md_machine.specs.Regions.{IsOneRegion, most_entries, most_pairs};
 ghost use Rattle.md_machine.specs.Machines.{machine_at};
-ghost use Rattle.md_machine.specs.Rules.{IsChip, five, next};
+ghost use Rattle.md_machine.specs.Rules.{IsChip, five};
 ghost use Rattle.md_machine.specs.ValidParts.{HasValidParts};
 ghost use Rattle.md_machine.specs.Media.{no_media};
 
-use crate::drains::{
-    empty_chip, frame_in, levels_in, put_entries, put_frames, put_pairs, sides_in,
-};
 use crate::least::least_key;
 use crate::runs::{run_alone, run_workers};
 use crate::set::MdChips;
@@ -193,56 +186,6 @@ impl Machine {
         }
     }
 
-    /// Appends the journal's records of the accesses since the machine was last drained.
-    pub fn drain_entries(&mut self, into: &mut Vec<u8>)
-        requires { vec_len into.old + 16 * length self.old.entries ≤ vec_capacity into.old }
-        ensures bytes { into.new.items ≡ into.old.items ++ journal_bytes self.old.entries }
-        ensures length { vec_len into.new ≡ vec_len into.old + 16 * length self.old.entries }
-        ensures machine { self.new ≡ record self.old { entries = [] } }
-        ensures room { vec_capacity into.new ≡ vec_capacity into.old }
-    {
-        put_entries(self.core().journal(), into);
-        self.clear_journal();
-    }
-
-    /// Appends the frame that was finished since the machine was last drained, with its head, if one was.
-    pub fn drain_frames(&mut self, into: &mut Vec<u8>)
-        requires { vec_len into.old + frame_length self.old.console.pal * length self.old.media.frames ≤ vec_capacity into.old }
-        ensures bytes { into.new.items ≡ into.old.items ++ frames_bytes self.old.console.pal self.old.media.frames }
-        ensures length { vec_len into.new ≡ vec_len into.old + frame_length self.old.console.pal * length self.old.media.frames }
-        ensures machine { self.new ≡ record self.old { media = record self.old.media { frames = [] } } }
-        ensures room { vec_capacity into.old ≤ vec_capacity into.new }
-    {
-        let pal = self.pal();
-        put_frames(frame_in(&self.core().chips()[2]), pal, into);
-        self.empty_draw();
-    }
-
-    /// Appends the pairs of samples that were made since the machine was last drained.
-    pub fn drain_pairs(&mut self, into: &mut Vec<u8>)
-        requires { vec_len into.old + 4 * length self.old.media.levels ≤ vec_capacity into.old }
-        ensures bytes { into.new.items ≡ into.old.items ++ sound_bytes self.old.media }
-        ensures length { vec_len into.new ≡ vec_len into.old + 4 * length self.old.media.levels }
-        ensures machine { self.new ≡ record self.old { media = record self.old.media { sides = []; levels = [] } } }
-        ensures room { vec_capacity into.new ≡ vec_capacity into.old }
-    {
-        let chips = self.core().chips();
-        put_pairs(levels_in(&chips[4]), sides_in(&chips[3]), into);
-        self.empty_fm();
-        self.empty_psg();
-    }
-
-    /// Lets all go that was made since the machine was last drained: the journal's entries, the frame and the
-    /// samples.
-    pub fn discard(&mut self)
-        ensures { self.new ≡ record self.old { entries = []; media = no_media } }
-    {
-        self.clear_journal();
-        self.empty_draw();
-        self.empty_fm();
-        self.empty_psg();
-    }
-
     /// Exchanges the recording of the pads. The buttons that are pressed stay until the next line behind the
     /// picture.
     pub fn set_recording(&mut self, recording: Arc<Recording>)
@@ -263,47 +206,6 @@ impl Machine {
             Some(core) => core,
             None => unreachable!(),
         }
-    }
-
-    /// Lets the journal's entries go.
-    fn clear_journal(&mut self)
-        ensures { self.new ≡ record self.old { entries = [] } }
-    {
-        if let Some(core) = &mut self.core {
-            core.clear_journal();
-        }
-    }
-
-    /// Lets the frame or the samples go that the chip of a number keeps.
-    fn empty(&mut self, number: usize)
-        requires { number < 5 }
-        ensures { (core : CoreValue Chip Board) × (machine_at self.old.at core ≡ self.old) × IsCore five IsChip IsBoard core
-            × (self.new ≡ machine_at self.old.at (with_emptied core number)) }
-    {
-        if let Some(core) = &mut self.core {
-            empty_chip(core, number);
-        }
-    }
-
-    /// Lets the frame go.
-    fn empty_draw(&mut self)
-        ensures { self.new ≡ record self.old { media = record self.old.media { frames = [] } } }
-    {
-        self.empty(2);
-    }
-
-    /// Lets the FM synthesis' samples go.
-    fn empty_fm(&mut self)
-        ensures { self.new ≡ record self.old { media = record self.old.media { sides = [] } } }
-    {
-        self.empty(3);
-    }
-
-    /// Lets the PSG's samples go.
-    fn empty_psg(&mut self)
-        ensures { self.new ≡ record self.old { media = record self.old.media { levels = [] } } }
-    {
-        self.empty(4);
     }
 }
 
