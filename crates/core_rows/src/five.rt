@@ -1,6 +1,8 @@
 ghost use Rattle.std.specs.Prelude.{◌≡◌, ◌==◌, cond, nat_lt, true, false, [], ◌∷◌, IfOk};
+ghost use Rattle.md_word.specs.Clock as clock;
 
 use chip_core::{ChipSet, Core};
+use md_word::clock::{BATCH, LINE, MAIN_GAP, SUB_GAP};
 use md_word::{Entry, Key, Next};
 use std::alloc::{AllocError, Global};
 
@@ -24,13 +26,13 @@ pub struct Board {
 }
 
 pub fn step_of(chip: u8) -> u64
-    ensures { result ≡ cond (chip == 0) 70 (cond (chip == 1) 45 (cond (chip == 2) 3420 16128)) }
+    ensures { result ≡ cond (chip == 0) 70 (cond (chip == 1) clock.sub_gap (cond (chip == 2) clock.line clock.batch)) }
 {
     match chip {
         0 => 70,
-        1 => 45,
-        2 => 3420,
-        _ => 16128,
+        1 => SUB_GAP,
+        2 => LINE,
+        _ => BATCH,
     }
 }
 
@@ -38,6 +40,7 @@ impl ChipSet for Five {
     ghost use Rattle.std.specs.Prelude.{◌≡◌, ℕ, ◌+◌, ◌<◌, ◌≤◌, ◌==◌, ◌||◌, cond, nat_lt, true, false, refl};
     ghost use Rattle.std.proofs.Common.{arith, ap, ◌∙◌};
     ghost use Rattle.std.proofs.lemmas.Bool.Decides.{nat_tests};
+    ghost use Rattle.md_word.specs.Clock as clock;
     ghost use Rattle.md_word.specs.Coding.{number, flag, by_way, both};
     ghost use Rattle.chip_core.specs.Codes.{code_of, core_of, coded as coded_by};
 
@@ -63,15 +66,15 @@ impl ChipSet for Five {
         };
       };
       advance = λ c. record c {
-        cycle = c.cycle + cond (c.number == 0) 70 (cond (c.number == 1) 45 (cond (c.number == 2) 3420 16128));
+        cycle = c.cycle + cond (c.number == 0) 70 (cond (c.number == 1) clock.sub_gap (cond (c.number == 2) clock.line clock.batch));
       };
       pins = λ s i. s.line;
       sample = λ c p. record c {
-        cycle = c.cycle + cond (c.number == 0) 70 (cond (c.number == 1) 45 (cond (c.number == 2) 3420 16128));
+        cycle = c.cycle + cond (c.number == 0) 70 (cond (c.number == 1) clock.sub_gap (cond (c.number == 2) clock.line clock.batch));
         seen = p;
       };
       writes = λ i j. i == 2;
-      gap = λ i. cond (i == 0) 28 (cond (i == 1) 45 (cond (i == 2) 3420 16128));
+      gap = λ i. cond (i == 0) clock.main_gap (cond (i == 1) clock.sub_gap (cond (i == 2) clock.line clock.batch));
       blank = record { number = 0; cycle = 0; sample = true; seen = 0 };
     } };
 
@@ -168,10 +171,10 @@ impl ChipSet for Five {
 
     fn gap(chip: u8) -> u64 {
         match chip {
-            0 => 28,
-            1 => 45,
-            2 => 3420,
-            _ => 16128,
+            0 => MAIN_GAP,
+            1 => SUB_GAP,
+            2 => LINE,
+            _ => BATCH,
         }
     }
 }
@@ -181,21 +184,21 @@ pub fn power_on(alloc: Global, room: usize) -> Result<Core<Five>, AllocError>
     ensures { IfOk result (λ core. core ≡ record {
       shared = record { line = 0 };
       chips = record { number = 0; cycle = 0; sample = true; seen = 7 } ∷ record { number = 1; cycle = 0; sample = true; seen = 7 }
-          ∷ record { number = 2; cycle = 0; sample = false; seen = 7 } ∷ record { number = 3; cycle = 16128; sample = false; seen = 7 }
-          ∷ record { number = 4; cycle = 16128; sample = false; seen = 7 } ∷ [];
+          ∷ record { number = 2; cycle = 0; sample = false; seen = 7 } ∷ record { number = 3; cycle = clock.batch; sample = false; seen = 7 }
+          ∷ record { number = 4; cycle = clock.batch; sample = false; seen = 7 } ∷ [];
       bounds = record { cycle = 0; chip = 0 } ∷ record { cycle = 0; chip = 1 } ∷ record { cycle = 0; chip = 2 }
-          ∷ record { cycle = 16128; chip = 3 } ∷ record { cycle = 16128; chip = 4 } ∷ [];
+          ∷ record { cycle = clock.batch; chip = 3 } ∷ record { cycle = clock.batch; chip = 4 } ∷ [];
       journal = [];
       room = room;
     }) }
 {
-    let chips = vec![in alloc; at(0, 0), at(1, 0), at(2, 0), at(3, 16128), at(4, 16128)]?;
+    let chips = vec![in alloc; at(0, 0), at(1, 0), at(2, 0), at(3, BATCH), at(4, BATCH)]?;
     let bounds = vec![in alloc;
         key(0, 0),
         key(1, 0),
         key(2, 0),
-        key(3, 16128),
-        key(4, 16128),
+        key(3, BATCH),
+        key(4, BATCH),
     ]?;
     let journal = Vec::with_capacity(alloc, room)?;
     Ok(Core::make(Board { line: 0 }, chips, bounds, journal))
@@ -207,10 +210,10 @@ pub fn at_access(alloc: Global, second: u64, room: usize) -> Result<Core<Five>, 
     ensures { IfOk result (λ core. core ≡ record {
       shared = record { line = 0 };
       chips = record { number = 0; cycle = 70; sample = false; seen = 7 } ∷ record { number = 1; cycle = second; sample = true; seen = 7 }
-          ∷ record { number = 2; cycle = 3420; sample = false; seen = 7 } ∷ record { number = 3; cycle = 16128; sample = false; seen = 7 }
-          ∷ record { number = 4; cycle = 16128; sample = false; seen = 7 } ∷ [];
-      bounds = record { cycle = 28; chip = 0 } ∷ record { cycle = second; chip = 1 } ∷ record { cycle = 3420; chip = 2 }
-          ∷ record { cycle = 16128; chip = 3 } ∷ record { cycle = 16128; chip = 4 } ∷ [];
+          ∷ record { number = 2; cycle = clock.line; sample = false; seen = 7 } ∷ record { number = 3; cycle = clock.batch; sample = false; seen = 7 }
+          ∷ record { number = 4; cycle = clock.batch; sample = false; seen = 7 } ∷ [];
+      bounds = record { cycle = clock.main_gap; chip = 0 } ∷ record { cycle = second; chip = 1 } ∷ record { cycle = clock.line; chip = 2 }
+          ∷ record { cycle = clock.batch; chip = 3 } ∷ record { cycle = clock.batch; chip = 4 } ∷ [];
       journal = [];
       room = room;
     }) }
@@ -224,16 +227,16 @@ pub fn at_access(alloc: Global, second: u64, room: usize) -> Result<Core<Five>, 
     let chips = vec![in alloc;
         access,
         at(1, second),
-        at(2, 3420),
-        at(3, 16128),
-        at(4, 16128),
+        at(2, LINE),
+        at(3, BATCH),
+        at(4, BATCH),
     ]?;
     let bounds = vec![in alloc;
-        key(0, 28),
+        key(0, MAIN_GAP),
         key(1, second),
-        key(2, 3420),
-        key(3, 16128),
-        key(4, 16128),
+        key(2, LINE),
+        key(3, BATCH),
+        key(4, BATCH),
     ]?;
     let journal = Vec::with_capacity(alloc, room)?;
     Ok(Core::make(Board { line: 0 }, chips, bounds, journal))

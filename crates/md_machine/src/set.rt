@@ -8,7 +8,7 @@ use crate::chips::Chip;
 use crate::pins::Pins;
 use bus_shared::{Shared, pins68, pins80};
 use chip_core::ChipSet;
-use md_word::clock::{BATCH, LINE};
+use md_word::clock::{BATCH, LINE, MAIN_GAP, SUB_GAP};
 use md_word::{Entry, Key, Next};
 use std::sync::{Arc, Wait};
 use vdp_ahead::Tray;
@@ -145,8 +145,8 @@ impl ChipSet for MdChips {
 
     fn gap(chip: u8) -> u64 {
         match chip {
-            0 => 28,
-            1 => 45,
+            0 => MAIN_GAP,
+            1 => SUB_GAP,
             2 => LINE,
             _ => BATCH,
         }
